@@ -1,0 +1,10 @@
+-- Which kind of index the program's arguments name.
+use Rattle.std.specs.Prelude.{ℕ, List, [], ◌∷◌, Option, Some, None, if◌then◌else◌, codes}
+use Rattle.std.specs.Str.{bytes_eq}
+use Rattle.key_index.specs.declared.kind.Kind.{Kind}
+use Rattle.key_index.specs.declared.kind.Kind.TheVariants.{Unordered}
+
+-- the kind of one argument, and none where there are fewer or more
+abbrev pub kind_of : List (List ℕ) → Option Kind
+kind_of (kind ∷ []) = if bytes_eq kind (codes "unordered") then Some Unordered else None
+kind_of _ = None

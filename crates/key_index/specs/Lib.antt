@@ -1,0 +1,4 @@
+pub mod Kind
+pub mod Line
+pub mod ServeError
+pub mod Words

@@ -1,0 +1,22 @@
+//! The kinds of index that the program offers.
+
+ghost use Rattle.std.specs.Prelude.{◌≡◌, map};
+ghost use Rattle.std.specs.String.{string_bytes};
+ghost use Rattle.key_index.specs.Kind.{kind_of};
+
+/// A kind of index, as the program's first argument names it.
+#[derive(Clone, Copy, Debug, PartialEq, Eq)]
+pub enum Kind {
+    /// A flat index that keeps its keys in no order.
+    Unordered,
+}
+
+/// The kind that the program's arguments name, and `None` where they are not those of the program.
+pub fn kind_of(words: &[String]) -> Option<Kind>
+    ensures { result ≡ kind_of (map string_bytes words.now) }
+{
+    match words {
+        [kind] if kind.as_str() == "unordered" => Some(Kind::Unordered),
+        _ => None,
+    }
+}

@@ -1,0 +1,235 @@
+//! One line of input, parsed into a command.
+
+ghost use Rattle.std.specs.Prelude.{◌≡◌, ◌==◌, position, ◌+◌, ◌*◌, ◌<◌, ◌↔◌, ℕ, List, [], ◌∷◌, length, IsTrue, Some, None, IsNone, IfSome, IfNone, OnOk, OnErr, IfOk, IfErr, IsErrOf, MatchOption, MatchResult, option_copied, vec_capacity};
+ghost use Rattle.std.specs.Char.{digit_value, is_ascii_hexdigit};
+ghost use Rattle.std.specs.List.{list_all};
+ghost use Rattle.key_index.specs.Line.{alone, command_of, hex_bytes, is_hex, key_of, number_of, with_key, with_key_and_number, words_of};
+ghost use Rattle.key_index.specs.Words.{words_left};
+
+use std::alloc::AllocError;
+
+/// What a line says. The key that it names is in the buffer that `parse` filled.
+#[derive(Clone, Copy, Debug, PartialEq, Eq)]
+pub enum Command {
+    /// Puts this value under the key.
+    Insert(u64),
+    /// Takes the key out.
+    Remove,
+    /// Shows the values of the key.
+    Get,
+    /// Shows the counts.
+    Counts,
+}
+
+/// Why a line gave no command.
+#[derive(Clone, Copy, Debug, PartialEq, Eq)]
+pub enum LineFault {
+    /// The line is no command.
+    BadLine,
+    /// Memory for the key was refused.
+    Memory,
+}
+
+fn first_space(line: &[u8]) -> Option<usize>
+    ensures { result ≡ position (λ byte. byte == 32) line.now }
+{
+    line.iter().position(|byte| *byte == b' ')
+}
+
+// The words of a line, from the first on: `rest` is what is left of the line, and `None` once its last word is taken.
+#[derive(Drop)]
+struct Words<'a> {
+    rest: Option<&'a [u8]>,
+}
+
+impl<'a> Words<'a> {
+    fn of(line: &'a [u8]) -> Words<'a>
+        ensures { words_left result ≡ words_of line.now }
+    {
+        Words { rest: Some(line) }
+    }
+
+    fn is_empty(&self) -> bool
+        ensures { IsTrue result ↔ (words_left self.now ≡ []) }
+    {
+        self.rest.is_none()
+    }
+
+    // Takes the next word off.
+    fn take(&mut self) -> Option<&'a [u8]>
+        ensures taken { IfSome result (λ word. words_left self.old ≡ word.now ∷ words_left self.new) }
+        ensures ended { IfNone result (words_left self.old ≡ []) }
+    {
+        let line = self.rest?;
+        match first_space(line) {
+            Some(end) => {
+                self.rest = Some(&line[end + 1..]);
+                Some(&line[..end])
+            }
+            None => {
+                self.rest = None;
+                Some(line)
+            }
+        }
+    }
+}
+
+// The value of a hexadecimal digit of either case.
+fn hex_digit(digit: u8) -> u8
+    requires { IsTrue (is_ascii_hexdigit digit) }
+    ensures value { result ≡ digit_value digit }
+    ensures small { result < 16 }
+{
+    match digit {
+        b'0'..=b'9' => digit - b'0',
+        b'A'..=b'F' => digit - b'A' + 10,
+        _ => digit - b'a' + 10,
+    }
+}
+
+fn all_hex_digits(word: &[u8]) -> bool
+    ensures { result ≡ list_all is_ascii_hexdigit word.now }
+{
+    word.iter().all(|digit| digit.is_ascii_hexdigit())
+}
+
+fn is_hex(word: &[u8]) -> bool
+    ensures { result ≡ is_hex word.now }
+{
+    !word.is_empty() && word.len() % 2 == 0 && all_hex_digits(word)
+}
+
+// Puts the bytes that hexadecimal digits write into an empty buffer.
+fn decode_hex(word: &[u8], key: &mut Vec<u8>) -> Result<(), AllocError>
+    requires digits { IsTrue (is_hex word.now) }
+    requires empty { key.old.items ≡ [] }
+    ensures decoded { OnOk result (key.new.items ≡ hex_bytes word.now) }
+    ensures memory { OnErr result (vec_capacity key.old < length (hex_bytes word.now)) }
+{
+    key.reserve(word.len() / 2)?;
+    for i in 0..word.len() / 2 {
+        let high = hex_digit(word[2 * i]);
+        let low = hex_digit(word[2 * i + 1]);
+        key.push(16 * high + low).unwrap();
+    }
+    Ok(())
+}
+
+// Puts the key that a word writes into an empty buffer.
+#[tactic(auto, unfolding(crate::specs::Line::key_of))]
+fn decode_key(word: &[u8], key: &mut Vec<u8>) -> Result<(), LineFault>
+    requires { key.old.items ≡ [] }
+    ensures accepted { OnOk result (key_of word.now ≡ Some key.new.items) }
+    ensures refused { IsErrOf result LineFault.BadLine ↔ IsNone (key_of word.now) }
+    ensures memory { IsErrOf result LineFault.Memory → IfSome (key_of word.now) (λ bytes. vec_capacity key.old < length bytes) }
+{
+    if word == b"-".as_slice() {
+        return Ok(());
+    }
+    if !is_hex(word) {
+        return Err(LineFault::BadLine);
+    }
+    match decode_hex(word, key) {
+        Ok(()) => Ok(()),
+        Err(_) => Err(LineFault::Memory),
+    }
+}
+
+fn number_of(word: &[u8]) -> Option<u64>
+    ensures { result ≡ number_of word.now }
+{
+    if word.is_empty() {
+        return None;
+    }
+    let mut number = 0u64;
+    for digit in word {
+        if !digit.is_ascii_digit() {
+            return None;
+        }
+        number = number
+            .checked_mul(10)?
+            .checked_add(u64::from(digit - b'0'))?;
+    }
+    Some(number)
+}
+
+// Reads the two words of `insert`: a key and a number.
+fn insert(mut words: Words<'_>, key: &mut Vec<u8>) -> Result<Command, LineFault>
+    requires { key.old.items ≡ [] }
+    ensures accepted { IfOk result
+        (λ command. with_key_and_number Command.Insert (words_left words.entry) ≡ Some (command, key.new.items)) }
+    ensures refused { IsErrOf result LineFault.BadLine ↔ IsNone (with_key_and_number Command.Insert (words_left words.entry)) }
+    ensures memory { IsErrOf result LineFault.Memory
+        → IfSome (with_key_and_number Command.Insert (words_left words.entry)) (λ said. vec_capacity key.old < length said.1) }
+{
+    let Some(hex) = words.take() else {
+        return Err(LineFault::BadLine);
+    };
+    let Some(number) = words.take().and_then(number_of) else {
+        return Err(LineFault::BadLine);
+    };
+    if !words.is_empty() {
+        return Err(LineFault::BadLine);
+    }
+    decode_key(hex, key)?;
+    Ok(Command::Insert(number))
+}
+
+// Reads the one word, a key, of a command.
+fn with_key(command: Command, mut words: Words<'_>, key: &mut Vec<u8>) -> Result<Command, LineFault>
+    requires { key.old.items ≡ [] }
+    ensures accepted { IfOk result (λ read. with_key command (words_left words.entry) ≡ Some (read, key.new.items)) }
+    ensures refused { IsErrOf result LineFault.BadLine ↔ IsNone (with_key command (words_left words.entry)) }
+    ensures memory { IsErrOf result LineFault.Memory
+        → IfSome (with_key command (words_left words.entry)) (λ said. vec_capacity key.old < length said.1) }
+{
+    let Some(hex) = words.take() else {
+        return Err(LineFault::BadLine);
+    };
+    if !words.is_empty() {
+        return Err(LineFault::BadLine);
+    }
+    decode_key(hex, key)?;
+    Ok(command)
+}
+
+// Sees that no word follows a command.
+fn alone(command: Command, words: &Words<'_>) -> Result<Command, LineFault>
+    ensures accepted { IfOk result (λ read. alone command (words_left words.now) ≡ Some (read, [])) }
+    ensures refused { IsErrOf result LineFault.BadLine ↔ IsNone (alone command (words_left words.now)) }
+    ensures only { IfErr result (λ fault. fault ≡ LineFault.BadLine) }
+{
+    if words.is_empty() {
+        Ok(command)
+    } else {
+        Err(LineFault::BadLine)
+    }
+}
+
+/// The command that a line says, without its newline. The key that the command names is put into
+/// `key`, whose room is used again; what `key` holds after an `Err` is open.
+pub fn parse(line: &[u8], key: &mut Vec<u8>) -> Result<Command, LineFault>
+    ensures accepted { IfOk result (λ command. command_of line.now ≡ Some (command, key.new.items)) }
+    ensures refused { IsErrOf result LineFault.BadLine ↔ IsNone (command_of line.now) }
+
+    // Memory is wanted only where the buffer has no room for the key.
+    ensures memory { IsErrOf result LineFault.Memory
+        → IfSome (command_of line.now) (λ said. vec_capacity key.old < length said.1) }
+{
+    key.clear();
+    let mut words = Words::of(line);
+    let Some(name) = words.take() else {
+        return Err(LineFault::BadLine);
+    };
+    if name == b"insert".as_slice() {
+        insert(words, key)
+    } else if name == b"remove".as_slice() {
+        with_key(Command::Remove, words, key)
+    } else if name == b"get".as_slice() {
+        with_key(Command::Get, words, key)
+    } else if name == b"counts".as_slice() {
+        alone(Command::Counts, &words)
+    } else {
+        Err(LineFault::BadLine)
+    }
+}
