@@ -4,3 +4,5 @@
 pub mod fault;
 pub mod kind;
 pub mod line;
+#[cfg(test)]
+mod tests;

@@ -1,6 +1,6 @@
 //! One line of input, parsed into a command.
 
-ghost use Rattle.std.specs.Prelude.{◌≡◌, ◌==◌, position, ◌+◌, ◌*◌, ◌<◌, ◌↔◌, ℕ, List, [], ◌∷◌, length, IsTrue, Some, None, IsNone, IfSome, IfNone, OnOk, OnErr, IfOk, IfErr, IsErrOf, MatchOption, MatchResult, option_copied, vec_capacity};
+ghost use Rattle.std.specs.Prelude.{◌≡◌, ◌==◌, ◌<◌, ◌↔◌, [], ◌∷◌, length, position, IsTrue, IsNone, IfSome, IfNone, IfOk, IfErr, OnOk, OnErr, IsErrOf, vec_capacity};
 ghost use Rattle.std.specs.Char.{digit_value, is_ascii_hexdigit};
 ghost use Rattle.std.specs.List.{list_all};
 ghost use Rattle.key_index.specs.Line.{alone, command_of, hex_bytes, is_hex, key_of, number_of, with_key, with_key_and_number, words_of};
