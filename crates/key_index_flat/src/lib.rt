@@ -1,0 +1,4 @@
+//! In-memory indices that map shortened keys to lists of values.
+#![tactic(auto)]
+
+pub mod translator;
