@@ -1,0 +1,4 @@
+pub mod PaddingLemmas
+pub mod ContentLemmas
+pub mod ChainLemmas
+pub mod KeyLemmas

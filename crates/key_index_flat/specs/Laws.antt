@@ -1,0 +1,55 @@
+-- The law of contents holds whatever is put in: the proofs that an index gives of it.
+--     IsLawful-with_list      a lawful content stays so with any list at any key
+--     IsLawful-stored         what the two maps of a flat index stand for is lawful, whatever they hold
+use Rattle.std.specs.Prelude.{Bool, true, false, cond, ◌&&◌, T, List, [], ◌∷◌, reverse}
+use Rattle.std.specs.declared.cmp.Ordering.{Ordering}
+use Rattle.std.specs.declared.cmp.Ordering.TheVariants.{Less, Equal, Greater}
+use Rattle.std.specs.declared.vec.Vec.{Vec}
+use Rattle.std.specs.HashMap.{HashMap}
+use Rattle.std.specs.Cmp.{IsTotalOrder}
+use Rattle.std.specs.FinMap.{put}
+use Rattle.std.specs.FinMap.Entries.{by_order, where_key, is_sorted-put, is_sorted-where_key}
+use Rattle.key_index_flat.specs.Content.{Content, is_filled, all_filled, with_list, IsLawful}
+use Rattle.key_index_flat.specs.Chains.{content_of, older_at, stored}
+
+pub both : (a b : Bool) → T a → T b → T (a && b)
+both true b p q = q
+both false b p q = p
+
+pub first : (a b : Bool) → T (a && b) → T a
+first true b p = tt
+first false b p = p
+
+pub second : (a b : Bool) → T (a && b) → T b
+second true b p = p
+second false b p = absurd p
+
+module _ {K V : Type 0} {cmp : K → K → Ordering} (o : IsTotalOrder cmp) where
+  all_filled-put : (k : K) (v : V) (vs : List V) (c : Content K V) → T (all_filled c) → T (all_filled (put cmp k (v ∷ vs) c))
+  all_filled-put k v vs [] h = tt
+  all_filled-put k v vs (e ∷ es) h =
+      elim (cmp k e.0) as (λ r. T (all_filled (by_order r ((k, v ∷ vs) ∷ e ∷ es) ((e.0, v ∷ vs) ∷ es) (e ∷ put cmp k (v ∷ vs) es)))) [
+        | Less ↦ h
+        | Equal ↦ second (is_filled e.1) _ h
+        | Greater ↦ both (is_filled e.1) _ (first (is_filled e.1) _ h) (all_filled-put k v vs es (second (is_filled e.1) _ h))
+      ]
+
+  all_filled-where_key : (p : K → Bool) (c : Content K V) → T (all_filled c) → T (all_filled (where_key cmp p c))
+  all_filled-where_key p [] h = tt
+  all_filled-where_key p (e ∷ es) h =
+      let rest = all_filled-where_key p es (second (is_filled e.1) _ h) in
+      elim (p e.0) as (λ b. T (all_filled (cond b (e ∷ where_key cmp p es) (where_key cmp p es)))) [
+        | true ↦ both (is_filled e.1) _ (first (is_filled e.1) _ h) rest
+        | false ↦ rest
+      ]
+
+  pub IsLawful-with_list : (c : Content K V) (k : K) (l : List V) → IsLawful cmp c → IsLawful cmp (with_list cmp c k l)
+  IsLawful-with_list c k [] h = (is_sorted-where_key cmp _ c h.0, all_filled-where_key _ c h.1)
+  IsLawful-with_list c k (v ∷ vs) h = (is_sorted-put cmp o k (v ∷ vs) c h.0, all_filled-put k v vs c h.1)
+
+  pub IsLawful-content_of : (heads : List (K × V)) (older : K → List V) → IsLawful cmp (content_of cmp heads older)
+  IsLawful-content_of [] older = (tt, tt)
+  IsLawful-content_of (e ∷ es) older = IsLawful-with_list (content_of cmp es older) e.0 (e.1 ∷ reverse (older e.0)) (IsLawful-content_of es older)
+
+  pub IsLawful-stored : {A S : Type 0} (eq : K → K → Bool) (heads : List (K × V)) (older : HashMap K (Vec V A) S) → IsLawful cmp (stored cmp eq heads older)
+  IsLawful-stored eq heads older = IsLawful-content_of heads (older_at eq older)

@@ -1,0 +1,47 @@
+//! Indices: maps from translated keys to lists of values, and what they have in common.
+ghost use Rattle.std.specs.Prelude.{◌≡◌, ℕ, List, Some};
+ghost use Rattle.key_index_flat.specs.Content.{Content, list_at, IsLawful, key_count, item_count};
+
+use std::fmt;
+
+mod interface;
+mod storage;
+pub mod unordered;
+mod values;
+
+pub use interface::{Factory, Runs, Unordered};
+pub use values::Values;
+
+/// Why a call was refused. A refused call changes no content and no count.
+#[derive(Debug, Clone, Copy, PartialEq, Eq)]
+pub enum Fault {
+    /// A growth found no memory.
+    Memory,
+    /// The index holds `usize::MAX` values.
+    Full,
+    /// A position is `usize::MAX` or more past the start.
+    TooFar,
+}
+
+impl fmt::Display for Fault {
+    ghost use Rattle.key_index_flat.specs.Fault.{fault_text};
+
+    ghost output = { λ fault. Some (fault_text fault) };
+
+    fn fmt<W: fmt::Write>(&self, f: &mut fmt::Formatter<W>) -> fmt::Result {
+        match self {
+            Fault::Memory => write!(f, "refused memory"),
+            Fault::Full => write!(f, "refused full"),
+            Fault::TooFar => write!(f, "refused far"),
+        }
+    }
+}
+
+impl std::error::Error for Fault {}
+
+/// A refusal that hands back the value that it was called with.
+#[derive(Debug, Drop)]
+pub struct Refused<V> {
+    pub value: V,
+    pub fault: Fault,
+}

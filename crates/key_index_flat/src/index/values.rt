@@ -1,0 +1,70 @@
+//! The values of one key, in list order.
+ghost use Rattle.std.specs.Prelude.{◌≡◌, ◌∷◌, reverse};
+ghost use Rattle.std.specs.Iterator.{YieldsFirstRef, item_count};
+
+use std::marker::Model;
+
+/// An iterator over the values of one key, in list order. It takes no memory, and ends.
+#[derive(Drop)]
+pub struct Values<'a, V> {
+    newest: Option<&'a V>,
+    rest: &'a [V],
+    from_end: bool,
+}
+
+impl<'a, V> Model for Values<'a, V> {
+    ghost use Rattle.std.specs.Prelude.{List, ◌++◌, reverse, if◌then◌else◌};
+    ghost use Rattle.std.specs.Option.{option_to_list, option_copied};
+
+    ghost Value = { List V };
+
+    ghost view = { λ v. option_to_list (option_copied v.newest) ++ (if v.from_end then reverse v.rest.now else v.rest.now) };
+}
+
+impl<'a, V> Values<'a, V> {
+    /// The items of a slice, in its order.
+    #[inline]
+    pub fn of_slice(values: &'a [V]) -> Values<'a, V>
+        ensures { result ≡ values.now }
+    {
+        Values {
+            newest: None,
+            rest: values,
+            from_end: false,
+        }
+    }
+
+    /// The newest value, and then the older ones, which stand oldest first, from their end.
+    #[inline]
+    pub(crate) fn newest_first(newest: &'a V, older: &'a [V]) -> Values<'a, V>
+        ensures { result ≡ newest.now ∷ reverse older.now }
+    {
+        Values {
+            newest: Some(newest),
+            rest: older,
+            from_end: true,
+        }
+    }
+}
+
+impl<'a, V> Iterator for Values<'a, V> {
+    type Item = &'a V;
+
+    ghost next_gives = { YieldsFirstRef (λ values. values) };
+
+    ghost remaining = { item_count (λ values. values) };
+
+    #[inline]
+    fn next(&mut self) -> Option<&'a V> {
+        if let Some(value) = self.newest.take() {
+            return Some(value);
+        }
+        let (value, rest) = if self.from_end {
+            self.rest.split_last()?
+        } else {
+            self.rest.split_first()?
+        };
+        self.rest = rest;
+        Some(value)
+    }
+}

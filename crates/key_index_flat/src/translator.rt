@@ -1,0 +1,112 @@
+//! Translators: they shorten the bytes of a key to a translated key of a fixed size. Different keys may share one.
+ghost use Rattle.std.specs.Prelude.{◌≡◌, ℕ, List};
+ghost use Rattle.std.specs.declared.cmp.Ordering.TheVariants.{Equal};
+ghost use Rattle.std.specs.Ordering.{nat_cmp};
+ghost use Rattle.key_index_flat.specs.Padding.{padded, cap_number};
+
+use std::hash::Hash;
+
+/// Shortens keys. An implementation says what it makes of a key, and proves that translated keys which compare equal are one
+/// value, so that an ordered and a hashed map find the same entries.
+pub trait Translator: Copy {
+    type Key: Ord + Hash + Copy;
+
+    ghost translated: { Self → List ℕ → Self.Key };
+
+    /// The translated key of a key. Takes no memory.
+    fn transform(&self, key: &[u8]) -> Self::Key
+        ensures { result ≡ translated self.now key.now };
+
+    ghost exact: { (a b : Self.Key) → Self.Key.cmp a b ≡ Equal → a ≡ b };
+}
+
+/// The first `N` bytes of a key, with zeros behind a shorter one.
+#[inline]
+fn capped<const N: usize>(key: &[u8]) -> [u8; N]
+    ensures { result ≡ padded N key.now }
+{
+    let mut bytes = [0; N];
+    let length = key.len().min(N);
+    bytes[..length].copy_from_slice(&key[..length]);
+    bytes
+}
+
+/// Translated keys are the first byte of a key, and 0 for the empty key.
+#[derive(Debug, Default, Clone, Copy)]
+pub struct OneCap;
+
+impl Translator for OneCap {
+    ghost use Rattle.std.proofs.lemmas.Map.Lookups.{exact_unsigned};
+
+    type Key = u8;
+
+    ghost translated = { λ _. cap_number 1 };
+
+    ghost exact = { exact_unsigned };
+
+    #[inline]
+    #[tactic(auto, using(crate::proofs::PaddingLemmas::one_byte))]
+    fn transform(&self, key: &[u8]) -> u8 {
+        u8::from_be_bytes(capped::<1>(key))
+    }
+}
+
+/// Translated keys are the big-endian number of the first two bytes of a key, with zeros behind a shorter one.
+#[derive(Debug, Default, Clone, Copy)]
+pub struct TwoCap;
+
+impl Translator for TwoCap {
+    ghost use Rattle.std.proofs.lemmas.Map.Lookups.{exact_unsigned};
+
+    type Key = u16;
+
+    ghost translated = { λ _. cap_number 2 };
+
+    ghost exact = { exact_unsigned };
+
+    #[inline]
+    #[tactic(auto, using(crate::proofs::PaddingLemmas::two_bytes))]
+    fn transform(&self, key: &[u8]) -> u16 {
+        u16::from_be_bytes(capped::<2>(key))
+    }
+}
+
+/// Translated keys are the big-endian number of the first four bytes of a key, with zeros behind a shorter one.
+#[derive(Debug, Default, Clone, Copy)]
+pub struct FourCap;
+
+impl Translator for FourCap {
+    ghost use Rattle.std.proofs.lemmas.Map.Lookups.{exact_unsigned};
+
+    type Key = u32;
+
+    ghost translated = { λ _. cap_number 4 };
+
+    ghost exact = { exact_unsigned };
+
+    #[inline]
+    #[tactic(auto, using(crate::proofs::PaddingLemmas::four_bytes))]
+    fn transform(&self, key: &[u8]) -> u32 {
+        u32::from_be_bytes(capped::<4>(key))
+    }
+}
+
+/// Translated keys are the big-endian number of the first eight bytes of a key, with zeros behind a shorter one.
+#[derive(Debug, Default, Clone, Copy)]
+pub struct EightCap;
+
+impl Translator for EightCap {
+    ghost use Rattle.std.proofs.lemmas.Map.Lookups.{exact_unsigned};
+
+    type Key = u64;
+
+    ghost translated = { λ _. cap_number 8 };
+
+    ghost exact = { exact_unsigned };
+
+    #[inline]
+    #[tactic(auto, using(crate::proofs::PaddingLemmas::eight_bytes))]
+    fn transform(&self, key: &[u8]) -> u64 {
+        u64::from_be_bytes(capped::<8>(key))
+    }
+}
