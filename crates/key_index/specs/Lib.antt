@@ -1,3 +1,4 @@
+pub mod Answers
 pub mod Kind
 pub mod Line
 pub mod ServeError

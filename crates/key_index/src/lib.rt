@@ -4,5 +4,6 @@
 pub mod fault;
 pub mod kind;
 pub mod line;
+pub mod serve;
 #[cfg(test)]
 mod tests;

@@ -3,6 +3,9 @@
 use crate::fault::ServeError;
 use crate::kind::{Kind, kind_of};
 use crate::line::{Command, LineFault, parse};
+use crate::serve::serve;
+use std::alloc::{AllocError, Global};
+use std::io::{self, Error, ErrorKind, Read, Write};
 use std::test::Fail;
 
 #[test]
@@ -107,5 +110,233 @@ fn arguments_are_read(rt: HostRuntime) -> Result<(), Fail> {
     assert_eq!(rt; kind_of(&words), None);
     assert_eq!(rt; kind_of(&words[1..]), None);
     assert_eq!(rt; kind_of(&words[..0]), None);
+    Ok(())
+}
+
+// A reader of some bytes, a few at a time, which then fails.
+#[derive(Drop)]
+struct FailingReader<'a> {
+    bytes: &'a [u8],
+}
+
+impl Read for FailingReader<'_> {
+    fn read(&mut self, buffer: &mut [u8]) -> io::Result<usize> {
+        if self.bytes.is_empty() {
+            return Err(Error::from(ErrorKind::BrokenPipe));
+        }
+        let count = self.bytes.len().min(buffer.len()).min(5);
+        buffer[..count].copy_from_slice(&self.bytes[..count]);
+        self.bytes = &self.bytes[count..];
+        Ok(count)
+    }
+}
+
+// A reader that counts the reads.
+#[derive(Drop)]
+struct CountingReader<'a> {
+    reads: &'a mut u64,
+}
+
+impl Read for CountingReader<'_> {
+    fn read(&mut self, _buffer: &mut [u8]) -> io::Result<usize> {
+        *self.reads = self.reads.saturating_add(1);
+        Ok(0)
+    }
+}
+
+// A writer that takes so many bytes and then fails.
+#[derive(Drop)]
+struct FailingWriter {
+    room: usize,
+}
+
+impl Write for FailingWriter {
+    fn write(&mut self, buffer: &[u8]) -> io::Result<usize> {
+        if self.room == 0 {
+            return Err(Error::from(ErrorKind::BrokenPipe));
+        }
+        let count = buffer.len().min(self.room);
+        self.room -= count;
+        Ok(count)
+    }
+
+    fn flush(&mut self) -> io::Result<()> {
+        Ok(())
+    }
+}
+
+fn arguments(alloc: Global, texts: &[&str]) -> Result<Vec<String>, AllocError> {
+    let mut words = Vec::new(alloc);
+    for text in texts {
+        words.push(String::from_str(alloc, text)?)?;
+    }
+    Ok(words)
+}
+
+// What the program answers, tells on the fault writer, and returns.
+fn session<R: Read + Drop>(
+    alloc: Global,
+    texts: &[&str],
+    input: R,
+) -> Result<(Vec<u8>, Vec<u8>, u8), AllocError> {
+    let words = arguments(alloc, texts)?;
+    let mut output = Vec::new(alloc);
+    let mut faults = Vec::new(alloc);
+    let status = serve(alloc, &words, input, &mut output, &mut faults);
+    Ok((output, faults, status))
+}
+
+#[test]
+fn sessions_are_answered(rt: HostRuntime) -> Result<(), Fail> {
+    let sessions: [(&[u8], &[u8], &[u8], u8); 14] = [
+        (
+            b"insert 0b02 1\ninsert 0bff 2\nget 0b\nremove 0b77\ncounts\n",
+            b"ok\nok\nvalues 2 1\nok\nkeys 0 items 0 pruned 2\n",
+            b"",
+            0,
+        ),
+        (
+            b"insert - 7\nget 00\nnext 00\n",
+            b"ok\nvalues 7\n",
+            b"bad line 3\n",
+            1,
+        ),
+        (
+            b"insert 0b 1\ninsert 0b 2\ninsert 0c 3\nremove 0b\nget 0b\ncounts\n",
+            b"ok\nok\nok\nok\nnone\nkeys 1 items 1 pruned 2\n",
+            b"",
+            0,
+        ),
+        (b"", b"", b"", 0),
+        (b"counts", b"keys 0 items 0 pruned 0\n", b"", 0),
+        (b"\n", b"", b"bad line 1\n", 1),
+        (
+            b"counts\n\ncounts\n",
+            b"keys 0 items 0 pruned 0\n",
+            b"bad line 2\n",
+            1,
+        ),
+        (b"insert 0b  1\n", b"", b"bad line 1\n", 1),
+        (b"insert 0b0 1\n", b"", b"bad line 1\n", 1),
+        (b"insert 0b 1\r\n", b"", b"bad line 1\n", 1),
+        (b"insert 0b 18446744073709551616\n", b"", b"bad line 1\n", 1),
+        (
+            b"insert Ff 18446744073709551615\nget fF",
+            b"ok\nvalues 18446744073709551615\n",
+            b"",
+            0,
+        ),
+        (b"first\n", b"", b"bad line 1\n", 1),
+        (b"prune 0\n", b"", b"bad line 1\n", 1),
+    ];
+    for (input, output, faults, status) in sessions {
+        let ended = session(rt.alloc(), &["unordered"], input)?;
+        assert_eq!(rt; ended.0.as_slice(), output, "{input:?}");
+        assert_eq!(rt; ended.1.as_slice(), faults, "{input:?}");
+        assert_eq!(rt; ended.2, status, "{input:?}");
+    }
+    Ok(())
+}
+
+#[test]
+fn arguments_come_first(rt: HostRuntime) -> Result<(), Fail> {
+    let arguments: [&[&str]; 5] = [
+        &[],
+        &["ordered"],
+        &["unordered", "512"],
+        &["Unordered"],
+        &[""],
+    ];
+    for texts in arguments {
+        let mut reads = 0u64;
+        let ended = session(rt.alloc(), texts, CountingReader { reads: &mut reads })?;
+        assert_eq!(rt; reads, 0);
+        assert_eq!(rt; ended.0.as_slice(), b"".as_slice());
+        assert_eq!(rt;
+            ended.1.as_slice(),
+            b"usage: key_index KIND [THRESHOLD]\n".as_slice()
+        );
+        assert_eq!(rt; ended.2, 2);
+    }
+    let mut reads = 0u64;
+    let ended = session(
+        rt.alloc(),
+        &["unordered"],
+        CountingReader { reads: &mut reads },
+    )?;
+    assert_eq!(rt; reads, 1);
+    assert_eq!(rt; ended.2, 0);
+    Ok(())
+}
+
+#[test]
+fn failed_reads_end_the_program(rt: HostRuntime) -> Result<(), Fail> {
+    let inputs: [(&[u8], &[u8]); 4] = [
+        (b"", b""),
+        (b"insert 0b 1\nget 0b\n", b"ok\nvalues 1\n"),
+        (b"insert 0b 1\nget 0b", b"ok\n"),
+        (b"insert 0b 1\nge", b"ok\n"),
+    ];
+    for (bytes, output) in inputs {
+        let ended = session(rt.alloc(), &["unordered"], FailingReader { bytes })?;
+        assert_eq!(rt; ended.0.as_slice(), output, "{bytes:?}");
+        assert_eq!(rt; ended.1.as_slice(), b"failed\n".as_slice());
+        assert_eq!(rt; ended.2, 1);
+    }
+    Ok(())
+}
+
+#[test]
+fn failed_writes_end_the_program(rt: HostRuntime) -> Result<(), Fail> {
+    let words = arguments(rt.alloc(), &["unordered"])?;
+    let lines = b"counts\n".repeat(rt.alloc(), 1000)?;
+    // At the first write, at one in mid-stream, and at the last flush.
+    for (count, room) in [(7, 0), (7000, 0), (7000, 10000), (7, 23), (14, 24)] {
+        let mut faults = Vec::new(rt.alloc());
+        let input = &lines[..count.min(lines.len())];
+        let status = serve(
+            rt.alloc(),
+            &words,
+            input,
+            FailingWriter { room },
+            &mut faults,
+        );
+        assert_eq!(rt; faults.as_slice(), b"failed\n".as_slice(), "{count} {room}");
+        assert_eq!(rt; status, 1);
+    }
+    // A fault that cannot be told changes no status.
+    for (texts, input, status) in [
+        ("unordered", b"x".as_slice(), 1),
+        ("ordered", b"", 2),
+        ("unordered", b"", 0),
+    ] {
+        let words = arguments(rt.alloc(), &[texts])?;
+        let mut output = Vec::new(rt.alloc());
+        let ended = serve(
+            rt.alloc(),
+            &words,
+            input,
+            &mut output,
+            FailingWriter { room: 0 },
+        );
+        assert_eq!(rt; ended, status);
+    }
+    Ok(())
+}
+
+#[test]
+fn long_lines_are_read(rt: HostRuntime) -> Result<(), Fail> {
+    let mut input = Vec::new(rt.alloc());
+    input.extend_from_slice(b"insert ")?;
+    input.extend_from_slice(&b"0b".repeat(rt.alloc(), 500000)?)?;
+    input.extend_from_slice(b" 1\nget ")?;
+    input.extend_from_slice(&b"0B".repeat(rt.alloc(), 500000)?)?;
+    input.extend_from_slice(b"\ncounts\n")?;
+    let ended = session(rt.alloc(), &["unordered"], input.as_slice())?;
+    assert_eq!(rt;
+        ended.0.as_slice(),
+        b"ok\nvalues 1\nkeys 1 items 1 pruned 0\n".as_slice()
+    );
+    assert_eq!(rt; ended.2, 0);
     Ok(())
 }
