@@ -2,7 +2,8 @@
 --     content_of-listed    the content that they stand for is their list
 --     at_place             what stands at the place of a key, and what the content is after an edit there
 --     found_at, missing_at     the same of an answer that is the place
---     listed-insert, listed-set_same     an entry put at a place; another one there with the same key and values
+--     pushed, left_alone       the content after a value is put in front of those of an entry, and where it was refused
+--     listed-insert        an entry put at a place
 use Rattle.std.proofs.Common.{◌≡◌, ℕ, zero, suc, ◌<◌, ◌≤◌, cond, not, T, List, [], ◌∷◌, length, get_or, set, Some, Result, Ok, Err, unwrap_or, refl, sym, ap, subst, ◌∙◌, arith}
 use Rattle.std.specs.List.{insert, remove}
 use Rattle.std.specs.declared.cmp.Ordering.{Ordering}
@@ -26,10 +27,13 @@ listed-insert es zero e h = refl
 listed-insert [] (suc i) e h = absurd (omega arith)
 listed-insert (x ∷ es) (suc i) e h = let rest : i ≤ length es = omega arith in ap (λ c. (x.key, x.values.items) ∷ c) (listed-insert es i e rest)
 
-pub listed-set_same : {K V : Type 0} (es : List (Entry K V)) (i : ℕ) (e d : Entry K V) → e.key ≡ (get_or es i d).key → e.values.items ≡ (get_or es i d).values.items → listed (set es i e) ≡ listed es
+listed-set_same : {K V : Type 0} (es : List (Entry K V)) (i : ℕ) (e d : Entry K V) → e.key ≡ (get_or es i d).key → e.values.items ≡ (get_or es i d).values.items → listed (set es i e) ≡ listed es
 listed-set_same [] i e d same is = refl
 listed-set_same (x ∷ es) zero e d same is = λ i. (same i, is i) ∷ listed es
 listed-set_same (x ∷ es) (suc i) e d same is = ap (λ c. (x.key, x.values.items) ∷ c) (listed-set_same es i e d same is)
+
+pub left_alone : {K V : Type 0} (es : List (Entry K V)) (i : ℕ) (e was : Entry K V) → was ≡ get_or es i was → e.key ≡ was.key → e.values.items ≡ was.values.items → listed (set es i e) ≡ listed es
+left_alone es i e was is same values = listed-set_same es i e was (same ∙ ap (λ e. e.key) is) (values ∙ ap (λ e. e.values.items) is)
 
 pub length-listed : {K V : Type 0} (es : List (Entry K V)) → length (listed es) ≡ length es
 length-listed [] = refl
@@ -137,6 +141,12 @@ module _ {K V : Type 0} (cmp : K → K → Ordering) where
 
       pub found_at : (es s : List (Entry K V)) (i : ℕ) → IsLawful cmp (listed es) → s ≡ es → Ok i ≡ place_of cmp s k → IsFound es i
       found_at es s i h e is = subst (λ r. AtPlace es r) (ap (λ s. place_of cmp s k) (sym e) ∙ sym is) (at_place es h.0)
+
+      -- a value in front of those of an entry
+      pub pushed : (es : List (Entry K V)) (i : ℕ) (e was : Entry K V) (v : V) → IsFound es i → was ≡ get_or es i was → e.key ≡ was.key → e.values.items ≡ v ∷ was.values.items
+          → listed (set es i e) ≡ with_list cmp (listed es) k (v ∷ list_at cmp (listed es) k)
+      pushed es i e was v found is same values =
+          found.changed e was v (list_at cmp (listed es) k) (same ∙ ap (λ e. e.key) is) (values ∙ ap (λ l. v ∷ l) (ap (λ e. e.values.items) is ∙ sym (found.list was)))
 
       pub missing_at : (es s : List (Entry K V)) (i : ℕ) → IsLawful cmp (listed es) → s ≡ es → Err i ≡ place_of cmp s k → IsMissing es i
       missing_at es s i h e is = subst (λ r. AtPlace es r) (ap (λ s. place_of cmp s k) (sym e) ∙ sym is) (at_place es h.0)

@@ -2,7 +2,7 @@
 //! runs beside it, and it is the shortest index to read.
 #![tactic(auto)]
 
-ghost use Rattle.std.specs.Prelude.{◌≡◌, ◌<◌, ◌^◌, true, false};
+ghost use Rattle.std.specs.Prelude.{◌≡◌, ◌<◌, ◌^◌, [], true, false, IsOk, IfOk, IfErr};
 ghost use Rattle.key_index_flat.specs.Content.{IsLawful, list_at, item_count};
 ghost use Rattle.key_index_plain.specs.Entries.{listed, content_of};
 ghost use Rattle.key_index_plain.specs.Laws.{IsLawful-content_of};
@@ -84,7 +84,7 @@ impl<T: Translator, V: Drop> Unordered for Index<T, V> {
     }
 
     fn insert(&mut self, key: &[u8], value: V) -> Result<(), Refused<V>> {
-        if entries::count_values(self.entries.as_slice()) == usize::MAX {
+        if self.items() == usize::MAX {
             let fault = Fault::Full;
             return Err(Refused { value, fault });
         }
@@ -123,7 +123,14 @@ impl<T: Translator, V: Drop> Factory for Index<T, V> {
 
     ghost slot_by = { T.translated };
 
-    fn new(alloc: Global, translator: T) -> Result<Index<T, V>, Fault> {
+    /// Takes no memory, and never refuses.
+    fn new(alloc: Global, translator: T) -> Result<Index<T, V>, Fault>
+        ensures made { IsOk result }
+        ensures empty { IfOk result (λ index. ⟦<Index<T, V> as Runs>⟧.content index ≡ []) }
+        ensures pruned { IfOk result (λ index. ⟦<Index<T, V> as Unordered>⟧.pruned_count index ≡ 0) }
+        ensures slots { IfOk result (λ index. ⟦<Index<T, V> as Runs>⟧.slot index ≡ T.translated translator) }
+        ensures fault { IfErr result (λ f. f ≡ Fault.Memory) }
+    {
         Ok(Index {
             translator,
             entries: Vec::new(alloc),
@@ -131,3 +138,6 @@ impl<T: Translator, V: Drop> Factory for Index<T, V> {
         })
     }
 }
+
+#[cfg(test)]
+mod tests;

@@ -1,16 +1,14 @@
 use Rattle.std.proofs.Common.{◌∷◌, ap, sym, ◌∙◌, arith}
-use Rattle.key_index_flat.specs.Content.{list_at, with_list, item_count}
+use Rattle.key_index_flat.specs.Content.{list_at, item_count}
 use Rattle.key_index_flat.specs.Fault.{growth_fault}
 use Rattle.key_index_plain.specs.Entries.{listed}
 use Rattle.key_index_plain.proofs.EntryLemmas.{content_of-listed}
-use Rattle.key_index_plain.proofs.IndexLemmas.{lawful_after, countable_after, growth_memory}
+use Rattle.key_index_plain.proofs.IndexLemmas.{inserted, lawful_after, countable_after, growth_memory}
 use Rattle.key_index_plain.proofs.IndexUnordered.insert.Goals as goal
 
-pub returns-then-count_values-eq18446744073709551615-clause-fault :
-    goal.returns-then-count_values-eq18446744073709551615-clause-fault
-returns-then-count_values-eq18446744073709551615-clause-fault g c =
-    let now = content_of-listed g.T.Key.Ord.cmp c.args.self.now.entries.items c.args.self.now.lawful in
-    ap (λ n. growth_fault n) (sym c.if-count_values-eq18446744073709551615.true ∙ c.count_values.ensures ∙ ap (λ es. item_count (listed es)) c.as_slice.ensures.value ∙ ap (λ x. item_count x) (sym now))
+pub returns-then-items-eq18446744073709551615-clause-fault : goal.returns-then-items-eq18446744073709551615-clause-fault
+returns-then-items-eq18446744073709551615-clause-fault g c =
+    ap (λ n. growth_fault n) (sym c.if-items-eq18446744073709551615.true ∙ c.items.ensures)
 
 pub invariant_of-self-clause-lawful : goal.invariant_of-self-clause-lawful
 invariant_of-self-clause-lawful g c =
@@ -19,24 +17,21 @@ invariant_of-self-clause-lawful g c =
 
 pub invariant_of-self-clause-countable : goal.invariant_of-self-clause-countable
 invariant_of-self-clause-countable g c =
-    let count = c.count_values.ensures ∙ ap (λ es. item_count (listed es)) c.as_slice.ensures.value in
+    let now = ap (λ x. item_count x) (content_of-listed g.T.Key.Ord.cmp c.args.self.now.entries.items c.args.self.now.lawful) in
     countable_after g.met.T.Key.Ord.total c.insert_first.result (listed c.args.self.now.entries.items) (listed c.insert_first.new.entries.items) c.transform-slot.result
-    c.args.value c.args.self.now.lawful c.args.self.now.countable (λ full. c.if-count_values-eq18446744073709551615.false (count ∙ full)) c.insert_first.ensures.accepted c.insert_first.ensures.refused
+    c.args.value c.args.self.now.lawful c.args.self.now.countable (λ full. c.if-items-eq18446744073709551615.false (c.items.ensures ∙ now ∙ full)) c.insert_first.ensures.accepted c.insert_first.ensures.refused
 
 pub returns-in-Ok-clause-accepted : goal.returns-in-Ok-clause-accepted
 returns-in-Ok-clause-accepted g c =
-    let now = sym (content_of-listed g.T.Key.Ord.cmp c.args.self.now.entries.items c.args.self.now.lawful) in
-    content_of-listed g.T.Key.Ord.cmp c.insert_first.new.entries.items
+    inserted g.T.Key.Ord.cmp c.args.self.now.entries.items c.insert_first.new.entries.items c.transform-slot.result _ c.args.value c.args.self.now.lawful
     (lawful_after g.met.T.Key.Ord.total c.insert_first.result (listed c.args.self.now.entries.items) (listed c.insert_first.new.entries.items) c.transform-slot.result
     (c.args.value ∷ list_at g.T.Key.Ord.cmp (listed c.args.self.now.entries.items) c.transform-slot.result) c.args.self.now.lawful c.insert_first.ensures.accepted c.insert_first.ensures.refused)
-    ∙ c.in-Ok.ensures.accepted
-    ∙ (λ i. with_list g.T.Key.Ord.cmp (now i) (c.transform-slot.ensures i) (c.args.value ∷ list_at g.T.Key.Ord.cmp (now i) (c.transform-slot.ensures i)))
+    c.in-Ok.ensures.accepted c.transform-slot.ensures
 
 pub returns-in-Ok-clause-room : goal.returns-in-Ok-clause-room
 returns-in-Ok-clause-room g c =
     let now = ap (λ x. item_count x) (content_of-listed g.T.Key.Ord.cmp c.args.self.now.entries.items c.args.self.now.lawful) in
-    let count = c.count_values.ensures ∙ ap (λ es. item_count (listed es)) c.as_slice.ensures.value in
-    omega (arith, now, count, c.args.self.now.countable, c.if-count_values-eq18446744073709551615.false)
+    omega (arith, now, c.items.ensures, c.args.self.now.countable, c.if-items-eq18446744073709551615.false)
 
 pub returns-in-Err-clause-refused : goal.returns-in-Err-clause-refused
 returns-in-Err-clause-refused g c =
@@ -47,6 +42,4 @@ returns-in-Err-clause-refused g c =
 
 pub returns-in-Err-clause-fault : goal.returns-in-Err-clause-fault
 returns-in-Err-clause-fault g c =
-    let now = ap (λ x. item_count x) (content_of-listed g.T.Key.Ord.cmp c.args.self.now.entries.items c.args.self.now.lawful) in
-    let count = c.count_values.ensures ∙ ap (λ es. item_count (listed es)) c.as_slice.ensures.value in
-    growth_memory _ (λ full. c.if-count_values-eq18446744073709551615.false (count ∙ sym now ∙ full))
+    growth_memory _ (λ full. c.if-items-eq18446744073709551615.false (c.items.ensures ∙ full))

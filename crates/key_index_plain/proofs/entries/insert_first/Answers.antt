@@ -1,7 +1,7 @@
-use Rattle.std.proofs.Common.{[], ◌∷◌, Result, Ok, Err, OnOk, length, ap, sym, ◌∙◌, arith}
-use Rattle.key_index_flat.specs.Content.{list_at, with_list}
+use Rattle.std.proofs.Common.{[], ◌∷◌, Result, Ok, Err, OnOk, length, refl, ap, sym, ◌∙◌, arith}
+use Rattle.key_index_flat.specs.Content.{with_list}
 use Rattle.key_index_plain.specs.Entries.{listed}
-use Rattle.key_index_plain.proofs.EntryLemmas.{found_at, missing_at, listed-set_same}
+use Rattle.key_index_plain.proofs.EntryLemmas.{found_at, missing_at, pushed, left_alone}
 use Rattle.key_index_plain.proofs.entries.insert_first.Goals as goal
 
 pub index_mut-requires : goal.index_mut-requires
@@ -12,15 +12,13 @@ index_mut-requires g c =
 pub returns-in-Ok-insert-clause-accepted : goal.returns-in-Ok-insert-clause-accepted
 returns-in-Ok-insert-clause-accepted g c =
     let found = found_at g.K.Ord.cmp c.args.key g.met.K.Ord.total c.args.entries.now.items c.as_slice.result.now c.in-Ok.place c.requires c.as_slice.ensures.value c.in-Ok.ensures in
-    let was = c.index_mut.result.now in
-    found.changed (record { key = was.key; values = c.insert.new.self }) was c.args.value (list_at g.K.Ord.cmp (listed c.args.entries.now.items) c.args.key) (ap (λ e. e.key) c.index_mut.ensures.value)
-    (c.in-Ok-insert.ensures.items ∙ ap (λ l. c.args.value ∷ l) (ap (λ e. e.values.items) c.index_mut.ensures.value ∙ sym (found.list was)))
+    pushed g.K.Ord.cmp c.args.key g.met.K.Ord.total c.args.entries.now.items c.in-Ok.place (record { key = c.index_mut.result.now.key; values = c.insert.new.self }) c.index_mut.result.now c.args.value
+    found c.index_mut.ensures.value refl c.in-Ok-insert.ensures.items
 
 pub returns-in-Ok-clause-refused : goal.returns-in-Ok-clause-refused
 returns-in-Ok-clause-refused g c =
-    let was = c.index_mut.result.now in
-    listed-set_same c.args.entries.now.items c.in-Ok.place (record { key = was.key; values = c.insert.new.self }) was (ap (λ e. e.key) c.index_mut.ensures.value)
-    (c.in-Err-insert.ensures.items ∙ ap (λ e. e.values.items) c.index_mut.ensures.value)
+    left_alone c.args.entries.now.items c.in-Ok.place (record { key = c.index_mut.result.now.key; values = c.insert.new.self }) c.index_mut.result.now
+    c.index_mut.ensures.value refl c.in-Err-insert.ensures.items
 
 pub insert_entry-requires : goal.insert_entry-requires
 insert_entry-requires g c =
