@@ -17,6 +17,7 @@ fn calls(rt: HostRuntime) {
     assert_eq!(&rt; slot, 0x6262);
     assert!(&rt; index.admits(slot));
     assert_eq!(&rt; index.run_len(slot), 2);
+    assert_eq!(&rt; *index.value_at(slot, 1), 1);
     assert!(&rt; index.get(b"a").next().is_none());
     assert!(&rt; index.remove(b"bb").is_ok());
     assert!(&rt; index.get(b"bb").next().is_none());
