@@ -1,4 +1,5 @@
 //! Each translator, and each call of the flat index, once.
+use crate::callers::replace;
 use key_index_flat::index::unordered::Index;
 use key_index_flat::index::{Factory, Fault, Runs, Unordered, Values};
 use key_index_flat::translator::{EightCap, FourCap, OneCap, Translator, TwoCap};
@@ -41,6 +42,29 @@ fn rows(rt: HostRuntime) -> Result<(), Fail> {
     assert!(&rt; index.get(b"\x0b").next().is_none());
     assert_eq!(&rt; (index.keys(), index.items(), index.pruned()), (1, 1, 2));
     Ok(())
+}
+
+/// The values of a key after `replace`, through the bounds alone.
+fn replaced<I: Unordered<Value = u64> + Factory + Drop>(
+    rt: HostRuntime,
+    translator: I::Translator,
+) -> Result<(), Fail> {
+    let mut index = I::new(rt.alloc(), translator)?;
+    index.insert(b"key", 1)?;
+    index.insert(b"key", 2)?;
+    replace(&mut index, b"key", 3)?;
+    assert!(&rt; index.get(b"key").copied().eq([3]));
+    Ok(())
+}
+
+#[test]
+fn flat_replaces(rt: HostRuntime) -> Result<(), Fail> {
+    replaced::<Index<OneCap, u64>>(rt, OneCap)
+}
+
+#[test]
+fn plain_replaces(rt: HostRuntime) -> Result<(), Fail> {
+    replaced::<key_index_plain::Index<OneCap, u64>>(rt, OneCap)
 }
 
 #[test]
