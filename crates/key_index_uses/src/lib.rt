@@ -3,6 +3,5 @@
 #![tactic(auto)]
 
 pub mod callers;
-
 #[cfg(test)]
 mod tests;

@@ -3,6 +3,8 @@ use crate::callers::replace;
 use key_index_flat::index::unordered::Index;
 use key_index_flat::index::{Factory, Fault, Runs, Unordered, Values};
 use key_index_flat::translator::{EightCap, FourCap, OneCap, Translator, TwoCap};
+use std::alloc::Global;
+use std::process::Abort;
 use std::test::Fail;
 
 /// What a translator makes of keys, through the bound alone.
@@ -46,25 +48,26 @@ fn rows(rt: HostRuntime) -> Result<(), Fail> {
 
 /// The values of a key after `replace`, through the bounds alone.
 fn replaced<I: Unordered<Value = u64> + Factory + Drop>(
-    rt: HostRuntime,
+    rt: &impl Abort,
+    alloc: Global,
     translator: I::Translator,
 ) -> Result<(), Fail> {
-    let mut index = I::new(rt.alloc(), translator)?;
+    let mut index = I::new(alloc, translator)?;
     index.insert(b"key", 1)?;
     index.insert(b"key", 2)?;
     replace(&mut index, b"key", 3)?;
-    assert!(&rt; index.get(b"key").copied().eq([3]));
+    assert!(rt; index.get(b"key").copied().eq([3]));
     Ok(())
 }
 
 #[test]
 fn flat_replaces(rt: HostRuntime) -> Result<(), Fail> {
-    replaced::<Index<OneCap, u64>>(rt, OneCap)
+    replaced::<Index<OneCap, u64>>(&rt, rt.alloc(), OneCap)
 }
 
 #[test]
 fn plain_replaces(rt: HostRuntime) -> Result<(), Fail> {
-    replaced::<key_index_plain::Index<OneCap, u64>>(rt, OneCap)
+    replaced::<key_index_plain::Index<OneCap, u64>>(&rt, rt.alloc(), OneCap)
 }
 
 #[test]
