@@ -1,0 +1,108 @@
+//! Entries in the order of their keys, and the scans over them.
+ghost use Rattle.std.specs.Prelude.{◌≡◌, ◌<◌, ◌≤◌, ◌^◌, List, [], ◌∷◌, length, IfErr, OnOk, OnErr};
+ghost use Rattle.std.specs.List.{insert};
+ghost use Rattle.key_index_flat.specs.Content.{IsLawful, list_at, with_list, item_count};
+ghost use Rattle.key_index_plain.specs.Entries.{listed, place_of};
+
+use std::cmp::Ordering;
+
+/// An index key and its values, the newest first.
+#[derive(Drop)]
+pub(crate) struct Entry<K, V> {
+    key: K,
+    values: Vec<V>,
+}
+
+/// The place of the entry with the key, or else the place where one belongs.
+fn search<K: Ord, V>(entries: &[Entry<K, V>], key: &K) -> Result<usize, usize>
+    ensures { result ≡ place_of K.cmp entries.now key.now }
+{
+    for (place, entry) in entries.iter().enumerate() {
+        match key.cmp(&entry.key) {
+            Ordering::Less => return Err(place),
+            Ordering::Equal => return Ok(place),
+            Ordering::Greater => {}
+        }
+    }
+    Err(entries.len())
+}
+
+/// The values of a key, none where it is absent.
+pub(crate) fn values_of<'a, K: Ord, V>(entries: &'a [Entry<K, V>], key: &K) -> &'a [V]
+    requires { IsLawful K.cmp (listed entries.now) }
+    ensures { result.now ≡ list_at K.cmp (listed entries.now) key.now }
+{
+    match search(entries, key) {
+        Ok(place) => entries[place].values.as_slice(),
+        Err(_) => &[],
+    }
+}
+
+/// How many values the entries have.
+pub(crate) fn count_values<K, V>(entries: &[Entry<K, V>]) -> usize
+    requires { item_count (listed entries.now) < 2 ^ 64 }
+    ensures { result ≡ item_count (listed entries.now) }
+{
+    let mut count = 0;
+    for entry in entries {
+        count += entry.values.len();
+    }
+    count
+}
+
+/// Puts a new entry with one value at a place. A refusal hands the value back.
+fn insert_entry<K: Drop, V: Drop>(
+    entries: &mut Vec<Entry<K, V>>,
+    place: usize,
+    key: K,
+    value: V,
+) -> Result<(), V>
+    requires { place ≤ length entries.old.items }
+    ensures accepted { OnOk result (listed entries.new.items ≡ insert (listed entries.old.items) place (key, value ∷ [])) }
+    ensures refused { OnErr result (entries.new.items ≡ entries.old.items) }
+    ensures returned { IfErr result (λ back. back ≡ value) }
+{
+    let mut values = Vec::new(*entries.allocator());
+    if let Err(failed) = values.push(value) {
+        return Err(failed.value);
+    }
+    match entries.insert(place, Entry { key, values }) {
+        Ok(()) => Ok(()),
+        Err(failed) => {
+            let Entry { mut values, .. } = failed.value;
+            Err(values.remove(0))
+        }
+    }
+}
+
+/// Puts a value in front of those of a key. A refusal hands it back.
+pub(crate) fn insert_first<K: Ord + Drop, V: Drop>(
+    entries: &mut Vec<Entry<K, V>>,
+    key: K,
+    value: V,
+) -> Result<(), V>
+    requires { IsLawful K.cmp (listed entries.old.items) }
+    ensures accepted { OnOk result (listed entries.new.items ≡ with_list K.cmp (listed entries.old.items) key (value ∷ list_at K.cmp (listed entries.old.items) key)) }
+    ensures refused { OnErr result (listed entries.new.items ≡ listed entries.old.items) }
+    ensures returned { IfErr result (λ back. back ≡ value) }
+{
+    match search(entries.as_slice(), &key) {
+        Ok(place) => match entries[place].values.insert(0, value) {
+            Ok(()) => Ok(()),
+            Err(failed) => Err(failed.value),
+        },
+        Err(place) => insert_entry(entries, place, key, value),
+    }
+}
+
+/// Takes the entry of a key out, and tells how many values it had.
+pub(crate) fn remove<K: Ord + Drop, V: Drop>(entries: &mut Vec<Entry<K, V>>, key: &K) -> usize
+    requires { IsLawful K.cmp (listed entries.old.items) }
+    ensures content { listed entries.new.items ≡ with_list K.cmp (listed entries.old.items) key.now [] }
+    ensures taken { result ≡ length (list_at K.cmp (listed entries.old.items) key.now) }
+{
+    match search(entries.as_slice(), key) {
+        Ok(place) => entries.remove(place).values.len(),
+        Err(_) => 0,
+    }
+}

@@ -1,0 +1,143 @@
+//! The plain index: the definitions' own program. Every call scans a sorted list of entries. It is for tests, where each other index
+//! runs beside it, and it is the shortest index to read.
+#![tactic(auto)]
+
+ghost use Rattle.std.specs.Prelude.{◌≡◌, ◌<◌, ◌^◌, [], true, false, IsOk, IfOk, IfErr};
+ghost use Rattle.key_index_flat.specs.Content.{IsLawful, list_at, item_count};
+ghost use Rattle.key_index_plain.specs.Entries.{listed, content_of};
+ghost use Rattle.key_index_plain.specs.Laws.{IsLawful-content_of};
+
+mod entries;
+
+use entries::Entry;
+use key_index_flat::index::{Factory, Fault, Refused, Runs, Unordered, Values};
+use key_index_flat::translator::Translator;
+use std::alloc::Global;
+
+/// An index over a list of entries, sorted by translated key. Each entry has a translated key and its values, the newest first.
+///
+/// Every call takes time in proportion to the entries, and `insert` and `remove` move those behind theirs. `insert` puts a value in
+/// front of those of its key. `remove` takes no memory and never refuses.
+#[derive(Drop)]
+pub struct Index<T: Translator, V> {
+    translator: T,
+    entries: Vec<Entry<T::Key, V>>,
+    pruned: u64,
+    ghost lawful: { IsLawful T.Key.cmp (listed entries.items) },
+    ghost countable: { item_count (listed entries.items) < 2 ^ 64 },
+}
+
+impl<T: Translator, V: Drop> Index<T, V> {
+    /// The values under an index key, the newest first.
+    fn values_of(&self, slot: T::Key) -> &[V]
+        ensures { result.now ≡ list_at T.Key.cmp (content_of T.Key.cmp self.now.entries.items) slot }
+    {
+        entries::values_of(self.entries.as_slice(), &slot)
+    }
+}
+
+impl<T: Translator, V: Drop> Runs for Index<T, V> {
+    type Value = V;
+
+    type Key = T::Key;
+
+    ghost content = { λ index. content_of T.Key.cmp index.entries.items };
+
+    ghost slot = { λ index. T.translated index.translator };
+
+    ghost admitted = { λ _ _. true };
+
+    ghost lawful = { λ index. IsLawful-content_of T.Key.total index.entries.items };
+
+    ghost exact = { T.exact };
+
+    fn slot_of(&self, key: &[u8]) -> T::Key {
+        self.translator.transform(key)
+    }
+
+    fn admits(&self, _key: T::Key) -> bool {
+        true
+    }
+
+    fn run_len(&self, key: T::Key) -> usize {
+        self.values_of(key).len()
+    }
+
+    fn value_at(&self, key: T::Key, place: usize) -> &V {
+        &self.values_of(key)[place]
+    }
+}
+
+impl<T: Translator, V: Drop> Unordered for Index<T, V> {
+    ghost INSERT_FIRST = { true };
+
+    const INSERT_FIRST: bool = true;
+
+    const LOOKUP_WARMS_UPDATE: bool = true;
+
+    ghost pruned_count = { λ index. index.pruned };
+
+    ghost may_refuse = { λ _ _. false };
+
+    fn get(&self, key: &[u8]) -> Values<'_, V> {
+        Values::of_slice(self.values_of(self.translator.transform(key)))
+    }
+
+    fn insert(&mut self, key: &[u8], value: V) -> Result<(), Refused<V>> {
+        if self.items() == usize::MAX {
+            let fault = Fault::Full;
+            return Err(Refused { value, fault });
+        }
+        let slot = self.translator.transform(key);
+        match entries::insert_first(&mut self.entries, slot, value) {
+            Ok(()) => Ok(()),
+            Err(value) => {
+                let fault = Fault::Memory;
+                Err(Refused { value, fault })
+            }
+        }
+    }
+
+    fn remove(&mut self, key: &[u8]) -> Result<(), Fault> {
+        let slot = self.translator.transform(key);
+        let taken = entries::remove(&mut self.entries, &slot);
+        self.pruned = self.pruned.saturating_add(taken as u64);
+        Ok(())
+    }
+
+    fn keys(&self) -> usize {
+        self.entries.len()
+    }
+
+    fn items(&self) -> usize {
+        entries::count_values(self.entries.as_slice())
+    }
+
+    fn pruned(&self) -> u64 {
+        self.pruned
+    }
+}
+
+impl<T: Translator, V: Drop> Factory for Index<T, V> {
+    type Translator = T;
+
+    ghost slot_by = { T.translated };
+
+    /// Takes no memory, and never refuses.
+    fn new(alloc: Global, translator: T) -> Result<Index<T, V>, Fault>
+        ensures made { IsOk result }
+        ensures empty { IfOk result (λ index. ⟦<Index<T, V> as Runs>⟧.content index ≡ []) }
+        ensures pruned { IfOk result (λ index. ⟦<Index<T, V> as Unordered>⟧.pruned_count index ≡ 0) }
+        ensures slots { IfOk result (λ index. ⟦<Index<T, V> as Runs>⟧.slot index ≡ T.translated translator) }
+        ensures fault { IfErr result (λ f. f ≡ Fault.Memory) }
+    {
+        Ok(Index {
+            translator,
+            entries: Vec::new(alloc),
+            pruned: 0,
+        })
+    }
+}
+
+#[cfg(test)]
+mod tests;

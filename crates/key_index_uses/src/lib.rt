@@ -1,0 +1,8 @@
+//! Callers as a user writes them, and tests that cross crates: indices of different kinds beside one another, and each translator
+//! and index called once by name.
+#![tactic(auto)]
+
+pub mod callers;
+
+#[cfg(test)]
+mod tests;

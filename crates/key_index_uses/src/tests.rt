@@ -1,0 +1,59 @@
+//! An index that is called some thousand times answers as lists kept beside it do, and as another index does.
+mod driver;
+mod flat;
+mod numbers;
+
+use driver::{beside, drive};
+use key_index_flat::index::unordered;
+use key_index_flat::translator::{EightCap, FourCap, OneCap, TwoCap};
+use std::test::Fail;
+
+#[test]
+fn flat_keeps_lists(rt: HostRuntime) -> Result<(), Fail> {
+    drive::<unordered::Index<OneCap, u64>>(&rt, rt.alloc(), OneCap)
+}
+
+#[test]
+fn plain_keeps_lists(rt: HostRuntime) -> Result<(), Fail> {
+    drive::<key_index_plain::Index<OneCap, u64>>(&rt, rt.alloc(), OneCap)
+}
+
+#[test]
+fn flat_beside_plain_by_one_byte(rt: HostRuntime) -> Result<(), Fail> {
+    beside::<unordered::Index<OneCap, u64>, key_index_plain::Index<OneCap, u64>>(
+        &rt,
+        rt.alloc(),
+        OneCap,
+        OneCap,
+    )
+}
+
+#[test]
+fn flat_beside_plain_by_two_bytes(rt: HostRuntime) -> Result<(), Fail> {
+    beside::<unordered::Index<TwoCap, u64>, key_index_plain::Index<TwoCap, u64>>(
+        &rt,
+        rt.alloc(),
+        TwoCap,
+        TwoCap,
+    )
+}
+
+#[test]
+fn flat_beside_plain_by_four_bytes(rt: HostRuntime) -> Result<(), Fail> {
+    beside::<unordered::Index<FourCap, u64>, key_index_plain::Index<FourCap, u64>>(
+        &rt,
+        rt.alloc(),
+        FourCap,
+        FourCap,
+    )
+}
+
+#[test]
+fn flat_beside_plain_by_eight_bytes(rt: HostRuntime) -> Result<(), Fail> {
+    beside::<unordered::Index<EightCap, u64>, key_index_plain::Index<EightCap, u64>>(
+        &rt,
+        rt.alloc(),
+        EightCap,
+        EightCap,
+    )
+}

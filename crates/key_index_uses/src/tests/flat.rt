@@ -1,0 +1,85 @@
+//! Each translator, and each call of the flat index, once.
+use crate::callers::replace;
+use key_index_flat::index::unordered::Index;
+use key_index_flat::index::{Factory, Fault, Runs, Unordered, Values};
+use key_index_flat::translator::{EightCap, FourCap, OneCap, Translator, TwoCap};
+use std::test::Fail;
+
+/// What a translator makes of keys, through the bound alone.
+fn translated<T: Translator>(translator: &T, key: &[u8]) -> T::Key {
+    translator.transform(key)
+}
+
+#[test]
+fn caps(rt: HostRuntime) {
+    assert_eq!(&rt; translated(&OneCap, b""), 0);
+    assert_eq!(&rt; translated(&OneCap, b"a"), 0x61);
+    assert_eq!(&rt; translated(&OneCap, b"abc"), 0x61);
+    assert_eq!(&rt; translated(&TwoCap, b""), 0);
+    assert_eq!(&rt; translated(&TwoCap, b"ab"), 0x6162);
+    assert_eq!(&rt; translated(&TwoCap, b"abc"), 0x6162);
+    assert!(&rt; translated(&TwoCap, b"z") < translated(&TwoCap, b"zz"));
+    assert_eq!(&rt; translated(&TwoCap, b"zz"), translated(&TwoCap, b"zzabc"));
+    assert_eq!(&rt; translated(&FourCap, b"abcd"), 0x6162_6364);
+    assert_eq!(&rt; translated(&FourCap, b"abcdef"), 0x6162_6364);
+    assert_eq!(&rt; translated(&EightCap, b"a"), 0x6100_0000_0000_0000);
+}
+
+#[test]
+fn rows(rt: HostRuntime) -> Result<(), Fail> {
+    let mut index = Index::<OneCap, u64>::new(rt.alloc(), OneCap)?;
+    index.insert(b"\x0b", 1)?;
+    index.insert(b"\x0b", 2)?;
+    index.insert(b"\x0c", 3)?;
+    let slot = index.slot_of(b"\x0b");
+    assert_eq!(&rt; slot, 0x0b);
+    assert!(&rt; index.admits(slot));
+    assert_eq!(&rt; index.run_len(slot), 2);
+    assert_eq!(&rt; *index.value_at(slot, 0), 2);
+    assert_eq!(&rt; *index.value_at(slot, 1), 1);
+    assert!(&rt; index.get(b"\x0b").copied().eq([2, 1]));
+    index.remove(b"\x0b")?;
+    assert!(&rt; index.get(b"\x0b").next().is_none());
+    assert_eq!(&rt; (index.keys(), index.items(), index.pruned()), (1, 1, 2));
+    Ok(())
+}
+
+/// The values of a key after `replace`, through the bounds alone.
+fn replaced<I: Unordered<Value = u64> + Factory + Drop>(
+    rt: HostRuntime,
+    translator: I::Translator,
+) -> Result<(), Fail> {
+    let mut index = I::new(rt.alloc(), translator)?;
+    index.insert(b"key", 1)?;
+    index.insert(b"key", 2)?;
+    replace(&mut index, b"key", 3)?;
+    assert!(&rt; index.get(b"key").copied().eq([3]));
+    Ok(())
+}
+
+#[test]
+fn flat_replaces(rt: HostRuntime) -> Result<(), Fail> {
+    replaced::<Index<OneCap, u64>>(rt, OneCap)
+}
+
+#[test]
+fn plain_replaces(rt: HostRuntime) -> Result<(), Fail> {
+    replaced::<key_index_plain::Index<OneCap, u64>>(rt, OneCap)
+}
+
+#[test]
+fn values_of_a_slice(rt: HostRuntime) {
+    assert!(&rt; Values::of_slice(&[7, 5, 6]).copied().eq([7, 5, 6]));
+}
+
+#[test]
+fn faults_print(rt: HostRuntime) -> Result<(), Fail> {
+    for (fault, want) in [
+        (Fault::Memory, "refused memory"),
+        (Fault::Full, "refused full"),
+        (Fault::TooFar, "refused far"),
+    ] {
+        assert_eq!(&rt; fault.to_string(rt.alloc())?.as_str(), want);
+    }
+    Ok(())
+}

@@ -1,0 +1,24 @@
+//! A fixed run of numbers that look random.
+
+/// George Marsaglia's xorshift of 64 bits with the shifts 13, 7 and 17.
+#[derive(Drop)]
+pub(super) struct Numbers {
+    last: u64,
+}
+
+impl Numbers {
+    pub(super) fn new() -> Numbers {
+        Numbers {
+            last: 0x9e37_79b9_7f4a_7c15,
+        }
+    }
+
+    pub(super) fn next(&mut self) -> u64 {
+        let mut number = self.last;
+        number ^= number << 13;
+        number ^= number >> 7;
+        number ^= number << 17;
+        self.last = number;
+        number
+    }
+}
