@@ -1,5 +1,5 @@
 //! The flat unordered index.
-ghost use Rattle.std.specs.Prelude.{◌≡◌, true, false};
+ghost use Rattle.std.specs.Prelude.{◌≡◌, [], true, false, IsOk, IfOk, IfErr};
 ghost use Rattle.key_index_flat.specs.Chains.{older_at, stored};
 ghost use Rattle.key_index_flat.specs.Content.{item_count};
 ghost use Rattle.key_index_flat.specs.Storage.{IsLinked};
@@ -106,7 +106,14 @@ impl<T: Translator, V: Drop> Factory for Index<T, V> {
 
     ghost slot_by = { T.translated };
 
-    fn new(alloc: Global, translator: T) -> Result<Index<T, V>, Fault> {
+    /// Takes no memory, and never refuses.
+    fn new(alloc: Global, translator: T) -> Result<Index<T, V>, Fault>
+        ensures made { IsOk result }
+        ensures empty { IfOk result (λ index. ⟦<Index<T, V> as Runs>⟧.content index ≡ []) }
+        ensures pruned { IfOk result (λ index. ⟦<Index<T, V> as Unordered>⟧.pruned_count index ≡ 0) }
+        ensures slots { IfOk result (λ index. ⟦<Index<T, V> as Runs>⟧.slot index ≡ T.translated translator) }
+        ensures fault { IfErr result (λ f. f ≡ Fault.Memory) }
+    {
         Ok(Index {
             storage: Storage::new(alloc, translator, HashMap::new(alloc)),
         })

@@ -1,5 +1,5 @@
 //! Each translator, and each call of the flat index, once.
-use crate::callers::replace;
+use crate::callers::{add, newest, replace};
 use key_index_flat::index::unordered::Index;
 use key_index_flat::index::{Factory, Fault, Runs, Unordered, Values};
 use key_index_flat::translator::{EightCap, FourCap, OneCap, Translator, TwoCap};
@@ -43,6 +43,16 @@ fn rows(rt: HostRuntime) -> Result<(), Fail> {
     index.remove(b"\x0b")?;
     assert!(&rt; index.get(b"\x0b").next().is_none());
     assert_eq!(&rt; (index.keys(), index.items(), index.pruned()), (1, 1, 2));
+    Ok(())
+}
+
+#[test]
+fn first_use(rt: HostRuntime) -> Result<(), Fail> {
+    assert_eq!(&rt; newest(rt.alloc())?, Some(2));
+    let mut index = Index::<OneCap, u64>::new(rt.alloc(), OneCap)?;
+    assert_eq!(&rt; add(&mut index, b"\x0b\x02", 7)?, 1);
+    assert_eq!(&rt; add(&mut index, b"\x0b\xff", 8)?, 2);
+    assert!(&rt; index.get(b"\x0b").copied().eq([8, 7]));
     Ok(())
 }
 
