@@ -1,5 +1,5 @@
 -- On the content that newest and older values stand for.
-use Rattle.std.proofs.Common.{◌≡◌, ℕ, zero, suc, ◌+◌, ◌-◌, ◌<◌, ◌≤◌, Bool, true, false, cond, T, List, [], ◌∷◌, ◌++◌, length, reverse, slice_get, get_or, Option, Some, None, Result, Ok, Err, is_some, IfOk, OnOk, OnErr, refl, sym, ap, subst, ◌∙◌, arith, add-zero}
+use Rattle.std.proofs.Common.{◌≡◌, ℕ, zero, suc, ◌+◌, ◌-◌, ◌<◌, ◌≤◌, true, false, cond, T, List, [], ◌∷◌, ◌++◌, length, reverse, slice_get, get_or, Option, Some, None, Result, Ok, Err, is_some, IfOk, OnOk, OnErr, refl, sym, ap, subst, ◌∙◌, arith, add-zero}
 use Rattle.std.proofs.lemmas.List.{length-reverse, reverse-append, get_or-reverse}
 use Rattle.std.proofs.lemmas.Option.{slice_get-get_or}
 use Rattle.std.specs.declared.cmp.Ordering.{Ordering}
@@ -7,7 +7,7 @@ use Rattle.std.specs.declared.cmp.Ordering.TheVariants.{Less, Equal, Greater}
 use Rattle.std.specs.Ordering.{eq_by_cmp, is_eq}
 use Rattle.std.specs.Cmp.{IsTotalOrder}
 use Rattle.std.specs.Map.{lookup}
-use Rattle.key_index_flat.specs.Content.{Content, key_count, list_at, with_list, IsLawful}
+use Rattle.key_index_flat.specs.Content.{Content, key_count, list_at, with_list}
 use Rattle.key_index_flat.specs.Chains.{list_of, content_of}
 use Rattle.key_index_flat.specs.Storage.{value_of, Sets, IsLinked}
 use Rattle.key_index_flat.specs.Laws.{IsLawful-with_list, IsLawful-content_of}

@@ -2,13 +2,13 @@
 --     list_at-with_list           what `with_list` answers at each key
 --     same_content                two lawful contents that agree at every key are one
 --     item_count-with_list, key_count-with_list     the counts after it
-use Rattle.std.proofs.Common.{◌≡◌, ℕ, suc, ◌+◌, Bool, true, false, cond, not, ◌&&◌, T, List, [], ◌∷◌, length, Option, Some, None, unwrap_or, is_some, sum_by, add-zero, refl, sym, ap, subst, ◌∙◌, arith}
+use Rattle.std.proofs.Common.{◌≡◌, ℕ, ◌+◌, Bool, true, false, cond, not, T, List, [], ◌∷◌, length, Option, Some, None, unwrap_or, is_some, add-zero, refl, sym, ap, ◌∙◌, arith}
 use Rattle.std.specs.declared.cmp.Ordering.{Ordering}
 use Rattle.std.specs.declared.cmp.Ordering.TheVariants.{Less, Equal, Greater}
 use Rattle.std.specs.Ordering.{eq_by_cmp, is_eq, is_lt}
 use Rattle.std.specs.Cmp.{IsTotalOrder, eq_by_cmp_equiv, alike_right}
 use Rattle.std.specs.FinMap.{find, put, is_sorted}
-use Rattle.std.specs.FinMap.Entries.{below_all, by_order, where_key, find-put, find-where_key, is_sorted-put, is_sorted-where_key, same_entries, length-put, length_without}
+use Rattle.std.specs.FinMap.Entries.{below_all, by_order, where_key, find-put, find-where_key, same_entries, length-put, length_without}
 use Rattle.key_index_flat.specs.Content.{Content, is_filled, all_filled, key_count, item_count, list_at, with_list, IsLawful}
 use Rattle.key_index_flat.specs.Laws.{first, second}
 

@@ -1,7 +1,7 @@
 -- Padding by parts, and std's numbers of bytes.
-use Rattle.std.proofs.Common.{◌≡◌, ℕ, zero, suc, ◌+◌, ◌*◌, ◌^◌, min, List, [], ◌∷◌, ◌++◌, length, take, drop, replicate, refl, ap, arith, w8, w16, w32, w64}
+use Rattle.std.proofs.Common.{◌≡◌, ℕ, zero, suc, min, List, [], ◌∷◌, ◌++◌, length, take, drop, replicate, refl, ap, arith, w8, w16, w32, w64}
 use Rattle.std.specs.Int.{from_be_bytes}
-use Rattle.key_index_flat.specs.Padding.{padded, big_endian, cap_number}
+use Rattle.key_index_flat.specs.Padding.{padded, cap_number}
 
 -- the front of a key, and then zeros
 pub padded-parts : (n m : ℕ) (b : List ℕ) → min (length b) n ≡ m → take m b ++ drop m (replicate n 0) ≡ padded n b

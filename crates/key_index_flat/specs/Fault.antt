@@ -1,5 +1,5 @@
 -- The refusals, and the texts that they print.
-use Rattle.std.specs.Prelude.{◌≡◌, ℕ, List, codes, nat_eq, if◌then◌else◌, ◌-◌, ◌^◌}
+use Rattle.std.specs.Prelude.{ℕ, List, codes, nat_eq, if◌then◌else◌, ◌-◌, ◌^◌}
 use Rattle.key_index_flat.specs.declared.index.Fault.{Fault}
 use Rattle.key_index_flat.specs.declared.index.Fault.TheVariants.{Memory, Full, TooFar}
 

@@ -2,7 +2,7 @@
 --     value_of    the value that entries have at a key
 --     Sets        new has w at k (None: nothing), and at each other key what old has
 --     IsLinked    each key with older values has a newest one, and there are as many newest values as keys in the content
-use Rattle.std.specs.Prelude.{◌≡◌, ℕ, Bool, false, List, length, Option, is_some}
+use Rattle.std.specs.Prelude.{◌≡◌, false, List, length, Option, is_some}
 use Rattle.std.specs.declared.cmp.Ordering.{Ordering}
 use Rattle.std.specs.Ordering.{eq_by_cmp}
 use Rattle.std.specs.Map.{lookup}

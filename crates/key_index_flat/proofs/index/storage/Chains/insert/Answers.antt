@@ -1,4 +1,4 @@
-use Rattle.std.proofs.Common.{◌≡◌, ◌+◌, length, cond, is_some, Some, refl, ap, sym, ◌∙◌}
+use Rattle.std.proofs.Common.{◌+◌, length, cond, is_some, Some, refl, ap, sym, ◌∙◌}
 use Rattle.key_index_flat.specs.Chains.{older_at}
 use Rattle.key_index_flat.proofs.ChainLemmas.{first_value, newer_value, put_back, taken_in}
 use Rattle.key_index_flat.proofs.index.storage.Chains.insert.Goals as goal

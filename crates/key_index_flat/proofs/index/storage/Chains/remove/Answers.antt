@@ -1,4 +1,4 @@
-use Rattle.std.proofs.Common.{◌≡◌, ◌+◌, length, cond, is_some, not, false, None, refl, ap, sym, ◌∙◌}
+use Rattle.std.proofs.Common.{◌+◌, length, cond, is_some, refl, ap, sym, ◌∙◌}
 use Rattle.key_index_flat.specs.Chains.{list_of, older_at}
 use Rattle.key_index_flat.proofs.ChainLemmas.{taken_out, nothing_taken, list_at-content_of, no_value, length-filled}
 use Rattle.key_index_flat.proofs.index.storage.Chains.remove.Goals as goal

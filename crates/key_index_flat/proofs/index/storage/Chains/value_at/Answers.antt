@@ -1,5 +1,5 @@
-use Rattle.std.proofs.Common.{rules, ◌≡◌, ◌+◌, ◌-◌, ◌<◌, ◌≤◌, ℕ, List, Option, Some, true, is_some, length, get_or, slice_get, ap, sym, subst, ◌∙◌, arith}
-use Rattle.std.specs.Option.{option_copied, IsSome}
+use Rattle.std.proofs.Common.{rules, ◌-◌, ◌<◌, Some, is_some, length, get_or, slice_get, ap, sym, ◌∙◌, arith}
+use Rattle.std.specs.Option.{option_copied}
 use Rattle.key_index_flat.specs.Content.{list_at}
 use Rattle.key_index_flat.specs.Chains.{content_of, list_of, older_at}
 use Rattle.key_index_flat.specs.Storage.{value_of}

@@ -1,6 +1,6 @@
-use Rattle.std.proofs.Common.{◌≡◌, ◌+◌, ◌∷◌, [], length, ap, arith}
+use Rattle.std.proofs.Common.{[], ap, arith}
 use Rattle.key_index_flat.specs.Chains.{older_at, stored}
-use Rattle.key_index_flat.specs.Content.{item_count, list_at, with_list}
+use Rattle.key_index_flat.specs.Content.{item_count}
 use Rattle.key_index_flat.specs.Laws.{IsLawful-content_of}
 use Rattle.key_index_flat.proofs.ContentLemmas.{item_count-with_list}
 use Rattle.key_index_flat.proofs.index.storage.Storage.remove.Goals as goal
