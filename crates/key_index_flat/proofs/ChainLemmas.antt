@@ -63,7 +63,7 @@ is_some-newest None older h = absurd (omega arith)
 is_some-newest (Some v) older h = refl
 
 -- what holds at a key and at each other key holds at every key
-everywhere : {K : Type 0} (cmp : K → K → Ordering) → ((x y : K) → cmp x y ≡ Equal → x ≡ y) → (P : K → Type 0) (k : K) → P k → ((q : K) → eq_by_cmp cmp q k ≡ false → P q) → (q : K) → P q
+pub everywhere : {K : Type 0} (cmp : K → K → Ordering) → ((x y : K) → cmp x y ≡ Equal → x ≡ y) → (P : K → Type 0) (k : K) → P k → ((q : K) → eq_by_cmp cmp q k ≡ false → P q) → (q : K) → P q
 everywhere cmp exact P k at others q =
     elim (eq_by_cmp cmp q k) as (λ b. eq_by_cmp cmp q k ≡ b → P q) [
       | true ↦ λ p. subst P (sym (exact q k (tie _ p))) at
@@ -146,6 +146,15 @@ module _ {K V : Type 0} {cmp : K → K → Ordering} (o : IsTotalOrder cmp) wher
           let now : list_at cmp (content_of cmp heads older) k ≡ d ∷ reverse (older k) = list_at-content_of heads older k ∙ ap (λ w. list_of w (older k)) some in
           after (v ∷ list_at cmp (content_of cmp heads older) k) sets.1 others
           ((λ i. list_of (sets.0 i) (at i)) ∙ ap (λ l. v ∷ l) (reverse-append (older k) (d ∷ []) ∙ sym now))
+          (λ is. absurd (subst T (ap is_some (sym sets.0) ∙ is) tt))
+          ((λ i. length news + entries_for (list_of (some i) (older k))) ∙ omega (arith, more))
+
+      -- another newest value, or other older values
+      pub replaced : (v d : V) → value_of cmp heads k ≡ Some d → Sets cmp heads news k (Some v) → length news ≡ length heads + 0
+          → ((q : K) → eq_by_cmp cmp q k ≡ false → later q ≡ older q)
+          → StandsFor news later (with_list cmp (content_of cmp heads older) k (v ∷ reverse (later k)))
+      replaced v d some sets more others =
+          after (v ∷ reverse (later k)) sets.1 others (ap (λ w. list_of w (later k)) sets.0)
           (λ is. absurd (subst T (ap is_some (sym sets.0) ∙ is) tt))
           ((λ i. length news + entries_for (list_of (some i) (older k))) ∙ omega (arith, more))
 

@@ -2,7 +2,8 @@
 --     list_at-with_list           what `with_list` answers at each key
 --     same_content                two lawful contents that agree at every key are one
 --     item_count-with_list, key_count-with_list     the counts after it
-use Rattle.std.proofs.Common.{◌≡◌, ℕ, ◌+◌, Bool, true, false, cond, not, T, List, [], ◌∷◌, length, Option, Some, None, unwrap_or, is_some, add-zero, refl, sym, ap, ◌∙◌, arith}
+--     with_list-same, with_list-twice               the same list again, and another in its place
+use Rattle.std.proofs.Common.{◌≡◌, ℕ, ◌+◌, Bool, true, false, cond, not, T, List, [], ◌∷◌, length, Option, Some, None, unwrap_or, is_some, add-zero, refl, sym, ap, subst, ◌∙◌, arith}
 use Rattle.std.specs.declared.cmp.Ordering.{Ordering}
 use Rattle.std.specs.declared.cmp.Ordering.TheVariants.{Less, Equal, Greater}
 use Rattle.std.specs.Ordering.{eq_by_cmp, is_eq, is_lt}
@@ -10,7 +11,7 @@ use Rattle.std.specs.Cmp.{IsTotalOrder, eq_by_cmp_equiv, alike_right}
 use Rattle.std.specs.FinMap.{find, put, is_sorted}
 use Rattle.std.specs.FinMap.Entries.{below_all, by_order, where_key, find-put, find-where_key, same_entries, length-put, length_without}
 use Rattle.key_index_flat.specs.Content.{Content, is_filled, all_filled, key_count, item_count, list_at, with_list, IsLawful}
-use Rattle.key_index_flat.specs.Laws.{first, second}
+use Rattle.key_index_flat.specs.Laws.{first, second, IsLawful-with_list}
 
 turned : {V : Type 0} (b : Bool) (o : Option (List V)) → unwrap_or (cond (not b) o None) [] ≡ cond b [] (unwrap_or o [])
 turned true o = refl
@@ -27,6 +28,11 @@ if_filled (v ∷ vs) = Some (v ∷ vs)
 filled : {V : Type 0} (l : List V) → T (is_filled l) → Some l ≡ if_filled l
 filled [] p = absurd p
 filled (v ∷ vs) p = refl
+
+tied : (r : Ordering) → is_eq r ≡ true → r ≡ Equal
+tied Less p = absurd (subst T (sym p) tt)
+tied Equal p = refl
+tied Greater p = absurd (subst T (sym p) tt)
 
 less : (r : Ordering) → T (is_lt r) → r ≡ Less
 less Less p = refl
@@ -110,3 +116,25 @@ module _ {K V : Type 0} {cmp : K → K → Ordering} (o : IsTotalOrder cmp) wher
         | true ↦ λ e. omega (arith, e)
         | false ↦ λ e. omega (arith, e)
       ] f
+
+  module _ (exact : (x y : K) → cmp x y ≡ Equal → x ≡ y) where
+    -- the same list again
+    pub with_list-same : (c : Content K V) (k : K) → IsLawful cmp c → with_list cmp c k (list_at cmp c k) ≡ c
+    with_list-same c k h = same_content exact _ _ (IsLawful-with_list o c k (list_at cmp c k) h) h (λ q.
+        list_at-with_list c k (list_at cmp c k) q
+        ∙ elim (eq_by_cmp cmp q k) as (λ b. eq_by_cmp cmp q k ≡ b → cond b (list_at cmp c k) (list_at cmp c q) ≡ list_at cmp c q) [
+          | true ↦ λ p. ap (λ x. list_at cmp c x) (sym (exact q k (tied _ p)))
+          | false ↦ λ p. refl
+        ] refl)
+
+    -- another list in its place
+    pub with_list-twice : (c : Content K V) (k : K) (l m : List V) → IsLawful cmp c → with_list cmp (with_list cmp c k l) k m ≡ with_list cmp c k m
+    with_list-twice c k l m h =
+        let once = IsLawful-with_list o c k l h in
+        same_content exact _ _ (IsLawful-with_list o _ k m once) (IsLawful-with_list o c k m h) (λ q.
+        list_at-with_list (with_list cmp c k l) k m q
+        ∙ elim (eq_by_cmp cmp q k) as (λ b. cond b m (list_at cmp (with_list cmp c k l) q) ≡ cond b m (cond b l (list_at cmp c q)) → cond b m (list_at cmp (with_list cmp c k l) q) ≡ cond b m (list_at cmp c q)) [
+          | true ↦ λ e. refl
+          | false ↦ λ e. e
+        ] (ap (λ r. cond (eq_by_cmp cmp q k) m r) (list_at-with_list c k l q))
+        ∙ sym (list_at-with_list c k m q))

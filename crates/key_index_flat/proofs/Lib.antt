@@ -2,3 +2,9 @@ pub mod PaddingLemmas
 pub mod ContentLemmas
 pub mod ChainLemmas
 pub mod KeyLemmas
+pub mod Nested
+pub mod ReversedLemmas
+pub mod EditLemmas
+pub mod Asked
+pub mod CursorLemmas
+pub mod RunLemmas

@@ -1,7 +1,7 @@
 -- What each call by key leaves: the content, and how many values were ever pruned.
 --     put_value first v l     v in front of l, or behind it
 --     after_insert, ..        the content after a call at the index key k
---     pruned_after p n        the count of pruned values after n more; it stops at the greatest u64
+--     pruned_after p n        the count of pruned values after n more, as far as the greatest u64
 use Rattle.std.specs.Prelude.{ℕ, ◌+◌, ◌-◌, ◌^◌, min, Bool, true, false, List, [], ◌∷◌, ◌++◌}
 use Rattle.std.specs.declared.cmp.Ordering.{Ordering}
 use Rattle.key_index_flat.specs.Content.{Content, list_at, with_list}
@@ -18,4 +18,4 @@ module _ {K V : Type 0} (cmp : K → K → Ordering) where
   after_remove c k = with_list cmp c k []
 
 abbrev pub pruned_after : ℕ → ℕ → ℕ
-pruned_after p n = min (p + n) (2 ^ 64 - 1)
+pruned_after p n = p + min n (2 ^ 64 - 1 - p)

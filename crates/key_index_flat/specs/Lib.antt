@@ -5,3 +5,11 @@ pub mod Chains
 pub mod Fault
 pub mod Storage
 pub mod Laws
+pub mod Cursor
+pub mod CursorState
+pub mod Edits
+pub mod IndexCursor
+pub mod Lent
+pub mod Start
+pub mod Run
+pub mod CursorRun

@@ -4,12 +4,24 @@ ghost use Rattle.key_index_flat.specs.Content.{Content, list_at, IsLawful, key_c
 
 use std::fmt;
 
+mod command;
+mod cursor;
+mod fold;
+mod index_cursor;
 mod interface;
+mod runs;
+mod search;
 mod storage;
 pub mod unordered;
 mod values;
 
-pub use interface::{Factory, Runs, Unordered};
+pub use command::{Command, Outcome, Step};
+pub use cursor::{Cursor, CursorState};
+pub use fold::run;
+pub use index_cursor::IndexCursor;
+pub use interface::{Factory, Unordered};
+pub use runs::Runs;
+pub use search::{Search, reach};
 pub use values::Values;
 
 /// Why a call was refused. A refused call changes no content and no count.

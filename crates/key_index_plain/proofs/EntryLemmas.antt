@@ -2,9 +2,11 @@
 --     content_of-listed    the content that they stand for is their list
 --     at_place             what stands at the place of a key, and what the content is after an edit there
 --     found_at, missing_at     the same of an answer that is the place
+--     list_of, edited, gone    the list of an entry, and the content after others stand there, or none
 --     pushed, left_alone       the content after a value is put in front of those of an entry, and where it was refused
+--     on_ok                what follows from what an accepted call tells
 --     listed-insert        an entry put at a place
-use Rattle.std.proofs.Common.{◌≡◌, ℕ, zero, suc, ◌<◌, ◌≤◌, cond, not, T, List, [], ◌∷◌, length, get_or, set, Some, Result, Ok, Err, unwrap_or, refl, sym, ap, subst, ◌∙◌, arith}
+use Rattle.std.proofs.Common.{◌≡◌, ℕ, zero, suc, ◌<◌, ◌≤◌, cond, not, T, List, [], ◌∷◌, length, get_or, set, Some, Result, Ok, Err, OnOk, unwrap_or, refl, sym, ap, subst, ◌∙◌, arith}
 use Rattle.std.specs.List.{insert, remove}
 use Rattle.std.specs.declared.cmp.Ordering.{Ordering}
 use Rattle.std.specs.declared.cmp.Ordering.TheVariants.{Less, Equal, Greater}
@@ -16,6 +18,10 @@ use Rattle.key_index_flat.specs.Content.{Content, is_filled, list_at, with_list,
 use Rattle.key_index_flat.specs.Laws.{both, first, second}
 use Rattle.key_index_plain.specs.declared.entries.Entry.{Entry}
 use Rattle.key_index_plain.specs.Entries.{listed, moved_on, content_of, place_of}
+
+pub on_ok : {A E : Type 0} (P Q : Type 0) (r : Result A E) → (P → Q) → OnOk r P → OnOk r Q
+on_ok P Q (Ok x) f h = f h
+on_ok P Q (Err e) f h = h
 
 less : (r : Ordering) → T (is_lt r) → r ≡ Less
 less Less p = refl
@@ -34,6 +40,11 @@ listed-set_same (x ∷ es) (suc i) e d same is = ap (λ c. (x.key, x.values.item
 
 pub left_alone : {K V : Type 0} (es : List (Entry K V)) (i : ℕ) (e was : Entry K V) → was ≡ get_or es i was → e.key ≡ was.key → e.values.items ≡ was.values.items → listed (set es i e) ≡ listed es
 left_alone es i e was is same values = listed-set_same es i e was (same ∙ ap (λ e. e.key) is) (values ∙ ap (λ e. e.values.items) is)
+
+remove-set : {A : Type 0} (l : List A) (i : ℕ) (x : A) → remove (set l i x) i ≡ remove l i
+remove-set [] i x = refl
+remove-set (y ∷ l) zero x = refl
+remove-set (y ∷ l) (suc i) x = ap (λ l. y ∷ l) (remove-set l i x)
 
 pub length-listed : {K V : Type 0} (es : List (Entry K V)) → length (listed es) ≡ length es
 length-listed [] = refl
@@ -87,6 +98,20 @@ module _ {K V : Type 0} (cmp : K → K → Ordering) where
     abbrev pub AtPlace : List (Entry K V) → Result ℕ ℕ → Type 0
     AtPlace es (Ok i) = IsFound es i
     AtPlace es (Err i) = IsMissing es i
+
+    -- the list of the entry at a place
+    pub list_of : (es : List (Entry K V)) (i : ℕ) (was : Entry K V) → IsFound es i → was ≡ get_or es i was → was.values.items ≡ list_at cmp (listed es) k
+    list_of es i was found is = ap (λ e. e.values.items) is ∙ sym (found.list was)
+
+    -- other values, and none, in the place of those of an entry
+    pub edited : (es : List (Entry K V)) (i : ℕ) (e was : Entry K V) (l : List V) → IsFound es i → was ≡ get_or es i was → e.key ≡ was.key → e.values.items ≡ l → 0 < length l
+        → listed (set es i e) ≡ with_list cmp (listed es) k l
+    edited es i e was [] found is same values some = absurd (omega (arith, some))
+    edited es i e was (v ∷ vs) found is same values some = found.changed e was v vs (same ∙ ap (λ e. e.key) is) values
+
+    pub gone : (es : List (Entry K V)) (i : ℕ) (e : Entry K V) (l : List V) → IsFound es i → length l ≡ 0 → listed (remove (set es i e) i) ≡ with_list cmp (listed es) k l
+    gone es i e [] found none = ap (λ es. listed es) (remove-set es i e) ∙ found.taken
+    gone es i e (v ∷ vs) found none = absurd (omega (arith, none))
 
     further : (e : Entry K V) (es : List (Entry K V)) → cmp k e.key ≡ Greater → (r : Result ℕ ℕ) → AtPlace es r → AtPlace (e ∷ es) (moved_on r)
     further e es p (Ok i) f =

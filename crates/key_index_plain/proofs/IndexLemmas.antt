@@ -1,8 +1,8 @@
 -- On what an index holds after a call that changes its entries.
---     lawful_after, countable_after     after an insertion, which may be refused
---     inserted, removed                 the content after each call
---     growth_memory                     the fault below the limit
-use Rattle.std.proofs.Common.{◌≡◌, ℕ, ◌-◌, ◌^◌, ◌<◌, true, false, nat_eq, if◌then◌else◌, List, [], ◌∷◌, Result, Ok, Err, OnOk, OnErr, refl, sym, ap, subst, ◌∙◌, arith}
+--     told, told_same    what the entries tell of a call, told of the content
+--     kept, kept_or      the invariant after a key's list became another, and after a call that may be refused
+--     growth_memory      the fault below the limit
+use Rattle.std.proofs.Common.{◌≡◌, ℕ, ◌+◌, ◌-◌, ◌^◌, ◌<◌, true, false, nat_eq, if◌then◌else◌, List, length, Result, Ok, Err, OnOk, OnErr, refl, sym, ap, subst, ◌∙◌, arith}
 use Rattle.std.proofs.lemmas.Bool.{eqb-true}
 use Rattle.std.specs.declared.cmp.Ordering.{Ordering}
 use Rattle.std.specs.Cmp.{IsTotalOrder}
@@ -22,27 +22,25 @@ growth_memory n below =
       | false ↦ λ p. refl
     ] refl
 
-module _ {K V : Type 0} (cmp : K → K → Ordering) where
-  pub inserted : (old new : List (Entry K V)) (k q : K) (v : V) → IsLawful cmp (listed old) → IsLawful cmp (listed new) → listed new ≡ with_list cmp (listed old) k (v ∷ list_at cmp (listed old) k) → k ≡ q
-      → content_of cmp new ≡ with_list cmp (content_of cmp old) q (v ∷ list_at cmp (content_of cmp old) q)
-  inserted old new k q v before after is same =
-      let now = sym (content_of-listed cmp old before) in content_of-listed cmp new after ∙ is ∙ (λ i. with_list cmp (now i) (same i) (v ∷ list_at cmp (now i) (same i)))
+module _ {K V : Type 0} {cmp : K → K → Ordering} (o : IsTotalOrder cmp) where
+  pub told : (old new : List (Entry K V)) (k q : K) (L : Content K V → K → List V) → IsLawful cmp (listed old) → listed new ≡ with_list cmp (listed old) k (L (listed old) k) → k ≡ q
+      → content_of cmp new ≡ with_list cmp (content_of cmp old) q (L (content_of cmp old) q)
+  told old new k q L before is same =
+      let now = sym (content_of-listed cmp old before) in
+      let after = subst (λ c. IsLawful cmp c) (sym is) (IsLawful-with_list o (listed old) k (L (listed old) k) before) in
+      content_of-listed cmp new after ∙ is ∙ (λ i. with_list cmp (now i) (same i) (L (now i) (same i)))
 
-  pub removed : (old new : List (Entry K V)) (k q : K) → IsLawful cmp (listed old) → IsLawful cmp (listed new) → listed new ≡ with_list cmp (listed old) k [] → k ≡ q
-      → content_of cmp new ≡ with_list cmp (content_of cmp old) q []
-  removed old new k q before after is same =
-      let now = sym (content_of-listed cmp old before) in content_of-listed cmp new after ∙ is ∙ (λ i. with_list cmp (now i) (same i) [])
+  pub told_same : (old new : List (Entry K V)) → IsLawful cmp (listed old) → listed new ≡ listed old → content_of cmp new ≡ content_of cmp old
+  told_same old new before is =
+      let after = subst (λ c. IsLawful cmp c) (sym is) before in content_of-listed cmp new after ∙ is ∙ sym (content_of-listed cmp old before)
 
-module _ {K V A E : Type 0} {cmp : K → K → Ordering} (o : IsTotalOrder cmp) where
-  pub lawful_after : (r : Result A E) (old new : Content K V) (k : K) (l : List V) → IsLawful cmp old → OnOk r (new ≡ with_list cmp old k l) → OnErr r (new ≡ old) → IsLawful cmp new
-  lawful_after (Ok x) old new k l h ok err = subst (λ c. IsLawful cmp c) (sym ok) (IsLawful-with_list o old k l h)
-  lawful_after (Err e) old new k l h ok err = subst (λ c. IsLawful cmp c) (sym err) h
+  pub kept : (old new : Content K V) (k : K) (l : List V) → IsLawful cmp old → item_count old + length l < 2 ^ 64 + length (list_at cmp old k) → new ≡ with_list cmp old k l → IsLawful cmp new × (item_count new < 2 ^ 64)
+  kept old new k l h fits is =
+      let counts = item_count-with_list o old k l h in
+      let same : item_count new ≡ item_count (with_list cmp old k l) = ap (λ c. item_count c) is in
+      (subst (λ c. IsLawful cmp c) (sym is) (IsLawful-with_list o old k l h), omega (arith, counts, same, fits))
 
-  pub countable_after : (r : Result A E) (old new : Content K V) (k : K) (v : V) → IsLawful cmp old → item_count old < 2 ^ 64 → (item_count old ≡ 2 ^ 64 - 1 → ⊥)
-      → OnOk r (new ≡ with_list cmp old k (v ∷ list_at cmp old k)) → OnErr r (new ≡ old) → item_count new < 2 ^ 64
-  countable_after (Ok x) old new k v h fits below ok err =
-      let counts = item_count-with_list o old k (v ∷ list_at cmp old k) h in
-      let is : item_count new ≡ item_count (with_list cmp old k (v ∷ list_at cmp old k)) = ap (λ c. item_count c) ok in
-      omega (arith, counts)
-  countable_after (Err e) old new k v h fits below ok err =
-      let is : item_count new ≡ item_count old = ap (λ c. item_count c) err in omega arith
+  pub kept_or : {A E : Type 0} (r : Result A E) (old new : Content K V) (k : K) (l : List V) → IsLawful cmp old → item_count old < 2 ^ 64 → item_count old + length l < 2 ^ 64 + length (list_at cmp old k)
+      → OnOk r (new ≡ with_list cmp old k l) → OnErr r (new ≡ old) → IsLawful cmp new × (item_count new < 2 ^ 64)
+  kept_or (Ok x) old new k l h count fits ok err = kept old new k l h fits ok
+  kept_or (Err e) old new k l h count fits ok err = (subst (λ c. IsLawful cmp c) (sym err) h, subst (λ c. item_count c < 2 ^ 64) (sym err) count)

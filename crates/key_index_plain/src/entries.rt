@@ -1,6 +1,8 @@
 //! Entries in the order of their keys, and the scans over them.
-ghost use Rattle.std.specs.Prelude.{◌≡◌, ◌<◌, ◌≤◌, ◌^◌, List, [], ◌∷◌, length, IfErr, OnOk, OnErr};
-ghost use Rattle.std.specs.List.{insert};
+ghost use Rattle.std.specs.Prelude.{◌≡◌, ◌+◌, ◌<◌, ◌≤◌, ◌^◌, List, [], ◌∷◌, Some, length, slice_get, slice_set, IfErr, OnOk, OnErr};
+ghost use Rattle.std.specs.Fn.{CalledAt};
+ghost use Rattle.std.specs.List.{insert, remove};
+ghost use Rattle.std.specs.List.Retain.{IsFiltered};
 ghost use Rattle.key_index_flat.specs.Content.{IsLawful, list_at, with_list, item_count};
 ghost use Rattle.key_index_plain.specs.Entries.{listed, place_of};
 
@@ -105,4 +107,89 @@ pub(crate) fn remove<K: Ord + Drop, V: Drop>(entries: &mut Vec<Entry<K, V>>, key
         Ok(place) => entries.remove(place).values.len(),
         Err(_) => 0,
     }
+}
+
+/// Puts another value at a place of a key's list.
+pub(crate) fn set_at<K: Ord, V: Drop>(
+    entries: &mut Vec<Entry<K, V>>,
+    key: &K,
+    index: usize,
+    value: V,
+)
+    requires lawful { IsLawful K.cmp (listed entries.old.items) }
+    requires place { index < length (list_at K.cmp (listed entries.old.items) key.now) }
+    ensures { listed entries.new.items ≡ with_list K.cmp (listed entries.old.items) key.now (slice_set (list_at K.cmp (listed entries.old.items) key.now) index value) }
+{
+    let Ok(place) = search(entries.as_slice(), key) else {
+        unreachable!()
+    };
+    entries[place].values[index] = value;
+}
+
+/// Puts a value in at a place of a key's list, or behind its last one. A refusal hands it back.
+pub(crate) fn insert_at<K: Ord + Drop, V: Drop>(
+    entries: &mut Vec<Entry<K, V>>,
+    key: K,
+    index: usize,
+    value: V,
+) -> Result<(), V>
+    requires lawful { IsLawful K.cmp (listed entries.old.items) }
+    requires place { index ≤ length (list_at K.cmp (listed entries.old.items) key) }
+    ensures accepted { OnOk result (listed entries.new.items ≡ with_list K.cmp (listed entries.old.items) key (insert (list_at K.cmp (listed entries.old.items) key) index value)) }
+    ensures refused { OnErr result (listed entries.new.items ≡ listed entries.old.items) }
+    ensures returned { IfErr result (λ back. back ≡ value) }
+{
+    match search(entries.as_slice(), &key) {
+        Ok(place) => match entries[place].values.insert(index, value) {
+            Ok(()) => Ok(()),
+            Err(failed) => Err(failed.value),
+        },
+        Err(place) => insert_entry(entries, place, key, value),
+    }
+}
+
+/// Takes the value at a place of a key's list out, and with the only one the entry.
+pub(crate) fn remove_at<K: Ord + Drop, V: Drop>(
+    entries: &mut Vec<Entry<K, V>>,
+    key: &K,
+    index: usize,
+) -> V
+    requires lawful { IsLawful K.cmp (listed entries.old.items) }
+    requires place { index < length (list_at K.cmp (listed entries.old.items) key.now) }
+    ensures value { slice_get (list_at K.cmp (listed entries.old.items) key.now) index ≡ Some result }
+    ensures content { listed entries.new.items ≡ with_list K.cmp (listed entries.old.items) key.now (remove (list_at K.cmp (listed entries.old.items) key.now) index) }
+{
+    let Ok(place) = search(entries.as_slice(), key) else {
+        unreachable!()
+    };
+    let values = &mut entries[place].values;
+    let value = values.remove(index);
+    if values.len() == 0 {
+        entries.remove(place);
+    }
+    value
+}
+
+/// Asks once on each value of a key, in list order, takes out those that are answered false, and tells how many. With no value left
+/// the entry goes too.
+pub(crate) fn retain<K: Ord + Drop, V: Drop, F: FnMut(&V) -> bool>(
+    entries: &mut Vec<Entry<K, V>>,
+    key: &K,
+    should_retain: F,
+) -> usize
+    requires lawful { IsLawful K.cmp (listed entries.old.items) }
+    requires callable { F.IsAlwaysCallable should_retain }
+    ensures { (kept : List V) × IsFiltered (CalledAt F.FnMut) should_retain (list_at K.cmp (listed entries.old.items) key.now) kept × (listed entries.new.items ≡ with_list K.cmp (listed entries.old.items) key.now kept) × (result + length kept ≡ length (list_at K.cmp (listed entries.old.items) key.now)) }
+{
+    let Ok(place) = search(entries.as_slice(), key) else {
+        return 0;
+    };
+    let values = &mut entries[place].values;
+    let before = values.len();
+    values.retain(should_retain);
+    let after = values.len();
+    if after == 0 {
+        entries.remove(place);
+    }
+    before - after
 }

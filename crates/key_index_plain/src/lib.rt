@@ -2,7 +2,7 @@
 //! runs beside it, and it is the shortest index to read.
 #![tactic(auto)]
 
-ghost use Rattle.std.specs.Prelude.{◌≡◌, ◌<◌, ◌^◌, [], true, false, IsOk, IfOk, IfErr};
+ghost use Rattle.std.specs.Prelude.{◌≡◌, ◌<◌, ◌^◌, [], true, false, refl, IsOk, IfOk, IfErr};
 ghost use Rattle.key_index_flat.specs.Content.{IsLawful, list_at, item_count};
 ghost use Rattle.key_index_plain.specs.Entries.{listed, content_of};
 ghost use Rattle.key_index_plain.specs.Laws.{IsLawful-content_of};
@@ -10,7 +10,9 @@ ghost use Rattle.key_index_plain.specs.Laws.{IsLawful-content_of};
 mod entries;
 
 use entries::Entry;
-use key_index_flat::index::{Factory, Fault, Refused, Runs, Unordered, Values};
+use key_index_flat::index::{
+    Factory, Fault, IndexCursor, Refused, Runs, Search, Unordered, Values,
+};
 use key_index_flat::translator::Translator;
 use std::alloc::Global;
 
@@ -47,6 +49,10 @@ impl<T: Translator, V: Drop> Runs for Index<T, V> {
 
     ghost admitted = { λ _ _. true };
 
+    ghost pruned_count = { λ index. index.pruned };
+
+    ghost edited = { λ _ _. Unit {0} };
+
     ghost lawful = { λ index. IsLawful-content_of T.Key.total index.entries.items };
 
     ghost exact = { T.exact };
@@ -66,6 +72,65 @@ impl<T: Translator, V: Drop> Runs for Index<T, V> {
     fn value_at(&self, key: T::Key, place: usize) -> &V {
         &self.values_of(key)[place]
     }
+
+    fn set_at(&mut self, key: T::Key, place: usize, value: V) {
+        entries::set_at(&mut self.entries, &key, place, value);
+    }
+
+    fn insert_at(&mut self, key: T::Key, place: usize, value: V) -> Result<(), Refused<V>> {
+        if self.items() == usize::MAX {
+            let fault = Fault::Full;
+            return Err(Refused { value, fault });
+        }
+        match entries::insert_at(&mut self.entries, key, place, value) {
+            Ok(()) => Ok(()),
+            Err(value) => {
+                let fault = Fault::Memory;
+                Err(Refused { value, fault })
+            }
+        }
+    }
+
+    fn remove_at(&mut self, key: T::Key, place: usize) -> V {
+        let value = entries::remove_at(&mut self.entries, &key, place);
+        self.pruned = self.pruned.saturating_add(1);
+        value
+    }
+}
+
+impl<T: Translator, V: Drop> Search for Index<T, V> {
+    ghost settled = { λ _ _ _. Unit {0} };
+
+    ghost left_by_refusal = { λ _ _ _. Unit {0} };
+
+    ghost may_refuse = { λ _ _. false };
+
+    fn search(&mut self, key: &[u8]) -> Result<IndexCursor<'_, Index<T, V>>, Option<Fault>> {
+        let slot = self.slot_of(key);
+        if self.run_len(slot) == 0 {
+            return Err(None);
+        }
+        Ok(IndexCursor::new(self, slot))
+    }
+
+    fn search_or_insert(
+        &mut self,
+        key: &[u8],
+        value: V,
+    ) -> Result<IndexCursor<'_, Index<T, V>>, Option<Refused<V>>> {
+        if self.items() == usize::MAX {
+            let fault = Fault::Full;
+            return Err(Some(Refused { value, fault }));
+        }
+        let slot = self.slot_of(key);
+        if self.run_len(slot) == 0 {
+            return match self.insert_at(slot, 0, value) {
+                Ok(()) => Err(None),
+                Err(refused) => Err(Some(refused)),
+            };
+        }
+        Ok(IndexCursor::new(self, slot))
+    }
 }
 
 impl<T: Translator, V: Drop> Unordered for Index<T, V> {
@@ -75,9 +140,7 @@ impl<T: Translator, V: Drop> Unordered for Index<T, V> {
 
     const LOOKUP_WARMS_UPDATE: bool = true;
 
-    ghost pruned_count = { λ index. index.pruned };
-
-    ghost may_refuse = { λ _ _. false };
+    ghost reaches = { λ _ _ _. refl };
 
     fn get(&self, key: &[u8]) -> Values<'_, V> {
         Values::of_slice(self.values_of(self.translator.transform(key)))
@@ -96,6 +159,13 @@ impl<T: Translator, V: Drop> Unordered for Index<T, V> {
                 Err(Refused { value, fault })
             }
         }
+    }
+
+    fn retain<F: FnMut(&V) -> bool>(&mut self, key: &[u8], should_retain: F) -> Result<(), Fault> {
+        let slot = self.translator.transform(key);
+        let taken = entries::retain(&mut self.entries, &slot, should_retain);
+        self.pruned = self.pruned.saturating_add(taken as u64);
+        Ok(())
     }
 
     fn remove(&mut self, key: &[u8]) -> Result<(), Fault> {
@@ -127,7 +197,7 @@ impl<T: Translator, V: Drop> Factory for Index<T, V> {
     fn new(alloc: Global, translator: T) -> Result<Index<T, V>, Fault>
         ensures made { IsOk result }
         ensures empty { IfOk result (λ index. ⟦<Index<T, V> as Runs>⟧.content index ≡ []) }
-        ensures pruned { IfOk result (λ index. ⟦<Index<T, V> as Unordered>⟧.pruned_count index ≡ 0) }
+        ensures pruned { IfOk result (λ index. ⟦<Index<T, V> as Runs>⟧.pruned_count index ≡ 0) }
         ensures slots { IfOk result (λ index. ⟦<Index<T, V> as Runs>⟧.slot index ≡ T.translated translator) }
         ensures fault { IfErr result (λ f. f ≡ Fault.Memory) }
     {

@@ -1,4 +1,5 @@
 //! An index that is called some thousand times answers as lists kept beside it do, and as another index does.
+mod commands;
 mod driver;
 mod flat;
 mod numbers;

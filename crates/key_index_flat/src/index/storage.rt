@@ -1,7 +1,9 @@
 //! What a flat index keeps: the newest value of each key in one map, and in another the older values of the keys that have any. An
 //! entry whose key has one value then costs that key and that value alone.
-ghost use Rattle.std.specs.Prelude.{◌≡◌, ◌+◌, ◌<◌, true, slice_get, List, ◌∷◌, [], ◌++◌, length, reverse, Option, Some, None, IfOk, IfErr, OnOk, OnErr, is_some, false, if◌then◌else◌};
-ghost use Rattle.std.specs.Option.{option_copied};
+ghost use Rattle.std.specs.Prelude.{◌≡◌, ◌+◌, ◌-◌, ◌<◌, true, slice_get, slice_set, insert, remove, ◌≤◌, List, ◌∷◌, [], ◌++◌, length, reverse, Option, Some, None, IfOk, IfErr, IfNone, OnOk, OnErr, is_some, false, if◌then◌else◌};
+ghost use Rattle.std.specs.Fn.{CalledAt};
+ghost use Rattle.std.specs.List.Retain.{IsFiltered};
+ghost use Rattle.std.specs.Option.{option_copied, option_to_list};
 ghost use Rattle.std.specs.Ordering.{eq_by_cmp};
 ghost use Rattle.key_index_flat.specs.Storage.{value_of, Sets, IsLinked};
 ghost use Rattle.key_index_flat.specs.Chains.{older_at, stored};
@@ -15,6 +17,7 @@ use std::alloc::Global;
 use std::collections::HashMap;
 use std::collections::hash_map::Entry;
 use std::hash::Hash;
+use std::mem::replace;
 
 /// A map from keys to the newest value of each.
 pub(crate) trait Heads<K: Ord, V> {
@@ -72,24 +75,32 @@ impl<K: Ord + Hash + Copy, V> Heads<K, V> for HashMap<K, V> {
     }
 }
 
-/// Puts a value behind the older values of a key. A refusal hands it back and changes none of them.
-fn push_older<K: Ord + Hash + Copy, V: Drop>(
+/// Puts a value in among the older values of a key, where 1 is the place in front of the newest of them. A refusal hands it back
+/// and changes none of them.
+fn insert_older<K: Ord + Hash + Copy, V: Drop>(
     alloc: Global,
     older: &mut HashMap<K, Vec<V>>,
     key: K,
+    place: usize,
     value: V,
 ) -> Result<(), V>
-    ensures at { OnOk result (older_at K.eq older.new key ≡ older_at K.eq older.old key ++ value ∷ []) }
+    requires first { 0 < place }
+    requires within { place ≤ length (older_at K.eq older.old key) + 1 }
+    ensures at { OnOk result (older_at K.eq older.new key ≡ insert (older_at K.eq older.old key) (length (older_at K.eq older.old key) + 1 - place) value) }
     ensures others { (q : K) → eq_by_cmp K.cmp q key ≡ false → older_at K.eq older.new q ≡ older_at K.eq older.old q }
     ensures refused { OnErr result (older_at K.eq older.new key ≡ older_at K.eq older.old key) }
     ensures returned { IfErr result (λ back. back ≡ value) }
 {
     match older.entry(key) {
         Err(_) => Err(value),
-        Ok(Entry::Occupied(entry)) => match entry.into_mut().push(value) {
-            Ok(()) => Ok(()),
-            Err(failed) => Err(failed.value),
-        },
+        Ok(Entry::Occupied(entry)) => {
+            let values = entry.into_mut();
+            let index = values.len() + 1 - place;
+            match values.insert(index, value) {
+                Ok(()) => Ok(()),
+                Err(failed) => Err(failed.value),
+            }
+        }
         Ok(Entry::Vacant(entry)) => {
             let mut values = Vec::new(alloc);
             match values.push(value) {
@@ -120,6 +131,89 @@ fn take_older<K: Ord + Hash + Copy, V: Drop>(older: &mut HashMap<K, Vec<V>>, key
         Some(values) => values.len(),
         None => 0,
     }
+}
+
+/// Puts another value in the place of an older value of a key, where 1 is the newest of them, and answers the one that stood there.
+fn set_older<K: Ord + Hash + Copy, V>(
+    older: &mut HashMap<K, Vec<V>>,
+    key: K,
+    place: usize,
+    value: V,
+) -> V
+    requires first { 0 < place }
+    requires within { place ≤ length (older_at K.eq older.old key) }
+    ensures at { older_at K.eq older.new key ≡ slice_set (older_at K.eq older.old key) (length (older_at K.eq older.old key) - place) value }
+    ensures others { (q : K) → eq_by_cmp K.cmp q key ≡ false → older_at K.eq older.new q ≡ older_at K.eq older.old q }
+{
+    let values = older.get_mut(&key).unwrap();
+    let index = values.len() - place;
+    replace(&mut values[index], value)
+}
+
+/// Takes an older value of a key out, where 1 is the newest of them, and with the last one the key.
+fn remove_older<K: Ord + Hash + Copy, V: Drop>(
+    older: &mut HashMap<K, Vec<V>>,
+    key: K,
+    place: usize,
+) -> V
+    requires first { 0 < place }
+    requires within { place ≤ length (older_at K.eq older.old key) }
+    ensures value { slice_get (older_at K.eq older.old key) (length (older_at K.eq older.old key) - place) ≡ Some result }
+    ensures at { older_at K.eq older.new key ≡ remove (older_at K.eq older.old key) (length (older_at K.eq older.old key) - place) }
+    ensures others { (q : K) → eq_by_cmp K.cmp q key ≡ false → older_at K.eq older.new q ≡ older_at K.eq older.old q }
+{
+    let values = older.get_mut(&key).unwrap();
+    let index = values.len() - place;
+    let value = values.remove(index);
+    if values.is_empty() {
+        older.remove(&key);
+    }
+    value
+}
+
+/// Takes the newest of the older values of a key out, if there is one, and with the last one the key.
+fn pop_older<K: Ord + Hash + Copy, V: Drop>(older: &mut HashMap<K, Vec<V>>, key: K) -> Option<V>
+    ensures at { older_at K.eq older.old key ≡ older_at K.eq older.new key ++ option_to_list result }
+    ensures none { IfNone result (older_at K.eq older.new key ≡ []) }
+    ensures others { (q : K) → eq_by_cmp K.cmp q key ≡ false → older_at K.eq older.new q ≡ older_at K.eq older.old q }
+{
+    if older.is_empty() {
+        return None;
+    }
+    let values = older.get_mut(&key)?;
+    let value = values.pop();
+    if values.is_empty() {
+        older.remove(&key);
+    }
+    value
+}
+
+/// Asks once on each of the older values of a key, the newest first, takes out those that are answered false, and tells how many.
+fn retain_older<K: Ord + Hash + Copy, V: Drop, F: FnMut(&V) -> bool>(
+    older: &mut HashMap<K, Vec<V>>,
+    key: K,
+    should_retain: F,
+) -> usize
+    requires { F.IsAlwaysCallable should_retain }
+    ensures at { IsFiltered (CalledAt F.FnMut) should_retain (reverse (older_at K.eq older.old key)) (reverse (older_at K.eq older.new key)) }
+    ensures taken { result + length (older_at K.eq older.new key) ≡ length (older_at K.eq older.old key) }
+    ensures others { (q : K) → eq_by_cmp K.cmp q key ≡ false → older_at K.eq older.new q ≡ older_at K.eq older.old q }
+{
+    if older.is_empty() {
+        return 0;
+    }
+    let Some(values) = older.get_mut(&key) else {
+        return 0;
+    };
+    let before = values.len();
+    values.reverse();
+    values.retain(should_retain);
+    values.reverse();
+    let after = values.len();
+    if after == 0 {
+        older.remove(&key);
+    }
+    before - after
 }
 
 /// The newest value of each index key in `heads`, and in `older` the older values of those that have any, the oldest first.
@@ -203,7 +297,7 @@ impl<T: Translator, V: Drop, M: Heads<T::Key, V>> Chains<T, V, M> {
         let Some(displaced) = self.heads.insert(slot, value)? else {
             return Ok(());
         };
-        match push_older(self.alloc, &mut self.older, slot, displaced) {
+        match insert_older(self.alloc, &mut self.older, slot, 1, displaced) {
             Ok(()) => Ok(()),
             Err(displaced) => {
                 let Ok(Some(value)) = self.heads.insert(slot, displaced) else {
@@ -226,6 +320,79 @@ impl<T: Translator, V: Drop, M: Heads<T::Key, V>> Chains<T, V, M> {
             return 0;
         }
         1 + take_older(&mut self.older, slot)
+    }
+
+    /// Puts another value at a place of the index key's list.
+    #[inline]
+    fn set_at(&mut self, slot: T::Key, place: usize, value: V)
+        requires linked { IsLinked T.Key.cmp (M.entries self.old.heads) (older_at T.Key.eq self.old.older) }
+        requires place { place < length (list_at T.Key.cmp (stored T.Key.cmp T.Key.eq (M.entries self.old.heads) self.old.older) slot) }
+        ensures linked { IsLinked T.Key.cmp (M.entries self.new.heads) (older_at T.Key.eq self.new.older) }
+        ensures content { stored T.Key.cmp T.Key.eq (M.entries self.new.heads) self.new.older ≡ with_list T.Key.cmp (stored T.Key.cmp T.Key.eq (M.entries self.old.heads) self.old.older) slot (slice_set (list_at T.Key.cmp (stored T.Key.cmp T.Key.eq (M.entries self.old.heads) self.old.older) slot) place value) }
+    {
+        if place != 0 {
+            set_older(&mut self.older, slot, place, value);
+            return;
+        }
+        let Ok(_) = self.heads.insert(slot, value) else {
+            unreachable!()
+        };
+    }
+
+    /// Puts a value in at a place of the index key's list, or behind its last one.
+    #[inline]
+    fn insert_at(&mut self, slot: T::Key, place: usize, value: V) -> Result<(), V>
+        requires linked { IsLinked T.Key.cmp (M.entries self.old.heads) (older_at T.Key.eq self.old.older) }
+        requires place { place ≤ length (list_at T.Key.cmp (stored T.Key.cmp T.Key.eq (M.entries self.old.heads) self.old.older) slot) }
+        ensures linked { IsLinked T.Key.cmp (M.entries self.new.heads) (older_at T.Key.eq self.new.older) }
+        ensures accepted { OnOk result (stored T.Key.cmp T.Key.eq (M.entries self.new.heads) self.new.older ≡ with_list T.Key.cmp (stored T.Key.cmp T.Key.eq (M.entries self.old.heads) self.old.older) slot (insert (list_at T.Key.cmp (stored T.Key.cmp T.Key.eq (M.entries self.old.heads) self.old.older) slot) place value)) }
+        ensures refused { OnErr result (stored T.Key.cmp T.Key.eq (M.entries self.new.heads) self.new.older ≡ stored T.Key.cmp T.Key.eq (M.entries self.old.heads) self.old.older) }
+        ensures returned { IfErr result (λ back. back ≡ value) }
+    {
+        if place == 0 {
+            return self.insert(slot, value);
+        }
+        insert_older(self.alloc, &mut self.older, slot, place, value)
+    }
+
+    /// Takes the value at a place of the index key's list out.
+    #[inline]
+    fn remove_at(&mut self, slot: T::Key, place: usize) -> V
+        requires linked { IsLinked T.Key.cmp (M.entries self.old.heads) (older_at T.Key.eq self.old.older) }
+        requires place { place < length (list_at T.Key.cmp (stored T.Key.cmp T.Key.eq (M.entries self.old.heads) self.old.older) slot) }
+        ensures linked { IsLinked T.Key.cmp (M.entries self.new.heads) (older_at T.Key.eq self.new.older) }
+        ensures value { slice_get (list_at T.Key.cmp (stored T.Key.cmp T.Key.eq (M.entries self.old.heads) self.old.older) slot) place ≡ Some result }
+        ensures content { stored T.Key.cmp T.Key.eq (M.entries self.new.heads) self.new.older ≡ with_list T.Key.cmp (stored T.Key.cmp T.Key.eq (M.entries self.old.heads) self.old.older) slot (remove (list_at T.Key.cmp (stored T.Key.cmp T.Key.eq (M.entries self.old.heads) self.old.older) slot) place) }
+    {
+        if place != 0 {
+            return remove_older(&mut self.older, slot, place);
+        }
+        let Some(next) = pop_older(&mut self.older, slot) else {
+            return self.heads.remove(&slot).unwrap();
+        };
+        let Ok(Some(newest)) = self.heads.insert(slot, next) else {
+            unreachable!()
+        };
+        newest
+    }
+
+    /// Asks once on each value of the index key, in list order, takes out those that are answered false, and tells how many.
+    fn retain<F: FnMut(&V) -> bool>(&mut self, slot: T::Key, mut should_retain: F) -> usize
+        requires linked { IsLinked T.Key.cmp (M.entries self.old.heads) (older_at T.Key.eq self.old.older) }
+        requires callable { F.IsAlwaysCallable should_retain }
+        ensures linked { IsLinked T.Key.cmp (M.entries self.new.heads) (older_at T.Key.eq self.new.older) }
+        ensures kept { (kept : List V) × IsFiltered (CalledAt F.FnMut) should_retain (list_at T.Key.cmp (stored T.Key.cmp T.Key.eq (M.entries self.old.heads) self.old.older) slot) kept × (stored T.Key.cmp T.Key.eq (M.entries self.new.heads) self.new.older ≡ with_list T.Key.cmp (stored T.Key.cmp T.Key.eq (M.entries self.old.heads) self.old.older) slot kept) × (result + length kept ≡ length (list_at T.Key.cmp (stored T.Key.cmp T.Key.eq (M.entries self.old.heads) self.old.older) slot)) }
+    {
+        let Some(newest) = self.heads.get(&slot) else {
+            return 0;
+        };
+        let keeps_newest = should_retain(newest);
+        let taken = retain_older(&mut self.older, slot, should_retain);
+        if keeps_newest {
+            return taken;
+        }
+        self.remove_at(slot, 0);
+        taken + 1
     }
 
     /// How many index keys have values.
@@ -323,6 +490,88 @@ impl<T: Translator, V: Drop, M: Heads<T::Key, V>> Storage<T, V, M> {
                 Err(Refused { value, fault })
             }
         }
+    }
+
+    #[inline]
+    pub(crate) fn set_at(&mut self, slot: T::Key, place: usize, value: V)
+        requires linked { IsLinked T.Key.cmp (M.entries self.old.chains.heads) (older_at T.Key.eq self.old.chains.older) }
+        requires counted { self.old.items ≡ item_count (stored T.Key.cmp T.Key.eq (M.entries self.old.chains.heads) self.old.chains.older) }
+        requires place { place < length (list_at T.Key.cmp (stored T.Key.cmp T.Key.eq (M.entries self.old.chains.heads) self.old.chains.older) slot) }
+        ensures linked { IsLinked T.Key.cmp (M.entries self.new.chains.heads) (older_at T.Key.eq self.new.chains.older) }
+        ensures counted { self.new.items ≡ item_count (stored T.Key.cmp T.Key.eq (M.entries self.new.chains.heads) self.new.chains.older) }
+        ensures content { stored T.Key.cmp T.Key.eq (M.entries self.new.chains.heads) self.new.chains.older ≡ with_list T.Key.cmp (stored T.Key.cmp T.Key.eq (M.entries self.old.chains.heads) self.old.chains.older) slot (slice_set (list_at T.Key.cmp (stored T.Key.cmp T.Key.eq (M.entries self.old.chains.heads) self.old.chains.older) slot) place value) }
+        ensures pruned { self.new.pruned ≡ self.old.pruned }
+        ensures translator { self.new.translator ≡ self.old.translator }
+    {
+        self.chains.set_at(slot, place, value);
+    }
+
+    pub(crate) fn insert_at(
+        &mut self,
+        slot: T::Key,
+        place: usize,
+        value: V,
+    ) -> Result<(), Refused<V>>
+        requires linked { IsLinked T.Key.cmp (M.entries self.old.chains.heads) (older_at T.Key.eq self.old.chains.older) }
+        requires counted { self.old.items ≡ item_count (stored T.Key.cmp T.Key.eq (M.entries self.old.chains.heads) self.old.chains.older) }
+        requires place { place ≤ length (list_at T.Key.cmp (stored T.Key.cmp T.Key.eq (M.entries self.old.chains.heads) self.old.chains.older) slot) }
+        ensures linked { IsLinked T.Key.cmp (M.entries self.new.chains.heads) (older_at T.Key.eq self.new.chains.older) }
+        ensures counted { self.new.items ≡ item_count (stored T.Key.cmp T.Key.eq (M.entries self.new.chains.heads) self.new.chains.older) }
+        ensures accepted { OnOk result (stored T.Key.cmp T.Key.eq (M.entries self.new.chains.heads) self.new.chains.older ≡ with_list T.Key.cmp (stored T.Key.cmp T.Key.eq (M.entries self.old.chains.heads) self.old.chains.older) slot (insert (list_at T.Key.cmp (stored T.Key.cmp T.Key.eq (M.entries self.old.chains.heads) self.old.chains.older) slot) place value)) }
+        ensures room { OnOk result (item_count (stored T.Key.cmp T.Key.eq (M.entries self.old.chains.heads) self.old.chains.older) < usize.MAX) }
+        ensures refused { OnErr result (stored T.Key.cmp T.Key.eq (M.entries self.new.chains.heads) self.new.chains.older ≡ stored T.Key.cmp T.Key.eq (M.entries self.old.chains.heads) self.old.chains.older) }
+        ensures returned { IfErr result (λ r. r.value ≡ value) }
+        ensures fault { IfErr result (λ r. r.fault ≡ growth_fault (item_count (stored T.Key.cmp T.Key.eq (M.entries self.old.chains.heads) self.old.chains.older))) }
+        ensures pruned { self.new.pruned ≡ self.old.pruned }
+        ensures translator { self.new.translator ≡ self.old.translator }
+    {
+        if self.items == usize::MAX {
+            let fault = Fault::Full;
+            return Err(Refused { value, fault });
+        }
+        match self.chains.insert_at(slot, place, value) {
+            Ok(()) => {
+                self.items += 1;
+                Ok(())
+            }
+            Err(value) => {
+                let fault = Fault::Memory;
+                Err(Refused { value, fault })
+            }
+        }
+    }
+
+    pub(crate) fn remove_at(&mut self, slot: T::Key, place: usize) -> V
+        requires linked { IsLinked T.Key.cmp (M.entries self.old.chains.heads) (older_at T.Key.eq self.old.chains.older) }
+        requires counted { self.old.items ≡ item_count (stored T.Key.cmp T.Key.eq (M.entries self.old.chains.heads) self.old.chains.older) }
+        requires place { place < length (list_at T.Key.cmp (stored T.Key.cmp T.Key.eq (M.entries self.old.chains.heads) self.old.chains.older) slot) }
+        ensures linked { IsLinked T.Key.cmp (M.entries self.new.chains.heads) (older_at T.Key.eq self.new.chains.older) }
+        ensures counted { self.new.items ≡ item_count (stored T.Key.cmp T.Key.eq (M.entries self.new.chains.heads) self.new.chains.older) }
+        ensures value { slice_get (list_at T.Key.cmp (stored T.Key.cmp T.Key.eq (M.entries self.old.chains.heads) self.old.chains.older) slot) place ≡ Some result }
+        ensures content { stored T.Key.cmp T.Key.eq (M.entries self.new.chains.heads) self.new.chains.older ≡ with_list T.Key.cmp (stored T.Key.cmp T.Key.eq (M.entries self.old.chains.heads) self.old.chains.older) slot (remove (list_at T.Key.cmp (stored T.Key.cmp T.Key.eq (M.entries self.old.chains.heads) self.old.chains.older) slot) place) }
+        ensures pruned { self.new.pruned ≡ pruned_after self.old.pruned 1 }
+        ensures translator { self.new.translator ≡ self.old.translator }
+    {
+        let value = self.chains.remove_at(slot, place);
+        self.items -= 1;
+        self.pruned = self.pruned.saturating_add(1);
+        value
+    }
+
+    /// Asks once on each value of the key's index key, in list order, and takes out those that are answered false.
+    pub(crate) fn retain<F: FnMut(&V) -> bool>(&mut self, key: &[u8], should_retain: F)
+        requires linked { IsLinked T.Key.cmp (M.entries self.old.chains.heads) (older_at T.Key.eq self.old.chains.older) }
+        requires counted { self.old.items ≡ item_count (stored T.Key.cmp T.Key.eq (M.entries self.old.chains.heads) self.old.chains.older) }
+        requires callable { F.IsAlwaysCallable should_retain }
+        ensures linked { IsLinked T.Key.cmp (M.entries self.new.chains.heads) (older_at T.Key.eq self.new.chains.older) }
+        ensures counted { self.new.items ≡ item_count (stored T.Key.cmp T.Key.eq (M.entries self.new.chains.heads) self.new.chains.older) }
+        ensures kept { let old = list_at T.Key.cmp (stored T.Key.cmp T.Key.eq (M.entries self.old.chains.heads) self.old.chains.older) (T.translated self.old.translator key.now) in (kept : List V) × IsFiltered (CalledAt F.FnMut) should_retain old kept × (stored T.Key.cmp T.Key.eq (M.entries self.new.chains.heads) self.new.chains.older ≡ with_list T.Key.cmp (stored T.Key.cmp T.Key.eq (M.entries self.old.chains.heads) self.old.chains.older) (T.translated self.old.translator key.now) kept) × (self.new.pruned ≡ pruned_after self.old.pruned (length old - length kept)) }
+        ensures translator { self.new.translator ≡ self.old.translator }
+    {
+        let slot = self.translator.transform(key);
+        let taken = self.chains.retain(slot, should_retain);
+        self.items -= taken;
+        self.pruned = self.pruned.saturating_add(taken as u64);
     }
 
     /// Takes the key's index key out.

@@ -1,12 +1,12 @@
 //! The flat unordered index.
-ghost use Rattle.std.specs.Prelude.{◌≡◌, [], true, false, IsOk, IfOk, IfErr};
+ghost use Rattle.std.specs.Prelude.{◌≡◌, [], true, false, refl, IsOk, IfOk, IfErr};
 ghost use Rattle.key_index_flat.specs.Chains.{older_at, stored};
 ghost use Rattle.key_index_flat.specs.Content.{item_count};
 ghost use Rattle.key_index_flat.specs.Storage.{IsLinked};
 ghost use Rattle.key_index_flat.specs.Laws.{IsLawful-stored};
 
 use super::storage::Storage;
-use super::{Factory, Fault, Refused, Runs, Unordered, Values};
+use super::{Factory, Fault, IndexCursor, Refused, Runs, Search, Unordered, Values};
 use crate::translator::Translator;
 use std::alloc::Global;
 use std::collections::HashMap;
@@ -33,6 +33,10 @@ impl<T: Translator, V: Drop> Runs for Index<T, V> {
 
     ghost admitted = { λ _ _. true };
 
+    ghost pruned_count = { λ index. index.storage.pruned };
+
+    ghost edited = { λ _ _. Unit {0} };
+
     ghost lawful = { λ index. IsLawful-stored T.Key.total T.Key.eq index.storage.chains.heads.entries index.storage.chains.older };
 
     ghost exact = { T.exact };
@@ -56,6 +60,58 @@ impl<T: Translator, V: Drop> Runs for Index<T, V> {
     fn value_at(&self, key: T::Key, place: usize) -> &V {
         self.storage.value_at(key, place)
     }
+
+    #[inline]
+    fn set_at(&mut self, key: T::Key, place: usize, value: V) {
+        self.storage.set_at(key, place, value);
+    }
+
+    #[inline]
+    fn insert_at(&mut self, key: T::Key, place: usize, value: V) -> Result<(), Refused<V>> {
+        self.storage.insert_at(key, place, value)
+    }
+
+    #[inline]
+    fn remove_at(&mut self, key: T::Key, place: usize) -> V {
+        self.storage.remove_at(key, place)
+    }
+}
+
+impl<T: Translator, V: Drop> Search for Index<T, V> {
+    ghost settled = { λ _ _ _. Unit {0} };
+
+    ghost left_by_refusal = { λ _ _ _. Unit {0} };
+
+    ghost may_refuse = { λ _ _. false };
+
+    fn search(&mut self, key: &[u8]) -> Result<IndexCursor<'_, Index<T, V>>, Option<Fault>> {
+        let slot = self.slot_of(key);
+        let len = self.run_len(slot);
+        if len == 0 {
+            return Err(None);
+        }
+        Ok(IndexCursor::with_len(self, slot, len))
+    }
+
+    fn search_or_insert(
+        &mut self,
+        key: &[u8],
+        value: V,
+    ) -> Result<IndexCursor<'_, Index<T, V>>, Option<Refused<V>>> {
+        if self.items() == usize::MAX {
+            let fault = Fault::Full;
+            return Err(Some(Refused { value, fault }));
+        }
+        let slot = self.slot_of(key);
+        let len = self.run_len(slot);
+        if len == 0 {
+            return match self.insert_at(slot, 0, value) {
+                Ok(()) => Err(None),
+                Err(refused) => Err(Some(refused)),
+            };
+        }
+        Ok(IndexCursor::with_len(self, slot, len))
+    }
 }
 
 impl<T: Translator, V: Drop> Unordered for Index<T, V> {
@@ -65,9 +121,7 @@ impl<T: Translator, V: Drop> Unordered for Index<T, V> {
 
     const LOOKUP_WARMS_UPDATE: bool = true;
 
-    ghost pruned_count = { λ index. index.storage.pruned };
-
-    ghost may_refuse = { λ _ _. false };
+    ghost reaches = { λ _ _ _. refl };
 
     #[inline]
     fn get(&self, key: &[u8]) -> Values<'_, V> {
@@ -77,6 +131,12 @@ impl<T: Translator, V: Drop> Unordered for Index<T, V> {
     #[inline]
     fn insert(&mut self, key: &[u8], value: V) -> Result<(), Refused<V>> {
         self.storage.insert(key, value)
+    }
+
+    #[inline]
+    fn retain<F: FnMut(&V) -> bool>(&mut self, key: &[u8], should_retain: F) -> Result<(), Fault> {
+        self.storage.retain(key, should_retain);
+        Ok(())
     }
 
     #[inline]
@@ -110,7 +170,7 @@ impl<T: Translator, V: Drop> Factory for Index<T, V> {
     fn new(alloc: Global, translator: T) -> Result<Index<T, V>, Fault>
         ensures made { IsOk result }
         ensures empty { IfOk result (λ index. ⟦<Index<T, V> as Runs>⟧.content index ≡ []) }
-        ensures pruned { IfOk result (λ index. ⟦<Index<T, V> as Unordered>⟧.pruned_count index ≡ 0) }
+        ensures pruned { IfOk result (λ index. ⟦<Index<T, V> as Runs>⟧.pruned_count index ≡ 0) }
         ensures slots { IfOk result (λ index. ⟦<Index<T, V> as Runs>⟧.slot index ≡ T.translated translator) }
         ensures fault { IfErr result (λ f. f ≡ Fault.Memory) }
     {

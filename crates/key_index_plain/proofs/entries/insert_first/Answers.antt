@@ -1,7 +1,7 @@
-use Rattle.std.proofs.Common.{[], ◌∷◌, Result, Ok, Err, OnOk, length, refl, ap, sym, ◌∙◌, arith}
+use Rattle.std.proofs.Common.{[], ◌∷◌, length, refl, ap, sym, ◌∙◌, arith}
 use Rattle.key_index_flat.specs.Content.{with_list}
 use Rattle.key_index_plain.specs.Entries.{listed}
-use Rattle.key_index_plain.proofs.EntryLemmas.{found_at, missing_at, pushed, left_alone}
+use Rattle.key_index_plain.proofs.EntryLemmas.{found_at, missing_at, pushed, left_alone, on_ok}
 use Rattle.key_index_plain.proofs.entries.insert_first.Goals as goal
 
 pub index_mut-requires : goal.index_mut-requires
@@ -23,10 +23,6 @@ returns-in-Ok-clause-refused g c =
 pub insert_entry-requires : goal.insert_entry-requires
 insert_entry-requires g c =
     (missing_at g.K.Ord.cmp c.args.key g.met.K.Ord.total c.args.entries.now.items c.as_slice.result.now c.in-Err.place c.requires c.as_slice.ensures.value c.in-Err.ensures).within
-
-on_ok : {A E : Type 0} (P Q : Type 0) (r : Result A E) → (P → Q) → OnOk r P → OnOk r Q
-on_ok P Q (Ok x) f h = f h
-on_ok P Q (Err e) f h = h
 
 pub returns-clause-accepted : goal.returns-clause-accepted
 returns-clause-accepted g c =

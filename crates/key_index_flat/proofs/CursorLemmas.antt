@@ -1,0 +1,169 @@
+-- What the calls of a cursor leave of a content, of the count of pruned values, and of a list.
+--     list_at-with_list_same      the list that was put at a key is read there
+--     with_list-same              the list that is there changes nothing
+--     with_list-twice             of two lists at one key the second stays
+--     length-list_at              no list is longer than all of them
+--     pruned_none, pruned_twice   no value more, and some more twice
+--     chain_more                  some steps and one more
+--     on_value, past_end          a cursor on a value is active, and one that allows `insert` and is not active is done
+--     inserted                    what `insert` leaves of a list, by the place of the next value
+--     edits_index                 one edit of an index, as the cursor tells it
+--     EditedTo                    an index after some edits at one key: edited_none, edited_more
+use Rattle.std.proofs.Common.{◌≡◌, ℕ, ◌+◌, ◌≤◌, Bool, true, false, cond, T, List, [], ◌∷◌, ◌++◌, length, refl, sym, ap, subst, ◌∙◌, arith}
+use Rattle.std.specs.declared.cmp.Ordering.{Ordering}
+use Rattle.std.specs.declared.cmp.Ordering.TheVariants.{Less, Equal, Greater}
+use Rattle.std.specs.Ordering.{eq_by_cmp, is_eq}
+use Rattle.std.specs.Cmp.{IsTotalOrder, eq_by_cmp_equiv}
+use Rattle.std.specs.List.{insert}
+use Rattle.std.proofs.lemmas.List.{take_all, drop_all}
+use Rattle.key_index_flat.specs.Content.{Content, item_count, list_at, with_list, IsLawful}
+use Rattle.key_index_flat.specs.Commands.{pruned_after}
+use Rattle.key_index_flat.specs.declared.index.cursor.CursorState.{CursorState}
+use Rattle.key_index_flat.specs.declared.index.cursor.CursorState.TheVariants as state
+use Rattle.key_index_flat.specs.Cursor.{Place, IsOnValue, AllowsInsert, NeedNext, Active, Done, list_after_insert, next_place}
+use Rattle.key_index_flat.specs.CursorState.{place_of}
+use Rattle.key_index_flat.specs.Edits.{Changed, Chain}
+use Rattle.key_index_flat.specs.declared.index.index_cursor.IndexCursor.{IndexCursor}
+use Rattle.key_index_flat.specs.declared.index.runs.Runs as runs
+use Rattle.key_index_flat.specs.contracts.index.cursor.CursorState.{the_type}
+use Rattle.key_index_flat.specs.IndexCursor.{EditsIndex}
+use Rattle.std.specs.declared.cmp.Ord as ord
+use Rattle.std.specs.declared.cmp.PartialEq as eq
+use Rattle.std.specs.declared.cmp.PartialOrd as partial
+use denote.Enum.Bare.{sameb}
+use Rattle.key_index_flat.specs.Laws.{IsLawful-with_list}
+use Rattle.key_index_flat.proofs.ContentLemmas.{list_at-with_list, same_content, item_count-with_list}
+
+tie : (r : Ordering) → is_eq r ≡ true → r ≡ Equal
+tie Less p = absurd (subst T (sym p) tt)
+tie Equal p = refl
+tie Greater p = absurd (subst T (sym p) tt)
+
+cond_same : {A : Type 0} (b : Bool) (x : A) → cond b x x ≡ x
+cond_same true x = refl
+cond_same false x = refl
+
+cond_twice : {A : Type 0} (b : Bool) (x y z : A) → cond b x (cond b y z) ≡ cond b x z
+cond_twice true x y z = refl
+cond_twice false x y z = refl
+
+module _ {K V : Type 0} {cmp : K → K → Ordering} (o : IsTotalOrder cmp) where
+  pub list_at-with_list_same : (c : Content K V) (k : K) (l : List V) → list_at cmp (with_list cmp c k l) k ≡ l
+  list_at-with_list_same c k l = list_at-with_list o c k l k ∙ ap (λ b. cond b l (list_at cmp c k)) ((eq_by_cmp_equiv o).refl k)
+
+  -- the list at the key where a content was made by an edit there
+  pub list_at_edit : (c d : Content K V) (k : K) (l : List V) → d ≡ with_list cmp c k l → list_at cmp d k ≡ l
+  list_at_edit c d k l e = ap (λ x. list_at cmp x k) e ∙ list_at-with_list_same c k l
+
+  -- and that content, by the list which it has there
+  pub edit_at : (c d : Content K V) (k : K) (l : List V) → d ≡ with_list cmp c k l → d ≡ with_list cmp c k (list_at cmp d k)
+  edit_at c d k l e = e ∙ ap (λ x. with_list cmp c k x) (sym (list_at_edit c d k l e))
+
+  pub length-list_at : (c : Content K V) (k : K) → IsLawful cmp c → length (list_at cmp c k) ≤ item_count c
+  length-list_at c k h = let e = item_count-with_list o c k [] h in omega (arith, e)
+
+  module _ (exact : (x y : K) → cmp x y ≡ Equal → x ≡ y) where
+    same_at : (c : Content K V) (k q : K) → cond (eq_by_cmp cmp q k) (list_at cmp c k) (list_at cmp c q) ≡ list_at cmp c q
+    same_at c k q =
+        elim (eq_by_cmp cmp q k) as (λ b. eq_by_cmp cmp q k ≡ b → cond b (list_at cmp c k) (list_at cmp c q) ≡ list_at cmp c q) [
+          | true ↦ λ p. ap (λ x. list_at cmp c x) (sym (exact q k (tie _ p)))
+          | false ↦ λ p. refl
+        ] refl
+
+    pub with_list-same : (c : Content K V) (k : K) → IsLawful cmp c → with_list cmp c k (list_at cmp c k) ≡ c
+    with_list-same c k h =
+        same_content o exact _ _ (IsLawful-with_list o c k (list_at cmp c k) h) h (λ q. list_at-with_list o c k (list_at cmp c k) q ∙ same_at c k q)
+
+    pub with_list-twice : (c : Content K V) (k : K) (l m : List V) → IsLawful cmp c → with_list cmp (with_list cmp c k l) k m ≡ with_list cmp c k m
+    with_list-twice c k l m h =
+        same_content o exact _ _ (IsLawful-with_list o _ k m (IsLawful-with_list o c k l h)) (IsLawful-with_list o c k m h) (λ q.
+        list_at-with_list o (with_list cmp c k l) k m q
+        ∙ ap (λ x. cond (eq_by_cmp cmp q k) m x) (list_at-with_list o c k l q)
+        ∙ cond_twice (eq_by_cmp cmp q k) m l (list_at cmp c q)
+        ∙ sym (list_at-with_list o c k m q))
+
+    -- a content that stays is what its own list at a key makes of it
+    pub same_edit : (c d : Content K V) (k : K) → IsLawful cmp c → d ≡ c → d ≡ with_list cmp c k (list_at cmp d k)
+    same_edit c d k h e = e ∙ sym (with_list-same c k h) ∙ ap (λ x. with_list cmp c k (list_at cmp x k)) (sym e)
+
+    -- one more edit of the list that a content was made by
+    pub edit_more : (c d e : Content K V) (k : K) (l m : List V) → IsLawful cmp c → d ≡ with_list cmp c k l → e ≡ with_list cmp d k m → e ≡ with_list cmp c k (list_at cmp e k)
+    edit_more c d e k l m h p q = edit_at c e k m (q ∙ ap (λ x. with_list cmp x k m) p ∙ with_list-twice c k l m h)
+
+pub pruned_none : (p : ℕ) → p ≡ pruned_after p 0
+pruned_none p = omega arith
+
+pub pruned_twice : (p a b : ℕ) → pruned_after (pruned_after p a) b ≡ pruned_after p (a + b)
+pruned_twice p a b = omega arith
+
+pub chain_more : {I : Type 0} (R : I → I → Type 0) (a b c : I) (ms : List I) → Chain R a ms b → R b c → Chain R a (ms ++ c ∷ []) c
+chain_more R a b c [] e r = (subst (λ x. R x c) (sym e) r, refl)
+chain_more R a b c (m ∷ ms) h r = (h.0, chain_more R m b c ms h.1 r)
+
+pub on_value : (s : CursorState) (i : ℕ) → IsOnValue (place_of s i) → s ≡ state.Active
+on_value state.NeedNext i h = absurd h
+on_value state.Active i h = refl
+on_value state.Done i h = absurd h
+
+pub past_end : (s : CursorState) (i : ℕ) → AllowsInsert (place_of s i) → false ≡ sameb the_type s state.Active → s ≡ state.Done
+past_end state.NeedNext i h e = absurd h
+past_end state.Active i h e = absurd (cc e)
+past_end state.Done i h e = refl
+
+pub inserted : {V : Type 0} (l : List V) (p : Place) (v : V) → AllowsInsert p → insert l (next_place l p) v ≡ list_after_insert l p v
+inserted l (NeedNext i) v h = absurd h
+inserted l (Active i) v h = refl
+inserted l Done v h = λ i. take_all (length l) l (omega arith) i ++ v ∷ drop_all (length l) l (omega arith) i
+
+module _ {I V K : Type 0} {r : runs.Ghosts I V K} {o : ord.Ghosts K} {e : eq.Ghosts K} {p : partial.Ghosts K} where
+  pub edits_index : IsTotalOrder o.cmp → (old new : IndexCursor I V K r o e p) (l : List V) (taken pruned : ℕ)
+      → new.index.ghost_name ≡ old.index.ghost_name → new.key ≡ old.key
+      → Changed r.content r.slot r.admitted r.pruned_count old.index.now new.index.now (with_list o.cmp (r.content old.index.now) old.key l) pruned
+      → pruned ≡ pruned_after (r.pruned_count old.index.now) taken
+      → r.edited old.index.now new.index.now
+      → EditsIndex old new taken
+  edits_index total old new l taken pruned same_reference same_key changed count edited = record {
+    same_reference = same_reference;
+    same_key = same_key;
+    changed = record {
+      content_is = edit_at total _ _ _ _ changed.content_is ∙ ap (λ k. with_list o.cmp (r.content old.index.now) old.key (list_at o.cmp (r.content new.index.now) k)) (sym same_key);
+      pruned_is = changed.pruned_is ∙ count;
+      same_slots = changed.same_slots;
+      same_admitted = changed.same_admitted;
+    };
+    states = new.index.now ∷ [];
+    edited = (edited, refl);
+  }
+
+module _ {I V K : Type 0} (r : runs.Ghosts I V K) (cmp : K → K → Ordering) where
+  -- what some edits at a key left of an index: `taken` held values went
+  pub record EditedTo (k : K) (old now : I) (taken : ℕ) : Type 0 where
+    pub changed : Changed r.content r.slot r.admitted r.pruned_count old now (with_list cmp (r.content old) k (list_at cmp (r.content now) k)) (pruned_after (r.pruned_count old) taken)
+    pub states : List I
+    pub edited : Chain r.edited old states now
+
+  module _ (o : IsTotalOrder cmp) (exact : (x y : K) → cmp x y ≡ Equal → x ≡ y) (k : K) (old : I) (lawful : IsLawful cmp (r.content old)) where
+    pub edited_none : (taken : ℕ) → taken ≡ 0 → EditedTo k old old taken
+    edited_none taken none = record {
+      changed = record {
+        content_is = same_edit o exact _ _ k lawful refl;
+        pruned_is = pruned_none _ ∙ ap (λ n. pruned_after (r.pruned_count old) n) (sym none);
+        same_slots = refl;
+        same_admitted = refl;
+      };
+      states = [];
+      edited = refl;
+    }
+
+    pub edited_more : (now next : I) (key : K) (l : List V) (taken more : ℕ) → key ≡ k → taken + 1 ≡ more → EditedTo k old now taken
+        → Changed r.content r.slot r.admitted r.pruned_count now next (with_list cmp (r.content now) key l) (pruned_after (r.pruned_count now) 1) → r.edited now next → EditedTo k old next more
+    edited_more now next key l taken more at count was changed edited = record {
+      changed = record {
+        content_is = edit_more o exact _ _ _ k _ l lawful was.changed.content_is (changed.content_is ∙ ap (λ x. with_list cmp (r.content now) x l) at);
+        pruned_is = changed.pruned_is ∙ ap (λ n. pruned_after n 1) was.changed.pruned_is ∙ pruned_twice (r.pruned_count old) taken 1 ∙ ap (λ n. pruned_after (r.pruned_count old) n) count;
+        same_slots = changed.same_slots ∙ was.changed.same_slots;
+        same_admitted = changed.same_admitted ∙ was.changed.same_admitted;
+      };
+      states = was.states ++ next ∷ [];
+      edited = chain_more r.edited old now next was.states was.edited edited;
+    }

@@ -1,0 +1,254 @@
+-- What a run of steps and of commands is made of.
+--     not_full, if_false          what a test that said false tells
+--     stays_edits, edits_more     a cursor that stays has edited nothing; one edit of its list after another
+--     insert_steps                what `insert` of a cursor is as a step
+--     RunTo                       the steps of an edit so far: run_first, run_more, run_all
+--     edit_done                   what the steps leave of the index that the cursor was made on
+--     filled, none_set            one flag for each step, and none set
+--     held_stays                  a key that has a value is left as it is
+--     room_more, room_length      places for outcomes
+--     LegalTo                     the commands so far: legal_first, legal_more, legal_all
+use Rattle.std.proofs.Common.{◌≡◌, ℕ, ◌+◌, suc, ◌-◌, ◌<◌, map, replicate, Bool, true, false, if◌then◌else◌, not, IsTrue, List, [], ◌∷◌, ◌++◌, length, take, drop, drop-cons, get_or, set, zero-add, add-one, append_assoc, append-nil, length-set, refl, sym, ap, subst, ◌∙◌, arith}
+use Rattle.std.proofs.Math.Seq.{take-suc}
+use Rattle.std.proofs.lemmas.List.{take_all, take_more_set, take-set}
+use Rattle.std.proofs.lemmas.Grind.{common_steps}
+use Rattle.std.specs.declared.cmp.Ordering.{Ordering}
+use Rattle.std.specs.declared.cmp.Ordering.TheVariants.{Equal}
+use Rattle.std.specs.Cmp.{IsTotalOrder}
+use Rattle.std.specs.declared.cmp.Ord as ord
+use Rattle.std.specs.declared.cmp.PartialEq as eq
+use Rattle.std.specs.declared.cmp.PartialOrd as partial
+use Rattle.key_index_flat.specs.Content.{Content, item_count, list_at, with_list, IsLawful}
+use Rattle.key_index_flat.specs.Commands.{pruned_after}
+use Rattle.key_index_flat.specs.Edits.{Changed, Chain}
+use Rattle.key_index_flat.specs.declared.index.index_cursor.IndexCursor.{IndexCursor}
+use Rattle.key_index_flat.specs.declared.index.runs.Runs as runs
+use Rattle.key_index_flat.specs.IndexCursor.{EditsIndex, StaysAt, cursor_list, cursor_place}
+use Rattle.std.specs.Prelude.{Result, Ok, Err, OnOk, OnErr}
+use Rattle.std.specs.Result.{is_ok, is_err}
+use Rattle.key_index_flat.specs.declared.index.command.Command.{Command}
+use Rattle.key_index_flat.specs.declared.index.command.Outcome.{Outcome}
+use Rattle.key_index_flat.specs.declared.index.command.Step.{Step}
+use Rattle.key_index_flat.specs.declared.index.command.Step.TheVariants as step
+use Rattle.key_index_flat.specs.Cursor.{NeedNext, AllowsInsert, list_after_insert, place_after_insert}
+use Rattle.key_index_flat.specs.CursorRun.{others_of, edited_at, Steps, RunsSteps}
+use Rattle.key_index_flat.specs.Run.{is_full, one_if_absent, Fold, CommandGives, IsLegal, Edited, StepGives, EditGives, HasRoom, HaveRoom}
+use Rattle.key_index_flat.proofs.ContentLemmas.{item_count-with_list}
+use Rattle.key_index_flat.proofs.CursorLemmas.{with_list-same, with_list-twice, pruned_none, pruned_twice}
+
+pub not_full : (b : Bool) (m n : ℕ) → b ≡ is_full m → m ≡ n → b ≡ false → IsTrue (not (is_full n))
+not_full b m n e k f = subst (λ x. IsTrue (not x)) (sym (ap (λ x. is_full x) (sym k) ∙ sym e ∙ f)) refl
+
+pub if_false : {A : Type 0} (b : Bool) → b ≡ false → (A → IsTrue b) → ¬ A
+if_false b e f a = let h : false ≡ true = sym e ∙ f a in absurd (cc h)
+
+pub none_more : (n : ℕ) → n + 0 ≡ n
+none_more n = omega arith
+
+pub chain_append : {I : Type 0} (R : I → I → Type 0) (a b c : I) (ms ns : List I) → Chain R a ms b → Chain R b ns c → Chain R a (ms ++ ns) c
+chain_append R a b c [] ns e h = subst (λ x. Chain R x ns c) (sym e) h
+chain_append R a b c (m ∷ ms) ns g h = (g.0, chain_append R m b c ms ns g.1 h)
+
+module _ {I V K : Type 0} {r : runs.Ghosts I V K} {o : ord.Ghosts K} {e : eq.Ghosts K} {p : partial.Ghosts K} where
+  pub same_list : (old new : IndexCursor I V K r o e p) → StaysAt old new → cursor_list new ≡ cursor_list old
+  same_list old new s = λ i. list_at o.cmp (r.content (s.1 i)) (s.2 i)
+
+  module _ (total : IsTotalOrder o.cmp) (exact : (x y : K) → o.cmp x y ≡ Equal → x ≡ y) (old : IndexCursor I V K r o e p) (lawful : IsLawful o.cmp (r.content old.index.now)) where
+    pub stays_edits : (new : IndexCursor I V K r o e p) → StaysAt old new → EditsIndex old new 0
+    stays_edits new s = record {
+      same_reference = s.0;
+      same_key = s.2;
+      changed = record {
+        content_is = ap (λ x. r.content x) s.1 ∙ sym (with_list-same total exact (r.content old.index.now) old.key lawful) ∙ ap (λ l. with_list o.cmp (r.content old.index.now) old.key l) (sym (same_list old new s));
+        pruned_is = ap (λ x. r.pruned_count x) s.1 ∙ pruned_none _;
+        same_slots = ap (λ x. r.slot x) s.1;
+        same_admitted = ap (λ x. r.admitted x) s.1;
+      };
+      states = [];
+      edited = sym s.1;
+    }
+
+    pub all_items : item_count (r.content old.index.now) ≡ others_of old + length (cursor_list old)
+    all_items = let n = item_count-with_list total (r.content old.index.now) old.key [] lawful in omega (arith, n)
+
+    pub insert_steps : {X : Type 0} (new : IndexCursor I V K r o e p) (v : V) (b full : Bool) (answer : Result (Unit {0}) X) → b ≡ is_ok answer
+        → AllowsInsert (cursor_place old) → full ≡ is_full (item_count (r.content old.index.now)) → full ≡ false
+        → OnOk answer (cursor_list new ≡ list_after_insert (cursor_list old) (cursor_place old) v) → OnOk answer (cursor_place new ≡ place_after_insert (cursor_place old))
+        → OnErr answer ((cursor_list new ≡ cursor_list old) × (cursor_place new ≡ cursor_place old)) → EditsIndex old new 0 → Steps (step.Insert v) b old new
+    insert_steps new v b full (Ok u) said allows is not items place refused edits = subst (λ x. Steps (step.Insert v) x old new) (sym said) (record {
+      taken = 0;
+      edits = edits;
+      gives = λ before. (allows, not_full full _ _ is all_items not, (items, place, none_more before));
+    })
+    insert_steps new v b full (Err x) said allows is not items place refused edits = subst (λ x. Steps (step.Insert v) x old new) (sym said) (record {
+      taken = 0;
+      edits = edits;
+      gives = λ before. (refused.0, refused.1, none_more before);
+    })
+
+    pub edits_more : (now new : IndexCursor I V K r o e p) (a b : ℕ) → EditsIndex old now a → EditsIndex now new b → EditsIndex old new (a + b)
+    edits_more now new a b f g = record {
+      same_reference = g.same_reference ∙ f.same_reference;
+      same_key = g.same_key ∙ f.same_key;
+      changed = record {
+        content_is = g.changed.content_is ∙ (λ i. with_list o.cmp (f.changed.content_is i) (f.same_key i) (cursor_list new)) ∙ with_list-twice total exact (r.content old.index.now) old.key (cursor_list now) (cursor_list new) lawful;
+        pruned_is = g.changed.pruned_is ∙ ap (λ n. pruned_after n b) f.changed.pruned_is ∙ pruned_twice (r.pruned_count old.index.now) a b;
+        same_slots = g.changed.same_slots ∙ f.changed.same_slots;
+        same_admitted = g.changed.same_admitted ∙ f.changed.same_admitted;
+      };
+      states = f.states ++ g.states;
+      edited = chain_append r.edited old.index.now now.index.now new.index.now f.states g.states f.edited g.edited;
+    }
+
+    pub same_others : (now : IndexCursor I V K r o e p) (a : ℕ) → EditsIndex old now a → others_of now ≡ others_of old
+    same_others now a f = ap (λ c. item_count c) ((λ i. with_list o.cmp (f.changed.content_is i) (f.same_key i) []) ∙ with_list-twice total exact (r.content old.index.now) old.key (cursor_list now) [] lawful)
+
+  -- the steps before, with their flags, whatever becomes of those that are left
+  pub record RunTo (steps rest : List (Step V)) (at : ℕ) (flags : List Bool) (start now : IndexCursor I V K r o e p) : Type 0 where
+    pub taken : ℕ
+    pub edits : EditsIndex start now taken
+    pub room : length flags ≡ at + length rest
+    pub gives : (bs : List Bool) (t : Edited V) → EditGives (others_of start) rest bs (edited_at now taken) t → EditGives (others_of start) steps (take at flags ++ bs) (edited_at start 0) t
+
+  module _ (total : IsTotalOrder o.cmp) (exact : (x y : K) → o.cmp x y ≡ Equal → x ≡ y) (start : IndexCursor I V K r o e p) (lawful : IsLawful o.cmp (r.content start.index.now)) where
+    pub run_first : (steps rest : List (Step V)) (flags : List Bool) → rest ≡ steps → length flags ≡ length steps → RunTo steps rest 0 flags start start
+    run_first steps rest flags same long = record {
+      taken = 0;
+      edits = stays_edits total exact start lawful start (refl, refl, refl);
+      room = long ∙ ap (λ l. length l) (sym same) ∙ sym (zero-add (length rest));
+      gives = λ bs t h. subst (λ l. EditGives (others_of start) l bs (edited_at start 0) t) same h;
+    }
+
+    pub run_more : (steps rest left : List (Step V)) (step : Step V) (at : ℕ) (flags : List Bool) (flag : Bool) (now next : IndexCursor I V K r o e p)
+        → rest ≡ step ∷ left → Steps step flag now next → RunTo steps rest at flags start now → RunTo steps left (at + 1) (set flags at flag) start next
+    run_more steps rest left step at flags flag now next split this was =
+        let long : length rest ≡ length left + 1 = ap (λ l. length l) split ∙ sym (add-one (length left)) in
+        let room = was.room in
+        let same = length-set flags at flag in
+        record {
+          taken = was.taken + this.taken;
+          edits = edits_more total exact start lawful now next was.taken this.taken was.edits this.edits;
+          room = omega (arith, long, room, same);
+          gives = λ bs t h.
+              let first = subst (λ n. StepGives n step flag (edited_at now was.taken) (edited_at next (was.taken + this.taken))) (same_others total exact start lawful now was.taken was.edits) (this.gives was.taken) in
+              let all = was.gives (flag ∷ bs) t (subst (λ l. EditGives (others_of start) l (flag ∷ bs) (edited_at now was.taken) t) (sym split) (edited_at next (was.taken + this.taken), first, h)) in
+              subst (λ l. EditGives (others_of start) steps l (edited_at start 0) t) (sym (append_assoc (take at flags) (flag ∷ []) bs) ∙ ap (λ l. l ++ bs) (sym (take_more_set flags at flag (omega (arith, long, room))))) all;
+        }
+
+    pub run_all : (steps rest : List (Step V)) (at : ℕ) (flags : List Bool) (now : IndexCursor I V K r o e p) → rest ≡ [] → RunTo steps rest at flags start now → RunsSteps steps flags start now
+    run_all steps rest at flags now none was =
+        let long : length rest ≡ 0 = ap (λ l. length l) none in
+        let room = was.room in
+        record {
+          taken = was.taken;
+          edits = was.edits;
+          gives = subst (λ l. EditGives (others_of start) steps l (edited_at start 0) (edited_at now was.taken)) (append-nil (take at flags) ∙ take_all at flags (omega (arith, long, room)))
+              (was.gives [] (edited_at now was.taken) (subst (λ l. EditGives (others_of start) l [] (edited_at now was.taken) (edited_at now was.taken)) (sym none) (refl, refl, refl)));
+        }
+
+pub no_items : {A : Type 0} (l : List A) (n : ℕ) → n ≡ length l → n ≡ 0 → l ≡ []
+no_items [] n e h = refl
+no_items (x ∷ xs) n e h = absurd (omega (arith, e, h))
+
+module _ {I V K : Type 0} {r : runs.Ghosts I V K} {o : ord.Ghosts K} {e : eq.Ghosts K} {p : partial.Ghosts K} where
+  -- what the steps leave of an index, as the cursor found it
+  pub edit_done : (steps : List (Step V)) (flags : List Bool) (old new : IndexCursor I V K r o e p) (x y : I) (k : K) → old.index.now ≡ x → new.index.now ≡ y → old.key ≡ k → cursor_place old ≡ NeedNext 0 → RunsSteps steps flags old new
+      → (t : Edited V) × EditGives (item_count (with_list o.cmp (r.content x) k [])) steps flags (record { items = list_at o.cmp (r.content x) k; place = NeedNext 0; taken = 0 }) t
+      × Changed r.content r.slot r.admitted r.pruned_count x y (with_list o.cmp (r.content x) k t.items) (pruned_after (r.pruned_count x) t.taken)
+  edit_done steps flags old new x y k from into key place done =
+      let P : Edited V → ℕ → Type 0 = λ s n. EditGives n steps flags s (edited_at new done.taken) in
+      let start : edited_at old 0 ≡ record { items = list_at o.cmp (r.content x) k; place = NeedNext 0; taken = 0 } = λ i. record { items = list_at o.cmp (r.content (from i)) (key i); place = place i; taken = 0 } in
+      let others : others_of old ≡ item_count (with_list o.cmp (r.content x) k []) = λ i. item_count (with_list o.cmp (r.content (from i)) (key i) []) in
+      let changed = done.edits.changed in (
+        edited_at new done.taken,
+        subst (λ n. P (record { items = list_at o.cmp (r.content x) k; place = NeedNext 0; taken = 0 }) n) others (subst (λ s. P s (others_of old)) start done.gives),
+        record {
+          content_is = ap (λ z. r.content z) (sym into) ∙ changed.content_is ∙ (λ i. with_list o.cmp (r.content (from i)) (key i) (cursor_list new));
+          pruned_is = ap (λ z. r.pruned_count z) (sym into) ∙ changed.pruned_is ∙ ap (λ z. pruned_after (r.pruned_count z) done.taken) from;
+          same_slots = ap (λ z. r.slot z) (sym into) ∙ changed.same_slots ∙ ap (λ z. r.slot z) from;
+          same_admitted = ap (λ z. r.admitted z) (sym into) ∙ changed.same_admitted ∙ ap (λ z. r.admitted z) from;
+        },
+      )
+
+pub filled : {E : Type 0} (answer : Result (Unit {0}) E) (old new : List Bool) (n len : ℕ) → false ≡ is_err answer → new ≡ (if is_ok answer then take n old ++ replicate (n - len) false else old) → old ≡ [] → len ≡ 0 → new ≡ replicate n false
+filled (Ok u) old new n len said is none zero =
+    let all : n - 0 ≡ n = omega arith in
+    is ∙ (λ i. take n (none i) ++ replicate (n - zero i) false) ∙ ap (λ l. l ++ replicate (n - 0) false) (take_all n [] (omega arith)) ∙ ap (λ k. replicate k false) all
+filled (Err x) old new n len said is none zero = absurd (cc said)
+
+pub none_set : {V : Type 0} (steps : List V) → replicate (length steps) false ≡ map (λ x. false) steps
+none_set [] = refl
+none_set (x ∷ xs) = ap (λ l. false ∷ l) (none_set xs)
+
+module _ {K V : Type 0} {cmp : K → K → Ordering} (total : IsTotalOrder cmp) (exact : (x y : K) → cmp x y ≡ Equal → x ≡ y) where
+  kept_list : (m : List V) (v : V) → 0 < length m → one_if_absent v m ≡ m
+  kept_list [] v h = absurd (omega (arith, h))
+  kept_list (x ∷ xs) v h = refl
+
+  pub held_stays : (c d : Content K V) (k : K) (v : V) → IsLawful cmp c → 0 < length (list_at cmp c k) → d ≡ c → d ≡ with_list cmp c k (one_if_absent v (list_at cmp c k))
+  held_stays c d k v lawful held same = same ∙ sym (with_list-same total exact c k lawful) ∙ ap (λ l. with_list cmp c k l) (sym (kept_list (list_at cmp c k) v held))
+
+module _ {V F : Type 0} where
+  pub room_more : (cs : List (Command V F)) (os : List Outcome) (c : Command V F) (x : Outcome) → HaveRoom cs os → HasRoom c x → HaveRoom (cs ++ c ∷ []) (os ++ x ∷ [])
+  room_more [] [] c x h g = (g, tt)
+  room_more [] (a ∷ os) c x h g = absurd h
+  room_more (b ∷ cs) [] c x h g = absurd h
+  room_more (b ∷ cs) (a ∷ os) c x h g = (h.0, room_more cs os c x h.1 g)
+
+  pub room_next : (cs taken : List (Command V F)) (os new : List Outcome) (c : Command V F) (x : Outcome) → taken ≡ cs ++ c ∷ [] → new ≡ os ++ x ∷ [] → HaveRoom cs os → HasRoom c x → HaveRoom taken new
+  room_next cs taken os new c x d e h g = subst (λ l. HaveRoom l new) (sym d) (subst (λ l. HaveRoom (cs ++ c ∷ []) l) (sym e) (room_more cs os c x h g))
+
+  pub room_length : (cs : List (Command V F)) (os : List Outcome) → HaveRoom cs os → length os ≡ length cs
+  room_length [] [] h = refl
+  room_length [] (a ∷ os) h = absurd h
+  room_length (b ∷ cs) [] h = absurd h
+  room_length (b ∷ cs) (a ∷ os) h = ap (λ n. suc n) (room_length cs os h.1)
+
+-- one more of a list, by the item there
+pub take_next : {A : Type 0} (xs : List A) (i : ℕ) (x : A) → i < length xs → x ≡ get_or xs i x → take (i + 1) xs ≡ take i xs ++ x ∷ []
+take_next xs i x h is = let next : suc i ≡ i + 1 = omega arith in (λ t. take (sym next t) xs) ∙ take-suc xs i x h ∙ ap (λ y. take i xs ++ y ∷ []) (sym is)
+
+-- what is left behind a place that is set twice
+pub drop_set : {A : Type 0} (xs : List A) (i : ℕ) (x : A) → drop (i + 1) (set xs i x) ≡ drop (i + 1) xs
+drop_set xs i x = grind (arith, common_steps)
+
+module _ {K V F : Type 0} (cmp : K → K → Ordering) (slot : List ℕ → K) (first : Bool) (ask : F → V → Bool → F → Type 0) where
+  -- the commands before, with their outcomes, whatever becomes of those that are left
+  pub record LegalTo (commands rest : List (Command V F)) (at : ℕ) (outcomes : List Outcome) (start now : Fold K V) : Type 0 where
+    pub room : HaveRoom rest (drop at outcomes)
+    pub long : length outcomes ≡ at + length rest
+    pub gives : (os : List Outcome) (t : Fold K V) → IsLegal cmp slot first ask rest os now t → IsLegal cmp slot first ask commands (take at outcomes ++ os) start t
+
+  pub legal_first : (commands rest : List (Command V F)) (outcomes : List Outcome) (start : Fold K V) → rest ≡ commands → HaveRoom commands outcomes → LegalTo commands rest 0 outcomes start start
+  legal_first commands rest outcomes start same room = record {
+    room = subst (λ l. HaveRoom l outcomes) (sym same) room;
+    long = room_length commands outcomes room ∙ ap (λ l. length l) (sym same) ∙ sym (zero-add (length rest));
+    gives = λ os t h. subst (λ l. IsLegal cmp slot first ask l os start t) same h;
+  }
+
+  pub legal_more : (commands rest left : List (Command V F)) (c : Command V F) (at : ℕ) (outcomes : List Outcome) (empty o : Outcome) (start now next : Fold K V)
+      → rest ≡ c ∷ left → CommandGives cmp slot first ask c o now next → LegalTo commands rest at outcomes start now → LegalTo commands left (at + 1) (set (set outcomes at empty) at o) start next
+  legal_more commands rest left c at outcomes empty o start now next split this was =
+      let more : length rest ≡ length left + 1 = ap (λ l. length l) split ∙ sym (add-one (length left)) in
+      let long = was.long in
+      let here : at < length outcomes = omega (arith, more, long) in
+      let same : length (set outcomes at empty) ≡ length outcomes = length-set outcomes at empty in
+      let again : length (set (set outcomes at empty) at o) ≡ length (set outcomes at empty) = length-set (set outcomes at empty) at o in
+      let old : HaveRoom (c ∷ left) (get_or outcomes at o ∷ drop (at + 1) outcomes) =
+      (let next : suc at ≡ at + 1 = omega arith in subst (λ l. HaveRoom (c ∷ left) l) (drop-cons outcomes at o here ∙ (λ t. get_or outcomes at o ∷ drop (next t) outcomes)) (subst (λ l. HaveRoom l (drop at outcomes)) split was.room)) in
+      let front : take (at + 1) (set (set outcomes at empty) at o) ≡ take at outcomes ++ o ∷ [] =
+      take_more_set (set outcomes at empty) at o (omega (arith, here, same)) ∙ ap (λ l. l ++ o ∷ []) (take-set outcomes at empty) in
+      record {
+        room = subst (λ l. HaveRoom left l) (sym (drop_set (set outcomes at empty) at o ∙ drop_set outcomes at empty)) old.1;
+        long = omega (arith, more, long, same, again);
+        gives = λ os t h.
+            let all = was.gives (o ∷ os) t (subst (λ l. IsLegal cmp slot first ask l (o ∷ os) now t) (sym split) (next, this, h)) in
+            subst (λ l. IsLegal cmp slot first ask commands l start t) (sym (append_assoc (take at outcomes) (o ∷ []) os) ∙ ap (λ l. l ++ os) (sym front)) all;
+      }
+
+  pub legal_all : (commands rest : List (Command V F)) (at : ℕ) (outcomes : List Outcome) (start now : Fold K V) → rest ≡ [] → LegalTo commands rest at outcomes start now → IsLegal cmp slot first ask commands outcomes start now
+  legal_all commands rest at outcomes start now none was =
+      let more : length rest ≡ 0 = ap (λ l. length l) none in
+      let long = was.long in
+      subst (λ l. IsLegal cmp slot first ask commands l start now) (append-nil (take at outcomes) ∙ take_all at outcomes (omega (arith, more, long)))
+      (was.gives [] now (subst (λ l. IsLegal cmp slot first ask l [] now now) (sym none) (refl, refl)))

@@ -1,0 +1,98 @@
+use Rattle.std.proofs.Common.{rules, ◌≡◌, ◌+◌, ◌<◌, ◌≤◌, length, IsTrue, [], ◌∷◌, refl, ap, sym, subst, ◌∙◌, arith}
+use Rattle.std.proofs.lemmas.List.Edits.{length-insert}
+use Rattle.std.specs.List.{insert}
+use denote.Enum.Bare.{same_true}
+use Rattle.key_index_flat.specs.Content.{list_at}
+use Rattle.key_index_flat.specs.CursorState.{place_of}
+use Rattle.key_index_flat.specs.IndexCursor.{EditsIndex, cursor_list}
+use Rattle.key_index_flat.specs.declared.index.cursor.CursorState.TheVariants as state
+use Rattle.key_index_flat.specs.contracts.index.cursor.CursorState.{the_type}
+use Rattle.key_index_flat.proofs.CursorLemmas.{list_at_edit, same_edit, length-list_at, pruned_none, past_end, inserted, edits_index}
+use Rattle.key_index_flat.proofs.index.index_cursor.IndexCursorCursor.insert.Goals as goal
+use Rattle.key_index_flat.proofs.index.index_cursor.IndexCursorCursor.insert.Goals.{then-eq, else-eq}
+
+pub returns-in_err-insert_at-clause-edited : goal.returns-in_err-insert_at-clause-edited
+returns-in_err-insert_at-clause-edited g c =
+    let at = c.args.self.now in
+    let same = c.in_err-insert_at.ensures.refused in
+    record {
+      same_reference = refl;
+      same_key = refl;
+      changed = record {
+        content_is = same_edit g.met.I.Key.Ord.total g.met.I.Runs.exact _ _ at.key (g.met.I.Runs.lawful at.index.now) same.content_is;
+        pruned_is = same.pruned_is ∙ pruned_none _;
+        same_slots = same.same_slots;
+        same_admitted = same.same_admitted;
+      };
+      states = c.insert_at.new.self ∷ [];
+      edited = (c.insert_at.ensures.edited, refl);
+    }
+
+pub overflow_add-self : goal.overflow_add-self
+overflow_add-self g c =
+    let at = c.args.self.now in
+    let most = length-list_at g.met.I.Key.Ord.total (g.I.Runs.content at.index.now) at.key (g.met.I.Runs.lawful at.index.now) in
+    omega (arith, most, at.known, c.in_ok-insert_at.ensures.room)
+
+pub overflow_add-self-then-eq : goal.overflow_add-self-then-eq
+overflow_add-self-then-eq g c =
+    let at = c.args.self.now in
+    let most = length-list_at g.met.I.Key.Ord.total (g.I.Runs.content at.index.now) at.key (g.met.I.Runs.lawful at.index.now) in
+    let active : at.state ≡ state.Active = same_true the_type (search rules) _ _ (sym c.if-eq.ensures) in
+    let here : at.place < at.len = at.active active in
+    omega (arith, most, at.known, c.in_ok-insert_at.ensures.room, here)
+
+pub invariant_of-self-then-eq : goal.invariant_of-self-then-eq
+invariant_of-self-then-eq g c =
+    let at = c.args.self.now in
+    let old = list_at g.I.Key.Ord.cmp (g.I.Runs.content at.index.now) at.key in
+    let active : at.state ≡ state.Active = same_true the_type (search rules) _ _ (sym c.if-eq.ensures) in
+    let here : at.place < at.len = at.active active in
+    let next = c.next_place-place in
+    let within : next.result ≤ length old = omega (arith, next.ensures.within, at.known) in
+    let now = list_at_edit g.met.I.Key.Ord.total _ _ _ _ c.in_ok-insert_at.ensures.accepted.content_is in
+    record {
+      known = ap (λ n. n + 1) at.known ∙ sym (ap (λ l. length l) now ∙ length-insert old next.result c.args.value within);
+      admits = subst IsTrue (sym (ap (λ f. f at.key) c.in_ok-insert_at.ensures.accepted.same_admitted)) at.admits;
+      within = omega (arith, here);
+      active = λ e. absurd (cc e);
+    }
+
+pub invariant_of-self-else-eq : goal.invariant_of-self-else-eq
+invariant_of-self-else-eq g c =
+    let at = c.args.self.now in
+    let old = list_at g.I.Key.Ord.cmp (g.I.Runs.content at.index.now) at.key in
+    let done : at.state ≡ state.Done = past_end at.state at.place c.requires c.if-eq.ensures in
+    let next = c.next_place-place in
+    let within : next.result ≤ length old = omega (arith, next.ensures.within, at.known) in
+    let now = list_at_edit g.met.I.Key.Ord.total _ _ _ _ c.in_ok-insert_at.ensures.accepted.content_is in
+    let held : at.place ≤ at.len = at.within in
+    record {
+      known = ap (λ n. n + 1) at.known ∙ sym (ap (λ l. length l) now ∙ length-insert old next.result c.args.value within);
+      admits = subst IsTrue (sym (ap (λ f. f at.key) c.in_ok-insert_at.ensures.accepted.same_admitted)) at.admits;
+      within = omega (arith, held);
+      active = λ e. absurd (cc (e, done));
+    }
+
+pub returns-clause-items : goal.returns-clause-items
+returns-clause-items g c =
+    let at = c.args.self.now in
+    let old = list_at g.I.Key.Ord.cmp (g.I.Runs.content at.index.now) at.key in
+    let next = c.next_place-place in
+    let now = list_at_edit g.met.I.Key.Ord.total _ _ _ _ c.in_ok-insert_at.ensures.accepted.content_is in
+    let joined : cursor_list c.if-eq.self ≡ list_at g.I.Key.Ord.cmp (g.I.Runs.content c.insert_at.new.self) at.key = elim c.if-eq.branch [
+      | then-eq w ↦ ap (λ s. cursor_list s) w.self-is
+      | else-eq w ↦ ap (λ s. cursor_list s) w.self-is
+    ] in
+    joined ∙ now ∙ ap (λ n. insert old n c.args.value) next.ensures.next ∙ inserted old (place_of at.state at.place) c.args.value c.requires
+
+pub returns-clause-edited : goal.returns-clause-edited
+returns-clause-edited g c =
+    let at = c.args.self.now in
+    let accepted = c.in_ok-insert_at.ensures.accepted in
+    let edited = c.insert_at.ensures.edited in
+    let count = pruned_none _ in
+    elim c.if-eq.branch [
+      | then-eq w ↦ subst (λ s. EditsIndex at s 0) (sym w.self-is) (edits_index g.met.I.Key.Ord.total at _ _ 0 _ refl refl accepted count edited)
+      | else-eq w ↦ subst (λ s. EditsIndex at s 0) (sym w.self-is) (edits_index g.met.I.Key.Ord.total at _ _ 0 _ refl refl accepted count edited)
+    ]

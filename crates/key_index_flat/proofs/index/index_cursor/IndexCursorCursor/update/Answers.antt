@@ -1,0 +1,31 @@
+use Rattle.std.proofs.Common.{length, IsTrue, refl, ap, sym, subst, ◌∙◌}
+use Rattle.std.proofs.lemmas.List.{length-set}
+use Rattle.key_index_flat.specs.Content.{list_at}
+use Rattle.key_index_flat.specs.Cursor.{list_after_update}
+use Rattle.key_index_flat.specs.CursorState.{place_of}
+use Rattle.key_index_flat.proofs.CursorLemmas.{list_at_edit, pruned_none, on_value, edits_index}
+use Rattle.key_index_flat.proofs.index.index_cursor.IndexCursorCursor.update.Goals as goal
+
+pub invariant_of-self : goal.invariant_of-self
+invariant_of-self g c =
+    let at = c.args.self.now in
+    let old = list_at g.I.Key.Ord.cmp (g.I.Runs.content at.index.now) at.key in
+    let now = list_at_edit g.met.I.Key.Ord.total _ _ _ _ c.set_at.ensures.changed.content_is in
+    record {
+      known = at.known ∙ sym (ap (λ l. length l) now ∙ length-set old at.place c.args.value);
+      admits = subst IsTrue (sym (ap (λ f. f at.key) c.set_at.ensures.changed.same_admitted)) at.admits;
+      within = at.within;
+      active = at.active;
+    }
+
+pub returns-clause-items : goal.returns-clause-items
+returns-clause-items g c =
+    let at = c.args.self.now in
+    let old = list_at g.I.Key.Ord.cmp (g.I.Runs.content at.index.now) at.key in
+    list_at_edit g.met.I.Key.Ord.total _ _ _ _ c.set_at.ensures.changed.content_is
+    ∙ sym (ap (λ s. list_after_update old (place_of s at.place) c.args.value) (on_value at.state at.place c.requires))
+
+pub returns-clause-edited : goal.returns-clause-edited
+returns-clause-edited g c =
+    let at = c.args.self.now in
+    edits_index g.met.I.Key.Ord.total at _ _ 0 _ refl refl c.set_at.ensures.changed (pruned_none _) c.set_at.ensures.edited

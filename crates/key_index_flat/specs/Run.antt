@@ -1,0 +1,127 @@
+-- What a list of commands leaves, by its outcomes: which outcomes are legal, and the content and the count of pruned values at the end.
+--     Fold          content and count of pruned values
+--     StepGives     one step of an edit: its flag, and the list, the place and the number of values taken out before and after it
+--     EditGives     the steps of an edit in turn
+--     CommandGives  one command with its outcome: the fold before and after it
+--     IsLegal       commands with their outcomes, one after another
+--     HasRoom       a place for the outcome of a command; HaveRoom: for those of a list
+use Rattle.std.specs.Prelude.{◌≡◌, ℕ, ◌+◌, ◌-◌, ◌^◌, Bool, true, false, not, nat_eq, IsTrue, List, [], ◌∷◌, length, map}
+use Rattle.std.specs.List.Retain.{IsFiltered}
+use Rattle.std.specs.declared.cmp.Ordering.{Ordering}
+use Rattle.key_index_flat.specs.declared.index.Fault.TheVariants.{Memory}
+use Rattle.key_index_flat.specs.declared.index.command.Command.{Command}
+use Rattle.key_index_flat.specs.declared.index.command.Command.TheVariants as command
+use Rattle.key_index_flat.specs.declared.index.command.Outcome.{Outcome}
+use Rattle.key_index_flat.specs.declared.index.command.Outcome.TheVariants as outcome
+use Rattle.key_index_flat.specs.declared.index.command.Step.{Step}
+use Rattle.key_index_flat.specs.declared.index.command.Step.TheVariants as step
+use Rattle.key_index_flat.specs.Content.{Content, list_at, with_list, item_count}
+use Rattle.key_index_flat.specs.Fault.{growth_fault}
+use Rattle.key_index_flat.specs.Commands.{after_insert, after_remove, pruned_after}
+use Rattle.key_index_flat.specs.Cursor.{Place, NeedNext, IsOnValue, AllowsInsert, after_next, list_after_insert, place_after_insert, list_after_update, list_after_delete, place_after_delete}
+
+-- whether no value has room, at so many
+abbrev pub is_full : ℕ → Bool
+is_full items = nat_eq items (2 ^ 64 - 1)
+
+-- the list that a cursor is on, its place, and how many values were taken out
+pub record Edited (V : Type 0) : Type 0 where
+  pub items : List V
+  pub place : Place
+  pub taken : ℕ
+
+-- without this step
+abbrev pub Skipped : {V : Type 0} → Edited V → Edited V → Type 0
+Skipped s t = (t.items ≡ s.items) × (t.place ≡ s.place) × (t.taken ≡ s.taken)
+
+abbrev pub IsAt : {V : Type 0} → Edited V → List V → Place → ℕ → Type 0
+IsAt t l p n = (t.items ≡ l) × (t.place ≡ p) × (t.taken ≡ n)
+
+-- others: how many values the other index keys have
+abbrev pub StepGives : {V : Type 0} → ℕ → Step V → Bool → Edited V → Edited V → Type 0
+StepGives others step.Next true s t = IsAt t s.items (after_next s.items s.place) s.taken
+StepGives others step.Next false s t = ⊥
+StepGives others (step.Update v) true s t = IsOnValue s.place × IsAt t (list_after_update s.items s.place v) s.place s.taken
+StepGives others (step.Update v) false s t = ¬ (IsOnValue s.place) × Skipped s t
+StepGives others step.Delete true s t = IsOnValue s.place × IsAt t (list_after_delete s.items s.place) (place_after_delete s.place) (s.taken + 1)
+StepGives others step.Delete false s t = ¬ (IsOnValue s.place) × Skipped s t
+StepGives others (step.Insert v) true s t = AllowsInsert s.place × IsTrue (not (is_full (others + length s.items))) × IsAt t (list_after_insert s.items s.place v) (place_after_insert s.place) s.taken
+StepGives others (step.Insert v) false s t = Skipped s t
+
+abbrev pub EditGives : {V : Type 0} → ℕ → List (Step V) → List Bool → Edited V → Edited V → Type 0
+EditGives others [] [] s t = IsAt t s.items s.place s.taken
+EditGives others [] (b ∷ bs) s t = ⊥
+EditGives others (x ∷ xs) [] s t = ⊥
+EditGives {V = V} others (x ∷ xs) (b ∷ bs) s t = (m : Edited V) × StepGives others x b s m × EditGives others xs bs m t
+
+-- a content, and how many held values were ever taken out
+pub record Fold (K V : Type 0) : Type 0 where
+  pub content : Content K V
+  pub pruned : ℕ
+
+-- the fold at an index
+abbrev pub fold_of : {I K V : Type 0} → (I → Content K V) → (I → ℕ) → I → Fold K V
+fold_of content pruned index = record { content = content index; pruned = pruned index }
+
+abbrev pub Stays : {K V : Type 0} → Fold K V → Fold K V → Type 0
+Stays s t = (t.content ≡ s.content) × (t.pruned ≡ s.pruned)
+
+abbrev pub Becomes : {K V : Type 0} → Fold K V → Content K V → ℕ → Type 0
+Becomes t c p = (t.content ≡ c) × (t.pruned ≡ p)
+
+-- the list of a key that has no value
+abbrev pub one_if_absent : {V : Type 0} → V → List V → List V
+one_if_absent v [] = v ∷ []
+one_if_absent v (x ∷ xs) = x ∷ xs
+
+-- a key that has no value is not edited
+abbrev pub EditOf : {K V : Type 0} → (K → K → Ordering) → K → List V → List (Step V) → List Bool → Fold K V → Fold K V → Type 0
+EditOf cmp k [] steps flags s t = (flags ≡ map (λ x. false) steps) × Stays s t
+EditOf {V = V} cmp k (v ∷ vs) steps flags s t =
+    (e : Edited V) × EditGives (item_count (with_list cmp s.content k [])) steps flags (record { items = v ∷ vs; place = NeedNext 0; taken = 0 }) e
+    × Becomes t (with_list cmp s.content k e.items) (pruned_after s.pruned e.taken)
+
+-- slot: the index key of a key's bytes; first: whether a new value goes in front; ask: one question of a command's test on a value
+module _ {K V F : Type 0} (cmp : K → K → Ordering) (slot : List ℕ → K) (first : Bool) (ask : F → V → Bool → F → Type 0) where
+  abbrev pub CommandGives : Command V F → Outcome → Fold K V → Fold K V → Type 0
+  CommandGives (command.Insert key v) outcome.Done s t = IsTrue (not (is_full (item_count s.content))) × Becomes t (after_insert cmp first s.content (slot key.items) v) s.pruned
+  CommandGives (command.Insert key v) (outcome.Refused f) s t = (f ≡ growth_fault (item_count s.content)) × Stays s t
+  CommandGives (command.Insert key v) (outcome.Edited flags) s t = ⊥
+  CommandGives (command.Retain key test) outcome.Done s t =
+      (kept : List V) × IsFiltered ask test (list_at cmp s.content (slot key.items)) kept
+      × Becomes t (with_list cmp s.content (slot key.items) kept) (pruned_after s.pruned (length (list_at cmp s.content (slot key.items)) - length kept))
+  CommandGives (command.Retain key test) (outcome.Refused f) s t = (f ≡ Memory) × Stays s t
+  CommandGives (command.Retain key test) (outcome.Edited flags) s t = ⊥
+  CommandGives (command.Remove key) outcome.Done s t = Becomes t (after_remove cmp s.content (slot key.items)) (pruned_after s.pruned (length (list_at cmp s.content (slot key.items))))
+  CommandGives (command.Remove key) (outcome.Refused f) s t = (f ≡ Memory) × Stays s t
+  CommandGives (command.Remove key) (outcome.Edited flags) s t = ⊥
+  CommandGives (command.GetOrInsert key v) outcome.Done s t =
+      IsTrue (not (is_full (item_count s.content))) × Becomes t (with_list cmp s.content (slot key.items) (one_if_absent v (list_at cmp s.content (slot key.items)))) s.pruned
+  CommandGives (command.GetOrInsert key v) (outcome.Refused f) s t = (f ≡ growth_fault (item_count s.content)) × Stays s t
+  CommandGives (command.GetOrInsert key v) (outcome.Edited flags) s t = ⊥
+  CommandGives (command.Edit key steps) outcome.Done s t = ⊥
+  CommandGives (command.Edit key steps) (outcome.Refused f) s t = (f ≡ Memory) × Stays s t
+  CommandGives (command.Edit key steps) (outcome.Edited flags) s t = EditOf cmp (slot key.items) (list_at cmp s.content (slot key.items)) steps.items flags.items s t
+
+  abbrev pub IsLegal : List (Command V F) → List Outcome → Fold K V → Fold K V → Type 0
+  IsLegal [] [] s t = Stays s t
+  IsLegal [] (o ∷ os) s t = ⊥
+  IsLegal (c ∷ cs) [] s t = ⊥
+  IsLegal (c ∷ cs) (o ∷ os) s t = (m : Fold K V) × CommandGives c o s m × IsLegal cs os m t
+
+module _ {V F : Type 0} where
+  -- a place for the outcome of a command: for an edit with a flag of each step
+  abbrev pub HasRoom : Command V F → Outcome → Type 0
+  HasRoom (command.Insert key v) o = Unit {0}
+  HasRoom (command.Retain key test) o = Unit {0}
+  HasRoom (command.Remove key) o = Unit {0}
+  HasRoom (command.GetOrInsert key v) o = Unit {0}
+  HasRoom (command.Edit key steps) outcome.Done = ⊥
+  HasRoom (command.Edit key steps) (outcome.Refused f) = ⊥
+  HasRoom (command.Edit key steps) (outcome.Edited flags) = flags.items ≡ map (λ x. false) steps.items
+
+  abbrev pub HaveRoom : List (Command V F) → List Outcome → Type 0
+  HaveRoom [] [] = Unit {0}
+  HaveRoom [] (o ∷ os) = ⊥
+  HaveRoom (c ∷ cs) [] = ⊥
+  HaveRoom (c ∷ cs) (o ∷ os) = HasRoom c o × HaveRoom cs os

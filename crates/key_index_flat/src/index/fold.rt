@@ -1,0 +1,278 @@
+//! The run of a list of commands, proved once over any index.
+ghost use Rattle.std.specs.Prelude.{◌≡◌, ◌<◌, ℕ, List, [], false, not, map, length, IsTrue, IfOk, OnOk, OnErr, IfErr};
+ghost use Rattle.std.specs.Fn.{CalledAt};
+ghost use Rattle.key_index_flat.specs.Content.{list_at, with_list, item_count};
+ghost use Rattle.key_index_flat.specs.Commands.{pruned_after};
+ghost use Rattle.key_index_flat.specs.Cursor.{NeedNext};
+ghost use Rattle.key_index_flat.specs.CursorRun.{Steps, RunsSteps};
+ghost use Rattle.key_index_flat.specs.Edits.{Changed, SameIndex};
+ghost use Rattle.key_index_flat.specs.Fault.{growth_fault};
+ghost use Rattle.key_index_flat.specs.IndexCursor.{cursor_index};
+ghost use Rattle.key_index_flat.specs.Run.{is_full, IsLegal, fold_of, Stays, Becomes, one_if_absent, Edited, EditOf, EditGives, CommandGives, HasRoom, HaveRoom};
+
+use super::{Command, Cursor, Fault, IndexCursor, Outcome, Runs, Step, Unordered, reach};
+use std::alloc::Global;
+use std::mem;
+
+/// One flag for each step, and none set.
+fn unset<V>(alloc: Global, steps: &[Step<V>]) -> Result<Vec<bool>, Fault>
+    ensures flags { IfOk result (λ flags. flags.items ≡ map (λ x. false) steps.now) }
+    ensures fault { IfErr result (λ f. f ≡ Fault.Memory) }
+{
+    let mut flags = Vec::new(alloc);
+    if flags.resize(steps.len(), false).is_err() {
+        return Err(Fault::Memory);
+    }
+    Ok(flags)
+}
+
+/// Whether no value more has room in the index behind a cursor.
+fn is_full<I: Unordered>(cursor: &IndexCursor<'_, I>) -> bool
+    ensures { result ≡ is_full (item_count (I.content (cursor_index cursor.now).now)) }
+{
+    cursor.index.items() == usize::MAX
+}
+
+/// One step of an edit, and whether it was accepted.
+fn apply_step<I: Unordered>(cursor: &mut IndexCursor<'_, I>, step: Step<I::Value>) -> bool
+where
+    I::Value: Drop,
+    ensures { Steps step result cursor.old cursor.new }
+{
+    match step {
+        Step::Next => {
+            cursor.advance();
+            true
+        }
+        Step::Insert(value) => {
+            if !cursor.allows_insert() {
+                return false;
+            }
+            if is_full(cursor) {
+                return false;
+            }
+            cursor.insert(value).is_ok()
+        }
+        Step::Update(value) => {
+            if !cursor.is_on_value() {
+                return false;
+            }
+            cursor.update(value);
+            true
+        }
+        Step::Delete => {
+            if !cursor.is_on_value() {
+                return false;
+            }
+            cursor.delete();
+            true
+        }
+    }
+}
+
+/// The steps of an edit in turn.
+fn apply_steps<I: Unordered>(
+    cursor: &mut IndexCursor<'_, I>,
+    steps: Vec<Step<I::Value>>,
+    flags: &mut [bool],
+)
+where
+    I::Value: Drop,
+    requires { length flags.old ≡ length steps.items }
+    ensures { RunsSteps steps.items flags.new cursor.old cursor.new }
+{
+    let mut rest = steps.into_iter();
+    let mut at = 0;
+    'steps: while let Some(step) = rest.next() {
+        flags[at] = apply_step(cursor, step);
+        at += 1;
+    }
+}
+
+/// The steps of an edit in turn, from before the first value of an index key.
+fn edit_list<I: Unordered>(
+    index: &mut I,
+    slot: I::Key,
+    steps: Vec<Step<I::Value>>,
+    flags: &mut [bool],
+)
+where
+    I::Value: Drop,
+    requires admits { IsTrue (I.admitted index.old slot) }
+    requires held { 0 < length (list_at I.Key.cmp (I.content index.old) slot) }
+    requires room { length flags.old ≡ length steps.items }
+    ensures { (e : Edited I.Value) × EditGives (item_count (with_list I.Key.cmp (I.content index.old) slot [])) steps.items flags.new (record { items = list_at I.Key.cmp (I.content index.old) slot; place = NeedNext 0; taken = 0 }) e × Changed I.content I.slot I.admitted I.pruned_count index.old index.new (with_list I.Key.cmp (I.content index.old) slot e.items) (pruned_after (I.pruned_count index.old) e.taken) }
+{
+    let mut cursor = IndexCursor::new(index, slot);
+    apply_steps(&mut cursor, steps, flags);
+    cursor.close();
+}
+
+/// What `get_mut` does with a key before an edit, and then the edit.
+fn edit<I: Unordered>(
+    index: &mut I,
+    key: &[u8],
+    steps: Vec<Step<I::Value>>,
+    flags: &mut [bool],
+) -> Result<(), Fault>
+where
+    I::Value: Drop,
+    requires { flags.old ≡ map (λ x. false) steps.items }
+    ensures edited { OnOk result (EditOf I.Key.cmp (I.slot index.old key.now) (list_at I.Key.cmp (I.content index.old) (I.slot index.old key.now)) steps.items flags.new (fold_of I.content I.pruned_count index.old) (fold_of I.content I.pruned_count index.new)) }
+    ensures refused { OnErr result (Stays (fold_of I.content I.pruned_count index.old) (fold_of I.content I.pruned_count index.new)) }
+    ensures slots { I.slot index.new ≡ I.slot index.old }
+    ensures fault { IfErr result (λ f. f ≡ Fault.Memory) }
+{
+    match reach(index, key) {
+        Ok(true) => {
+            let slot = index.slot_of(key);
+            edit_list(index, slot, steps, flags);
+            Ok(())
+        }
+        Ok(false) => Ok(()),
+        Err(fault) => Err(fault),
+    }
+}
+
+/// What `get_mut_or_insert` does with a key and a value.
+fn get_or_insert<I: Unordered>(index: &mut I, key: &[u8], value: I::Value) -> Result<(), Fault>
+where
+    I::Value: Drop,
+    ensures room { OnOk result (IsTrue (not (is_full (item_count (I.content index.old))))) }
+    ensures accepted { OnOk result (Becomes (fold_of I.content I.pruned_count index.new) (with_list I.Key.cmp (I.content index.old) (I.slot index.old key.now) (one_if_absent value (list_at I.Key.cmp (I.content index.old) (I.slot index.old key.now)))) (I.pruned_count index.old)) }
+    ensures refused { OnErr result (Stays (fold_of I.content I.pruned_count index.old) (fold_of I.content I.pruned_count index.new)) }
+    ensures slots { I.slot index.new ≡ I.slot index.old }
+    ensures fault { IfErr result (λ f. f ≡ growth_fault (item_count (I.content index.old))) }
+{
+    if index.items() == usize::MAX {
+        return Err(Fault::Full);
+    }
+    match reach(index, key) {
+        Ok(true) => Ok(()),
+        Ok(false) => {
+            let slot = index.slot_of(key);
+            match index.insert_at(slot, 0, value) {
+                Ok(()) => Ok(()),
+                Err(refused) => Err(refused.fault),
+            }
+        }
+        Err(fault) => Err(fault),
+    }
+}
+
+/// One command, and what it came to.
+fn apply<I: Unordered, F: Fn(&I::Value) -> bool + Drop>(
+    index: &mut I,
+    command: Command<I::Value, F>,
+    room: Outcome,
+) -> Outcome
+where
+    I::Value: Drop,
+    requires callable { (f : F) → F.IsAlwaysCallable f }
+    requires room { HasRoom command room }
+    ensures gives { CommandGives I.Key.cmp (I.slot index.old) I.INSERT_FIRST (CalledAt F.FnMut) command result (fold_of I.content I.pruned_count index.old) (fold_of I.content I.pruned_count index.new) }
+    ensures slots { I.slot index.new ≡ I.slot index.old }
+{
+    match command {
+        Command::Insert(key, value) => match index.insert(key.as_slice(), value) {
+            Ok(()) => Outcome::Done,
+            Err(refused) => Outcome::Refused(refused.fault),
+        },
+        Command::Retain(key, test) => match index.retain(key.as_slice(), test) {
+            Ok(()) => Outcome::Done,
+            Err(fault) => Outcome::Refused(fault),
+        },
+        Command::Remove(key) => match index.remove(key.as_slice()) {
+            Ok(()) => Outcome::Done,
+            Err(fault) => Outcome::Refused(fault),
+        },
+        Command::GetOrInsert(key, value) => match get_or_insert(index, key.as_slice(), value) {
+            Ok(()) => Outcome::Done,
+            Err(fault) => Outcome::Refused(fault),
+        },
+        Command::Edit(key, steps) => match room {
+            Outcome::Edited(mut flags) => match edit(
+                index,
+                key.as_slice(),
+                steps,
+                flags.as_mut_slice(),
+            ) {
+                Ok(()) => Outcome::Edited(flags),
+                Err(fault) => Outcome::Refused(fault),
+            },
+            Outcome::Done => Outcome::Refused(Fault::Memory),
+            Outcome::Refused(fault) => Outcome::Refused(fault),
+        },
+    }
+}
+
+/// The commands in turn, with a place for the outcome of each.
+fn apply_all<I: Unordered, F: Fn(&I::Value) -> bool + Drop>(
+    index: &mut I,
+    commands: Vec<Command<I::Value, F>>,
+    outcomes: &mut [Outcome],
+)
+where
+    I::Value: Drop,
+    requires callable { (f : F) → F.IsAlwaysCallable f }
+    requires room { HaveRoom commands.items outcomes.old }
+    ensures { IsLegal I.Key.cmp (I.slot index.old) I.INSERT_FIRST (CalledAt F.FnMut) commands.items outcomes.new (fold_of I.content I.pruned_count index.old) (fold_of I.content I.pruned_count index.new) }
+{
+    let mut rest = commands.into_iter();
+    let mut at = 0;
+    'commands: while let Some(command) = rest.next() {
+        let room = mem::replace(&mut outcomes[at], Outcome::Done);
+        outcomes[at] = apply(index, command, room);
+        at += 1;
+    }
+}
+
+/// A place for the outcome of a command, with the memory that it takes.
+fn place_for<V, F>(alloc: Global, command: &Command<V, F>) -> Result<Outcome, Fault>
+    ensures room { IfOk result (λ outcome. HasRoom command.now outcome) }
+    ensures fault { IfErr result (λ f. f ≡ Fault.Memory) }
+{
+    match command {
+        Command::Edit(_, steps) => Ok(Outcome::Edited(unset(alloc, steps.as_slice())?)),
+        Command::Insert(_, _) => Ok(Outcome::Done),
+        Command::Retain(_, _) => Ok(Outcome::Done),
+        Command::Remove(_) => Ok(Outcome::Done),
+        Command::GetOrInsert(_, _) => Ok(Outcome::Done),
+    }
+}
+
+/// A place for the outcome of each command.
+fn room_for<V, F>(alloc: Global, commands: &[Command<V, F>]) -> Result<Vec<Outcome>, Fault>
+    ensures room { IfOk result (λ outcomes. HaveRoom commands.now outcomes.items) }
+    ensures fault { IfErr result (λ f. f ≡ Fault.Memory) }
+{
+    let Ok(mut outcomes) = Vec::with_capacity(alloc, commands.len()) else {
+        return Err(Fault::Memory);
+    };
+    'commands: for command in commands {
+        let outcome = place_for(alloc, command)?;
+        if outcomes.push(outcome).is_err() {
+            return Err(Fault::Memory);
+        }
+    }
+    Ok(outcomes)
+}
+
+/// Runs commands in order. The room for all outcomes is taken before the first command, and its refusal is the only `Err`: then
+/// nothing has changed. Else there is one outcome for each command, and the content is the fold of the accepted ones.
+pub fn run<I: Unordered, F: Fn(&I::Value) -> bool + Drop>(
+    alloc: Global,
+    index: &mut I,
+    commands: Vec<Command<I::Value, F>>,
+) -> Result<Vec<Outcome>, Fault>
+where
+    I::Value: Drop,
+    requires { (f : F) → F.IsAlwaysCallable f }
+    ensures legal { IfOk result (λ outcomes. IsLegal I.Key.cmp (I.slot index.old) I.INSERT_FIRST (CalledAt F.FnMut) commands.items outcomes.items (fold_of I.content I.pruned_count index.old) (fold_of I.content I.pruned_count index.new)) }
+    ensures refused { OnErr result (SameIndex I.content I.slot I.admitted I.pruned_count index.old index.new) }
+    ensures fault { IfErr result (λ f. f ≡ Fault.Memory) }
+{
+    let mut outcomes = room_for(alloc, commands.as_slice())?;
+    apply_all(index, commands, outcomes.as_mut_slice());
+    Ok(outcomes)
+}

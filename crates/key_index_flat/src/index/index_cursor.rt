@@ -1,0 +1,210 @@
+//! The cursor of every index, proved once over the lists of any.
+ghost use Rattle.std.specs.Prelude.{◌≡◌, ◌<◌, ◌≤◌, length, true, IsTrue};
+ghost use Rattle.key_index_flat.specs.Content.{list_at};
+ghost use Rattle.key_index_flat.specs.declared.index.cursor.CursorState.TheVariants.{Active};
+
+use super::{Cursor, CursorState, Refused, Runs};
+
+/// The cursor of every index: a place in the list of one index key. While it lives, the index is changed through it alone; its drop
+/// does no work. It keeps the length of the list, so that `next` looks the key up once.
+#[derive(Drop)]
+pub struct IndexCursor<'a, I: Runs> {
+    pub(crate) index: &'a mut I,
+    pub(crate) key: I::Key,
+    pub(crate) place: usize,
+    pub(crate) len: usize,
+    pub(crate) state: CursorState,
+    ghost known: { len ≡ length (list_at I.Key.cmp (I.content index.now) key) },
+    ghost admits: { IsTrue (I.admitted index.now key) },
+    ghost within: { place ≤ len },
+    ghost active: { state ≡ Active → place < len },
+}
+
+impl<'a, I: Runs> IndexCursor<'a, I> {
+    ghost use Rattle.std.specs.Prelude.{◌≡◌, ◌<◌, ◌≤◌, ◌↔◌, length, slice_get, Some, IsTrue};
+    ghost use Rattle.key_index_flat.specs.Content.{list_at};
+    ghost use Rattle.key_index_flat.specs.Cursor.{NeedNext, next_place, place_from, after_next, IsOnValue, AllowsInsert};
+    ghost use Rattle.key_index_flat.specs.IndexCursor.{cursor_index, cursor_key, cursor_list, cursor_place, StaysAt};
+
+    /// A cursor before the first value of an index key.
+    pub fn new(index: &'a mut I, key: I::Key) -> IndexCursor<'a, I>
+        requires admits { IsTrue (I.admitted index.old key) }
+        requires held { 0 < length (list_at I.Key.cmp (I.content index.old) key) }
+        ensures same_reference { (cursor_index result).ghost_name ≡ index.entry.ghost_name }
+        ensures same_index { (cursor_index result).now ≡ index.old }
+        ensures start { (cursor_key result ≡ key) × (cursor_place result ≡ NeedNext 0) }
+    {
+        let len = index.run_len(key);
+        IndexCursor::with_len(index, key, len)
+    }
+
+    /// The same, where the length of the list is known: it saves a look-up.
+    pub fn with_len(index: &'a mut I, key: I::Key, len: usize) -> IndexCursor<'a, I>
+        requires admits { IsTrue (I.admitted index.old key) }
+        requires known { len ≡ length (list_at I.Key.cmp (I.content index.old) key) }
+        requires held { 0 < len }
+        ensures same_reference { (cursor_index result).ghost_name ≡ index.entry.ghost_name }
+        ensures same_index { (cursor_index result).now ≡ index.old }
+        ensures start { (cursor_key result ≡ key) × (cursor_place result ≡ NeedNext 0) }
+    {
+        IndexCursor {
+            index,
+            key,
+            place: 0,
+            len,
+            state: CursorState::NeedNext,
+        }
+    }
+
+    /// Lets the index go. The drop of a cursor does the same.
+    pub fn close(self)
+        ensures rests { self.exit.0.now ≡ (cursor_index self.entry).now }
+    {}
+
+    /// The value that the cursor is on.
+    #[inline]
+    fn current(&self) -> &I::Value
+        requires { self.now.state ≡ CursorState.Active }
+        ensures { slice_get (list_at I.Key.cmp (I.content (cursor_index self.now).now) (cursor_key self.now)) self.now.place ≡ Some result.now }
+    {
+        self.index.value_at(self.key, self.place)
+    }
+
+    /// The place of the value that `next` would give.
+    #[inline]
+    fn next_place(&self) -> usize
+        ensures next { result ≡ next_place (cursor_list self.now) (cursor_place self.now) }
+        ensures within { result ≤ self.now.len }
+    {
+        let len = self.len;
+        match self.state {
+            CursorState::NeedNext => self.place,
+            CursorState::Active => self.place + 1,
+            CursorState::Done => len,
+        }
+    }
+
+    /// Whether it is on a value.
+    #[inline]
+    pub(crate) fn is_on_value(&self) -> bool
+        ensures { IsTrue result ↔ IsOnValue (cursor_place self.now) }
+    {
+        match self.state {
+            CursorState::Active => true,
+            CursorState::NeedNext => false,
+            CursorState::Done => false,
+        }
+    }
+
+    /// Whether `insert` is allowed.
+    #[inline]
+    pub(crate) fn allows_insert(&self) -> bool
+        ensures { IsTrue result ↔ AllowsInsert (cursor_place self.now) }
+    {
+        match self.state {
+            CursorState::Active => true,
+            CursorState::NeedNext => false,
+            CursorState::Done => true,
+        }
+    }
+
+    /// Goes where `next` goes.
+    #[inline]
+    pub(crate) fn advance(&mut self)
+        ensures place { cursor_place self.new ≡ after_next (cursor_list self.old) (cursor_place self.old) }
+        ensures stays { StaysAt self.old self.new }
+    {
+        let place = self.next_place();
+        self.go(place);
+    }
+
+    /// Goes to a place, or past the end where there is none such.
+    #[inline]
+    fn go(&mut self, place: usize)
+        ensures place { cursor_place self.new ≡ place_from (cursor_list self.old) place }
+        ensures stays { StaysAt self.old self.new }
+        ensures active { self.new.state ≡ CursorState.Active → self.new.place ≡ place }
+    {
+        if place < self.len {
+            self.place = place;
+            self.state = CursorState::Active;
+        } else {
+            self.state = CursorState::Done;
+        }
+    }
+}
+
+impl<'a, I: Runs> Cursor for IndexCursor<'a, I>
+where
+    I::Value: Drop,
+{
+    ghost use Rattle.key_index_flat.specs.IndexCursor.{cursor_list, cursor_place, StaysAt, EditsIndex};
+
+    type Value = I::Value;
+
+    ghost items = { λ c. cursor_list c };
+
+    ghost place = { λ c. cursor_place c };
+
+    ghost stays = { λ old new. StaysAt old new };
+
+    ghost edited = { λ old new taken. EditsIndex old new taken };
+
+    fn state(&self) -> CursorState {
+        self.state
+    }
+
+    fn next(&mut self) -> Option<&I::Value> {
+        let place = self.next_place();
+        self.go(place);
+        if self.state != CursorState::Active {
+            return None;
+        }
+        Some(self.current())
+    }
+
+    fn insert(&mut self, value: I::Value) -> Result<(), Refused<I::Value>> {
+        let place = self.next_place();
+        self.index.insert_at(self.key, place, value)?;
+        self.len += 1;
+        if self.state == CursorState::Active {
+            self.place += 2;
+            self.state = CursorState::NeedNext;
+        }
+        Ok(())
+    }
+
+    fn delete(&mut self) {
+        self.index.remove_at(self.key, self.place);
+        self.len -= 1;
+        self.state = CursorState::NeedNext;
+    }
+
+    fn update(&mut self, value: I::Value) {
+        self.index.set_at(self.key, self.place, value);
+    }
+
+    fn retain<F: FnMut(&I::Value) -> bool>(&mut self, mut should_retain: F) {
+        let mut place = self.next_place();
+        self.place = 0;
+        self.state = CursorState::Done;
+        while place < self.len {
+            if should_retain(self.index.value_at(self.key, place)) {
+                place += 1;
+            } else {
+                self.index.remove_at(self.key, place);
+                self.len -= 1;
+            }
+        }
+    }
+
+    fn find<F: FnMut(&I::Value) -> bool>(&mut self, mut predicate: F) -> bool {
+        let len = self.len;
+        let mut place = self.next_place();
+        while place < len && !predicate(self.index.value_at(self.key, place)) {
+            place += 1;
+        }
+        self.go(place);
+        place < len
+    }
+}

@@ -1,0 +1,200 @@
+//! Lists of commands, run over any index through one function.
+use key_index_flat::index::unordered::Index;
+use key_index_flat::index::{Command, Factory, Outcome, Step, Unordered, run};
+use key_index_flat::translator::OneCap;
+use std::alloc::Global;
+use std::process::Abort;
+use std::test::Fail;
+
+/// A key of one byte.
+fn key(alloc: Global, byte: u8) -> Result<Vec<u8>, Fail> {
+    let mut key = Vec::new(alloc);
+    key.push(byte)?;
+    Ok(key)
+}
+
+/// Whether a command was done.
+fn is_done(outcome: Option<&Outcome>) -> bool {
+    match outcome {
+        Some(Outcome::Done) => true,
+        _ => false,
+    }
+}
+
+/// Whether an edit came to these flags.
+fn has_flags(outcome: Option<&Outcome>, flags: &[bool]) -> bool {
+    match outcome {
+        Some(Outcome::Edited(given)) => given.iter().copied().eq(flags.iter().copied()),
+        _ => false,
+    }
+}
+
+/// The list 3, 1, 2 under the byte k.
+fn three<I: Unordered<Value = u64> + Factory + Drop>(
+    alloc: Global,
+    translator: I::Translator,
+) -> Result<I, Fail> {
+    let mut index = I::new(alloc, translator)?;
+    index.insert(b"k", 2)?;
+    index.insert(b"k", 1)?;
+    index.insert(b"k", 3)?;
+    Ok(index)
+}
+
+/// Next 3, delete, next 1, insert 9, next 2, next none, insert 7.
+fn edited<I: Unordered<Value = u64> + Factory + Drop>(
+    rt: &impl Abort,
+    alloc: Global,
+    translator: I::Translator,
+) -> Result<(), Fail> {
+    let mut index = three::<I>(alloc, translator)?;
+    let mut steps = Vec::new(alloc);
+    for step in [
+        Step::Next,
+        Step::Delete,
+        Step::Next,
+        Step::Insert(9),
+        Step::Next,
+        Step::Next,
+        Step::Insert(7),
+    ] {
+        steps.push(step)?;
+    }
+    let mut commands = Vec::new(alloc);
+    commands.push(Command::Edit(key(alloc, b'k')?, steps))?;
+    commands.push(Command::Retain(key(alloc, b'j')?, |value: &u64| *value == 8))?;
+    let outcomes = run(alloc, &mut index, commands)?;
+    assert!(rt; has_flags(outcomes.get(0), &[true, true, true, true, true, true, true]));
+    assert!(rt; index.get(b"k").copied().eq([1, 9, 2, 7]));
+    assert_eq!(rt; (index.keys(), index.items(), index.pruned()), (1, 4, 1));
+    Ok(())
+}
+
+#[test]
+fn flat_is_edited(rt: HostRuntime) -> Result<(), Fail> {
+    edited::<Index<OneCap, u64>>(&rt, rt.alloc(), OneCap)
+}
+
+#[test]
+fn plain_is_edited(rt: HostRuntime) -> Result<(), Fail> {
+    edited::<key_index_plain::Index<OneCap, u64>>(&rt, rt.alloc(), OneCap)
+}
+
+/// The list 5: next 5, delete, next none, insert 6.
+fn emptied<I: Unordered<Value = u64> + Factory + Drop>(
+    rt: &impl Abort,
+    alloc: Global,
+    translator: I::Translator,
+) -> Result<(), Fail> {
+    let mut index = I::new(alloc, translator)?;
+    index.insert(b"k", 5)?;
+    let mut steps = Vec::new(alloc);
+    for step in [
+        Step::Next,
+        Step::Delete,
+        Step::Insert(4),
+        Step::Next,
+        Step::Insert(6),
+    ] {
+        steps.push(step)?;
+    }
+    let mut commands = Vec::new(alloc);
+    commands.push(Command::Edit(key(alloc, b'k')?, steps))?;
+    commands.push(Command::Retain(key(alloc, b'j')?, |value: &u64| *value == 8))?;
+    let outcomes = run(alloc, &mut index, commands)?;
+    assert!(rt; has_flags(outcomes.get(0), &[true, true, false, true, true]));
+    assert!(rt; index.get(b"k").copied().eq([6]));
+    assert_eq!(rt; (index.keys(), index.items(), index.pruned()), (1, 1, 1));
+    Ok(())
+}
+
+#[test]
+fn flat_is_emptied(rt: HostRuntime) -> Result<(), Fail> {
+    emptied::<Index<OneCap, u64>>(&rt, rt.alloc(), OneCap)
+}
+
+#[test]
+fn plain_is_emptied(rt: HostRuntime) -> Result<(), Fail> {
+    emptied::<key_index_plain::Index<OneCap, u64>>(&rt, rt.alloc(), OneCap)
+}
+
+/// Each command once, on an empty index.
+fn each_command<I: Unordered<Value = u64> + Factory + Drop>(
+    rt: &impl Abort,
+    alloc: Global,
+    translator: I::Translator,
+) -> Result<(), Fail> {
+    let mut index = I::new(alloc, translator)?;
+    let mut commands = Vec::new(alloc);
+    commands.push(Command::Insert(key(alloc, b'k')?, 1))?;
+    commands.push(Command::GetOrInsert(key(alloc, b'j')?, 4))?;
+    let mut steps = Vec::new(alloc);
+    for step in [
+        Step::Update(9),
+        Step::Next,
+        Step::Update(8),
+        Step::Insert(7),
+    ] {
+        steps.push(step)?;
+    }
+    commands.push(Command::Edit(key(alloc, b'k')?, steps))?;
+    commands.push(Command::Remove(key(alloc, b'j')?))?;
+    commands.push(Command::Retain(key(alloc, b'k')?, |value: &u64| *value == 8))?;
+    let mut steps = Vec::new(alloc);
+    steps.push(Step::Next)?;
+    commands.push(Command::Edit(key(alloc, b'j')?, steps))?;
+    let outcomes = run(alloc, &mut index, commands)?;
+    assert_eq!(rt; outcomes.len(), 6);
+    assert!(rt; is_done(outcomes.get(0)));
+    assert!(rt; is_done(outcomes.get(1)));
+    assert!(rt; has_flags(outcomes.get(2), &[false, true, true, true]));
+    assert!(rt; is_done(outcomes.get(3)));
+    assert!(rt; is_done(outcomes.get(4)));
+    assert!(rt; has_flags(outcomes.get(5), &[false]));
+    assert!(rt; index.get(b"k").copied().eq([8]));
+    assert_eq!(rt; (index.keys(), index.items(), index.pruned()), (1, 1, 2));
+    Ok(())
+}
+
+#[test]
+fn flat_runs_each_command(rt: HostRuntime) -> Result<(), Fail> {
+    each_command::<Index<OneCap, u64>>(&rt, rt.alloc(), OneCap)
+}
+
+#[test]
+fn plain_runs_each_command(rt: HostRuntime) -> Result<(), Fail> {
+    each_command::<key_index_plain::Index<OneCap, u64>>(&rt, rt.alloc(), OneCap)
+}
+
+/// A closure that changes its mind, and a key that is held already.
+fn kept<I: Unordered<Value = u64> + Factory + Drop>(
+    rt: &impl Abort,
+    alloc: Global,
+    translator: I::Translator,
+) -> Result<(), Fail> {
+    let mut index = three::<I>(alloc, translator)?;
+    let mut keeps = false;
+    index.retain(b"k", |_value: &u64| {
+        keeps = !keeps;
+        keeps
+    })?;
+    assert!(rt; index.get(b"k").copied().eq([3, 2]));
+    assert_eq!(rt; (index.keys(), index.items(), index.pruned()), (1, 2, 1));
+    assert!(rt; index.get_mut_or_insert(b"k", 8)?.is_some());
+    assert_eq!(rt; index.items(), 2);
+    assert!(rt; index.get_mut_or_insert(b"j", 8)?.is_none());
+    assert!(rt; index.get(b"j").copied().eq([8]));
+    assert!(rt; index.get_mut(b"j")?.is_some());
+    assert!(rt; index.get_mut(b"i")?.is_none());
+    Ok(())
+}
+
+#[test]
+fn flat_keeps_what_is_answered(rt: HostRuntime) -> Result<(), Fail> {
+    kept::<Index<OneCap, u64>>(&rt, rt.alloc(), OneCap)
+}
+
+#[test]
+fn plain_keeps_what_is_answered(rt: HostRuntime) -> Result<(), Fail> {
+    kept::<key_index_plain::Index<OneCap, u64>>(&rt, rt.alloc(), OneCap)
+}
