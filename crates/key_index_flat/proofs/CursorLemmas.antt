@@ -1,7 +1,5 @@
 -- What the calls of a cursor leave of a content, of the count of pruned values, and of a list.
 --     list_at-with_list_same      the list that was put at a key is read there
---     with_list-same              the list that is there changes nothing
---     with_list-twice             of two lists at one key the second stays
 --     length-list_at              no list is longer than all of them
 --     pruned_none, pruned_twice   no value more, and some more twice
 --     chain_more                  some steps and one more
@@ -32,20 +30,7 @@ use Rattle.std.specs.declared.cmp.PartialEq as eq
 use Rattle.std.specs.declared.cmp.PartialOrd as partial
 use denote.Enum.Bare.{sameb}
 use Rattle.key_index_flat.specs.Laws.{IsLawful-with_list}
-use Rattle.key_index_flat.proofs.ContentLemmas.{list_at-with_list, same_content, item_count-with_list}
-
-tie : (r : Ordering) → is_eq r ≡ true → r ≡ Equal
-tie Less p = absurd (subst T (sym p) tt)
-tie Equal p = refl
-tie Greater p = absurd (subst T (sym p) tt)
-
-cond_same : {A : Type 0} (b : Bool) (x : A) → cond b x x ≡ x
-cond_same true x = refl
-cond_same false x = refl
-
-cond_twice : {A : Type 0} (b : Bool) (x y z : A) → cond b x (cond b y z) ≡ cond b x z
-cond_twice true x y z = refl
-cond_twice false x y z = refl
+use Rattle.key_index_flat.proofs.ContentLemmas.{list_at-with_list, item_count-with_list, with_list-same, with_list-twice}
 
 module _ {K V : Type 0} {cmp : K → K → Ordering} (o : IsTotalOrder cmp) where
   pub list_at-with_list_same : (c : Content K V) (k : K) (l : List V) → list_at cmp (with_list cmp c k l) k ≡ l
@@ -63,32 +48,13 @@ module _ {K V : Type 0} {cmp : K → K → Ordering} (o : IsTotalOrder cmp) wher
   length-list_at c k h = let e = item_count-with_list o c k [] h in omega (arith, e)
 
   module _ (exact : (x y : K) → cmp x y ≡ Equal → x ≡ y) where
-    same_at : (c : Content K V) (k q : K) → cond (eq_by_cmp cmp q k) (list_at cmp c k) (list_at cmp c q) ≡ list_at cmp c q
-    same_at c k q =
-        elim (eq_by_cmp cmp q k) as (λ b. eq_by_cmp cmp q k ≡ b → cond b (list_at cmp c k) (list_at cmp c q) ≡ list_at cmp c q) [
-          | true ↦ λ p. ap (λ x. list_at cmp c x) (sym (exact q k (tie _ p)))
-          | false ↦ λ p. refl
-        ] refl
-
-    pub with_list-same : (c : Content K V) (k : K) → IsLawful cmp c → with_list cmp c k (list_at cmp c k) ≡ c
-    with_list-same c k h =
-        same_content o exact _ _ (IsLawful-with_list o c k (list_at cmp c k) h) h (λ q. list_at-with_list o c k (list_at cmp c k) q ∙ same_at c k q)
-
-    pub with_list-twice : (c : Content K V) (k : K) (l m : List V) → IsLawful cmp c → with_list cmp (with_list cmp c k l) k m ≡ with_list cmp c k m
-    with_list-twice c k l m h =
-        same_content o exact _ _ (IsLawful-with_list o _ k m (IsLawful-with_list o c k l h)) (IsLawful-with_list o c k m h) (λ q.
-        list_at-with_list o (with_list cmp c k l) k m q
-        ∙ ap (λ x. cond (eq_by_cmp cmp q k) m x) (list_at-with_list o c k l q)
-        ∙ cond_twice (eq_by_cmp cmp q k) m l (list_at cmp c q)
-        ∙ sym (list_at-with_list o c k m q))
-
     -- a content that stays is what its own list at a key makes of it
     pub same_edit : (c d : Content K V) (k : K) → IsLawful cmp c → d ≡ c → d ≡ with_list cmp c k (list_at cmp d k)
-    same_edit c d k h e = e ∙ sym (with_list-same c k h) ∙ ap (λ x. with_list cmp c k (list_at cmp x k)) (sym e)
+    same_edit c d k h e = e ∙ sym (with_list-same o exact c k h) ∙ ap (λ x. with_list cmp c k (list_at cmp x k)) (sym e)
 
     -- one more edit of the list that a content was made by
     pub edit_more : (c d e : Content K V) (k : K) (l m : List V) → IsLawful cmp c → d ≡ with_list cmp c k l → e ≡ with_list cmp d k m → e ≡ with_list cmp c k (list_at cmp e k)
-    edit_more c d e k l m h p q = edit_at c e k m (q ∙ ap (λ x. with_list cmp x k m) p ∙ with_list-twice c k l m h)
+    edit_more c d e k l m h p q = edit_at c e k m (q ∙ ap (λ x. with_list cmp x k m) p ∙ with_list-twice o exact c k l m h)
 
 pub pruned_none : (p : ℕ) → p ≡ pruned_after p 0
 pruned_none p = omega arith

@@ -1,5 +1,6 @@
 -- What a run of steps and of commands is made of.
---     not_full, if_false          what a test that said false tells
+--     not_full                    where another value has room
+--     if_false                    what a test that said false tells
 --     stays_edits, edits_more     a cursor that stays has edited nothing; one edit of its list after another
 --     insert_steps                what `insert` of a cursor is as a step
 --     RunTo                       the steps of an edit so far: run_first, run_more, run_all
@@ -8,9 +9,10 @@
 --     held_stays                  a key that has a value is left as it is
 --     room_more, room_length      places for outcomes
 --     LegalTo                     the commands so far: legal_first, legal_more, legal_all
-use Rattle.std.proofs.Common.{◌≡◌, ℕ, ◌+◌, suc, ◌-◌, ◌<◌, map, replicate, Bool, true, false, if◌then◌else◌, not, IsTrue, List, [], ◌∷◌, ◌++◌, length, take, drop, drop-cons, get_or, set, zero-add, add-one, append_assoc, append-nil, length-set, refl, sym, ap, subst, ◌∙◌, arith}
+use Rattle.std.proofs.Common.{◌≡◌, ℕ, ◌+◌, suc, ◌-◌, ◌<◌, ◌^◌, map, replicate, Bool, true, false, if◌then◌else◌, not, IsTrue, List, [], ◌∷◌, ◌++◌, length, take, drop, drop-cons, get_or, set, zero-add, add-one, append_assoc, append-nil, length-set, refl, sym, ap, subst, ◌∙◌, arith}
 use Rattle.std.proofs.Math.Seq.{take-suc}
 use Rattle.std.proofs.lemmas.List.{take_all, take_more_set, take-set}
+use Rattle.std.proofs.lemmas.Bool.{eqb-true}
 use Rattle.std.proofs.lemmas.Grind.{common_steps}
 use Rattle.std.specs.declared.cmp.Ordering.{Ordering}
 use Rattle.std.specs.declared.cmp.Ordering.TheVariants.{Equal}
@@ -33,11 +35,15 @@ use Rattle.key_index_flat.specs.declared.index.command.Step.TheVariants as step
 use Rattle.key_index_flat.specs.Cursor.{NeedNext, AllowsInsert, list_after_insert, place_after_insert}
 use Rattle.key_index_flat.specs.CursorRun.{others_of, edited_at, Steps, RunsSteps}
 use Rattle.key_index_flat.specs.Run.{is_full, one_if_absent, Fold, CommandGives, IsLegal, Edited, StepGives, EditGives, HasRoom, HaveRoom}
-use Rattle.key_index_flat.proofs.ContentLemmas.{item_count-with_list}
-use Rattle.key_index_flat.proofs.CursorLemmas.{with_list-same, with_list-twice, pruned_none, pruned_twice}
+use Rattle.key_index_flat.proofs.ContentLemmas.{item_count-with_list, with_list-same, with_list-twice}
+use Rattle.key_index_flat.proofs.CursorLemmas.{pruned_none, pruned_twice}
 
-pub not_full : (b : Bool) (m n : ℕ) → b ≡ is_full m → m ≡ n → b ≡ false → IsTrue (not (is_full n))
-not_full b m n e k f = subst (λ x. IsTrue (not x)) (sym (ap (λ x. is_full x) (sym k) ∙ sym e ∙ f)) refl
+pub not_full : (m n : ℕ) → m < 2 ^ 64 - 1 → m ≡ n → IsTrue (not (is_full n))
+not_full m n h e =
+    elim (is_full n) as (λ b. is_full n ≡ b → not b ≡ true) [
+      | true ↦ λ p. let same = eqb-true n (2 ^ 64 - 1) p in absurd (omega (arith, h, e, same))
+      | false ↦ λ p. refl
+    ] refl
 
 pub if_false : {A : Type 0} (b : Bool) → b ≡ false → (A → IsTrue b) → ¬ A
 if_false b e f a = let h : false ≡ true = sym e ∙ f a in absurd (cc h)
@@ -71,16 +77,16 @@ module _ {I V K : Type 0} {r : runs.Ghosts I V K} {o : ord.Ghosts K} {e : eq.Gho
     pub all_items : item_count (r.content old.index.now) ≡ others_of old + length (cursor_list old)
     all_items = let n = item_count-with_list total (r.content old.index.now) old.key [] lawful in omega (arith, n)
 
-    pub insert_steps : {X : Type 0} (new : IndexCursor I V K r o e p) (v : V) (b full : Bool) (answer : Result (Unit {0}) X) → b ≡ is_ok answer
-        → AllowsInsert (cursor_place old) → full ≡ is_full (item_count (r.content old.index.now)) → full ≡ false
+    pub insert_steps : {X : Type 0} (new : IndexCursor I V K r o e p) (v : V) (b : Bool) (answer : Result (Unit {0}) X) → b ≡ is_ok answer
+        → AllowsInsert (cursor_place old) → OnOk answer (item_count (r.content old.index.now) < 2 ^ 64 - 1)
         → OnOk answer (cursor_list new ≡ list_after_insert (cursor_list old) (cursor_place old) v) → OnOk answer (cursor_place new ≡ place_after_insert (cursor_place old))
         → OnErr answer ((cursor_list new ≡ cursor_list old) × (cursor_place new ≡ cursor_place old)) → EditsIndex old new 0 → Steps (step.Insert v) b old new
-    insert_steps new v b full (Ok u) said allows is not items place refused edits = subst (λ x. Steps (step.Insert v) x old new) (sym said) (record {
+    insert_steps new v b (Ok u) said allows room items place refused edits = subst (λ x. Steps (step.Insert v) x old new) (sym said) (record {
       taken = 0;
       edits = edits;
-      gives = λ before. (allows, not_full full _ _ is all_items not, (items, place, none_more before));
+      gives = λ before. (allows, not_full _ _ room all_items, (items, place, none_more before));
     })
-    insert_steps new v b full (Err x) said allows is not items place refused edits = subst (λ x. Steps (step.Insert v) x old new) (sym said) (record {
+    insert_steps new v b (Err x) said allows room items place refused edits = subst (λ x. Steps (step.Insert v) x old new) (sym said) (record {
       taken = 0;
       edits = edits;
       gives = λ before. (refused.0, refused.1, none_more before);

@@ -5,6 +5,7 @@ ghost use Rattle.std.specs.Fn.{CalledAt};
 ghost use Rattle.std.specs.Option.{option_copied};
 ghost use Rattle.key_index_flat.specs.Cursor.{Place, after_next, value_next, list_after_insert, place_after_insert, list_after_update, list_after_delete, place_after_delete, Retains, Finds, FindsNone, IsOnValue, AllowsInsert, Done};
 ghost use Rattle.key_index_flat.specs.CursorState.{state_of};
+ghost use Rattle.key_index_flat.specs.Fault.{growth_fault};
 ghost use mathlib.Core.Option.{none};
 
 use super::Refused;
@@ -20,14 +21,17 @@ pub enum CursorState {
     Done,
 }
 
-/// A cursor over one list. Its `items` is the list and its `place` where it stands; `stays` relates it before and after a call that
-/// changes no value, and `edited` before and after one that does, by how many values were taken out.
+/// A cursor over one list. Its `items` is the list and its `place` where it stands, `held` is how many values there are of all keys;
+/// `stays` relates it before and after a call that changes no value, and `edited` before and after one that does, by how many values
+/// were taken out.
 pub trait Cursor {
     type Value;
 
     ghost items: { Self → List Self.Value };
 
     ghost place: { Self → Place };
+
+    ghost held: { Self → ℕ };
 
     ghost stays: { Self → Self → Type 0 };
 
@@ -42,13 +46,16 @@ pub trait Cursor {
         ensures* moves { sem 𝓛 (follows_so Self.row Self.row self.entry.ghost_name none (λ _ _. Unit {0}) (λ v. (items v ≡ items self.old) × (place v ≡ after_next (items self.old) (place self.old)) × stays self.old v)) }
         ensures value { option_copied result ≡ value_next (items self.old) (place self.old) };
 
-    /// Puts a value behind the one that the cursor is on, or last. `next` then gives the value behind it.
+    /// Puts a value behind the one that the cursor is on, or last. `next` then gives the value behind it. A refusal hands the value
+    /// back: `Full` exactly where `usize::MAX` values are held, and else `Memory`.
     fn insert(&mut self, value: Self::Value) -> Result<(), Refused<Self::Value>>
         requires { AllowsInsert (place self.old) }
         ensures items { OnOk result (items self.new ≡ list_after_insert (items self.old) (place self.old) value) }
         ensures place { OnOk result (place self.new ≡ place_after_insert (place self.old)) }
         ensures refused { OnErr result ((items self.new ≡ items self.old) × (place self.new ≡ place self.old)) }
+        ensures room { OnOk result (held self.old < usize.MAX) }
         ensures returned { IfErr result (λ r. r.value ≡ value) }
+        ensures fault { IfErr result (λ r. r.fault ≡ growth_fault (held self.old)) }
         ensures edited { edited self.old self.new 0 };
 
     /// Takes the value that the cursor is on out. `next` then gives the one behind it.

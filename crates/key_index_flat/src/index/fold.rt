@@ -7,7 +7,6 @@ ghost use Rattle.key_index_flat.specs.Cursor.{NeedNext};
 ghost use Rattle.key_index_flat.specs.CursorRun.{Steps, RunsSteps};
 ghost use Rattle.key_index_flat.specs.Edits.{Changed, SameIndex};
 ghost use Rattle.key_index_flat.specs.Fault.{growth_fault};
-ghost use Rattle.key_index_flat.specs.IndexCursor.{cursor_index};
 ghost use Rattle.key_index_flat.specs.Run.{is_full, IsLegal, fold_of, Stays, Becomes, one_if_absent, Edited, EditOf, EditGives, CommandGives, HasRoom, HaveRoom};
 
 use super::{Command, Cursor, Fault, IndexCursor, Outcome, Runs, Step, Unordered, reach};
@@ -26,13 +25,6 @@ fn unset<V>(alloc: Global, steps: &[Step<V>]) -> Result<Vec<bool>, Fault>
     Ok(flags)
 }
 
-/// Whether no value more has room in the index behind a cursor.
-fn is_full<I: Unordered>(cursor: &IndexCursor<'_, I>) -> bool
-    ensures { result ≡ is_full (item_count (I.content (cursor_index cursor.now).now)) }
-{
-    cursor.index.items() == usize::MAX
-}
-
 /// One step of an edit, and whether it was accepted.
 fn apply_step<I: Unordered>(cursor: &mut IndexCursor<'_, I>, step: Step<I::Value>) -> bool
 where
@@ -46,9 +38,6 @@ where
         }
         Step::Insert(value) => {
             if !cursor.allows_insert() {
-                return false;
-            }
-            if is_full(cursor) {
                 return false;
             }
             cursor.insert(value).is_ok()

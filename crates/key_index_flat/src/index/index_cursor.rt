@@ -138,13 +138,16 @@ impl<'a, I: Runs> Cursor for IndexCursor<'a, I>
 where
     I::Value: Drop,
 {
-    ghost use Rattle.key_index_flat.specs.IndexCursor.{cursor_list, cursor_place, StaysAt, EditsIndex};
+    ghost use Rattle.key_index_flat.specs.Content.{item_count};
+    ghost use Rattle.key_index_flat.specs.IndexCursor.{cursor_index, cursor_list, cursor_place, StaysAt, EditsIndex};
 
     type Value = I::Value;
 
     ghost items = { λ c. cursor_list c };
 
     ghost place = { λ c. cursor_place c };
+
+    ghost held = { λ c. item_count (I.content (cursor_index c).now) };
 
     ghost stays = { λ old new. StaysAt old new };
 

@@ -22,15 +22,6 @@ returns-then-not-allows_insert g c =
       gives = λ before. (refl, refl, none_more before);
     })
 
-pub returns-then-is_full : goal.returns-then-is_full
-returns-then-is_full g c =
-    let old = c.args.cursor.now in
-    subst (λ s. Steps s false old old) (sym c.in-Insert.is) (record {
-      taken = 0;
-      edits = stays_edits g.met.I.Key.Ord.total g.met.I.Runs.exact old (g.met.I.Runs.lawful old.index.now) old (refl, refl, refl);
-      gives = λ before. (refl, refl, none_more before);
-    })
-
 pub returns-then-not-is_on_value : goal.returns-then-not-is_on_value
 returns-then-not-is_on_value g c =
     let old = c.args.cursor.now in
@@ -49,11 +40,11 @@ returns-then-not-is_on_value-2 g c =
       gives = λ before. (if_false _ c.if-not-is_on_value-2.true c.is_on_value-in-Delete.ensures.1, (refl, refl, none_more before));
     })
 
-pub returns-else-is_full : goal.returns-else-is_full
-returns-else-is_full g c =
+pub returns-else-not-allows_insert : goal.returns-else-not-allows_insert
+returns-else-not-allows_insert g c =
     let old = c.args.cursor.now in
     let new = c.insert.new.self in
     let said = c.insert.ensures in
     subst (λ s. Steps s c.is_ok.result old new) (sym c.in-Insert.is)
-    (insert_steps g.met.I.Key.Ord.total g.met.I.Runs.exact old (g.met.I.Runs.lawful old.index.now) new c.in-Insert.value c.is_ok.result c.is_full.result c.insert.result c.is_ok.ensures.value
-    (c.allows_insert.ensures.0 c.if-not-allows_insert.false) c.is_full.ensures c.if-is_full.false said.items said.place said.refused said.edited)
+    (insert_steps g.met.I.Key.Ord.total g.met.I.Runs.exact old (g.met.I.Runs.lawful old.index.now) new c.in-Insert.value c.is_ok.result c.insert.result c.is_ok.ensures.value
+    (c.allows_insert.ensures.0 c.if-not-allows_insert.false) said.room said.items said.place said.refused said.edited)
