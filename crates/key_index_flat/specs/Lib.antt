@@ -13,3 +13,4 @@ pub mod Lent
 pub mod Start
 pub mod Run
 pub mod CursorRun
+pub mod Neighbours
