@@ -14,3 +14,4 @@ pub mod Start
 pub mod Run
 pub mod CursorRun
 pub mod Neighbours
+pub mod ByteOrder
