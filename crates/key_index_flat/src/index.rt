@@ -10,6 +10,7 @@ mod fold;
 mod index_cursor;
 mod interface;
 mod neighbours;
+pub mod ordered;
 mod runs;
 mod search;
 mod storage;
