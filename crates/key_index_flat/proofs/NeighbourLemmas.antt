@@ -1,6 +1,7 @@
 -- On neighbours among entries in order.
---     last_told                    what an ordered map says of its end
+--     slice_get-last, last_told    the entry at the last place, and what an ordered map says of it
 --     last_taken                   what the first step of a walk from the end says
+--     last_or-map                  the last of what a function makes of entries
 --     content_of-in_order          newest values in order stand for a content entry by entry
 --     next_list-in_order, ..       so its neighbours are theirs
 --     range_below                  the entries that a range up to a key has
@@ -22,18 +23,20 @@ use Rattle.key_index_flat.specs.Content.{Content, with_list}
 use Rattle.key_index_flat.specs.Chains.{content_of}
 use Rattle.key_index_flat.specs.Neighbours.{first_entry, last_entry, or_cycled, entries_above, entries_below, first_list, last_list, next_list, prev_list}
 
--- ---- what an ordered map says
+-- ---- the last entry
 
 last_at : {E : Type 0} (e : E) (es : List E) → slice_get (e ∷ es) (length es) ≡ last_entry (e ∷ es)
 last_at e [] = refl
 last_at e (f ∷ fs) = last_at f fs
 
+pub slice_get-last : {E : Type 0} (es : List E) → slice_get es (length es - 1) ≡ last_entry es
+slice_get-last [] = refl
+slice_get-last (e ∷ es) = let place : suc (length es) - 1 ≡ length es = omega arith in ap (λ i. slice_get (e ∷ es) i) place ∙ last_at e es
+
 pub last_told : {A E : Type 0} (shows : A → E) (r : Option A) (es : List E) → IsSome r ↔ (0 < length es) → IfSome r (λ p. slice_get es (length es - 1) ≡ Some (shows p)) → option_map shows r ≡ last_entry es
 last_told shows None [] has at = refl
 last_told {A = A} shows None (e ∷ es) has at = let held : IsSome {T = A} None = has.1 (omega arith) in absurd (subst T (sym held) tt)
-last_told shows (Some p) [] has at = absurd (subst T (ap is_some (sym at)) tt)
-last_told shows (Some p) (e ∷ es) has at =
-    let place : length es ≡ suc (length es) - 1 = omega arith in sym at ∙ ap (λ i. slice_get (e ∷ es) i) (sym place) ∙ last_at e es
+last_told shows (Some p) es has at = sym at ∙ slice_get-last es
 
 last_or-append : {E : Type 0} (o : Option E) (es : List E) (e : E) → last_or o (es ++ e ∷ []) ≡ Some e
 last_or-append o [] e = refl
@@ -60,7 +63,7 @@ first_entry-map : {D E : Type 0} (f : D → E) (ds : List D) → first_entry (ma
 first_entry-map f [] = refl
 first_entry-map f (d ∷ ds) = refl
 
-last_or-map : {D E : Type 0} (f : D → E) (o : Option D) (ds : List D) → last_or (option_map f o) (map f ds) ≡ option_map f (last_or o ds)
+pub last_or-map : {D E : Type 0} (f : D → E) (o : Option D) (ds : List D) → last_or (option_map f o) (map f ds) ≡ option_map f (last_or o ds)
 last_or-map f o [] = refl
 last_or-map f o (d ∷ ds) = last_or-map f (Some d) ds
 
