@@ -1,3 +1,4 @@
+pub mod NeighbourLemmas
 pub mod PaddingLemmas
 pub mod ContentLemmas
 pub mod ChainLemmas

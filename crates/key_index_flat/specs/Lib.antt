@@ -13,3 +13,5 @@ pub mod Lent
 pub mod Start
 pub mod Run
 pub mod CursorRun
+pub mod Neighbours
+pub mod ByteOrder

@@ -2,6 +2,7 @@
 ghost use Rattle.std.specs.Prelude.{◌≡◌, ℕ, List};
 ghost use Rattle.std.specs.declared.cmp.Ordering.TheVariants.{Equal};
 ghost use Rattle.std.specs.Ordering.{nat_cmp};
+ghost use Rattle.key_index_flat.specs.Neighbours.{KeepsOrder};
 ghost use Rattle.key_index_flat.specs.Padding.{padded, cap_number};
 
 use std::hash::Hash;
@@ -18,6 +19,11 @@ pub trait Translator: Copy {
         ensures { result ≡ translated self.now key.now };
 
     ghost exact: { (a b : Self.Key) → Self.Key.cmp a b ≡ Equal → a ≡ b };
+}
+
+/// A translator that keeps the order of bytes: where one key is at most another, its translated key is at most the other's.
+pub trait OrderedTranslator: Translator {
+    ghost keeps_order: { (x : Self) → KeepsOrder Self.Key.cmp (Self.translated x) };
 }
 
 /// The first `N` bytes of a key, with zeros behind a shorter one.
@@ -51,6 +57,12 @@ impl Translator for OneCap {
     }
 }
 
+impl OrderedTranslator for OneCap {
+    ghost use Rattle.key_index_flat.specs.ByteOrder.{cap_number-keeps_order};
+
+    ghost keeps_order = { λ _. cap_number-keeps_order 1 };
+}
+
 /// Translated keys are the big-endian number of the first two bytes of a key, with zeros behind a shorter one.
 #[derive(Debug, Default, Clone, Copy)]
 pub struct TwoCap;
@@ -69,6 +81,12 @@ impl Translator for TwoCap {
     fn transform(&self, key: &[u8]) -> u16 {
         u16::from_be_bytes(capped::<2>(key))
     }
+}
+
+impl OrderedTranslator for TwoCap {
+    ghost use Rattle.key_index_flat.specs.ByteOrder.{cap_number-keeps_order};
+
+    ghost keeps_order = { λ _. cap_number-keeps_order 2 };
 }
 
 /// Translated keys are the big-endian number of the first four bytes of a key, with zeros behind a shorter one.
@@ -91,6 +109,12 @@ impl Translator for FourCap {
     }
 }
 
+impl OrderedTranslator for FourCap {
+    ghost use Rattle.key_index_flat.specs.ByteOrder.{cap_number-keeps_order};
+
+    ghost keeps_order = { λ _. cap_number-keeps_order 4 };
+}
+
 /// Translated keys are the big-endian number of the first eight bytes of a key, with zeros behind a shorter one.
 #[derive(Debug, Default, Clone, Copy)]
 pub struct EightCap;
@@ -109,4 +133,10 @@ impl Translator for EightCap {
     fn transform(&self, key: &[u8]) -> u64 {
         u64::from_be_bytes(capped::<8>(key))
     }
+}
+
+impl OrderedTranslator for EightCap {
+    ghost use Rattle.key_index_flat.specs.ByteOrder.{cap_number-keeps_order};
+
+    ghost keeps_order = { λ _. cap_number-keeps_order 8 };
 }

@@ -6,6 +6,9 @@ ghost use Rattle.std.specs.List.Retain.{IsFiltered};
 ghost use Rattle.key_index_flat.specs.Content.{IsLawful, list_at, with_list, item_count};
 ghost use Rattle.key_index_plain.specs.Entries.{listed, place_of};
 
+mod neighbours;
+
+pub(crate) use neighbours::{first, last, next, prev};
 use std::cmp::Ordering;
 
 /// An index key and its values, the newest first.

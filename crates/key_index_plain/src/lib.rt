@@ -11,9 +11,9 @@ mod entries;
 
 use entries::Entry;
 use key_index_flat::index::{
-    Factory, Fault, IndexCursor, Refused, Runs, Search, Unordered, Values,
+    Factory, Fault, IndexCursor, Ordered, Refused, Runs, Search, Unordered, Values,
 };
-use key_index_flat::translator::Translator;
+use key_index_flat::translator::{OrderedTranslator, Translator};
 use std::alloc::Global;
 
 /// An index over a list of entries, sorted by translated key. Each entry has a translated key and its values, the newest first.
@@ -185,6 +185,26 @@ impl<T: Translator, V: Drop> Unordered for Index<T, V> {
 
     fn pruned(&self) -> u64 {
         self.pruned
+    }
+}
+
+impl<T: OrderedTranslator, V: Drop> Ordered for Index<T, V> {
+    ghost keeps_order = { λ index. T.keeps_order index.translator };
+
+    fn prev_translated_key(&self, key: &[u8]) -> Option<(Values<'_, V>, bool)> {
+        entries::prev(self.entries.as_slice(), &self.translator.transform(key))
+    }
+
+    fn next_translated_key(&self, key: &[u8]) -> Option<(Values<'_, V>, bool)> {
+        entries::next(self.entries.as_slice(), &self.translator.transform(key))
+    }
+
+    fn first_translated_key(&self) -> Option<Values<'_, V>> {
+        entries::first(self.entries.as_slice())
+    }
+
+    fn last_translated_key(&self) -> Option<Values<'_, V>> {
+        entries::last(self.entries.as_slice())
     }
 }
 

@@ -11,6 +11,8 @@ ghost use Rattle.key_index_flat.specs.Content.{item_count, key_count, list_at, w
 ghost use Rattle.key_index_flat.specs.Commands.{after_insert, after_remove, pruned_after};
 ghost use Rattle.key_index_flat.specs.Fault.{growth_fault};
 
+mod neighbours;
+
 use super::{Fault, Refused, Values};
 use crate::translator::Translator;
 use std::alloc::Global;

@@ -1,0 +1,144 @@
+-- On neighbours among entries in order.
+--     slice_get-last, last_told    the entry at the last place, and what an ordered map says of it
+--     last_taken                   what the first step of a walk from the end says
+--     last_or-map                  the last of what a function makes of entries
+--     content_of-in_order          newest values in order stand for a content entry by entry
+--     next_list-in_order, ..       so its neighbours are theirs
+--     range_below                  the entries that a range up to a key has
+use Rattle.std.proofs.Common.{◌≡◌, suc, ◌-◌, ◌<◌, Bool, true, false, cond, not, T, List, [], ◌∷◌, ◌++◌, length, map, reverse, slice_get, Option, Some, None, is_some, IsSome, IfSome, MatchOption, ◌↔◌, refl, sym, ap, subst, ◌∙◌, arith}
+use Rattle.std.specs.List.{filter, last_or}
+use Rattle.std.specs.List.Sorted.{IsStrictlySortedBy}
+use Rattle.std.specs.Option.{option_map}
+use Rattle.std.specs.BTreeMap.Range.{entries_between}
+use Rattle.std.specs.declared.ops.Bound.TheVariants.{Excluded, Unbounded}
+use Rattle.std.specs.Map.{keys_of}
+use Rattle.std.proofs.lemmas.Map.Keys.{sorted_head, sorted_tail}
+use Rattle.std.specs.declared.cmp.Ordering.{Ordering}
+use Rattle.std.specs.declared.cmp.Ordering.TheVariants.{Less, Equal, Greater}
+use Rattle.std.specs.Ordering.{is_lt, is_le, ordering_reverse}
+use Rattle.std.specs.Cmp.{IsTotalOrder}
+use Rattle.std.specs.FinMap.{put}
+use Rattle.std.specs.FinMap.Entries.{by_order}
+use Rattle.key_index_flat.specs.Content.{Content, with_list}
+use Rattle.key_index_flat.specs.Chains.{content_of}
+use Rattle.key_index_flat.specs.Neighbours.{first_entry, last_entry, or_cycled, entries_above, entries_below, first_list, last_list, next_list, prev_list}
+
+-- ---- the last entry
+
+last_at : {E : Type 0} (e : E) (es : List E) → slice_get (e ∷ es) (length es) ≡ last_entry (e ∷ es)
+last_at e [] = refl
+last_at e (f ∷ fs) = last_at f fs
+
+pub slice_get-last : {E : Type 0} (es : List E) → slice_get es (length es - 1) ≡ last_entry es
+slice_get-last [] = refl
+slice_get-last (e ∷ es) = let place : suc (length es) - 1 ≡ length es = omega arith in ap (λ i. slice_get (e ∷ es) i) place ∙ last_at e es
+
+pub last_told : {A E : Type 0} (shows : A → E) (r : Option A) (es : List E) → IsSome r ↔ (0 < length es) → IfSome r (λ p. slice_get es (length es - 1) ≡ Some (shows p)) → option_map shows r ≡ last_entry es
+last_told shows None [] has at = refl
+last_told {A = A} shows None (e ∷ es) has at = let held : IsSome {T = A} None = has.1 (omega arith) in absurd (subst T (sym held) tt)
+last_told shows (Some p) es has at = sym at ∙ slice_get-last es
+
+last_or-append : {E : Type 0} (o : Option E) (es : List E) (e : E) → last_or o (es ++ e ∷ []) ≡ Some e
+last_or-append o [] e = refl
+last_or-append o (x ∷ xs) e = last_or-append (Some x) xs e
+
+pub last_taken : {A E : Type 0} (shows : A → E) (r : Option A) (es rest : List E) → MatchOption r ((es ≡ []) × (rest ≡ [])) (λ x. es ≡ rest ++ shows x ∷ []) → option_map shows r ≡ last_entry es
+last_taken shows None es rest h = sym (ap last_entry h.0)
+last_taken shows (Some x) es rest h = sym (ap last_entry h ∙ last_or-append None rest (shows x))
+
+-- ---- tests and maps of entries
+
+pub filter_alike : {E : Type 0} (p q : E → Bool) → ((e : E) → p e ≡ q e) → (es : List E) → filter p es ≡ filter q es
+filter_alike p q alike es i = filter (λ e. alike e i) es
+
+filter-map : {D E : Type 0} (p : E → Bool) (f : D → E) (ds : List D) → filter p (map f ds) ≡ map f (filter (λ d. p (f d)) ds)
+filter-map p f [] = refl
+filter-map p f (d ∷ ds) =
+    elim (p (f d)) as (λ b. cond b (f d ∷ filter p (map f ds)) (filter p (map f ds)) ≡ map f (cond b (d ∷ filter (λ d. p (f d)) ds) (filter (λ d. p (f d)) ds))) [
+      | true ↦ ap (λ es. f d ∷ es) (filter-map p f ds)
+      | false ↦ filter-map p f ds
+    ]
+
+first_entry-map : {D E : Type 0} (f : D → E) (ds : List D) → first_entry (map f ds) ≡ option_map f (first_entry ds)
+first_entry-map f [] = refl
+first_entry-map f (d ∷ ds) = refl
+
+pub last_or-map : {D E : Type 0} (f : D → E) (o : Option D) (ds : List D) → last_or (option_map f o) (map f ds) ≡ option_map f (last_or o ds)
+last_or-map f o [] = refl
+last_or-map f o (d ∷ ds) = last_or-map f (Some d) ds
+
+module _ {K V : Type 0} where
+  abbrev pub entry_of : (K → List V) → K × V → K × List V
+  entry_of older e = (e.0, e.1 ∷ reverse (older e.0))
+
+  put_in_front : (cmp : K → K → Ordering) (k f : K) (l m : List V) (es : Content K V) → cmp k f ≡ Less → put cmp k l ((f, m) ∷ es) ≡ (k, l) ∷ (f, m) ∷ es
+  put_in_front cmp k f l m es p = ap (λ r. by_order r ((k, l) ∷ (f, m) ∷ es) ((f, l) ∷ es) ((f, m) ∷ put cmp k l es)) p
+
+  pub content_of-in_order : (cmp : K → K → Ordering) (heads : List (K × V)) (older : K → List V) → IsStrictlySortedBy cmp (keys_of heads) → content_of cmp heads older ≡ map (entry_of older) heads
+  content_of-in_order cmp [] older h = refl
+  content_of-in_order cmp (e ∷ []) older h = refl
+  content_of-in_order cmp (e ∷ f ∷ fs) older h =
+      ap (λ c. with_list cmp c e.0 (e.1 ∷ reverse (older e.0))) (content_of-in_order cmp (f ∷ fs) older (sorted_tail cmp e.0 _ h))
+      ∙ put_in_front cmp e.0 f.0 (e.1 ∷ reverse (older e.0)) (f.1 ∷ reverse (older f.0)) (map (entry_of older) fs) (sorted_head cmp e.0 _ h).0
+
+  -- the list of an entry of newest values
+  abbrev pub listed : (K → List V) → K × V → List V
+  listed older e = e.1 ∷ reverse (older e.0)
+
+  flagged : (older : K → List V) (a b : Option (K × V)) → option_map (λ n. (n.0.1, n.1)) (or_cycled (option_map (entry_of older) a) (option_map (entry_of older) b)) ≡ or_cycled (option_map (listed older) a) (option_map (listed older) b)
+  flagged older (Some e) b = refl
+  flagged older None (Some e) = refl
+  flagged older None None = refl
+
+  lists_entry : (older : K → List V) (a : Option (K × V)) → option_map (λ e. e.1) (option_map (entry_of older) a) ≡ option_map (listed older) a
+  lists_entry older None = refl
+  lists_entry older (Some e) = refl
+
+  module _ (cmp : K → K → Ordering) (heads : List (K × V)) (older : K → List V) (h : IsStrictlySortedBy cmp (keys_of heads)) where
+    pub first_list-in_order : first_list (content_of cmp heads older) ≡ option_map (listed older) (first_entry heads)
+    first_list-in_order = ap first_list (content_of-in_order cmp heads older h) ∙ ap (option_map (λ e. e.1)) (first_entry-map (entry_of older) heads) ∙ lists_entry older (first_entry heads)
+
+    pub last_list-in_order : last_list (content_of cmp heads older) ≡ option_map (listed older) (last_entry heads)
+    last_list-in_order = ap last_list (content_of-in_order cmp heads older h) ∙ ap (option_map (λ e. e.1)) (last_or-map (entry_of older) None heads) ∙ lists_entry older (last_entry heads)
+
+    pub next_list-in_order : (k : K) → next_list cmp (content_of cmp heads older) k ≡ or_cycled (option_map (listed older) (first_entry (entries_above cmp heads k))) (option_map (listed older) (first_entry heads))
+    next_list-in_order k =
+        let above : first_entry (entries_above cmp (map (entry_of older) heads) k) ≡ option_map (entry_of older) (first_entry (entries_above cmp heads k)) =
+        ap first_entry (filter-map (λ e. is_lt (cmp k e.0)) (entry_of older) heads) ∙ first_entry-map (entry_of older) (entries_above cmp heads k) in
+        ap (λ c. next_list cmp c k) (content_of-in_order cmp heads older h)
+        ∙ (λ i. option_map (λ n. (n.0.1, n.1)) (or_cycled (above i) (first_entry-map (entry_of older) heads i)))
+        ∙ flagged older (first_entry (entries_above cmp heads k)) (first_entry heads)
+
+    pub prev_list-in_order : (k : K) → prev_list cmp (content_of cmp heads older) k ≡ or_cycled (option_map (listed older) (last_entry (entries_below cmp heads k))) (option_map (listed older) (last_entry heads))
+    prev_list-in_order k =
+        let below : last_entry (entries_below cmp (map (entry_of older) heads) k) ≡ option_map (entry_of older) (last_entry (entries_below cmp heads k)) =
+        ap last_entry (filter-map (λ e. is_lt (cmp e.0 k)) (entry_of older) heads) ∙ last_or-map (entry_of older) None (entries_below cmp heads k) in
+        ap (λ c. prev_list cmp c k) (content_of-in_order cmp heads older h)
+        ∙ (λ i. option_map (λ n. (n.0.1, n.1)) (or_cycled (below i) (last_or-map (entry_of older) None heads i)))
+        ∙ flagged older (last_entry (entries_below cmp heads k)) (last_entry heads)
+
+    -- as the two steps of a look-up find it: above or below the key, or else at the other end
+    pub next_found : (k : K) (l : List V) → option_map (listed older) (first_entry (entries_above cmp heads k)) ≡ Some l → next_list cmp (content_of cmp heads older) k ≡ Some (l, false)
+    next_found k l is = next_list-in_order k ∙ ap (λ a. or_cycled a (option_map (listed older) (first_entry heads))) is
+
+    pub next_cycled : (k : K) (end : Option (List V)) → option_map (listed older) (first_entry (entries_above cmp heads k)) ≡ None → first_list (content_of cmp heads older) ≡ end
+        → next_list cmp (content_of cmp heads older) k ≡ option_map (λ l. (l, true)) end
+    next_cycled k end none is = next_list-in_order k ∙ (λ i. or_cycled (none i) (option_map (listed older) (first_entry heads))) ∙ ap (option_map (λ l. (l, true))) (sym first_list-in_order ∙ is)
+
+    pub prev_found : (k : K) (l : List V) → option_map (listed older) (last_entry (entries_below cmp heads k)) ≡ Some l → prev_list cmp (content_of cmp heads older) k ≡ Some (l, false)
+    prev_found k l is = prev_list-in_order k ∙ ap (λ a. or_cycled a (option_map (listed older) (last_entry heads))) is
+
+    pub prev_cycled : (k : K) (end : Option (List V)) → option_map (listed older) (last_entry (entries_below cmp heads k)) ≡ None → last_list (content_of cmp heads older) ≡ end
+        → prev_list cmp (content_of cmp heads older) k ≡ option_map (λ l. (l, true)) end
+    prev_cycled k end none is = prev_list-in_order k ∙ (λ i. or_cycled (none i) (option_map (listed older) (last_entry heads))) ∙ ap (option_map (λ l. (l, true))) (sym last_list-in_order ∙ is)
+
+-- ---- what a range has
+
+turned : (r : Ordering) → not (is_le r) ≡ is_lt (ordering_reverse r)
+turned Less = refl
+turned Equal = refl
+turned Greater = refl
+
+module _ {K V : Type 0} (cmp : K → K → Ordering) (es : List (K × V)) (k : K) where
+  pub range_below : IsTotalOrder cmp → entries_between cmp Unbounded (Excluded k) es ≡ entries_below cmp es k
+  range_below o = filter_alike _ _ (λ e. turned (cmp k e.0) ∙ ap is_lt (sym (o.antisymm e.0 k))) es
