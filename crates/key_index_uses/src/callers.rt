@@ -1,10 +1,10 @@
 //! Callers as a user writes them: over any index, by its content alone.
-ghost use Rattle.std.specs.Prelude.{◌≡◌, [], ◌∷◌, IfOk, OnOk, OnErr};
+ghost use Rattle.std.specs.Prelude.{◌≡◌, ◌<◌, ◌↔◌, [], ◌∷◌, IfOk, OnOk, OnErr, IsTrue, length, slice_set};
 ghost use Rattle.key_index_flat.specs.Commands.{after_insert};
-ghost use Rattle.key_index_flat.specs.Content.{list_at, item_count};
+ghost use Rattle.key_index_flat.specs.Content.{list_at, with_list, item_count};
 
 use key_index_flat::index::unordered::Index;
-use key_index_flat::index::{Factory, Fault, Refused, Unordered};
+use key_index_flat::index::{Cursor, Factory, Fault, IndexCursor, Refused, Unordered, reach};
 use key_index_flat::translator::OneCap;
 use std::alloc::Global;
 
@@ -44,4 +44,27 @@ where
         Ok(()) => Ok(()),
         Err(refused) => Err(refused.fault),
     }
+}
+
+/// Puts a value in place of the first one of a key, and tells whether the key had one. Nothing else changes.
+pub fn replace_first<I: Unordered>(
+    index: &mut I,
+    key: &[u8],
+    value: I::Value,
+) -> Result<bool, Fault>
+where
+    I::Value: Drop,
+    ensures had { IfOk result (λ had. IsTrue had ↔ (0 < length (list_at I.Key.cmp (I.content index.old) (I.slot index.old key.now)))) }
+    ensures replaced { OnOk result (I.content index.new ≡ with_list I.Key.cmp (I.content index.old) (I.slot index.old key.now) (slice_set (list_at I.Key.cmp (I.content index.old) (I.slot index.old key.now)) 0 value)) }
+    ensures refused { OnErr result (I.content index.new ≡ I.content index.old) }
+{
+    if !reach(index, key)? {
+        return Ok(false);
+    }
+    let slot = index.slot_of(key);
+    let mut cursor = IndexCursor::new(index, slot);
+    cursor.next();
+    cursor.update(value);
+    cursor.close();
+    Ok(true)
 }
