@@ -1,5 +1,6 @@
 //! An index that is called some thousand times answers as lists kept beside it do, and as another index does.
 mod commands;
+mod cursors;
 mod driver;
 mod flat;
 mod numbers;

@@ -30,7 +30,7 @@ fn has_flags(outcome: Option<&Outcome>, flags: &[bool]) -> bool {
 }
 
 /// The list 3, 1, 2 under the byte k.
-fn three<I: Unordered<Value = u64> + Factory + Drop>(
+pub(super) fn three<I: Unordered<Value = u64> + Factory + Drop>(
     alloc: Global,
     translator: I::Translator,
 ) -> Result<I, Fail> {
