@@ -1,9 +1,12 @@
 //! An index that is called some thousand times answers as lists kept beside it do, and as another index does.
 mod commands;
+mod commands_beside;
+mod cursors;
 mod driver;
 mod flat;
 mod numbers;
 
+use commands_beside::run_beside;
 use driver::{beside, drive};
 use key_index_flat::index::unordered;
 use key_index_flat::translator::{EightCap, FourCap, OneCap, TwoCap};
@@ -56,5 +59,15 @@ fn flat_beside_plain_by_eight_bytes(rt: HostRuntime) -> Result<(), Fail> {
         rt.alloc(),
         EightCap,
         EightCap,
+    )
+}
+
+#[test]
+fn flat_beside_plain_by_commands(rt: HostRuntime) -> Result<(), Fail> {
+    run_beside::<unordered::Index<OneCap, u64>, key_index_plain::Index<OneCap, u64>>(
+        &rt,
+        rt.alloc(),
+        OneCap,
+        OneCap,
     )
 }

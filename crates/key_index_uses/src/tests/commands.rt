@@ -1,6 +1,6 @@
 //! Lists of commands, run over any index through one function.
 use key_index_flat::index::unordered::Index;
-use key_index_flat::index::{Command, Factory, Outcome, Step, Unordered, run};
+use key_index_flat::index::{Command, Cursor, CursorState, Factory, Outcome, Step, Unordered, run};
 use key_index_flat::translator::OneCap;
 use std::alloc::Global;
 use std::process::Abort;
@@ -30,7 +30,7 @@ fn has_flags(outcome: Option<&Outcome>, flags: &[bool]) -> bool {
 }
 
 /// The list 3, 1, 2 under the byte k.
-fn three<I: Unordered<Value = u64> + Factory + Drop>(
+pub(super) fn three<I: Unordered<Value = u64> + Factory + Drop>(
     alloc: Global,
     translator: I::Translator,
 ) -> Result<I, Fail> {
@@ -180,10 +180,15 @@ fn kept<I: Unordered<Value = u64> + Factory + Drop>(
     })?;
     assert!(rt; index.get(b"k").copied().eq([3, 2]));
     assert_eq!(rt; (index.keys(), index.items(), index.pruned()), (1, 2, 1));
-    assert!(rt; index.get_mut_or_insert(b"k", 8)?.is_some());
+    let Some(cursor) = index.get_mut_or_insert(b"k", 8)? else {
+        panic!(rt; "k has values")
+    };
+    assert_eq!(rt; cursor.state(), CursorState::NeedNext);
+    assert!(rt; index.get(b"k").copied().eq([3, 2]));
     assert_eq!(rt; index.items(), 2);
     assert!(rt; index.get_mut_or_insert(b"j", 8)?.is_none());
     assert!(rt; index.get(b"j").copied().eq([8]));
+    assert_eq!(rt; (index.keys(), index.items(), index.pruned()), (2, 3, 1));
     assert!(rt; index.get_mut(b"j")?.is_some());
     assert!(rt; index.get_mut(b"i")?.is_none());
     Ok(())

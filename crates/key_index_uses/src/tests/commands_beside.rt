@@ -1,0 +1,119 @@
+//! Lists of commands from the fixed run of numbers, over two indices beside one another.
+use super::numbers::Numbers;
+use key_index_flat::index::{Command, Factory, Outcome, Step, Unordered, run};
+use std::alloc::Global;
+use std::process::Abort;
+use std::test::Fail;
+
+/// How many lists are run. Each has up to eight commands.
+const LISTS: u32 = 1000;
+
+/// A key of up to two bytes, of four that occur.
+fn key(alloc: Global, number: u64) -> Result<Vec<u8>, Fail> {
+    let bytes = [b'a' + (number % 4) as u8, b'a' + (number / 4 % 4) as u8];
+    let mut key = Vec::new(alloc);
+    for byte in &bytes[..(number / 16 % 3) as usize] {
+        key.push(*byte)?;
+    }
+    Ok(key)
+}
+
+/// Up to seven steps of an edit, in any order: a cursor does not allow each of them.
+fn steps(alloc: Global, numbers: &mut Numbers) -> Result<Vec<Step<u64>>, Fail> {
+    let mut steps = Vec::new(alloc);
+    for _ in 0..numbers.next() % 8 {
+        let number = numbers.next();
+        steps.push(match number % 6 {
+            0 => Step::Insert(number),
+            1 => Step::Update(number),
+            2 => Step::Delete,
+            _ => Step::Next,
+        })?;
+    }
+    Ok(steps)
+}
+
+/// Runs a list of up to eight commands of all five kinds.
+fn run_list<I: Unordered<Value = u64>>(
+    alloc: Global,
+    index: &mut I,
+    numbers: &mut Numbers,
+) -> Result<Vec<Outcome>, Fail> {
+    let mut commands = Vec::new(alloc);
+    for _ in 0..numbers.next() % 9 {
+        let number = numbers.next();
+        let key = key(alloc, number)?;
+        let kept = number / 64 % 5;
+        commands.push(match number / 512 % 12 {
+            0 => Command::Remove(key),
+            1 => Command::Retain(key, move |value: &u64| *value / 4096 % 4 < kept),
+            2 => Command::GetOrInsert(key, number),
+            3 | 4 | 5 | 6 => Command::Edit(key, steps(alloc, numbers)?),
+            _ => Command::Insert(key, number),
+        })?;
+    }
+    Ok(run(alloc, index, commands)?)
+}
+
+/// Whether two outcomes are the same.
+fn alike(first: &Outcome, second: &Outcome) -> bool {
+    match (first, second) {
+        (Outcome::Done, Outcome::Done) => true,
+        (Outcome::Refused(fault), Outcome::Refused(other)) => *fault == *other,
+        (Outcome::Edited(flags), Outcome::Edited(others)) => {
+            flags.iter().copied().eq(others.iter().copied())
+        }
+        _ => false,
+    }
+}
+
+/// Runs the same lists of commands over two indices. After each list it compares the outcome of each command, the values of each key
+/// and the counts.
+pub(super) fn run_beside<
+    A: Unordered<Value = u64> + Factory + Drop,
+    B: Unordered<Value = u64> + Factory + Drop,
+>(
+    rt: &impl Abort,
+    alloc: Global,
+    first_translator: A::Translator,
+    second_translator: B::Translator,
+) -> Result<(), Fail>
+where
+    B::Translator: Drop,
+{
+    let mut first = A::new(alloc, first_translator)?;
+    let mut second = B::new(alloc, second_translator)?;
+    let mut first_numbers = Numbers::new();
+    let mut second_numbers = Numbers::new();
+    let mut accepts = false;
+    let mut refuses = false;
+    for _ in 0..LISTS {
+        let outcomes = run_list(alloc, &mut first, &mut first_numbers)?;
+        let others = run_list(alloc, &mut second, &mut second_numbers)?;
+        assert_eq!(rt; outcomes.len(), others.len());
+        for (outcome, other) in outcomes.iter().zip(others.iter()) {
+            assert!(rt; alike(outcome, other), "{outcome:?} and {other:?}");
+            if let Outcome::Edited(flags) = outcome {
+                accepts |= flags.as_slice().contains(&true);
+                refuses |= flags.as_slice().contains(&false);
+            }
+        }
+        for number in 0..48 {
+            let key = key(alloc, number)?;
+            assert!(rt;
+                first
+                    .get(key.as_slice())
+                    .copied()
+                    .eq(second.get(key.as_slice()).copied()),
+                "the values of {key:?}"
+            );
+        }
+        assert_eq!(rt;
+            (first.keys(), first.items(), first.pruned()),
+            (second.keys(), second.items(), second.pruned())
+        );
+    }
+    assert!(rt; accepts && refuses, "steps of both kinds");
+    assert!(rt; first.pruned() > 0, "values were taken out");
+    Ok(())
+}
