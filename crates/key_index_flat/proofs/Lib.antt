@@ -8,3 +8,4 @@ pub mod EditLemmas
 pub mod Asked
 pub mod CursorLemmas
 pub mod RunLemmas
+pub mod LeastLemmas
