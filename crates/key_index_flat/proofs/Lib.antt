@@ -9,3 +9,4 @@ pub mod Asked
 pub mod CursorLemmas
 pub mod RunLemmas
 pub mod LeastLemmas
+pub mod FullKeyLemmas
