@@ -1,7 +1,6 @@
 -- On the least value of a list, the first of those that tie, in any total order.
 --     IsLeast-push_keeps, IsLeast-push_takes      one more value at the end, which isn't or is less
 --     IsLeast-front, IsLeast-back                 a list of greater values behind, and in front
---     IsLeast-or_list                             the least of the first of two lists
 --     least_has                                   what holds of each value holds of the least
 --     pushed_keeps, pushed_takes, pushed_first    one more value at the end, as a test told
 --     told                                        what a comparison of keys told
@@ -16,7 +15,7 @@ use Rattle.std.specs.Ordering.{is_gt, is_le, is_some_and, nat_cmp, ordering_reve
 use Rattle.std.specs.Cmp.Lexicographic.{slice_cmp, slice_partial_cmp, lists_agrees}
 use Rattle.std.specs.Cmp.{IsTotalOrder, alike_right}
 use Rattle.std.specs.BTreeMap.Range.{IsLeBy}
-use Rattle.key_index_flat.specs.FullKeys.{IsLeast, or_list}
+use Rattle.key_index_flat.specs.FullKeys.{IsLeast}
 
 module _ {V : Type 0} {cmp : V → V → Ordering} (o : IsTotalOrder cmp) where
   pub le_by_less : (v w : V) → cmp v w ≡ Less → IsLeBy cmp v w
@@ -63,14 +62,6 @@ module _ {V : Type 0} {cmp : V → V → Ordering} (o : IsTotalOrder cmp) where
       All-drop_front : (P : V → Type 0) (xs ys : List V) → All P (xs ++ ys) → All P ys
       All-drop_front P [] ys h = h
       All-drop_front P (x ∷ xs) ys h = All-drop_front P xs ys (All-tail P x (xs ++ ys) h)
-
-  pub IsLeast-or_list : (l m : List V) (v : V) → IsLeast cmp l (Some v) → IsLeast cmp (or_list l m) (Some v)
-  IsLeast-or_list [] m v h = absurd (filled_back h.0 v h.1 h.2)
-    where
-      filled_back : {V : Type 0} (before : List V) (v : V) (after : List V) → [] ≡ before ++ v ∷ after → ⊥
-      filled_back [] v after e = cc
-      filled_back (x ∷ xs) v after e = cc
-  IsLeast-or_list (x ∷ xs) m v h = h
 
   -- one more value at the end, as `le` tells whether it is less
   pub pushed_keeps : (l : List V) (v u : V) → IsLeast cmp l (Some v) → is_le (cmp v u) ≡ true → IsLeast cmp (l ++ u ∷ []) (Some v)

@@ -93,6 +93,22 @@ fn greatest_below<'a, V: Keyed>(values: Values<'a, V>, key: &[u8]) -> Option<&'a
     greatest
 }
 
+/// The value with the least full key of those above a key in its own list and, where none is, of those in the next list, unless that
+/// one is found by cycling.
+fn next_candidate<'a, I: Ordered>(index: &'a I, key: &[u8]) -> Option<&'a I::Value>
+where
+    I::Value: Keyed,
+    ensures { IsNextCandidate I.Value.full_key I.Key.cmp (I.content index.now) (I.slot index.now key.now) key.now (option_copied result) }
+{
+    if let Some(value) = least_above(index.get(key), key) {
+        return Some(value);
+    }
+    match index.next_translated_key(key) {
+        Some((values, false)) => least(values),
+        _ => None,
+    }
+}
+
 /// The value with the least full key strictly above a key, in an index whose values stand under their own full keys. `None`
 /// exactly where no full key is above. Among equal full keys the first in list order. Whatever the index holds, the value is
 /// that with the least full key of those above the key in its own list and, where none is, of those in the next list, unless that
@@ -105,11 +121,21 @@ where
     ensures candidate { IsNextCandidate I.Value.full_key I.Key.cmp (I.content index.now) (I.slot index.now key.now) key.now (option_copied result) }
     ensures filed { IsFiled I.Value.full_key I.Key.cmp (I.slot index.now) (I.content index.now) → IsFullNext I.Value.full_key (I.content index.now) key.now (option_copied result) }
 {
-    if let Some(value) = least_above(index.get(key), key) {
+    next_candidate(index, key)
+}
+
+/// The value with the greatest full key of those below a key in its own list and, where none is, of those in the previous list, unless that
+/// one is found by cycling.
+fn prev_candidate<'a, I: Ordered>(index: &'a I, key: &[u8]) -> Option<&'a I::Value>
+where
+    I::Value: Keyed,
+    ensures { IsPrevCandidate I.Value.full_key I.Key.cmp (I.content index.now) (I.slot index.now key.now) key.now (option_copied result) }
+{
+    if let Some(value) = greatest_below(index.get(key), key) {
         return Some(value);
     }
-    match index.next_translated_key(key) {
-        Some((values, false)) => least(values),
+    match index.prev_translated_key(key) {
+        Some((values, false)) => greatest(values),
         _ => None,
     }
 }
@@ -126,11 +152,5 @@ where
     ensures candidate { IsPrevCandidate I.Value.full_key I.Key.cmp (I.content index.now) (I.slot index.now key.now) key.now (option_copied result) }
     ensures filed { IsFiled I.Value.full_key I.Key.cmp (I.slot index.now) (I.content index.now) → IsFullPrev I.Value.full_key (I.content index.now) key.now (option_copied result) }
 {
-    if let Some(value) = greatest_below(index.get(key), key) {
-        return Some(value);
-    }
-    match index.prev_translated_key(key) {
-        Some((values, false)) => greatest(values),
-        _ => None,
-    }
+    prev_candidate(index, key)
 }
