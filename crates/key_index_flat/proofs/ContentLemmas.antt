@@ -34,7 +34,7 @@ tied Less p = absurd (subst T (sym p) tt)
 tied Equal p = refl
 tied Greater p = absurd (subst T (sym p) tt)
 
-less : (r : Ordering) → T (is_lt r) → r ≡ Less
+pub less : (r : Ordering) → T (is_lt r) → r ≡ Less
 less Less p = refl
 less Equal p = absurd p
 less Greater p = absurd p
@@ -68,7 +68,7 @@ module _ {K V : Type 0} {cmp : K → K → Ordering} (o : IsTotalOrder cmp) wher
   same_content exact c d g h is = same_entries cmp o exact c d g.0 h.0 (λ q. found c q g.1 ∙ ap if_filled (is q) ∙ sym (found d q h.1))
 
   -- a key below each key of a list in order has no list in it
-  absent : (k x : K) (es : Content K V) → ((y : K) → cmp x y ≡ Less → cmp k y ≡ Less) → T (below_all cmp x es) → list_at cmp es k ≡ []
+  pub absent : (k x : K) (es : Content K V) → ((y : K) → cmp x y ≡ Less → cmp k y ≡ Less) → T (below_all cmp x es) → list_at cmp es k ≡ []
   absent k x [] through_x h = refl
   absent k x (e ∷ es) through_x h =
       ap (λ r. unwrap_or (cond (is_eq r) (Some e.1) (find cmp k es)) []) (through_x e.0 (less _ (first _ _ h))) ∙ absent k x es through_x (second _ _ h)

@@ -9,3 +9,5 @@ pub mod EditLemmas
 pub mod Asked
 pub mod CursorLemmas
 pub mod RunLemmas
+pub mod LeastLemmas
+pub mod FullKeyLemmas

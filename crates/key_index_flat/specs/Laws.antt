@@ -34,7 +34,7 @@ module _ {K V : Type 0} {cmp : K → K → Ordering} (o : IsTotalOrder cmp) wher
         | Greater ↦ both (is_filled e.1) _ (first (is_filled e.1) _ h) (all_filled-put k v vs es (second (is_filled e.1) _ h))
       ]
 
-  all_filled-where_key : (p : K → Bool) (c : Content K V) → T (all_filled c) → T (all_filled (where_key cmp p c))
+  pub all_filled-where_key : (p : K → Bool) (c : Content K V) → T (all_filled c) → T (all_filled (where_key cmp p c))
   all_filled-where_key p [] h = tt
   all_filled-where_key p (e ∷ es) h =
       let rest = all_filled-where_key p es (second (is_filled e.1) _ h) in

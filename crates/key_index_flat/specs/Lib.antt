@@ -15,3 +15,4 @@ pub mod Run
 pub mod CursorRun
 pub mod Neighbours
 pub mod ByteOrder
+pub mod FullKeys

@@ -1,0 +1,67 @@
+-- Full keys. An index files its values under index keys, which are shorter than keys, and each value knows its own key in full.
+--     IsFiled              each value stands under the index key of its full key, which is a list of bytes
+--     values_of            all values that are held, in the order of the index keys and, under one of them, in list order
+--     IsLeast              the least value of a list, the first of those that tie; none exactly where the list is empty
+--     IsFullNext           the value with the least full key strictly above a key, of all that are held. Among equal full keys the first.
+--                          None exactly where no full key is above. IsFullPrev: the same with the greatest strictly below
+--     IsNextCandidate      the value with the least full key of those above the key under its own index key. Where none is above, of all those under the next
+--                          index key, which a flagged neighbour isn't. IsPrevCandidate: the same with greatest, below and previous
+use Rattle.std.specs.Prelude.{◌≡◌, ◌<◌, ℕ, Bool, true, false, List, [], ◌∷◌, ◌++◌, Option, Some, None, All}
+use Rattle.std.specs.List.{filter, flat_map}
+use Rattle.std.specs.declared.cmp.Ordering.{Ordering}
+use Rattle.std.specs.declared.cmp.Ordering.TheVariants.{Less}
+use Rattle.std.specs.Ordering.{is_lt, nat_cmp, on, flip_args}
+use Rattle.std.specs.Cmp.Lexicographic.{slice_cmp}
+use Rattle.std.specs.BTreeMap.Range.{IsLeBy}
+use Rattle.key_index_flat.specs.Content.{Content, list_at}
+use Rattle.key_index_flat.specs.Neighbours.{next_list, prev_list}
+
+abbrev pub IsBytes : List ℕ → Type 0
+IsBytes b = All (λ n. n < 256) b
+
+abbrev pub byte_cmp : List ℕ → List ℕ → Ordering
+byte_cmp = slice_cmp nat_cmp
+
+abbrev pub IsLeast : {V : Type 0} → (V → V → Ordering) → List V → Option V → Type 0
+IsLeast cmp l None = l ≡ []
+IsLeast {V = V} cmp l (Some v) = (before : List V) × (after : List V) × (l ≡ before ++ v ∷ after) × All (λ w. cmp v w ≡ Less) before × All (λ w. IsLeBy cmp v w) after
+
+abbrev pub values_of : {K V : Type 0} → Content K V → List V
+values_of c = flat_map (λ e. e.1) c
+
+-- the first list, or where it is empty the second
+abbrev pub or_list : {V : Type 0} → List V → List V → List V
+or_list [] other = other
+or_list (v ∷ vs) other = v ∷ vs
+
+-- the values of a neighbour that was found without cycling
+abbrev pub unflagged : {V : Type 0} → Option (List V × Bool) → List V
+unflagged None = []
+unflagged (Some (l, true)) = []
+unflagged (Some (l, false)) = l
+
+module _ {V : Type 0} (full_key : V → List ℕ) where
+  abbrev pub cmp_keys : V → V → Ordering
+  cmp_keys = on full_key byte_cmp
+
+  abbrev pub above : List ℕ → List V → List V
+  above a l = filter (λ v. is_lt (byte_cmp a (full_key v))) l
+
+  abbrev pub below : List ℕ → List V → List V
+  below a l = filter (λ v. is_lt (byte_cmp (full_key v) a)) l
+
+  abbrev pub IsFullNext : {K : Type 0} → Content K V → List ℕ → Option V → Type 0
+  IsFullNext c a o = IsLeast cmp_keys (above a (values_of c)) o
+
+  abbrev pub IsFullPrev : {K : Type 0} → Content K V → List ℕ → Option V → Type 0
+  IsFullPrev c a o = IsLeast (flip_args cmp_keys) (below a (values_of c)) o
+
+  module _ {K : Type 0} (cmp : K → K → Ordering) where
+    abbrev pub IsFiled : (List ℕ → K) → Content K V → Type 0
+    IsFiled slot c = (k : K) → All (λ v. IsBytes (full_key v) × (slot (full_key v) ≡ k)) (list_at cmp c k)
+
+    abbrev pub IsNextCandidate : Content K V → K → List ℕ → Option V → Type 0
+    IsNextCandidate c k a o = IsLeast cmp_keys (or_list (above a (list_at cmp c k)) (unflagged (next_list cmp c k))) o
+
+    abbrev pub IsPrevCandidate : Content K V → K → List ℕ → Option V → Type 0
+    IsPrevCandidate c k a o = IsLeast (flip_args cmp_keys) (or_list (below a (list_at cmp c k)) (unflagged (prev_list cmp c k))) o
