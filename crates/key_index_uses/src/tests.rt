@@ -3,6 +3,7 @@ mod commands;
 mod driver;
 mod flat;
 mod numbers;
+mod ordered;
 
 use driver::{beside, drive};
 use key_index_flat::index::unordered;
