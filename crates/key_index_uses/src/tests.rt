@@ -5,6 +5,7 @@ mod cursors;
 mod driver;
 mod flat;
 mod numbers;
+mod ordered;
 
 use commands_beside::run_beside;
 use driver::{beside, drive};

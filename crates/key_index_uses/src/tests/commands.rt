@@ -42,7 +42,7 @@ pub(super) fn three<I: Unordered<Value = u64> + Factory + Drop>(
 }
 
 /// Next 3, delete, next 1, insert 9, next 2, next none, insert 7.
-fn edited<I: Unordered<Value = u64> + Factory + Drop>(
+pub(super) fn edited<I: Unordered<Value = u64> + Factory + Drop>(
     rt: &impl Abort,
     alloc: Global,
     translator: I::Translator,
@@ -81,7 +81,7 @@ fn plain_is_edited(rt: HostRuntime) -> Result<(), Fail> {
 }
 
 /// The list 5: next 5, delete, next none, insert 6.
-fn emptied<I: Unordered<Value = u64> + Factory + Drop>(
+pub(super) fn emptied<I: Unordered<Value = u64> + Factory + Drop>(
     rt: &impl Abort,
     alloc: Global,
     translator: I::Translator,
@@ -119,7 +119,7 @@ fn plain_is_emptied(rt: HostRuntime) -> Result<(), Fail> {
 }
 
 /// Each command once, on an empty index.
-fn each_command<I: Unordered<Value = u64> + Factory + Drop>(
+pub(super) fn each_command<I: Unordered<Value = u64> + Factory + Drop>(
     rt: &impl Abort,
     alloc: Global,
     translator: I::Translator,
@@ -167,7 +167,7 @@ fn plain_runs_each_command(rt: HostRuntime) -> Result<(), Fail> {
 }
 
 /// A closure that changes its mind, and a key that is held already.
-fn kept<I: Unordered<Value = u64> + Factory + Drop>(
+pub(super) fn kept<I: Unordered<Value = u64> + Factory + Drop>(
     rt: &impl Abort,
     alloc: Global,
     translator: I::Translator,

@@ -1,0 +1,261 @@
+//! Ordered indices: the neighbours of a key, and each row of the other tests again.
+use super::commands::{each_command, edited, emptied, kept};
+use super::driver::{beside, drive};
+use super::numbers::Numbers;
+use key_index_flat::index::ordered::Index;
+use key_index_flat::index::{Factory, Ordered, Runs, Unordered, Values};
+use key_index_flat::translator::{EightCap, FourCap, OneCap, TwoCap};
+use std::alloc::Global;
+use std::process::Abort;
+use std::test::Fail;
+
+/// How many calls change an index.
+const CALLS: u32 = 2000;
+
+/// Whether a neighbour has these values, and this flag.
+fn has(neighbour: Option<(Values<'_, u64>, bool)>, values: &[u64], cycled: bool) -> bool {
+    match neighbour {
+        Some((given, flag)) => flag == cycled && given.copied().eq(values.iter().copied()),
+        None => false,
+    }
+}
+
+/// Whether an end has these values.
+fn holds(end: Option<Values<'_, u64>>, values: &[u64]) -> bool {
+    match end {
+        Some(given) => given.copied().eq(values.iter().copied()),
+        None => false,
+    }
+}
+
+/// Three index keys, one of them with two values.
+fn neighbours<I: Ordered<Value = u64> + Factory + Drop>(
+    rt: &impl Abort,
+    alloc: Global,
+    translator: I::Translator,
+) -> Result<(), Fail> {
+    let mut index = I::new(alloc, translator)?;
+    index.insert(b"\x0b\x02\xaa", 1)?;
+    index.insert(b"\x1c\x04\xcc", 21)?;
+    index.insert(b"\x1c\x03\x11", 22)?;
+    index.insert(b"\x2d\x06\xee", 3)?;
+    assert!(rt; has(index.next_translated_key(b"\x0b\x01\x02"), &[22, 21], false));
+    assert!(rt; has(index.next_translated_key(b"\x1c\x01\x02"), &[3], false));
+    assert!(rt; has(index.next_translated_key(b"\x2d\x06\xee"), &[1], true));
+    assert!(rt; has(index.next_translated_key(b""), &[1], false));
+    assert!(rt; has(index.prev_translated_key(b"\x0b\x02\xaa"), &[3], true));
+    assert!(rt; has(index.prev_translated_key(b"\x1c\x01\x02"), &[1], false));
+    assert!(rt; has(index.prev_translated_key(b"\xcc\x01\x02"), &[3], false));
+    assert!(rt; has(index.prev_translated_key(b""), &[3], true));
+    assert!(rt; holds(index.first_translated_key(), &[1]));
+    assert!(rt; holds(index.last_translated_key(), &[3]));
+    assert_eq!(rt; (index.keys(), index.items(), index.pruned()), (3, 4, 0));
+    index.remove(b"\x1c")?;
+    assert!(rt; has(index.next_translated_key(b"\x0b\x01\x02"), &[3], false));
+    assert!(rt; has(index.prev_translated_key(b"\x2d"), &[1], false));
+    Ok(())
+}
+
+#[test]
+fn ordered_gives_neighbours(rt: HostRuntime) -> Result<(), Fail> {
+    neighbours::<Index<OneCap, u64>>(&rt, rt.alloc(), OneCap)
+}
+
+#[test]
+fn plain_gives_neighbours(rt: HostRuntime) -> Result<(), Fail> {
+    neighbours::<key_index_plain::Index<OneCap, u64>>(&rt, rt.alloc(), OneCap)
+}
+
+/// No key, and then one.
+fn lone<I: Ordered<Value = u64> + Factory + Drop>(
+    rt: &impl Abort,
+    alloc: Global,
+    translator: I::Translator,
+) -> Result<(), Fail> {
+    let mut index = I::new(alloc, translator)?;
+    assert!(rt; index.next_translated_key(b"\x0b").is_none());
+    assert!(rt; index.prev_translated_key(b"\x0b").is_none());
+    assert!(rt; index.first_translated_key().is_none());
+    assert!(rt; index.last_translated_key().is_none());
+    index.insert(b"\x0b", 1)?;
+    assert!(rt; has(index.next_translated_key(b"\x0b"), &[1], true));
+    assert!(rt; has(index.prev_translated_key(b"\x0b"), &[1], true));
+    assert!(rt; has(index.next_translated_key(b"\x0a"), &[1], false));
+    assert!(rt; has(index.prev_translated_key(b"\x0c"), &[1], false));
+    assert!(rt; holds(index.first_translated_key(), &[1]));
+    assert!(rt; holds(index.last_translated_key(), &[1]));
+    Ok(())
+}
+
+#[test]
+fn ordered_with_one_key(rt: HostRuntime) -> Result<(), Fail> {
+    lone::<Index<OneCap, u64>>(&rt, rt.alloc(), OneCap)
+}
+
+#[test]
+fn plain_with_one_key(rt: HostRuntime) -> Result<(), Fail> {
+    lone::<key_index_plain::Index<OneCap, u64>>(&rt, rt.alloc(), OneCap)
+}
+
+#[test]
+fn calls(rt: HostRuntime) -> Result<(), Fail> {
+    let mut index = Index::<OneCap, u64>::new(rt.alloc(), OneCap)?;
+    index.insert(b"\x0b", 1)?;
+    index.insert(b"\x0b", 2)?;
+    index.insert(b"\x0c", 3)?;
+    let slot = index.slot_of(b"\x0b");
+    assert_eq!(&rt; slot, 0x0b);
+    assert!(&rt; index.admits(slot));
+    assert_eq!(&rt; index.run_len(slot), 2);
+    assert_eq!(&rt; *index.value_at(slot, 1), 1);
+    index.set_at(slot, 1, 4);
+    index.insert_at(slot, 2, 5)?;
+    assert!(&rt; index.get(b"\x0b").copied().eq([2, 4, 5]));
+    assert_eq!(&rt; index.remove_at(slot, 0), 2);
+    assert!(&rt; index.get(b"\x0b").copied().eq([4, 5]));
+    index.remove(b"\x0b")?;
+    assert!(&rt; index.get(b"\x0b").next().is_none());
+    assert_eq!(&rt; (index.keys(), index.items(), index.pruned()), (1, 1, 3));
+    Ok(())
+}
+
+#[test]
+fn ordered_is_edited(rt: HostRuntime) -> Result<(), Fail> {
+    edited::<Index<OneCap, u64>>(&rt, rt.alloc(), OneCap)
+}
+
+#[test]
+fn ordered_is_emptied(rt: HostRuntime) -> Result<(), Fail> {
+    emptied::<Index<OneCap, u64>>(&rt, rt.alloc(), OneCap)
+}
+
+#[test]
+fn ordered_runs_each_command(rt: HostRuntime) -> Result<(), Fail> {
+    each_command::<Index<OneCap, u64>>(&rt, rt.alloc(), OneCap)
+}
+
+#[test]
+fn ordered_keeps_what_is_answered(rt: HostRuntime) -> Result<(), Fail> {
+    kept::<Index<OneCap, u64>>(&rt, rt.alloc(), OneCap)
+}
+
+#[test]
+fn ordered_keeps_lists(rt: HostRuntime) -> Result<(), Fail> {
+    drive::<Index<OneCap, u64>>(&rt, rt.alloc(), OneCap)
+}
+
+#[test]
+fn ordered_beside_plain(rt: HostRuntime) -> Result<(), Fail> {
+    beside::<Index<TwoCap, u64>, key_index_plain::Index<TwoCap, u64>>(
+        &rt,
+        rt.alloc(),
+        TwoCap,
+        TwoCap,
+    )
+}
+
+/// Whether two indices give the same neighbour.
+fn same_neighbour(
+    first: Option<(Values<'_, u64>, bool)>,
+    second: Option<(Values<'_, u64>, bool)>,
+) -> bool {
+    match (first, second) {
+        (Some((values, flag)), Some((others, other_flag))) => {
+            flag == other_flag && values.copied().eq(others.copied())
+        }
+        (None, None) => true,
+        _ => false,
+    }
+}
+
+/// Whether two indices have the same values at an end.
+fn same_end(first: Option<Values<'_, u64>>, second: Option<Values<'_, u64>>) -> bool {
+    match (first, second) {
+        (Some(values), Some(others)) => values.copied().eq(others.copied()),
+        (None, None) => true,
+        _ => false,
+    }
+}
+
+/// Calls two ordered indices with the same keys and values, and compares the neighbours of a further key after each call. The keys
+/// have up to two bytes, of four that occur, and most calls take a key out, so that there are often few.
+fn neighbours_beside<
+    A: Ordered<Value = u64> + Factory + Drop,
+    B: Ordered<Value = u64> + Factory + Drop,
+>(
+    rt: &impl Abort,
+    alloc: Global,
+    first_translator: A::Translator,
+    second_translator: B::Translator,
+) -> Result<(), Fail>
+where
+    B::Translator: Drop,
+{
+    let mut first = A::new(alloc, first_translator)?;
+    let mut second = B::new(alloc, second_translator)?;
+    let mut numbers = Numbers::new();
+    for _ in 0..CALLS {
+        let number = numbers.next();
+        let bytes = [b'a' + (number % 4) as u8, b'a' + (number / 4 % 4) as u8];
+        let key = &bytes[..(number / 16 % 3) as usize];
+        if number / 64 % 8 < 5 {
+            first.remove(key)?;
+            second.remove(key)?;
+        } else {
+            first.insert(key, number)?;
+            second.insert(key, number)?;
+        }
+        let asked = [
+            b'a' + (number / 512 % 4) as u8,
+            b'a' + (number / 2048 % 4) as u8,
+        ];
+        let asked = &asked[..(number / 8192 % 3) as usize];
+        assert!(rt;
+            same_neighbour(
+                first.next_translated_key(asked),
+                second.next_translated_key(asked)
+            ),
+            "the neighbour above {asked:?}"
+        );
+        assert!(rt;
+            same_neighbour(
+                first.prev_translated_key(asked),
+                second.prev_translated_key(asked)
+            ),
+            "the neighbour below {asked:?}"
+        );
+        assert!(rt; same_end(first.first_translated_key(), second.first_translated_key()));
+        assert!(rt; same_end(first.last_translated_key(), second.last_translated_key()));
+    }
+    Ok(())
+}
+
+#[test]
+fn neighbours_beside_plain_by_one_byte(rt: HostRuntime) -> Result<(), Fail> {
+    neighbours_beside::<Index<OneCap, u64>, key_index_plain::Index<OneCap, u64>>(
+        &rt,
+        rt.alloc(),
+        OneCap,
+        OneCap,
+    )
+}
+
+#[test]
+fn neighbours_beside_plain_by_four_bytes(rt: HostRuntime) -> Result<(), Fail> {
+    neighbours_beside::<Index<FourCap, u64>, key_index_plain::Index<FourCap, u64>>(
+        &rt,
+        rt.alloc(),
+        FourCap,
+        FourCap,
+    )
+}
+
+#[test]
+fn neighbours_beside_plain_by_eight_bytes(rt: HostRuntime) -> Result<(), Fail> {
+    neighbours_beside::<Index<EightCap, u64>, key_index_plain::Index<EightCap, u64>>(
+        &rt,
+        rt.alloc(),
+        EightCap,
+        EightCap,
+    )
+}
