@@ -2,9 +2,12 @@
 use Rattle.std.specs.Prelude.{ℕ, List, [], ◌∷◌, Option, Some, None, if◌then◌else◌, codes}
 use Rattle.std.specs.Str.{bytes_eq}
 use Rattle.key_index.specs.declared.kind.Kind.{Kind}
-use Rattle.key_index.specs.declared.kind.Kind.TheVariants.{Unordered}
+use Rattle.key_index.specs.declared.kind.Kind.TheVariants.{Unordered, Ordered}
 
 -- the kind of one argument, and none where there are fewer or more
 abbrev pub kind_of : List (List ℕ) → Option Kind
-kind_of (kind ∷ []) = if bytes_eq kind (codes "unordered") then Some Unordered else None
+kind_of (kind ∷ []) =
+    if bytes_eq kind (codes "unordered") then Some Unordered
+    else (if bytes_eq kind (codes "ordered") then Some Ordered
+    else None)
 kind_of _ = None

@@ -1,11 +1,13 @@
 -- What a line of input says. A line is the bytes of one command, without the newline that ends it.
-use Rattle.std.specs.Prelude.{ℕ, ◌+◌, ◌*◌, ◌%◌, ◌^◌, ◌==◌, ◌&&◌, nat_lt, Bool, List, [], ◌∷◌, length, if◌then◌else◌, Option, Some, None, option_and_then, codes}
+use Rattle.std.specs.Prelude.{ℕ, ◌+◌, ◌*◌, ◌%◌, ◌^◌, ◌==◌, ◌&&◌, nat_lt, Bool, List, [], ◌∷◌, length, if◌then◌else◌, Option, Some, None, option_and_then, option_map, codes}
 use Rattle.std.specs.Char.{digit_value, is_ascii_digit, is_ascii_hexdigit}
 use Rattle.std.specs.List.{slice_split, list_all}
 use Rattle.std.specs.Str.{bytes_eq}
 use Rattle.std.specs.Str.Parse.{digits_value}
 use Rattle.key_index.specs.declared.line.Command.{Command}
 use Rattle.key_index.specs.declared.line.Command.TheVariants.{Insert, Remove, Get, Counts}
+use Rattle.key_index.specs.declared.line.OrderedCommand.{OrderedCommand}
+use Rattle.key_index.specs.declared.line.OrderedCommand.TheVariants.{Common, Next, Prev, First, Last}
 
 -- the words of a line: its parts round each single space, 32, so that two spaces in a row have an empty word between them
 abbrev pub words_of : List ℕ → List (List ℕ)
@@ -48,14 +50,14 @@ with_key_and_number command (hex ∷ number ∷ []) = do
 with_key_and_number command _ = None
 
 -- a command whose one word after the first is a key
-abbrev pub with_key : Command → List (List ℕ) → Option (Command × List ℕ)
+abbrev pub with_key : {C : Type 0} → C → List (List ℕ) → Option (C × List ℕ)
 with_key command (hex ∷ []) = do
   key ← key_of hex
   Some (command, key)
 with_key command _ = None
 
 -- a command of one word
-abbrev pub alone : Command → List (List ℕ) → Option (Command × List ℕ)
+abbrev pub alone : {C : Type 0} → C → List (List ℕ) → Option (C × List ℕ)
 alone command [] = Some (command, [])
 alone command _ = None
 
@@ -72,3 +74,16 @@ command_of_words (name ∷ words) =
 -- the command that a line says, and its key
 abbrev pub command_of : List ℕ → Option (Command × List ℕ)
 command_of line = command_of_words (words_of line)
+
+-- the same of an index whose keys are in order, which has commands more
+abbrev pub ordered_command_of_words : List (List ℕ) → Option (OrderedCommand × List ℕ)
+ordered_command_of_words [] = None
+ordered_command_of_words (name ∷ words) =
+    if bytes_eq name (codes "next") then with_key Next words
+    else (if bytes_eq name (codes "prev") then with_key Prev words
+    else (if bytes_eq name (codes "first") then alone First words
+    else (if bytes_eq name (codes "last") then alone Last words
+    else option_map (λ said. (Common said.0, said.1)) (command_of_words (name ∷ words)))))
+
+abbrev pub ordered_command_of : List ℕ → Option (OrderedCommand × List ℕ)
+ordered_command_of line = ordered_command_of_words (words_of line)

@@ -9,6 +9,8 @@ ghost use Rattle.key_index.specs.Kind.{kind_of};
 pub enum Kind {
     /// A flat index that keeps its keys in no order.
     Unordered,
+    /// A flat index that keeps its keys in order.
+    Ordered,
 }
 
 /// The kind that the program's arguments name, and `None` where they are not those of the program.
@@ -17,6 +19,7 @@ pub fn kind_of(words: &[String]) -> Option<Kind>
 {
     match words {
         [kind] if kind.as_str() == "unordered" => Some(Kind::Unordered),
+        [kind] if kind.as_str() == "ordered" => Some(Kind::Ordered),
         _ => None,
     }
 }

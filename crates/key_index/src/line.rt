@@ -3,7 +3,7 @@
 ghost use Rattle.std.specs.Prelude.{◌≡◌, ◌==◌, ◌<◌, ◌↔◌, [], ◌∷◌, length, position, IsTrue, IsNone, IfSome, IfNone, IfOk, IfErr, OnOk, OnErr, IsErrOf, vec_capacity};
 ghost use Rattle.std.specs.Char.{digit_value, is_ascii_hexdigit};
 ghost use Rattle.std.specs.List.{list_all};
-ghost use Rattle.key_index.specs.Line.{alone, command_of, hex_bytes, is_hex, key_of, number_of, with_key, with_key_and_number, words_of};
+ghost use Rattle.key_index.specs.Line.{alone, command_of, hex_bytes, is_hex, key_of, number_of, ordered_command_of, command_of_words, with_key, with_key_and_number, words_of};
 ghost use Rattle.key_index.specs.Words.{words_left};
 
 use std::alloc::AllocError;
@@ -19,6 +19,21 @@ pub enum Command {
     Get,
     /// Shows the counts.
     Counts,
+}
+
+/// What a line says to an index whose keys are in order.
+#[derive(Clone, Copy, Debug, PartialEq, Eq)]
+pub enum OrderedCommand {
+    /// What each index can be told.
+    Common(Command),
+    /// Shows the values of the least index key above that of the key, or of the first where there is none.
+    Next,
+    /// Shows the values of the greatest index key below that of the key, or of the last where there is none.
+    Prev,
+    /// Shows the values of the least index key.
+    First,
+    /// Shows the values of the greatest index key.
+    Last,
 }
 
 /// Why a line gave no command.
@@ -176,7 +191,7 @@ fn insert(mut words: Words<'_>, key: &mut Vec<u8>) -> Result<Command, LineFault>
 }
 
 // Reads the one word, a key, of a command.
-fn with_key(command: Command, mut words: Words<'_>, key: &mut Vec<u8>) -> Result<Command, LineFault>
+fn with_key<C: Drop>(command: C, mut words: Words<'_>, key: &mut Vec<u8>) -> Result<C, LineFault>
     requires { key.old.items ≡ [] }
     ensures accepted { IfOk result (λ read. with_key command (words_left words.entry) ≡ Some (read, key.new.items)) }
     ensures refused { IsErrOf result LineFault.BadLine ↔ IsNone (with_key command (words_left words.entry)) }
@@ -194,13 +209,45 @@ fn with_key(command: Command, mut words: Words<'_>, key: &mut Vec<u8>) -> Result
 }
 
 // Sees that no word follows a command.
-fn alone(command: Command, words: &Words<'_>) -> Result<Command, LineFault>
+fn alone<C: Drop>(command: C, words: &Words<'_>) -> Result<C, LineFault>
     ensures accepted { IfOk result (λ read. alone command (words_left words.now) ≡ Some (read, [])) }
     ensures refused { IsErrOf result LineFault.BadLine ↔ IsNone (alone command (words_left words.now)) }
     ensures only { IfErr result (λ fault. fault ≡ LineFault.BadLine) }
 {
     if words.is_empty() {
         Ok(command)
+    } else {
+        Err(LineFault::BadLine)
+    }
+}
+
+// Empties the buffer for a line's key, and gives the line's words.
+fn begin<'a>(line: &'a [u8], key: &mut Vec<u8>) -> Words<'a>
+    ensures words { words_left result ≡ words_of line.now }
+    ensures empty { key.new.items ≡ [] }
+    ensures room { vec_capacity key.new ≡ vec_capacity key.old }
+{
+    key.clear();
+    Words::of(line)
+}
+
+// The command that a first word and those behind it say.
+fn common(name: &[u8], words: Words<'_>, key: &mut Vec<u8>) -> Result<Command, LineFault>
+    requires { key.old.items ≡ [] }
+    ensures accepted { IfOk result
+        (λ command. command_of_words (name.now ∷ words_left words.entry) ≡ Some (command, key.new.items)) }
+    ensures refused { IsErrOf result LineFault.BadLine ↔ IsNone (command_of_words (name.now ∷ words_left words.entry)) }
+    ensures memory { IsErrOf result LineFault.Memory
+        → IfSome (command_of_words (name.now ∷ words_left words.entry)) (λ said. vec_capacity key.old < length said.1) }
+{
+    if name == b"insert".as_slice() {
+        insert(words, key)
+    } else if name == b"remove".as_slice() {
+        with_key(Command::Remove, words, key)
+    } else if name == b"get".as_slice() {
+        with_key(Command::Get, words, key)
+    } else if name == b"counts".as_slice() {
+        alone(Command::Counts, &words)
     } else {
         Err(LineFault::BadLine)
     }
@@ -216,20 +263,38 @@ pub fn parse(line: &[u8], key: &mut Vec<u8>) -> Result<Command, LineFault>
     ensures memory { IsErrOf result LineFault.Memory
         → IfSome (command_of line.now) (λ said. vec_capacity key.old < length said.1) }
 {
-    key.clear();
-    let mut words = Words::of(line);
+    let mut words = begin(line, key);
+    match words.take() {
+        Some(name) => common(name, words, key),
+        None => Err(LineFault::BadLine),
+    }
+}
+
+/// The same of an index whose keys are in order, which has commands more.
+pub fn parse_ordered(line: &[u8], key: &mut Vec<u8>) -> Result<OrderedCommand, LineFault>
+    ensures accepted { IfOk result (λ command. ordered_command_of line.now ≡ Some (command, key.new.items)) }
+    ensures refused { IsErrOf result LineFault.BadLine ↔ IsNone (ordered_command_of line.now) }
+
+    // Memory is wanted only where the buffer has no room for the key.
+    ensures memory { IsErrOf result LineFault.Memory
+        → IfSome (ordered_command_of line.now) (λ said. vec_capacity key.old < length said.1) }
+{
+    let mut words = begin(line, key);
     let Some(name) = words.take() else {
         return Err(LineFault::BadLine);
     };
-    if name == b"insert".as_slice() {
-        insert(words, key)
-    } else if name == b"remove".as_slice() {
-        with_key(Command::Remove, words, key)
-    } else if name == b"get".as_slice() {
-        with_key(Command::Get, words, key)
-    } else if name == b"counts".as_slice() {
-        alone(Command::Counts, &words)
+    if name == b"next".as_slice() {
+        with_key(OrderedCommand::Next, words, key)
+    } else if name == b"prev".as_slice() {
+        with_key(OrderedCommand::Prev, words, key)
+    } else if name == b"first".as_slice() {
+        alone(OrderedCommand::First, &words)
+    } else if name == b"last".as_slice() {
+        alone(OrderedCommand::Last, &words)
     } else {
-        Err(LineFault::BadLine)
+        match common(name, words, key) {
+            Ok(command) => Ok(OrderedCommand::Common(command)),
+            Err(fault) => Err(fault),
+        }
     }
 }

@@ -2,7 +2,7 @@
 
 use crate::fault::ServeError;
 use crate::kind::{Kind, kind_of};
-use crate::line::{Command, LineFault, parse};
+use crate::line::{Command, LineFault, OrderedCommand, parse, parse_ordered};
 use crate::serve::serve;
 use std::alloc::{AllocError, Global};
 use std::io::{self, Error, ErrorKind, Read, Write};
@@ -103,12 +103,15 @@ fn faults_are_printed(rt: HostRuntime) -> Result<(), Fail> {
 #[test]
 fn arguments_are_read(rt: HostRuntime) -> Result<(), Fail> {
     let unordered = String::from_str(rt.alloc(), "unordered")?;
+    let ordered = String::from_str(rt.alloc(), "ordered")?;
     let further = String::from_str(rt.alloc(), "512")?;
-    let words = vec![in rt.alloc(); unordered, further]?;
-    assert_eq!(rt; words.len(), 2);
+    let words = vec![in rt.alloc(); unordered, ordered, further]?;
+    assert_eq!(rt; words.len(), 3);
     assert_eq!(rt; kind_of(&words[..1]), Some(Kind::Unordered));
-    assert_eq!(rt; kind_of(&words), None);
+    assert_eq!(rt; kind_of(&words[1..2]), Some(Kind::Ordered));
+    assert_eq!(rt; kind_of(&words[..2]), None);
     assert_eq!(rt; kind_of(&words[1..]), None);
+    assert_eq!(rt; kind_of(&words[2..]), None);
     assert_eq!(rt; kind_of(&words[..0]), None);
     Ok(())
 }
@@ -239,10 +242,72 @@ fn sessions_are_answered(rt: HostRuntime) -> Result<(), Fail> {
 }
 
 #[test]
+fn ordered_lines_are_read(rt: HostRuntime) -> Result<(), Fail> {
+    let lines: [(&[u8], OrderedCommand, &[u8]); 6] = [
+        (b"next 0b02", OrderedCommand::Next, &[0x0b, 0x02]),
+        (b"prev -", OrderedCommand::Prev, &[]),
+        (b"first", OrderedCommand::First, &[]),
+        (b"last", OrderedCommand::Last, &[]),
+        (
+            b"insert 0b02 1",
+            OrderedCommand::Common(Command::Insert(1)),
+            &[0x0b, 0x02],
+        ),
+        (b"counts", OrderedCommand::Common(Command::Counts), &[]),
+    ];
+    let mut key = Vec::new(rt.alloc());
+    for (line, command, bytes) in lines {
+        assert_eq!(rt; parse_ordered(line, &mut key), Ok(command), "{line:?}");
+        assert_eq!(rt; key.as_slice(), bytes, "{line:?}");
+    }
+    let bad: [&[u8]; 6] = [b"next", b"next 0", b"prev 0b 0c", b"first ", b"last -", b""];
+    for line in bad {
+        assert_eq!(rt;
+            parse_ordered(line, &mut key),
+            Err(LineFault::BadLine),
+            "{line:?}"
+        );
+    }
+    Ok(())
+}
+
+#[test]
+fn ordered_sessions_are_answered(rt: HostRuntime) -> Result<(), Fail> {
+    let sessions: [(&[u8], &[u8], &[u8], u8); 4] = [
+        (
+            b"insert 0b02aa 1\ninsert 1c04cc 21\ninsert 1c0311 22\ninsert 2d06ee 3\nnext 0b0102\nnext 2d06ee\nprev cc0102\nfirst\nlast\ncounts\n",
+            b"ok\nok\nok\nok\nvalues 22 21\nvalues 1 wrapped\nvalues 3\nvalues 1\nvalues 3\nkeys 3 items 4 pruned 0\n",
+            b"",
+            0,
+        ),
+        (
+            b"next 0b\nprev 0b\nfirst\nlast\ninsert 0b 1\nnext 0b\nprev 0b\nremove 0b\nlast\n",
+            b"none\nnone\nnone\nnone\nok\nvalues 1 wrapped\nvalues 1 wrapped\nok\nnone\n",
+            b"",
+            0,
+        ),
+        (
+            b"insert 0b02 1\ninsert 0bff 2\nget 0b\nremove 0b77\ncounts\n",
+            b"ok\nok\nvalues 2 1\nok\nkeys 0 items 0 pruned 2\n",
+            b"",
+            0,
+        ),
+        (b"first\nlast 0b\n", b"none\n", b"bad line 2\n", 1),
+    ];
+    for (input, output, faults, status) in sessions {
+        let ended = session(rt.alloc(), &["ordered"], input)?;
+        assert_eq!(rt; ended.0.as_slice(), output, "{input:?}");
+        assert_eq!(rt; ended.1.as_slice(), faults, "{input:?}");
+        assert_eq!(rt; ended.2, status, "{input:?}");
+    }
+    Ok(())
+}
+
+#[test]
 fn arguments_come_first(rt: HostRuntime) -> Result<(), Fail> {
     let arguments: [&[&str]; 5] = [
         &[],
-        &["ordered"],
+        &["sorted"],
         &["unordered", "512"],
         &["Unordered"],
         &[""],
@@ -307,7 +372,7 @@ fn failed_writes_end_the_program(rt: HostRuntime) -> Result<(), Fail> {
     // A fault that cannot be told changes no status.
     for (texts, input, status) in [
         ("unordered", b"x".as_slice(), 1),
-        ("ordered", b"", 2),
+        ("sorted", b"", 2),
         ("unordered", b"", 0),
     ] {
         let words = arguments(rt.alloc(), &[texts])?;
