@@ -1,7 +1,7 @@
 //! Cursors, called step by step over any index through one function.
 use super::commands::three;
 use key_index_flat::index::unordered::Index;
-use key_index_flat::index::{Cursor, CursorState, Factory, Unordered};
+use key_index_flat::index::{Cursor, CursorState, Factory, Unordered, ordered};
 use key_index_flat::translator::OneCap;
 use std::alloc::Global;
 use std::process::Abort;
@@ -42,6 +42,11 @@ fn plain_cursor_edits(rt: HostRuntime) -> Result<(), Fail> {
     edited::<key_index_plain::Index<OneCap, u64>>(&rt, rt.alloc(), OneCap)
 }
 
+#[test]
+fn ordered_cursor_edits(rt: HostRuntime) -> Result<(), Fail> {
+    edited::<ordered::Index<OneCap, u64>>(&rt, rt.alloc(), OneCap)
+}
+
 /// The list 5: next 5, delete, next none, insert 6.
 fn emptied<I: Unordered<Value = u64> + Factory + Drop>(
     rt: &impl Abort,
@@ -76,6 +81,11 @@ fn plain_cursor_empties(rt: HostRuntime) -> Result<(), Fail> {
     emptied::<key_index_plain::Index<OneCap, u64>>(&rt, rt.alloc(), OneCap)
 }
 
+#[test]
+fn ordered_cursor_empties(rt: HostRuntime) -> Result<(), Fail> {
+    emptied::<ordered::Index<OneCap, u64>>(&rt, rt.alloc(), OneCap)
+}
+
 /// The list 3, 1, 2: next 3, retain none.
 fn retained<I: Unordered<Value = u64> + Factory + Drop>(
     rt: &impl Abort,
@@ -102,6 +112,11 @@ fn flat_cursor_retains(rt: HostRuntime) -> Result<(), Fail> {
 #[test]
 fn plain_cursor_retains(rt: HostRuntime) -> Result<(), Fail> {
     retained::<key_index_plain::Index<OneCap, u64>>(&rt, rt.alloc(), OneCap)
+}
+
+#[test]
+fn ordered_cursor_retains(rt: HostRuntime) -> Result<(), Fail> {
+    retained::<ordered::Index<OneCap, u64>>(&rt, rt.alloc(), OneCap)
 }
 
 /// The list 3, 1, 2: retain by a closure that changes its mind.
@@ -135,6 +150,11 @@ fn plain_cursor_retains_in_turn(rt: HostRuntime) -> Result<(), Fail> {
     retained_in_turn::<key_index_plain::Index<OneCap, u64>>(&rt, rt.alloc(), OneCap)
 }
 
+#[test]
+fn ordered_cursor_retains_in_turn(rt: HostRuntime) -> Result<(), Fail> {
+    retained_in_turn::<ordered::Index<OneCap, u64>>(&rt, rt.alloc(), OneCap)
+}
+
 /// The list 3, 1, 2: find 1, update 9, find 5 in vain, insert 7.
 fn found<I: Unordered<Value = u64> + Factory + Drop>(
     rt: &impl Abort,
@@ -164,6 +184,11 @@ fn flat_cursor_finds(rt: HostRuntime) -> Result<(), Fail> {
 #[test]
 fn plain_cursor_finds(rt: HostRuntime) -> Result<(), Fail> {
     found::<key_index_plain::Index<OneCap, u64>>(&rt, rt.alloc(), OneCap)
+}
+
+#[test]
+fn ordered_cursor_finds(rt: HostRuntime) -> Result<(), Fail> {
+    found::<ordered::Index<OneCap, u64>>(&rt, rt.alloc(), OneCap)
 }
 
 /// Cursors that are dropped half way: before a value, after a delete, on a value, after an insert, and past the end.
@@ -239,6 +264,11 @@ fn plain_cursor_is_dropped(rt: HostRuntime) -> Result<(), Fail> {
     dropped::<key_index_plain::Index<OneCap, u64>>(&rt, rt.alloc(), OneCap)
 }
 
+#[test]
+fn ordered_cursor_is_dropped(rt: HostRuntime) -> Result<(), Fail> {
+    dropped::<ordered::Index<OneCap, u64>>(&rt, rt.alloc(), OneCap)
+}
+
 /// A cursor that takes out the only value of a key, and is dropped there: the key is gone.
 fn dropped_without_values<I: Unordered<Value = u64> + Factory + Drop>(
     rt: &impl Abort,
@@ -270,4 +300,9 @@ fn flat_cursor_leaves_no_key(rt: HostRuntime) -> Result<(), Fail> {
 #[test]
 fn plain_cursor_leaves_no_key(rt: HostRuntime) -> Result<(), Fail> {
     dropped_without_values::<key_index_plain::Index<OneCap, u64>>(&rt, rt.alloc(), OneCap)
+}
+
+#[test]
+fn ordered_cursor_leaves_no_key(rt: HostRuntime) -> Result<(), Fail> {
+    dropped_without_values::<ordered::Index<OneCap, u64>>(&rt, rt.alloc(), OneCap)
 }

@@ -1,5 +1,6 @@
 //! Ordered indices: the neighbours of a key, and each row of the other tests again.
 use super::commands::{each_command, edited, emptied, kept};
+use super::commands_beside::run_beside;
 use super::driver::{beside, drive};
 use super::numbers::Numbers;
 use key_index_flat::index::ordered::Index;
@@ -257,5 +258,15 @@ fn neighbours_beside_plain_by_eight_bytes(rt: HostRuntime) -> Result<(), Fail> {
         rt.alloc(),
         EightCap,
         EightCap,
+    )
+}
+
+#[test]
+fn ordered_beside_plain_by_commands(rt: HostRuntime) -> Result<(), Fail> {
+    run_beside::<Index<OneCap, u64>, key_index_plain::Index<OneCap, u64>>(
+        &rt,
+        rt.alloc(),
+        OneCap,
+        OneCap,
     )
 }
