@@ -1,5 +1,6 @@
 -- On full keys in an index that keeps their order: in a filed content, what a list and its neighbour have is what all lists have.
 --     next_of_filed, prev_of_filed      the candidate is the neighbour among all values
+--     filed_first, filed_rest           the first list of a filed content, and the others
 use Rattle.std.proofs.Common.{◌≡◌, ℕ, Bool, true, false, cond, T, ◌<◌, List, [], ◌∷◌, ◌++◌, Option, Some, None, unwrap_or, All, append_assoc, append-nil, refl, sym, ap, subst, ◌∙◌}
 use Rattle.std.proofs.lemmas.Bool.{false≢true}
 use Rattle.std.proofs.lemmas.List.Elements.{All-nil, All-cons, All-head, All-tail, All-append, All-weaker, All-filter, filter-append}
@@ -44,6 +45,21 @@ not_filled_front : {V : Type 0} (l m : List V) → T (is_filled l) → l ++ m �
 not_filled_front [] m h e = h
 not_filled_front (x ∷ xs) m h e = no_list x (xs ++ m) e
 
+-- the first list of a filed content, and the others
+module _ {K V : Type 0} {cmp : K → K → Ordering} (o : IsTotalOrder cmp) (full_key : V → List ℕ) (slot : List ℕ → K) where
+  pub filed_first : (e : K × List V) (es : Content K V) → IsFiled full_key cmp slot (e ∷ es) → All (λ v. IsBytes (full_key v) × (slot (full_key v) ≡ e.0)) e.1
+  filed_first e es f =
+      subst (λ r. All (λ v. IsBytes (full_key v) × (slot (full_key v) ≡ e.0)) (unwrap_or (cond (is_eq r) (Some e.1) (find cmp e.0 es)) [])) (tied_itself o e.0) (f e.0)
+
+  pub filed_rest : (e : K × List V) (es : Content K V) → T (below_all cmp e.0 es) → IsFiled full_key cmp slot (e ∷ es) → IsFiled full_key cmp slot es
+  filed_rest e es h f = λ k.
+      let Under : V → Type 0 = λ v. IsBytes (full_key v) × (slot (full_key v) ≡ k) in
+      elim (cmp k e.0) as (λ r. cmp k e.0 ≡ r → All Under (unwrap_or (cond (is_eq r) (Some e.1) (find cmp k es)) []) → All Under (list_at cmp es k)) [
+        | Less ↦ λ p x. x
+        | Equal ↦ λ p x. subst (All Under) (sym (absent o k e.0 es (λ y q. o.congr k e.0 y p ∙ q) h)) (All-nil Under)
+        | Greater ↦ λ p x. x
+      ] refl (f k)
+
 module _ {K V : Type 0} {cmp : K → K → Ordering} (o : IsTotalOrder cmp) (full_key : V → List ℕ) (slot : List ℕ → K) (keeps : KeepsOrder cmp slot) where
   -- a value that stands under its own index key, and one whose index key is above another
   abbrev FiledUnder : K → V → Type 0
@@ -72,15 +88,7 @@ module _ {K V : Type 0} {cmp : K → K → Ordering} (o : IsTotalOrder cmp) (ful
 
   filed_entries : (c : Content K V) → T (is_sorted cmp c) → IsFiled full_key cmp slot c → Filed c
   filed_entries [] h f = tt
-  filed_entries (e ∷ es) h f =
-      let here = subst (λ r. All (FiledUnder e.0) (unwrap_or (cond (is_eq r) (Some e.1) (find cmp e.0 es)) [])) (tied_itself o e.0) (f e.0) in
-      let rest : IsFiled full_key cmp slot es = λ k.
-        elim (cmp k e.0) as (λ r. cmp k e.0 ≡ r → All (FiledUnder k) (unwrap_or (cond (is_eq r) (Some e.1) (find cmp k es)) []) → All (FiledUnder k) (list_at cmp es k)) [
-          | Less ↦ λ p x. x
-          | Equal ↦ λ p x. subst (All (FiledUnder k)) (sym (absent o k e.0 es (λ y q. o.congr k e.0 y p ∙ q) (first _ _ h))) (All-nil (FiledUnder k))
-          | Greater ↦ λ p x. x
-        ] refl (f k) in
-      (here, filed_entries es (second _ _ h) rest)
+  filed_entries (e ∷ es) h f = (filed_first o full_key slot e es f, filed_entries es (second _ _ h) (filed_rest o full_key slot e es (first _ _ h) f))
 
   behind_all : (x : K) (es : Content K V) → T (below_all cmp x es) → Filed es → All (Behind x) (values_of es)
   behind_all x [] h f = All-nil (Behind x)

@@ -1,10 +1,16 @@
 //! Callers as a user writes them: over any index, by its content alone.
-ghost use Rattle.std.specs.Prelude.{◌≡◌, ◌<◌, ◌↔◌, [], ◌∷◌, IfOk, OnOk, OnErr, IsTrue, length, slice_set};
+ghost use Rattle.std.specs.Prelude.{◌≡◌, ◌<◌, ◌↔◌, [], ◌∷◌, true, IfOk, OnOk, OnErr, IsTrue, length, slice_set};
+ghost use Rattle.std.specs.Option.{MatchOption, option_copied};
 ghost use Rattle.key_index_flat.specs.Commands.{after_insert};
 ghost use Rattle.key_index_flat.specs.Content.{list_at, with_list, item_count};
+ghost use Rattle.key_index_flat.specs.FullKeys.{IsFiled, values_of};
+ghost use Rattle.key_index_uses.specs.Exclusion.{has_key, Excludes};
 
 use key_index_flat::index::unordered::Index;
-use key_index_flat::index::{Cursor, Factory, Fault, IndexCursor, Refused, Unordered, reach};
+use key_index_flat::index::{
+    Cursor, Factory, Fault, IndexCursor, Keyed, Ordered, Refused, Unordered, Values, reach, resolve_next,
+    resolve_prev,
+};
 use key_index_flat::translator::OneCap;
 use std::alloc::Global;
 
@@ -67,4 +73,40 @@ where
     cursor.update(value);
     cursor.close();
     Ok(true)
+}
+
+/// The values next to a full key that no value has. One that is absent says that no full key is on that side.
+#[derive(Drop)]
+pub struct Exclusion<'a, V> {
+    pub below: Option<&'a V>,
+    pub above: Option<&'a V>,
+}
+
+/// Whether a value has the full key.
+fn has_key<V: Keyed>(values: Values<'_, V>, key: &[u8]) -> bool
+    ensures { result ≡ has_key V.full_key key.now values.entry }
+{
+    for value in values {
+        if value.full_key() == key {
+            return true;
+        }
+    }
+    false
+}
+
+/// Shows that no value has a full key, by the values next to it, in an index whose values stand under their own full keys. `None`
+/// exactly where a value has the key.
+pub fn exclude<'a, I: Ordered>(index: &'a I, key: &[u8]) -> Option<Exclusion<'a, I::Value>>
+where
+    I::Value: Keyed,
+    requires { IsFiled I.Value.full_key I.Key.cmp (I.slot index.now) (I.content index.now) }
+    ensures { MatchOption result (has_key I.Value.full_key key.now (values_of (I.content index.now)) ≡ true) (λ next_to. Excludes I.Value.full_key (values_of (I.content index.now)) key.now (option_copied next_to.below) (option_copied next_to.above)) }
+{
+    if has_key(index.get(key), key) {
+        return None;
+    }
+    Some(Exclusion {
+        below: resolve_prev(index, key),
+        above: resolve_next(index, key),
+    })
 }
