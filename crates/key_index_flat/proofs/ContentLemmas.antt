@@ -29,7 +29,7 @@ filled : {V : Type 0} (l : List V) → T (is_filled l) → Some l ≡ if_filled 
 filled [] p = absurd p
 filled (v ∷ vs) p = refl
 
-tied : (r : Ordering) → is_eq r ≡ true → r ≡ Equal
+pub tied : (r : Ordering) → is_eq r ≡ true → r ≡ Equal
 tied Less p = absurd (subst T (sym p) tt)
 tied Equal p = refl
 tied Greater p = absurd (subst T (sym p) tt)

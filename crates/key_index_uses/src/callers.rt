@@ -1,5 +1,5 @@
 //! Callers as a user writes them: over any index, by its content alone.
-ghost use Rattle.std.specs.Prelude.{◌≡◌, ◌<◌, ◌↔◌, [], ◌∷◌, true, IfOk, OnOk, OnErr, IsTrue, length, slice_set};
+ghost use Rattle.std.specs.Prelude.{◌≡◌, ◌<◌, ◌↔◌, [], ◌∷◌, true, IfOk, IfErr, OnOk, OnErr, IsTrue, length, slice_set};
 ghost use Rattle.std.specs.Option.{MatchOption, option_copied};
 ghost use Rattle.key_index_flat.specs.Commands.{after_insert};
 ghost use Rattle.key_index_flat.specs.Content.{list_at, with_list, item_count};
@@ -94,13 +94,30 @@ fn has_key<V: Keyed>(values: Values<'_, V>, key: &[u8]) -> bool
     false
 }
 
+/// Files a value under its own full key. In an index whose values all stand under theirs, as in a new one, they still do.
+pub fn file<I: Ordered>(
+    index: &mut I,
+    key: &[u8],
+    value: I::Value,
+) -> Result<(), Refused<I::Value>>
+where
+    I::Value: Keyed,
+    requires { I.Value.full_key value ≡ key.now }
+    ensures filed { IsFiled I.Value.full_key I.Key.cmp (I.slot index.old) (I.content index.old) → IsFiled I.Value.full_key I.Key.cmp (I.slot index.new) (I.content index.new) }
+    ensures added { OnOk result (I.content index.new ≡ after_insert I.Key.cmp I.INSERT_FIRST (I.content index.old) (I.slot index.old key.now) value) }
+    ensures refused { OnErr result (I.content index.new ≡ I.content index.old) }
+    ensures returned { IfErr result (λ refused. refused.value ≡ value) }
+{
+    index.insert(key, value)?;
+    Ok(())
+}
+
 /// Shows that no value has a full key, by the values next to it, in an index whose values stand under their own full keys. `None`
 /// exactly where a value has the key.
 pub fn exclude<'a, I: Ordered>(index: &'a I, key: &[u8]) -> Option<Exclusion<'a, I::Value>>
 where
     I::Value: Keyed,
-    requires { IsFiled I.Value.full_key I.Key.cmp (I.slot index.now) (I.content index.now) }
-    ensures { MatchOption result (has_key I.Value.full_key key.now (values_of (I.content index.now)) ≡ true) (λ next_to. Excludes I.Value.full_key (values_of (I.content index.now)) key.now (option_copied next_to.below) (option_copied next_to.above)) }
+    ensures { IsFiled I.Value.full_key I.Key.cmp (I.slot index.now) (I.content index.now) → MatchOption result (has_key I.Value.full_key key.now (values_of (I.content index.now)) ≡ true) (λ next_to. Excludes I.Value.full_key (values_of (I.content index.now)) key.now (option_copied next_to.below) (option_copied next_to.above)) }
 {
     if has_key(index.get(key), key) {
         return None;

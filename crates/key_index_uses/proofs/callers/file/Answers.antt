@@ -1,0 +1,15 @@
+use Rattle.std.proofs.Common.{◌<◌, sym, subst, arith}
+use Rattle.std.proofs.lemmas.List.Elements.{All-from_get_or}
+use Rattle.key_index_flat.specs.FullKeys.{IsFiled}
+use Rattle.key_index_uses.proofs.FiledLemmas.{filed_more}
+use Rattle.key_index_uses.proofs.callers.file.Goals as goal
+
+pub returns-clause-filed : goal.returns-clause-filed
+returns-clause-filed g c = λ filed.
+    let index = c.args.index.now in
+    let now = c.insert.new.self in
+    let key = c.args.key.now in
+    let said = c.in_ok-insert.ensures.accepted in
+    subst (λ s. IsFiled g.I.Value.Keyed.full_key g.I.Key.Ord.cmp s (g.I.Runs.content now)) (sym said.same_slots)
+    (filed_more g.met.I.Key.Ord.total g.met.I.Runs.exact g.I.Value.Keyed.full_key (g.I.Runs.slot index) g.I.Unordered.INSERT_FIRST (g.I.Runs.content index) (g.I.Runs.content now) key c.args.value
+    c.requires (All-from_get_or (λ n. n < 256) key 0 (λ i within. omega (arith, c.type_inv.key i))) said.content_is filed)
