@@ -4,6 +4,7 @@ mod commands_beside;
 mod cursors;
 mod driver;
 mod flat;
+mod full_keys;
 mod numbers;
 mod ordered;
 

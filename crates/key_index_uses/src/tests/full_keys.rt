@@ -1,0 +1,144 @@
+//! Records next to a full key, in indices that keep its first byte.
+use crate::callers::{exclude, file};
+use key_index_flat::index::ordered::Index;
+use key_index_flat::index::{Factory, Keyed, Ordered, resolve_next, resolve_prev};
+use key_index_flat::translator::OneCap;
+use std::alloc::Global;
+use std::process::Abort;
+use std::test::Fail;
+
+/// A record of a log: its key, and where it stands.
+#[derive(Debug, Drop)]
+struct Record {
+    key: Vec<u8>,
+    position: u64,
+}
+
+impl Keyed for Record {
+    ghost full_key = { λ record. record.key.items };
+
+    fn full_key(&self) -> &[u8] {
+        self.key.as_slice()
+    }
+}
+
+/// Files a record.
+fn add<I: Ordered<Value = Record>>(
+    alloc: Global,
+    index: &mut I,
+    key: &[u8],
+    position: u64,
+) -> Result<(), Fail> {
+    let record = Record {
+        key: Vec::from_slice(alloc, key)?,
+        position,
+    };
+    Ok(file(index, key, record)?)
+}
+
+/// Where a record stands.
+fn position(record: Option<&Record>) -> Option<u64> {
+    match record {
+        Some(record) => Some(record.position),
+        None => None,
+    }
+}
+
+/// Two records that share their first byte, and one further on.
+fn neighbours<I: Ordered<Value = Record> + Factory + Drop>(
+    rt: &impl Abort,
+    alloc: Global,
+    translator: I::Translator,
+) -> Result<(), Fail> {
+    let mut index = I::new(alloc, translator)?;
+    assert!(rt; resolve_next(&index, b"").is_none());
+    assert!(rt; resolve_prev(&index, b"\xff").is_none());
+    add(alloc, &mut index, b"\x0b\x02", 1)?;
+    add(alloc, &mut index, b"\x0b\x05", 2)?;
+    add(alloc, &mut index, b"\x1c\x01", 3)?;
+    assert_eq!(rt; position(resolve_next(&index, b"\x0b\x02")), Some(2));
+    assert_eq!(rt; position(resolve_next(&index, b"\x0b\x05")), Some(3));
+    assert!(rt; resolve_next(&index, b"\x1c\x01").is_none());
+    assert_eq!(rt; position(resolve_prev(&index, b"\x1c\x01")), Some(2));
+    assert!(rt; resolve_prev(&index, b"\x0b\x02").is_none());
+    assert_eq!(rt; position(resolve_next(&index, b"\x0b\x03")), Some(2));
+    assert_eq!(rt; position(resolve_prev(&index, b"\x0b\x03")), Some(1));
+    assert_eq!(rt; position(resolve_next(&index, b"")), Some(1));
+    assert_eq!(rt; position(resolve_prev(&index, b"\xff")), Some(3));
+    Ok(())
+}
+
+#[test]
+fn ordered_resolves(rt: HostRuntime) -> Result<(), Fail> {
+    neighbours::<Index<OneCap, Record>>(&rt, rt.alloc(), OneCap)
+}
+
+#[test]
+fn plain_resolves(rt: HostRuntime) -> Result<(), Fail> {
+    neighbours::<key_index_plain::Index<OneCap, Record>>(&rt, rt.alloc(), OneCap)
+}
+
+/// The empty key and the byte 0, which share an index key; and two records of one full key, of which the newer comes first.
+fn together<I: Ordered<Value = Record> + Factory + Drop>(
+    rt: &impl Abort,
+    alloc: Global,
+    translator: I::Translator,
+) -> Result<(), Fail> {
+    let mut index = I::new(alloc, translator)?;
+    add(alloc, &mut index, b"", 1)?;
+    add(alloc, &mut index, b"\x00", 2)?;
+    assert_eq!(rt; position(resolve_next(&index, b"")), Some(2));
+    assert_eq!(rt; position(resolve_prev(&index, b"\x00")), Some(1));
+    assert!(rt; resolve_prev(&index, b"").is_none());
+    add(alloc, &mut index, b"\x0b\x05", 3)?;
+    add(alloc, &mut index, b"\x0b\x05", 4)?;
+    assert_eq!(rt; position(resolve_next(&index, b"\x0b")), Some(4));
+    assert_eq!(rt; position(resolve_prev(&index, b"\x0b\x06")), Some(4));
+    Ok(())
+}
+
+#[test]
+fn ordered_resolves_together(rt: HostRuntime) -> Result<(), Fail> {
+    together::<Index<OneCap, Record>>(&rt, rt.alloc(), OneCap)
+}
+
+#[test]
+fn plain_resolves_together(rt: HostRuntime) -> Result<(), Fail> {
+    together::<key_index_plain::Index<OneCap, Record>>(&rt, rt.alloc(), OneCap)
+}
+
+/// An absent key among others, and below and above them all; and a held one.
+fn excluded<I: Ordered<Value = Record> + Factory + Drop>(
+    rt: &impl Abort,
+    alloc: Global,
+    translator: I::Translator,
+) -> Result<(), Fail> {
+    let mut index = I::new(alloc, translator)?;
+    add(alloc, &mut index, b"\x0b\x02", 1)?;
+    add(alloc, &mut index, b"\x0b\x05", 2)?;
+    add(alloc, &mut index, b"\x1c\x01", 3)?;
+    for (key, below, above) in [
+        (b"\x0b\x03".as_slice(), Some(1), Some(2)),
+        (b"\x0c".as_slice(), Some(2), Some(3)),
+        (b"".as_slice(), None, Some(1)),
+        (b"\x1c\x01\x00".as_slice(), Some(3), None),
+    ] {
+        let Some(next_to) = exclude(&index, key) else {
+            panic!(rt; "no record has the key {key:?}")
+        };
+        assert_eq!(rt; position(next_to.below), below, "{key:?}");
+        assert_eq!(rt; position(next_to.above), above, "{key:?}");
+    }
+    assert!(rt; exclude(&index, b"\x0b\x05").is_none());
+    Ok(())
+}
+
+#[test]
+fn ordered_excludes(rt: HostRuntime) -> Result<(), Fail> {
+    excluded::<Index<OneCap, Record>>(&rt, rt.alloc(), OneCap)
+}
+
+#[test]
+fn plain_excludes(rt: HostRuntime) -> Result<(), Fail> {
+    excluded::<key_index_plain::Index<OneCap, Record>>(&rt, rt.alloc(), OneCap)
+}
