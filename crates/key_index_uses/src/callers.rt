@@ -94,21 +94,21 @@ fn has_key<V: Keyed>(values: Values<'_, V>, key: &[u8]) -> bool
     false
 }
 
-/// Files a value under its own full key. In an index whose values all stand under theirs, as in a new one, they still do.
+/// Files a record under its own full key. In an index whose records all stand under theirs, as in a new one, they still do.
 pub fn file<I: Ordered>(
     index: &mut I,
     key: &[u8],
-    value: I::Value,
+    record: I::Value,
 ) -> Result<(), Refused<I::Value>>
 where
     I::Value: Keyed,
-    requires { I.Value.full_key value ≡ key.now }
+    requires { I.Value.full_key record ≡ key.now }
     ensures filed { IsFiled I.Value.full_key I.Key.cmp (I.slot index.old) (I.content index.old) → IsFiled I.Value.full_key I.Key.cmp (I.slot index.new) (I.content index.new) }
-    ensures added { OnOk result (I.content index.new ≡ after_insert I.Key.cmp I.INSERT_FIRST (I.content index.old) (I.slot index.old key.now) value) }
+    ensures added { OnOk result (I.content index.new ≡ after_insert I.Key.cmp I.INSERT_FIRST (I.content index.old) (I.slot index.old key.now) record) }
     ensures refused { OnErr result (I.content index.new ≡ I.content index.old) }
-    ensures returned { IfErr result (λ refused. refused.value ≡ value) }
+    ensures returned { IfErr result (λ refused. refused.value ≡ record) }
 {
-    index.insert(key, value)?;
+    index.insert(key, record)?;
     Ok(())
 }
 
