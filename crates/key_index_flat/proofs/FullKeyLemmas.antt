@@ -206,7 +206,7 @@ module _ {K V : Type 0} {cmp : K → K → Ordering} (o : IsTotalOrder cmp) (ful
         let k = slot a in
         let rest : above full_key a (values_of es) ≡ above full_key a (list_at cmp es k) ++ values_of (entries_above cmp es k) = above_values es (second _ _ h) f.1 in
         let none : ((y : K) → cmp e.0 y ≡ Less → cmp k y ≡ Less) → above full_key a (values_of es) ≡ values_of (entries_above cmp es k) = λ through.
-          rest ∙ ap (λ l. above full_key a l ++ values_of (entries_above cmp es k)) (absent o k e.0 es through (first _ _ h)) in
+        rest ∙ ap (λ l. above full_key a l ++ values_of (entries_above cmp es k)) (absent o k e.0 es through (first _ _ h)) in
         filter-append (λ v. is_lt (byte_cmp a (full_key v))) e.1 (values_of es)
         ∙ elim (cmp k e.0) as (λ r. cmp k e.0 ≡ r → above full_key a e.1 ++ above full_key a (values_of es) ≡ above full_key a (unwrap_or (cond (is_eq r) (Some e.1) (find cmp k es)) []) ++ values_of (cond (is_lt r) (e ∷ entries_above cmp es k) (entries_above cmp es k))) [
           | Less ↦ λ p.

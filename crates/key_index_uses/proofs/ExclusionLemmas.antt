@@ -116,12 +116,12 @@ module _ {V : Type 0} (full_key : V → List ℕ) (a : List ℕ) where
           | Some v ↦ λ b. (b.0, lt_is _ b.1)
         ] higher;
         none_between = λ i d within between.
-          let w = slice_index_or l i d in
-          elim (byte_cmp (full_key w) a) as (λ r. byte_cmp (full_key w) a ≡ r → ⊥) [
-            | Less ↦ λ e. not_below l w prev (bounds_at down (λ v. is_lt (byte_cmp (full_key v) a)) l prev lower i d within) between.0 e
-            | Equal ↦ λ e. apart (full_key w) (others i d within) e
-            | Greater ↦ λ e. not_above l w next (bounds_at up (λ v. is_lt (byte_cmp a (full_key v))) l next higher i d within) between.1 (nat_list_cmp_total.antisymm a (full_key w) ∙ ap ordering_reverse e)
-          ] refl;
+            let w = slice_index_or l i d in
+            elim (byte_cmp (full_key w) a) as (λ r. byte_cmp (full_key w) a ≡ r → ⊥) [
+              | Less ↦ λ e. not_below l w prev (bounds_at down (λ v. is_lt (byte_cmp (full_key v) a)) l prev lower i d within) between.0 e
+              | Equal ↦ λ e. apart (full_key w) (others i d within) e
+              | Greater ↦ λ e. not_above l w next (bounds_at up (λ v. is_lt (byte_cmp a (full_key v))) l next higher i d within) between.1 (nat_list_cmp_total.antisymm a (full_key w) ∙ ap ordering_reverse e)
+            ] refl;
       }
 
 -- in a filed content a full key is held where it is held in its own list
@@ -129,10 +129,10 @@ module _ {K V : Type 0} {cmp : K → K → Ordering} (o : IsTotalOrder cmp) (ful
   elsewhere : (x : K) (l : List V) → All (λ v. IsBytes (full_key v) × (slot (full_key v) ≡ x)) l → ((slot a ≡ x) → ⊥) → has_key full_key a l ≡ false
   elsewhere x l h other =
       list_any_none (λ v. bytes_eq (full_key v) a) l (All-weaker (λ v. IsBytes (full_key v) × (slot (full_key v) ≡ x)) (λ v. bytes_eq (full_key v) a ≡ false) (λ v u.
-        elim (bytes_eq (full_key v) a) as (λ b. bytes_eq (full_key v) a ≡ b → b ≡ false) [
-          | true ↦ λ e. absurd (other (ap slot (sym ((bytes_eq-Decides (full_key v) a).0 e)) ∙ u.1))
-          | false ↦ λ e. refl
-        ] refl) l h)
+      elim (bytes_eq (full_key v) a) as (λ b. bytes_eq (full_key v) a ≡ b → b ≡ false) [
+        | true ↦ λ e. absurd (other (ap slot (sym ((bytes_eq-Decides (full_key v) a).0 e)) ∙ u.1))
+        | false ↦ λ e. refl
+      ] refl) l h)
 
   pub has_key_anywhere : (c : Content K V) → T (is_sorted cmp c) → IsFiled full_key cmp slot c → has_key full_key a (values_of c) ≡ has_key full_key a (list_at cmp c (slot a))
   has_key_anywhere [] h f = refl

@@ -20,5 +20,5 @@ returns g c = λ filed.
     let key = c.args.key.now in
     let content = g.I.Runs.content index in
     let none = has_key_anywhere g.met.I.Key.Ord.total keys (g.I.Runs.slot index) key content (g.met.I.Runs.lawful index).0 filed
-        ∙ ap (has_key keys key) (sym c.get.ensures) ∙ sym c.has_key.ensures ∙ c.if-has_key.false in
+    ∙ ap (has_key keys key) (sym c.get.ensures) ∙ sym c.has_key.ensures ∙ c.if-has_key.false in
     excludes keys key (values_of content) (option_copied c.resolve_prev.result) (option_copied c.resolve_next.result) none (c.resolve_prev.ensures.filed filed) (c.resolve_next.ensures.filed filed)
