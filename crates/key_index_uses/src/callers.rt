@@ -8,8 +8,8 @@ ghost use Rattle.key_index_uses.specs.Exclusion.{has_key, Excludes};
 
 use key_index_flat::index::unordered::Index;
 use key_index_flat::index::{
-    Cursor, Factory, Fault, IndexCursor, Keyed, Ordered, Refused, Unordered, Values, reach, resolve_next,
-    resolve_prev,
+    Cursor, Factory, Fault, IndexCursor, Keyed, Ordered, Refused, Unordered, Values, reach,
+    resolve_next, resolve_prev,
 };
 use key_index_flat::translator::OneCap;
 use std::alloc::Global;
@@ -94,21 +94,21 @@ fn has_key<V: Keyed>(values: Values<'_, V>, key: &[u8]) -> bool
     false
 }
 
-/// Files a record under its own full key. In an index whose records all stand under theirs, as in a new one, they still do.
-pub fn file<I: Ordered>(
+/// Files a value under its own full key. In an index whose values all stand under theirs, as in a new one, they still do.
+pub fn file<I: Unordered>(
     index: &mut I,
     key: &[u8],
-    record: I::Value,
+    item: I::Value,
 ) -> Result<(), Refused<I::Value>>
 where
     I::Value: Keyed,
-    requires { I.Value.full_key record ≡ key.now }
+    requires { I.Value.full_key item ≡ key.now }
     ensures filed { IsFiled I.Value.full_key I.Key.cmp (I.slot index.old) (I.content index.old) → IsFiled I.Value.full_key I.Key.cmp (I.slot index.new) (I.content index.new) }
-    ensures added { OnOk result (I.content index.new ≡ after_insert I.Key.cmp I.INSERT_FIRST (I.content index.old) (I.slot index.old key.now) record) }
+    ensures added { OnOk result (I.content index.new ≡ after_insert I.Key.cmp I.INSERT_FIRST (I.content index.old) (I.slot index.old key.now) item) }
     ensures refused { OnErr result (I.content index.new ≡ I.content index.old) }
-    ensures returned { IfErr result (λ refused. refused.value ≡ record) }
+    ensures returned { IfErr result (λ refused. refused.value ≡ item) }
 {
-    index.insert(key, record)?;
+    index.insert(key, item)?;
     Ok(())
 }
 

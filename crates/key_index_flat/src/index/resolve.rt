@@ -45,7 +45,7 @@ fn greater<'a, V: Keyed>(greatest: Option<&'a V>, value: &'a V) -> Option<&'a V>
     }
 }
 
-/// The value with the least full key.
+/// The first of the values with the least full key.
 fn least<'a, V: Keyed>(values: Values<'a, V>) -> Option<&'a V>
     ensures { IsLeast (cmp_keys V.full_key) values.entry (option_copied result) }
 {
@@ -56,7 +56,7 @@ fn least<'a, V: Keyed>(values: Values<'a, V>) -> Option<&'a V>
     least
 }
 
-/// The value with the least full key of those above a key.
+/// The first of the values with the least full key above a key.
 fn least_above<'a, V: Keyed>(values: Values<'a, V>, key: &[u8]) -> Option<&'a V>
     ensures { IsLeast (cmp_keys V.full_key) (above V.full_key key.now values.entry) (option_copied result) }
 {
@@ -69,7 +69,7 @@ fn least_above<'a, V: Keyed>(values: Values<'a, V>, key: &[u8]) -> Option<&'a V>
     least
 }
 
-/// The value with the greatest full key.
+/// The first of the values with the greatest full key.
 fn greatest<'a, V: Keyed>(values: Values<'a, V>) -> Option<&'a V>
     ensures { IsLeast (flip_args (cmp_keys V.full_key)) values.entry (option_copied result) }
 {
@@ -80,7 +80,7 @@ fn greatest<'a, V: Keyed>(values: Values<'a, V>) -> Option<&'a V>
     greatest
 }
 
-/// The value with the greatest full key of those below a key.
+/// The first of the values with the greatest full key below a key.
 fn greatest_below<'a, V: Keyed>(values: Values<'a, V>, key: &[u8]) -> Option<&'a V>
     ensures { IsLeast (flip_args (cmp_keys V.full_key)) (below V.full_key key.now values.entry) (option_copied result) }
 {
@@ -93,8 +93,8 @@ fn greatest_below<'a, V: Keyed>(values: Values<'a, V>, key: &[u8]) -> Option<&'a
     greatest
 }
 
-/// The value with the least full key of those above a key in its own list and, where none is, of those in the next list, unless that
-/// one is found by cycling.
+/// The least of the values above a key in its own list. Where none is above, the least of the next list, unless that one is found
+/// by cycling.
 fn next_candidate<'a, I: Ordered>(index: &'a I, key: &[u8]) -> Option<&'a I::Value>
 where
     I::Value: Keyed,
@@ -109,12 +109,13 @@ where
     }
 }
 
-/// The value with the least full key strictly above a key, in an index whose values stand under their own full keys. `None`
-/// exactly where no full key is above. Among equal full keys the first in list order. Whatever the index holds, the value is
-/// that with the least full key of those above the key in its own list and, where none is, of those in the next list, unless that
-/// one is found by cycling.
+/// The value with the least full key strictly above a key, of all in an index whose values stand under their own full keys. `None`
+/// exactly where no full key is above. Among equal full keys the first in list order.
 ///
-/// Takes no memory, and time in proportion to the values of one list or two.
+/// Whatever the index holds, it is the least of those above the key in its own list and, where none is, of those in the next list,
+/// unless that one is found by cycling.
+///
+/// Takes no memory, and time in proportion to the values of one list or two, beside the index's own search.
 pub fn resolve_next<'a, I: Ordered>(index: &'a I, key: &[u8]) -> Option<&'a I::Value>
 where
     I::Value: Keyed,
@@ -124,8 +125,8 @@ where
     next_candidate(index, key)
 }
 
-/// The value with the greatest full key of those below a key in its own list and, where none is, of those in the previous list, unless that
-/// one is found by cycling.
+/// The greatest of the values below a key in its own list. Where none is below, the greatest of the previous list, unless that one
+/// is found by cycling.
 fn prev_candidate<'a, I: Ordered>(index: &'a I, key: &[u8]) -> Option<&'a I::Value>
 where
     I::Value: Keyed,
@@ -140,12 +141,13 @@ where
     }
 }
 
-/// The value with the greatest full key strictly below a key, in an index whose values stand under their own full keys. `None`
-/// exactly where no full key is below. Among equal full keys the first in list order. Whatever the index holds, the value is
-/// that with the greatest full key of those below the key in its own list and, where none is, of those in the previous list, unless
-/// that one is found by cycling.
+/// The value with the greatest full key strictly below a key, of all in an index whose values stand under their own full keys.
+/// `None` exactly where no full key is below. Among equal full keys the first in list order.
 ///
-/// Takes no memory, and time in proportion to the values of one list or two.
+/// Whatever the index holds, it is the greatest of those below the key in its own list and, where none is, of those in the previous
+/// list, unless that one is found by cycling.
+///
+/// Takes no memory, and time in proportion to the values of one list or two, beside the index's own search.
 pub fn resolve_prev<'a, I: Ordered>(index: &'a I, key: &[u8]) -> Option<&'a I::Value>
 where
     I::Value: Keyed,

@@ -15,7 +15,7 @@ struct Record {
 }
 
 impl Keyed for Record {
-    ghost full_key = { λ record. record.key.items };
+    ghost full_key = { λ r. r.key.items };
 
     fn full_key(&self) -> &[u8] {
         self.key.as_slice()

@@ -11,5 +11,5 @@ returns-clause-filed g c = λ filed.
     let key = c.args.key.now in
     let said = c.in_ok-insert.ensures.accepted in
     subst (λ s. IsFiled g.I.Value.Keyed.full_key g.I.Key.Ord.cmp s (g.I.Runs.content now)) (sym said.same_slots)
-    (filed_more g.met.I.Key.Ord.total g.met.I.Runs.exact g.I.Value.Keyed.full_key (g.I.Runs.slot index) g.I.Unordered.INSERT_FIRST (g.I.Runs.content index) (g.I.Runs.content now) key c.args.record
+    (filed_more g.met.I.Key.Ord.total g.met.I.Runs.exact g.I.Value.Keyed.full_key (g.I.Runs.slot index) g.I.Unordered.INSERT_FIRST (g.I.Runs.content index) (g.I.Runs.content now) key c.args.item
     c.requires (All-from_get_or (λ n. n < 256) key 0 (λ i within. omega (arith, c.type_inv.key i))) said.content_is filed)
