@@ -59,9 +59,9 @@ pub(crate) fn next<'a, K: Ord, V>(
     ensures { result ≡ next_list K.cmp (listed entries.now) key.now }
 {
     match above(entries, key) {
-        Some(values) => Some((values, false)),
+        Some(above) => Some((above, false)),
         None => match first(entries) {
-            Some(values) => Some((values, true)),
+            Some(first) => Some((first, true)),
             None => None,
         },
     }
@@ -75,9 +75,9 @@ pub(crate) fn prev<'a, K: Ord, V>(
     ensures { result ≡ prev_list K.cmp (listed entries.now) key.now }
 {
     match below(entries, key) {
-        Some(values) => Some((values, false)),
+        Some(below) => Some((below, false)),
         None => match last(entries) {
-            Some(values) => Some((values, true)),
+            Some(last) => Some((last, true)),
             None => None,
         },
     }

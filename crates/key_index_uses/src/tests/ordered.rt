@@ -117,6 +117,8 @@ fn calls(rt: HostRuntime) -> Result<(), Fail> {
     index.remove(b"\x0b")?;
     assert!(&rt; index.get(b"\x0b").next().is_none());
     assert_eq!(&rt; (index.keys(), index.items(), index.pruned()), (1, 1, 3));
+    assert!(&rt; Index::<OneCap, u64>::INSERT_FIRST);
+    assert!(&rt; !Index::<OneCap, u64>::LOOKUP_WARMS_UPDATE);
     Ok(())
 }
 

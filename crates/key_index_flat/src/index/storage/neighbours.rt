@@ -120,9 +120,9 @@ impl<T: Translator, V: Drop, M: OrderedHeads<T::Key, V>> Chains<T, V, M> {
         ensures { result ≡ next_list T.Key.cmp (stored T.Key.cmp T.Key.eq (M.entries self.now.heads) self.now.older) slot }
     {
         match self.values_of(self.heads.above(&slot)) {
-            Some(values) => Some((values, false)),
+            Some(above) => Some((above, false)),
             None => match self.first() {
-                Some(values) => Some((values, true)),
+                Some(first) => Some((first, true)),
                 None => None,
             },
         }
@@ -133,9 +133,9 @@ impl<T: Translator, V: Drop, M: OrderedHeads<T::Key, V>> Chains<T, V, M> {
         ensures { result ≡ prev_list T.Key.cmp (stored T.Key.cmp T.Key.eq (M.entries self.now.heads) self.now.older) slot }
     {
         match self.values_of(self.heads.below(&slot)) {
-            Some(values) => Some((values, false)),
+            Some(below) => Some((below, false)),
             None => match self.last() {
-                Some(values) => Some((values, true)),
+                Some(last) => Some((last, true)),
                 None => None,
             },
         }
