@@ -1,22 +1,22 @@
 -- On full keys in an index that keeps their order: in a filed content, what a list and its neighbour have is what all lists have.
 --     next_of_filed, prev_of_filed      the candidate is the neighbour among all values
 --     filed_first, filed_rest           the first list of a filed content, and the others
-use Rattle.std.proofs.Common.{◌≡◌, ℕ, Bool, true, false, cond, T, ◌<◌, List, [], ◌∷◌, ◌++◌, Option, Some, None, unwrap_or, All, append_assoc, append-nil, refl, sym, ap, subst, ◌∙◌}
+use Rattle.std.proofs.Common.{◌≡◌, ℕ, Bool, true, false, cond, T, List, [], ◌∷◌, ◌++◌, Option, Some, None, unwrap_or, All, append_assoc, append-nil, refl, sym, ap, subst, ◌∙◌}
 use Rattle.std.proofs.lemmas.Bool.{false≢true}
-use Rattle.std.proofs.lemmas.List.Elements.{All-nil, All-cons, All-head, All-tail, All-append, All-weaker, All-filter, filter-append}
+use Rattle.std.proofs.lemmas.List.Elements.{All-nil, All-head, All-tail, All-append, All-weaker, All-filter, filter-append}
 use Rattle.std.specs.declared.cmp.Ordering.{Ordering}
 use Rattle.std.specs.declared.cmp.Ordering.TheVariants.{Less, Equal, Greater}
-use Rattle.std.specs.Ordering.{is_lt, is_eq, is_gt, nat_cmp, ordering_reverse, on, flip_args}
-use Rattle.std.specs.Cmp.{IsTotalOrder, tied_itself, alike_right, on_total, back_total}
+use Rattle.std.specs.Ordering.{is_lt, is_eq, is_gt, ordering_reverse, flip_args}
+use Rattle.std.specs.Cmp.{IsTotalOrder, tied_itself, on_total, back_total}
 use Rattle.std.specs.Cmp.Lexicographic.{nat_list_cmp_total}
 use Rattle.std.specs.List.{filter, last_or}
 use Rattle.std.specs.Option.{option_map}
 use Rattle.std.specs.FinMap.{find, is_sorted}
 use Rattle.std.specs.FinMap.Entries.{below_all, is_sorted-where_key}
-use Rattle.key_index_flat.specs.Content.{Content, is_filled, all_filled, list_at, IsLawful}
+use Rattle.key_index_flat.specs.Content.{Content, is_filled, list_at, IsLawful}
 use Rattle.key_index_flat.specs.FullKeys.{IsBytes, byte_cmp, IsLeast, values_of, or_list, unflagged, cmp_keys, above, below, IsFiled, IsFullNext, IsFullPrev, IsNextCandidate, IsPrevCandidate}
 use Rattle.key_index_flat.specs.Laws.{first, second, all_filled-where_key}
-use Rattle.key_index_flat.specs.Neighbours.{entries_above, entries_below, first_entry, last_entry, or_cycled, next_list, prev_list, KeepsOrder}
+use Rattle.key_index_flat.specs.Neighbours.{entries_above, entries_below, first_entry, last_entry, or_cycled, KeepsOrder}
 use Rattle.key_index_flat.proofs.ContentLemmas.{absent, less}
 use Rattle.key_index_flat.proofs.LeastLemmas.{IsLeast-front, IsLeast-back, least_has}
 

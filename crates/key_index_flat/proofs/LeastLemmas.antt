@@ -5,7 +5,7 @@
 --     pushed_keeps, pushed_takes, pushed_first    one more value at the end, as a test told
 --     told                                        what a comparison of keys told
 --     filter_push_passes, filter_push_fails       one more value that passes a filter, and one that doesn't
-use Rattle.std.proofs.Common.{◌≡◌, ℕ, Bool, true, false, cond, List, [], ◌∷◌, ◌++◌, map, Option, Some, None, All, append_assoc, append-nil, refl, sym, ap, subst, ◌∙◌}
+use Rattle.std.proofs.Common.{◌≡◌, ℕ, Bool, true, false, cond, List, [], ◌∷◌, ◌++◌, map, Some, None, All, append_assoc, append-nil, refl, sym, ap, subst, ◌∙◌}
 use Rattle.std.proofs.lemmas.List.{map-append}
 use Rattle.std.specs.List.{filter}
 use Rattle.std.proofs.lemmas.List.Elements.{filter-append, All-nil, All-cons, All-head, All-tail, All-append, All-push, All-weaker}
