@@ -1,0 +1,140 @@
+//! The operations of an index.
+use crate::report::Report;
+use key_index_flat::index::{Cursor, CursorState, Fault, Ordered, Unordered};
+use std::io::{self, Write};
+use std::time::Clock;
+
+/// Why a run ended early.
+#[derive(Debug, Clone, Copy)]
+pub(crate) enum Failure {
+    /// A growth was refused.
+    Refused(Fault),
+    /// A clock could not be read, or a line not be written.
+    Io,
+}
+
+impl From<io::Error> for Failure {
+    fn from(_: io::Error) -> Failure {
+        Failure::Io
+    }
+}
+
+/// Files value i under key i.
+pub(crate) fn insert<I: Unordered<Value = u64>, C: Clock, W: Write>(
+    index: &mut I,
+    keys: &[[u8; 32]],
+    report: &mut Report<'_, C, W>,
+) -> Result<(), Failure> {
+    let start = report.start()?;
+    let mut value = 0u64;
+    for key in keys {
+        if let Err(refused) = index.insert(key, value) {
+            return Err(Failure::Refused(refused.fault));
+        }
+        value = value.wrapping_add(1);
+    }
+    report.line("insert", keys.len(), start, 0)?;
+    Ok(())
+}
+
+/// The values of each key.
+pub(crate) fn get<I: Unordered<Value = u64>, C: Clock, W: Write>(
+    index: &I,
+    name: &str,
+    keys: &[[u8; 32]],
+    report: &mut Report<'_, C, W>,
+) -> Result<(), Failure> {
+    let start = report.start()?;
+    let mut sum = 0u64;
+    for key in keys {
+        for value in index.get(key) {
+            sum = sum.wrapping_add(*value);
+        }
+    }
+    report.line(name, keys.len(), start, sum)?;
+    Ok(())
+}
+
+/// Adds one to the first value of each key, by a cursor.
+pub(crate) fn update<I: Unordered<Value = u64>, C: Clock, W: Write>(
+    index: &mut I,
+    keys: &[[u8; 32]],
+    report: &mut Report<'_, C, W>,
+) -> Result<(), Failure> {
+    let start = report.start()?;
+    let mut sum = 0u64;
+    for key in keys {
+        match index.get_mut(key) {
+            Ok(Some(mut cursor)) => {
+                let value = cursor.next().copied().unwrap_or(0);
+                if cursor.state() == CursorState::Active {
+                    cursor.update(value.wrapping_add(1));
+                }
+                sum = sum.wrapping_add(value);
+            }
+            Ok(None) => {}
+            Err(fault) => return Err(Failure::Refused(fault)),
+        }
+    }
+    report.line("update", keys.len(), start, sum)?;
+    Ok(())
+}
+
+/// The values of the next index key above that of each key.
+pub(crate) fn next<I: Ordered<Value = u64>, C: Clock, W: Write>(
+    index: &I,
+    keys: &[[u8; 32]],
+    report: &mut Report<'_, C, W>,
+) -> Result<(), Failure> {
+    let start = report.start()?;
+    let mut sum = 0u64;
+    for key in keys {
+        if let Some((values, _)) = index.next_translated_key(key) {
+            for value in values {
+                sum = sum.wrapping_add(*value);
+            }
+        }
+    }
+    report.line("next", keys.len(), start, sum)?;
+    Ok(())
+}
+
+/// A second and a third value under each key, and then all of its values.
+pub(crate) fn collide<I: Unordered<Value = u64>, C: Clock, W: Write>(
+    index: &mut I,
+    keys: &[[u8; 32]],
+    report: &mut Report<'_, C, W>,
+) -> Result<(), Failure> {
+    let start = report.start()?;
+    let mut sum = 0u64;
+    for value in [2u64, 3] {
+        for key in keys {
+            if let Err(refused) = index.insert(key, value) {
+                return Err(Failure::Refused(refused.fault));
+            }
+        }
+    }
+    for key in keys {
+        for value in index.get(key) {
+            sum = sum.wrapping_add(*value);
+        }
+    }
+    report.line("collide", keys.len().saturating_mul(3), start, sum)?;
+    Ok(())
+}
+
+/// Takes each key out.
+pub(crate) fn remove<I: Unordered<Value = u64>, C: Clock, W: Write>(
+    index: &mut I,
+    keys: &[[u8; 32]],
+    report: &mut Report<'_, C, W>,
+) -> Result<(), Failure> {
+    let start = report.start()?;
+    for key in keys {
+        if let Err(fault) = index.remove(key) {
+            return Err(Failure::Refused(fault));
+        }
+    }
+    report.line("remove", keys.len(), start, 0)?;
+    Ok(())
+}

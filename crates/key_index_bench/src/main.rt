@@ -1,0 +1,188 @@
+//! The program `key_index_bench`: what each operation of an index costs, beside the maps of the standard library.
+#![tactic(auto)]
+
+mod flat;
+mod keys;
+mod maps;
+mod report;
+
+use flat::Failure;
+use key_index_flat::index::{Factory, Fault, ordered, unordered};
+use key_index_flat::translator::EightCap;
+use keys::{ABSENT, PRESENT, keys};
+use report::Report;
+use std::alloc::Global;
+use std::collections::{BTreeMap, HashMap};
+use std::env;
+use std::io::{BufWriter, Write};
+use std::process::ExitCode;
+use std::rt::Env;
+use std::time::Clock;
+
+/// What is measured.
+#[derive(Clone, Copy)]
+enum Kind {
+    Unordered,
+    Ordered,
+    StdHash,
+    StdTree,
+}
+
+impl Kind {
+    fn name(self) -> &'static str {
+        match self {
+            Kind::Unordered => "unordered",
+            Kind::Ordered => "ordered",
+            Kind::StdHash => "std_hash",
+            Kind::StdTree => "std_tree",
+        }
+    }
+}
+
+/// The kind and the number of keys that the arguments name.
+fn arguments(words: &[String]) -> Option<(Kind, usize)> {
+    let [kind, count] = words else {
+        return None;
+    };
+    let kind = match kind.as_str() {
+        "unordered" => Kind::Unordered,
+        "ordered" => Kind::Ordered,
+        "std_hash" => Kind::StdHash,
+        "std_tree" => Kind::StdTree,
+        _ => return None,
+    };
+    match count.as_str().parse::<usize>() {
+        Ok(count) => Some((kind, count)),
+        Err(_) => None,
+    }
+}
+
+/// Measures the flat unordered index.
+fn run_unordered<C: Clock, W: Write>(
+    alloc: Global,
+    present: &[[u8; 32]],
+    absent: &[[u8; 32]],
+    report: &mut Report<'_, C, W>,
+) -> Result<(), Failure> {
+    let few = &present[..present.len() / 10];
+    let half = &present[..present.len() / 2];
+    let mut index = match unordered::Index::<EightCap, u64>::new(alloc, EightCap) {
+        Ok(index) => index,
+        Err(fault) => return Err(Failure::Refused(fault)),
+    };
+    flat::insert(&mut index, present, report)?;
+    flat::get(&index, "get", present, report)?;
+    flat::get(&index, "miss", absent, report)?;
+    flat::update(&mut index, present, report)?;
+    flat::collide(&mut index, few, report)?;
+    flat::remove(&mut index, half, report)
+}
+
+/// Measures the flat ordered index.
+fn run_ordered<C: Clock, W: Write>(
+    alloc: Global,
+    present: &[[u8; 32]],
+    absent: &[[u8; 32]],
+    report: &mut Report<'_, C, W>,
+) -> Result<(), Failure> {
+    let few = &present[..present.len() / 10];
+    let half = &present[..present.len() / 2];
+    let mut index = match ordered::Index::<EightCap, u64>::new(alloc, EightCap) {
+        Ok(index) => index,
+        Err(fault) => return Err(Failure::Refused(fault)),
+    };
+    flat::insert(&mut index, present, report)?;
+    flat::get(&index, "get", present, report)?;
+    flat::get(&index, "miss", absent, report)?;
+    flat::update(&mut index, present, report)?;
+    flat::next(&index, few, report)?;
+    flat::collide(&mut index, few, report)?;
+    flat::remove(&mut index, half, report)
+}
+
+/// Measures the hashed map.
+fn run_std_hash<C: Clock, W: Write>(
+    alloc: Global,
+    present: &[[u8; 32]],
+    absent: &[[u8; 32]],
+    report: &mut Report<'_, C, W>,
+) -> Result<(), Failure> {
+    let half = &present[..present.len() / 2];
+    let mut map: HashMap<u64, u64> = HashMap::new(alloc);
+    maps::insert(&mut map, present, report)?;
+    maps::get(&map, "get", present, report)?;
+    maps::get(&map, "miss", absent, report)?;
+    maps::update(&mut map, present, report)?;
+    maps::remove(&mut map, half, report)
+}
+
+/// Measures the ordered map.
+fn run_std_tree<C: Clock, W: Write>(
+    alloc: Global,
+    present: &[[u8; 32]],
+    absent: &[[u8; 32]],
+    report: &mut Report<'_, C, W>,
+) -> Result<(), Failure> {
+    let few = &present[..present.len() / 10];
+    let half = &present[..present.len() / 2];
+    let mut map: BTreeMap<u64, u64> = BTreeMap::new(alloc);
+    maps::insert(&mut map, present, report)?;
+    maps::get(&map, "get", present, report)?;
+    maps::get(&map, "miss", absent, report)?;
+    maps::update(&mut map, present, report)?;
+    maps::next(&map, few, report)?;
+    maps::remove(&mut map, half, report)
+}
+
+/// Measures a kind over so many keys.
+fn measure<C: Clock, W: Write>(
+    alloc: Global,
+    clock: &C,
+    output: &mut W,
+    kind: Kind,
+    count: usize,
+) -> Result<(), Failure> {
+    let (Some(present), Some(absent)) = (keys(alloc, count, PRESENT), keys(alloc, count, ABSENT))
+    else {
+        return Err(Failure::Refused(Fault::Memory));
+    };
+    let mut report = Report {
+        clock,
+        output,
+        kind: kind.name(),
+        count,
+    };
+    match kind {
+        Kind::Unordered => run_unordered(alloc, &present, &absent, &mut report),
+        Kind::Ordered => run_ordered(alloc, &present, &absent, &mut report),
+        Kind::StdHash => run_std_hash(alloc, &present, &absent, &mut report),
+        Kind::StdTree => run_std_tree(alloc, &present, &absent, &mut report),
+    }
+}
+
+/// The arguments without the program's name.
+fn words<R: Env + AllocGlobal>(rt: &R) -> Option<Vec<String>> {
+    env::args(rt).ok()?.skip(1).collect(rt.alloc()).ok()
+}
+
+fn main(rt: HostRuntime) -> ExitCode {
+    let named = match words(&rt) {
+        Some(words) => arguments(&words),
+        None => None,
+    };
+    let Some((kind, count)) = named else {
+        let _ = writeln!(
+            rt.stderr(),
+            "usage: key_index_bench unordered|ordered|std_hash|std_tree COUNT"
+        );
+        return ExitCode::from(2);
+    };
+    let mut output = rt.stdout();
+    match measure(rt.alloc(), &rt, &mut output, kind, count) {
+        Ok(()) => ExitCode::from(0),
+        Err(_) => {
+            let _ = writeln!(rt.stderr(), "failed");
+            ExitCode::from(1)
+        }
+    }
+}
