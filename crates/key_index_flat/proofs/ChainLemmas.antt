@@ -1,5 +1,5 @@
 -- On the content that newest and older values stand for.
-use Rattle.std.proofs.Common.{◌≡◌, ℕ, zero, suc, ◌+◌, ◌-◌, ◌<◌, ◌≤◌, true, false, cond, T, List, [], ◌∷◌, ◌++◌, length, reverse, slice_get, get_or, Option, Some, None, Result, Ok, Err, is_some, IfOk, OnOk, OnErr, refl, sym, ap, subst, ◌∙◌, arith, add-zero}
+use Rattle.std.proofs.Common.{◌≡◌, ℕ, zero, suc, ◌+◌, ◌-◌, ◌<◌, ◌≤◌, Bool, true, false, not, cond, T, List, [], ◌∷◌, ◌++◌, length, reverse, slice_get, get_or, Option, Some, None, unwrap_or, Result, Ok, Err, is_some, IfOk, OnOk, OnErr, refl, sym, ap, subst, ◌∙◌, arith, add-zero}
 use Rattle.std.proofs.lemmas.List.{length-reverse, reverse-append, get_or-reverse}
 use Rattle.std.proofs.lemmas.Option.{slice_get-get_or}
 use Rattle.std.specs.declared.cmp.Ordering.{Ordering}
@@ -29,6 +29,15 @@ taken_entries (Some v) older = refl
 pub no_value : {V : Type 0} (o : Option V) → is_some o ≡ false → o ≡ None
 no_value None e = refl
 no_value (Some v) e = absurd (subst T e tt)
+
+-- a value there is
+some_value : {V : Type 0} (o : Option V) (d : V) → is_some o ≡ true → Some (unwrap_or o d) ≡ o
+some_value None d e = absurd (subst T (sym e) tt)
+some_value (Some v) d e = refl
+
+not_is : {b c : Bool} → not b ≡ c → b ≡ not c
+not_is {b = true} e = ap not e
+not_is {b = false} e = ap not e
 
 -- the length of a list
 pub length-list_of : {V : Type 0} (v : V) (older : List V) → length (list_of (Some v) older) ≡ 1 + length older
@@ -103,6 +112,18 @@ module _ {K V : Type 0} {cmp : K → K → Ordering} (o : IsTotalOrder cmp) wher
       pub linked : IsLinked cmp heads older
 
     module _ (heads news : List (K × V)) (older later : K → List V) (k : K) (linked : IsLinked cmp heads older) where
+      -- the same values everywhere
+      unchanged : ((q : K) → value_of cmp news q ≡ value_of cmp heads q) → ((q : K) → later q ≡ older q) → length news ≡ length heads → StandsFor news later (content_of cmp heads older)
+      unchanged heads_same older_same count =
+          let is : content_of cmp news later ≡ content_of cmp heads older = same_content o exact _ _ (IsLawful-content_of o news later) (IsLawful-content_of o heads older) (λ q.
+          list_at-content_of news later q ∙ (λ i. list_of (heads_same q i) (older_same q i)) ∙ sym (list_at-content_of heads older q)) in record {
+            content = is;
+            linked = record {
+              sized = count ∙ linked.sized ∙ sym (ap (λ x. key_count x) is);
+              headed = λ q none. ap (λ x. length x) (older_same q) ∙ linked.headed q (ap is_some (sym (heads_same q)) ∙ none);
+            };
+          }
+
       after : (l : List V)
           → ((q : K) → eq_by_cmp cmp q k ≡ false → value_of cmp news q ≡ value_of cmp heads q)
           → ((q : K) → eq_by_cmp cmp q k ≡ false → later q ≡ older q)
@@ -177,18 +198,27 @@ module _ {K V : Type 0} {cmp : K → K → Ordering} (o : IsTotalOrder cmp) wher
           → later k ≡ older k → ((q : K) → eq_by_cmp cmp q k ≡ false → later q ≡ older q)
           → StandsFor news later (content_of cmp heads older)
       put_back v d middle some there more back more_back at others =
-          let heads_same = everywhere cmp exact (λ q. value_of cmp news q ≡ value_of cmp heads q) k (back.0 ∙ sym some) (λ q apart. back.1 q apart ∙ there.1 q apart) in
-          let older_same = everywhere cmp exact (λ q. later q ≡ older q) k at others in
-          let is : content_of cmp news later ≡ content_of cmp heads older = same_content o exact _ _ (IsLawful-content_of o news later) (IsLawful-content_of o heads older) (λ q.
-          list_at-content_of news later q ∙ (λ i. list_of (heads_same q i) (older_same q i)) ∙ sym (list_at-content_of heads older q)) in
-          let count : length news ≡ length heads = omega (arith, more, more_back) in
-          record {
-            content = is;
-            linked = record {
-              sized = count ∙ linked.sized ∙ sym (ap (λ x. key_count x) is);
-              headed = λ q none. ap (λ x. length x) (older_same q) ∙ linked.headed q (ap is_some (sym (heads_same q)) ∙ none);
-            };
-          }
+          unchanged (everywhere cmp exact (λ q. value_of cmp news q ≡ value_of cmp heads q) k (back.0 ∙ sym some) (λ q apart. back.1 q apart ∙ there.1 q apart))
+          (everywhere cmp exact (λ q. later q ≡ older q) k at others)
+          (omega (arith, more, more_back))
+
+      -- what puts a value at an absent key alone
+      module _ (v : V) (at : value_of cmp news k ≡ Some (unwrap_or (value_of cmp heads k) v))
+          (others : (q : K) → eq_by_cmp cmp q k ≡ false → value_of cmp news q ≡ value_of cmp heads q)
+          (len : length news ≡ length heads + cond (is_some (value_of cmp heads k)) 0 1) (same : (q : K) → later q ≡ older q) where
+        pub put_absent : not (is_some (value_of cmp heads k)) ≡ true → (list_at cmp (content_of cmp heads older) k ≡ []) × StandsFor news later (with_list cmp (content_of cmp heads older) k (v ∷ []))
+        put_absent is =
+            let none = no_value (value_of cmp heads k) (not_is is) in
+            let now : list_at cmp (content_of cmp heads older) k ≡ [] = list_at-content_of heads older k ∙ ap (λ w. list_of w (older k)) none in
+            (now, subst (λ (l : List V). StandsFor news later (with_list cmp (content_of cmp heads older) k (v ∷ l))) now (first_value v none (at ∙ ap (λ w. Some (unwrap_or w v)) none, others) (len ∙ ap (λ w. length heads + cond (is_some w) 0 1) none) same))
+
+        pub left_present : not (is_some (value_of cmp heads k)) ≡ false → (length (list_at cmp (content_of cmp heads older) k) ≡ 1 + length (older k)) × StandsFor news later (content_of cmp heads older)
+        left_present is =
+            let some = not_is is in (
+              ap (λ l. length l) (list_at-content_of heads older k) ∙ length-filled (value_of cmp heads k) (older k) some,
+              unchanged (everywhere cmp exact (λ q. value_of cmp news q ≡ value_of cmp heads q) k (at ∙ some_value (value_of cmp heads k) v some) others) same
+                  (len ∙ ap (λ b. length heads + cond b 0 1) some ∙ add-zero _),
+            )
 
 -- a key that has a value takes another one
 pub taken_in : {K V : Type 0} (cmp : K → K → Ordering) (old new : List (K × V)) (k : K) (v w : V) (r : Result (Option V) V)

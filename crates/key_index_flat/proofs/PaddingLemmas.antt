@@ -1,16 +1,20 @@
 -- Padding by parts, and std's numbers of bytes.
-use Rattle.std.proofs.Common.{◌≡◌, ℕ, zero, suc, min, List, [], ◌∷◌, ◌++◌, length, take, drop, replicate, refl, ap, arith, w8, w16, w32, w64}
+use Rattle.std.proofs.Common.{◌≡◌, ℕ, zero, suc, ◌≤◌, List, [], ◌∷◌, ◌++◌, length, take, drop, replicate, refl, ap, arith, w8, w16, w32, w64}
 use Rattle.std.specs.Int.{from_be_bytes}
 use Rattle.key_index_flat.specs.Padding.{padded, cap_number}
 
--- the front of a key, and then zeros
-pub padded-parts : (n m : ℕ) (b : List ℕ) → min (length b) n ≡ m → take m b ++ drop m (replicate n 0) ≡ padded n b
-padded-parts zero zero b e = refl
-padded-parts zero (suc m) b e = absurd (omega arith)
-padded-parts (suc n) zero [] e = ap (λ bs. 0 ∷ bs) (padded-parts n 0 [] (omega arith))
-padded-parts (suc n) zero (x ∷ xs) e = absurd (omega arith)
-padded-parts (suc n) (suc m) [] e = absurd (omega arith)
-padded-parts (suc n) (suc m) (x ∷ xs) e = ap (λ bs. x ∷ bs) (padded-parts n m xs (omega arith))
+-- the front of a key that is long enough
+pub padded-front : (n : ℕ) (b : List ℕ) → n ≤ length b → take n b ≡ padded n b
+padded-front zero b h = refl
+padded-front (suc n) [] h = absurd (omega arith)
+padded-front (suc n) (x ∷ xs) h = ap (λ bs. x ∷ bs) (padded-front n xs (omega (arith, h)))
+
+-- a shorter key, and then zeros
+pub padded-short : (n : ℕ) (b : List ℕ) → length b ≤ n → b ++ drop (length b) (replicate n 0) ≡ padded n b
+padded-short zero [] h = refl
+padded-short zero (x ∷ xs) h = absurd (omega (arith, h))
+padded-short (suc n) [] h = ap (λ bs. 0 ∷ bs) (padded-short n [] (omega arith))
+padded-short (suc n) (x ∷ xs) h = ap (λ bs. x ∷ bs) (padded-short n xs (omega (arith, h)))
 
 pub one_byte : (b : List ℕ) → from_be_bytes w8 (padded 1 b) ≡ cap_number 1 b
 one_byte [] = omega arith

@@ -31,9 +31,11 @@ pub trait OrderedTranslator: Translator {
 fn capped<const N: usize>(key: &[u8]) -> [u8; N]
     ensures { result ≡ padded N key.now }
 {
+    if let Some(front) = key.first_chunk::<N>() {
+        return *front;
+    }
     let mut bytes = [0; N];
-    let length = key.len().min(N);
-    bytes[..length].copy_from_slice(&key[..length]);
+    bytes[..key.len()].copy_from_slice(key);
     bytes
 }
 

@@ -99,19 +99,12 @@ impl<T: Translator, V: Drop> Search for Index<T, V> {
         key: &[u8],
         value: V,
     ) -> Result<IndexCursor<'_, Index<T, V>>, Option<Refused<V>>> {
-        if self.items() == usize::MAX {
-            let fault = Fault::Full;
-            return Err(Some(Refused { value, fault }));
-        }
         let slot = self.slot_of(key);
-        let len = self.run_len(slot);
-        if len == 0 {
-            return match self.insert_at(slot, 0, value) {
-                Ok(()) => Err(None),
-                Err(refused) => Err(Some(refused)),
-            };
+        match self.storage.insert_absent(slot, value) {
+            Ok(None) => Err(None),
+            Ok(Some(len)) => Ok(IndexCursor::with_len(self, slot, len)),
+            Err(refused) => Err(Some(refused)),
         }
-        Ok(IndexCursor::with_len(self, slot, len))
     }
 }
 

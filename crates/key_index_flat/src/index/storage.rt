@@ -1,10 +1,11 @@
 //! What a flat index keeps: the newest value of each key in one map, and in another the older values of the keys that have any. An
 //! entry whose key has one value then costs that key and that value alone.
-ghost use Rattle.std.specs.Prelude.{◌≡◌, ◌+◌, ◌-◌, ◌<◌, true, slice_get, slice_set, insert, remove, ◌≤◌, List, ◌∷◌, [], ◌++◌, length, reverse, Option, Some, None, IfOk, IfErr, IfNone, OnOk, OnErr, is_some, false, if◌then◌else◌};
+ghost use Rattle.std.specs.Prelude.{◌≡◌, ◌+◌, ◌-◌, ◌<◌, true, slice_get, slice_set, insert, remove, ◌≤◌, List, ◌∷◌, [], ◌++◌, length, reverse, Option, Some, None, MatchOption, IfOk, IfErr, IfNone, OnOk, OnErr, is_some, unwrap_or, not, false, if◌then◌else◌};
 ghost use Rattle.std.specs.Fn.{CalledAt};
 ghost use Rattle.std.specs.List.Retain.{IsFiltered};
 ghost use Rattle.std.specs.Option.{option_copied, option_to_list};
 ghost use Rattle.std.specs.Ordering.{eq_by_cmp};
+ghost use Rattle.std.specs.HashMap.{get, hash_map_len};
 ghost use Rattle.key_index_flat.specs.Storage.{value_of, Sets, IsLinked};
 ghost use Rattle.key_index_flat.specs.Chains.{older_at, stored};
 ghost use Rattle.key_index_flat.specs.Content.{item_count, key_count, list_at, with_list};
@@ -41,6 +42,19 @@ pub(crate) trait Heads<K: Ord, V> {
         ensures refused { OnErr result (entries self.new ≡ entries self.old) }
         ensures returned { IfErr result (λ back. back ≡ value) };
 
+    /// Puts a value at a key that has none, and tells whether it did. The value of a key that has one stays. A refusal, which comes
+    /// at an absent key alone, hands the value back.
+    fn insert_absent(&mut self, key: K, value: V) -> Result<bool, V>
+    where
+        V: Drop,
+        ensures inserted { IfOk result (λ b. b ≡ not (is_some (value_of K.cmp (entries self.old) key))) }
+        ensures at { OnOk result (value_of K.cmp (entries self.new) key ≡ Some (unwrap_or (value_of K.cmp (entries self.old) key) value)) }
+        ensures others { (q : K) → eq_by_cmp K.cmp q key ≡ false → value_of K.cmp (entries self.new) q ≡ value_of K.cmp (entries self.old) q }
+        ensures len { OnOk result (length (entries self.new) ≡ length (entries self.old) + (if is_some (value_of K.cmp (entries self.old) key) then 0 else 1)) }
+        ensures absent { OnErr result (value_of K.cmp (entries self.old) key ≡ None) }
+        ensures refused { OnErr result (entries self.new ≡ entries self.old) }
+        ensures returned { IfErr result (λ back. back ≡ value) };
+
     fn remove(&mut self, key: &K) -> Option<V>
         ensures value { result ≡ value_of K.cmp (entries self.old) key.now }
         ensures sets { Sets K.cmp (entries self.old) (entries self.new) key.now None }
@@ -72,8 +86,55 @@ impl<K: Ord + Hash + Copy, V> Heads<K, V> for HashMap<K, V> {
     }
 
     #[inline]
+    fn insert_absent(&mut self, key: K, value: V) -> Result<bool, V>
+    where
+        V: Drop,
+    {
+        put_absent(self, key, value)
+    }
+
+    #[inline]
     fn remove(&mut self, key: &K) -> Option<V> {
         HashMap::remove(self, key)
+    }
+}
+
+/// Puts a value at a key that has none, and tells whether it did.
+#[inline]
+fn put_absent<K: Ord + Hash + Copy, V: Drop>(
+    map: &mut HashMap<K, V>,
+    key: K,
+    value: V,
+) -> Result<bool, V>
+    ensures inserted { IfOk result (λ b. b ≡ not (is_some (get K.eq map.old key))) }
+    ensures at { OnOk result (get K.eq map.new key ≡ Some (unwrap_or (get K.eq map.old key) value)) }
+    ensures others { (q : K) → eq_by_cmp K.cmp q key ≡ false → get K.eq map.new q ≡ get K.eq map.old q }
+    ensures len { OnOk result (hash_map_len map.new ≡ hash_map_len map.old + (if is_some (get K.eq map.old key) then 0 else 1)) }
+    ensures absent { OnErr result (get K.eq map.old key ≡ None) }
+    ensures refused { OnErr result (map.new.entries ≡ map.old.entries) }
+    ensures returned { IfErr result (λ back. back ≡ value) }
+{
+    match map.entry(key) {
+        Err(_) => Err(value),
+        Ok(Entry::Occupied(entry)) => {
+            entry.into_mut();
+            Ok(false)
+        }
+        Ok(Entry::Vacant(entry)) => {
+            entry.insert(value);
+            Ok(true)
+        }
+    }
+}
+
+/// The older values of a key, the oldest first.
+#[inline(never)]
+fn older_in<K: Ord + Hash + Copy, V>(older: &HashMap<K, Vec<V>>, key: K) -> &[V]
+    ensures { result.now ≡ older_at K.eq older.now key }
+{
+    match older.get(&key) {
+        Some(values) => values.as_slice(),
+        None => &[],
     }
 }
 
@@ -248,10 +309,7 @@ impl<T: Translator, V: Drop, M: Heads<T::Key, V>> Chains<T, V, M> {
         if self.older.is_empty() {
             return &[];
         }
-        match self.older.get(&slot) {
-            Some(older) => older.as_slice(),
-            None => &[],
-        }
+        older_in(&self.older, slot)
     }
 
     #[inline]
@@ -308,6 +366,22 @@ impl<T: Translator, V: Drop, M: Heads<T::Key, V>> Chains<T, V, M> {
                 Err(value)
             }
         }
+    }
+
+    /// Puts a value under an index key that has none, and answers how many values the index key has otherwise. The one look-up that
+    /// finds no key also makes its place.
+    #[inline]
+    fn insert_absent(&mut self, slot: T::Key, value: V) -> Result<Option<usize>, V>
+        requires linked { IsLinked T.Key.cmp (M.entries self.old.heads) (older_at T.Key.eq self.old.older) }
+        ensures linked { IsLinked T.Key.cmp (M.entries self.new.heads) (older_at T.Key.eq self.new.older) }
+        ensures accepted { IfOk result (λ found. let old = list_at T.Key.cmp (stored T.Key.cmp T.Key.eq (M.entries self.old.heads) self.old.older) slot in MatchOption found ((old ≡ []) × (stored T.Key.cmp T.Key.eq (M.entries self.new.heads) self.new.older ≡ with_list T.Key.cmp (stored T.Key.cmp T.Key.eq (M.entries self.old.heads) self.old.older) slot (value ∷ []))) (λ len. (len ≡ length old) × (0 < len) × (stored T.Key.cmp T.Key.eq (M.entries self.new.heads) self.new.older ≡ stored T.Key.cmp T.Key.eq (M.entries self.old.heads) self.old.older))) }
+        ensures refused { OnErr result (stored T.Key.cmp T.Key.eq (M.entries self.new.heads) self.new.older ≡ stored T.Key.cmp T.Key.eq (M.entries self.old.heads) self.old.older) }
+        ensures returned { IfErr result (λ back. back ≡ value) }
+    {
+        if self.heads.insert_absent(slot, value)? {
+            return Ok(None);
+        }
+        Ok(Some(1 + self.older_of(slot).len()))
     }
 
     /// Takes an index key out, and tells how many values it had.
@@ -536,6 +610,41 @@ impl<T: Translator, V: Drop, M: Heads<T::Key, V>> Storage<T, V, M> {
                 self.items += 1;
                 Ok(())
             }
+            Err(value) => {
+                let fault = Fault::Memory;
+                Err(Refused { value, fault })
+            }
+        }
+    }
+
+    /// Puts a value under an index key that has none, and answers how many values the index key has otherwise.
+    pub(crate) fn insert_absent(
+        &mut self,
+        slot: T::Key,
+        value: V,
+    ) -> Result<Option<usize>, Refused<V>>
+        requires linked { IsLinked T.Key.cmp (M.entries self.old.chains.heads) (older_at T.Key.eq self.old.chains.older) }
+        requires counted { self.old.items ≡ item_count (stored T.Key.cmp T.Key.eq (M.entries self.old.chains.heads) self.old.chains.older) }
+        ensures linked { IsLinked T.Key.cmp (M.entries self.new.chains.heads) (older_at T.Key.eq self.new.chains.older) }
+        ensures counted { self.new.items ≡ item_count (stored T.Key.cmp T.Key.eq (M.entries self.new.chains.heads) self.new.chains.older) }
+        ensures accepted { IfOk result (λ found. let old = list_at T.Key.cmp (stored T.Key.cmp T.Key.eq (M.entries self.old.chains.heads) self.old.chains.older) slot in MatchOption found ((old ≡ []) × (stored T.Key.cmp T.Key.eq (M.entries self.new.chains.heads) self.new.chains.older ≡ with_list T.Key.cmp (stored T.Key.cmp T.Key.eq (M.entries self.old.chains.heads) self.old.chains.older) slot (value ∷ []))) (λ len. (len ≡ length old) × (0 < len) × (stored T.Key.cmp T.Key.eq (M.entries self.new.chains.heads) self.new.chains.older ≡ stored T.Key.cmp T.Key.eq (M.entries self.old.chains.heads) self.old.chains.older))) }
+        ensures room { OnOk result (item_count (stored T.Key.cmp T.Key.eq (M.entries self.old.chains.heads) self.old.chains.older) < usize.MAX) }
+        ensures refused { OnErr result (stored T.Key.cmp T.Key.eq (M.entries self.new.chains.heads) self.new.chains.older ≡ stored T.Key.cmp T.Key.eq (M.entries self.old.chains.heads) self.old.chains.older) }
+        ensures returned { IfErr result (λ r. r.value ≡ value) }
+        ensures fault { IfErr result (λ r. r.fault ≡ growth_fault (item_count (stored T.Key.cmp T.Key.eq (M.entries self.old.chains.heads) self.old.chains.older))) }
+        ensures pruned { self.new.pruned ≡ self.old.pruned }
+        ensures translator { self.new.translator ≡ self.old.translator }
+    {
+        if self.items == usize::MAX {
+            let fault = Fault::Full;
+            return Err(Refused { value, fault });
+        }
+        match self.chains.insert_absent(slot, value) {
+            Ok(None) => {
+                self.items += 1;
+                Ok(None)
+            }
+            Ok(Some(len)) => Ok(Some(len)),
             Err(value) => {
                 let fault = Fault::Memory;
                 Err(Refused { value, fault })

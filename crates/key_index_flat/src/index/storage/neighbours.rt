@@ -11,6 +11,7 @@ use super::{Chains, Heads, Storage};
 use crate::index::Values;
 use crate::translator::Translator;
 use std::collections::BTreeMap;
+use std::collections::btree_map::Entry;
 use std::ops::Bound;
 
 impl<K: Ord + Copy, V> Heads<K, V> for BTreeMap<K, V> {
@@ -33,6 +34,24 @@ impl<K: Ord + Copy, V> Heads<K, V> for BTreeMap<K, V> {
             Err(failed) => {
                 let (_, value) = failed.value;
                 Err(value)
+            }
+        }
+    }
+
+    #[inline]
+    fn insert_absent(&mut self, key: K, value: V) -> Result<bool, V>
+    where
+        V: Drop,
+    {
+        match self.entry(key) {
+            Err(_) => Err(value),
+            Ok(Entry::Occupied(entry)) => {
+                entry.into_mut();
+                Ok(false)
+            }
+            Ok(Entry::Vacant(entry)) => {
+                entry.insert(value);
+                Ok(true)
             }
         }
     }
