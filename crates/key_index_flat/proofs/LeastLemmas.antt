@@ -1,17 +1,16 @@
 -- On the least value of a list, the first of those that tie, in any total order.
---     IsLeast-push_keeps, IsLeast-push_takes      one more value at the end, which isn't or is less
+--     pushed_takes, pushed_keeps                  one more value at the end, which is or isn't less
 --     IsLeast-front, IsLeast-back                 a list of greater values behind, and in front
 --     least_has                                   what holds of each value holds of the least
---     pushed_keeps, pushed_takes, pushed_first    one more value at the end, as a test told
---     told                                        what a comparison of keys told
+--     told, told_before                           what a test of two keys told, and what `<` of them by `PartialOrd` did
 --     filter_push_passes, filter_push_fails       one more value that passes a filter, and one that doesn't
-use Rattle.std.proofs.Common.{◌≡◌, ℕ, Bool, true, false, cond, List, [], ◌∷◌, ◌++◌, map, Some, None, All, append_assoc, append-nil, refl, sym, ap, subst, ◌∙◌}
+use Rattle.std.proofs.Common.{◌≡◌, ℕ, Bool, true, false, cond, List, [], ◌∷◌, ◌++◌, map, Some, All, append_assoc, append-nil, refl, sym, ap, subst, ◌∙◌}
 use Rattle.std.proofs.lemmas.List.{map-append}
 use Rattle.std.specs.List.{filter}
 use Rattle.std.proofs.lemmas.List.Elements.{filter-append, All-nil, All-cons, All-head, All-tail, All-append, All-push, All-weaker}
 use Rattle.std.specs.declared.cmp.Ordering.{Ordering}
 use Rattle.std.specs.declared.cmp.Ordering.TheVariants.{Less, Equal, Greater}
-use Rattle.std.specs.Ordering.{is_gt, is_le, is_some_and, nat_cmp, ordering_reverse}
+use Rattle.std.specs.Ordering.{is_gt, is_lt, is_some_and, nat_cmp, ordering_reverse}
 use Rattle.std.specs.Cmp.Lexicographic.{slice_cmp, slice_partial_cmp, lists_agrees}
 use Rattle.std.specs.Cmp.{IsTotalOrder, alike_right}
 use Rattle.std.specs.BTreeMap.Range.{IsLeBy}
@@ -21,9 +20,6 @@ module _ {V : Type 0} {cmp : V → V → Ordering} (o : IsTotalOrder cmp) where
   pub le_by_less : (v w : V) → cmp v w ≡ Less → IsLeBy cmp v w
   le_by_less v w p = ap is_gt p
 
-  pub less_by_greater : (v w : V) → cmp v w ≡ Greater → cmp w v ≡ Less
-  less_by_greater v w p = o.antisymm w v ∙ ap ordering_reverse p
-
   less_le : (v u w : V) → cmp v u ≡ Less → IsLeBy cmp u w → cmp v w ≡ Less
   less_le v u w p =
       elim (cmp u w) as (λ r. cmp u w ≡ r → is_gt r ≡ false → cmp v w ≡ Less) [
@@ -32,20 +28,19 @@ module _ {V : Type 0} {cmp : V → V → Ordering} (o : IsTotalOrder cmp) where
         | Greater ↦ λ q h. cc
       ] refl
 
-  pub IsLeast-one : (v : V) → IsLeast cmp (v ∷ []) (Some v)
-  IsLeast-one v = ([], [], refl, All-nil (λ w. cmp v w ≡ Less), All-nil (λ w. IsLeBy cmp v w))
-
-  pub IsLeast-push_keeps : (l : List V) (v u : V) → IsLeast cmp l (Some v) → IsLeBy cmp v u → IsLeast cmp (l ++ u ∷ []) (Some v)
-  IsLeast-push_keeps l v u h k =
-      (h.0, h.1 ++ u ∷ [], ap (λ x. x ++ u ∷ []) h.2 ∙ append_assoc h.0 (v ∷ h.1) (u ∷ []), h.3, All-push (λ w. IsLeBy cmp v w) h.1 u h.4 k)
-
-  pub IsLeast-push_takes : (l : List V) (v u : V) → IsLeast cmp l (Some v) → cmp v u ≡ Greater → IsLeast cmp (l ++ u ∷ []) (Some u)
-  IsLeast-push_takes l v u h k =
-      let less = less_by_greater v u k in
+  -- one more value at the end, as `is_before` tells whether it is less
+  pub pushed_takes : (l : List V) (v u : V) → IsLeast cmp l (Some v) → is_lt (cmp u v) ≡ true → IsLeast cmp (l ++ u ∷ []) (Some u)
+  pushed_takes l v u h k =
+      let less : cmp u v ≡ Less = elim (cmp u v) as (λ r. is_lt r ≡ true → r ≡ Less) [ Less ↦ λ _. refl | Equal ↦ λ e. cc | Greater ↦ λ e. cc ] k in
       let front : All (λ w. cmp u w ≡ Less) h.0 = All-weaker (λ w. cmp v w ≡ Less) (λ w. cmp u w ≡ Less) (λ w q. o.trans u v w less q) h.0 h.3 in
       let behind : All (λ w. cmp u w ≡ Less) h.1 = All-weaker (λ w. IsLeBy cmp v w) (λ w. cmp u w ≡ Less) (λ w q. less_le u v w less q) h.1 h.4 in
       let all : All (λ w. cmp u w ≡ Less) (h.0 ++ v ∷ h.1) = All-append (λ w. cmp u w ≡ Less) h.0 (v ∷ h.1) front (All-cons (λ w. cmp u w ≡ Less) v h.1 less behind) in
       (l, [], refl, subst (All (λ w. cmp u w ≡ Less)) (sym h.2) all, All-nil (λ w. IsLeBy cmp u w))
+
+  pub pushed_keeps : (l : List V) (v u : V) → IsLeast cmp l (Some v) → is_lt (cmp u v) ≡ false → IsLeast cmp (l ++ u ∷ []) (Some v)
+  pushed_keeps l v u h k =
+      let le : IsLeBy cmp v u = ap is_gt (o.antisymm v u) ∙ elim (cmp u v) as (λ r. is_lt r ≡ false → is_gt (ordering_reverse r) ≡ false) [ Less ↦ λ e. cc | Equal ↦ λ _. refl | Greater ↦ λ _. refl ] k in
+      (h.0, h.1 ++ u ∷ [], ap (λ x. x ++ u ∷ []) h.2 ∙ append_assoc h.0 (v ∷ h.1) (u ∷ []), h.3, All-push (λ w. IsLeBy cmp v w) h.1 u h.4 le)
 
   pub IsLeast-front : (l m : List V) (v : V) → IsLeast cmp l (Some v) → All (λ w. cmp v w ≡ Less) m → IsLeast cmp (l ++ m) (Some v)
   IsLeast-front l m v h k =
@@ -63,20 +58,13 @@ module _ {V : Type 0} {cmp : V → V → Ordering} (o : IsTotalOrder cmp) where
       All-drop_front P [] ys h = h
       All-drop_front P (x ∷ xs) ys h = All-drop_front P xs ys (All-tail P x (xs ++ ys) h)
 
-  -- one more value at the end, as `le` tells whether it is less
-  pub pushed_keeps : (l : List V) (v u : V) → IsLeast cmp l (Some v) → is_le (cmp v u) ≡ true → IsLeast cmp (l ++ u ∷ []) (Some v)
-  pushed_keeps l v u h e = IsLeast-push_keeps l v u h (elim (cmp v u) as (λ r. is_le r ≡ true → is_gt r ≡ false) [ Less ↦ λ _. refl | Equal ↦ λ _. refl | Greater ↦ λ e. cc ] e)
+-- what a test of two keys told
+pub told : (cmp : List ℕ → List ℕ → Ordering) (a b p q : List ℕ) (r : Bool) → r ≡ is_lt (cmp a b) → a ≡ p → b ≡ q → is_lt (cmp p q) ≡ r
+told cmp a b p q r is first second = (λ i. is_lt (cmp (sym first i) (sym second i))) ∙ sym is
 
-  pub pushed_takes : (l : List V) (v u : V) → IsLeast cmp l (Some v) → is_le (cmp v u) ≡ false → IsLeast cmp (l ++ u ∷ []) (Some u)
-  pushed_takes l v u h e = IsLeast-push_takes l v u h (elim (cmp v u) as (λ r. is_le r ≡ false → r ≡ Greater) [ Less ↦ λ e. cc | Equal ↦ λ e. cc | Greater ↦ λ _. refl ] e)
-
-  pub pushed_first : (l : List V) (u : V) → IsLeast cmp l None → IsLeast cmp (l ++ u ∷ []) (Some u)
-  pushed_first l u h = subst (λ x. IsLeast cmp (x ++ u ∷ []) (Some u)) (sym h) (IsLeast-one u)
-
--- what a comparison of two keys by `PartialOrd` told, by their order
-pub told : (test : Ordering → Bool) (x y p q : List ℕ) (r b : Bool) → r ≡ is_some_and test (slice_partial_cmp (λ m n. Some (nat_cmp m n)) x y) → r ≡ b → x ≡ p → y ≡ q → test (slice_cmp nat_cmp p q) ≡ b
-told test x y p q r b said is first second =
-    (λ i. test (slice_cmp nat_cmp (sym first i) (sym second i))) ∙ sym (ap (is_some_and test) (lists_agrees {R = nat_cmp} {C = λ m n. Some (nat_cmp m n)} (λ m n. refl) x y)) ∙ sym said ∙ is
+-- what `<` of two keys by `PartialOrd` told, by their order
+pub told_before : (a b : List ℕ) (r : Bool) → r ≡ is_some_and is_lt (slice_partial_cmp (λ m n. Some (nat_cmp m n)) a b) → r ≡ is_lt (slice_cmp nat_cmp a b)
+told_before a b r said = said ∙ ap (is_some_and is_lt) (lists_agrees {R = nat_cmp} {C = λ m n. Some (nat_cmp m n)} (λ m n. refl) a b)
 
 -- one more value, which passes a filter or doesn't
 module _ {X Y : Type 0} (p : Y → Bool) (f : X → Y) (xs : List X) (x : X) where

@@ -1,8 +1,12 @@
 //! Neighbours of a full key, in an index that keeps shorter ones.
 ghost use Rattle.std.specs.Prelude.{◌≡◌, ◌∷◌, ◌++◌, ℕ, List, []};
+ghost use Rattle.std.specs.List.{filter};
 ghost use Rattle.std.specs.Option.{option_copied};
-ghost use Rattle.std.specs.Ordering.{flip_args};
-ghost use Rattle.key_index_flat.specs.FullKeys.{IsFiled, IsFullNext, IsFullPrev, IsLeast, IsNextCandidate, IsPrevCandidate, above, below, cmp_keys};
+ghost use Rattle.std.specs.declared.cmp.Ordering.{Ordering};
+ghost use Rattle.std.specs.Ordering.{is_lt, on, flip_args};
+ghost use Rattle.std.specs.Cmp.{IsTotalOrder, back_total};
+ghost use Rattle.std.specs.Cmp.Lexicographic.{nat_list_cmp_total};
+ghost use Rattle.key_index_flat.specs.FullKeys.{IsFiled, IsFullNext, IsFullPrev, IsLeast, IsNextCandidate, IsPrevCandidate, byte_cmp};
 
 use super::{Ordered, Values};
 
@@ -15,82 +19,83 @@ pub trait Keyed {
         ensures { result.now ≡ full_key self.now };
 }
 
-/// Of the least value of a list and one that comes behind it, the one with the lesser full key.
-fn lesser<'a, V: Keyed>(least: Option<&'a V>, value: &'a V) -> Option<&'a V>
-    ensures { (l : List V) → IsLeast (cmp_keys V.full_key) l (option_copied least.entry) → IsLeast (cmp_keys V.full_key) (l ++ value.now ∷ []) (option_copied result) }
+/// A side of a key, where its neighbour is looked for: the order in which the keys there come, from the nearest on.
+trait Side {
+    ghost cmp: { List ℕ → List ℕ → Ordering };
+
+    /// Whether a key comes before another.
+    fn is_before(a: &[u8], b: &[u8]) -> bool
+        ensures { result ≡ is_lt (cmp a.now b.now) };
+
+    ghost total: { IsTotalOrder cmp };
+}
+
+/// Keys above, in the order of bytes.
+struct Above;
+
+impl Side for Above {
+    ghost cmp = { byte_cmp };
+
+    #[inline]
+    #[tactic(auto, using(crate::proofs::LeastLemmas::told_before))]
+    fn is_before(a: &[u8], b: &[u8]) -> bool {
+        a < b
+    }
+
+    ghost total = { nat_list_cmp_total };
+}
+
+/// Keys below, in that order turned.
+struct Below;
+
+impl Side for Below {
+    ghost cmp = { flip_args byte_cmp };
+
+    #[inline]
+    #[tactic(auto, using(crate::proofs::LeastLemmas::told_before))]
+    fn is_before(a: &[u8], b: &[u8]) -> bool {
+        b < a
+    }
+
+    ghost total = { back_total nat_list_cmp_total };
+}
+
+/// Of the nearest value of a list and one that comes behind it, the one with the nearer full key.
+fn nearer<'a, S: Side, V: Keyed>(nearest: Option<&'a V>, value: &'a V) -> Option<&'a V>
+    ensures { (l : List V) → IsLeast (on V.full_key S.cmp) l (option_copied nearest.entry) → IsLeast (on V.full_key S.cmp) (l ++ value.now ∷ []) (option_copied result) }
 {
-    let Some(first) = least else {
+    let Some(first) = nearest else {
         return Some(value);
     };
-    let key = value.full_key();
-    if first.full_key() <= key {
-        least
-    } else {
+    if S::is_before(value.full_key(), first.full_key()) {
         Some(value)
-    }
-}
-
-/// Of the greatest value of a list and one that comes behind it, the one with the greater full key.
-fn greater<'a, V: Keyed>(greatest: Option<&'a V>, value: &'a V) -> Option<&'a V>
-    ensures { (l : List V) → IsLeast (flip_args (cmp_keys V.full_key)) l (option_copied greatest.entry) → IsLeast (flip_args (cmp_keys V.full_key)) (l ++ value.now ∷ []) (option_copied result) }
-{
-    let Some(first) = greatest else {
-        return Some(value);
-    };
-    let key = value.full_key();
-    if key <= first.full_key() {
-        greatest
     } else {
-        Some(value)
+        Some(first)
     }
 }
 
-/// The first of the values with the least full key.
-fn least<'a, V: Keyed>(values: Values<'a, V>) -> Option<&'a V>
-    ensures { IsLeast (cmp_keys V.full_key) values.entry (option_copied result) }
+/// The first of the values with the nearest full key.
+fn nearest<'a, S: Side, V: Keyed>(values: Values<'a, V>) -> Option<&'a V>
+    ensures { IsLeast (on V.full_key S.cmp) values.entry (option_copied result) }
 {
-    let mut least: Option<&'a V> = None;
+    let mut nearest: Option<&'a V> = None;
     for value in values {
-        least = lesser(least, value);
+        nearest = nearer::<S, V>(nearest, value);
     }
-    least
+    nearest
 }
 
-/// The first of the values with the least full key above a key.
-fn least_above<'a, V: Keyed>(values: Values<'a, V>, key: &[u8]) -> Option<&'a V>
-    ensures { IsLeast (cmp_keys V.full_key) (above V.full_key key.now values.entry) (option_copied result) }
+/// The first of the values with the nearest full key beyond a key.
+fn nearest_beyond<'a, S: Side, V: Keyed>(values: Values<'a, V>, key: &[u8]) -> Option<&'a V>
+    ensures { IsLeast (on V.full_key S.cmp) (filter (λ v. is_lt (S.cmp key.now (V.full_key v))) values.entry) (option_copied result) }
 {
-    let mut least: Option<&'a V> = None;
+    let mut nearest: Option<&'a V> = None;
     for value in values {
-        if key < value.full_key() {
-            least = lesser(least, value);
+        if S::is_before(key, value.full_key()) {
+            nearest = nearer::<S, V>(nearest, value);
         }
     }
-    least
-}
-
-/// The first of the values with the greatest full key.
-fn greatest<'a, V: Keyed>(values: Values<'a, V>) -> Option<&'a V>
-    ensures { IsLeast (flip_args (cmp_keys V.full_key)) values.entry (option_copied result) }
-{
-    let mut greatest: Option<&'a V> = None;
-    for value in values {
-        greatest = greater(greatest, value);
-    }
-    greatest
-}
-
-/// The first of the values with the greatest full key below a key.
-fn greatest_below<'a, V: Keyed>(values: Values<'a, V>, key: &[u8]) -> Option<&'a V>
-    ensures { IsLeast (flip_args (cmp_keys V.full_key)) (below V.full_key key.now values.entry) (option_copied result) }
-{
-    let mut greatest: Option<&'a V> = None;
-    for value in values {
-        if value.full_key() < key {
-            greatest = greater(greatest, value);
-        }
-    }
-    greatest
+    nearest
 }
 
 /// The least of the values above a key in its own list. Where none is above, the least of the next list, unless that one is found
@@ -100,11 +105,11 @@ where
     I::Value: Keyed,
     ensures { IsNextCandidate I.Value.full_key I.Key.cmp (I.content index.now) (I.slot index.now key.now) key.now (option_copied result) }
 {
-    if let Some(value) = least_above(index.get(key), key) {
+    if let Some(value) = nearest_beyond::<Above, _>(index.get(key), key) {
         return Some(value);
     }
     match index.next_translated_key(key) {
-        Some((values, false)) => least(values),
+        Some((values, false)) => nearest::<Above, _>(values),
         _ => None,
     }
 }
@@ -132,11 +137,11 @@ where
     I::Value: Keyed,
     ensures { IsPrevCandidate I.Value.full_key I.Key.cmp (I.content index.now) (I.slot index.now key.now) key.now (option_copied result) }
 {
-    if let Some(value) = greatest_below(index.get(key), key) {
+    if let Some(value) = nearest_beyond::<Below, _>(index.get(key), key) {
         return Some(value);
     }
     match index.prev_translated_key(key) {
-        Some((values, false)) => greatest(values),
+        Some((values, false)) => nearest::<Below, _>(values),
         _ => None,
     }
 }

@@ -1,0 +1,10 @@
+use Rattle.std.proofs.Common.{map}
+use Rattle.std.specs.List.{filter}
+use Rattle.std.specs.Option.{option_copied}
+use Rattle.std.specs.Ordering.{is_lt, on}
+use Rattle.key_index_flat.specs.FullKeys.{IsLeast}
+use Rattle.key_index_flat.proofs.index.resolve.nearest_beyond.Given as goal
+
+-- the nearest of those beyond the key among the values so far
+abbrev pub invariant-loop-value : goal.invariant-loop-value
+invariant-loop-value g l = IsLeast (on g.V.Keyed.full_key g.S.Side.cmp) (filter (λ v. is_lt (g.S.Side.cmp l.key (g.V.Keyed.full_key v))) (map (λ value. value.now) l.yielded)) (option_copied l.nearest)
