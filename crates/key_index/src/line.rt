@@ -106,7 +106,7 @@ fn hex_digit(digit: u8) -> u8
 fn all_hex_digits(word: &[u8]) -> bool
     ensures { result ≡ list_all is_ascii_hexdigit word.now }
 {
-    // Each byte is asked, with no early end, so that no branch hangs on what a digit is.
+    // With no early end, so that no branch hangs on what a digit is.
     let mut all = true;
     for digit in word {
         all &= digit.is_ascii_hexdigit();
@@ -138,8 +138,7 @@ fn decode_hex(word: &[u8], key: &mut Vec<u8>) -> Result<(), AllocError>
     ensures decoded { OnOk result (key.new.items ≡ hex_bytes word.now) }
     ensures memory { OnErr result (vec_capacity key.old < length (hex_bytes word.now)) }
 {
-    // The first half of the digits makes room, and is overwritten.
-    key.extend_from_slice(&word[..word.len() / 2])?;
+    key.resize(word.len() / 2, 0)?;
     decode_into(word, key.as_mut_slice());
     Ok(())
 }
