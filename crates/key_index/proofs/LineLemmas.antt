@@ -1,21 +1,31 @@
 -- Lemmas on the words of a line, on hexadecimal digits and on numbers.
-use Rattle.std.proofs.Common.{◌≡◌, ℕ, ◌+◌, ◌-◌, ◌*◌, ◌/◌, ◌==◌, ◌<◌, ◌≤◌, ◌^◌, Bool, true, false, ltb, List, [], ◌∷◌, ◌++◌, length, get_or, take, drop, Some, None, lit≤, append_assoc, refl, ap, ◌∙◌, arith}
+use Rattle.std.proofs.Common.{◌≡◌, ℕ, ◌+◌, ◌-◌, ◌*◌, ◌/◌, ◌==◌, ◌<◌, ◌≤◌, ◌^◌, Bool, true, false, ltb, List, [], ◌∷◌, ◌++◌, Option, length, get_or, take, drop, Some, None, lit≤, append_assoc, refl, ap, ◌∙◌, arith}
 use Rattle.std.specs.Char.{digit_value, is_ascii_digit, is_ascii_hexdigit}
 use Rattle.std.specs.List.{list_all, position, position_or_len}
 use Rattle.std.specs.Str.Parse.{digits_value}
 use Rattle.std.proofs.lemmas.Grind.{common_steps}
 use Rattle.std.proofs.lemmas.List.{take_rest}
 use Rattle.std.proofs.lemmas.List.Splits.{slice_split_first, slice_split_none, length-slice_split}
-use Rattle.std.proofs.lemmas.List.Sums.{AllPass-from_list_all, fails_before_first}
+use Rattle.std.proofs.lemmas.List.Sums.{AllPass-from_list_all, fails_before_first, position_or_len_is}
 use Rattle.std.proofs.lemmas.List.Folds.{list_all_at, list_all_more}
 use Rattle.std.proofs.lemmas.Option.{cond_some}
 use Rattle.std.proofs.lemmas.Str.Parse.{digits_value-take-le}
 use Rattle.std.proofs.lemmas.Bool.Decides.{nat_tests}
 use Rattle.std.proofs.lemmas.Int.Digits.{digits_value_more}
+use Rattle.memchr.specs.Find.{IsFirstByte, is_byte}
 use Rattle.key_index.specs.Line.{words_of, hex_bytes, is_hex, number_of}
 
 abbrev is_space : ℕ → Bool
 is_space = λ b. b == 32
+
+-- the first space is where a search for its byte finds it
+pub IsFirstByte-position : (line : List ℕ) (r : Option ℕ) → IsFirstByte (is_byte 32) line r → r ≡ position is_space line
+IsFirstByte-position line None h =
+    let past = position_or_len_is is_space line (length line) 0 (omega arith) (λ k within. grind (arith, nat_tests, h k (omega arith) within)) (λ within. absurd (omega (arith, within))) in
+    grind (arith, nat_tests, past)
+IsFirstByte-position line (Some k) h =
+    let first = position_or_len_is is_space line k 0 (omega (arith, h.0.high)) (λ j below. grind (arith, nat_tests, h.0.before j (omega arith) below)) (λ _. h.1) in
+    grind (arith, nat_tests, first, h.0.high)
 
 -- a line has a word, be it an empty one
 pub words_of-some : (line : List ℕ) → words_of line ≡ [] → ⊥

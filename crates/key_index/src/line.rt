@@ -1,11 +1,12 @@
 //! One line of input, parsed into a command.
 
-ghost use Rattle.std.specs.Prelude.{◌≡◌, ◌==◌, ◌<◌, ◌↔◌, [], ◌∷◌, length, position, IsTrue, IsNone, IfSome, IfNone, IfOk, IfErr, OnOk, OnErr, IsErrOf, vec_capacity};
+ghost use Rattle.std.specs.Prelude.{◌≡◌, ◌==◌, ◌/◌, ◌<◌, ◌↔◌, [], ◌∷◌, length, position, IsTrue, IsNone, IfSome, IfNone, IfOk, IfErr, OnOk, OnErr, IsErrOf, vec_capacity};
 ghost use Rattle.std.specs.Char.{digit_value, is_ascii_hexdigit};
 ghost use Rattle.std.specs.List.{list_all};
 ghost use Rattle.key_index.specs.Line.{alone, command_of, hex_bytes, is_hex, key_of, number_of, ordered_command_of, command_of_words, with_key, with_key_and_number, words_of};
 ghost use Rattle.key_index.specs.Words.{words_left};
 
+use memchr::memchr;
 use std::alloc::AllocError;
 
 /// What a line says. The key that it names is in the buffer that `parse` filled.
@@ -48,7 +49,7 @@ pub enum LineFault {
 fn first_space(line: &[u8]) -> Option<usize>
     ensures { result ≡ position (λ byte. byte == 32) line.now }
 {
-    line.iter().position(|byte| *byte == b' ')
+    memchr(b' ', line)
 }
 
 // The words of a line, from the first on: `rest` is what is left of the line, and `None` once its last word is taken.
@@ -105,13 +106,29 @@ fn hex_digit(digit: u8) -> u8
 fn all_hex_digits(word: &[u8]) -> bool
     ensures { result ≡ list_all is_ascii_hexdigit word.now }
 {
-    word.iter().all(|digit| digit.is_ascii_hexdigit())
+    // With no early end, so that no branch hangs on what a digit is.
+    let mut all = true;
+    for digit in word {
+        all &= digit.is_ascii_hexdigit();
+    }
+    all
 }
 
 fn is_hex(word: &[u8]) -> bool
     ensures { result ≡ is_hex word.now }
 {
     !word.is_empty() && word.len() % 2 == 0 && all_hex_digits(word)
+}
+
+// Overwrites bytes with those that hexadecimal digits write.
+fn decode_into(word: &[u8], bytes: &mut [u8])
+    requires digits { IsTrue (is_hex word.now) }
+    requires half { length bytes.old ≡ length word.now / 2 }
+    ensures { bytes.new ≡ hex_bytes word.now }
+{
+    for i in 0..bytes.len() {
+        bytes[i] = 16 * hex_digit(word[2 * i]) + hex_digit(word[2 * i + 1]);
+    }
 }
 
 // Puts the bytes that hexadecimal digits write into an empty buffer.
@@ -121,12 +138,8 @@ fn decode_hex(word: &[u8], key: &mut Vec<u8>) -> Result<(), AllocError>
     ensures decoded { OnOk result (key.new.items ≡ hex_bytes word.now) }
     ensures memory { OnErr result (vec_capacity key.old < length (hex_bytes word.now)) }
 {
-    key.reserve(word.len() / 2)?;
-    for i in 0..word.len() / 2 {
-        let high = hex_digit(word[2 * i]);
-        let low = hex_digit(word[2 * i + 1]);
-        key.push(16 * high + low).unwrap();
-    }
+    key.resize(word.len() / 2, 0)?;
+    decode_into(word, key.as_mut_slice());
     Ok(())
 }
 

@@ -10,7 +10,7 @@ use std::test::Fail;
 
 #[test]
 fn lines_are_read(rt: HostRuntime) -> Result<(), Fail> {
-    let lines: [(&[u8], Command, &[u8]); 9] = [
+    let lines: [(&[u8], Command, &[u8]); 10] = [
         (b"insert 0b02 1", Command::Insert(1), &[0x0b, 0x02]),
         (b"insert - 7", Command::Insert(7), &[]),
         (
@@ -35,6 +35,15 @@ fn lines_are_read(rt: HostRuntime) -> Result<(), Fail> {
             &[0x01, 0x23, 0x45, 0x67, 0x89],
         ),
         (b"get -", Command::Get, &[]),
+        (
+            b"get 00112233445566778899AABBCCDDEEFF0f1e2d3c4b5a69788796a5b4c3d2e1f09A",
+            Command::Get,
+            &[
+                0x00, 0x11, 0x22, 0x33, 0x44, 0x55, 0x66, 0x77, 0x88, 0x99, 0xaa, 0xbb, 0xcc, 0xdd,
+                0xee, 0xff, 0x0f, 0x1e, 0x2d, 0x3c, 0x4b, 0x5a, 0x69, 0x78, 0x87, 0x96, 0xa5, 0xb4,
+                0xc3, 0xd2, 0xe1, 0xf0, 0x9a,
+            ],
+        ),
         (b"counts", Command::Counts, &[]),
     ];
     let mut key = Vec::new(rt.alloc());
@@ -47,7 +56,7 @@ fn lines_are_read(rt: HostRuntime) -> Result<(), Fail> {
 
 #[test]
 fn other_lines_are_bad(rt: HostRuntime) {
-    let lines: [&[u8]; 26] = [
+    let lines: [&[u8]; 28] = [
         b"",
         b" ",
         b"insert",
@@ -66,6 +75,8 @@ fn other_lines_are_bad(rt: HostRuntime) {
         b"insert 0 1",
         b"insert 0b0 1",
         b"insert 0g 1",
+        b"get 00112233445566778899AABBCCDDEEFF0f1e2d3g4b5a69788796a5b4c3d2e1f0",
+        b"get 00112233445566778899AABBCC/DEEFF0f1e2d3c4b5a69788796a5b4c3d2e1f0",
         b"insert -- 1",
         b"insert -0b 1",
         b"remove",
@@ -128,6 +139,27 @@ impl Read for FailingReader<'_> {
             return Err(Error::from(ErrorKind::BrokenPipe));
         }
         let count = self.bytes.len().min(buffer.len()).min(5);
+        buffer[..count].copy_from_slice(&self.bytes[..count]);
+        self.bytes = &self.bytes[count..];
+        Ok(count)
+    }
+}
+
+// A reader of some bytes, a few at a time, which is interrupted before each read.
+#[derive(Drop)]
+struct InterruptedReader<'a> {
+    bytes: &'a [u8],
+    size: usize,
+    interrupted: bool,
+}
+
+impl Read for InterruptedReader<'_> {
+    fn read(&mut self, buffer: &mut [u8]) -> io::Result<usize> {
+        self.interrupted = !self.interrupted;
+        if self.interrupted {
+            return Err(Error::from(ErrorKind::Interrupted));
+        }
+        let count = self.bytes.len().min(buffer.len()).min(self.size);
         buffer[..count].copy_from_slice(&self.bytes[..count]);
         self.bytes = &self.bytes[count..];
         Ok(count)
@@ -347,6 +379,25 @@ fn failed_reads_end_the_program(rt: HostRuntime) -> Result<(), Fail> {
         assert_eq!(rt; ended.0.as_slice(), output, "{bytes:?}");
         assert_eq!(rt; ended.1.as_slice(), b"failed\n".as_slice());
         assert_eq!(rt; ended.2, 1);
+    }
+    Ok(())
+}
+
+#[test]
+fn interrupted_reads_are_tried_again(rt: HostRuntime) -> Result<(), Fail> {
+    for size in 1..20 {
+        let reader = InterruptedReader {
+            bytes: b"insert 0b 1\ninsert 0b 2\nget 0b\ncounts",
+            size,
+            interrupted: false,
+        };
+        let ended = session(rt.alloc(), &["unordered"], reader)?;
+        assert_eq!(rt;
+            ended.0.as_slice(),
+            b"ok\nok\nvalues 2 1\nkeys 1 items 2 pruned 0\n".as_slice(),
+            "{size}"
+        );
+        assert_eq!(rt; ended.2, 0);
     }
     Ok(())
 }
