@@ -1,4 +1,5 @@
 //! An index that is called some thousand times answers as lists kept beside it do, and as another index does.
+mod checks;
 mod commands;
 mod commands_beside;
 mod cursors;

@@ -1,5 +1,6 @@
 //! Each translator, and each call of the flat index, once.
-use crate::callers::{add, newest, replace};
+use super::checks::{counts, holds};
+use crate::callers::{add, newest, replace, replace_first};
 use key_index_flat::index::unordered::Index;
 use key_index_flat::index::{Factory, Fault, Runs, Unordered, Values};
 use key_index_flat::translator::{EightCap, FourCap, OneCap, Translator, TwoCap};
@@ -39,10 +40,10 @@ fn rows(rt: HostRuntime) -> Result<(), Fail> {
     assert_eq!(&rt; index.run_len(slot), 2);
     assert_eq!(&rt; *index.value_at(slot, 0), 2);
     assert_eq!(&rt; *index.value_at(slot, 1), 1);
-    assert!(&rt; index.get(b"\x0b").copied().eq([2, 1]));
+    holds(&rt, &index, b"\x0b", &[2, 1]);
     index.remove(b"\x0b")?;
-    assert!(&rt; index.get(b"\x0b").next().is_none());
-    assert_eq!(&rt; (index.keys(), index.items(), index.pruned()), (1, 1, 2));
+    holds(&rt, &index, b"\x0b", &[]);
+    counts(&rt, &index, (1, 1, 2));
     Ok(())
 }
 
@@ -52,7 +53,7 @@ fn first_use(rt: HostRuntime) -> Result<(), Fail> {
     let mut index = Index::<OneCap, u64>::new(rt.alloc(), OneCap)?;
     assert_eq!(&rt; add(&mut index, b"\x0b\x02", 7)?, 1);
     assert_eq!(&rt; add(&mut index, b"\x0b\xff", 8)?, 2);
-    assert!(&rt; index.get(b"\x0b").copied().eq([8, 7]));
+    holds(&rt, &index, b"\x0b", &[8, 7]);
     Ok(())
 }
 
@@ -66,7 +67,7 @@ fn replaced<I: Unordered<Value = u64> + Factory + Drop>(
     index.insert(b"key", 1)?;
     index.insert(b"key", 2)?;
     replace(&mut index, b"key", 3)?;
-    assert!(rt; index.get(b"key").copied().eq([3]));
+    holds(rt, &index, b"key", &[3]);
     Ok(())
 }
 
@@ -78,6 +79,48 @@ fn flat_replaces(rt: HostRuntime) -> Result<(), Fail> {
 #[test]
 fn plain_replaces(rt: HostRuntime) -> Result<(), Fail> {
     replaced::<key_index_plain::Index<OneCap, u64>>(&rt, rt.alloc(), OneCap)
+}
+
+/// A key with three values, of which `replace_first` changes the first alone.
+fn first_of_three_replaced<I: Unordered<Value = u64>>(
+    rt: &impl Abort,
+    index: &mut I,
+) -> Result<(), Fail> {
+    index.insert(b"three", 1)?;
+    index.insert(b"three", 2)?;
+    index.insert(b"three", 3)?;
+    assert!(rt; replace_first(index, b"three", 9)?);
+    holds(rt, index, b"three", &[9, 2, 1]);
+    Ok(())
+}
+
+/// The values of keys after `replace_first`, through the bounds alone: of an absent key, one with a value and one with three.
+fn first_replaced<I: Unordered<Value = u64> + Factory + Drop>(
+    rt: &impl Abort,
+    alloc: Global,
+    translator: I::Translator,
+) -> Result<(), Fail> {
+    let mut index = I::new(alloc, translator)?;
+    index.insert(b"one", 5)?;
+    assert!(rt; !replace_first(&mut index, b"absent", 9)?);
+    holds(rt, &index, b"absent", &[]);
+    holds(rt, &index, b"one", &[5]);
+    assert!(rt; replace_first(&mut index, b"one", 6)?);
+    holds(rt, &index, b"one", &[6]);
+    first_of_three_replaced(rt, &mut index)?;
+    holds(rt, &index, b"one", &[6]);
+    counts(rt, &index, (2, 4, 0));
+    Ok(())
+}
+
+#[test]
+fn flat_replaces_first(rt: HostRuntime) -> Result<(), Fail> {
+    first_replaced::<Index<OneCap, u64>>(&rt, rt.alloc(), OneCap)
+}
+
+#[test]
+fn plain_replaces_first(rt: HostRuntime) -> Result<(), Fail> {
+    first_replaced::<key_index_plain::Index<OneCap, u64>>(&rt, rt.alloc(), OneCap)
 }
 
 #[test]
