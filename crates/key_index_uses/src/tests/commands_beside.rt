@@ -1,4 +1,5 @@
 //! Lists of commands from the fixed run of numbers, over two indices beside one another.
+use super::checks::{same_counts, same_values};
 use super::numbers::Numbers;
 use key_index_flat::index::{Command, Factory, Outcome, Step, Unordered, run};
 use std::alloc::Global;
@@ -67,6 +68,40 @@ fn alike(first: &Outcome, second: &Outcome) -> bool {
     }
 }
 
+/// The outcomes are the same.
+fn same_outcomes(rt: &impl Abort, outcomes: &[Outcome], others: &[Outcome]) {
+    assert_eq!(rt; outcomes.len(), others.len());
+    for (outcome, other) in outcomes.iter().zip(others.iter()) {
+        assert!(rt; alike(outcome, other), "{outcome:?} and {other:?}");
+    }
+}
+
+/// Whether an edit came to this flag at a step.
+fn has_flag(outcomes: &[Outcome], flag: bool) -> bool {
+    for outcome in outcomes {
+        if let Outcome::Edited(flags) = outcome {
+            if flags.as_slice().contains(&flag) {
+                return true;
+            }
+        }
+    }
+    false
+}
+
+/// Two indices have the same values under each key that occurs.
+fn same_lists<A: Unordered<Value = u64>, B: Unordered<Value = u64>>(
+    rt: &impl Abort,
+    alloc: Global,
+    first: &A,
+    second: &B,
+) -> Result<(), Fail> {
+    for number in 0..48 {
+        let key = key(alloc, number)?;
+        same_values(rt, first, second, key.as_slice());
+    }
+    Ok(())
+}
+
 /// Runs the same lists of commands over two indices. After each list it compares the outcome of each command, the values of each key
 /// and the counts.
 pub(super) fn run_beside<
@@ -90,28 +125,11 @@ where
     for _ in 0..LISTS {
         let outcomes = run_list(alloc, &mut first, &mut first_numbers)?;
         let others = run_list(alloc, &mut second, &mut second_numbers)?;
-        assert_eq!(rt; outcomes.len(), others.len());
-        for (outcome, other) in outcomes.iter().zip(others.iter()) {
-            assert!(rt; alike(outcome, other), "{outcome:?} and {other:?}");
-            if let Outcome::Edited(flags) = outcome {
-                accepts |= flags.as_slice().contains(&true);
-                refuses |= flags.as_slice().contains(&false);
-            }
-        }
-        for number in 0..48 {
-            let key = key(alloc, number)?;
-            assert!(rt;
-                first
-                    .get(key.as_slice())
-                    .copied()
-                    .eq(second.get(key.as_slice()).copied()),
-                "the values of {key:?}"
-            );
-        }
-        assert_eq!(rt;
-            (first.keys(), first.items(), first.pruned()),
-            (second.keys(), second.items(), second.pruned())
-        );
+        same_outcomes(rt, outcomes.as_slice(), others.as_slice());
+        accepts |= has_flag(outcomes.as_slice(), true);
+        refuses |= has_flag(outcomes.as_slice(), false);
+        same_lists(rt, alloc, &first, &second)?;
+        same_counts(rt, &first, &second);
     }
     assert!(rt; accepts && refuses, "steps of both kinds");
     assert!(rt; first.pruned() > 0, "values were taken out");

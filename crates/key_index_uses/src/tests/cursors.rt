@@ -1,4 +1,7 @@
 //! Cursors, called step by step over any index through one function.
+ghost use Rattle.key_index_flat.specs.Cursor.{IsOnValue, AllowsInsert};
+
+use super::checks::{counts, cursor_at, ends, goes_to, holds, stands};
 use super::commands::three;
 use key_index_flat::index::unordered::Index;
 use key_index_flat::index::{Cursor, CursorState, Factory, Unordered, ordered};
@@ -14,21 +17,16 @@ fn edited<I: Unordered<Value = u64> + Factory + Drop>(
     translator: I::Translator,
 ) -> Result<(), Fail> {
     let mut index = three::<I>(alloc, translator)?;
-    let Some(mut cursor) = index.get_mut(b"k")? else {
-        panic!(rt; "k has values")
-    };
-    assert_eq!(rt; cursor.next().copied(), Some(3));
-    assert_eq!(rt; cursor.state(), CursorState::Active);
+    let mut cursor = cursor_at(rt, &mut index, b"k")?;
+    goes_to(rt, &mut cursor, 3);
     cursor.delete();
-    assert_eq!(rt; cursor.next().copied(), Some(1));
-    assert_eq!(rt; cursor.state(), CursorState::Active);
+    goes_to(rt, &mut cursor, 1);
     cursor.insert(9)?;
-    assert_eq!(rt; cursor.next().copied(), Some(2));
-    assert!(rt; cursor.next().is_none());
-    assert_eq!(rt; cursor.state(), CursorState::Done);
+    goes_to(rt, &mut cursor, 2);
+    ends(rt, &mut cursor);
     cursor.insert(7)?;
-    assert!(rt; index.get(b"k").copied().eq([1, 9, 2, 7]));
-    assert_eq!(rt; (index.keys(), index.items(), index.pruned()), (1, 4, 1));
+    holds(rt, &index, b"k", &[1, 9, 2, 7]);
+    counts(rt, &index, (1, 4, 1));
     Ok(())
 }
 
@@ -55,19 +53,15 @@ fn emptied<I: Unordered<Value = u64> + Factory + Drop>(
 ) -> Result<(), Fail> {
     let mut index = I::new(alloc, translator)?;
     index.insert(b"k", 5)?;
-    let Some(mut cursor) = index.get_mut(b"k")? else {
-        panic!(rt; "k has a value")
-    };
-    assert_eq!(rt; cursor.next().copied(), Some(5));
-    assert_eq!(rt; cursor.state(), CursorState::Active);
+    let mut cursor = cursor_at(rt, &mut index, b"k")?;
+    goes_to(rt, &mut cursor, 5);
     cursor.delete();
-    assert_eq!(rt; cursor.state(), CursorState::NeedNext);
-    assert!(rt; cursor.next().is_none());
-    assert_eq!(rt; cursor.state(), CursorState::Done);
+    stands(rt, &cursor, CursorState::NeedNext);
+    ends(rt, &mut cursor);
     cursor.insert(6)?;
-    assert!(rt; cursor.next().is_none());
-    assert!(rt; index.get(b"k").copied().eq([6]));
-    assert_eq!(rt; (index.keys(), index.items(), index.pruned()), (1, 1, 1));
+    ends(rt, &mut cursor);
+    holds(rt, &index, b"k", &[6]);
+    counts(rt, &index, (1, 1, 1));
     Ok(())
 }
 
@@ -93,14 +87,12 @@ fn retained<I: Unordered<Value = u64> + Factory + Drop>(
     translator: I::Translator,
 ) -> Result<(), Fail> {
     let mut index = three::<I>(alloc, translator)?;
-    let Some(mut cursor) = index.get_mut(b"k")? else {
-        panic!(rt; "k has values")
-    };
-    assert_eq!(rt; cursor.next().copied(), Some(3));
+    let mut cursor = cursor_at(rt, &mut index, b"k")?;
+    goes_to(rt, &mut cursor, 3);
     cursor.retain(|_value: &u64| false);
-    assert_eq!(rt; cursor.state(), CursorState::Done);
-    assert!(rt; index.get(b"k").copied().eq([3]));
-    assert_eq!(rt; (index.keys(), index.items(), index.pruned()), (1, 1, 2));
+    stands(rt, &cursor, CursorState::Done);
+    holds(rt, &index, b"k", &[3]);
+    counts(rt, &index, (1, 1, 2));
     Ok(())
 }
 
@@ -126,17 +118,15 @@ fn retained_in_turn<I: Unordered<Value = u64> + Factory + Drop>(
     translator: I::Translator,
 ) -> Result<(), Fail> {
     let mut index = three::<I>(alloc, translator)?;
-    let Some(mut cursor) = index.get_mut(b"k")? else {
-        panic!(rt; "k has values")
-    };
+    let mut cursor = cursor_at(rt, &mut index, b"k")?;
     let mut keeps = false;
     cursor.retain(|_value: &u64| {
         keeps = !keeps;
         keeps
     });
-    assert_eq!(rt; cursor.state(), CursorState::Done);
-    assert!(rt; index.get(b"k").copied().eq([3, 2]));
-    assert_eq!(rt; (index.keys(), index.items(), index.pruned()), (1, 2, 1));
+    stands(rt, &cursor, CursorState::Done);
+    holds(rt, &index, b"k", &[3, 2]);
+    counts(rt, &index, (1, 2, 1));
     Ok(())
 }
 
@@ -155,6 +145,28 @@ fn ordered_cursor_retains_in_turn(rt: HostRuntime) -> Result<(), Fail> {
     retained_in_turn::<ordered::Index<OneCap, u64>>(&rt, rt.alloc(), OneCap)
 }
 
+/// `find` goes to a value.
+fn finds<C: Cursor<Value = u64>>(rt: &impl Abort, cursor: &mut C, sought: u64)
+    ensures { IsOnValue (C.place cursor.new) }
+{
+    assert!(rt;
+        cursor.find(|value: &u64| *value == sought),
+        "find gives {sought}"
+    );
+    stands(rt, cursor, CursorState::Active);
+}
+
+/// `find` goes past the end.
+fn finds_none<C: Cursor<Value = u64>>(rt: &impl Abort, cursor: &mut C, sought: u64)
+    ensures { AllowsInsert (C.place cursor.new) }
+{
+    assert!(rt;
+        !cursor.find(|value: &u64| *value == sought),
+        "find gives {sought}"
+    );
+    stands(rt, cursor, CursorState::Done);
+}
+
 /// The list 3, 1, 2: find 1, update 9, find 5 in vain, insert 7.
 fn found<I: Unordered<Value = u64> + Factory + Drop>(
     rt: &impl Abort,
@@ -162,17 +174,13 @@ fn found<I: Unordered<Value = u64> + Factory + Drop>(
     translator: I::Translator,
 ) -> Result<(), Fail> {
     let mut index = three::<I>(alloc, translator)?;
-    let Some(mut cursor) = index.get_mut(b"k")? else {
-        panic!(rt; "k has values")
-    };
-    assert!(rt; cursor.find(|value: &u64| *value == 1));
-    assert_eq!(rt; cursor.state(), CursorState::Active);
+    let mut cursor = cursor_at(rt, &mut index, b"k")?;
+    finds(rt, &mut cursor, 1);
     cursor.update(9);
-    assert!(rt; !cursor.find(|value: &u64| *value == 5));
-    assert_eq!(rt; cursor.state(), CursorState::Done);
+    finds_none(rt, &mut cursor, 5);
     cursor.insert(7)?;
-    assert!(rt; index.get(b"k").copied().eq([3, 9, 2, 7]));
-    assert_eq!(rt; (index.keys(), index.items(), index.pruned()), (1, 4, 0));
+    holds(rt, &index, b"k", &[3, 9, 2, 7]);
+    counts(rt, &index, (1, 4, 0));
     Ok(())
 }
 
@@ -191,66 +199,83 @@ fn ordered_cursor_finds(rt: HostRuntime) -> Result<(), Fail> {
     found::<ordered::Index<OneCap, u64>>(&rt, rt.alloc(), OneCap)
 }
 
-/// Cursors that are dropped half way: before a value, after a delete, on a value, after an insert, and past the end.
+/// A cursor that is dropped before the first value.
+fn dropped_at_start<I: Unordered<Value = u64>>(rt: &impl Abort, index: &mut I) -> Result<(), Fail> {
+    let cursor = cursor_at(rt, index, b"k")?;
+    stands(rt, &cursor, CursorState::NeedNext);
+    holds(rt, index, b"k", &[3, 1, 2]);
+    counts(rt, index, (1, 3, 0));
+    Ok(())
+}
+
+/// After it took 3 out.
+fn dropped_after_delete<I: Unordered<Value = u64>>(
+    rt: &impl Abort,
+    index: &mut I,
+) -> Result<(), Fail> {
+    let mut cursor = cursor_at(rt, index, b"k")?;
+    goes_to(rt, &mut cursor, 3);
+    cursor.delete();
+    stands(rt, &cursor, CursorState::NeedNext);
+    holds(rt, index, b"k", &[1, 2]);
+    counts(rt, index, (1, 2, 1));
+    Ok(())
+}
+
+/// On 8, which it put in the place of 1.
+fn dropped_on_value<I: Unordered<Value = u64>>(rt: &impl Abort, index: &mut I) -> Result<(), Fail> {
+    let mut cursor = cursor_at(rt, index, b"k")?;
+    goes_to(rt, &mut cursor, 1);
+    cursor.update(8);
+    stands(rt, &cursor, CursorState::Active);
+    holds(rt, index, b"k", &[8, 2]);
+    counts(rt, index, (1, 2, 1));
+    Ok(())
+}
+
+/// After it put 9 behind 8.
+fn dropped_after_insert<I: Unordered<Value = u64>>(
+    rt: &impl Abort,
+    index: &mut I,
+) -> Result<(), Fail> {
+    let mut cursor = cursor_at(rt, index, b"k")?;
+    goes_to(rt, &mut cursor, 8);
+    cursor.insert(9)?;
+    stands(rt, &cursor, CursorState::NeedNext);
+    holds(rt, index, b"k", &[8, 9, 2]);
+    counts(rt, index, (1, 3, 1));
+    Ok(())
+}
+
+/// Past the end.
+fn dropped_past_end<I: Unordered<Value = u64>>(rt: &impl Abort, index: &mut I) -> Result<(), Fail> {
+    let mut cursor = cursor_at(rt, index, b"k")?;
+    for value in [8, 9, 2] {
+        goes_to(rt, &mut cursor, value);
+    }
+    ends(rt, &mut cursor);
+    holds(rt, index, b"k", &[8, 9, 2]);
+    counts(rt, index, (1, 3, 1));
+    Ok(())
+}
+
+/// Cursors that are dropped half way, one after another; the index serves on.
 fn dropped<I: Unordered<Value = u64> + Factory + Drop>(
     rt: &impl Abort,
     alloc: Global,
     translator: I::Translator,
 ) -> Result<(), Fail> {
     let mut index = three::<I>(alloc, translator)?;
-    let Some(cursor) = index.get_mut(b"k")? else {
-        panic!(rt; "k has values")
-    };
-    assert_eq!(rt; cursor.state(), CursorState::NeedNext);
-    assert!(rt; index.get(b"k").copied().eq([3, 1, 2]));
-    assert_eq!(rt; (index.keys(), index.items(), index.pruned()), (1, 3, 0));
-
-    let Some(mut cursor) = index.get_mut(b"k")? else {
-        panic!(rt; "k has values")
-    };
-    assert_eq!(rt; cursor.next().copied(), Some(3));
-    assert_eq!(rt; cursor.state(), CursorState::Active);
-    cursor.delete();
-    assert_eq!(rt; cursor.state(), CursorState::NeedNext);
-    assert!(rt; index.get(b"k").copied().eq([1, 2]));
-    assert_eq!(rt; (index.keys(), index.items(), index.pruned()), (1, 2, 1));
-
-    let Some(mut cursor) = index.get_mut(b"k")? else {
-        panic!(rt; "k has values")
-    };
-    assert_eq!(rt; cursor.next().copied(), Some(1));
-    assert_eq!(rt; cursor.state(), CursorState::Active);
-    cursor.update(8);
-    assert_eq!(rt; cursor.state(), CursorState::Active);
-    assert!(rt; index.get(b"k").copied().eq([8, 2]));
-    assert_eq!(rt; (index.keys(), index.items(), index.pruned()), (1, 2, 1));
-
-    let Some(mut cursor) = index.get_mut(b"k")? else {
-        panic!(rt; "k has values")
-    };
-    assert_eq!(rt; cursor.next().copied(), Some(8));
-    assert_eq!(rt; cursor.state(), CursorState::Active);
-    cursor.insert(9)?;
-    assert_eq!(rt; cursor.state(), CursorState::NeedNext);
-    assert!(rt; index.get(b"k").copied().eq([8, 9, 2]));
-    assert_eq!(rt; (index.keys(), index.items(), index.pruned()), (1, 3, 1));
-
-    let Some(mut cursor) = index.get_mut(b"k")? else {
-        panic!(rt; "k has values")
-    };
-    for value in [8, 9, 2] {
-        assert_eq!(rt; cursor.next().copied(), Some(value));
-    }
-    assert!(rt; cursor.next().is_none());
-    assert_eq!(rt; cursor.state(), CursorState::Done);
-    assert!(rt; index.get(b"k").copied().eq([8, 9, 2]));
-    assert_eq!(rt; (index.keys(), index.items(), index.pruned()), (1, 3, 1));
-
+    dropped_at_start(rt, &mut index)?;
+    dropped_after_delete(rt, &mut index)?;
+    dropped_on_value(rt, &mut index)?;
+    dropped_after_insert(rt, &mut index)?;
+    dropped_past_end(rt, &mut index)?;
     index.insert(b"k", 4)?;
-    assert!(rt; index.get(b"k").copied().eq([4, 8, 9, 2]));
+    holds(rt, &index, b"k", &[4, 8, 9, 2]);
     index.remove(b"k")?;
-    assert!(rt; index.get(b"k").next().is_none());
-    assert_eq!(rt; (index.keys(), index.items(), index.pruned()), (0, 0, 5));
+    holds(rt, &index, b"k", &[]);
+    counts(rt, &index, (0, 0, 5));
     Ok(())
 }
 
@@ -277,18 +302,15 @@ fn dropped_without_values<I: Unordered<Value = u64> + Factory + Drop>(
 ) -> Result<(), Fail> {
     let mut index = three::<I>(alloc, translator)?;
     index.insert(b"j", 5)?;
-    let Some(mut cursor) = index.get_mut(b"j")? else {
-        panic!(rt; "j has a value")
-    };
-    assert_eq!(rt; cursor.next().copied(), Some(5));
-    assert_eq!(rt; cursor.state(), CursorState::Active);
+    let mut cursor = cursor_at(rt, &mut index, b"j")?;
+    goes_to(rt, &mut cursor, 5);
     cursor.delete();
-    assert_eq!(rt; (index.keys(), index.items(), index.pruned()), (1, 3, 1));
+    counts(rt, &index, (1, 3, 1));
     assert!(rt; index.get_mut(b"j")?.is_none());
-    assert!(rt; index.get(b"k").copied().eq([3, 1, 2]));
+    holds(rt, &index, b"k", &[3, 1, 2]);
     index.insert(b"j", 6)?;
-    assert!(rt; index.get(b"j").copied().eq([6]));
-    assert_eq!(rt; (index.keys(), index.items(), index.pruned()), (2, 4, 1));
+    holds(rt, &index, b"j", &[6]);
+    counts(rt, &index, (2, 4, 1));
     Ok(())
 }
 

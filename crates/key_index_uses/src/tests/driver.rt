@@ -1,4 +1,5 @@
 //! Calls of an index of any kind, in an order that is the same each time.
+use super::checks::{counts, same_counts, same_values};
 use super::numbers::Numbers;
 use key_index_flat::index::{Factory, Unordered};
 use std::alloc::Global;
@@ -7,6 +8,31 @@ use std::test::Fail;
 
 /// How many calls change an index.
 const CALLS: u32 = 4000;
+
+/// A key has the values of a list, whose last is the newest.
+fn same_list<I: Unordered<Value = u64>>(rt: &impl Abort, index: &I, key: &[u8], list: &[u64]) {
+    let values = index.get(key).copied();
+    let same = if I::INSERT_FIRST {
+        values.eq(list.iter().rev().copied())
+    } else {
+        values.eq(list.iter().copied())
+    };
+    assert!(rt; same, "the list of {key:?}");
+}
+
+/// The counts are those of the lists.
+fn counts_as<I: Unordered<Value = u64>>(
+    rt: &impl Abort,
+    index: &I,
+    lists: &[Vec<u64>],
+    pruned: u64,
+) {
+    let keys = lists.iter().filter(|list| !list.is_empty()).count();
+    let items = lists
+        .iter()
+        .fold(0usize, |sum, list| sum.saturating_add(list.len()));
+    counts(rt, index, (keys, items, pruned));
+}
 
 /// Calls an index with eight keys that no cap brings together, and compares each answer with lists that are kept beside it.
 pub(super) fn drive<I: Unordered<Value = u64> + Factory + Drop>(
@@ -35,21 +61,8 @@ pub(super) fn drive<I: Unordered<Value = u64> + Factory + Drop>(
             index.insert(&key, number)?;
             list.push(number)?;
         }
-        let values = index.get(&key).copied();
-        let same = if I::INSERT_FIRST {
-            values.eq(list.iter().rev().copied())
-        } else {
-            values.eq(list.iter().copied())
-        };
-        assert!(rt; same, "the list of {key:?}");
-        let keys = lists.iter().filter(|list| !list.is_empty()).count();
-        let items = lists
-            .iter()
-            .fold(0usize, |sum, list| sum.saturating_add(list.len()));
-        assert_eq!(rt;
-            (index.keys(), index.items(), index.pruned()),
-            (keys, items, pruned)
-        );
+        same_list(rt, &index, &key, list.as_slice());
+        counts_as(rt, &index, lists.as_slice(), pruned);
     }
     Ok(())
 }
@@ -82,14 +95,8 @@ where
             first.insert(key, number)?;
             second.insert(key, number)?;
         }
-        assert!(rt;
-            first.get(key).copied().eq(second.get(key).copied()),
-            "the values of {key:?}"
-        );
-        assert_eq!(rt;
-            (first.keys(), first.items(), first.pruned()),
-            (second.keys(), second.items(), second.pruned())
-        );
+        same_values(rt, &first, &second, key);
+        same_counts(rt, &first, &second);
     }
     Ok(())
 }

@@ -44,6 +44,26 @@ fn position(record: Option<&Record>) -> Option<u64> {
     }
 }
 
+/// The record above a full key stands there, or there is none.
+fn next_is<I: Ordered<Value = Record>>(
+    rt: &impl Abort,
+    index: &I,
+    key: &[u8],
+    stands: Option<u64>,
+) {
+    assert_eq!(rt; position(resolve_next(index, key)), stands, "above {key:?}");
+}
+
+/// The record below a full key stands there, or there is none.
+fn prev_is<I: Ordered<Value = Record>>(
+    rt: &impl Abort,
+    index: &I,
+    key: &[u8],
+    stands: Option<u64>,
+) {
+    assert_eq!(rt; position(resolve_prev(index, key)), stands, "below {key:?}");
+}
+
 /// Two records that share their first byte, and one further on.
 fn neighbours<I: Ordered<Value = Record> + Factory + Drop>(
     rt: &impl Abort,
@@ -51,20 +71,20 @@ fn neighbours<I: Ordered<Value = Record> + Factory + Drop>(
     translator: I::Translator,
 ) -> Result<(), Fail> {
     let mut index = I::new(alloc, translator)?;
-    assert!(rt; resolve_next(&index, b"").is_none());
-    assert!(rt; resolve_prev(&index, b"\xff").is_none());
+    next_is(rt, &index, b"", None);
+    prev_is(rt, &index, b"\xff", None);
     add(alloc, &mut index, b"\x0b\x02", 1)?;
     add(alloc, &mut index, b"\x0b\x05", 2)?;
     add(alloc, &mut index, b"\x1c\x01", 3)?;
-    assert_eq!(rt; position(resolve_next(&index, b"\x0b\x02")), Some(2));
-    assert_eq!(rt; position(resolve_next(&index, b"\x0b\x05")), Some(3));
-    assert!(rt; resolve_next(&index, b"\x1c\x01").is_none());
-    assert_eq!(rt; position(resolve_prev(&index, b"\x1c\x01")), Some(2));
-    assert!(rt; resolve_prev(&index, b"\x0b\x02").is_none());
-    assert_eq!(rt; position(resolve_next(&index, b"\x0b\x03")), Some(2));
-    assert_eq!(rt; position(resolve_prev(&index, b"\x0b\x03")), Some(1));
-    assert_eq!(rt; position(resolve_next(&index, b"")), Some(1));
-    assert_eq!(rt; position(resolve_prev(&index, b"\xff")), Some(3));
+    next_is(rt, &index, b"\x0b\x02", Some(2));
+    next_is(rt, &index, b"\x0b\x05", Some(3));
+    next_is(rt, &index, b"\x1c\x01", None);
+    prev_is(rt, &index, b"\x1c\x01", Some(2));
+    prev_is(rt, &index, b"\x0b\x02", None);
+    next_is(rt, &index, b"\x0b\x03", Some(2));
+    prev_is(rt, &index, b"\x0b\x03", Some(1));
+    next_is(rt, &index, b"", Some(1));
+    prev_is(rt, &index, b"\xff", Some(3));
     Ok(())
 }
 
@@ -87,13 +107,13 @@ fn together<I: Ordered<Value = Record> + Factory + Drop>(
     let mut index = I::new(alloc, translator)?;
     add(alloc, &mut index, b"", 1)?;
     add(alloc, &mut index, b"\x00", 2)?;
-    assert_eq!(rt; position(resolve_next(&index, b"")), Some(2));
-    assert_eq!(rt; position(resolve_prev(&index, b"\x00")), Some(1));
-    assert!(rt; resolve_prev(&index, b"").is_none());
+    next_is(rt, &index, b"", Some(2));
+    prev_is(rt, &index, b"\x00", Some(1));
+    prev_is(rt, &index, b"", None);
     add(alloc, &mut index, b"\x0b\x05", 3)?;
     add(alloc, &mut index, b"\x0b\x05", 4)?;
-    assert_eq!(rt; position(resolve_next(&index, b"\x0b")), Some(4));
-    assert_eq!(rt; position(resolve_prev(&index, b"\x0b\x06")), Some(4));
+    next_is(rt, &index, b"\x0b", Some(4));
+    prev_is(rt, &index, b"\x0b\x06", Some(4));
     Ok(())
 }
 
@@ -105,6 +125,21 @@ fn ordered_resolves_together(rt: HostRuntime) -> Result<(), Fail> {
 #[test]
 fn plain_resolves_together(rt: HostRuntime) -> Result<(), Fail> {
     together::<key_index_plain::Index<OneCap, Record>>(&rt, rt.alloc(), OneCap)
+}
+
+/// No record has a full key, and the records next to it stand there.
+fn excludes<I: Ordered<Value = Record>>(
+    rt: &impl Abort,
+    index: &I,
+    key: &[u8],
+    below: Option<u64>,
+    above: Option<u64>,
+) {
+    let Some(next_to) = exclude(index, key) else {
+        panic!(rt; "no record has the key {key:?}")
+    };
+    assert_eq!(rt; position(next_to.below), below, "{key:?}");
+    assert_eq!(rt; position(next_to.above), above, "{key:?}");
 }
 
 /// An absent key among others, and below and above them all; and a held one.
@@ -123,11 +158,7 @@ fn excluded<I: Ordered<Value = Record> + Factory + Drop>(
         (b"".as_slice(), None, Some(1)),
         (b"\x1c\x01\x00".as_slice(), Some(3), None),
     ] {
-        let Some(next_to) = exclude(&index, key) else {
-            panic!(rt; "no record has the key {key:?}")
-        };
-        assert_eq!(rt; position(next_to.below), below, "{key:?}");
-        assert_eq!(rt; position(next_to.above), above, "{key:?}");
+        excludes(rt, &index, key, below, above);
     }
     assert!(rt; exclude(&index, b"\x0b\x05").is_none());
     Ok(())

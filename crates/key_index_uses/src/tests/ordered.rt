@@ -1,4 +1,5 @@
 //! Ordered indices: the neighbours of a key, and each row of the other tests again.
+use super::checks::{counts, holds};
 use super::commands::{each_command, edited, emptied, kept};
 use super::commands_beside::run_beside;
 use super::driver::{beside, drive};
@@ -22,11 +23,59 @@ fn has(neighbour: Option<(Values<'_, u64>, bool)>, values: &[u64], cycled: bool)
 }
 
 /// Whether an end has these values.
-fn holds(end: Option<Values<'_, u64>>, values: &[u64]) -> bool {
+fn end_has(end: Option<Values<'_, u64>>, values: &[u64]) -> bool {
     match end {
         Some(given) => given.copied().eq(values.iter().copied()),
         None => false,
     }
+}
+
+/// The neighbour above a key has these values, and this flag.
+fn next_has<I: Ordered<Value = u64>>(
+    rt: &impl Abort,
+    index: &I,
+    key: &[u8],
+    values: &[u64],
+    cycled: bool,
+) {
+    assert!(rt;
+        has(index.next_translated_key(key), values, cycled),
+        "{values:?} above {key:?}"
+    );
+}
+
+/// The neighbour below a key has these values, and this flag.
+fn prev_has<I: Ordered<Value = u64>>(
+    rt: &impl Abort,
+    index: &I,
+    key: &[u8],
+    values: &[u64],
+    cycled: bool,
+) {
+    assert!(rt;
+        has(index.prev_translated_key(key), values, cycled),
+        "{values:?} below {key:?}"
+    );
+}
+
+/// The ends have these values.
+fn ends_have<I: Ordered<Value = u64>>(rt: &impl Abort, index: &I, first: &[u64], last: &[u64]) {
+    assert!(rt; end_has(index.first_translated_key(), first));
+    assert!(rt; end_has(index.last_translated_key(), last));
+}
+
+/// The neighbours of keys where 0b has the value 1, 1c has 22 and 21, and 2d has 3.
+fn neighbours_of_three<I: Ordered<Value = u64>>(rt: &impl Abort, index: &I) {
+    next_has(rt, index, b"\x0b\x01\x02", &[22, 21], false);
+    next_has(rt, index, b"\x1c\x01\x02", &[3], false);
+    next_has(rt, index, b"\x2d\x06\xee", &[1], true);
+    next_has(rt, index, b"", &[1], false);
+    prev_has(rt, index, b"\x0b\x02\xaa", &[3], true);
+    prev_has(rt, index, b"\x1c\x01\x02", &[1], false);
+    prev_has(rt, index, b"\xcc\x01\x02", &[3], false);
+    prev_has(rt, index, b"", &[3], true);
+    ends_have(rt, index, &[1], &[3]);
+    counts(rt, index, (3, 4, 0));
 }
 
 /// Three index keys, one of them with two values.
@@ -40,20 +89,10 @@ fn neighbours<I: Ordered<Value = u64> + Factory + Drop>(
     index.insert(b"\x1c\x04\xcc", 21)?;
     index.insert(b"\x1c\x03\x11", 22)?;
     index.insert(b"\x2d\x06\xee", 3)?;
-    assert!(rt; has(index.next_translated_key(b"\x0b\x01\x02"), &[22, 21], false));
-    assert!(rt; has(index.next_translated_key(b"\x1c\x01\x02"), &[3], false));
-    assert!(rt; has(index.next_translated_key(b"\x2d\x06\xee"), &[1], true));
-    assert!(rt; has(index.next_translated_key(b""), &[1], false));
-    assert!(rt; has(index.prev_translated_key(b"\x0b\x02\xaa"), &[3], true));
-    assert!(rt; has(index.prev_translated_key(b"\x1c\x01\x02"), &[1], false));
-    assert!(rt; has(index.prev_translated_key(b"\xcc\x01\x02"), &[3], false));
-    assert!(rt; has(index.prev_translated_key(b""), &[3], true));
-    assert!(rt; holds(index.first_translated_key(), &[1]));
-    assert!(rt; holds(index.last_translated_key(), &[3]));
-    assert_eq!(rt; (index.keys(), index.items(), index.pruned()), (3, 4, 0));
+    neighbours_of_three(rt, &index);
     index.remove(b"\x1c")?;
-    assert!(rt; has(index.next_translated_key(b"\x0b\x01\x02"), &[3], false));
-    assert!(rt; has(index.prev_translated_key(b"\x2d"), &[1], false));
+    next_has(rt, &index, b"\x0b\x01\x02", &[3], false);
+    prev_has(rt, &index, b"\x2d", &[1], false);
     Ok(())
 }
 
@@ -67,6 +106,14 @@ fn plain_gives_neighbours(rt: HostRuntime) -> Result<(), Fail> {
     neighbours::<key_index_plain::Index<OneCap, u64>>(&rt, rt.alloc(), OneCap)
 }
 
+/// No key has a neighbour, and there are no ends.
+fn has_none<I: Ordered<Value = u64>>(rt: &impl Abort, index: &I, key: &[u8]) {
+    assert!(rt; index.next_translated_key(key).is_none());
+    assert!(rt; index.prev_translated_key(key).is_none());
+    assert!(rt; index.first_translated_key().is_none());
+    assert!(rt; index.last_translated_key().is_none());
+}
+
 /// No key, and then one.
 fn lone<I: Ordered<Value = u64> + Factory + Drop>(
     rt: &impl Abort,
@@ -74,17 +121,13 @@ fn lone<I: Ordered<Value = u64> + Factory + Drop>(
     translator: I::Translator,
 ) -> Result<(), Fail> {
     let mut index = I::new(alloc, translator)?;
-    assert!(rt; index.next_translated_key(b"\x0b").is_none());
-    assert!(rt; index.prev_translated_key(b"\x0b").is_none());
-    assert!(rt; index.first_translated_key().is_none());
-    assert!(rt; index.last_translated_key().is_none());
+    has_none(rt, &index, b"\x0b");
     index.insert(b"\x0b", 1)?;
-    assert!(rt; has(index.next_translated_key(b"\x0b"), &[1], true));
-    assert!(rt; has(index.prev_translated_key(b"\x0b"), &[1], true));
-    assert!(rt; has(index.next_translated_key(b"\x0a"), &[1], false));
-    assert!(rt; has(index.prev_translated_key(b"\x0c"), &[1], false));
-    assert!(rt; holds(index.first_translated_key(), &[1]));
-    assert!(rt; holds(index.last_translated_key(), &[1]));
+    next_has(rt, &index, b"\x0b", &[1], true);
+    prev_has(rt, &index, b"\x0b", &[1], true);
+    next_has(rt, &index, b"\x0a", &[1], false);
+    prev_has(rt, &index, b"\x0c", &[1], false);
+    ends_have(rt, &index, &[1], &[1]);
     Ok(())
 }
 
@@ -111,12 +154,12 @@ fn calls(rt: HostRuntime) -> Result<(), Fail> {
     assert_eq!(&rt; *index.value_at(slot, 1), 1);
     index.set_at(slot, 1, 4);
     index.insert_at(slot, 2, 5)?;
-    assert!(&rt; index.get(b"\x0b").copied().eq([2, 4, 5]));
+    holds(&rt, &index, b"\x0b", &[2, 4, 5]);
     assert_eq!(&rt; index.remove_at(slot, 0), 2);
-    assert!(&rt; index.get(b"\x0b").copied().eq([4, 5]));
+    holds(&rt, &index, b"\x0b", &[4, 5]);
     index.remove(b"\x0b")?;
-    assert!(&rt; index.get(b"\x0b").next().is_none());
-    assert_eq!(&rt; (index.keys(), index.items(), index.pruned()), (1, 1, 3));
+    holds(&rt, &index, b"\x0b", &[]);
+    counts(&rt, &index, (1, 1, 3));
     assert!(&rt; Index::<OneCap, u64>::INSERT_FIRST);
     assert!(&rt; !Index::<OneCap, u64>::LOOKUP_WARMS_UPDATE);
     Ok(())
@@ -180,6 +223,31 @@ fn same_end(first: Option<Values<'_, u64>>, second: Option<Values<'_, u64>>) -> 
     }
 }
 
+/// Two indices give the same neighbours of a key, and the same ends.
+fn same_neighbours<A: Ordered<Value = u64>, B: Ordered<Value = u64>>(
+    rt: &impl Abort,
+    first: &A,
+    second: &B,
+    key: &[u8],
+) {
+    assert!(rt;
+        same_neighbour(
+            first.next_translated_key(key),
+            second.next_translated_key(key)
+        ),
+        "the neighbour above {key:?}"
+    );
+    assert!(rt;
+        same_neighbour(
+            first.prev_translated_key(key),
+            second.prev_translated_key(key)
+        ),
+        "the neighbour below {key:?}"
+    );
+    assert!(rt; same_end(first.first_translated_key(), second.first_translated_key()));
+    assert!(rt; same_end(first.last_translated_key(), second.last_translated_key()));
+}
+
 /// Calls two ordered indices with the same keys and values, and compares the neighbours of a further key after each call. The keys
 /// have up to two bytes, of four that occur, and most calls take a key out, so that there are often few.
 fn neighbours_beside<
@@ -213,22 +281,7 @@ where
             b'a' + (number / 2048 % 4) as u8,
         ];
         let asked = &asked[..(number / 8192 % 3) as usize];
-        assert!(rt;
-            same_neighbour(
-                first.next_translated_key(asked),
-                second.next_translated_key(asked)
-            ),
-            "the neighbour above {asked:?}"
-        );
-        assert!(rt;
-            same_neighbour(
-                first.prev_translated_key(asked),
-                second.prev_translated_key(asked)
-            ),
-            "the neighbour below {asked:?}"
-        );
-        assert!(rt; same_end(first.first_translated_key(), second.first_translated_key()));
-        assert!(rt; same_end(first.last_translated_key(), second.last_translated_key()));
+        same_neighbours(rt, &first, &second, asked);
     }
     Ok(())
 }
