@@ -13,20 +13,19 @@ use commands_beside::run_beside;
 use driver::{beside, drive};
 use key_index_flat::index::unordered;
 use key_index_flat::translator::{EightCap, FourCap, OneCap, TwoCap};
-use std::test::Fail;
 
 #[test]
-fn flat_keeps_lists(rt: HostRuntime) -> Result<(), Fail> {
+fn flat_keeps_lists(rt: HostRuntime) {
     drive::<unordered::Index<OneCap, u64>>(&rt, rt.alloc(), OneCap)
 }
 
 #[test]
-fn plain_keeps_lists(rt: HostRuntime) -> Result<(), Fail> {
+fn plain_keeps_lists(rt: HostRuntime) {
     drive::<key_index_plain::Index<OneCap, u64>>(&rt, rt.alloc(), OneCap)
 }
 
 #[test]
-fn flat_beside_plain_by_one_byte(rt: HostRuntime) -> Result<(), Fail> {
+fn flat_beside_plain_by_one_byte(rt: HostRuntime) {
     beside::<unordered::Index<OneCap, u64>, key_index_plain::Index<OneCap, u64>>(
         &rt,
         rt.alloc(),
@@ -36,7 +35,7 @@ fn flat_beside_plain_by_one_byte(rt: HostRuntime) -> Result<(), Fail> {
 }
 
 #[test]
-fn flat_beside_plain_by_two_bytes(rt: HostRuntime) -> Result<(), Fail> {
+fn flat_beside_plain_by_two_bytes(rt: HostRuntime) {
     beside::<unordered::Index<TwoCap, u64>, key_index_plain::Index<TwoCap, u64>>(
         &rt,
         rt.alloc(),
@@ -46,7 +45,7 @@ fn flat_beside_plain_by_two_bytes(rt: HostRuntime) -> Result<(), Fail> {
 }
 
 #[test]
-fn flat_beside_plain_by_four_bytes(rt: HostRuntime) -> Result<(), Fail> {
+fn flat_beside_plain_by_four_bytes(rt: HostRuntime) {
     beside::<unordered::Index<FourCap, u64>, key_index_plain::Index<FourCap, u64>>(
         &rt,
         rt.alloc(),
@@ -56,7 +55,7 @@ fn flat_beside_plain_by_four_bytes(rt: HostRuntime) -> Result<(), Fail> {
 }
 
 #[test]
-fn flat_beside_plain_by_eight_bytes(rt: HostRuntime) -> Result<(), Fail> {
+fn flat_beside_plain_by_eight_bytes(rt: HostRuntime) {
     beside::<unordered::Index<EightCap, u64>, key_index_plain::Index<EightCap, u64>>(
         &rt,
         rt.alloc(),
@@ -66,7 +65,7 @@ fn flat_beside_plain_by_eight_bytes(rt: HostRuntime) -> Result<(), Fail> {
 }
 
 #[test]
-fn flat_beside_plain_by_commands(rt: HostRuntime) -> Result<(), Fail> {
+fn flat_beside_plain_by_commands(rt: HostRuntime) {
     run_beside::<unordered::Index<OneCap, u64>, key_index_plain::Index<OneCap, u64>>(
         &rt,
         rt.alloc(),

@@ -1,9 +1,35 @@
-//! What the tests assert of an index and of a cursor: each in one function, so that a test is proved by its calls alone.
+//! Calls of an index and of a cursor that have to be accepted, and what the tests assert of them: each in one function, so that a
+//! test is proved by its calls alone.
 ghost use Rattle.key_index_flat.specs.Cursor.{IsOnValue, AllowsInsert};
 
-use key_index_flat::index::{Cursor, CursorState, IndexCursor, Unordered};
+use key_index_flat::index::{Cursor, CursorState, Factory, IndexCursor, Unordered};
+use std::alloc::Global;
 use std::process::Abort;
-use std::test::Fail;
+
+/// An index with no values.
+pub(super) fn fresh<I: Factory>(rt: &impl Abort, alloc: Global, translator: I::Translator) -> I {
+    I::new(alloc, translator).expect(rt, "an index")
+}
+
+/// `insert` is accepted.
+pub(super) fn inserts<I: Unordered<Value = u64>>(
+    rt: &impl Abort,
+    index: &mut I,
+    key: &[u8],
+    value: u64,
+) {
+    index.insert(key, value).expect(rt, "insert");
+}
+
+/// `remove` is accepted.
+pub(super) fn removes<I: Unordered<Value = u64>>(rt: &impl Abort, index: &mut I, key: &[u8]) {
+    index.remove(key).expect(rt, "remove");
+}
+
+/// A value behind those of a vector.
+pub(super) fn push<T: Drop>(rt: &impl Abort, values: &mut Vec<T>, value: T) {
+    assert!(rt; values.push(value).is_ok());
+}
 
 /// A key has these values, in this order, and no others.
 pub(super) fn holds<I: Unordered<Value = u64>>(
@@ -54,11 +80,29 @@ pub(super) fn cursor_at<'a, I: Unordered<Value = u64>>(
     rt: &impl Abort,
     index: &'a mut I,
     key: &[u8],
-) -> Result<IndexCursor<'a, I>, Fail> {
-    let Some(cursor) = index.get_mut(key)? else {
+) -> IndexCursor<'a, I> {
+    let Ok(found) = index.get_mut(key) else {
+        panic!(rt; "a cursor on {key:?} is refused")
+    };
+    let Some(cursor) = found else {
         panic!(rt; "{key:?} has a value")
     };
-    Ok(cursor)
+    cursor
+}
+
+/// A key has no value for a cursor.
+pub(super) fn has_no_cursor<I: Unordered<Value = u64>>(rt: &impl Abort, index: &mut I, key: &[u8]) {
+    let Ok(found) = index.get_mut(key) else {
+        panic!(rt; "a cursor on {key:?} is refused")
+    };
+    assert!(rt; found.is_none(), "{key:?} has a value");
+}
+
+/// A cursor's `insert` is accepted.
+pub(super) fn puts<C: Cursor<Value = u64>>(rt: &impl Abort, cursor: &mut C, value: u64)
+    requires { AllowsInsert (C.place cursor.old) }
+{
+    cursor.insert(value).expect(rt, "insert");
 }
 
 /// The cursor tells this state.

@@ -1,5 +1,5 @@
 //! Each translator, and each call of the flat index, once.
-use super::checks::{counts, holds};
+use super::checks::{counts, fresh, holds, inserts, removes};
 use crate::callers::{add, newest, replace, replace_first};
 use key_index_flat::index::unordered::Index;
 use key_index_flat::index::{Factory, Fault, Runs, Unordered, Values};
@@ -13,48 +13,64 @@ fn translated<T: Translator>(translator: &T, key: &[u8]) -> T::Key {
     translator.transform(key)
 }
 
+/// A translator makes this of a key.
+fn gives<T: Translator>(rt: &impl Abort, translator: &T, key: &[u8], want: T::Key) {
+    assert!(rt;
+        translated(translator, key) == want,
+        "what {key:?} is translated to"
+    );
+}
+
 #[test]
 fn caps(rt: HostRuntime) {
-    assert_eq!(&rt; translated(&OneCap, b""), 0);
-    assert_eq!(&rt; translated(&OneCap, b"a"), 0x61);
-    assert_eq!(&rt; translated(&OneCap, b"abc"), 0x61);
-    assert_eq!(&rt; translated(&TwoCap, b""), 0);
-    assert_eq!(&rt; translated(&TwoCap, b"ab"), 0x6162);
-    assert_eq!(&rt; translated(&TwoCap, b"abc"), 0x6162);
+    gives(&rt, &OneCap, b"", 0);
+    gives(&rt, &OneCap, b"a", 0x61);
+    gives(&rt, &OneCap, b"abc", 0x61);
+    gives(&rt, &TwoCap, b"", 0);
+    gives(&rt, &TwoCap, b"ab", 0x6162);
+    gives(&rt, &TwoCap, b"abc", 0x6162);
     assert!(&rt; translated(&TwoCap, b"z") < translated(&TwoCap, b"zz"));
-    assert_eq!(&rt; translated(&TwoCap, b"zz"), translated(&TwoCap, b"zzabc"));
-    assert_eq!(&rt; translated(&FourCap, b"abcd"), 0x6162_6364);
-    assert_eq!(&rt; translated(&FourCap, b"abcdef"), 0x6162_6364);
-    assert_eq!(&rt; translated(&EightCap, b"a"), 0x6100_0000_0000_0000);
+    gives(&rt, &TwoCap, b"zzabc", translated(&TwoCap, b"zz"));
+    gives(&rt, &FourCap, b"abcd", 0x6162_6364);
+    gives(&rt, &FourCap, b"abcdef", 0x6162_6364);
+    gives(&rt, &EightCap, b"a", 0x6100_0000_0000_0000);
+}
+
+/// The key 0b, whose values are 2 and 1, place by place.
+fn reads(rt: &impl Abort, index: &Index<OneCap, u64>) {
+    let slot = index.slot_of(b"\x0b");
+    assert_eq!(rt; slot, 0x0b);
+    assert!(rt; index.admits(slot));
+    assert_eq!(rt; index.run_len(slot), 2);
+    assert_eq!(rt; *index.value_at(slot, 0), 2);
+    assert_eq!(rt; *index.value_at(slot, 1), 1);
 }
 
 #[test]
-fn rows(rt: HostRuntime) -> Result<(), Fail> {
-    let mut index = Index::<OneCap, u64>::new(rt.alloc(), OneCap)?;
-    index.insert(b"\x0b", 1)?;
-    index.insert(b"\x0b", 2)?;
-    index.insert(b"\x0c", 3)?;
-    let slot = index.slot_of(b"\x0b");
-    assert_eq!(&rt; slot, 0x0b);
-    assert!(&rt; index.admits(slot));
-    assert_eq!(&rt; index.run_len(slot), 2);
-    assert_eq!(&rt; *index.value_at(slot, 0), 2);
-    assert_eq!(&rt; *index.value_at(slot, 1), 1);
+fn rows(rt: HostRuntime) {
+    let mut index: Index<OneCap, u64> = fresh(&rt, rt.alloc(), OneCap);
+    inserts(&rt, &mut index, b"\x0b", 1);
+    inserts(&rt, &mut index, b"\x0b", 2);
+    inserts(&rt, &mut index, b"\x0c", 3);
+    reads(&rt, &index);
     holds(&rt, &index, b"\x0b", &[2, 1]);
-    index.remove(b"\x0b")?;
+    removes(&rt, &mut index, b"\x0b");
     holds(&rt, &index, b"\x0b", &[]);
     counts(&rt, &index, (1, 1, 2));
-    Ok(())
+}
+
+/// `add` is accepted, and tells how many values there are.
+fn adds(rt: &impl Abort, index: &mut Index<OneCap, u64>, key: &[u8], value: u64, items: usize) {
+    assert_eq!(rt; add(index, key, value).expect(rt, "add"), items);
 }
 
 #[test]
-fn first_use(rt: HostRuntime) -> Result<(), Fail> {
-    assert_eq!(&rt; newest(rt.alloc())?, Some(2));
-    let mut index = Index::<OneCap, u64>::new(rt.alloc(), OneCap)?;
-    assert_eq!(&rt; add(&mut index, b"\x0b\x02", 7)?, 1);
-    assert_eq!(&rt; add(&mut index, b"\x0b\xff", 8)?, 2);
+fn first_use(rt: HostRuntime) {
+    assert_eq!(&rt; newest(rt.alloc()).expect(&rt, "newest"), Some(2));
+    let mut index: Index<OneCap, u64> = fresh(&rt, rt.alloc(), OneCap);
+    adds(&rt, &mut index, b"\x0b\x02", 7, 1);
+    adds(&rt, &mut index, b"\x0b\xff", 8, 2);
     holds(&rt, &index, b"\x0b", &[8, 7]);
-    Ok(())
 }
 
 /// The values of a key after `replace`, through the bounds alone.
@@ -62,36 +78,36 @@ fn replaced<I: Unordered<Value = u64> + Factory + Drop>(
     rt: &impl Abort,
     alloc: Global,
     translator: I::Translator,
-) -> Result<(), Fail> {
-    let mut index = I::new(alloc, translator)?;
-    index.insert(b"key", 1)?;
-    index.insert(b"key", 2)?;
-    replace(&mut index, b"key", 3)?;
+) {
+    let mut index: I = fresh(rt, alloc, translator);
+    inserts(rt, &mut index, b"key", 1);
+    inserts(rt, &mut index, b"key", 2);
+    assert!(rt; replace(&mut index, b"key", 3).is_ok());
     holds(rt, &index, b"key", &[3]);
-    Ok(())
 }
 
 #[test]
-fn flat_replaces(rt: HostRuntime) -> Result<(), Fail> {
+fn flat_replaces(rt: HostRuntime) {
     replaced::<Index<OneCap, u64>>(&rt, rt.alloc(), OneCap)
 }
 
 #[test]
-fn plain_replaces(rt: HostRuntime) -> Result<(), Fail> {
+fn plain_replaces(rt: HostRuntime) {
     replaced::<key_index_plain::Index<OneCap, u64>>(&rt, rt.alloc(), OneCap)
 }
 
-/// A key with three values, of which `replace_first` changes the first alone.
-fn first_of_three_replaced<I: Unordered<Value = u64>>(
+/// `replace_first` is accepted, and tells whether the key had a value.
+fn replaces_first<I: Unordered<Value = u64>>(
     rt: &impl Abort,
     index: &mut I,
-) -> Result<(), Fail> {
-    index.insert(b"three", 1)?;
-    index.insert(b"three", 2)?;
-    index.insert(b"three", 3)?;
-    assert!(rt; replace_first(index, b"three", 9)?);
-    holds(rt, index, b"three", &[9, 2, 1]);
-    Ok(())
+    key: &[u8],
+    value: u64,
+    had: bool,
+) {
+    assert_eq!(rt;
+        replace_first(index, key, value).expect(rt, "replace_first"),
+        had
+    );
 }
 
 /// The values of keys after `replace_first`, through the bounds alone: of an absent key, one with a value and one with three.
@@ -99,27 +115,29 @@ fn first_replaced<I: Unordered<Value = u64> + Factory + Drop>(
     rt: &impl Abort,
     alloc: Global,
     translator: I::Translator,
-) -> Result<(), Fail> {
-    let mut index = I::new(alloc, translator)?;
-    index.insert(b"one", 5)?;
-    assert!(rt; !replace_first(&mut index, b"absent", 9)?);
+) {
+    let mut index: I = fresh(rt, alloc, translator);
+    inserts(rt, &mut index, b"one", 5);
+    inserts(rt, &mut index, b"three", 1);
+    inserts(rt, &mut index, b"three", 2);
+    inserts(rt, &mut index, b"three", 3);
+    replaces_first(rt, &mut index, b"absent", 9, false);
     holds(rt, &index, b"absent", &[]);
-    holds(rt, &index, b"one", &[5]);
-    assert!(rt; replace_first(&mut index, b"one", 6)?);
+    replaces_first(rt, &mut index, b"one", 6, true);
     holds(rt, &index, b"one", &[6]);
-    first_of_three_replaced(rt, &mut index)?;
+    replaces_first(rt, &mut index, b"three", 7, true);
+    holds(rt, &index, b"three", &[7, 2, 1]);
     holds(rt, &index, b"one", &[6]);
     counts(rt, &index, (2, 4, 0));
-    Ok(())
 }
 
 #[test]
-fn flat_replaces_first(rt: HostRuntime) -> Result<(), Fail> {
+fn flat_replaces_first(rt: HostRuntime) {
     first_replaced::<Index<OneCap, u64>>(&rt, rt.alloc(), OneCap)
 }
 
 #[test]
-fn plain_replaces_first(rt: HostRuntime) -> Result<(), Fail> {
+fn plain_replaces_first(rt: HostRuntime) {
     first_replaced::<key_index_plain::Index<OneCap, u64>>(&rt, rt.alloc(), OneCap)
 }
 

@@ -1,11 +1,11 @@
 //! Records next to a full key, in indices that keep its first byte.
+use super::checks::fresh;
 use crate::callers::{exclude, file};
 use key_index_flat::index::ordered::Index;
 use key_index_flat::index::{Factory, Keyed, Ordered, resolve_next, resolve_prev};
 use key_index_flat::translator::OneCap;
 use std::alloc::Global;
 use std::process::Abort;
-use std::test::Fail;
 
 /// A record of a log: its key, and where it stands.
 #[derive(Debug, Drop)]
@@ -24,16 +24,20 @@ impl Keyed for Record {
 
 /// Files a record.
 fn add<I: Ordered<Value = Record>>(
+    rt: &impl Abort,
     alloc: Global,
     index: &mut I,
     key: &[u8],
     position: u64,
-) -> Result<(), Fail> {
+) {
+    let Ok(bytes) = Vec::from_slice(alloc, key) else {
+        panic!(rt; "no memory for {key:?}")
+    };
     let record = Record {
-        key: Vec::from_slice(alloc, key)?,
+        key: bytes,
         position,
     };
-    Ok(file(index, key, record)?)
+    file(index, key, record).expect(rt, "file");
 }
 
 /// Where a record stands.
@@ -69,13 +73,13 @@ fn neighbours<I: Ordered<Value = Record> + Factory + Drop>(
     rt: &impl Abort,
     alloc: Global,
     translator: I::Translator,
-) -> Result<(), Fail> {
-    let mut index = I::new(alloc, translator)?;
+) {
+    let mut index: I = fresh(rt, alloc, translator);
     next_is(rt, &index, b"", None);
     prev_is(rt, &index, b"\xff", None);
-    add(alloc, &mut index, b"\x0b\x02", 1)?;
-    add(alloc, &mut index, b"\x0b\x05", 2)?;
-    add(alloc, &mut index, b"\x1c\x01", 3)?;
+    add(rt, alloc, &mut index, b"\x0b\x02", 1);
+    add(rt, alloc, &mut index, b"\x0b\x05", 2);
+    add(rt, alloc, &mut index, b"\x1c\x01", 3);
     next_is(rt, &index, b"\x0b\x02", Some(2));
     next_is(rt, &index, b"\x0b\x05", Some(3));
     next_is(rt, &index, b"\x1c\x01", None);
@@ -85,16 +89,15 @@ fn neighbours<I: Ordered<Value = Record> + Factory + Drop>(
     prev_is(rt, &index, b"\x0b\x03", Some(1));
     next_is(rt, &index, b"", Some(1));
     prev_is(rt, &index, b"\xff", Some(3));
-    Ok(())
 }
 
 #[test]
-fn ordered_resolves(rt: HostRuntime) -> Result<(), Fail> {
+fn ordered_resolves(rt: HostRuntime) {
     neighbours::<Index<OneCap, Record>>(&rt, rt.alloc(), OneCap)
 }
 
 #[test]
-fn plain_resolves(rt: HostRuntime) -> Result<(), Fail> {
+fn plain_resolves(rt: HostRuntime) {
     neighbours::<key_index_plain::Index<OneCap, Record>>(&rt, rt.alloc(), OneCap)
 }
 
@@ -103,27 +106,26 @@ fn together<I: Ordered<Value = Record> + Factory + Drop>(
     rt: &impl Abort,
     alloc: Global,
     translator: I::Translator,
-) -> Result<(), Fail> {
-    let mut index = I::new(alloc, translator)?;
-    add(alloc, &mut index, b"", 1)?;
-    add(alloc, &mut index, b"\x00", 2)?;
+) {
+    let mut index: I = fresh(rt, alloc, translator);
+    add(rt, alloc, &mut index, b"", 1);
+    add(rt, alloc, &mut index, b"\x00", 2);
     next_is(rt, &index, b"", Some(2));
     prev_is(rt, &index, b"\x00", Some(1));
     prev_is(rt, &index, b"", None);
-    add(alloc, &mut index, b"\x0b\x05", 3)?;
-    add(alloc, &mut index, b"\x0b\x05", 4)?;
+    add(rt, alloc, &mut index, b"\x0b\x05", 3);
+    add(rt, alloc, &mut index, b"\x0b\x05", 4);
     next_is(rt, &index, b"\x0b", Some(4));
     prev_is(rt, &index, b"\x0b\x06", Some(4));
-    Ok(())
 }
 
 #[test]
-fn ordered_resolves_together(rt: HostRuntime) -> Result<(), Fail> {
+fn ordered_resolves_together(rt: HostRuntime) {
     together::<Index<OneCap, Record>>(&rt, rt.alloc(), OneCap)
 }
 
 #[test]
-fn plain_resolves_together(rt: HostRuntime) -> Result<(), Fail> {
+fn plain_resolves_together(rt: HostRuntime) {
     together::<key_index_plain::Index<OneCap, Record>>(&rt, rt.alloc(), OneCap)
 }
 
@@ -138,8 +140,11 @@ fn excludes<I: Ordered<Value = Record>>(
     let Some(next_to) = exclude(index, key) else {
         panic!(rt; "no record has the key {key:?}")
     };
-    assert_eq!(rt; position(next_to.below), below, "{key:?}");
-    assert_eq!(rt; position(next_to.above), above, "{key:?}");
+    assert_eq!(rt;
+        (position(next_to.below), position(next_to.above)),
+        (below, above),
+        "{key:?}"
+    );
 }
 
 /// An absent key among others, and below and above them all; and a held one.
@@ -147,11 +152,11 @@ fn excluded<I: Ordered<Value = Record> + Factory + Drop>(
     rt: &impl Abort,
     alloc: Global,
     translator: I::Translator,
-) -> Result<(), Fail> {
-    let mut index = I::new(alloc, translator)?;
-    add(alloc, &mut index, b"\x0b\x02", 1)?;
-    add(alloc, &mut index, b"\x0b\x05", 2)?;
-    add(alloc, &mut index, b"\x1c\x01", 3)?;
+) {
+    let mut index: I = fresh(rt, alloc, translator);
+    add(rt, alloc, &mut index, b"\x0b\x02", 1);
+    add(rt, alloc, &mut index, b"\x0b\x05", 2);
+    add(rt, alloc, &mut index, b"\x1c\x01", 3);
     for (key, below, above) in [
         (b"\x0b\x03".as_slice(), Some(1), Some(2)),
         (b"\x0c".as_slice(), Some(2), Some(3)),
@@ -161,15 +166,14 @@ fn excluded<I: Ordered<Value = Record> + Factory + Drop>(
         excludes(rt, &index, key, below, above);
     }
     assert!(rt; exclude(&index, b"\x0b\x05").is_none());
-    Ok(())
 }
 
 #[test]
-fn ordered_excludes(rt: HostRuntime) -> Result<(), Fail> {
+fn ordered_excludes(rt: HostRuntime) {
     excluded::<Index<OneCap, Record>>(&rt, rt.alloc(), OneCap)
 }
 
 #[test]
-fn plain_excludes(rt: HostRuntime) -> Result<(), Fail> {
+fn plain_excludes(rt: HostRuntime) {
     excluded::<key_index_plain::Index<OneCap, Record>>(&rt, rt.alloc(), OneCap)
 }

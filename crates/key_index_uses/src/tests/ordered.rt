@@ -1,15 +1,14 @@
 //! Ordered indices: the neighbours of a key, and each row of the other tests again.
-use super::checks::{counts, holds};
+use super::checks::{counts, fresh, holds, inserts, removes};
 use super::commands::{each_command, edited, emptied, kept};
 use super::commands_beside::run_beside;
-use super::driver::{beside, drive};
-use super::numbers::Numbers;
+use super::driver::{beside, change_both, drive};
+use super::numbers::{Numbers, two_bytes};
 use key_index_flat::index::ordered::Index;
 use key_index_flat::index::{Factory, Ordered, Runs, Unordered, Values};
 use key_index_flat::translator::{EightCap, FourCap, OneCap, TwoCap};
 use std::alloc::Global;
 use std::process::Abort;
-use std::test::Fail;
 
 /// How many calls change an index.
 const CALLS: u32 = 2000;
@@ -83,26 +82,25 @@ fn neighbours<I: Ordered<Value = u64> + Factory + Drop>(
     rt: &impl Abort,
     alloc: Global,
     translator: I::Translator,
-) -> Result<(), Fail> {
-    let mut index = I::new(alloc, translator)?;
-    index.insert(b"\x0b\x02\xaa", 1)?;
-    index.insert(b"\x1c\x04\xcc", 21)?;
-    index.insert(b"\x1c\x03\x11", 22)?;
-    index.insert(b"\x2d\x06\xee", 3)?;
+) {
+    let mut index: I = fresh(rt, alloc, translator);
+    inserts(rt, &mut index, b"\x0b\x02\xaa", 1);
+    inserts(rt, &mut index, b"\x1c\x04\xcc", 21);
+    inserts(rt, &mut index, b"\x1c\x03\x11", 22);
+    inserts(rt, &mut index, b"\x2d\x06\xee", 3);
     neighbours_of_three(rt, &index);
-    index.remove(b"\x1c")?;
+    removes(rt, &mut index, b"\x1c");
     next_has(rt, &index, b"\x0b\x01\x02", &[3], false);
     prev_has(rt, &index, b"\x2d", &[1], false);
-    Ok(())
 }
 
 #[test]
-fn ordered_gives_neighbours(rt: HostRuntime) -> Result<(), Fail> {
+fn ordered_gives_neighbours(rt: HostRuntime) {
     neighbours::<Index<OneCap, u64>>(&rt, rt.alloc(), OneCap)
 }
 
 #[test]
-fn plain_gives_neighbours(rt: HostRuntime) -> Result<(), Fail> {
+fn plain_gives_neighbours(rt: HostRuntime) {
     neighbours::<key_index_plain::Index<OneCap, u64>>(&rt, rt.alloc(), OneCap)
 }
 
@@ -119,79 +117,84 @@ fn lone<I: Ordered<Value = u64> + Factory + Drop>(
     rt: &impl Abort,
     alloc: Global,
     translator: I::Translator,
-) -> Result<(), Fail> {
-    let mut index = I::new(alloc, translator)?;
+) {
+    let mut index: I = fresh(rt, alloc, translator);
     has_none(rt, &index, b"\x0b");
-    index.insert(b"\x0b", 1)?;
+    inserts(rt, &mut index, b"\x0b", 1);
     next_has(rt, &index, b"\x0b", &[1], true);
     prev_has(rt, &index, b"\x0b", &[1], true);
     next_has(rt, &index, b"\x0a", &[1], false);
     prev_has(rt, &index, b"\x0c", &[1], false);
     ends_have(rt, &index, &[1], &[1]);
-    Ok(())
 }
 
 #[test]
-fn ordered_with_one_key(rt: HostRuntime) -> Result<(), Fail> {
+fn ordered_with_one_key(rt: HostRuntime) {
     lone::<Index<OneCap, u64>>(&rt, rt.alloc(), OneCap)
 }
 
 #[test]
-fn plain_with_one_key(rt: HostRuntime) -> Result<(), Fail> {
+fn plain_with_one_key(rt: HostRuntime) {
     lone::<key_index_plain::Index<OneCap, u64>>(&rt, rt.alloc(), OneCap)
 }
 
-#[test]
-fn calls(rt: HostRuntime) -> Result<(), Fail> {
-    let mut index = Index::<OneCap, u64>::new(rt.alloc(), OneCap)?;
-    index.insert(b"\x0b", 1)?;
-    index.insert(b"\x0b", 2)?;
-    index.insert(b"\x0c", 3)?;
+/// The key 0b, whose values are 2 and 1, read and edited place by place.
+fn edits_by_place(rt: &impl Abort, index: &mut Index<OneCap, u64>) {
     let slot = index.slot_of(b"\x0b");
-    assert_eq!(&rt; slot, 0x0b);
-    assert!(&rt; index.admits(slot));
-    assert_eq!(&rt; index.run_len(slot), 2);
-    assert_eq!(&rt; *index.value_at(slot, 1), 1);
+    assert_eq!(rt; slot, 0x0b);
+    assert!(rt; index.admits(slot));
+    assert_eq!(rt; index.run_len(slot), 2);
+    assert_eq!(rt; *index.value_at(slot, 1), 1);
     index.set_at(slot, 1, 4);
-    index.insert_at(slot, 2, 5)?;
-    holds(&rt, &index, b"\x0b", &[2, 4, 5]);
-    assert_eq!(&rt; index.remove_at(slot, 0), 2);
-    holds(&rt, &index, b"\x0b", &[4, 5]);
-    index.remove(b"\x0b")?;
+    assert_eq!(rt; index.run_len(slot), 2);
+    assert!(rt; index.insert_at(slot, 2, 5).is_ok());
+    assert_eq!(rt; index.run_len(slot), 3);
+    holds(rt, index, b"\x0b", &[2, 4, 5]);
+    assert_eq!(rt; index.remove_at(slot, 0), 2);
+    holds(rt, index, b"\x0b", &[4, 5]);
+}
+
+#[test]
+fn calls(rt: HostRuntime) {
+    let mut index: Index<OneCap, u64> = fresh(&rt, rt.alloc(), OneCap);
+    inserts(&rt, &mut index, b"\x0b", 1);
+    inserts(&rt, &mut index, b"\x0b", 2);
+    inserts(&rt, &mut index, b"\x0c", 3);
+    edits_by_place(&rt, &mut index);
+    removes(&rt, &mut index, b"\x0b");
     holds(&rt, &index, b"\x0b", &[]);
     counts(&rt, &index, (1, 1, 3));
     assert!(&rt; Index::<OneCap, u64>::INSERT_FIRST);
     assert!(&rt; !Index::<OneCap, u64>::LOOKUP_WARMS_UPDATE);
-    Ok(())
 }
 
 #[test]
-fn ordered_is_edited(rt: HostRuntime) -> Result<(), Fail> {
+fn ordered_is_edited(rt: HostRuntime) {
     edited::<Index<OneCap, u64>>(&rt, rt.alloc(), OneCap)
 }
 
 #[test]
-fn ordered_is_emptied(rt: HostRuntime) -> Result<(), Fail> {
+fn ordered_is_emptied(rt: HostRuntime) {
     emptied::<Index<OneCap, u64>>(&rt, rt.alloc(), OneCap)
 }
 
 #[test]
-fn ordered_runs_each_command(rt: HostRuntime) -> Result<(), Fail> {
+fn ordered_runs_each_command(rt: HostRuntime) {
     each_command::<Index<OneCap, u64>>(&rt, rt.alloc(), OneCap)
 }
 
 #[test]
-fn ordered_keeps_what_is_answered(rt: HostRuntime) -> Result<(), Fail> {
+fn ordered_keeps_what_is_answered(rt: HostRuntime) {
     kept::<Index<OneCap, u64>>(&rt, rt.alloc(), OneCap)
 }
 
 #[test]
-fn ordered_keeps_lists(rt: HostRuntime) -> Result<(), Fail> {
+fn ordered_keeps_lists(rt: HostRuntime) {
     drive::<Index<OneCap, u64>>(&rt, rt.alloc(), OneCap)
 }
 
 #[test]
-fn ordered_beside_plain(rt: HostRuntime) -> Result<(), Fail> {
+fn ordered_beside_plain(rt: HostRuntime) {
     beside::<Index<TwoCap, u64>, key_index_plain::Index<TwoCap, u64>>(
         &rt,
         rt.alloc(),
@@ -253,41 +256,33 @@ fn same_neighbours<A: Ordered<Value = u64>, B: Ordered<Value = u64>>(
 fn neighbours_beside<
     A: Ordered<Value = u64> + Factory + Drop,
     B: Ordered<Value = u64> + Factory + Drop,
->(
-    rt: &impl Abort,
-    alloc: Global,
-    first_translator: A::Translator,
-    second_translator: B::Translator,
-) -> Result<(), Fail>
+>(rt: &impl Abort, alloc: Global, first_translator: A::Translator, second_translator: B::Translator)
 where
     B::Translator: Drop,
 {
-    let mut first = A::new(alloc, first_translator)?;
-    let mut second = B::new(alloc, second_translator)?;
+    let mut first: A = fresh(rt, alloc, first_translator);
+    let mut second: B = fresh(rt, alloc, second_translator);
     let mut numbers = Numbers::new();
     for _ in 0..CALLS {
         let number = numbers.next();
-        let bytes = [b'a' + (number % 4) as u8, b'a' + (number / 4 % 4) as u8];
+        let bytes = two_bytes(number);
         let key = &bytes[..(number / 16 % 3) as usize];
-        if number / 64 % 8 < 5 {
-            first.remove(key)?;
-            second.remove(key)?;
-        } else {
-            first.insert(key, number)?;
-            second.insert(key, number)?;
-        }
-        let asked = [
-            b'a' + (number / 512 % 4) as u8,
-            b'a' + (number / 2048 % 4) as u8,
-        ];
-        let asked = &asked[..(number / 8192 % 3) as usize];
+        change_both(
+            rt,
+            &mut first,
+            &mut second,
+            key,
+            number,
+            number / 64 % 8 < 5,
+        );
+        let bytes = two_bytes(number / 512);
+        let asked = &bytes[..(number / 8192 % 3) as usize];
         same_neighbours(rt, &first, &second, asked);
     }
-    Ok(())
 }
 
 #[test]
-fn neighbours_beside_plain_by_one_byte(rt: HostRuntime) -> Result<(), Fail> {
+fn neighbours_beside_plain_by_one_byte(rt: HostRuntime) {
     neighbours_beside::<Index<OneCap, u64>, key_index_plain::Index<OneCap, u64>>(
         &rt,
         rt.alloc(),
@@ -297,7 +292,7 @@ fn neighbours_beside_plain_by_one_byte(rt: HostRuntime) -> Result<(), Fail> {
 }
 
 #[test]
-fn neighbours_beside_plain_by_four_bytes(rt: HostRuntime) -> Result<(), Fail> {
+fn neighbours_beside_plain_by_four_bytes(rt: HostRuntime) {
     neighbours_beside::<Index<FourCap, u64>, key_index_plain::Index<FourCap, u64>>(
         &rt,
         rt.alloc(),
@@ -307,7 +302,7 @@ fn neighbours_beside_plain_by_four_bytes(rt: HostRuntime) -> Result<(), Fail> {
 }
 
 #[test]
-fn neighbours_beside_plain_by_eight_bytes(rt: HostRuntime) -> Result<(), Fail> {
+fn neighbours_beside_plain_by_eight_bytes(rt: HostRuntime) {
     neighbours_beside::<Index<EightCap, u64>, key_index_plain::Index<EightCap, u64>>(
         &rt,
         rt.alloc(),
@@ -317,7 +312,7 @@ fn neighbours_beside_plain_by_eight_bytes(rt: HostRuntime) -> Result<(), Fail> {
 }
 
 #[test]
-fn ordered_beside_plain_by_commands(rt: HostRuntime) -> Result<(), Fail> {
+fn ordered_beside_plain_by_commands(rt: HostRuntime) {
     run_beside::<Index<OneCap, u64>, key_index_plain::Index<OneCap, u64>>(
         &rt,
         rt.alloc(),
