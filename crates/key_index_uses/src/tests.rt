@@ -1,4 +1,5 @@
 //! An index that is called some thousand times answers as lists kept beside it do, and as another index does.
+mod cases;
 mod checks;
 mod commands;
 mod commands_beside;
@@ -9,19 +10,20 @@ mod full_keys;
 mod numbers;
 mod ordered;
 
+use cases::{Case, on_flat, on_plain};
 use commands_beside::run_beside;
-use driver::{beside, drive};
+use driver::beside;
 use key_index_flat::index::unordered;
 use key_index_flat::translator::{EightCap, FourCap, OneCap, TwoCap};
 
 #[test]
 fn flat_keeps_lists(rt: HostRuntime) {
-    drive::<unordered::Index<OneCap, u64>>(&rt, rt.alloc(), OneCap)
+    on_flat(&rt, rt.alloc(), Case::KeepsLists)
 }
 
 #[test]
 fn plain_keeps_lists(rt: HostRuntime) {
-    drive::<key_index_plain::Index<OneCap, u64>>(&rt, rt.alloc(), OneCap)
+    on_plain(&rt, rt.alloc(), Case::KeepsLists)
 }
 
 #[test]

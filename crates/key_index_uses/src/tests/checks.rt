@@ -48,9 +48,9 @@ pub(super) fn holds<I: Unordered<Value = u64>>(
 pub(super) fn counts<I: Unordered<Value = u64>>(
     rt: &impl Abort,
     index: &I,
-    counts: (usize, usize, u64),
+    want: (usize, usize, u64),
 ) {
-    assert_eq!(rt; (index.keys(), index.items(), index.pruned()), counts);
+    assert_eq!(rt; (index.keys(), index.items(), index.pruned()), want);
 }
 
 /// Two indices have the same values under a key.
@@ -82,7 +82,7 @@ pub(super) fn cursor_at<'a, I: Unordered<Value = u64>>(
     key: &[u8],
 ) -> IndexCursor<'a, I> {
     let Ok(found) = index.get_mut(key) else {
-        panic!(rt; "a cursor on {key:?} is refused")
+        panic!(rt; "get_mut of {key:?} is accepted")
     };
     let Some(cursor) = found else {
         panic!(rt; "{key:?} has a value")
@@ -93,9 +93,9 @@ pub(super) fn cursor_at<'a, I: Unordered<Value = u64>>(
 /// A key has no value for a cursor.
 pub(super) fn has_no_cursor<I: Unordered<Value = u64>>(rt: &impl Abort, index: &mut I, key: &[u8]) {
     let Ok(found) = index.get_mut(key) else {
-        panic!(rt; "a cursor on {key:?} is refused")
+        panic!(rt; "get_mut of {key:?} is accepted")
     };
-    assert!(rt; found.is_none(), "{key:?} has a value");
+    assert!(rt; found.is_none(), "{key:?} has no value");
 }
 
 /// A cursor's `insert` is accepted.
@@ -122,6 +122,6 @@ pub(super) fn goes_to<C: Cursor<Value = u64>>(rt: &impl Abort, cursor: &mut C, v
 pub(super) fn ends<C: Cursor<Value = u64>>(rt: &impl Abort, cursor: &mut C)
     ensures { AllowsInsert (C.place cursor.new) }
 {
-    assert!(rt; cursor.next().is_none(), "next gives a value");
+    assert!(rt; cursor.next().is_none(), "next gives no value");
     assert_eq!(rt; cursor.state(), CursorState::Done);
 }

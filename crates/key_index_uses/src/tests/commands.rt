@@ -1,10 +1,9 @@
 //! Lists of commands, run over any index through one function.
 ghost use Rattle.std.specs.Prelude.{◌≤◌};
 
+use super::cases::{Case, on_flat, on_plain};
 use super::checks::{counts, cursor_at, fresh, has_no_cursor, holds, inserts, push};
-use key_index_flat::index::unordered::Index;
 use key_index_flat::index::{Command, Cursor, CursorState, Factory, Outcome, Step, Unordered, run};
-use key_index_flat::translator::OneCap;
 use std::alloc::Global;
 use std::process::Abort;
 
@@ -97,12 +96,12 @@ pub(super) fn edited<I: Unordered<Value = u64> + Factory + Drop>(
 
 #[test]
 fn flat_is_edited(rt: HostRuntime) {
-    edited::<Index<OneCap, u64>>(&rt, rt.alloc(), OneCap)
+    on_flat(&rt, rt.alloc(), Case::IsEdited)
 }
 
 #[test]
 fn plain_is_edited(rt: HostRuntime) {
-    edited::<key_index_plain::Index<OneCap, u64>>(&rt, rt.alloc(), OneCap)
+    on_plain(&rt, rt.alloc(), Case::IsEdited)
 }
 
 /// The list 5: next 5, delete, next none, insert 6.
@@ -140,12 +139,12 @@ pub(super) fn emptied<I: Unordered<Value = u64> + Factory + Drop>(
 
 #[test]
 fn flat_is_emptied(rt: HostRuntime) {
-    emptied::<Index<OneCap, u64>>(&rt, rt.alloc(), OneCap)
+    on_flat(&rt, rt.alloc(), Case::IsEmptied)
 }
 
 #[test]
 fn plain_is_emptied(rt: HostRuntime) {
-    emptied::<key_index_plain::Index<OneCap, u64>>(&rt, rt.alloc(), OneCap)
+    on_plain(&rt, rt.alloc(), Case::IsEmptied)
 }
 
 /// What the commands of `each_command` came to.
@@ -201,12 +200,12 @@ pub(super) fn each_command<I: Unordered<Value = u64> + Factory + Drop>(
 
 #[test]
 fn flat_runs_each_command(rt: HostRuntime) {
-    each_command::<Index<OneCap, u64>>(&rt, rt.alloc(), OneCap)
+    on_flat(&rt, rt.alloc(), Case::RunsEachCommand)
 }
 
 #[test]
 fn plain_runs_each_command(rt: HostRuntime) {
-    each_command::<key_index_plain::Index<OneCap, u64>>(&rt, rt.alloc(), OneCap)
+    on_plain(&rt, rt.alloc(), Case::RunsEachCommand)
 }
 
 /// `get_mut_or_insert` of k, which has the values 3 and 2.
@@ -255,10 +254,10 @@ pub(super) fn kept<I: Unordered<Value = u64> + Factory + Drop>(
 
 #[test]
 fn flat_keeps_what_is_answered(rt: HostRuntime) {
-    kept::<Index<OneCap, u64>>(&rt, rt.alloc(), OneCap)
+    on_flat(&rt, rt.alloc(), Case::KeepsWhatIsAnswered)
 }
 
 #[test]
 fn plain_keeps_what_is_answered(rt: HostRuntime) {
-    kept::<key_index_plain::Index<OneCap, u64>>(&rt, rt.alloc(), OneCap)
+    on_plain(&rt, rt.alloc(), Case::KeepsWhatIsAnswered)
 }

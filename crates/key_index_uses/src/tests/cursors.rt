@@ -1,18 +1,17 @@
 //! Cursors, called step by step over any index through one function.
 ghost use Rattle.key_index_flat.specs.Cursor.{IsOnValue, AllowsInsert};
 
+use super::cases::{Case, on_flat, on_ordered, on_plain};
 use super::checks::{
     counts, cursor_at, ends, fresh, goes_to, has_no_cursor, holds, inserts, puts, removes, stands,
 };
 use super::commands::three;
-use key_index_flat::index::unordered::Index;
-use key_index_flat::index::{Cursor, CursorState, Factory, Unordered, ordered};
-use key_index_flat::translator::OneCap;
+use key_index_flat::index::{Cursor, CursorState, Factory, Unordered};
 use std::alloc::Global;
 use std::process::Abort;
 
 /// Next 3, delete, next 1, insert 9, next 2, next none, insert 7.
-fn edited<I: Unordered<Value = u64> + Factory + Drop>(
+pub(super) fn edited<I: Unordered<Value = u64> + Factory + Drop>(
     rt: &impl Abort,
     alloc: Global,
     translator: I::Translator,
@@ -32,21 +31,21 @@ fn edited<I: Unordered<Value = u64> + Factory + Drop>(
 
 #[test]
 fn flat_cursor_edits(rt: HostRuntime) {
-    edited::<Index<OneCap, u64>>(&rt, rt.alloc(), OneCap)
+    on_flat(&rt, rt.alloc(), Case::CursorEdits)
 }
 
 #[test]
 fn plain_cursor_edits(rt: HostRuntime) {
-    edited::<key_index_plain::Index<OneCap, u64>>(&rt, rt.alloc(), OneCap)
+    on_plain(&rt, rt.alloc(), Case::CursorEdits)
 }
 
 #[test]
 fn ordered_cursor_edits(rt: HostRuntime) {
-    edited::<ordered::Index<OneCap, u64>>(&rt, rt.alloc(), OneCap)
+    on_ordered(&rt, rt.alloc(), Case::CursorEdits)
 }
 
 /// The list 5: next 5, delete, next none, insert 6.
-fn emptied<I: Unordered<Value = u64> + Factory + Drop>(
+pub(super) fn emptied<I: Unordered<Value = u64> + Factory + Drop>(
     rt: &impl Abort,
     alloc: Global,
     translator: I::Translator,
@@ -66,21 +65,21 @@ fn emptied<I: Unordered<Value = u64> + Factory + Drop>(
 
 #[test]
 fn flat_cursor_empties(rt: HostRuntime) {
-    emptied::<Index<OneCap, u64>>(&rt, rt.alloc(), OneCap)
+    on_flat(&rt, rt.alloc(), Case::CursorEmpties)
 }
 
 #[test]
 fn plain_cursor_empties(rt: HostRuntime) {
-    emptied::<key_index_plain::Index<OneCap, u64>>(&rt, rt.alloc(), OneCap)
+    on_plain(&rt, rt.alloc(), Case::CursorEmpties)
 }
 
 #[test]
 fn ordered_cursor_empties(rt: HostRuntime) {
-    emptied::<ordered::Index<OneCap, u64>>(&rt, rt.alloc(), OneCap)
+    on_ordered(&rt, rt.alloc(), Case::CursorEmpties)
 }
 
 /// The list 3, 1, 2: next 3, retain none.
-fn retained<I: Unordered<Value = u64> + Factory + Drop>(
+pub(super) fn retained<I: Unordered<Value = u64> + Factory + Drop>(
     rt: &impl Abort,
     alloc: Global,
     translator: I::Translator,
@@ -96,21 +95,21 @@ fn retained<I: Unordered<Value = u64> + Factory + Drop>(
 
 #[test]
 fn flat_cursor_retains(rt: HostRuntime) {
-    retained::<Index<OneCap, u64>>(&rt, rt.alloc(), OneCap)
+    on_flat(&rt, rt.alloc(), Case::CursorRetains)
 }
 
 #[test]
 fn plain_cursor_retains(rt: HostRuntime) {
-    retained::<key_index_plain::Index<OneCap, u64>>(&rt, rt.alloc(), OneCap)
+    on_plain(&rt, rt.alloc(), Case::CursorRetains)
 }
 
 #[test]
 fn ordered_cursor_retains(rt: HostRuntime) {
-    retained::<ordered::Index<OneCap, u64>>(&rt, rt.alloc(), OneCap)
+    on_ordered(&rt, rt.alloc(), Case::CursorRetains)
 }
 
 /// The list 3, 1, 2: retain by a closure that changes its mind.
-fn retained_in_turn<I: Unordered<Value = u64> + Factory + Drop>(
+pub(super) fn retained_in_turn<I: Unordered<Value = u64> + Factory + Drop>(
     rt: &impl Abort,
     alloc: Global,
     translator: I::Translator,
@@ -129,17 +128,17 @@ fn retained_in_turn<I: Unordered<Value = u64> + Factory + Drop>(
 
 #[test]
 fn flat_cursor_retains_in_turn(rt: HostRuntime) {
-    retained_in_turn::<Index<OneCap, u64>>(&rt, rt.alloc(), OneCap)
+    on_flat(&rt, rt.alloc(), Case::CursorRetainsInTurn)
 }
 
 #[test]
 fn plain_cursor_retains_in_turn(rt: HostRuntime) {
-    retained_in_turn::<key_index_plain::Index<OneCap, u64>>(&rt, rt.alloc(), OneCap)
+    on_plain(&rt, rt.alloc(), Case::CursorRetainsInTurn)
 }
 
 #[test]
 fn ordered_cursor_retains_in_turn(rt: HostRuntime) {
-    retained_in_turn::<ordered::Index<OneCap, u64>>(&rt, rt.alloc(), OneCap)
+    on_ordered(&rt, rt.alloc(), Case::CursorRetainsInTurn)
 }
 
 /// `find` goes to a value.
@@ -159,13 +158,13 @@ fn finds_none<C: Cursor<Value = u64>>(rt: &impl Abort, cursor: &mut C, sought: u
 {
     assert!(rt;
         !cursor.find(|value: &u64| *value == sought),
-        "find gives {sought}"
+        "find gives no {sought}"
     );
     stands(rt, cursor, CursorState::Done);
 }
 
 /// The list 3, 1, 2: find 1, update 9, find 5 in vain, insert 7.
-fn found<I: Unordered<Value = u64> + Factory + Drop>(
+pub(super) fn found<I: Unordered<Value = u64> + Factory + Drop>(
     rt: &impl Abort,
     alloc: Global,
     translator: I::Translator,
@@ -182,17 +181,17 @@ fn found<I: Unordered<Value = u64> + Factory + Drop>(
 
 #[test]
 fn flat_cursor_finds(rt: HostRuntime) {
-    found::<Index<OneCap, u64>>(&rt, rt.alloc(), OneCap)
+    on_flat(&rt, rt.alloc(), Case::CursorFinds)
 }
 
 #[test]
 fn plain_cursor_finds(rt: HostRuntime) {
-    found::<key_index_plain::Index<OneCap, u64>>(&rt, rt.alloc(), OneCap)
+    on_plain(&rt, rt.alloc(), Case::CursorFinds)
 }
 
 #[test]
 fn ordered_cursor_finds(rt: HostRuntime) {
-    found::<ordered::Index<OneCap, u64>>(&rt, rt.alloc(), OneCap)
+    on_ordered(&rt, rt.alloc(), Case::CursorFinds)
 }
 
 /// A cursor that is dropped before the first value.
@@ -203,7 +202,7 @@ fn dropped_at_start<I: Unordered<Value = u64>>(rt: &impl Abort, index: &mut I) {
     counts(rt, index, (1, 3, 0));
 }
 
-/// After it took 3 out.
+/// A cursor that is dropped after it took 3 out.
 fn dropped_after_delete<I: Unordered<Value = u64>>(rt: &impl Abort, index: &mut I) {
     let mut cursor = cursor_at(rt, index, b"k");
     goes_to(rt, &mut cursor, 3);
@@ -213,7 +212,7 @@ fn dropped_after_delete<I: Unordered<Value = u64>>(rt: &impl Abort, index: &mut 
     counts(rt, index, (1, 2, 1));
 }
 
-/// On 8, which it put in the place of 1.
+/// A cursor that is dropped on 8, which it put in the place of 1.
 fn dropped_on_value<I: Unordered<Value = u64>>(rt: &impl Abort, index: &mut I) {
     let mut cursor = cursor_at(rt, index, b"k");
     goes_to(rt, &mut cursor, 1);
@@ -223,7 +222,7 @@ fn dropped_on_value<I: Unordered<Value = u64>>(rt: &impl Abort, index: &mut I) {
     counts(rt, index, (1, 2, 1));
 }
 
-/// After it put 9 behind 8.
+/// A cursor that is dropped after it put 9 behind 8.
 fn dropped_after_insert<I: Unordered<Value = u64>>(rt: &impl Abort, index: &mut I) {
     let mut cursor = cursor_at(rt, index, b"k");
     goes_to(rt, &mut cursor, 8);
@@ -233,7 +232,7 @@ fn dropped_after_insert<I: Unordered<Value = u64>>(rt: &impl Abort, index: &mut 
     counts(rt, index, (1, 3, 1));
 }
 
-/// Past the end.
+/// A cursor that is dropped past the end.
 fn dropped_past_end<I: Unordered<Value = u64>>(rt: &impl Abort, index: &mut I) {
     let mut cursor = cursor_at(rt, index, b"k");
     for value in [8, 9, 2] {
@@ -245,7 +244,7 @@ fn dropped_past_end<I: Unordered<Value = u64>>(rt: &impl Abort, index: &mut I) {
 }
 
 /// Cursors that are dropped half way, one after another; the index serves on.
-fn dropped<I: Unordered<Value = u64> + Factory + Drop>(
+pub(super) fn dropped<I: Unordered<Value = u64> + Factory + Drop>(
     rt: &impl Abort,
     alloc: Global,
     translator: I::Translator,
@@ -265,21 +264,21 @@ fn dropped<I: Unordered<Value = u64> + Factory + Drop>(
 
 #[test]
 fn flat_cursor_is_dropped(rt: HostRuntime) {
-    dropped::<Index<OneCap, u64>>(&rt, rt.alloc(), OneCap)
+    on_flat(&rt, rt.alloc(), Case::CursorIsDropped)
 }
 
 #[test]
 fn plain_cursor_is_dropped(rt: HostRuntime) {
-    dropped::<key_index_plain::Index<OneCap, u64>>(&rt, rt.alloc(), OneCap)
+    on_plain(&rt, rt.alloc(), Case::CursorIsDropped)
 }
 
 #[test]
 fn ordered_cursor_is_dropped(rt: HostRuntime) {
-    dropped::<ordered::Index<OneCap, u64>>(&rt, rt.alloc(), OneCap)
+    on_ordered(&rt, rt.alloc(), Case::CursorIsDropped)
 }
 
 /// A cursor that takes 5, the only value of j, out, and is dropped there: the key is gone.
-fn dropped_without_value<I: Unordered<Value = u64>>(rt: &impl Abort, index: &mut I) {
+fn takes_only_value<I: Unordered<Value = u64>>(rt: &impl Abort, index: &mut I) {
     let mut cursor = cursor_at(rt, index, b"j");
     goes_to(rt, &mut cursor, 5);
     cursor.delete();
@@ -288,14 +287,14 @@ fn dropped_without_value<I: Unordered<Value = u64>>(rt: &impl Abort, index: &mut
 }
 
 /// A key that lost its only value to a cursor, and takes a value again.
-fn dropped_without_values<I: Unordered<Value = u64> + Factory + Drop>(
+pub(super) fn dropped_without_values<I: Unordered<Value = u64> + Factory + Drop>(
     rt: &impl Abort,
     alloc: Global,
     translator: I::Translator,
 ) {
     let mut index = three::<I>(rt, alloc, translator);
     inserts(rt, &mut index, b"j", 5);
-    dropped_without_value(rt, &mut index);
+    takes_only_value(rt, &mut index);
     holds(rt, &index, b"k", &[3, 1, 2]);
     inserts(rt, &mut index, b"j", 6);
     holds(rt, &index, b"j", &[6]);
@@ -304,15 +303,15 @@ fn dropped_without_values<I: Unordered<Value = u64> + Factory + Drop>(
 
 #[test]
 fn flat_cursor_leaves_no_key(rt: HostRuntime) {
-    dropped_without_values::<Index<OneCap, u64>>(&rt, rt.alloc(), OneCap)
+    on_flat(&rt, rt.alloc(), Case::CursorLeavesNoKey)
 }
 
 #[test]
 fn plain_cursor_leaves_no_key(rt: HostRuntime) {
-    dropped_without_values::<key_index_plain::Index<OneCap, u64>>(&rt, rt.alloc(), OneCap)
+    on_plain(&rt, rt.alloc(), Case::CursorLeavesNoKey)
 }
 
 #[test]
 fn ordered_cursor_leaves_no_key(rt: HostRuntime) {
-    dropped_without_values::<ordered::Index<OneCap, u64>>(&rt, rt.alloc(), OneCap)
+    on_ordered(&rt, rt.alloc(), Case::CursorLeavesNoKey)
 }

@@ -1,4 +1,5 @@
 //! Each translator, and each call of the flat index, once.
+use super::cases::{Case, on_flat, on_plain};
 use super::checks::{counts, fresh, holds, inserts, removes};
 use crate::callers::{add, newest, replace, replace_first};
 use key_index_flat::index::unordered::Index;
@@ -74,7 +75,7 @@ fn first_use(rt: HostRuntime) {
 }
 
 /// The values of a key after `replace`, through the bounds alone.
-fn replaced<I: Unordered<Value = u64> + Factory + Drop>(
+pub(super) fn replaced<I: Unordered<Value = u64> + Factory + Drop>(
     rt: &impl Abort,
     alloc: Global,
     translator: I::Translator,
@@ -88,12 +89,12 @@ fn replaced<I: Unordered<Value = u64> + Factory + Drop>(
 
 #[test]
 fn flat_replaces(rt: HostRuntime) {
-    replaced::<Index<OneCap, u64>>(&rt, rt.alloc(), OneCap)
+    on_flat(&rt, rt.alloc(), Case::Replaces)
 }
 
 #[test]
 fn plain_replaces(rt: HostRuntime) {
-    replaced::<key_index_plain::Index<OneCap, u64>>(&rt, rt.alloc(), OneCap)
+    on_plain(&rt, rt.alloc(), Case::Replaces)
 }
 
 /// `replace_first` is accepted, and tells whether the key had a value.
@@ -111,7 +112,7 @@ fn replaces_first<I: Unordered<Value = u64>>(
 }
 
 /// The values of keys after `replace_first`, through the bounds alone: of an absent key, one with a value and one with three.
-fn first_replaced<I: Unordered<Value = u64> + Factory + Drop>(
+pub(super) fn first_replaced<I: Unordered<Value = u64> + Factory + Drop>(
     rt: &impl Abort,
     alloc: Global,
     translator: I::Translator,
@@ -133,12 +134,12 @@ fn first_replaced<I: Unordered<Value = u64> + Factory + Drop>(
 
 #[test]
 fn flat_replaces_first(rt: HostRuntime) {
-    first_replaced::<Index<OneCap, u64>>(&rt, rt.alloc(), OneCap)
+    on_flat(&rt, rt.alloc(), Case::ReplacesFirst)
 }
 
 #[test]
 fn plain_replaces_first(rt: HostRuntime) {
-    first_replaced::<key_index_plain::Index<OneCap, u64>>(&rt, rt.alloc(), OneCap)
+    on_plain(&rt, rt.alloc(), Case::ReplacesFirst)
 }
 
 #[test]

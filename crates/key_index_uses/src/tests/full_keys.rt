@@ -31,7 +31,7 @@ fn add<I: Ordered<Value = Record>>(
     position: u64,
 ) {
     let Ok(bytes) = Vec::from_slice(alloc, key) else {
-        panic!(rt; "no memory for {key:?}")
+        panic!(rt; "there is memory for {key:?}")
     };
     let record = Record {
         key: bytes,

@@ -1,8 +1,8 @@
 //! Ordered indices: the neighbours of a key, and each row of the other tests again.
+use super::cases::{Case, on_ordered};
 use super::checks::{counts, fresh, holds, inserts, removes};
-use super::commands::{each_command, edited, emptied, kept};
 use super::commands_beside::run_beside;
-use super::driver::{beside, change_both, drive};
+use super::driver::{beside, change_both};
 use super::numbers::{Numbers, two_bytes};
 use key_index_flat::index::ordered::Index;
 use key_index_flat::index::{Factory, Ordered, Runs, Unordered, Values};
@@ -138,18 +138,16 @@ fn plain_with_one_key(rt: HostRuntime) {
     lone::<key_index_plain::Index<OneCap, u64>>(&rt, rt.alloc(), OneCap)
 }
 
-/// The key 0b, whose values are 2 and 1, read and edited place by place.
-fn edits_by_place(rt: &impl Abort, index: &mut Index<OneCap, u64>) {
-    let slot = index.slot_of(b"\x0b");
-    assert_eq!(rt; slot, 0x0b);
-    assert!(rt; index.admits(slot));
+/// An index key whose values are 2 and 1, read and edited place by place.
+fn edits_by_place<I: Unordered<Value = u64>>(rt: &impl Abort, index: &mut I, slot: I::Key) {
     assert_eq!(rt; index.run_len(slot), 2);
     assert_eq!(rt; *index.value_at(slot, 1), 1);
     index.set_at(slot, 1, 4);
+    assert!(rt; index.admits(slot));
     assert_eq!(rt; index.run_len(slot), 2);
     assert!(rt; index.insert_at(slot, 2, 5).is_ok());
-    assert_eq!(rt; index.run_len(slot), 3);
     holds(rt, index, b"\x0b", &[2, 4, 5]);
+    assert_eq!(rt; index.run_len(slot), 3);
     assert_eq!(rt; index.remove_at(slot, 0), 2);
     holds(rt, index, b"\x0b", &[4, 5]);
 }
@@ -160,7 +158,10 @@ fn calls(rt: HostRuntime) {
     inserts(&rt, &mut index, b"\x0b", 1);
     inserts(&rt, &mut index, b"\x0b", 2);
     inserts(&rt, &mut index, b"\x0c", 3);
-    edits_by_place(&rt, &mut index);
+    let slot = index.slot_of(b"\x0b");
+    assert_eq!(&rt; slot, 0x0b);
+    assert!(&rt; index.admits(slot));
+    edits_by_place(&rt, &mut index, slot);
     removes(&rt, &mut index, b"\x0b");
     holds(&rt, &index, b"\x0b", &[]);
     counts(&rt, &index, (1, 1, 3));
@@ -170,27 +171,27 @@ fn calls(rt: HostRuntime) {
 
 #[test]
 fn ordered_is_edited(rt: HostRuntime) {
-    edited::<Index<OneCap, u64>>(&rt, rt.alloc(), OneCap)
+    on_ordered(&rt, rt.alloc(), Case::IsEdited)
 }
 
 #[test]
 fn ordered_is_emptied(rt: HostRuntime) {
-    emptied::<Index<OneCap, u64>>(&rt, rt.alloc(), OneCap)
+    on_ordered(&rt, rt.alloc(), Case::IsEmptied)
 }
 
 #[test]
 fn ordered_runs_each_command(rt: HostRuntime) {
-    each_command::<Index<OneCap, u64>>(&rt, rt.alloc(), OneCap)
+    on_ordered(&rt, rt.alloc(), Case::RunsEachCommand)
 }
 
 #[test]
 fn ordered_keeps_what_is_answered(rt: HostRuntime) {
-    kept::<Index<OneCap, u64>>(&rt, rt.alloc(), OneCap)
+    on_ordered(&rt, rt.alloc(), Case::KeepsWhatIsAnswered)
 }
 
 #[test]
 fn ordered_keeps_lists(rt: HostRuntime) {
-    drive::<Index<OneCap, u64>>(&rt, rt.alloc(), OneCap)
+    on_ordered(&rt, rt.alloc(), Case::KeepsLists)
 }
 
 #[test]
