@@ -37,27 +37,31 @@ fn caps(rt: HostRuntime) {
     gives(&rt, &EightCap, b"a", 0x6100_0000_0000_0000);
 }
 
-/// The key 0b, whose values are 2 and 1, place by place.
-fn reads(rt: &impl Abort, index: &Index<OneCap, u64>) {
-    let slot = index.slot_of(b"\x0b");
-    assert_eq!(rt; slot, 0x0b);
+/// An index key whose values are 2 and 1, place by place.
+fn reads<I: Unordered<Value = u64>>(rt: &impl Abort, index: &I, slot: I::Key) {
+    assert!(rt; index.slot_of(b"\x0b") == slot);
     assert!(rt; index.admits(slot));
     assert_eq!(rt; index.run_len(slot), 2);
     assert_eq!(rt; *index.value_at(slot, 0), 2);
     assert_eq!(rt; *index.value_at(slot, 1), 1);
 }
 
+/// The calls by key, and those that read by the place of the index key of 0b.
+fn each_call<I: Unordered<Value = u64>>(rt: &impl Abort, index: &mut I, slot: I::Key) {
+    inserts(rt, index, b"\x0b", 1);
+    inserts(rt, index, b"\x0b", 2);
+    inserts(rt, index, b"\x0c", 3);
+    reads(rt, index, slot);
+    holds(rt, index, b"\x0b", &[2, 1]);
+    removes(rt, index, b"\x0b");
+    holds(rt, index, b"\x0b", &[]);
+    counts(rt, index, (1, 1, 2));
+}
+
 #[test]
 fn rows(rt: HostRuntime) {
     let mut index: Index<OneCap, u64> = fresh(&rt, rt.alloc(), OneCap);
-    inserts(&rt, &mut index, b"\x0b", 1);
-    inserts(&rt, &mut index, b"\x0b", 2);
-    inserts(&rt, &mut index, b"\x0c", 3);
-    reads(&rt, &index);
-    holds(&rt, &index, b"\x0b", &[2, 1]);
-    removes(&rt, &mut index, b"\x0b");
-    holds(&rt, &index, b"\x0b", &[]);
-    counts(&rt, &index, (1, 1, 2));
+    each_call(&rt, &mut index, 0x0b);
 }
 
 /// `add` is accepted, and tells how many values there are.

@@ -93,12 +93,12 @@ fn neighbours<I: Ordered<Value = Record> + Factory + Drop>(
 
 #[test]
 fn ordered_resolves(rt: HostRuntime) {
-    neighbours::<Index<OneCap, Record>>(&rt, rt.alloc(), OneCap)
+    on_ordered(&rt, rt.alloc(), Case::Resolves)
 }
 
 #[test]
 fn plain_resolves(rt: HostRuntime) {
-    neighbours::<key_index_plain::Index<OneCap, Record>>(&rt, rt.alloc(), OneCap)
+    on_plain(&rt, rt.alloc(), Case::Resolves)
 }
 
 /// The empty key and the byte 0, which share an index key; and two records of one full key, of which the newer comes first.
@@ -121,12 +121,12 @@ fn together<I: Ordered<Value = Record> + Factory + Drop>(
 
 #[test]
 fn ordered_resolves_together(rt: HostRuntime) {
-    together::<Index<OneCap, Record>>(&rt, rt.alloc(), OneCap)
+    on_ordered(&rt, rt.alloc(), Case::ResolvesTogether)
 }
 
 #[test]
 fn plain_resolves_together(rt: HostRuntime) {
-    together::<key_index_plain::Index<OneCap, Record>>(&rt, rt.alloc(), OneCap)
+    on_plain(&rt, rt.alloc(), Case::ResolvesTogether)
 }
 
 /// No record has a full key, and the records next to it stand there.
@@ -170,10 +170,41 @@ fn excluded<I: Ordered<Value = Record> + Factory + Drop>(
 
 #[test]
 fn ordered_excludes(rt: HostRuntime) {
-    excluded::<Index<OneCap, Record>>(&rt, rt.alloc(), OneCap)
+    on_ordered(&rt, rt.alloc(), Case::Excludes)
 }
 
 #[test]
 fn plain_excludes(rt: HostRuntime) {
-    excluded::<key_index_plain::Index<OneCap, Record>>(&rt, rt.alloc(), OneCap)
+    on_plain(&rt, rt.alloc(), Case::Excludes)
+}
+
+/// A case, by the end of its test's name.
+enum Case {
+    Resolves,
+    ResolvesTogether,
+    Excludes,
+}
+
+/// Runs a case on a new index.
+fn on<I: Ordered<Value = Record> + Factory + Drop>(
+    rt: &impl Abort,
+    alloc: Global,
+    translator: I::Translator,
+    case: Case,
+) {
+    match case {
+        Case::Resolves => neighbours::<I>(rt, alloc, translator),
+        Case::ResolvesTogether => together::<I>(rt, alloc, translator),
+        Case::Excludes => excluded::<I>(rt, alloc, translator),
+    }
+}
+
+/// Runs a case on the flat ordered index.
+fn on_ordered(rt: &impl Abort, alloc: Global, case: Case) {
+    on::<Index<OneCap, Record>>(rt, alloc, OneCap, case)
+}
+
+/// Runs a case on the plain index.
+fn on_plain(rt: &impl Abort, alloc: Global, case: Case) {
+    on::<key_index_plain::Index<OneCap, Record>>(rt, alloc, OneCap, case)
 }

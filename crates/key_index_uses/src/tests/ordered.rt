@@ -152,19 +152,23 @@ fn edits_by_place<I: Unordered<Value = u64>>(rt: &impl Abort, index: &mut I, slo
     holds(rt, index, b"\x0b", &[4, 5]);
 }
 
+/// The calls by key, and those by the place of the index key of 0b.
+fn each_call<I: Unordered<Value = u64>>(rt: &impl Abort, index: &mut I, slot: I::Key) {
+    inserts(rt, index, b"\x0b", 1);
+    inserts(rt, index, b"\x0b", 2);
+    inserts(rt, index, b"\x0c", 3);
+    assert!(rt; index.slot_of(b"\x0b") == slot);
+    assert!(rt; index.admits(slot));
+    edits_by_place(rt, index, slot);
+    removes(rt, index, b"\x0b");
+    holds(rt, index, b"\x0b", &[]);
+    counts(rt, index, (1, 1, 3));
+}
+
 #[test]
 fn calls(rt: HostRuntime) {
     let mut index: Index<OneCap, u64> = fresh(&rt, rt.alloc(), OneCap);
-    inserts(&rt, &mut index, b"\x0b", 1);
-    inserts(&rt, &mut index, b"\x0b", 2);
-    inserts(&rt, &mut index, b"\x0c", 3);
-    let slot = index.slot_of(b"\x0b");
-    assert_eq!(&rt; slot, 0x0b);
-    assert!(&rt; index.admits(slot));
-    edits_by_place(&rt, &mut index, slot);
-    removes(&rt, &mut index, b"\x0b");
-    holds(&rt, &index, b"\x0b", &[]);
-    counts(&rt, &index, (1, 1, 3));
+    each_call(&rt, &mut index, 0x0b);
     assert!(&rt; Index::<OneCap, u64>::INSERT_FIRST);
     assert!(&rt; !Index::<OneCap, u64>::LOOKUP_WARMS_UPDATE);
 }
