@@ -1,12 +1,12 @@
 -- On callers of an index, over any content.
-use Rattle.std.proofs.Common.{◌≡◌, ◌<◌, Bool, true, false, cond, List, [], ◌∷◌, length, slice_set, refl, sym, ap, ◌∙◌, arith}
+use Rattle.std.proofs.Common.{◌≡◌, ◌<◌, Bool, true, false, List, [], ◌∷◌, length, slice_set, refl, sym, ap, ◌∙◌, arith}
 use Rattle.std.specs.declared.cmp.Ordering.{Ordering}
-use Rattle.std.specs.Ordering.{is_eq}
-use Rattle.std.specs.Cmp.{IsTotalOrder, tied_itself}
+use Rattle.std.specs.Cmp.{IsTotalOrder}
 use Rattle.std.specs.declared.cmp.Ordering.TheVariants.{Equal}
 use Rattle.key_index_flat.specs.Content.{Content, list_at, with_list, IsLawful}
 use Rattle.key_index_flat.specs.Commands.{put_value, after_insert, after_remove}
-use Rattle.key_index_flat.proofs.ContentLemmas.{list_at-with_list, with_list-same}
+use Rattle.key_index_flat.proofs.ContentLemmas.{with_list-same}
+use Rattle.key_index_flat.proofs.CursorLemmas.{list_at-with_list_same}
 
 alone : {V : Type 0} (first : Bool) (v : V) → put_value first v [] ≡ v ∷ []
 alone true v = refl
@@ -17,15 +17,11 @@ none_set [] v h = refl
 none_set (x ∷ xs) v h = absurd (h (omega arith))
 
 module _ {K V : Type 0} {cmp : K → K → Ordering} (o : IsTotalOrder cmp) where
-  -- what `with_list` answers at its key
-  pub list_at-same : (c : Content K V) (k : K) (l : List V) → list_at cmp (with_list cmp c k l) k ≡ l
-  list_at-same c k l = list_at-with_list o c k l k ∙ ap (λ r. cond (is_eq r) l (list_at cmp c k)) (tied_itself o k)
-
   -- a value that is put under a key whose values were taken out
   pub list_at-replaced : (first : Bool) (old mid new : Content K V) (k l m : K) (v : V) → mid ≡ after_remove cmp old k → new ≡ after_insert cmp first mid l v → l ≡ k → m ≡ l → list_at cmp new m ≡ v ∷ []
   list_at-replaced first old mid new k l m v taken put same again =
-      (λ i. list_at cmp (put i) (again i)) ∙ list_at-same mid l (put_value first v (list_at cmp mid l))
-      ∙ ap (λ l. put_value first v l) ((λ i. list_at cmp (taken i) (same i)) ∙ list_at-same old k []) ∙ alone first v
+      (λ i. list_at cmp (put i) (again i)) ∙ list_at-with_list_same o mid l (put_value first v (list_at cmp mid l))
+      ∙ ap (λ l. put_value first v l) ((λ i. list_at cmp (taken i) (same i)) ∙ list_at-with_list_same o old k []) ∙ alone first v
 
   -- a key that has no value has no first one
   pub absent_stays : ((x y : K) → cmp x y ≡ Equal → x ≡ y) → (c d : Content K V) (k : K) (v : V) → IsLawful cmp c → d ≡ c → ¬ (0 < length (list_at cmp c k)) → d ≡ with_list cmp c k (slice_set (list_at cmp c k) 0 v)

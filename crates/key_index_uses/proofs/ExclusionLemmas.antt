@@ -1,14 +1,14 @@
 -- On the values next to a full key that no value has.
 --     has_key_anywhere      in a filed content a full key is held where it is held in its own list
 --     excludes              the neighbours of a full key that no value has show that
-use Rattle.std.proofs.Common.{◌≡◌, ℕ, ◌<◌, Bool, true, false, cond, ◌||◌, T, List, [], ◌∷◌, ◌++◌, length, Option, Some, None, IfSome, unwrap_or, slice_index_or, All, refl, sym, ap, subst, ◌∙◌}
+use Rattle.std.proofs.Common.{◌≡◌, ℕ, ◌<◌, Bool, true, false, cond, ◌||◌, T, List, [], ◌∷◌, length, Option, Some, None, IfSome, unwrap_or, slice_index_or, All, refl, sym, ap, subst, ◌∙◌}
 use Rattle.std.proofs.lemmas.Bool.{false≢true}
 use Rattle.std.proofs.lemmas.List.Elements.{All-nil, All-cons, All-head, All-tail, All-append, All-weaker, All-filter, All-contains_itself, filter_passes}
 use Rattle.std.proofs.lemmas.List.Folds.{list_any-append, list_any_none}
 use Rattle.std.proofs.lemmas.Slice.Eq.{bytes_eq-Decides}
 use Rattle.std.specs.declared.cmp.Ordering.{Ordering}
 use Rattle.std.specs.declared.cmp.Ordering.TheVariants.{Less, Equal, Greater}
-use Rattle.std.specs.Ordering.{is_eq, is_gt, is_lt, ordering_reverse, on, flip_args}
+use Rattle.std.specs.Ordering.{is_eq, is_gt, is_lt, ordering_reverse, flip_args}
 use Rattle.std.specs.Cmp.{IsTotalOrder, tied_itself, on_total, back_total}
 use Rattle.std.specs.Cmp.Lexicographic.{nat_list_cmp_total, texts_ties}
 use Rattle.std.specs.BTreeMap.Range.{IsLeBy}
@@ -16,13 +16,13 @@ use Rattle.std.specs.List.{Contains, filter, list_any}
 use Rattle.std.specs.Option.{MatchOption}
 use Rattle.std.specs.Str.{bytes_eq}
 use Rattle.std.specs.FinMap.{find, is_sorted}
-use Rattle.key_index_flat.specs.Content.{Content, list_at, IsLawful}
-use Rattle.key_index_flat.specs.FullKeys.{IsBytes, byte_cmp, IsLeast, values_of, cmp_keys, above, below, IsFiled, IsFullNext, IsFullPrev}
+use Rattle.key_index_flat.specs.Content.{Content, list_at}
+use Rattle.key_index_flat.specs.FullKeys.{IsBytes, byte_cmp, IsLeast, values_of, cmp_keys, above, below, IsFiled}
 use Rattle.key_index_flat.specs.Laws.{first, second}
 use Rattle.key_index_flat.proofs.ContentLemmas.{absent}
 use Rattle.key_index_flat.proofs.FullKeyLemmas.{filed_first, filed_rest}
 use Rattle.key_index_flat.proofs.LeastLemmas.{least_has}
-use Rattle.key_index_uses.specs.Exclusion.{has_key, IsBetween, Excludes}
+use Rattle.key_index_uses.specs.Exclusion.{has_key, Excludes}
 
 none-list_any : {X : Type 0} (p : X → Bool) (l : List X) → list_any p l ≡ false → All (λ x. p x ≡ false) l
 none-list_any p [] h = All-nil (λ x. p x ≡ false)

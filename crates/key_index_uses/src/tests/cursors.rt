@@ -1,308 +1,317 @@
 //! Cursors, called step by step over any index through one function.
+ghost use Rattle.key_index_flat.specs.Cursor.{IsOnValue, AllowsInsert};
+
+use super::cases::{Case, on_flat, on_ordered, on_plain};
+use super::checks::{
+    counts, cursor_at, ends, fresh, goes_to, has_no_cursor, holds, inserts, puts, removes, stands,
+};
 use super::commands::three;
-use key_index_flat::index::unordered::Index;
-use key_index_flat::index::{Cursor, CursorState, Factory, Unordered, ordered};
-use key_index_flat::translator::OneCap;
+use key_index_flat::index::{Cursor, CursorState, Factory, Unordered};
 use std::alloc::Global;
 use std::process::Abort;
-use std::test::Fail;
 
 /// Next 3, delete, next 1, insert 9, next 2, next none, insert 7.
-fn edited<I: Unordered<Value = u64> + Factory + Drop>(
+pub(super) fn edited<I: Unordered<Value = u64> + Factory + Drop>(
     rt: &impl Abort,
     alloc: Global,
     translator: I::Translator,
-) -> Result<(), Fail> {
-    let mut index = three::<I>(alloc, translator)?;
-    let Some(mut cursor) = index.get_mut(b"k")? else {
-        panic!(rt; "k has values")
-    };
-    assert_eq!(rt; cursor.next().copied(), Some(3));
-    assert_eq!(rt; cursor.state(), CursorState::Active);
+) {
+    let mut index = three::<I>(rt, alloc, translator);
+    let mut cursor = cursor_at(rt, &mut index, b"k");
+    goes_to(rt, &mut cursor, 3);
     cursor.delete();
-    assert_eq!(rt; cursor.next().copied(), Some(1));
-    assert_eq!(rt; cursor.state(), CursorState::Active);
-    cursor.insert(9)?;
-    assert_eq!(rt; cursor.next().copied(), Some(2));
-    assert!(rt; cursor.next().is_none());
-    assert_eq!(rt; cursor.state(), CursorState::Done);
-    cursor.insert(7)?;
-    assert!(rt; index.get(b"k").copied().eq([1, 9, 2, 7]));
-    assert_eq!(rt; (index.keys(), index.items(), index.pruned()), (1, 4, 1));
-    Ok(())
+    goes_to(rt, &mut cursor, 1);
+    puts(rt, &mut cursor, 9);
+    goes_to(rt, &mut cursor, 2);
+    ends(rt, &mut cursor);
+    puts(rt, &mut cursor, 7);
+    holds(rt, &index, b"k", &[1, 9, 2, 7]);
+    counts(rt, &index, (1, 4, 1));
 }
 
 #[test]
-fn flat_cursor_edits(rt: HostRuntime) -> Result<(), Fail> {
-    edited::<Index<OneCap, u64>>(&rt, rt.alloc(), OneCap)
+fn flat_cursor_edits(rt: HostRuntime) {
+    on_flat(&rt, rt.alloc(), Case::CursorEdits)
 }
 
 #[test]
-fn plain_cursor_edits(rt: HostRuntime) -> Result<(), Fail> {
-    edited::<key_index_plain::Index<OneCap, u64>>(&rt, rt.alloc(), OneCap)
+fn plain_cursor_edits(rt: HostRuntime) {
+    on_plain(&rt, rt.alloc(), Case::CursorEdits)
 }
 
 #[test]
-fn ordered_cursor_edits(rt: HostRuntime) -> Result<(), Fail> {
-    edited::<ordered::Index<OneCap, u64>>(&rt, rt.alloc(), OneCap)
+fn ordered_cursor_edits(rt: HostRuntime) {
+    on_ordered(&rt, rt.alloc(), Case::CursorEdits)
 }
 
 /// The list 5: next 5, delete, next none, insert 6.
-fn emptied<I: Unordered<Value = u64> + Factory + Drop>(
+pub(super) fn emptied<I: Unordered<Value = u64> + Factory + Drop>(
     rt: &impl Abort,
     alloc: Global,
     translator: I::Translator,
-) -> Result<(), Fail> {
-    let mut index = I::new(alloc, translator)?;
-    index.insert(b"k", 5)?;
-    let Some(mut cursor) = index.get_mut(b"k")? else {
-        panic!(rt; "k has a value")
-    };
-    assert_eq!(rt; cursor.next().copied(), Some(5));
-    assert_eq!(rt; cursor.state(), CursorState::Active);
+) {
+    let mut index: I = fresh(rt, alloc, translator);
+    inserts(rt, &mut index, b"k", 5);
+    let mut cursor = cursor_at(rt, &mut index, b"k");
+    goes_to(rt, &mut cursor, 5);
     cursor.delete();
-    assert_eq!(rt; cursor.state(), CursorState::NeedNext);
-    assert!(rt; cursor.next().is_none());
-    assert_eq!(rt; cursor.state(), CursorState::Done);
-    cursor.insert(6)?;
-    assert!(rt; cursor.next().is_none());
-    assert!(rt; index.get(b"k").copied().eq([6]));
-    assert_eq!(rt; (index.keys(), index.items(), index.pruned()), (1, 1, 1));
-    Ok(())
+    stands(rt, &cursor, CursorState::NeedNext);
+    ends(rt, &mut cursor);
+    puts(rt, &mut cursor, 6);
+    ends(rt, &mut cursor);
+    holds(rt, &index, b"k", &[6]);
+    counts(rt, &index, (1, 1, 1));
 }
 
 #[test]
-fn flat_cursor_empties(rt: HostRuntime) -> Result<(), Fail> {
-    emptied::<Index<OneCap, u64>>(&rt, rt.alloc(), OneCap)
+fn flat_cursor_empties(rt: HostRuntime) {
+    on_flat(&rt, rt.alloc(), Case::CursorEmpties)
 }
 
 #[test]
-fn plain_cursor_empties(rt: HostRuntime) -> Result<(), Fail> {
-    emptied::<key_index_plain::Index<OneCap, u64>>(&rt, rt.alloc(), OneCap)
+fn plain_cursor_empties(rt: HostRuntime) {
+    on_plain(&rt, rt.alloc(), Case::CursorEmpties)
 }
 
 #[test]
-fn ordered_cursor_empties(rt: HostRuntime) -> Result<(), Fail> {
-    emptied::<ordered::Index<OneCap, u64>>(&rt, rt.alloc(), OneCap)
+fn ordered_cursor_empties(rt: HostRuntime) {
+    on_ordered(&rt, rt.alloc(), Case::CursorEmpties)
 }
 
 /// The list 3, 1, 2: next 3, retain none.
-fn retained<I: Unordered<Value = u64> + Factory + Drop>(
+pub(super) fn retained<I: Unordered<Value = u64> + Factory + Drop>(
     rt: &impl Abort,
     alloc: Global,
     translator: I::Translator,
-) -> Result<(), Fail> {
-    let mut index = three::<I>(alloc, translator)?;
-    let Some(mut cursor) = index.get_mut(b"k")? else {
-        panic!(rt; "k has values")
-    };
-    assert_eq!(rt; cursor.next().copied(), Some(3));
+) {
+    let mut index = three::<I>(rt, alloc, translator);
+    let mut cursor = cursor_at(rt, &mut index, b"k");
+    goes_to(rt, &mut cursor, 3);
     cursor.retain(|_value: &u64| false);
-    assert_eq!(rt; cursor.state(), CursorState::Done);
-    assert!(rt; index.get(b"k").copied().eq([3]));
-    assert_eq!(rt; (index.keys(), index.items(), index.pruned()), (1, 1, 2));
-    Ok(())
+    stands(rt, &cursor, CursorState::Done);
+    holds(rt, &index, b"k", &[3]);
+    counts(rt, &index, (1, 1, 2));
 }
 
 #[test]
-fn flat_cursor_retains(rt: HostRuntime) -> Result<(), Fail> {
-    retained::<Index<OneCap, u64>>(&rt, rt.alloc(), OneCap)
+fn flat_cursor_retains(rt: HostRuntime) {
+    on_flat(&rt, rt.alloc(), Case::CursorRetains)
 }
 
 #[test]
-fn plain_cursor_retains(rt: HostRuntime) -> Result<(), Fail> {
-    retained::<key_index_plain::Index<OneCap, u64>>(&rt, rt.alloc(), OneCap)
+fn plain_cursor_retains(rt: HostRuntime) {
+    on_plain(&rt, rt.alloc(), Case::CursorRetains)
 }
 
 #[test]
-fn ordered_cursor_retains(rt: HostRuntime) -> Result<(), Fail> {
-    retained::<ordered::Index<OneCap, u64>>(&rt, rt.alloc(), OneCap)
+fn ordered_cursor_retains(rt: HostRuntime) {
+    on_ordered(&rt, rt.alloc(), Case::CursorRetains)
 }
 
 /// The list 3, 1, 2: retain by a closure that changes its mind.
-fn retained_in_turn<I: Unordered<Value = u64> + Factory + Drop>(
+pub(super) fn retained_in_turn<I: Unordered<Value = u64> + Factory + Drop>(
     rt: &impl Abort,
     alloc: Global,
     translator: I::Translator,
-) -> Result<(), Fail> {
-    let mut index = three::<I>(alloc, translator)?;
-    let Some(mut cursor) = index.get_mut(b"k")? else {
-        panic!(rt; "k has values")
-    };
+) {
+    let mut index = three::<I>(rt, alloc, translator);
+    let mut cursor = cursor_at(rt, &mut index, b"k");
     let mut keeps = false;
     cursor.retain(|_value: &u64| {
         keeps = !keeps;
         keeps
     });
-    assert_eq!(rt; cursor.state(), CursorState::Done);
-    assert!(rt; index.get(b"k").copied().eq([3, 2]));
-    assert_eq!(rt; (index.keys(), index.items(), index.pruned()), (1, 2, 1));
-    Ok(())
+    stands(rt, &cursor, CursorState::Done);
+    holds(rt, &index, b"k", &[3, 2]);
+    counts(rt, &index, (1, 2, 1));
 }
 
 #[test]
-fn flat_cursor_retains_in_turn(rt: HostRuntime) -> Result<(), Fail> {
-    retained_in_turn::<Index<OneCap, u64>>(&rt, rt.alloc(), OneCap)
+fn flat_cursor_retains_in_turn(rt: HostRuntime) {
+    on_flat(&rt, rt.alloc(), Case::CursorRetainsInTurn)
 }
 
 #[test]
-fn plain_cursor_retains_in_turn(rt: HostRuntime) -> Result<(), Fail> {
-    retained_in_turn::<key_index_plain::Index<OneCap, u64>>(&rt, rt.alloc(), OneCap)
+fn plain_cursor_retains_in_turn(rt: HostRuntime) {
+    on_plain(&rt, rt.alloc(), Case::CursorRetainsInTurn)
 }
 
 #[test]
-fn ordered_cursor_retains_in_turn(rt: HostRuntime) -> Result<(), Fail> {
-    retained_in_turn::<ordered::Index<OneCap, u64>>(&rt, rt.alloc(), OneCap)
+fn ordered_cursor_retains_in_turn(rt: HostRuntime) {
+    on_ordered(&rt, rt.alloc(), Case::CursorRetainsInTurn)
+}
+
+/// `find` goes to a value.
+fn finds<C: Cursor<Value = u64>>(rt: &impl Abort, cursor: &mut C, sought: u64)
+    ensures { IsOnValue (C.place cursor.new) }
+{
+    assert!(rt;
+        cursor.find(|value: &u64| *value == sought),
+        "find gives {sought}"
+    );
+    stands(rt, cursor, CursorState::Active);
+}
+
+/// `find` goes past the end.
+fn finds_none<C: Cursor<Value = u64>>(rt: &impl Abort, cursor: &mut C, sought: u64)
+    ensures { AllowsInsert (C.place cursor.new) }
+{
+    assert!(rt;
+        !cursor.find(|value: &u64| *value == sought),
+        "find gives no {sought}"
+    );
+    stands(rt, cursor, CursorState::Done);
 }
 
 /// The list 3, 1, 2: find 1, update 9, find 5 in vain, insert 7.
-fn found<I: Unordered<Value = u64> + Factory + Drop>(
+pub(super) fn found<I: Unordered<Value = u64> + Factory + Drop>(
     rt: &impl Abort,
     alloc: Global,
     translator: I::Translator,
-) -> Result<(), Fail> {
-    let mut index = three::<I>(alloc, translator)?;
-    let Some(mut cursor) = index.get_mut(b"k")? else {
-        panic!(rt; "k has values")
-    };
-    assert!(rt; cursor.find(|value: &u64| *value == 1));
-    assert_eq!(rt; cursor.state(), CursorState::Active);
+) {
+    let mut index = three::<I>(rt, alloc, translator);
+    let mut cursor = cursor_at(rt, &mut index, b"k");
+    finds(rt, &mut cursor, 1);
     cursor.update(9);
-    assert!(rt; !cursor.find(|value: &u64| *value == 5));
-    assert_eq!(rt; cursor.state(), CursorState::Done);
-    cursor.insert(7)?;
-    assert!(rt; index.get(b"k").copied().eq([3, 9, 2, 7]));
-    assert_eq!(rt; (index.keys(), index.items(), index.pruned()), (1, 4, 0));
-    Ok(())
+    finds_none(rt, &mut cursor, 5);
+    puts(rt, &mut cursor, 7);
+    holds(rt, &index, b"k", &[3, 9, 2, 7]);
+    counts(rt, &index, (1, 4, 0));
 }
 
 #[test]
-fn flat_cursor_finds(rt: HostRuntime) -> Result<(), Fail> {
-    found::<Index<OneCap, u64>>(&rt, rt.alloc(), OneCap)
+fn flat_cursor_finds(rt: HostRuntime) {
+    on_flat(&rt, rt.alloc(), Case::CursorFinds)
 }
 
 #[test]
-fn plain_cursor_finds(rt: HostRuntime) -> Result<(), Fail> {
-    found::<key_index_plain::Index<OneCap, u64>>(&rt, rt.alloc(), OneCap)
+fn plain_cursor_finds(rt: HostRuntime) {
+    on_plain(&rt, rt.alloc(), Case::CursorFinds)
 }
 
 #[test]
-fn ordered_cursor_finds(rt: HostRuntime) -> Result<(), Fail> {
-    found::<ordered::Index<OneCap, u64>>(&rt, rt.alloc(), OneCap)
+fn ordered_cursor_finds(rt: HostRuntime) {
+    on_ordered(&rt, rt.alloc(), Case::CursorFinds)
 }
 
-/// Cursors that are dropped half way: before a value, after a delete, on a value, after an insert, and past the end.
-fn dropped<I: Unordered<Value = u64> + Factory + Drop>(
-    rt: &impl Abort,
-    alloc: Global,
-    translator: I::Translator,
-) -> Result<(), Fail> {
-    let mut index = three::<I>(alloc, translator)?;
-    let Some(cursor) = index.get_mut(b"k")? else {
-        panic!(rt; "k has values")
-    };
-    assert_eq!(rt; cursor.state(), CursorState::NeedNext);
-    assert!(rt; index.get(b"k").copied().eq([3, 1, 2]));
-    assert_eq!(rt; (index.keys(), index.items(), index.pruned()), (1, 3, 0));
+/// A cursor that is dropped before the first value.
+fn dropped_at_start<I: Unordered<Value = u64>>(rt: &impl Abort, index: &mut I) {
+    let cursor = cursor_at(rt, index, b"k");
+    stands(rt, &cursor, CursorState::NeedNext);
+    holds(rt, index, b"k", &[3, 1, 2]);
+    counts(rt, index, (1, 3, 0));
+}
 
-    let Some(mut cursor) = index.get_mut(b"k")? else {
-        panic!(rt; "k has values")
-    };
-    assert_eq!(rt; cursor.next().copied(), Some(3));
-    assert_eq!(rt; cursor.state(), CursorState::Active);
+/// A cursor that is dropped after it took 3 out.
+fn dropped_after_delete<I: Unordered<Value = u64>>(rt: &impl Abort, index: &mut I) {
+    let mut cursor = cursor_at(rt, index, b"k");
+    goes_to(rt, &mut cursor, 3);
     cursor.delete();
-    assert_eq!(rt; cursor.state(), CursorState::NeedNext);
-    assert!(rt; index.get(b"k").copied().eq([1, 2]));
-    assert_eq!(rt; (index.keys(), index.items(), index.pruned()), (1, 2, 1));
+    stands(rt, &cursor, CursorState::NeedNext);
+    holds(rt, index, b"k", &[1, 2]);
+    counts(rt, index, (1, 2, 1));
+}
 
-    let Some(mut cursor) = index.get_mut(b"k")? else {
-        panic!(rt; "k has values")
-    };
-    assert_eq!(rt; cursor.next().copied(), Some(1));
-    assert_eq!(rt; cursor.state(), CursorState::Active);
+/// A cursor that is dropped on 8, which it put in the place of 1.
+fn dropped_on_value<I: Unordered<Value = u64>>(rt: &impl Abort, index: &mut I) {
+    let mut cursor = cursor_at(rt, index, b"k");
+    goes_to(rt, &mut cursor, 1);
     cursor.update(8);
-    assert_eq!(rt; cursor.state(), CursorState::Active);
-    assert!(rt; index.get(b"k").copied().eq([8, 2]));
-    assert_eq!(rt; (index.keys(), index.items(), index.pruned()), (1, 2, 1));
+    stands(rt, &cursor, CursorState::Active);
+    holds(rt, index, b"k", &[8, 2]);
+    counts(rt, index, (1, 2, 1));
+}
 
-    let Some(mut cursor) = index.get_mut(b"k")? else {
-        panic!(rt; "k has values")
-    };
-    assert_eq!(rt; cursor.next().copied(), Some(8));
-    assert_eq!(rt; cursor.state(), CursorState::Active);
-    cursor.insert(9)?;
-    assert_eq!(rt; cursor.state(), CursorState::NeedNext);
-    assert!(rt; index.get(b"k").copied().eq([8, 9, 2]));
-    assert_eq!(rt; (index.keys(), index.items(), index.pruned()), (1, 3, 1));
+/// A cursor that is dropped after it put 9 behind 8.
+fn dropped_after_insert<I: Unordered<Value = u64>>(rt: &impl Abort, index: &mut I) {
+    let mut cursor = cursor_at(rt, index, b"k");
+    goes_to(rt, &mut cursor, 8);
+    puts(rt, &mut cursor, 9);
+    stands(rt, &cursor, CursorState::NeedNext);
+    holds(rt, index, b"k", &[8, 9, 2]);
+    counts(rt, index, (1, 3, 1));
+}
 
-    let Some(mut cursor) = index.get_mut(b"k")? else {
-        panic!(rt; "k has values")
-    };
+/// A cursor that is dropped past the end.
+fn dropped_past_end<I: Unordered<Value = u64>>(rt: &impl Abort, index: &mut I) {
+    let mut cursor = cursor_at(rt, index, b"k");
     for value in [8, 9, 2] {
-        assert_eq!(rt; cursor.next().copied(), Some(value));
+        goes_to(rt, &mut cursor, value);
     }
-    assert!(rt; cursor.next().is_none());
-    assert_eq!(rt; cursor.state(), CursorState::Done);
-    assert!(rt; index.get(b"k").copied().eq([8, 9, 2]));
-    assert_eq!(rt; (index.keys(), index.items(), index.pruned()), (1, 3, 1));
-
-    index.insert(b"k", 4)?;
-    assert!(rt; index.get(b"k").copied().eq([4, 8, 9, 2]));
-    index.remove(b"k")?;
-    assert!(rt; index.get(b"k").next().is_none());
-    assert_eq!(rt; (index.keys(), index.items(), index.pruned()), (0, 0, 5));
-    Ok(())
+    ends(rt, &mut cursor);
+    holds(rt, index, b"k", &[8, 9, 2]);
+    counts(rt, index, (1, 3, 1));
 }
 
-#[test]
-fn flat_cursor_is_dropped(rt: HostRuntime) -> Result<(), Fail> {
-    dropped::<Index<OneCap, u64>>(&rt, rt.alloc(), OneCap)
-}
-
-#[test]
-fn plain_cursor_is_dropped(rt: HostRuntime) -> Result<(), Fail> {
-    dropped::<key_index_plain::Index<OneCap, u64>>(&rt, rt.alloc(), OneCap)
-}
-
-#[test]
-fn ordered_cursor_is_dropped(rt: HostRuntime) -> Result<(), Fail> {
-    dropped::<ordered::Index<OneCap, u64>>(&rt, rt.alloc(), OneCap)
-}
-
-/// A cursor that takes out the only value of a key, and is dropped there: the key is gone.
-fn dropped_without_values<I: Unordered<Value = u64> + Factory + Drop>(
+/// Cursors that are dropped half way, one after another; the index serves on.
+pub(super) fn dropped<I: Unordered<Value = u64> + Factory + Drop>(
     rt: &impl Abort,
     alloc: Global,
     translator: I::Translator,
-) -> Result<(), Fail> {
-    let mut index = three::<I>(alloc, translator)?;
-    index.insert(b"j", 5)?;
-    let Some(mut cursor) = index.get_mut(b"j")? else {
-        panic!(rt; "j has a value")
-    };
-    assert_eq!(rt; cursor.next().copied(), Some(5));
-    assert_eq!(rt; cursor.state(), CursorState::Active);
+) {
+    let mut index = three::<I>(rt, alloc, translator);
+    dropped_at_start(rt, &mut index);
+    dropped_after_delete(rt, &mut index);
+    dropped_on_value(rt, &mut index);
+    dropped_after_insert(rt, &mut index);
+    dropped_past_end(rt, &mut index);
+    inserts(rt, &mut index, b"k", 4);
+    holds(rt, &index, b"k", &[4, 8, 9, 2]);
+    removes(rt, &mut index, b"k");
+    holds(rt, &index, b"k", &[]);
+    counts(rt, &index, (0, 0, 5));
+}
+
+#[test]
+fn flat_cursor_is_dropped(rt: HostRuntime) {
+    on_flat(&rt, rt.alloc(), Case::CursorIsDropped)
+}
+
+#[test]
+fn plain_cursor_is_dropped(rt: HostRuntime) {
+    on_plain(&rt, rt.alloc(), Case::CursorIsDropped)
+}
+
+#[test]
+fn ordered_cursor_is_dropped(rt: HostRuntime) {
+    on_ordered(&rt, rt.alloc(), Case::CursorIsDropped)
+}
+
+/// A cursor that takes 5, the only value of j, out, and is dropped there: the key is gone.
+fn takes_only_value<I: Unordered<Value = u64>>(rt: &impl Abort, index: &mut I) {
+    let mut cursor = cursor_at(rt, index, b"j");
+    goes_to(rt, &mut cursor, 5);
     cursor.delete();
-    assert_eq!(rt; (index.keys(), index.items(), index.pruned()), (1, 3, 1));
-    assert!(rt; index.get_mut(b"j")?.is_none());
-    assert!(rt; index.get(b"k").copied().eq([3, 1, 2]));
-    index.insert(b"j", 6)?;
-    assert!(rt; index.get(b"j").copied().eq([6]));
-    assert_eq!(rt; (index.keys(), index.items(), index.pruned()), (2, 4, 1));
-    Ok(())
+    counts(rt, index, (1, 3, 1));
+    has_no_cursor(rt, index, b"j");
+}
+
+/// A key that lost its only value to a cursor, and takes a value again.
+pub(super) fn dropped_without_values<I: Unordered<Value = u64> + Factory + Drop>(
+    rt: &impl Abort,
+    alloc: Global,
+    translator: I::Translator,
+) {
+    let mut index = three::<I>(rt, alloc, translator);
+    inserts(rt, &mut index, b"j", 5);
+    takes_only_value(rt, &mut index);
+    holds(rt, &index, b"k", &[3, 1, 2]);
+    inserts(rt, &mut index, b"j", 6);
+    holds(rt, &index, b"j", &[6]);
+    counts(rt, &index, (2, 4, 1));
 }
 
 #[test]
-fn flat_cursor_leaves_no_key(rt: HostRuntime) -> Result<(), Fail> {
-    dropped_without_values::<Index<OneCap, u64>>(&rt, rt.alloc(), OneCap)
+fn flat_cursor_leaves_no_key(rt: HostRuntime) {
+    on_flat(&rt, rt.alloc(), Case::CursorLeavesNoKey)
 }
 
 #[test]
-fn plain_cursor_leaves_no_key(rt: HostRuntime) -> Result<(), Fail> {
-    dropped_without_values::<key_index_plain::Index<OneCap, u64>>(&rt, rt.alloc(), OneCap)
+fn plain_cursor_leaves_no_key(rt: HostRuntime) {
+    on_plain(&rt, rt.alloc(), Case::CursorLeavesNoKey)
 }
 
 #[test]
-fn ordered_cursor_leaves_no_key(rt: HostRuntime) -> Result<(), Fail> {
-    dropped_without_values::<ordered::Index<OneCap, u64>>(&rt, rt.alloc(), OneCap)
+fn ordered_cursor_leaves_no_key(rt: HostRuntime) {
+    on_ordered(&rt, rt.alloc(), Case::CursorLeavesNoKey)
 }

@@ -1,11 +1,11 @@
 //! Records next to a full key, in indices that keep its first byte.
+use super::checks::fresh;
 use crate::callers::{exclude, file};
 use key_index_flat::index::ordered::Index;
 use key_index_flat::index::{Factory, Keyed, Ordered, resolve_next, resolve_prev};
 use key_index_flat::translator::OneCap;
 use std::alloc::Global;
 use std::process::Abort;
-use std::test::Fail;
 
 /// A record of a log: its key, and where it stands.
 #[derive(Debug, Drop)]
@@ -24,16 +24,20 @@ impl Keyed for Record {
 
 /// Files a record.
 fn add<I: Ordered<Value = Record>>(
+    rt: &impl Abort,
     alloc: Global,
     index: &mut I,
     key: &[u8],
     position: u64,
-) -> Result<(), Fail> {
+) {
+    let Ok(bytes) = Vec::from_slice(alloc, key) else {
+        panic!(rt; "there is memory for {key:?}")
+    };
     let record = Record {
-        key: Vec::from_slice(alloc, key)?,
+        key: bytes,
         position,
     };
-    Ok(file(index, key, record)?)
+    file(index, key, record).expect(rt, "file");
 }
 
 /// Where a record stands.
@@ -44,38 +48,57 @@ fn position(record: Option<&Record>) -> Option<u64> {
     }
 }
 
+/// The record above a full key stands there, or there is none.
+fn next_is<I: Ordered<Value = Record>>(
+    rt: &impl Abort,
+    index: &I,
+    key: &[u8],
+    stands: Option<u64>,
+) {
+    assert_eq!(rt; position(resolve_next(index, key)), stands, "above {key:?}");
+}
+
+/// The record below a full key stands there, or there is none.
+fn prev_is<I: Ordered<Value = Record>>(
+    rt: &impl Abort,
+    index: &I,
+    key: &[u8],
+    stands: Option<u64>,
+) {
+    assert_eq!(rt; position(resolve_prev(index, key)), stands, "below {key:?}");
+}
+
 /// Two records that share their first byte, and one further on.
 fn neighbours<I: Ordered<Value = Record> + Factory + Drop>(
     rt: &impl Abort,
     alloc: Global,
     translator: I::Translator,
-) -> Result<(), Fail> {
-    let mut index = I::new(alloc, translator)?;
-    assert!(rt; resolve_next(&index, b"").is_none());
-    assert!(rt; resolve_prev(&index, b"\xff").is_none());
-    add(alloc, &mut index, b"\x0b\x02", 1)?;
-    add(alloc, &mut index, b"\x0b\x05", 2)?;
-    add(alloc, &mut index, b"\x1c\x01", 3)?;
-    assert_eq!(rt; position(resolve_next(&index, b"\x0b\x02")), Some(2));
-    assert_eq!(rt; position(resolve_next(&index, b"\x0b\x05")), Some(3));
-    assert!(rt; resolve_next(&index, b"\x1c\x01").is_none());
-    assert_eq!(rt; position(resolve_prev(&index, b"\x1c\x01")), Some(2));
-    assert!(rt; resolve_prev(&index, b"\x0b\x02").is_none());
-    assert_eq!(rt; position(resolve_next(&index, b"\x0b\x03")), Some(2));
-    assert_eq!(rt; position(resolve_prev(&index, b"\x0b\x03")), Some(1));
-    assert_eq!(rt; position(resolve_next(&index, b"")), Some(1));
-    assert_eq!(rt; position(resolve_prev(&index, b"\xff")), Some(3));
-    Ok(())
+) {
+    let mut index: I = fresh(rt, alloc, translator);
+    next_is(rt, &index, b"", None);
+    prev_is(rt, &index, b"\xff", None);
+    add(rt, alloc, &mut index, b"\x0b\x02", 1);
+    add(rt, alloc, &mut index, b"\x0b\x05", 2);
+    add(rt, alloc, &mut index, b"\x1c\x01", 3);
+    next_is(rt, &index, b"\x0b\x02", Some(2));
+    next_is(rt, &index, b"\x0b\x05", Some(3));
+    next_is(rt, &index, b"\x1c\x01", None);
+    prev_is(rt, &index, b"\x1c\x01", Some(2));
+    prev_is(rt, &index, b"\x0b\x02", None);
+    next_is(rt, &index, b"\x0b\x03", Some(2));
+    prev_is(rt, &index, b"\x0b\x03", Some(1));
+    next_is(rt, &index, b"", Some(1));
+    prev_is(rt, &index, b"\xff", Some(3));
 }
 
 #[test]
-fn ordered_resolves(rt: HostRuntime) -> Result<(), Fail> {
-    neighbours::<Index<OneCap, Record>>(&rt, rt.alloc(), OneCap)
+fn ordered_resolves(rt: HostRuntime) {
+    on_ordered(&rt, rt.alloc(), Case::Resolves)
 }
 
 #[test]
-fn plain_resolves(rt: HostRuntime) -> Result<(), Fail> {
-    neighbours::<key_index_plain::Index<OneCap, Record>>(&rt, rt.alloc(), OneCap)
+fn plain_resolves(rt: HostRuntime) {
+    on_plain(&rt, rt.alloc(), Case::Resolves)
 }
 
 /// The empty key and the byte 0, which share an index key; and two records of one full key, of which the newer comes first.
@@ -83,28 +106,45 @@ fn together<I: Ordered<Value = Record> + Factory + Drop>(
     rt: &impl Abort,
     alloc: Global,
     translator: I::Translator,
-) -> Result<(), Fail> {
-    let mut index = I::new(alloc, translator)?;
-    add(alloc, &mut index, b"", 1)?;
-    add(alloc, &mut index, b"\x00", 2)?;
-    assert_eq!(rt; position(resolve_next(&index, b"")), Some(2));
-    assert_eq!(rt; position(resolve_prev(&index, b"\x00")), Some(1));
-    assert!(rt; resolve_prev(&index, b"").is_none());
-    add(alloc, &mut index, b"\x0b\x05", 3)?;
-    add(alloc, &mut index, b"\x0b\x05", 4)?;
-    assert_eq!(rt; position(resolve_next(&index, b"\x0b")), Some(4));
-    assert_eq!(rt; position(resolve_prev(&index, b"\x0b\x06")), Some(4));
-    Ok(())
+) {
+    let mut index: I = fresh(rt, alloc, translator);
+    add(rt, alloc, &mut index, b"", 1);
+    add(rt, alloc, &mut index, b"\x00", 2);
+    next_is(rt, &index, b"", Some(2));
+    prev_is(rt, &index, b"\x00", Some(1));
+    prev_is(rt, &index, b"", None);
+    add(rt, alloc, &mut index, b"\x0b\x05", 3);
+    add(rt, alloc, &mut index, b"\x0b\x05", 4);
+    next_is(rt, &index, b"\x0b", Some(4));
+    prev_is(rt, &index, b"\x0b\x06", Some(4));
 }
 
 #[test]
-fn ordered_resolves_together(rt: HostRuntime) -> Result<(), Fail> {
-    together::<Index<OneCap, Record>>(&rt, rt.alloc(), OneCap)
+fn ordered_resolves_together(rt: HostRuntime) {
+    on_ordered(&rt, rt.alloc(), Case::ResolvesTogether)
 }
 
 #[test]
-fn plain_resolves_together(rt: HostRuntime) -> Result<(), Fail> {
-    together::<key_index_plain::Index<OneCap, Record>>(&rt, rt.alloc(), OneCap)
+fn plain_resolves_together(rt: HostRuntime) {
+    on_plain(&rt, rt.alloc(), Case::ResolvesTogether)
+}
+
+/// No record has a full key, and the records next to it stand there.
+fn excludes<I: Ordered<Value = Record>>(
+    rt: &impl Abort,
+    index: &I,
+    key: &[u8],
+    below: Option<u64>,
+    above: Option<u64>,
+) {
+    let Some(next_to) = exclude(index, key) else {
+        panic!(rt; "no record has the key {key:?}")
+    };
+    assert_eq!(rt;
+        (position(next_to.below), position(next_to.above)),
+        (below, above),
+        "{key:?}"
+    );
 }
 
 /// An absent key among others, and below and above them all; and a held one.
@@ -112,33 +152,59 @@ fn excluded<I: Ordered<Value = Record> + Factory + Drop>(
     rt: &impl Abort,
     alloc: Global,
     translator: I::Translator,
-) -> Result<(), Fail> {
-    let mut index = I::new(alloc, translator)?;
-    add(alloc, &mut index, b"\x0b\x02", 1)?;
-    add(alloc, &mut index, b"\x0b\x05", 2)?;
-    add(alloc, &mut index, b"\x1c\x01", 3)?;
+) {
+    let mut index: I = fresh(rt, alloc, translator);
+    add(rt, alloc, &mut index, b"\x0b\x02", 1);
+    add(rt, alloc, &mut index, b"\x0b\x05", 2);
+    add(rt, alloc, &mut index, b"\x1c\x01", 3);
     for (key, below, above) in [
         (b"\x0b\x03".as_slice(), Some(1), Some(2)),
         (b"\x0c".as_slice(), Some(2), Some(3)),
         (b"".as_slice(), None, Some(1)),
         (b"\x1c\x01\x00".as_slice(), Some(3), None),
     ] {
-        let Some(next_to) = exclude(&index, key) else {
-            panic!(rt; "no record has the key {key:?}")
-        };
-        assert_eq!(rt; position(next_to.below), below, "{key:?}");
-        assert_eq!(rt; position(next_to.above), above, "{key:?}");
+        excludes(rt, &index, key, below, above);
     }
     assert!(rt; exclude(&index, b"\x0b\x05").is_none());
-    Ok(())
 }
 
 #[test]
-fn ordered_excludes(rt: HostRuntime) -> Result<(), Fail> {
-    excluded::<Index<OneCap, Record>>(&rt, rt.alloc(), OneCap)
+fn ordered_excludes(rt: HostRuntime) {
+    on_ordered(&rt, rt.alloc(), Case::Excludes)
 }
 
 #[test]
-fn plain_excludes(rt: HostRuntime) -> Result<(), Fail> {
-    excluded::<key_index_plain::Index<OneCap, Record>>(&rt, rt.alloc(), OneCap)
+fn plain_excludes(rt: HostRuntime) {
+    on_plain(&rt, rt.alloc(), Case::Excludes)
+}
+
+/// A case, by the end of its test's name.
+enum Case {
+    Resolves,
+    ResolvesTogether,
+    Excludes,
+}
+
+/// Runs a case on a new index.
+fn on<I: Ordered<Value = Record> + Factory + Drop>(
+    rt: &impl Abort,
+    alloc: Global,
+    translator: I::Translator,
+    case: Case,
+) {
+    match case {
+        Case::Resolves => neighbours::<I>(rt, alloc, translator),
+        Case::ResolvesTogether => together::<I>(rt, alloc, translator),
+        Case::Excludes => excluded::<I>(rt, alloc, translator),
+    }
+}
+
+/// Runs a case on the flat ordered index.
+fn on_ordered(rt: &impl Abort, alloc: Global, case: Case) {
+    on::<Index<OneCap, Record>>(rt, alloc, OneCap, case)
+}
+
+/// Runs a case on the plain index.
+fn on_plain(rt: &impl Abort, alloc: Global, case: Case) {
+    on::<key_index_plain::Index<OneCap, Record>>(rt, alloc, OneCap, case)
 }

@@ -22,3 +22,8 @@ impl Numbers {
         number
     }
 }
+
+/// Two bytes, of four that occur.
+pub(super) fn two_bytes(number: u64) -> [u8; 2] {
+    [b'a' + (number % 4) as u8, b'a' + (number / 4 % 4) as u8]
+}

@@ -2,7 +2,6 @@ use Rattle.std.proofs.Common.{◌≡◌, true, length, refl, sym, subst, ◌∙�
 use Rattle.std.proofs.lemmas.Iterator.Consumers.{YieldsList-turn, YieldsList-from_first}
 use Rattle.std.proofs.lemmas.List.Folds.{list_any_at}
 use Rattle.std.specs.Str.{bytes_eq}
-use Rattle.key_index_uses.specs.Exclusion.{has_key}
 use Rattle.key_index_uses.proofs.callers.has_key.Goals as goal
 
 pub returns-then-eq : goal.returns-then-eq

@@ -1,0 +1,127 @@
+//! Calls of an index and of a cursor that have to be accepted, and what the tests assert of them: each in one function, so that a
+//! test is proved by its calls alone.
+ghost use Rattle.key_index_flat.specs.Cursor.{IsOnValue, AllowsInsert};
+
+use key_index_flat::index::{Cursor, CursorState, Factory, IndexCursor, Unordered};
+use std::alloc::Global;
+use std::process::Abort;
+
+/// An index with no values.
+pub(super) fn fresh<I: Factory>(rt: &impl Abort, alloc: Global, translator: I::Translator) -> I {
+    I::new(alloc, translator).expect(rt, "an index")
+}
+
+/// `insert` is accepted.
+pub(super) fn inserts<I: Unordered<Value = u64>>(
+    rt: &impl Abort,
+    index: &mut I,
+    key: &[u8],
+    value: u64,
+) {
+    index.insert(key, value).expect(rt, "insert");
+}
+
+/// `remove` is accepted.
+pub(super) fn removes<I: Unordered<Value = u64>>(rt: &impl Abort, index: &mut I, key: &[u8]) {
+    index.remove(key).expect(rt, "remove");
+}
+
+/// A value behind those of a vector.
+pub(super) fn push<T: Drop>(rt: &impl Abort, values: &mut Vec<T>, value: T) {
+    assert!(rt; values.push(value).is_ok());
+}
+
+/// A key has these values, in this order, and no others.
+pub(super) fn holds<I: Unordered<Value = u64>>(
+    rt: &impl Abort,
+    index: &I,
+    key: &[u8],
+    values: &[u64],
+) {
+    assert!(rt;
+        index.get(key).copied().eq(values.iter().copied()),
+        "the values of {key:?} are {values:?}"
+    );
+}
+
+/// How many keys and values there are, and how many values were taken out.
+pub(super) fn counts<I: Unordered<Value = u64>>(
+    rt: &impl Abort,
+    index: &I,
+    want: (usize, usize, u64),
+) {
+    assert_eq!(rt; (index.keys(), index.items(), index.pruned()), want);
+}
+
+/// Two indices have the same values under a key.
+pub(super) fn same_values<A: Unordered<Value = u64>, B: Unordered<Value = u64>>(
+    rt: &impl Abort,
+    first: &A,
+    second: &B,
+    key: &[u8],
+) {
+    assert!(rt;
+        first.get(key).copied().eq(second.get(key).copied()),
+        "the values of {key:?}"
+    );
+}
+
+/// Two indices have the same counts.
+pub(super) fn same_counts<A: Unordered<Value = u64>, B: Unordered<Value = u64>>(
+    rt: &impl Abort,
+    first: &A,
+    second: &B,
+) {
+    counts(rt, first, (second.keys(), second.items(), second.pruned()));
+}
+
+/// A cursor before the first value of a key that has one.
+pub(super) fn cursor_at<'a, I: Unordered<Value = u64>>(
+    rt: &impl Abort,
+    index: &'a mut I,
+    key: &[u8],
+) -> IndexCursor<'a, I> {
+    let Ok(found) = index.get_mut(key) else {
+        panic!(rt; "get_mut of {key:?} is accepted")
+    };
+    let Some(cursor) = found else {
+        panic!(rt; "{key:?} has a value")
+    };
+    cursor
+}
+
+/// A key has no value for a cursor.
+pub(super) fn has_no_cursor<I: Unordered<Value = u64>>(rt: &impl Abort, index: &mut I, key: &[u8]) {
+    let Ok(found) = index.get_mut(key) else {
+        panic!(rt; "get_mut of {key:?} is accepted")
+    };
+    assert!(rt; found.is_none(), "{key:?} has no value");
+}
+
+/// A cursor's `insert` is accepted.
+pub(super) fn puts<C: Cursor<Value = u64>>(rt: &impl Abort, cursor: &mut C, value: u64)
+    requires { AllowsInsert (C.place cursor.old) }
+{
+    cursor.insert(value).expect(rt, "insert");
+}
+
+/// The cursor tells this state.
+pub(super) fn stands<C: Cursor<Value = u64>>(rt: &impl Abort, cursor: &C, state: CursorState) {
+    assert_eq!(rt; cursor.state(), state);
+}
+
+/// `next` gives this value, and the cursor is on it.
+pub(super) fn goes_to<C: Cursor<Value = u64>>(rt: &impl Abort, cursor: &mut C, value: u64)
+    ensures { IsOnValue (C.place cursor.new) }
+{
+    assert_eq!(rt; cursor.next().copied(), Some(value), "what next gives");
+    assert_eq!(rt; cursor.state(), CursorState::Active, "on {value}");
+}
+
+/// `next` gives no value, and the cursor is past the end.
+pub(super) fn ends<C: Cursor<Value = u64>>(rt: &impl Abort, cursor: &mut C)
+    ensures { AllowsInsert (C.place cursor.new) }
+{
+    assert!(rt; cursor.next().is_none(), "next gives no value");
+    assert_eq!(rt; cursor.state(), CursorState::Done);
+}
