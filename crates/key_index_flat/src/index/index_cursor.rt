@@ -6,7 +6,8 @@ ghost use Rattle.key_index_flat.specs.declared.index.cursor.CursorState.TheVaria
 use super::{Cursor, CursorState, Refused, Runs};
 
 /// The cursor of every index: a place in the list of one index key. While it lives, the index is changed through it alone; its drop
-/// does no work. It keeps the length of the list, so that `next` looks the key up once.
+/// does no work. It keeps the length of the list, so that `next` looks the key up once. So does each other call that reads or changes a
+/// value, and `find` and `retain` do for each value.
 #[derive(Drop)]
 pub struct IndexCursor<'a, I: Runs> {
     pub(crate) index: &'a mut I,
