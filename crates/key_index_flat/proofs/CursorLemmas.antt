@@ -19,7 +19,8 @@ use Rattle.key_index_flat.specs.declared.index.cursor.CursorState.{CursorState}
 use Rattle.key_index_flat.specs.declared.index.cursor.CursorState.TheVariants as state
 use Rattle.key_index_flat.specs.Cursor.{Place, IsOnValue, AllowsInsert, NeedNext, Active, Done, list_after_insert, next_place}
 use Rattle.key_index_flat.specs.CursorState.{place_of}
-use Rattle.key_index_flat.specs.Edits.{Changed, Chain}
+use Rattle.key_index_flat.specs.View.{run_at, with_run, with_pruned}
+use Rattle.key_index_flat.specs.Edits.{Chain}
 use Rattle.key_index_flat.specs.declared.index.index_cursor.IndexCursor.{IndexCursor}
 use Rattle.key_index_flat.specs.declared.index.runs.Runs as runs
 use Rattle.key_index_flat.specs.contracts.index.cursor.CursorState.{the_type}
@@ -28,6 +29,7 @@ use Rattle.std.specs.declared.cmp.Ord as ord
 use Rattle.std.specs.declared.cmp.PartialEq as eq
 use Rattle.std.specs.declared.cmp.PartialOrd as partial
 use denote.Enum.Bare.{sameb}
+use Rattle.key_index_flat.proofs.ViewLemmas.{same_content, same_pruned, same_slot, same_admitted}
 use Rattle.key_index_flat.proofs.ContentLemmas.{list_at-with_list, item_count-with_list, with_list-same, with_list-twice}
 
 module _ {K V : Type 0} {cmp : K → K → Ordering} (o : IsTotalOrder cmp) where
@@ -82,52 +84,45 @@ inserted l Done v h = λ i. take_all (length l) l (omega arith) i ++ v ∷ drop_
 module _ {I V K : Type 0} {r : runs.Ghosts I V K} {o : ord.Ghosts K} {e : eq.Ghosts K} {p : partial.Ghosts K} where
   pub edits_index : IsTotalOrder o.cmp → (old new : IndexCursor I V K r o e p) (l : List V) (taken pruned : ℕ)
       → new.index.ghost_name ≡ old.index.ghost_name → new.key ≡ old.key
-      → Changed r.content r.slot r.admitted r.pruned_count old.index.now new.index.now (with_list o.cmp (r.content old.index.now) old.key l) pruned
-      → pruned ≡ pruned_after (r.pruned_count old.index.now) taken
+      → r.view new.index.now ≡ record (with_run o.cmp (r.view old.index.now) old.key l) { pruned = pruned }
+      → pruned ≡ pruned_after (r.view old.index.now).pruned taken
       → r.edited old.index.now new.index.now
       → EditsIndex old new taken
-  edits_index total old new l taken pruned same_reference same_key changed count edited = record {
-    same_reference = same_reference;
-    same_key = same_key;
-    changed = record {
-      content_is = edit_at total _ _ _ _ changed.content_is ∙ ap (λ k. with_list o.cmp (r.content old.index.now) old.key (list_at o.cmp (r.content new.index.now) k)) (sym same_key);
-      pruned_is = changed.pruned_is ∙ count;
-      same_slots = changed.same_slots;
-      same_admitted = changed.same_admitted;
-    };
-    states = new.index.now ∷ [];
-    edited = (edited, refl);
-  }
+  edits_index total old new l taken pruned same_reference same_key changed count edited =
+      let list = ap (λ k. run_at o.cmp (r.view new.index.now) k) same_key ∙ list_at_edit total _ _ _ _ (same_content changed) in
+      record {
+        same_reference = same_reference;
+        same_key = same_key;
+        changed = changed ∙ (λ i. record (with_run o.cmp (r.view old.index.now) old.key (sym list i)) { pruned = count i });
+        states = new.index.now ∷ [];
+        edited = (edited, refl);
+      }
 
 module _ {I V K : Type 0} (r : runs.Ghosts I V K) (cmp : K → K → Ordering) where
   -- what some edits at a key left of an index: `taken` held values went
   pub record EditedTo (k : K) (old now : I) (taken : ℕ) : Type 0 where
-    pub changed : Changed r.content r.slot r.admitted r.pruned_count old now (with_list cmp (r.content old) k (list_at cmp (r.content now) k)) (pruned_after (r.pruned_count old) taken)
+    pub changed : r.view now ≡ with_pruned (with_run cmp (r.view old) k (run_at cmp (r.view now) k)) taken
     pub states : List I
     pub edited : Chain r.edited old states now
 
-  module _ (o : IsTotalOrder cmp) (exact : (x y : K) → cmp x y ≡ Equal → x ≡ y) (k : K) (old : I) (lawful : IsLawful cmp (r.content old)) where
+  module _ (o : IsTotalOrder cmp) (exact : (x y : K) → cmp x y ≡ Equal → x ≡ y) (k : K) (old : I) (lawful : IsLawful cmp (r.view old).content) where
     pub edited_none : (taken : ℕ) → taken ≡ 0 → EditedTo k old old taken
-    edited_none taken none = record {
-      changed = record {
-        content_is = same_edit o exact _ _ k lawful refl;
-        pruned_is = pruned_none _ ∙ ap (λ n. pruned_after (r.pruned_count old) n) (sym none);
-        same_slots = refl;
-        same_admitted = refl;
-      };
-      states = [];
-      edited = refl;
-    }
+    edited_none taken none =
+        let content = same_edit o exact (r.view old).content _ k lawful refl in
+        let pruned = pruned_none (r.view old).pruned ∙ ap (λ n. pruned_after (r.view old).pruned n) (sym none) in
+        record {
+          changed = λ i. record (r.view old) { content = content i; pruned = pruned i };
+          states = [];
+          edited = refl;
+        }
 
     pub edited_more : (now next : I) (key : K) (l : List V) (taken more : ℕ) → key ≡ k → taken + 1 ≡ more → EditedTo k old now taken
-        → Changed r.content r.slot r.admitted r.pruned_count now next (with_list cmp (r.content now) key l) (pruned_after (r.pruned_count now) 1) → r.edited now next → EditedTo k old next more
-    edited_more now next key l taken more at count was changed edited = record {
-      changed = record {
-        content_is = edit_more o exact _ _ _ k _ l lawful was.changed.content_is (changed.content_is ∙ ap (λ x. with_list cmp (r.content now) x l) at);
-        pruned_is = changed.pruned_is ∙ ap (λ n. pruned_after n 1) was.changed.pruned_is ∙ pruned_twice (r.pruned_count old) taken 1 ∙ ap (λ n. pruned_after (r.pruned_count old) n) count;
-        same_slots = changed.same_slots ∙ was.changed.same_slots;
-        same_admitted = changed.same_admitted ∙ was.changed.same_admitted;
-      };
-      states = was.states ++ next ∷ [];
-      edited = chain_more r.edited old now next was.states was.edited edited;
-    }
+        → r.view next ≡ with_pruned (with_run cmp (r.view now) key l) 1 → r.edited now next → EditedTo k old next more
+    edited_more now next key l taken more at count was changed edited =
+        let content = edit_more o exact (r.view old).content _ _ k _ l lawful (same_content was.changed) (same_content changed ∙ ap (λ x. with_list cmp (r.view now).content x l) at) in
+        let pruned = same_pruned changed ∙ ap (λ n. pruned_after n 1) (same_pruned was.changed) ∙ pruned_twice (r.view old).pruned taken 1 ∙ ap (λ n. pruned_after (r.view old).pruned n) count in
+        record {
+          changed = λ i. record { content = content i; pruned = pruned i; slot = (same_slot changed ∙ same_slot was.changed) i; admitted = (same_admitted changed ∙ same_admitted was.changed) i };
+          states = was.states ++ next ∷ [];
+          edited = chain_more r.edited old now next was.states was.edited edited;
+        }

@@ -11,3 +11,5 @@ pub mod CursorLemmas
 pub mod RunLemmas
 pub mod LeastLemmas
 pub mod FullKeyLemmas
+pub mod KeptLemmas
+pub mod ViewLemmas

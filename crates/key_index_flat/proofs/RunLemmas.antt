@@ -6,10 +6,10 @@
 --     RunTo                       the steps of an edit so far: run_first, run_more, run_all
 --     edit_done                   what the steps leave of the index that the cursor was made on
 --     filled, none_set            one flag for each step, and none set
---     held_stays                  a key that has a value is left as it is
+--     put_if_absent               a key that has a value is left as it is, and any other gets one
 --     room_more, room_length      places for outcomes
 --     LegalTo                     the commands so far: legal_first, legal_more, legal_all
-use Rattle.std.proofs.Common.{◌≡◌, ℕ, ◌+◌, suc, ◌-◌, ◌<◌, ◌^◌, map, replicate, Bool, true, false, if◌then◌else◌, not, IsTrue, List, [], ◌∷◌, ◌++◌, length, take, drop, drop-cons, get_or, set, zero-add, add-one, append_assoc, append-nil, length-set, refl, sym, ap, subst, ◌∙◌, arith}
+use Rattle.std.proofs.Common.{◌≡◌, ℕ, ◌+◌, zero, suc, ◌-◌, ◌<◌, ◌^◌, map, replicate, Bool, true, false, if◌then◌else◌, not, IsTrue, List, [], ◌∷◌, ◌++◌, length, take, drop, drop-cons, get_or, set, zero-add, add-one, append_assoc, append-nil, length-set, refl, sym, ap, subst, ◌∙◌, arith}
 use Rattle.std.proofs.Math.Seq.{take-suc}
 use Rattle.std.proofs.lemmas.List.{take_all, take_more_set, take-set}
 use Rattle.std.proofs.lemmas.Bool.{eqb-true}
@@ -20,9 +20,10 @@ use Rattle.std.specs.Cmp.{IsTotalOrder}
 use Rattle.std.specs.declared.cmp.Ord as ord
 use Rattle.std.specs.declared.cmp.PartialEq as eq
 use Rattle.std.specs.declared.cmp.PartialOrd as partial
-use Rattle.key_index_flat.specs.Content.{Content, item_count, list_at, with_list, IsLawful}
+use Rattle.key_index_flat.specs.Content.{item_count, list_at, with_list, IsLawful}
 use Rattle.key_index_flat.specs.Commands.{pruned_after}
-use Rattle.key_index_flat.specs.Edits.{Changed, Chain}
+use Rattle.key_index_flat.specs.View.{View, run_at, with_run, with_edit, with_pruned}
+use Rattle.key_index_flat.specs.Edits.{Chain}
 use Rattle.key_index_flat.specs.declared.index.index_cursor.IndexCursor.{IndexCursor}
 use Rattle.key_index_flat.specs.declared.index.runs.Runs as runs
 use Rattle.key_index_flat.specs.IndexCursor.{EditsIndex, StaysAt, cursor_list, cursor_place}
@@ -34,9 +35,10 @@ use Rattle.key_index_flat.specs.declared.index.command.Step.{Step}
 use Rattle.key_index_flat.specs.declared.index.command.Step.TheVariants as step
 use Rattle.key_index_flat.specs.Cursor.{NeedNext, AllowsInsert, list_after_insert, place_after_insert}
 use Rattle.key_index_flat.specs.CursorRun.{others_of, edited_at, Steps, RunsSteps}
-use Rattle.key_index_flat.specs.Run.{is_full, one_if_absent, Fold, CommandGives, IsLegal, Edited, StepGives, EditGives, HasRoom, HaveRoom}
+use Rattle.key_index_flat.specs.Run.{is_full, one_if_absent, CommandGives, IsLegal, Edited, StepGives, EditGives, HasRoom, HaveRoom}
 use Rattle.key_index_flat.proofs.ContentLemmas.{item_count-with_list, with_list-same, with_list-twice}
 use Rattle.key_index_flat.proofs.CursorLemmas.{pruned_none, pruned_twice}
+use Rattle.key_index_flat.proofs.ViewLemmas.{same_content, same_pruned, same_slot, same_admitted}
 
 pub not_full : (m n : ℕ) → m < 2 ^ 64 - 1 → m ≡ n → IsTrue (not (is_full n))
 not_full m n h e =
@@ -57,28 +59,25 @@ chain_append R a b c (m ∷ ms) ns g h = (g.0, chain_append R m b c ms ns g.1 h)
 
 module _ {I V K : Type 0} {r : runs.Ghosts I V K} {o : ord.Ghosts K} {e : eq.Ghosts K} {p : partial.Ghosts K} where
   pub same_list : (old new : IndexCursor I V K r o e p) → StaysAt old new → cursor_list new ≡ cursor_list old
-  same_list old new s = λ i. list_at o.cmp (r.content (s.1 i)) (s.2 i)
+  same_list old new s = λ i. list_at o.cmp (r.view (s.1 i)).content (s.2 i)
 
-  module _ (total : IsTotalOrder o.cmp) (exact : (x y : K) → o.cmp x y ≡ Equal → x ≡ y) (old : IndexCursor I V K r o e p) (lawful : IsLawful o.cmp (r.content old.index.now)) where
+  module _ (total : IsTotalOrder o.cmp) (exact : (x y : K) → o.cmp x y ≡ Equal → x ≡ y) (old : IndexCursor I V K r o e p) (lawful : IsLawful o.cmp (r.view old.index.now).content) where
     pub stays_edits : (new : IndexCursor I V K r o e p) → StaysAt old new → EditsIndex old new 0
     stays_edits new s = record {
       same_reference = s.0;
       same_key = s.2;
-      changed = record {
-        content_is = ap (λ x. r.content x) s.1 ∙ sym (with_list-same total exact (r.content old.index.now) old.key lawful) ∙ ap (λ l. with_list o.cmp (r.content old.index.now) old.key l) (sym (same_list old new s));
-        pruned_is = ap (λ x. r.pruned_count x) s.1 ∙ pruned_none _;
-        same_slots = ap (λ x. r.slot x) s.1;
-        same_admitted = ap (λ x. r.admitted x) s.1;
-      };
+      changed =
+          let content : (r.view old.index.now).content ≡ with_list o.cmp (r.view old.index.now).content old.key (cursor_list new) = sym (with_list-same total exact (r.view old.index.now).content old.key lawful) ∙ ap (λ l. with_list o.cmp (r.view old.index.now).content old.key l) (sym (same_list old new s)) in
+          ap (λ x. r.view x) s.1 ∙ (λ i. record (r.view old.index.now) { content = content i; pruned = pruned_none (r.view old.index.now).pruned i });
       states = [];
       edited = sym s.1;
     }
 
-    pub all_items : item_count (r.content old.index.now) ≡ others_of old + length (cursor_list old)
-    all_items = let n = item_count-with_list total (r.content old.index.now) old.key [] lawful in omega (arith, n)
+    pub all_items : item_count (r.view old.index.now).content ≡ others_of old + length (cursor_list old)
+    all_items = let n = item_count-with_list total (r.view old.index.now).content old.key [] lawful in omega (arith, n)
 
     pub insert_steps : {X : Type 0} (new : IndexCursor I V K r o e p) (v : V) (b : Bool) (answer : Result (Unit {0}) X) → b ≡ is_ok answer
-        → AllowsInsert (cursor_place old) → OnOk answer (item_count (r.content old.index.now) < 2 ^ 64 - 1)
+        → AllowsInsert (cursor_place old) → OnOk answer (item_count (r.view old.index.now).content < 2 ^ 64 - 1)
         → OnOk answer (cursor_list new ≡ list_after_insert (cursor_list old) (cursor_place old) v) → OnOk answer (cursor_place new ≡ place_after_insert (cursor_place old))
         → OnErr answer ((cursor_list new ≡ cursor_list old) × (cursor_place new ≡ cursor_place old)) → EditsIndex old new 0 → Steps (step.Insert v) b old new
     insert_steps new v b (Ok u) said allows room items place refused edits = subst (λ x. Steps (step.Insert v) x old new) (sym said) (record {
@@ -96,18 +95,16 @@ module _ {I V K : Type 0} {r : runs.Ghosts I V K} {o : ord.Ghosts K} {e : eq.Gho
     edits_more now new a b f g = record {
       same_reference = g.same_reference ∙ f.same_reference;
       same_key = g.same_key ∙ f.same_key;
-      changed = record {
-        content_is = g.changed.content_is ∙ (λ i. with_list o.cmp (f.changed.content_is i) (f.same_key i) (cursor_list new)) ∙ with_list-twice total exact (r.content old.index.now) old.key (cursor_list now) (cursor_list new) lawful;
-        pruned_is = g.changed.pruned_is ∙ ap (λ n. pruned_after n b) f.changed.pruned_is ∙ pruned_twice (r.pruned_count old.index.now) a b;
-        same_slots = g.changed.same_slots ∙ f.changed.same_slots;
-        same_admitted = g.changed.same_admitted ∙ f.changed.same_admitted;
-      };
+      changed =
+          let content = same_content g.changed ∙ (λ i. with_list o.cmp (same_content f.changed i) (f.same_key i) (cursor_list new)) ∙ with_list-twice total exact (r.view old.index.now).content old.key (cursor_list now) (cursor_list new) lawful in
+          let pruned = same_pruned g.changed ∙ ap (λ n. pruned_after n b) (same_pruned f.changed) ∙ pruned_twice (r.view old.index.now).pruned a b in
+          λ i. record { content = content i; pruned = pruned i; slot = (same_slot g.changed ∙ same_slot f.changed) i; admitted = (same_admitted g.changed ∙ same_admitted f.changed) i };
       states = f.states ++ g.states;
       edited = chain_append r.edited old.index.now now.index.now new.index.now f.states g.states f.edited g.edited;
     }
 
     pub same_others : (now : IndexCursor I V K r o e p) (a : ℕ) → EditsIndex old now a → others_of now ≡ others_of old
-    same_others now a f = ap (λ c. item_count c) ((λ i. with_list o.cmp (f.changed.content_is i) (f.same_key i) []) ∙ with_list-twice total exact (r.content old.index.now) old.key (cursor_list now) [] lawful)
+    same_others now a f = ap (λ c. item_count c) ((λ i. with_list o.cmp (same_content f.changed i) (f.same_key i) []) ∙ with_list-twice total exact (r.view old.index.now).content old.key (cursor_list now) [] lawful)
 
   -- the steps before, with their flags, whatever becomes of those that are left
   pub record RunTo (steps rest : List (Step V)) (at : ℕ) (flags : List Bool) (start now : IndexCursor I V K r o e p) : Type 0 where
@@ -116,7 +113,7 @@ module _ {I V K : Type 0} {r : runs.Ghosts I V K} {o : ord.Ghosts K} {e : eq.Gho
     pub room : length flags ≡ at + length rest
     pub gives : (bs : List Bool) (t : Edited V) → EditGives (others_of start) rest bs (edited_at now taken) t → EditGives (others_of start) steps (take at flags ++ bs) (edited_at start 0) t
 
-  module _ (total : IsTotalOrder o.cmp) (exact : (x y : K) → o.cmp x y ≡ Equal → x ≡ y) (start : IndexCursor I V K r o e p) (lawful : IsLawful o.cmp (r.content start.index.now)) where
+  module _ (total : IsTotalOrder o.cmp) (exact : (x y : K) → o.cmp x y ≡ Equal → x ≡ y) (start : IndexCursor I V K r o e p) (lawful : IsLawful o.cmp (r.view start.index.now).content) where
     pub run_first : (steps rest : List (Step V)) (flags : List Bool) → rest ≡ steps → length flags ≡ length steps → RunTo steps rest 0 flags start start
     run_first steps rest flags same long = record {
       taken = 0;
@@ -159,28 +156,23 @@ no_items (x ∷ xs) n e h = absurd (omega (arith, e, h))
 module _ {I V K : Type 0} {r : runs.Ghosts I V K} {o : ord.Ghosts K} {e : eq.Ghosts K} {p : partial.Ghosts K} where
   -- what the steps leave of an index, as the cursor found it
   pub edit_done : (steps : List (Step V)) (flags : List Bool) (old new : IndexCursor I V K r o e p) (x y : I) (k : K) → old.index.now ≡ x → new.index.now ≡ y → old.key ≡ k → cursor_place old ≡ NeedNext 0 → RunsSteps steps flags old new
-      → (t : Edited V) × EditGives (item_count (with_list o.cmp (r.content x) k [])) steps flags (record { items = list_at o.cmp (r.content x) k; place = NeedNext 0; taken = 0 }) t
-      × Changed r.content r.slot r.admitted r.pruned_count x y (with_list o.cmp (r.content x) k t.items) (pruned_after (r.pruned_count x) t.taken)
+      → (t : Edited V) × EditGives (item_count (with_list o.cmp (r.view x).content k [])) steps flags (record { items = run_at o.cmp (r.view x) k; place = NeedNext 0; taken = 0 }) t
+      × (r.view y ≡ with_pruned (with_run o.cmp (r.view x) k t.items) t.taken)
   edit_done steps flags old new x y k from into key place done =
       let P : Edited V → ℕ → Type 0 = λ s n. EditGives n steps flags s (edited_at new done.taken) in
-      let start : edited_at old 0 ≡ record { items = list_at o.cmp (r.content x) k; place = NeedNext 0; taken = 0 } = λ i. record { items = list_at o.cmp (r.content (from i)) (key i); place = place i; taken = 0 } in
-      let others : others_of old ≡ item_count (with_list o.cmp (r.content x) k []) = λ i. item_count (with_list o.cmp (r.content (from i)) (key i) []) in
+      let start : edited_at old 0 ≡ record { items = run_at o.cmp (r.view x) k; place = NeedNext 0; taken = 0 } = λ i. record { items = run_at o.cmp (r.view (from i)) (key i); place = place i; taken = 0 } in
+      let others : others_of old ≡ item_count (with_list o.cmp (r.view x).content k []) = λ i. item_count (with_list o.cmp (r.view (from i)).content (key i) []) in
       let changed = done.edits.changed in (
         edited_at new done.taken,
-        subst (λ n. P (record { items = list_at o.cmp (r.content x) k; place = NeedNext 0; taken = 0 }) n) others (subst (λ s. P s (others_of old)) start done.gives),
-        record {
-          content_is = ap (λ z. r.content z) (sym into) ∙ changed.content_is ∙ (λ i. with_list o.cmp (r.content (from i)) (key i) (cursor_list new));
-          pruned_is = ap (λ z. r.pruned_count z) (sym into) ∙ changed.pruned_is ∙ ap (λ z. pruned_after (r.pruned_count z) done.taken) from;
-          same_slots = ap (λ z. r.slot z) (sym into) ∙ changed.same_slots ∙ ap (λ z. r.slot z) from;
-          same_admitted = ap (λ z. r.admitted z) (sym into) ∙ changed.same_admitted ∙ ap (λ z. r.admitted z) from;
-        },
+        subst (λ n. P (record { items = run_at o.cmp (r.view x) k; place = NeedNext 0; taken = 0 }) n) others (subst (λ s. P s (others_of old)) start done.gives),
+        ap (λ z. r.view z) (sym into) ∙ changed ∙ (λ i. with_pruned (with_run o.cmp (r.view (from i)) (key i) (cursor_list new)) done.taken),
       )
 
 pub filled : {E : Type 0} (answer : Result (Unit {0}) E) (old new : List Bool) (n len : ℕ) → false ≡ is_err answer → new ≡ (if is_ok answer then take n old ++ replicate (n - len) false else old) → old ≡ [] → len ≡ 0 → new ≡ replicate n false
-filled (Ok u) old new n len said is none zero =
+filled (Ok u) old new n len said is none sized =
     let all : n - 0 ≡ n = omega arith in
-    is ∙ (λ i. take n (none i) ++ replicate (n - zero i) false) ∙ ap (λ l. l ++ replicate (n - 0) false) (take_all n [] (omega arith)) ∙ ap (λ k. replicate k false) all
-filled (Err x) old new n len said is none zero = absurd (cc said)
+    is ∙ (λ i. take n (none i) ++ replicate (n - sized i) false) ∙ ap (λ l. l ++ replicate (n - 0) false) (take_all n [] (omega arith)) ∙ ap (λ k. replicate k false) all
+filled (Err x) old new n len said is none sized = absurd (cc said)
 
 pub none_set : {V : Type 0} (steps : List V) → replicate (length steps) false ≡ map (λ x. false) steps
 none_set [] = refl
@@ -191,8 +183,15 @@ module _ {K V : Type 0} {cmp : K → K → Ordering} (total : IsTotalOrder cmp) 
   kept_list [] v h = absurd (omega (arith, h))
   kept_list (x ∷ xs) v h = refl
 
-  pub held_stays : (c d : Content K V) (k : K) (v : V) → IsLawful cmp c → 0 < length (list_at cmp c k) → d ≡ c → d ≡ with_list cmp c k (one_if_absent v (list_at cmp c k))
-  held_stays c d k v lawful held same = same ∙ sym (with_list-same total exact c k lawful) ∙ ap (λ l. with_list cmp c k l) (sym (kept_list (list_at cmp c k) v held))
+  one_list : (m : List V) (v : V) → length m ≡ 0 → one_if_absent v m ≡ v ∷ []
+  one_list [] v h = refl
+  one_list (x ∷ xs) v h = absurd (omega (arith, h))
+
+  pub put_if_absent : (s t : View K V) (k : K) (v : V) (n : ℕ) → IsLawful cmp s.content → n ≡ length (run_at cmp s k) → (0 < n → t ≡ s) → (n ≡ 0 → t ≡ with_run cmp s k (v ∷ [])) → t ≡ with_edit cmp s k (one_if_absent v)
+  put_if_absent s t k v zero lawful len found inserted = inserted refl ∙ ap (λ l. with_run cmp s k l) (sym (one_list (run_at cmp s k) v (sym len)))
+  put_if_absent s t k v (suc n) lawful len found inserted =
+      let content = sym (with_list-same total exact s.content k lawful) ∙ ap (λ l. with_list cmp s.content k l) (sym (kept_list (run_at cmp s k) v (omega (arith, len)))) in
+      found (omega arith) ∙ (λ i. record s { content = content i })
 
 module _ {V F : Type 0} where
   pub room_more : (cs : List (Command V F)) (os : List Outcome) (c : Command V F) (x : Outcome) → HaveRoom cs os → HasRoom c x → HaveRoom (cs ++ c ∷ []) (os ++ x ∷ [])
@@ -218,22 +217,22 @@ take_next xs i x h is = let next : suc i ≡ i + 1 = omega arith in (λ t. take 
 pub drop_set : {A : Type 0} (xs : List A) (i : ℕ) (x : A) → drop (i + 1) (set xs i x) ≡ drop (i + 1) xs
 drop_set xs i x = grind (arith, common_steps)
 
-module _ {K V F : Type 0} (cmp : K → K → Ordering) (slot : List ℕ → K) (first : Bool) (ask : F → V → Bool → F → Type 0) where
+module _ {K V F : Type 0} (cmp : K → K → Ordering) (first : Bool) (ask : F → V → Bool → F → Type 0) where
   -- the commands before, with their outcomes, whatever becomes of those that are left
-  pub record LegalTo (commands rest : List (Command V F)) (at : ℕ) (outcomes : List Outcome) (start now : Fold K V) : Type 0 where
+  pub record LegalTo (commands rest : List (Command V F)) (at : ℕ) (outcomes : List Outcome) (start now : View K V) : Type 0 where
     pub room : HaveRoom rest (drop at outcomes)
     pub long : length outcomes ≡ at + length rest
-    pub gives : (os : List Outcome) (t : Fold K V) → IsLegal cmp slot first ask rest os now t → IsLegal cmp slot first ask commands (take at outcomes ++ os) start t
+    pub gives : (os : List Outcome) (t : View K V) → IsLegal cmp first ask rest os now t → IsLegal cmp first ask commands (take at outcomes ++ os) start t
 
-  pub legal_first : (commands rest : List (Command V F)) (outcomes : List Outcome) (start : Fold K V) → rest ≡ commands → HaveRoom commands outcomes → LegalTo commands rest 0 outcomes start start
+  pub legal_first : (commands rest : List (Command V F)) (outcomes : List Outcome) (start : View K V) → rest ≡ commands → HaveRoom commands outcomes → LegalTo commands rest 0 outcomes start start
   legal_first commands rest outcomes start same room = record {
     room = subst (λ l. HaveRoom l outcomes) (sym same) room;
     long = room_length commands outcomes room ∙ ap (λ l. length l) (sym same) ∙ sym (zero-add (length rest));
-    gives = λ os t h. subst (λ l. IsLegal cmp slot first ask l os start t) same h;
+    gives = λ os t h. subst (λ l. IsLegal cmp first ask l os start t) same h;
   }
 
-  pub legal_more : (commands rest left : List (Command V F)) (c : Command V F) (at : ℕ) (outcomes : List Outcome) (empty o : Outcome) (start now next : Fold K V)
-      → rest ≡ c ∷ left → CommandGives cmp slot first ask c o now next → LegalTo commands rest at outcomes start now → LegalTo commands left (at + 1) (set (set outcomes at empty) at o) start next
+  pub legal_more : (commands rest left : List (Command V F)) (c : Command V F) (at : ℕ) (outcomes : List Outcome) (empty o : Outcome) (start now next : View K V)
+      → rest ≡ c ∷ left → CommandGives cmp first ask c o now next → LegalTo commands rest at outcomes start now → LegalTo commands left (at + 1) (set (set outcomes at empty) at o) start next
   legal_more commands rest left c at outcomes empty o start now next split this was =
       let more : length rest ≡ length left + 1 = ap (λ l. length l) split ∙ sym (add-one (length left)) in
       let long = was.long in
@@ -248,13 +247,13 @@ module _ {K V F : Type 0} (cmp : K → K → Ordering) (slot : List ℕ → K) (
         room = subst (λ l. HaveRoom left l) (sym (drop_set (set outcomes at empty) at o ∙ drop_set outcomes at empty)) old.1;
         long = omega (arith, more, long, same, again);
         gives = λ os t h.
-            let all = was.gives (o ∷ os) t (subst (λ l. IsLegal cmp slot first ask l (o ∷ os) now t) (sym split) (next, this, h)) in
-            subst (λ l. IsLegal cmp slot first ask commands l start t) (sym (append_assoc (take at outcomes) (o ∷ []) os) ∙ ap (λ l. l ++ os) (sym front)) all;
+            let all = was.gives (o ∷ os) t (subst (λ l. IsLegal cmp first ask l (o ∷ os) now t) (sym split) (next, this, h)) in
+            subst (λ l. IsLegal cmp first ask commands l start t) (sym (append_assoc (take at outcomes) (o ∷ []) os) ∙ ap (λ l. l ++ os) (sym front)) all;
       }
 
-  pub legal_all : (commands rest : List (Command V F)) (at : ℕ) (outcomes : List Outcome) (start now : Fold K V) → rest ≡ [] → LegalTo commands rest at outcomes start now → IsLegal cmp slot first ask commands outcomes start now
+  pub legal_all : (commands rest : List (Command V F)) (at : ℕ) (outcomes : List Outcome) (start now : View K V) → rest ≡ [] → LegalTo commands rest at outcomes start now → IsLegal cmp first ask commands outcomes start now
   legal_all commands rest at outcomes start now none was =
       let more : length rest ≡ 0 = ap (λ l. length l) none in
       let long = was.long in
-      subst (λ l. IsLegal cmp slot first ask commands l start now) (append-nil (take at outcomes) ∙ take_all at outcomes (omega (arith, more, long)))
-      (was.gives [] now (subst (λ l. IsLegal cmp slot first ask l [] now now) (sym none) (refl, refl)))
+      subst (λ l. IsLegal cmp first ask commands l start now) (append-nil (take at outcomes) ∙ take_all at outcomes (omega (arith, more, long)))
+      (was.gives [] now (subst (λ l. IsLegal cmp first ask l [] now now) (sym none) refl))

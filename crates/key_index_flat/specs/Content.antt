@@ -35,5 +35,9 @@ module _ {K V : Type 0} (cmp : K → K → Ordering) where
   with_list c k [] = where_key cmp (λ x. not (eq_by_cmp cmp k x)) c
   with_list c k (v ∷ vs) = put cmp k (v ∷ vs) c
 
+  -- with what f makes of the list at a key
+  abbrev pub with_list_by : Content K V → K → (List V → List V) → Content K V
+  with_list_by c k f = with_list c k (f (list_at c k))
+
   abbrev pub IsLawful : Content K V → Type 0
   IsLawful c = T (is_sorted cmp c) × T (all_filled c)

@@ -19,7 +19,7 @@ module _ {I V K : Type 0} {r : runs.Ghosts I V K} {o : ord.Ghosts K} {e : eq.Gho
   edited_at c n = record { items = cursor_list c; place = cursor_place c; taken = n }
 
   abbrev pub others_of : IndexCursor I V K r o e p → ℕ
-  others_of c = item_count (with_list o.cmp (r.content c.index.now) c.key [])
+  others_of c = item_count (with_list o.cmp (r.view c.index.now).content c.key [])
 
   pub record Steps (step : Step V) (flag : Bool) (old new : IndexCursor I V K r o e p) : Type 0 where
     pub taken : ℕ

@@ -13,6 +13,7 @@ use Rattle.std.specs.declared.cmp.Ordering.TheVariants.{Less}
 use Rattle.std.specs.Ordering.{is_lt, nat_cmp, on, flip_args}
 use Rattle.std.specs.Cmp.Lexicographic.{slice_cmp}
 use Rattle.std.specs.BTreeMap.Range.{IsLeBy}
+use Rattle.key_index_flat.specs.View.{View}
 use Rattle.key_index_flat.specs.Content.{Content, list_at}
 use Rattle.key_index_flat.specs.Neighbours.{next_list, prev_list}
 
@@ -65,3 +66,13 @@ module _ {V : Type 0} (full_key : V → List ℕ) where
 
     abbrev pub IsPrevCandidate : Content K V → K → List ℕ → Option V → Type 0
     IsPrevCandidate c k a o = IsLeast (flip_args cmp_keys) (or_list (below a (list_at cmp c k)) (unflagged (prev_list cmp c k))) o
+
+    -- the same of an index as it is seen, at a key
+    abbrev pub IsFiledIn : View K V → Type 0
+    IsFiledIn s = IsFiled s.slot s.content
+
+    abbrev pub IsNextIn : View K V → List ℕ → Option V → Type 0
+    IsNextIn s b o = IsNextCandidate s.content (s.slot b) b o
+
+    abbrev pub IsPrevIn : View K V → List ℕ → Option V → Type 0
+    IsPrevIn s b o = IsPrevCandidate s.content (s.slot b) b o

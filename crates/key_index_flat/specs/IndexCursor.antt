@@ -5,16 +5,15 @@
 --     EditsIndex                    it refers to the same index, which now holds the cursor's list; `taken` held values were taken out;
 --                                   the rest is left by one edit after another
 use Rattle.std.specs.Prelude.{◌≡◌, ℕ, List}
-use Rattle.std.specs.Borrow.{MutBor}
+use Rattle.std.specs.Borrow.{GName, MutBor}
 use Rattle.std.specs.declared.cmp.Ord as ord
 use Rattle.std.specs.declared.cmp.PartialEq as eq
 use Rattle.std.specs.declared.cmp.PartialOrd as partial
 use Rattle.key_index_flat.specs.declared.index.index_cursor.IndexCursor.{IndexCursor}
 use Rattle.key_index_flat.specs.declared.index.runs.Runs as runs
-use Rattle.key_index_flat.specs.Content.{list_at, with_list}
-use Rattle.key_index_flat.specs.Commands.{pruned_after}
-use Rattle.key_index_flat.specs.Edits.{Changed, Chain}
-use Rattle.key_index_flat.specs.Cursor.{Place}
+use Rattle.key_index_flat.specs.View.{run_at, with_run, with_pruned}
+use Rattle.key_index_flat.specs.Edits.{Chain}
+use Rattle.key_index_flat.specs.Cursor.{Place, NeedNext}
 use Rattle.key_index_flat.specs.CursorState.{place_of}
 
 module _ {I V K : Type 0} {r : runs.Ghosts I V K} {o : ord.Ghosts K} {e : eq.Ghosts K} {p : partial.Ghosts K} where
@@ -25,10 +24,18 @@ module _ {I V K : Type 0} {r : runs.Ghosts I V K} {o : ord.Ghosts K} {e : eq.Gho
   cursor_key c = c.key
 
   abbrev pub cursor_list : IndexCursor I V K r o e p → List V
-  cursor_list c = list_at o.cmp (r.content c.index.now) c.key
+  cursor_list c = run_at o.cmp (r.view c.index.now) c.key
 
   abbrev pub cursor_place : IndexCursor I V K r o e p → Place
   cursor_place c = place_of c.state c.place
+
+  -- the name of the reference that the cursor holds
+  abbrev pub cursor_name : IndexCursor I V K r o e p → GName
+  cursor_name c = c.index.ghost_name
+
+  -- before the first value of an index key
+  abbrev pub StartsAt : IndexCursor I V K r o e p → K → Type 0
+  StartsAt c k = (c.key ≡ k) × (cursor_place c ≡ NeedNext 0)
 
   abbrev pub StaysAt : IndexCursor I V K r o e p → IndexCursor I V K r o e p → Type 0
   StaysAt old new = (new.index.ghost_name ≡ old.index.ghost_name) × (new.index.now ≡ old.index.now) × (new.key ≡ old.key)
@@ -36,6 +43,6 @@ module _ {I V K : Type 0} {r : runs.Ghosts I V K} {o : ord.Ghosts K} {e : eq.Gho
   pub record EditsIndex (old new : IndexCursor I V K r o e p) (taken : ℕ) : Type 0 where
     pub same_reference : new.index.ghost_name ≡ old.index.ghost_name
     pub same_key : new.key ≡ old.key
-    pub changed : Changed r.content r.slot r.admitted r.pruned_count old.index.now new.index.now (with_list o.cmp (r.content old.index.now) old.key (cursor_list new)) (pruned_after (r.pruned_count old.index.now) taken)
+    pub changed : r.view new.index.now ≡ with_pruned (with_run o.cmp (r.view old.index.now) old.key (cursor_list new)) taken
     pub states : List I
     pub edited : Chain r.edited old.index.now states new.index.now

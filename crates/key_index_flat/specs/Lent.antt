@@ -4,12 +4,10 @@
 --     NoneOrErr          P where there is no cursor, and Q where there is a refusal
 --     RestsUnlessFound   the index s is behind the cursor in r, and ends as the last value there. With no cursor it ends as some n with P n,
 --                        and at a refusal as some n with Q n
---     index_of, held_of, as_left    the reference that a found cursor holds, whether there is one, and it as a clause sees it at exit
-use Rattle.std.specs.Prelude.{Result, Ok, Err, Option, Some, None, Bool, true, false}
+use Rattle.std.specs.Prelude.{Result, Ok, Err, Option, Some, None}
 use Rattle.std.specs.Borrow.{GName, MutBor, Fml, RattleType, follows_so}
 use mathlib.Core.Option as maybe
 use mathlib.Core.Path.{◌≡◌}
-use mathlib.Core.Logic.{◌⊎◌, inl, inr}
 
 abbrev pub nested : {C F : Type 0} → Result C (Option F) → Result (Option C) F
 nested (Ok c) = Ok (Some c)
@@ -33,17 +31,3 @@ cursor_name name (Err f) = maybe.none
 
 abbrev pub RestsUnlessFound : (R : RattleType) → MutBor R.Denot → {C F : Type 0} → (C → GName) → Result (Option C) F → (R.Denot → Type 0) → (R.Denot → Type 0) → Fml
 RestsUnlessFound R s name r P Q = follows_so R R s.ghost_name (cursor_name name r) (λ x n. OnFound r (λ c. n ≡ x)) (λ n. NoneOrErr r (P n) (Q n))
-
-abbrev pub index_of : {I C F : Type 0} → (C → MutBor I) → Result (Option C) F → Result (MutBor I) (Option F)
-index_of reference (Ok (Some c)) = Ok (reference c)
-index_of reference (Ok None) = Err None
-index_of reference (Err f) = Err (Some f)
-
-abbrev pub held_of : {C F : Type 0} → Result C (Option F) → Result Bool F
-held_of (Ok c) = Ok true
-held_of (Err None) = Ok false
-held_of (Err (Some f)) = Err f
-
-abbrev pub as_left : {I F : Type 0} → Result (MutBor I) F → (MutBor I × Unit {0}) ⊎ ((F × Unit {0}) ⊎ ⊥)
-as_left (Ok r) = inl (r, tt)
-as_left (Err f) = inr (inl (f, tt))

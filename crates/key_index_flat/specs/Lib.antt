@@ -4,9 +4,11 @@ pub mod Commands
 pub mod Chains
 pub mod Fault
 pub mod Storage
+pub mod Kept
 pub mod Laws
 pub mod Cursor
 pub mod CursorState
+pub mod View
 pub mod Edits
 pub mod IndexCursor
 pub mod Lent
@@ -14,5 +16,6 @@ pub mod Start
 pub mod Run
 pub mod CursorRun
 pub mod Neighbours
+pub mod Held
 pub mod ByteOrder
 pub mod FullKeys

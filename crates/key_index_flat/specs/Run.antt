@@ -1,12 +1,11 @@
 -- What a list of commands leaves, by its outcomes: which outcomes are legal, and the content and the count of pruned values at the end.
---     Fold          content and count of pruned values
 --     StepGives     one step of an edit: its flag, and the list, the place and the number of values taken out before and after it
 --     EditGives     the steps of an edit in turn
---     CommandGives  one command with its outcome: the fold before and after it
+--     CommandGives  one command with its outcome: the view before and after it
 --     IsLegal       commands with their outcomes, one after another
+--     HasTest       P of the test of a command that has one; HaveTests: of each in a list
 --     HasRoom       a place for the outcome of a command; HaveRoom: for those of a list
 use Rattle.std.specs.Prelude.{◌≡◌, ℕ, ◌+◌, ◌-◌, ◌^◌, Bool, true, false, not, nat_eq, IsTrue, List, [], ◌∷◌, length, map}
-use Rattle.std.specs.List.Retain.{IsFiltered}
 use Rattle.std.specs.declared.cmp.Ordering.{Ordering}
 use Rattle.key_index_flat.specs.declared.index.Fault.TheVariants.{Memory}
 use Rattle.key_index_flat.specs.declared.index.command.Command.{Command}
@@ -15,9 +14,9 @@ use Rattle.key_index_flat.specs.declared.index.command.Outcome.{Outcome}
 use Rattle.key_index_flat.specs.declared.index.command.Outcome.TheVariants as outcome
 use Rattle.key_index_flat.specs.declared.index.command.Step.{Step}
 use Rattle.key_index_flat.specs.declared.index.command.Step.TheVariants as step
-use Rattle.key_index_flat.specs.Content.{Content, list_at, with_list, item_count}
+use Rattle.key_index_flat.specs.Content.{with_list, item_count}
 use Rattle.key_index_flat.specs.Fault.{growth_fault}
-use Rattle.key_index_flat.specs.Commands.{after_insert, after_remove, pruned_after}
+use Rattle.key_index_flat.specs.View.{View, items_in, run_at, run_of, with_run, with_edit, with_pruned, after_insert, after_remove, RetainsAt}
 use Rattle.key_index_flat.specs.Cursor.{Place, NeedNext, IsOnValue, AllowsInsert, after_next, list_after_insert, place_after_insert, list_after_update, list_after_delete, place_after_delete}
 
 -- whether no value has room, at so many
@@ -54,60 +53,60 @@ EditGives others [] (b ∷ bs) s t = ⊥
 EditGives others (x ∷ xs) [] s t = ⊥
 EditGives {V = V} others (x ∷ xs) (b ∷ bs) s t = (m : Edited V) × StepGives others x b s m × EditGives others xs bs m t
 
--- a content, and how many held values were ever taken out
-pub record Fold (K V : Type 0) : Type 0 where
-  pub content : Content K V
-  pub pruned : ℕ
-
--- the fold at an index
-abbrev pub fold_of : {I K V : Type 0} → (I → Content K V) → (I → ℕ) → I → Fold K V
-fold_of content pruned index = record { content = content index; pruned = pruned index }
-
-abbrev pub Stays : {K V : Type 0} → Fold K V → Fold K V → Type 0
-Stays s t = (t.content ≡ s.content) × (t.pruned ≡ s.pruned)
-
-abbrev pub Becomes : {K V : Type 0} → Fold K V → Content K V → ℕ → Type 0
-Becomes t c p = (t.content ≡ c) × (t.pruned ≡ p)
-
 -- the list of a key that has no value
 abbrev pub one_if_absent : {V : Type 0} → V → List V → List V
 one_if_absent v [] = v ∷ []
 one_if_absent v (x ∷ xs) = x ∷ xs
 
+-- the edit of the list at an index key
+abbrev pub EditAt : {K V : Type 0} → (K → K → Ordering) → K → List (Step V) → List Bool → View K V → View K V → Type 0
+EditAt {V = V} cmp k steps flags s t =
+    (e : Edited V) × EditGives (item_count (with_list cmp s.content k [])) steps flags (record { items = run_at cmp s k; place = NeedNext 0; taken = 0 }) e
+    × (t ≡ with_pruned (with_run cmp s k e.items) e.taken)
+
 -- a key that has no value is not edited
-abbrev pub EditOf : {K V : Type 0} → (K → K → Ordering) → K → List V → List (Step V) → List Bool → Fold K V → Fold K V → Type 0
-EditOf cmp k [] steps flags s t = (flags ≡ map (λ x. false) steps) × Stays s t
+abbrev pub EditOf : {K V : Type 0} → (K → K → Ordering) → K → List V → List (Step V) → List Bool → View K V → View K V → Type 0
+EditOf cmp k [] steps flags s t = (flags ≡ map (λ x. false) steps) × (t ≡ s)
 EditOf {V = V} cmp k (v ∷ vs) steps flags s t =
     (e : Edited V) × EditGives (item_count (with_list cmp s.content k [])) steps flags (record { items = v ∷ vs; place = NeedNext 0; taken = 0 }) e
-    × Becomes t (with_list cmp s.content k e.items) (pruned_after s.pruned e.taken)
+    × (t ≡ with_pruned (with_run cmp s k e.items) e.taken)
 
--- slot: the index key of a key's bytes; first: whether a new value goes in front; ask: one question of a command's test on a value
-module _ {K V F : Type 0} (cmp : K → K → Ordering) (slot : List ℕ → K) (first : Bool) (ask : F → V → Bool → F → Type 0) where
-  abbrev pub CommandGives : Command V F → Outcome → Fold K V → Fold K V → Type 0
-  CommandGives (command.Insert key v) outcome.Done s t = IsTrue (not (is_full (item_count s.content))) × Becomes t (after_insert cmp first s.content (slot key.items) v) s.pruned
-  CommandGives (command.Insert key v) (outcome.Refused f) s t = (f ≡ growth_fault (item_count s.content)) × Stays s t
+-- first: whether a new value goes in front; ask: one question of a command's test on a value
+module _ {K V F : Type 0} (cmp : K → K → Ordering) (first : Bool) (ask : F → V → Bool → F → Type 0) where
+  abbrev pub CommandGives : Command V F → Outcome → View K V → View K V → Type 0
+  CommandGives (command.Insert key v) outcome.Done s t = IsTrue (not (is_full (items_in s))) × (t ≡ after_insert cmp first s key.items v)
+  CommandGives (command.Insert key v) (outcome.Refused f) s t = (f ≡ growth_fault (items_in s)) × (t ≡ s)
   CommandGives (command.Insert key v) (outcome.Edited flags) s t = ⊥
-  CommandGives (command.Retain key test) outcome.Done s t =
-      (kept : List V) × IsFiltered ask test (list_at cmp s.content (slot key.items)) kept
-      × Becomes t (with_list cmp s.content (slot key.items) kept) (pruned_after s.pruned (length (list_at cmp s.content (slot key.items)) - length kept))
-  CommandGives (command.Retain key test) (outcome.Refused f) s t = (f ≡ Memory) × Stays s t
+  CommandGives (command.Retain key test) outcome.Done s t = RetainsAt cmp ask test s key.items t
+  CommandGives (command.Retain key test) (outcome.Refused f) s t = (f ≡ Memory) × (t ≡ s)
   CommandGives (command.Retain key test) (outcome.Edited flags) s t = ⊥
-  CommandGives (command.Remove key) outcome.Done s t = Becomes t (after_remove cmp s.content (slot key.items)) (pruned_after s.pruned (length (list_at cmp s.content (slot key.items))))
-  CommandGives (command.Remove key) (outcome.Refused f) s t = (f ≡ Memory) × Stays s t
+  CommandGives (command.Remove key) outcome.Done s t = t ≡ after_remove cmp s key.items
+  CommandGives (command.Remove key) (outcome.Refused f) s t = (f ≡ Memory) × (t ≡ s)
   CommandGives (command.Remove key) (outcome.Edited flags) s t = ⊥
-  CommandGives (command.GetOrInsert key v) outcome.Done s t =
-      IsTrue (not (is_full (item_count s.content))) × Becomes t (with_list cmp s.content (slot key.items) (one_if_absent v (list_at cmp s.content (slot key.items)))) s.pruned
-  CommandGives (command.GetOrInsert key v) (outcome.Refused f) s t = (f ≡ growth_fault (item_count s.content)) × Stays s t
+  CommandGives (command.GetOrInsert key v) outcome.Done s t = IsTrue (not (is_full (items_in s))) × (t ≡ with_edit cmp s (s.slot key.items) (one_if_absent v))
+  CommandGives (command.GetOrInsert key v) (outcome.Refused f) s t = (f ≡ growth_fault (items_in s)) × (t ≡ s)
   CommandGives (command.GetOrInsert key v) (outcome.Edited flags) s t = ⊥
   CommandGives (command.Edit key steps) outcome.Done s t = ⊥
-  CommandGives (command.Edit key steps) (outcome.Refused f) s t = (f ≡ Memory) × Stays s t
-  CommandGives (command.Edit key steps) (outcome.Edited flags) s t = EditOf cmp (slot key.items) (list_at cmp s.content (slot key.items)) steps.items flags.items s t
+  CommandGives (command.Edit key steps) (outcome.Refused f) s t = (f ≡ Memory) × (t ≡ s)
+  CommandGives (command.Edit key steps) (outcome.Edited flags) s t = EditOf cmp (s.slot key.items) (run_of cmp s key.items) steps.items flags.items s t
 
-  abbrev pub IsLegal : List (Command V F) → List Outcome → Fold K V → Fold K V → Type 0
-  IsLegal [] [] s t = Stays s t
+  abbrev pub IsLegal : List (Command V F) → List Outcome → View K V → View K V → Type 0
+  IsLegal [] [] s t = t ≡ s
   IsLegal [] (o ∷ os) s t = ⊥
   IsLegal (c ∷ cs) [] s t = ⊥
-  IsLegal (c ∷ cs) (o ∷ os) s t = (m : Fold K V) × CommandGives c o s m × IsLegal cs os m t
+  IsLegal (c ∷ cs) (o ∷ os) s t = (m : View K V) × CommandGives c o s m × IsLegal cs os m t
+
+module _ {V F : Type 0} (P : F → Type 0) where
+  abbrev pub HasTest : Command V F → Type 0
+  HasTest (command.Insert key v) = Unit {0}
+  HasTest (command.Retain key test) = P test
+  HasTest (command.Remove key) = Unit {0}
+  HasTest (command.GetOrInsert key v) = Unit {0}
+  HasTest (command.Edit key steps) = Unit {0}
+
+  abbrev pub HaveTests : List (Command V F) → Type 0
+  HaveTests [] = Unit {0}
+  HaveTests (c ∷ cs) = HasTest c × HaveTests cs
 
 module _ {V F : Type 0} where
   -- a place for the outcome of a command: for an edit with a flag of each step

@@ -26,7 +26,7 @@ pub use interface::{Factory, Unordered};
 pub use neighbours::Ordered;
 pub use resolve::{Keyed, resolve_next, resolve_prev};
 pub use runs::Runs;
-pub use search::{Search, reach};
+pub use search::Search;
 pub use values::Values;
 
 /// Why a call was refused. A refused call changes no content and no count.

@@ -43,13 +43,7 @@ impl<T: Translator, V: Drop> Runs for Index<T, V> {
 
     type Key = T::Key;
 
-    ghost content = { λ index. content_of T.Key.cmp index.entries.items };
-
-    ghost slot = { λ index. T.translated index.translator };
-
-    ghost admitted = { λ _ _. true };
-
-    ghost pruned_count = { λ index. index.pruned };
+    ghost view = { λ index. record { content = content_of T.Key.cmp index.entries.items; pruned = index.pruned; slot = T.translated index.translator; admitted = λ _. true } };
 
     ghost edited = { λ _ _. Unit {0} };
 
@@ -105,12 +99,30 @@ impl<T: Translator, V: Drop> Search for Index<T, V> {
 
     ghost may_refuse = { λ _ _. false };
 
+    fn reach(&mut self, key: &[u8]) -> Result<usize, Fault> {
+        Ok(self.run_len(self.slot_of(key)))
+    }
+
+    fn reach_or_insert(&mut self, key: &[u8], value: V) -> Result<usize, Refused<V>> {
+        if self.items() == usize::MAX {
+            let fault = Fault::Full;
+            return Err(Refused { value, fault });
+        }
+        let slot = self.slot_of(key);
+        let len = self.run_len(slot);
+        if len == 0 {
+            self.insert_at(slot, 0, value)?;
+        }
+        Ok(len)
+    }
+
     fn search(&mut self, key: &[u8]) -> Result<IndexCursor<'_, Index<T, V>>, Option<Fault>> {
         let slot = self.slot_of(key);
-        if self.run_len(slot) == 0 {
-            return Err(None);
+        match self.reach(key) {
+            Ok(0) => Err(None),
+            Ok(len) => Ok(IndexCursor::with_len(self, slot, len)),
+            Err(fault) => Err(Some(fault)),
         }
-        Ok(IndexCursor::new(self, slot))
     }
 
     fn search_or_insert(
@@ -118,18 +130,12 @@ impl<T: Translator, V: Drop> Search for Index<T, V> {
         key: &[u8],
         value: V,
     ) -> Result<IndexCursor<'_, Index<T, V>>, Option<Refused<V>>> {
-        if self.items() == usize::MAX {
-            let fault = Fault::Full;
-            return Err(Some(Refused { value, fault }));
-        }
         let slot = self.slot_of(key);
-        if self.run_len(slot) == 0 {
-            return match self.insert_at(slot, 0, value) {
-                Ok(()) => Err(None),
-                Err(refused) => Err(Some(refused)),
-            };
+        match self.reach_or_insert(key, value) {
+            Ok(0) => Err(None),
+            Ok(len) => Ok(IndexCursor::with_len(self, slot, len)),
+            Err(refused) => Err(Some(refused)),
         }
-        Ok(IndexCursor::new(self, slot))
     }
 }
 
@@ -213,12 +219,14 @@ impl<T: Translator, V: Drop> Factory for Index<T, V> {
 
     ghost slot_by = { T.translated };
 
+    ghost makes = { Unit {0} };
+
     /// Takes no memory, and never refuses.
     fn new(alloc: Global, translator: T) -> Result<Index<T, V>, Fault>
         ensures made { IsOk result }
-        ensures empty { IfOk result (λ index. ⟦<Index<T, V> as Runs>⟧.content index ≡ []) }
-        ensures pruned { IfOk result (λ index. ⟦<Index<T, V> as Runs>⟧.pruned_count index ≡ 0) }
-        ensures slots { IfOk result (λ index. ⟦<Index<T, V> as Runs>⟧.slot index ≡ T.translated translator) }
+        ensures empty { IfOk result (λ index. (⟦<Index<T, V> as Runs>⟧.view index).content ≡ []) }
+        ensures pruned { IfOk result (λ index. (⟦<Index<T, V> as Runs>⟧.view index).pruned ≡ 0) }
+        ensures slots { IfOk result (λ index. (⟦<Index<T, V> as Runs>⟧.view index).slot ≡ T.translated translator) }
         ensures fault { IfErr result (λ f. f ≡ Fault.Memory) }
     {
         Ok(Index {

@@ -28,7 +28,9 @@ fn calls(rt: HostRuntime) {
 fn drive<I: Unordered<Value = u64> + Factory + Drop>(
     alloc: Global,
     translator: I::Translator,
-) -> Result<(Option<u64>, usize, usize, u64), Fault> {
+) -> Result<(Option<u64>, usize, usize, u64), Fault>
+    requires { I.makes }
+{
     let mut index = I::new(alloc, translator)?;
     for (key, value) in [(b"\x0b", 1), (b"\x0b", 2), (b"\x0c", 3)] {
         if let Err(refused) = index.insert(key, value) {

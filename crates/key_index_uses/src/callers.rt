@@ -1,15 +1,15 @@
 //! Callers as a user writes them: over any index, by its content alone.
 ghost use Rattle.std.specs.Prelude.{◌≡◌, ◌<◌, ◌↔◌, [], ◌∷◌, true, IfOk, IfErr, OnOk, OnErr, IsTrue, length, slice_set};
 ghost use Rattle.std.specs.Option.{MatchOption, option_copied};
-ghost use Rattle.key_index_flat.specs.Commands.{after_insert};
-ghost use Rattle.key_index_flat.specs.Content.{list_at, with_list, item_count};
+ghost use Rattle.key_index_flat.specs.Content.{with_list};
+ghost use Rattle.key_index_flat.specs.View.{items_in, run_of, after_insert};
 ghost use Rattle.key_index_flat.specs.FullKeys.{IsFiled, values_of};
 ghost use Rattle.key_index_uses.specs.Exclusion.{has_key, Excludes};
 
 use key_index_flat::index::unordered::Index;
 use key_index_flat::index::{
-    Cursor, Factory, Fault, IndexCursor, Keyed, Ordered, Refused, Unordered, Values, reach,
-    resolve_next, resolve_prev,
+    Cursor, Factory, Fault, IndexCursor, Keyed, Ordered, Refused, Unordered, Values, resolve_next,
+    resolve_prev,
 };
 use key_index_flat::translator::OneCap;
 use std::alloc::Global;
@@ -31,9 +31,9 @@ pub fn add<I: Unordered>(
     key: &[u8],
     value: I::Value,
 ) -> Result<usize, Refused<I::Value>>
-    ensures added { OnOk result (I.content index.new ≡ after_insert I.Key.cmp I.INSERT_FIRST (I.content index.old) (I.slot index.old key.now) value) }
-    ensures counted { IfOk result (λ items. items ≡ item_count (I.content index.new)) }
-    ensures refused { OnErr result (I.content index.new ≡ I.content index.old) }
+    ensures added { OnOk result (I.view index.new ≡ after_insert I.Key.cmp I.INSERT_FIRST (I.view index.old) key.now value) }
+    ensures counted { IfOk result (λ items. items ≡ items_in (I.view index.new)) }
+    ensures refused { OnErr result (I.view index.new ≡ I.view index.old) }
 {
     index.insert(key, value)?;
     Ok(index.items())
@@ -43,7 +43,7 @@ pub fn add<I: Unordered>(
 pub fn replace<I: Unordered>(index: &mut I, key: &[u8], value: I::Value) -> Result<(), Fault>
 where
     I::Value: Drop,
-    ensures alone { OnOk result (list_at I.Key.cmp (I.content index.new) (I.slot index.new key.now) ≡ value ∷ []) }
+    ensures alone { OnOk result (run_of I.Key.cmp (I.view index.new) key.now ≡ value ∷ []) }
 {
     index.remove(key)?;
     match index.insert(key, value) {
@@ -60,11 +60,11 @@ pub fn replace_first<I: Unordered>(
 ) -> Result<bool, Fault>
 where
     I::Value: Drop,
-    ensures had { IfOk result (λ had. IsTrue had ↔ (0 < length (list_at I.Key.cmp (I.content index.old) (I.slot index.old key.now)))) }
-    ensures replaced { OnOk result (I.content index.new ≡ with_list I.Key.cmp (I.content index.old) (I.slot index.old key.now) (slice_set (list_at I.Key.cmp (I.content index.old) (I.slot index.old key.now)) 0 value)) }
-    ensures refused { OnErr result (I.content index.new ≡ I.content index.old) }
+    ensures had { IfOk result (λ had. IsTrue had ↔ (0 < length (run_of I.Key.cmp (I.view index.old) key.now))) }
+    ensures replaced { OnOk result ((I.view index.new).content ≡ with_list I.Key.cmp (I.view index.old).content ((I.view index.old).slot key.now) (slice_set (run_of I.Key.cmp (I.view index.old) key.now) 0 value)) }
+    ensures refused { OnErr result (I.view index.new ≡ I.view index.old) }
 {
-    if !reach(index, key)? {
+    if index.reach(key)? == 0 {
         return Ok(false);
     }
     let slot = index.slot_of(key);
@@ -103,9 +103,9 @@ pub fn file<I: Unordered>(
 where
     I::Value: Keyed,
     requires { I.Value.full_key item ≡ key.now }
-    ensures filed { IsFiled I.Value.full_key I.Key.cmp (I.slot index.old) (I.content index.old) → IsFiled I.Value.full_key I.Key.cmp (I.slot index.new) (I.content index.new) }
-    ensures added { OnOk result (I.content index.new ≡ after_insert I.Key.cmp I.INSERT_FIRST (I.content index.old) (I.slot index.old key.now) item) }
-    ensures refused { OnErr result (I.content index.new ≡ I.content index.old) }
+    ensures filed { IsFiled I.Value.full_key I.Key.cmp (I.view index.old).slot (I.view index.old).content → IsFiled I.Value.full_key I.Key.cmp (I.view index.new).slot (I.view index.new).content }
+    ensures added { OnOk result (I.view index.new ≡ after_insert I.Key.cmp I.INSERT_FIRST (I.view index.old) key.now item) }
+    ensures refused { OnErr result (I.view index.new ≡ I.view index.old) }
     ensures returned { IfErr result (λ refused. refused.value ≡ item) }
 {
     index.insert(key, item)?;
@@ -117,7 +117,7 @@ where
 pub fn exclude<'a, I: Ordered>(index: &'a I, key: &[u8]) -> Option<Exclusion<'a, I::Value>>
 where
     I::Value: Keyed,
-    ensures { IsFiled I.Value.full_key I.Key.cmp (I.slot index.now) (I.content index.now) → MatchOption result (has_key I.Value.full_key key.now (values_of (I.content index.now)) ≡ true) (λ next_to. Excludes I.Value.full_key (values_of (I.content index.now)) key.now (option_copied next_to.below) (option_copied next_to.above)) }
+    ensures { IsFiled I.Value.full_key I.Key.cmp (I.view index.now).slot (I.view index.now).content → MatchOption result (has_key I.Value.full_key key.now (values_of (I.view index.now).content) ≡ true) (λ next_to. Excludes I.Value.full_key (values_of (I.view index.now).content) key.now (option_copied next_to.below) (option_copied next_to.above)) }
 {
     if has_key(index.get(key), key) {
         return None;

@@ -1,15 +1,14 @@
 //! The run of a list of commands, proved once over any index.
 ghost use Rattle.std.specs.Prelude.{◌≡◌, ◌<◌, ℕ, List, [], false, not, map, length, IsTrue, IfOk, OnOk, OnErr, IfErr};
 ghost use Rattle.std.specs.Fn.{CalledAt};
-ghost use Rattle.key_index_flat.specs.Content.{list_at, with_list, item_count};
-ghost use Rattle.key_index_flat.specs.Commands.{pruned_after};
+ghost use Rattle.key_index_flat.specs.Content.{with_list, item_count};
 ghost use Rattle.key_index_flat.specs.Cursor.{NeedNext};
 ghost use Rattle.key_index_flat.specs.CursorRun.{Steps, RunsSteps};
-ghost use Rattle.key_index_flat.specs.Edits.{Changed, SameIndex};
+ghost use Rattle.key_index_flat.specs.View.{items_in, run_at, run_of, with_run, with_edit, with_pruned};
 ghost use Rattle.key_index_flat.specs.Fault.{growth_fault};
-ghost use Rattle.key_index_flat.specs.Run.{is_full, IsLegal, fold_of, Stays, Becomes, one_if_absent, Edited, EditOf, EditGives, CommandGives, HasRoom, HaveRoom};
+ghost use Rattle.key_index_flat.specs.Run.{is_full, IsLegal, one_if_absent, EditAt, EditOf, CommandGives, HasTest, HaveTests, HasRoom, HaveRoom};
 
-use super::{Command, Cursor, Fault, IndexCursor, Outcome, Runs, Step, Unordered, reach};
+use super::{Command, Cursor, Fault, IndexCursor, Outcome, Runs, Step, Unordered};
 use std::alloc::Global;
 use std::mem;
 
@@ -87,10 +86,10 @@ fn edit_list<I: Unordered>(
 )
 where
     I::Value: Drop,
-    requires admits { IsTrue (I.admitted index.old slot) }
-    requires held { 0 < length (list_at I.Key.cmp (I.content index.old) slot) }
+    requires admits { IsTrue ((I.view index.old).admitted slot) }
+    requires held { 0 < length (run_at I.Key.cmp (I.view index.old) slot) }
     requires room { length flags.old ≡ length steps.items }
-    ensures { (e : Edited I.Value) × EditGives (item_count (with_list I.Key.cmp (I.content index.old) slot [])) steps.items flags.new (record { items = list_at I.Key.cmp (I.content index.old) slot; place = NeedNext 0; taken = 0 }) e × Changed I.content I.slot I.admitted I.pruned_count index.old index.new (with_list I.Key.cmp (I.content index.old) slot e.items) (pruned_after (I.pruned_count index.old) e.taken) }
+    ensures { EditAt I.Key.cmp slot steps.items flags.new (I.view index.old) (I.view index.new) }
 {
     let mut cursor = IndexCursor::new(index, slot);
     apply_steps(&mut cursor, steps, flags);
@@ -107,45 +106,32 @@ fn edit<I: Unordered>(
 where
     I::Value: Drop,
     requires { flags.old ≡ map (λ x. false) steps.items }
-    ensures edited { OnOk result (EditOf I.Key.cmp (I.slot index.old key.now) (list_at I.Key.cmp (I.content index.old) (I.slot index.old key.now)) steps.items flags.new (fold_of I.content I.pruned_count index.old) (fold_of I.content I.pruned_count index.new)) }
-    ensures refused { OnErr result (Stays (fold_of I.content I.pruned_count index.old) (fold_of I.content I.pruned_count index.new)) }
-    ensures slots { I.slot index.new ≡ I.slot index.old }
+    ensures edited { OnOk result (EditOf I.Key.cmp ((I.view index.old).slot key.now) (run_of I.Key.cmp (I.view index.old) key.now)
+        steps.items flags.new (I.view index.old) (I.view index.new)) }
+    ensures refused { OnErr result (I.view index.new ≡ I.view index.old) }
     ensures fault { IfErr result (λ f. f ≡ Fault.Memory) }
 {
-    match reach(index, key) {
-        Ok(true) => {
-            let slot = index.slot_of(key);
-            edit_list(index, slot, steps, flags);
-            Ok(())
-        }
-        Ok(false) => Ok(()),
-        Err(fault) => Err(fault),
+    if index.reach(key)? == 0 {
+        return Ok(());
     }
+    let slot = index.slot_of(key);
+    edit_list(index, slot, steps, flags);
+    Ok(())
 }
 
 /// What `get_mut_or_insert` does with a key and a value.
 fn get_or_insert<I: Unordered>(index: &mut I, key: &[u8], value: I::Value) -> Result<(), Fault>
 where
     I::Value: Drop,
-    ensures room { OnOk result (IsTrue (not (is_full (item_count (I.content index.old))))) }
-    ensures accepted { OnOk result (Becomes (fold_of I.content I.pruned_count index.new) (with_list I.Key.cmp (I.content index.old) (I.slot index.old key.now) (one_if_absent value (list_at I.Key.cmp (I.content index.old) (I.slot index.old key.now)))) (I.pruned_count index.old)) }
-    ensures refused { OnErr result (Stays (fold_of I.content I.pruned_count index.old) (fold_of I.content I.pruned_count index.new)) }
-    ensures slots { I.slot index.new ≡ I.slot index.old }
-    ensures fault { IfErr result (λ f. f ≡ growth_fault (item_count (I.content index.old))) }
+    ensures room { OnOk result (IsTrue (not (is_full (items_in (I.view index.old))))) }
+    ensures accepted { OnOk result (I.view index.new
+        ≡ with_edit I.Key.cmp (I.view index.old) ((I.view index.old).slot key.now) (one_if_absent value)) }
+    ensures refused { OnErr result (I.view index.new ≡ I.view index.old) }
+    ensures fault { IfErr result (λ f. f ≡ growth_fault (items_in (I.view index.old))) }
 {
-    if index.items() == usize::MAX {
-        return Err(Fault::Full);
-    }
-    match reach(index, key) {
-        Ok(true) => Ok(()),
-        Ok(false) => {
-            let slot = index.slot_of(key);
-            match index.insert_at(slot, 0, value) {
-                Ok(()) => Ok(()),
-                Err(refused) => Err(refused.fault),
-            }
-        }
-        Err(fault) => Err(fault),
+    match index.reach_or_insert(key, value) {
+        Ok(_) => Ok(()),
+        Err(refused) => Err(refused.fault),
     }
 }
 
@@ -157,10 +143,9 @@ fn apply<I: Unordered, F: Fn(&I::Value) -> bool + Drop>(
 ) -> Outcome
 where
     I::Value: Drop,
-    requires callable { (f : F) → F.IsAlwaysCallable f }
+    requires callable { HasTest (λ f. F.IsAlwaysCallable f) command }
     requires room { HasRoom command room }
-    ensures gives { CommandGives I.Key.cmp (I.slot index.old) I.INSERT_FIRST (CalledAt F.FnMut) command result (fold_of I.content I.pruned_count index.old) (fold_of I.content I.pruned_count index.new) }
-    ensures slots { I.slot index.new ≡ I.slot index.old }
+    ensures gives { CommandGives I.Key.cmp I.INSERT_FIRST (CalledAt F.FnMut) command result (I.view index.old) (I.view index.new) }
 {
     match command {
         Command::Insert(key, value) => match index.insert(key.as_slice(), value) {
@@ -203,9 +188,9 @@ fn apply_all<I: Unordered, F: Fn(&I::Value) -> bool + Drop>(
 )
 where
     I::Value: Drop,
-    requires callable { (f : F) → F.IsAlwaysCallable f }
+    requires callable { HaveTests (λ f. F.IsAlwaysCallable f) commands.items }
     requires room { HaveRoom commands.items outcomes.old }
-    ensures { IsLegal I.Key.cmp (I.slot index.old) I.INSERT_FIRST (CalledAt F.FnMut) commands.items outcomes.new (fold_of I.content I.pruned_count index.old) (fold_of I.content I.pruned_count index.new) }
+    ensures { IsLegal I.Key.cmp I.INSERT_FIRST (CalledAt F.FnMut) commands.items outcomes.new (I.view index.old) (I.view index.new) }
 {
     let mut rest = commands.into_iter();
     let mut at = 0;
@@ -256,9 +241,10 @@ pub fn run<I: Unordered, F: Fn(&I::Value) -> bool + Drop>(
 ) -> Result<Vec<Outcome>, Fault>
 where
     I::Value: Drop,
-    requires { (f : F) → F.IsAlwaysCallable f }
-    ensures legal { IfOk result (λ outcomes. IsLegal I.Key.cmp (I.slot index.old) I.INSERT_FIRST (CalledAt F.FnMut) commands.items outcomes.items (fold_of I.content I.pruned_count index.old) (fold_of I.content I.pruned_count index.new)) }
-    ensures refused { OnErr result (SameIndex I.content I.slot I.admitted I.pruned_count index.old index.new) }
+    requires { HaveTests (λ f. F.IsAlwaysCallable f) commands.items }
+    ensures legal { IfOk result (λ outcomes. IsLegal I.Key.cmp I.INSERT_FIRST (CalledAt F.FnMut)
+        commands.items outcomes.items (I.view index.old) (I.view index.new)) }
+    ensures refused { OnErr result (I.view index.new ≡ I.view index.old) }
     ensures fault { IfErr result (λ f. f ≡ Fault.Memory) }
 {
     let mut outcomes = room_for(alloc, commands.as_slice())?;

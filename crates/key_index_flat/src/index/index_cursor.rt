@@ -1,6 +1,6 @@
 //! The cursor of every index, proved once over the lists of any.
 ghost use Rattle.std.specs.Prelude.{◌≡◌, ◌<◌, ◌≤◌, length, true, IsTrue};
-ghost use Rattle.key_index_flat.specs.Content.{list_at};
+ghost use Rattle.key_index_flat.specs.View.{run_at};
 ghost use Rattle.key_index_flat.specs.declared.index.cursor.CursorState.TheVariants.{Active};
 
 use super::{Cursor, CursorState, Refused, Runs};
@@ -15,22 +15,22 @@ pub struct IndexCursor<'a, I: Runs> {
     pub(crate) place: usize,
     pub(crate) len: usize,
     pub(crate) state: CursorState,
-    ghost known: { len ≡ length (list_at I.Key.cmp (I.content index.now) key) },
-    ghost admits: { IsTrue (I.admitted index.now key) },
+    ghost known: { len ≡ length (run_at I.Key.cmp (I.view index.now) key) },
+    ghost admits: { IsTrue ((I.view index.now).admitted key) },
     ghost within: { place ≤ len },
     ghost active: { state ≡ Active → place < len },
 }
 
 impl<'a, I: Runs> IndexCursor<'a, I> {
     ghost use Rattle.std.specs.Prelude.{◌≡◌, ◌<◌, ◌≤◌, ◌↔◌, length, slice_get, Some, IsTrue};
-    ghost use Rattle.key_index_flat.specs.Content.{list_at};
+    ghost use Rattle.key_index_flat.specs.View.{run_at};
     ghost use Rattle.key_index_flat.specs.Cursor.{NeedNext, next_place, place_from, after_next, IsOnValue, AllowsInsert};
     ghost use Rattle.key_index_flat.specs.IndexCursor.{cursor_index, cursor_key, cursor_list, cursor_place, StaysAt};
 
     /// A cursor before the first value of an index key.
     pub fn new(index: &'a mut I, key: I::Key) -> IndexCursor<'a, I>
-        requires admits { IsTrue (I.admitted index.old key) }
-        requires held { 0 < length (list_at I.Key.cmp (I.content index.old) key) }
+        requires admits { IsTrue ((I.view index.old).admitted key) }
+        requires held { 0 < length (run_at I.Key.cmp (I.view index.old) key) }
         ensures same_reference { (cursor_index result).ghost_name ≡ index.entry.ghost_name }
         ensures same_index { (cursor_index result).now ≡ index.old }
         ensures start { (cursor_key result ≡ key) × (cursor_place result ≡ NeedNext 0) }
@@ -41,8 +41,8 @@ impl<'a, I: Runs> IndexCursor<'a, I> {
 
     /// The same, where the length of the list is known: it saves a look-up.
     pub fn with_len(index: &'a mut I, key: I::Key, len: usize) -> IndexCursor<'a, I>
-        requires admits { IsTrue (I.admitted index.old key) }
-        requires known { len ≡ length (list_at I.Key.cmp (I.content index.old) key) }
+        requires admits { IsTrue ((I.view index.old).admitted key) }
+        requires known { len ≡ length (run_at I.Key.cmp (I.view index.old) key) }
         requires held { 0 < len }
         ensures same_reference { (cursor_index result).ghost_name ≡ index.entry.ghost_name }
         ensures same_index { (cursor_index result).now ≡ index.old }
@@ -66,7 +66,7 @@ impl<'a, I: Runs> IndexCursor<'a, I> {
     #[inline]
     fn current(&self) -> &I::Value
         requires { self.now.state ≡ CursorState.Active }
-        ensures { slice_get (list_at I.Key.cmp (I.content (cursor_index self.now).now) (cursor_key self.now)) self.now.place ≡ Some result.now }
+        ensures { slice_get (cursor_list self.now) self.now.place ≡ Some result.now }
     {
         self.index.value_at(self.key, self.place)
     }
@@ -139,7 +139,7 @@ impl<'a, I: Runs> Cursor for IndexCursor<'a, I>
 where
     I::Value: Drop,
 {
-    ghost use Rattle.key_index_flat.specs.Content.{item_count};
+    ghost use Rattle.key_index_flat.specs.View.{items_in};
     ghost use Rattle.key_index_flat.specs.IndexCursor.{cursor_index, cursor_list, cursor_place, StaysAt, EditsIndex};
 
     type Value = I::Value;
@@ -148,7 +148,7 @@ where
 
     ghost place = { λ c. cursor_place c };
 
-    ghost held = { λ c. item_count (I.content (cursor_index c).now) };
+    ghost held = { λ c. items_in (I.view (cursor_index c).now) };
 
     ghost stays = { λ old new. StaysAt old new };
 

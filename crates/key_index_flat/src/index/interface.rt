@@ -2,9 +2,8 @@
 ghost use Rattle.std.specs.Prelude.{◌≡◌, ℕ, ◌-◌, ◌<◌, List, [], Bool, length, All, IsTrue, IfErr, OnOk, OnErr, IfOk};
 ghost use Rattle.std.specs.Fn.{CalledAt};
 ghost use Rattle.std.specs.List.Retain.{IsFiltered};
-ghost use Rattle.key_index_flat.specs.Content.{list_at, with_list, key_count, item_count};
-ghost use Rattle.key_index_flat.specs.Commands.{after_insert, after_remove, pruned_after};
-ghost use Rattle.key_index_flat.specs.Edits.{Changed, SameIndex};
+ghost use Rattle.key_index_flat.specs.Content.{key_count};
+ghost use Rattle.key_index_flat.specs.View.{items_in, run_of, after_insert, after_remove, RetainsAt, StaysBut};
 ghost use Rattle.key_index_flat.specs.Fault.{growth_fault};
 ghost use Rattle.key_index_flat.specs.Start.{IsWant};
 
@@ -24,17 +23,17 @@ pub trait Unordered: Search {
 
     /// The values under the key's index key, in list order. Takes no memory.
     fn get(&self, key: &[u8]) -> Values<'_, Self::Value>
-        ensures { result ≡ list_at Self.Key.cmp (Self.content self.now) (Self.slot self.now key.now) };
+        ensures { result ≡ run_of Self.Key.cmp (Self.view self.now) key.now };
 
     /// Adds a value under the key's index key: in front of those that stand there if `INSERT_FIRST`, and else behind them. A refusal
     /// hands the value back: `Full` exactly where the index holds `usize::MAX` values, and else `Memory`.
     fn insert(&mut self, key: &[u8], value: Self::Value) -> Result<(), Refused<Self::Value>>
-        ensures accepted { OnOk result (Changed Self.content Self.slot Self.admitted Self.pruned_count self.old self.new (after_insert Self.Key.cmp INSERT_FIRST (Self.content self.old) (Self.slot self.old key.now) value) (Self.pruned_count self.old)) }
-        ensures settled { OnOk result (Self.settled self.old (Self.slot self.old key.now) self.new) }
-        ensures room { OnOk result (item_count (Self.content self.old) < usize.MAX) }
-        ensures refused { OnErr result (SameIndex Self.content Self.slot Self.admitted Self.pruned_count self.old self.new × Self.left_by_refusal self.old (Self.slot self.old key.now) self.new) }
+        ensures accepted { OnOk result (Self.view self.new ≡ after_insert Self.Key.cmp INSERT_FIRST (Self.view self.old) key.now value) }
+        ensures settled { OnOk result (Self.settled self.old ((Self.view self.old).slot key.now) self.new) }
+        ensures room { OnOk result (items_in (Self.view self.old) < usize.MAX) }
+        ensures refused { OnErr result (StaysBut Self.view Self.left_by_refusal self.old key.now self.new) }
         ensures returned { IfErr result (λ r. r.value ≡ value) }
-        ensures fault { IfErr result (λ r. r.fault ≡ growth_fault (item_count (Self.content self.old))) };
+        ensures fault { IfErr result (λ r. r.fault ≡ growth_fault (items_in (Self.view self.old))) };
 
     /// Asks once on each value under the key's index key, in list order, and takes out those that are answered false.
     fn retain<F: FnMut(&Self::Value) -> bool>(
@@ -43,31 +42,31 @@ pub trait Unordered: Search {
         should_retain: F,
     ) -> Result<(), Fault>
         requires { F.IsAlwaysCallable should_retain }
-        ensures accepted { OnOk result ((kept : List Self.Value) × IsFiltered (CalledAt F.FnMut) should_retain (list_at Self.Key.cmp (Self.content self.old) (Self.slot self.old key.now)) kept × Changed Self.content Self.slot Self.admitted Self.pruned_count self.old self.new (with_list Self.Key.cmp (Self.content self.old) (Self.slot self.old key.now) kept) (pruned_after (Self.pruned_count self.old) (length (list_at Self.Key.cmp (Self.content self.old) (Self.slot self.old key.now)) - length kept))) }
-        ensures settled { OnOk result (Self.settled self.old (Self.slot self.old key.now) self.new) }
-        ensures refused { OnErr result (SameIndex Self.content Self.slot Self.admitted Self.pruned_count self.old self.new × Self.left_by_refusal self.old (Self.slot self.old key.now) self.new) }
-        ensures want { IfErr result (λ f. IsWant f (Self.may_refuse self.old (Self.slot self.old key.now))) };
+        ensures accepted { OnOk result (RetainsAt Self.Key.cmp (CalledAt F.FnMut) should_retain (Self.view self.old) key.now (Self.view self.new)) }
+        ensures settled { OnOk result (Self.settled self.old ((Self.view self.old).slot key.now) self.new) }
+        ensures refused { OnErr result (StaysBut Self.view Self.left_by_refusal self.old key.now self.new) }
+        ensures want { IfErr result (λ f. IsWant f (Self.may_refuse self.old ((Self.view self.old).slot key.now))) };
 
     /// Takes the key's index key out, with all of its values.
     fn remove(&mut self, key: &[u8]) -> Result<(), Fault>
-        ensures accepted { OnOk result (Changed Self.content Self.slot Self.admitted Self.pruned_count self.old self.new (after_remove Self.Key.cmp (Self.content self.old) (Self.slot self.old key.now)) (pruned_after (Self.pruned_count self.old) (length (list_at Self.Key.cmp (Self.content self.old) (Self.slot self.old key.now))))) }
-        ensures settled { OnOk result (Self.settled self.old (Self.slot self.old key.now) self.new) }
-        ensures refused { OnErr result (SameIndex Self.content Self.slot Self.admitted Self.pruned_count self.old self.new × Self.left_by_refusal self.old (Self.slot self.old key.now) self.new) }
-        ensures want { IfErr result (λ f. IsWant f (Self.may_refuse self.old (Self.slot self.old key.now))) };
+        ensures accepted { OnOk result (Self.view self.new ≡ after_remove Self.Key.cmp (Self.view self.old) key.now) }
+        ensures settled { OnOk result (Self.settled self.old ((Self.view self.old).slot key.now) self.new) }
+        ensures refused { OnErr result (StaysBut Self.view Self.left_by_refusal self.old key.now self.new) }
+        ensures want { IfErr result (λ f. IsWant f (Self.may_refuse self.old ((Self.view self.old).slot key.now))) };
 
     /// How many index keys are held.
     fn keys(&self) -> usize
-        ensures { result ≡ key_count (Self.content self.now) };
+        ensures { result ≡ key_count (Self.view self.now).content };
 
     /// How many values are held, those of all index keys together.
     fn items(&self) -> usize
-        ensures { result ≡ item_count (Self.content self.now) };
+        ensures { result ≡ items_in (Self.view self.now) };
 
     /// How many held values were ever taken out. The count stops at `u64::MAX`.
     fn pruned(&self) -> u64
-        ensures { result ≡ Self.pruned_count self.now };
+        ensures { result ≡ (Self.view self.now).pruned };
 
-    ghost reaches: { (x : Self) (b : List ℕ) → All (λ n. n < 256) b → IsTrue (Self.admitted x (Self.slot x b)) };
+    ghost reaches: { (x : Self) (b : List ℕ) → All (λ n. n < 256) b → IsTrue ((Self.view x).admitted ((Self.view x).slot b)) };
 }
 
 /// An index that a translator makes.
@@ -76,10 +75,13 @@ pub trait Factory: Unordered {
 
     ghost slot_by: { Self.Translator → List ℕ → Self.Key };
 
+    ghost makes: { Type 0 };
+
     /// An index with no values.
     fn new(alloc: Global, translator: Self::Translator) -> Result<Self, Fault>
-        ensures empty { IfOk result (λ index. Self.content index ≡ []) }
-        ensures pruned { IfOk result (λ index. Self.pruned_count index ≡ 0) }
-        ensures slots { IfOk result (λ index. Self.slot index ≡ slot_by translator) }
+        requires { makes }
+        ensures empty { IfOk result (λ index. (Self.view index).content ≡ []) }
+        ensures pruned { IfOk result (λ index. (Self.view index).pruned ≡ 0) }
+        ensures slots { IfOk result (λ index. (Self.view index).slot ≡ slot_by translator) }
         ensures fault { IfErr result (λ f. f ≡ Fault.Memory) };
 }

@@ -11,20 +11,20 @@ pub trait Ordered: Unordered {
     /// The values of the greatest index key strictly below that of the key, and false. Where there is none, those of the last index
     /// key, and true. `None` exactly where the index is empty. So a sole index key that is the key's own answers itself, flagged.
     fn prev_translated_key(&self, key: &[u8]) -> Option<(Values<'_, Self::Value>, bool)>
-        ensures { result ≡ prev_list Self.Key.cmp (Self.content self.now) (Self.slot self.now key.now) };
+        ensures { result ≡ prev_list Self.Key.cmp (Self.view self.now).content ((Self.view self.now).slot key.now) };
 
     /// The values of the least index key strictly above that of the key, and false. Where there is none, those of the first index
     /// key, and true. `None` exactly where the index is empty. So a sole index key that is the key's own answers itself, flagged.
     fn next_translated_key(&self, key: &[u8]) -> Option<(Values<'_, Self::Value>, bool)>
-        ensures { result ≡ next_list Self.Key.cmp (Self.content self.now) (Self.slot self.now key.now) };
+        ensures { result ≡ next_list Self.Key.cmp (Self.view self.now).content ((Self.view self.now).slot key.now) };
 
     /// The values of the least index key. `None` exactly where the index is empty.
     fn first_translated_key(&self) -> Option<Values<'_, Self::Value>>
-        ensures { result ≡ first_list (Self.content self.now) };
+        ensures { result ≡ first_list (Self.view self.now).content };
 
     /// The values of the greatest index key. `None` exactly where the index is empty.
     fn last_translated_key(&self) -> Option<Values<'_, Self::Value>>
-        ensures { result ≡ last_list (Self.content self.now) };
+        ensures { result ≡ last_list (Self.view self.now).content };
 
-    ghost keeps_order: { (x : Self) → KeepsOrder Self.Key.cmp (Self.slot x) };
+    ghost keeps_order: { (x : Self) → KeepsOrder Self.Key.cmp (Self.view x).slot };
 }

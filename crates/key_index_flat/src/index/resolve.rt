@@ -6,7 +6,7 @@ ghost use Rattle.std.specs.declared.cmp.Ordering.{Ordering};
 ghost use Rattle.std.specs.Ordering.{is_lt, on, flip_args};
 ghost use Rattle.std.specs.Cmp.{IsTotalOrder, back_total};
 ghost use Rattle.std.specs.Cmp.Lexicographic.{nat_list_cmp_total};
-ghost use Rattle.key_index_flat.specs.FullKeys.{IsFiled, IsFullNext, IsFullPrev, IsLeast, IsNextCandidate, IsPrevCandidate, byte_cmp};
+ghost use Rattle.key_index_flat.specs.FullKeys.{IsFiledIn, IsFullNext, IsFullPrev, IsLeast, IsNextIn, IsPrevIn, byte_cmp};
 
 use super::{Ordered, Values};
 
@@ -103,7 +103,7 @@ fn nearest_beyond<'a, S: Side, V: Keyed>(values: Values<'a, V>, key: &[u8]) -> O
 fn next_candidate<'a, I: Ordered>(index: &'a I, key: &[u8]) -> Option<&'a I::Value>
 where
     I::Value: Keyed,
-    ensures { IsNextCandidate I.Value.full_key I.Key.cmp (I.content index.now) (I.slot index.now key.now) key.now (option_copied result) }
+    ensures { IsNextIn I.Value.full_key I.Key.cmp (I.view index.now) key.now (option_copied result) }
 {
     if let Some(value) = nearest_beyond::<Above, _>(index.get(key), key) {
         return Some(value);
@@ -124,8 +124,9 @@ where
 pub fn resolve_next<'a, I: Ordered>(index: &'a I, key: &[u8]) -> Option<&'a I::Value>
 where
     I::Value: Keyed,
-    ensures candidate { IsNextCandidate I.Value.full_key I.Key.cmp (I.content index.now) (I.slot index.now key.now) key.now (option_copied result) }
-    ensures filed { IsFiled I.Value.full_key I.Key.cmp (I.slot index.now) (I.content index.now) → IsFullNext I.Value.full_key (I.content index.now) key.now (option_copied result) }
+    ensures candidate { IsNextIn I.Value.full_key I.Key.cmp (I.view index.now) key.now (option_copied result) }
+    ensures filed { IsFiledIn I.Value.full_key I.Key.cmp (I.view index.now)
+        → IsFullNext I.Value.full_key (I.view index.now).content key.now (option_copied result) }
 {
     next_candidate(index, key)
 }
@@ -135,7 +136,7 @@ where
 fn prev_candidate<'a, I: Ordered>(index: &'a I, key: &[u8]) -> Option<&'a I::Value>
 where
     I::Value: Keyed,
-    ensures { IsPrevCandidate I.Value.full_key I.Key.cmp (I.content index.now) (I.slot index.now key.now) key.now (option_copied result) }
+    ensures { IsPrevIn I.Value.full_key I.Key.cmp (I.view index.now) key.now (option_copied result) }
 {
     if let Some(value) = nearest_beyond::<Below, _>(index.get(key), key) {
         return Some(value);
@@ -156,8 +157,9 @@ where
 pub fn resolve_prev<'a, I: Ordered>(index: &'a I, key: &[u8]) -> Option<&'a I::Value>
 where
     I::Value: Keyed,
-    ensures candidate { IsPrevCandidate I.Value.full_key I.Key.cmp (I.content index.now) (I.slot index.now key.now) key.now (option_copied result) }
-    ensures filed { IsFiled I.Value.full_key I.Key.cmp (I.slot index.now) (I.content index.now) → IsFullPrev I.Value.full_key (I.content index.now) key.now (option_copied result) }
+    ensures candidate { IsPrevIn I.Value.full_key I.Key.cmp (I.view index.now) key.now (option_copied result) }
+    ensures filed { IsFiledIn I.Value.full_key I.Key.cmp (I.view index.now)
+        → IsFullPrev I.Value.full_key (I.view index.now).content key.now (option_copied result) }
 {
     prev_candidate(index, key)
 }

@@ -1,12 +1,10 @@
 //! The search for a cursor: what each index does itself, and the two calls by key that are made of it.
 ghost use Rattle.std.specs.Prelude.{◌≡◌, ◌↔◌, ◌<◌, [], ◌∷◌, length, IfErr, IfOk, OnOk, OnErr, IsSome, IsTrue, Bool};
 ghost use Rattle.std.specs.Borrow.{sem, RestsIfErr};
-ghost use Rattle.key_index_flat.specs.Content.{list_at, with_list, item_count};
-ghost use Rattle.key_index_flat.specs.Cursor.{NeedNext};
-ghost use Rattle.key_index_flat.specs.Edits.{Changed, SameIndex};
+ghost use Rattle.key_index_flat.specs.View.{items_in, run_of, InsertsBut, StaysBut};
 ghost use Rattle.key_index_flat.specs.Fault.{growth_fault};
-ghost use Rattle.key_index_flat.specs.IndexCursor.{cursor_index, cursor_key, cursor_place};
-ghost use Rattle.key_index_flat.specs.Lent.{nested, OnFound, NoneOrErr, RestsUnlessFound, index_of, held_of, as_left};
+ghost use Rattle.key_index_flat.specs.IndexCursor.{cursor_index, cursor_name, StartsAt};
+ghost use Rattle.key_index_flat.specs.Lent.{nested, OnFound, NoneOrErr, RestsUnlessFound};
 ghost use Rattle.key_index_flat.specs.Start.{IsWant};
 
 use super::{Fault, IndexCursor, Refused, Runs};
@@ -38,14 +36,41 @@ pub trait Search: Runs {
 
     ghost may_refuse: { Self → Self.Key → Bool };
 
+    /// Does what `get_mut` does before it gives a cursor, and tells how many values the key has.
+    fn reach(&mut self, key: &[u8]) -> Result<usize, Fault>
+        requires admits { IsTrue ((Self.view self.old).admitted ((Self.view self.old).slot key.now)) }
+        ensures settled { OnOk result (StaysBut Self.view settled self.old key.now self.new) }
+        ensures refused { OnErr result (StaysBut Self.view left_by_refusal self.old key.now self.new) }
+        ensures len { IfOk result (λ n. n ≡ length (run_of Self.Key.cmp (Self.view self.old) key.now)) }
+        ensures want { IfErr result (λ f. IsWant f (may_refuse self.old ((Self.view self.old).slot key.now))) };
+
+    /// Does what `get_mut_or_insert` does before it gives a cursor, and tells how many values the key had: none where it inserted
+    /// the value.
+    fn reach_or_insert(
+        &mut self,
+        key: &[u8],
+        value: Self::Value,
+    ) -> Result<usize, Refused<Self::Value>>
+        requires admits { IsTrue ((Self.view self.old).admitted ((Self.view self.old).slot key.now)) }
+        ensures found { IfOk result (λ n. 0 < n → StaysBut Self.view settled self.old key.now self.new) }
+        ensures inserted { IfOk result (λ n. n ≡ 0 → InsertsBut Self.Key.cmp Self.view settled self.old key.now value self.new) }
+        ensures refused { OnErr result (StaysBut Self.view left_by_refusal self.old key.now self.new) }
+        ensures len { IfOk result (λ n. n ≡ length (run_of Self.Key.cmp (Self.view self.old) key.now)) }
+        ensures room { OnOk result (items_in (Self.view self.old) < usize.MAX) }
+        ensures returned { IfErr result (λ e. e.value ≡ value) }
+        ensures fault { IfErr result (λ e. e.fault ≡ growth_fault (items_in (Self.view self.old))) };
+
     /// What `get_mut` finds: a cursor, `None` in place of a refusal where the key has no value, or a refusal.
     fn search(&mut self, key: &[u8]) -> Result<IndexCursor<'_, Self>, Option<Fault>>
-        ensures* rests { sem 𝓛 (RestsIfErr Self.row self.entry (λ c. (cursor_index c).ghost_name) result (λ n. NoneOrErr (nested result) (SameIndex Self.content Self.slot Self.admitted Self.pruned_count self.old n × settled self.old (Self.slot self.old key.now) n) (SameIndex Self.content Self.slot Self.admitted Self.pruned_count self.old n × left_by_refusal self.old (Self.slot self.old key.now) n))) }
-        ensures same_reference { OnFound (nested result) (λ c. (cursor_index c).ghost_name ≡ self.entry.ghost_name) }
-        ensures found { OnFound (nested result) (λ c. SameIndex Self.content Self.slot Self.admitted Self.pruned_count self.old (cursor_index c).now × settled self.old (Self.slot self.old key.now) (cursor_index c).now) }
-        ensures start { OnFound (nested result) (λ c. (cursor_key c ≡ (Self.slot self.old key.now)) × (cursor_place c ≡ NeedNext 0)) }
-        ensures held { IfOk (nested result) (λ o. IsSome o ↔ (0 < length (list_at Self.Key.cmp (Self.content self.old) (Self.slot self.old key.now)))) }
-        ensures want { IfErr (nested result) (λ f. IsWant f (may_refuse self.old (Self.slot self.old key.now))) };
+        requires admits { IsTrue ((Self.view self.old).admitted ((Self.view self.old).slot key.now)) }
+        ensures* rests { sem 𝓛 (RestsIfErr Self.row self.entry (λ c. cursor_name c) result (λ n. NoneOrErr (nested result)
+            (StaysBut Self.view settled self.old key.now n)
+            (StaysBut Self.view left_by_refusal self.old key.now n))) }
+        ensures same_reference { OnFound (nested result) (λ c. cursor_name c ≡ self.entry.ghost_name) }
+        ensures found { OnFound (nested result) (λ c. StaysBut Self.view settled self.old key.now (cursor_index c).now) }
+        ensures start { OnFound (nested result) (λ c. StartsAt c ((Self.view self.old).slot key.now)) }
+        ensures held { IfOk (nested result) (λ o. IsSome o ↔ (0 < length (run_of Self.Key.cmp (Self.view self.old) key.now))) }
+        ensures want { IfErr (nested result) (λ f. IsWant f (may_refuse self.old ((Self.view self.old).slot key.now))) };
 
     /// What `get_mut_or_insert` finds: a cursor, `None` in place of a refusal where it inserted the value, or a refusal.
     fn search_or_insert(
@@ -53,23 +78,29 @@ pub trait Search: Runs {
         key: &[u8],
         value: Self::Value,
     ) -> Result<IndexCursor<'_, Self>, Option<Refused<Self::Value>>>
-        ensures* rests { sem 𝓛 (RestsIfErr Self.row self.entry (λ c. (cursor_index c).ghost_name) result (λ n. NoneOrErr (nested result) (Changed Self.content Self.slot Self.admitted Self.pruned_count self.old n (with_list Self.Key.cmp (Self.content self.old) (Self.slot self.old key.now) (value ∷ [])) (Self.pruned_count self.old) × settled self.old (Self.slot self.old key.now) n) (SameIndex Self.content Self.slot Self.admitted Self.pruned_count self.old n × left_by_refusal self.old (Self.slot self.old key.now) n))) }
-        ensures same_reference { OnFound (nested result) (λ c. (cursor_index c).ghost_name ≡ self.entry.ghost_name) }
-        ensures found { OnFound (nested result) (λ c. SameIndex Self.content Self.slot Self.admitted Self.pruned_count self.old (cursor_index c).now × settled self.old (Self.slot self.old key.now) (cursor_index c).now) }
-        ensures start { OnFound (nested result) (λ c. (cursor_key c ≡ (Self.slot self.old key.now)) × (cursor_place c ≡ NeedNext 0)) }
-        ensures held { IfOk (nested result) (λ o. IsSome o ↔ (0 < length (list_at Self.Key.cmp (Self.content self.old) (Self.slot self.old key.now)))) }
-        ensures room { IfOk (nested result) (λ _. item_count (Self.content self.old) < usize.MAX) }
+        requires admits { IsTrue ((Self.view self.old).admitted ((Self.view self.old).slot key.now)) }
+        ensures* rests { sem 𝓛 (RestsIfErr Self.row self.entry (λ c. cursor_name c) result (λ n. NoneOrErr (nested result)
+            (InsertsBut Self.Key.cmp Self.view settled self.old key.now value n)
+            (StaysBut Self.view left_by_refusal self.old key.now n))) }
+        ensures same_reference { OnFound (nested result) (λ c. cursor_name c ≡ self.entry.ghost_name) }
+        ensures found { OnFound (nested result) (λ c. StaysBut Self.view settled self.old key.now (cursor_index c).now) }
+        ensures start { OnFound (nested result) (λ c. StartsAt c ((Self.view self.old).slot key.now)) }
+        ensures held { IfOk (nested result) (λ o. IsSome o ↔ (0 < length (run_of Self.Key.cmp (Self.view self.old) key.now))) }
+        ensures room { IfOk (nested result) (λ _. items_in (Self.view self.old) < usize.MAX) }
         ensures returned { IfErr (nested result) (λ e. e.value ≡ value) }
-        ensures fault { IfErr (nested result) (λ e. e.fault ≡ growth_fault (item_count (Self.content self.old))) };
+        ensures fault { IfErr (nested result) (λ e. e.fault ≡ growth_fault (items_in (Self.view self.old))) };
 
     /// A cursor before the first value under the key's index key, or `None` where the key has no value. It changes no content.
     final fn get_mut(&mut self, key: &[u8]) -> Result<Option<IndexCursor<'_, Self>>, Fault>
-        ensures* rests { sem 𝓛 (RestsUnlessFound Self.row self.entry (λ c. (cursor_index c).ghost_name) result (λ n. SameIndex Self.content Self.slot Self.admitted Self.pruned_count self.old n × settled self.old (Self.slot self.old key.now) n) (λ n. SameIndex Self.content Self.slot Self.admitted Self.pruned_count self.old n × left_by_refusal self.old (Self.slot self.old key.now) n)) }
-        ensures same_reference { OnFound result (λ c. (cursor_index c).ghost_name ≡ self.entry.ghost_name) }
-        ensures found { OnFound result (λ c. SameIndex Self.content Self.slot Self.admitted Self.pruned_count self.old (cursor_index c).now × settled self.old (Self.slot self.old key.now) (cursor_index c).now) }
-        ensures start { OnFound result (λ c. (cursor_key c ≡ (Self.slot self.old key.now)) × (cursor_place c ≡ NeedNext 0)) }
-        ensures held { IfOk result (λ o. IsSome o ↔ (0 < length (list_at Self.Key.cmp (Self.content self.old) (Self.slot self.old key.now)))) }
-        ensures want { IfErr result (λ f. IsWant f (may_refuse self.old (Self.slot self.old key.now))) }
+        requires admits { IsTrue ((Self.view self.old).admitted ((Self.view self.old).slot key.now)) }
+        ensures* rests { sem 𝓛 (RestsUnlessFound Self.row self.entry (λ c. cursor_name c) result
+            (λ n. StaysBut Self.view settled self.old key.now n)
+            (λ n. StaysBut Self.view left_by_refusal self.old key.now n)) }
+        ensures same_reference { OnFound result (λ c. cursor_name c ≡ self.entry.ghost_name) }
+        ensures found { OnFound result (λ c. StaysBut Self.view settled self.old key.now (cursor_index c).now) }
+        ensures start { OnFound result (λ c. StartsAt c ((Self.view self.old).slot key.now)) }
+        ensures held { IfOk result (λ o. IsSome o ↔ (0 < length (run_of Self.Key.cmp (Self.view self.old) key.now))) }
+        ensures want { IfErr result (λ f. IsWant f (may_refuse self.old ((Self.view self.old).slot key.now))) }
     {
         nest(self.search(key))
     }
@@ -81,60 +112,18 @@ pub trait Search: Runs {
         key: &[u8],
         value: Self::Value,
     ) -> Result<Option<IndexCursor<'_, Self>>, Refused<Self::Value>>
-        ensures* rests { sem 𝓛 (RestsUnlessFound Self.row self.entry (λ c. (cursor_index c).ghost_name) result (λ n. Changed Self.content Self.slot Self.admitted Self.pruned_count self.old n (with_list Self.Key.cmp (Self.content self.old) (Self.slot self.old key.now) (value ∷ [])) (Self.pruned_count self.old) × settled self.old (Self.slot self.old key.now) n) (λ n. SameIndex Self.content Self.slot Self.admitted Self.pruned_count self.old n × left_by_refusal self.old (Self.slot self.old key.now) n)) }
-        ensures same_reference { OnFound result (λ c. (cursor_index c).ghost_name ≡ self.entry.ghost_name) }
-        ensures found { OnFound result (λ c. SameIndex Self.content Self.slot Self.admitted Self.pruned_count self.old (cursor_index c).now × settled self.old (Self.slot self.old key.now) (cursor_index c).now) }
-        ensures start { OnFound result (λ c. (cursor_key c ≡ (Self.slot self.old key.now)) × (cursor_place c ≡ NeedNext 0)) }
-        ensures held { IfOk result (λ o. IsSome o ↔ (0 < length (list_at Self.Key.cmp (Self.content self.old) (Self.slot self.old key.now)))) }
-        ensures room { IfOk result (λ _. item_count (Self.content self.old) < usize.MAX) }
+        requires admits { IsTrue ((Self.view self.old).admitted ((Self.view self.old).slot key.now)) }
+        ensures* rests { sem 𝓛 (RestsUnlessFound Self.row self.entry (λ c. cursor_name c) result
+            (λ n. InsertsBut Self.Key.cmp Self.view settled self.old key.now value n)
+            (λ n. StaysBut Self.view left_by_refusal self.old key.now n)) }
+        ensures same_reference { OnFound result (λ c. cursor_name c ≡ self.entry.ghost_name) }
+        ensures found { OnFound result (λ c. StaysBut Self.view settled self.old key.now (cursor_index c).now) }
+        ensures start { OnFound result (λ c. StartsAt c ((Self.view self.old).slot key.now)) }
+        ensures held { IfOk result (λ o. IsSome o ↔ (0 < length (run_of Self.Key.cmp (Self.view self.old) key.now))) }
+        ensures room { IfOk result (λ _. items_in (Self.view self.old) < usize.MAX) }
         ensures returned { IfErr result (λ e. e.value ≡ value) }
-        ensures fault { IfErr result (λ e. e.fault ≡ growth_fault (item_count (Self.content self.old))) }
+        ensures fault { IfErr result (λ e. e.fault ≡ growth_fault (items_in (Self.view self.old))) }
     {
         nest(self.search_or_insert(key, value))
     }
-}
-
-/// The reference that a found cursor holds.
-pub(crate) fn index_in<'a, I: Runs>(
-    found: Result<Option<IndexCursor<'a, I>>, Fault>,
-) -> Result<&'a mut I, Option<Fault>>
-    ensures { result ≡ index_of (λ c. cursor_index c) found.entry }
-{
-    match found {
-        Ok(Some(cursor)) => {
-            let IndexCursor {
-                index,
-                key: _,
-                place: _,
-                len: _,
-                state: _,
-            } = cursor;
-            Ok(index)
-        }
-        Ok(None) => Err(None),
-        Err(fault) => Err(Some(fault)),
-    }
-}
-
-/// Whether a reference was found.
-pub(crate) fn held_in<I>(found: Result<&mut I, Option<Fault>>) -> Result<bool, Fault>
-    ensures held { result ≡ held_of found.entry }
-    ensures rests { found.exit ≡ as_left found.entry }
-{
-    match found {
-        Ok(_) => Ok(true),
-        Err(None) => Ok(false),
-        Err(Some(fault)) => Err(fault),
-    }
-}
-
-/// Does what `get_mut` does before it gives a cursor, and tells whether the key has a value. Generic code then makes the cursor by
-/// [`IndexCursor::new`].
-pub fn reach<I: Search>(index: &mut I, key: &[u8]) -> Result<bool, Fault>
-    ensures settled { OnOk result (SameIndex I.content I.slot I.admitted I.pruned_count index.old index.new × I.settled index.old (I.slot index.old key.now) index.new) }
-    ensures refused { OnErr result (SameIndex I.content I.slot I.admitted I.pruned_count index.old index.new × I.left_by_refusal index.old (I.slot index.old key.now) index.new) }
-    ensures held { IfOk result (λ b. IsTrue b ↔ (0 < length (list_at I.Key.cmp (I.content index.old) (I.slot index.old key.now)))) }
-    ensures want { IfErr result (λ f. IsWant f (I.may_refuse index.old (I.slot index.old key.now))) }
-{
-    held_in(index_in(index.get_mut(key)))
 }

@@ -8,8 +8,9 @@ ghost use Rattle.std.specs.Ordering.{eq_by_cmp};
 ghost use Rattle.std.specs.HashMap.{get, hash_map_len};
 ghost use Rattle.key_index_flat.specs.Storage.{value_of, Sets, IsLinked};
 ghost use Rattle.key_index_flat.specs.Chains.{older_at, stored};
-ghost use Rattle.key_index_flat.specs.Content.{item_count, key_count, list_at, with_list};
-ghost use Rattle.key_index_flat.specs.Commands.{after_insert, after_remove, pruned_after};
+ghost use Rattle.key_index_flat.specs.Content.{Content, item_count, key_count, list_at, with_list, with_list_by, IsLawful};
+ghost use Rattle.key_index_flat.specs.Kept.{Kept, IsCounted, view_of};
+ghost use Rattle.key_index_flat.specs.View.{run_at, run_of, with_run, with_edit, with_pruned, after_insert, after_remove, RetainsAt};
 ghost use Rattle.key_index_flat.specs.Fault.{growth_fault};
 
 mod neighbours;
@@ -20,6 +21,7 @@ use std::alloc::Global;
 use std::collections::HashMap;
 use std::collections::hash_map::Entry;
 use std::hash::Hash;
+use std::marker::Model;
 use std::mem::replace;
 
 /// A map from keys to the newest value of each.
@@ -136,6 +138,17 @@ fn older_in<K: Ord + Hash + Copy, V>(older: &HashMap<K, Vec<V>>, key: K) -> &[V]
         Some(values) => values.as_slice(),
         None => &[],
     }
+}
+
+/// The older values of a key, the oldest first. Where no key has any, it looks nothing up.
+#[inline]
+fn older_of<K: Ord + Hash + Copy, V>(older: &HashMap<K, Vec<V>>, key: K) -> &[V]
+    ensures { result.now ≡ older_at K.eq older.now key }
+{
+    if older.is_empty() {
+        return &[];
+    }
+    older_in(older, key)
 }
 
 /// Puts a value in among the older values of a key, where 1 is the place in front of the newest of them. A refusal hands it back
@@ -280,19 +293,27 @@ fn retain_older<K: Ord + Hash + Copy, V: Drop, F: FnMut(&V) -> bool>(
 }
 
 /// The newest value of each index key in `heads`, and in `older` the older values of those that have any, the oldest first.
+/// Contracts see the content that they stand for.
 #[derive(Drop)]
-pub(crate) struct Chains<T: Translator, V, M> {
+pub(crate) struct Chains<T: Translator, V, M: Heads<T::Key, V>> {
     heads: M,
     older: HashMap<T::Key, Vec<V>>,
     alloc: Global,
+}
+
+impl<T: Translator, V, M: Heads<T::Key, V>> Model for Chains<T, V, M> {
+    ghost Value = { Content T.Key V };
+
+    ghost view = { λ c. stored T.Key.cmp T.Key.eq (M.entries c.heads) c.older };
+
+    ghost invariant = { λ c. IsLinked T.Key.cmp (M.entries c.heads) (older_at T.Key.eq c.older) };
 }
 
 impl<T: Translator, V: Drop, M: Heads<T::Key, V>> Chains<T, V, M> {
     /// No values, over an empty map of newest values.
     fn new(alloc: Global, heads: M) -> Chains<T, V, M>
         requires { M.entries heads ≡ [] }
-        ensures content { stored T.Key.cmp T.Key.eq (M.entries result.heads) result.older ≡ [] }
-        ensures linked { IsLinked T.Key.cmp (M.entries result.heads) (older_at T.Key.eq result.older) }
+        ensures content { result ≡ [] }
     {
         Chains {
             heads,
@@ -301,46 +322,35 @@ impl<T: Translator, V: Drop, M: Heads<T::Key, V>> Chains<T, V, M> {
         }
     }
 
-    /// The older values of an index key, the oldest first.
-    #[inline]
-    fn older_of(&self, slot: T::Key) -> &[V]
-        ensures { result.now ≡ older_at T.Key.eq self.now.older slot }
-    {
-        if self.older.is_empty() {
-            return &[];
-        }
-        older_in(&self.older, slot)
-    }
-
     #[inline]
     fn get(&self, slot: T::Key) -> Values<'_, V>
-        ensures { result ≡ list_at T.Key.cmp (stored T.Key.cmp T.Key.eq (M.entries self.now.heads) self.now.older) slot }
+        ensures { result ≡ list_at T.Key.cmp self.now slot }
     {
         match self.heads.get(&slot) {
-            Some(newest) => Values::newest_first(newest, self.older_of(slot)),
+            Some(newest) => Values::newest_first(newest, older_of(&self.older, slot)),
             None => Values::of_slice(&[]),
         }
     }
 
     #[inline]
     fn run_len(&self, slot: T::Key) -> usize
-        ensures { result ≡ length (list_at T.Key.cmp (stored T.Key.cmp T.Key.eq (M.entries self.now.heads) self.now.older) slot) }
+        ensures { result ≡ length (list_at T.Key.cmp self.now slot) }
     {
         match self.heads.get(&slot) {
-            Some(_) => 1 + self.older_of(slot).len(),
+            Some(_) => 1 + older_of(&self.older, slot).len(),
             None => 0,
         }
     }
 
     #[inline]
     fn value_at(&self, slot: T::Key, place: usize) -> &V
-        requires { place < length (list_at T.Key.cmp (stored T.Key.cmp T.Key.eq (M.entries self.now.heads) self.now.older) slot) }
-        ensures { slice_get (list_at T.Key.cmp (stored T.Key.cmp T.Key.eq (M.entries self.now.heads) self.now.older) slot) place ≡ Some result.now }
+        requires { place < length (list_at T.Key.cmp self.now slot) }
+        ensures { slice_get (list_at T.Key.cmp self.now slot) place ≡ Some result.now }
     {
         if place == 0 {
             return self.heads.get(&slot).unwrap();
         }
-        let older = self.older_of(slot);
+        let older = older_of(&self.older, slot);
         &older[older.len() - place]
     }
 
@@ -348,10 +358,8 @@ impl<T: Translator, V: Drop, M: Heads<T::Key, V>> Chains<T, V, M> {
     /// value that finds no room among the older ones then goes back to its place, which takes no memory.
     #[inline]
     fn insert(&mut self, slot: T::Key, value: V) -> Result<(), V>
-        requires linked { IsLinked T.Key.cmp (M.entries self.old.heads) (older_at T.Key.eq self.old.older) }
-        ensures linked { IsLinked T.Key.cmp (M.entries self.new.heads) (older_at T.Key.eq self.new.older) }
-        ensures accepted { OnOk result (stored T.Key.cmp T.Key.eq (M.entries self.new.heads) self.new.older ≡ with_list T.Key.cmp (stored T.Key.cmp T.Key.eq (M.entries self.old.heads) self.old.older) slot (value ∷ list_at T.Key.cmp (stored T.Key.cmp T.Key.eq (M.entries self.old.heads) self.old.older) slot)) }
-        ensures refused { OnErr result (stored T.Key.cmp T.Key.eq (M.entries self.new.heads) self.new.older ≡ stored T.Key.cmp T.Key.eq (M.entries self.old.heads) self.old.older) }
+        ensures accepted { OnOk result (self.new ≡ with_list_by T.Key.cmp self.old slot (λ l. value ∷ l)) }
+        ensures refused { OnErr result (self.new ≡ self.old) }
         ensures returned { IfErr result (λ back. back ≡ value) }
     {
         let Some(displaced) = self.heads.insert(slot, value)? else {
@@ -372,25 +380,23 @@ impl<T: Translator, V: Drop, M: Heads<T::Key, V>> Chains<T, V, M> {
     /// finds no key also makes its place.
     #[inline]
     fn insert_absent(&mut self, slot: T::Key, value: V) -> Result<Option<usize>, V>
-        requires linked { IsLinked T.Key.cmp (M.entries self.old.heads) (older_at T.Key.eq self.old.older) }
-        ensures linked { IsLinked T.Key.cmp (M.entries self.new.heads) (older_at T.Key.eq self.new.older) }
-        ensures accepted { IfOk result (λ found. let old = list_at T.Key.cmp (stored T.Key.cmp T.Key.eq (M.entries self.old.heads) self.old.older) slot in MatchOption found ((old ≡ []) × (stored T.Key.cmp T.Key.eq (M.entries self.new.heads) self.new.older ≡ with_list T.Key.cmp (stored T.Key.cmp T.Key.eq (M.entries self.old.heads) self.old.older) slot (value ∷ []))) (λ len. (len ≡ length old) × (0 < len) × (stored T.Key.cmp T.Key.eq (M.entries self.new.heads) self.new.older ≡ stored T.Key.cmp T.Key.eq (M.entries self.old.heads) self.old.older))) }
-        ensures refused { OnErr result (stored T.Key.cmp T.Key.eq (M.entries self.new.heads) self.new.older ≡ stored T.Key.cmp T.Key.eq (M.entries self.old.heads) self.old.older) }
+        ensures accepted { IfOk result (λ found. let old = list_at T.Key.cmp self.old slot in MatchOption found
+            ((old ≡ []) × (self.new ≡ with_list T.Key.cmp self.old slot (value ∷ [])))
+            (λ len. (len ≡ length old) × (0 < len) × (self.new ≡ self.old))) }
+        ensures refused { OnErr result (self.new ≡ self.old) }
         ensures returned { IfErr result (λ back. back ≡ value) }
     {
         if self.heads.insert_absent(slot, value)? {
             return Ok(None);
         }
-        Ok(Some(1 + self.older_of(slot).len()))
+        Ok(Some(1 + older_of(&self.older, slot).len()))
     }
 
     /// Takes an index key out, and tells how many values it had.
     #[inline]
     fn remove(&mut self, slot: T::Key) -> usize
-        requires linked { IsLinked T.Key.cmp (M.entries self.old.heads) (older_at T.Key.eq self.old.older) }
-        ensures linked { IsLinked T.Key.cmp (M.entries self.new.heads) (older_at T.Key.eq self.new.older) }
-        ensures content { stored T.Key.cmp T.Key.eq (M.entries self.new.heads) self.new.older ≡ with_list T.Key.cmp (stored T.Key.cmp T.Key.eq (M.entries self.old.heads) self.old.older) slot [] }
-        ensures taken { result ≡ length (list_at T.Key.cmp (stored T.Key.cmp T.Key.eq (M.entries self.old.heads) self.old.older) slot) }
+        ensures content { self.new ≡ with_list T.Key.cmp self.old slot [] }
+        ensures taken { result ≡ length (list_at T.Key.cmp self.old slot) }
     {
         if self.heads.remove(&slot).is_none() {
             return 0;
@@ -401,10 +407,8 @@ impl<T: Translator, V: Drop, M: Heads<T::Key, V>> Chains<T, V, M> {
     /// Puts another value at a place of the index key's list.
     #[inline]
     fn set_at(&mut self, slot: T::Key, place: usize, value: V)
-        requires linked { IsLinked T.Key.cmp (M.entries self.old.heads) (older_at T.Key.eq self.old.older) }
-        requires place { place < length (list_at T.Key.cmp (stored T.Key.cmp T.Key.eq (M.entries self.old.heads) self.old.older) slot) }
-        ensures linked { IsLinked T.Key.cmp (M.entries self.new.heads) (older_at T.Key.eq self.new.older) }
-        ensures content { stored T.Key.cmp T.Key.eq (M.entries self.new.heads) self.new.older ≡ with_list T.Key.cmp (stored T.Key.cmp T.Key.eq (M.entries self.old.heads) self.old.older) slot (slice_set (list_at T.Key.cmp (stored T.Key.cmp T.Key.eq (M.entries self.old.heads) self.old.older) slot) place value) }
+        requires place { place < length (list_at T.Key.cmp self.old slot) }
+        ensures content { self.new ≡ with_list_by T.Key.cmp self.old slot (λ l. slice_set l place value) }
     {
         if place != 0 {
             set_older(&mut self.older, slot, place, value);
@@ -418,11 +422,9 @@ impl<T: Translator, V: Drop, M: Heads<T::Key, V>> Chains<T, V, M> {
     /// Puts a value in at a place of the index key's list, or behind its last one.
     #[inline]
     fn insert_at(&mut self, slot: T::Key, place: usize, value: V) -> Result<(), V>
-        requires linked { IsLinked T.Key.cmp (M.entries self.old.heads) (older_at T.Key.eq self.old.older) }
-        requires place { place ≤ length (list_at T.Key.cmp (stored T.Key.cmp T.Key.eq (M.entries self.old.heads) self.old.older) slot) }
-        ensures linked { IsLinked T.Key.cmp (M.entries self.new.heads) (older_at T.Key.eq self.new.older) }
-        ensures accepted { OnOk result (stored T.Key.cmp T.Key.eq (M.entries self.new.heads) self.new.older ≡ with_list T.Key.cmp (stored T.Key.cmp T.Key.eq (M.entries self.old.heads) self.old.older) slot (insert (list_at T.Key.cmp (stored T.Key.cmp T.Key.eq (M.entries self.old.heads) self.old.older) slot) place value)) }
-        ensures refused { OnErr result (stored T.Key.cmp T.Key.eq (M.entries self.new.heads) self.new.older ≡ stored T.Key.cmp T.Key.eq (M.entries self.old.heads) self.old.older) }
+        requires place { place ≤ length (list_at T.Key.cmp self.old slot) }
+        ensures accepted { OnOk result (self.new ≡ with_list_by T.Key.cmp self.old slot (λ l. insert l place value)) }
+        ensures refused { OnErr result (self.new ≡ self.old) }
         ensures returned { IfErr result (λ back. back ≡ value) }
     {
         if place == 0 {
@@ -434,11 +436,9 @@ impl<T: Translator, V: Drop, M: Heads<T::Key, V>> Chains<T, V, M> {
     /// Takes the value at a place of the index key's list out.
     #[inline]
     fn remove_at(&mut self, slot: T::Key, place: usize) -> V
-        requires linked { IsLinked T.Key.cmp (M.entries self.old.heads) (older_at T.Key.eq self.old.older) }
-        requires place { place < length (list_at T.Key.cmp (stored T.Key.cmp T.Key.eq (M.entries self.old.heads) self.old.older) slot) }
-        ensures linked { IsLinked T.Key.cmp (M.entries self.new.heads) (older_at T.Key.eq self.new.older) }
-        ensures value { slice_get (list_at T.Key.cmp (stored T.Key.cmp T.Key.eq (M.entries self.old.heads) self.old.older) slot) place ≡ Some result }
-        ensures content { stored T.Key.cmp T.Key.eq (M.entries self.new.heads) self.new.older ≡ with_list T.Key.cmp (stored T.Key.cmp T.Key.eq (M.entries self.old.heads) self.old.older) slot (remove (list_at T.Key.cmp (stored T.Key.cmp T.Key.eq (M.entries self.old.heads) self.old.older) slot) place) }
+        requires place { place < length (list_at T.Key.cmp self.old slot) }
+        ensures value { slice_get (list_at T.Key.cmp self.old slot) place ≡ Some result }
+        ensures content { self.new ≡ with_list_by T.Key.cmp self.old slot (λ l. remove l place) }
     {
         if place != 0 {
             return remove_older(&mut self.older, slot, place);
@@ -454,10 +454,9 @@ impl<T: Translator, V: Drop, M: Heads<T::Key, V>> Chains<T, V, M> {
 
     /// Asks once on each value of the index key, in list order, takes out those that are answered false, and tells how many.
     fn retain<F: FnMut(&V) -> bool>(&mut self, slot: T::Key, mut should_retain: F) -> usize
-        requires linked { IsLinked T.Key.cmp (M.entries self.old.heads) (older_at T.Key.eq self.old.older) }
         requires callable { F.IsAlwaysCallable should_retain }
-        ensures linked { IsLinked T.Key.cmp (M.entries self.new.heads) (older_at T.Key.eq self.new.older) }
-        ensures kept { (kept : List V) × IsFiltered (CalledAt F.FnMut) should_retain (list_at T.Key.cmp (stored T.Key.cmp T.Key.eq (M.entries self.old.heads) self.old.older) slot) kept × (stored T.Key.cmp T.Key.eq (M.entries self.new.heads) self.new.older ≡ with_list T.Key.cmp (stored T.Key.cmp T.Key.eq (M.entries self.old.heads) self.old.older) slot kept) × (result + length kept ≡ length (list_at T.Key.cmp (stored T.Key.cmp T.Key.eq (M.entries self.old.heads) self.old.older) slot)) }
+        ensures kept { (kept : List V) × IsFiltered (CalledAt F.FnMut) should_retain (list_at T.Key.cmp self.old slot) kept
+            × (self.new ≡ with_list T.Key.cmp self.old slot kept) × (result + length kept ≡ length (list_at T.Key.cmp self.old slot)) }
     {
         let Some(newest) = self.heads.get(&slot) else {
             return 0;
@@ -474,20 +473,28 @@ impl<T: Translator, V: Drop, M: Heads<T::Key, V>> Chains<T, V, M> {
     /// How many index keys have values.
     #[inline]
     fn keys(&self) -> usize
-        requires linked { IsLinked T.Key.cmp (M.entries self.now.heads) (older_at T.Key.eq self.now.older) }
-        ensures { result ≡ key_count (stored T.Key.cmp T.Key.eq (M.entries self.now.heads) self.now.older) }
+        ensures { result ≡ key_count self.now }
     {
         self.heads.len()
     }
 }
 
-/// A flat index over any map of newest values: a translator, the chains, and the counts.
+/// A flat index over any map of newest values: a translator, the chains, and the counts. Contracts see all of it but the count of
+/// values, which is that of the content.
 #[derive(Drop)]
-pub(crate) struct Storage<T: Translator, V, M> {
+pub(crate) struct Storage<T: Translator, V, M: Heads<T::Key, V>> {
     translator: T,
     chains: Chains<T, V, M>,
     items: usize,
     pruned: u64,
+}
+
+impl<T: Translator, V, M: Heads<T::Key, V>> Model for Storage<T, V, M> {
+    ghost Value = { Kept T T.Key V };
+
+    ghost view = { λ s. record { translator = s.translator; content = s.chains; pruned = s.pruned } };
+
+    ghost invariant = { λ s. IsCounted T.Key.cmp s.chains s.items };
 }
 
 impl<T: Translator, V: Drop, M: Heads<T::Key, V>> Storage<T, V, M> {
@@ -495,9 +502,8 @@ impl<T: Translator, V: Drop, M: Heads<T::Key, V>> Storage<T, V, M> {
     pub(crate) fn new(alloc: Global, translator: T, heads: M) -> Storage<T, V, M>
         requires { M.entries heads ≡ [] }
         ensures translator { result.translator ≡ translator }
-        ensures content { stored T.Key.cmp T.Key.eq (M.entries result.chains.heads) result.chains.older ≡ [] }
-        ensures linked { IsLinked T.Key.cmp (M.entries result.chains.heads) (older_at T.Key.eq result.chains.older) }
-        ensures items { result.items ≡ 0 }
+        ensures content { result.content ≡ [] }
+        ensures lawful { IsLawful T.Key.cmp result.content }
         ensures pruned { result.pruned ≡ 0 }
     {
         Storage {
@@ -517,39 +523,35 @@ impl<T: Translator, V: Drop, M: Heads<T::Key, V>> Storage<T, V, M> {
 
     #[inline]
     pub(crate) fn run_len(&self, slot: T::Key) -> usize
-        ensures { result ≡ length (list_at T.Key.cmp (stored T.Key.cmp T.Key.eq (M.entries self.now.chains.heads) self.now.chains.older) slot) }
+        ensures { result ≡ length (list_at T.Key.cmp self.now.content slot) }
     {
         self.chains.run_len(slot)
     }
 
     #[inline]
     pub(crate) fn value_at(&self, slot: T::Key, place: usize) -> &V
-        requires { place < length (list_at T.Key.cmp (stored T.Key.cmp T.Key.eq (M.entries self.now.chains.heads) self.now.chains.older) slot) }
-        ensures { slice_get (list_at T.Key.cmp (stored T.Key.cmp T.Key.eq (M.entries self.now.chains.heads) self.now.chains.older) slot) place ≡ Some result.now }
+        requires { place < length (list_at T.Key.cmp self.now.content slot) }
+        ensures { slice_get (list_at T.Key.cmp self.now.content slot) place ≡ Some result.now }
     {
         self.chains.value_at(slot, place)
     }
 
     #[inline]
     pub(crate) fn get(&self, key: &[u8]) -> Values<'_, V>
-        ensures { result ≡ list_at T.Key.cmp (stored T.Key.cmp T.Key.eq (M.entries self.now.chains.heads) self.now.chains.older) (T.translated self.now.translator key.now) }
+        ensures { result ≡ list_at T.Key.cmp self.now.content (T.translated self.now.translator key.now) }
     {
         self.chains.get(self.translator.transform(key))
     }
 
     /// Puts a value in front of the list of its index key.
     pub(crate) fn insert(&mut self, key: &[u8], value: V) -> Result<(), Refused<V>>
-        requires linked { IsLinked T.Key.cmp (M.entries self.old.chains.heads) (older_at T.Key.eq self.old.chains.older) }
-        requires counted { self.old.items ≡ item_count (stored T.Key.cmp T.Key.eq (M.entries self.old.chains.heads) self.old.chains.older) }
-        ensures linked { IsLinked T.Key.cmp (M.entries self.new.chains.heads) (older_at T.Key.eq self.new.chains.older) }
-        ensures counted { self.new.items ≡ item_count (stored T.Key.cmp T.Key.eq (M.entries self.new.chains.heads) self.new.chains.older) }
-        ensures accepted { OnOk result (stored T.Key.cmp T.Key.eq (M.entries self.new.chains.heads) self.new.chains.older ≡ after_insert T.Key.cmp true (stored T.Key.cmp T.Key.eq (M.entries self.old.chains.heads) self.old.chains.older) (T.translated self.old.translator key.now) value) }
-        ensures room { OnOk result (item_count (stored T.Key.cmp T.Key.eq (M.entries self.old.chains.heads) self.old.chains.older) < usize.MAX) }
-        ensures refused { OnErr result (stored T.Key.cmp T.Key.eq (M.entries self.new.chains.heads) self.new.chains.older ≡ stored T.Key.cmp T.Key.eq (M.entries self.old.chains.heads) self.old.chains.older) }
+        ensures accepted { OnOk result (view_of T.translated self.new
+            ≡ after_insert T.Key.cmp true (view_of T.translated self.old) key.now value) }
+        ensures room { OnOk result (item_count self.old.content < usize.MAX) }
+        ensures refused { OnErr result (self.new ≡ self.old) }
+        ensures lawful { IsLawful T.Key.cmp self.new.content }
         ensures returned { IfErr result (λ r. r.value ≡ value) }
-        ensures fault { IfErr result (λ r. r.fault ≡ growth_fault (item_count (stored T.Key.cmp T.Key.eq (M.entries self.old.chains.heads) self.old.chains.older))) }
-        ensures pruned { self.new.pruned ≡ self.old.pruned }
-        ensures translator { self.new.translator ≡ self.old.translator }
+        ensures fault { IfErr result (λ r. r.fault ≡ growth_fault (item_count self.old.content)) }
     {
         if self.items == usize::MAX {
             let fault = Fault::Full;
@@ -570,14 +572,10 @@ impl<T: Translator, V: Drop, M: Heads<T::Key, V>> Storage<T, V, M> {
 
     #[inline]
     pub(crate) fn set_at(&mut self, slot: T::Key, place: usize, value: V)
-        requires linked { IsLinked T.Key.cmp (M.entries self.old.chains.heads) (older_at T.Key.eq self.old.chains.older) }
-        requires counted { self.old.items ≡ item_count (stored T.Key.cmp T.Key.eq (M.entries self.old.chains.heads) self.old.chains.older) }
-        requires place { place < length (list_at T.Key.cmp (stored T.Key.cmp T.Key.eq (M.entries self.old.chains.heads) self.old.chains.older) slot) }
-        ensures linked { IsLinked T.Key.cmp (M.entries self.new.chains.heads) (older_at T.Key.eq self.new.chains.older) }
-        ensures counted { self.new.items ≡ item_count (stored T.Key.cmp T.Key.eq (M.entries self.new.chains.heads) self.new.chains.older) }
-        ensures content { stored T.Key.cmp T.Key.eq (M.entries self.new.chains.heads) self.new.chains.older ≡ with_list T.Key.cmp (stored T.Key.cmp T.Key.eq (M.entries self.old.chains.heads) self.old.chains.older) slot (slice_set (list_at T.Key.cmp (stored T.Key.cmp T.Key.eq (M.entries self.old.chains.heads) self.old.chains.older) slot) place value) }
-        ensures pruned { self.new.pruned ≡ self.old.pruned }
-        ensures translator { self.new.translator ≡ self.old.translator }
+        requires place { place < length (list_at T.Key.cmp self.old.content slot) }
+        ensures edited { view_of T.translated self.new
+            ≡ with_edit T.Key.cmp (view_of T.translated self.old) slot (λ l. slice_set l place value) }
+        ensures lawful { IsLawful T.Key.cmp self.new.content }
     {
         self.chains.set_at(slot, place, value);
     }
@@ -588,18 +586,14 @@ impl<T: Translator, V: Drop, M: Heads<T::Key, V>> Storage<T, V, M> {
         place: usize,
         value: V,
     ) -> Result<(), Refused<V>>
-        requires linked { IsLinked T.Key.cmp (M.entries self.old.chains.heads) (older_at T.Key.eq self.old.chains.older) }
-        requires counted { self.old.items ≡ item_count (stored T.Key.cmp T.Key.eq (M.entries self.old.chains.heads) self.old.chains.older) }
-        requires place { place ≤ length (list_at T.Key.cmp (stored T.Key.cmp T.Key.eq (M.entries self.old.chains.heads) self.old.chains.older) slot) }
-        ensures linked { IsLinked T.Key.cmp (M.entries self.new.chains.heads) (older_at T.Key.eq self.new.chains.older) }
-        ensures counted { self.new.items ≡ item_count (stored T.Key.cmp T.Key.eq (M.entries self.new.chains.heads) self.new.chains.older) }
-        ensures accepted { OnOk result (stored T.Key.cmp T.Key.eq (M.entries self.new.chains.heads) self.new.chains.older ≡ with_list T.Key.cmp (stored T.Key.cmp T.Key.eq (M.entries self.old.chains.heads) self.old.chains.older) slot (insert (list_at T.Key.cmp (stored T.Key.cmp T.Key.eq (M.entries self.old.chains.heads) self.old.chains.older) slot) place value)) }
-        ensures room { OnOk result (item_count (stored T.Key.cmp T.Key.eq (M.entries self.old.chains.heads) self.old.chains.older) < usize.MAX) }
-        ensures refused { OnErr result (stored T.Key.cmp T.Key.eq (M.entries self.new.chains.heads) self.new.chains.older ≡ stored T.Key.cmp T.Key.eq (M.entries self.old.chains.heads) self.old.chains.older) }
+        requires place { place ≤ length (list_at T.Key.cmp self.old.content slot) }
+        ensures accepted { OnOk result (view_of T.translated self.new
+            ≡ with_edit T.Key.cmp (view_of T.translated self.old) slot (λ l. insert l place value)) }
+        ensures room { OnOk result (item_count self.old.content < usize.MAX) }
+        ensures refused { OnErr result (self.new ≡ self.old) }
+        ensures lawful { IsLawful T.Key.cmp self.new.content }
         ensures returned { IfErr result (λ r. r.value ≡ value) }
-        ensures fault { IfErr result (λ r. r.fault ≡ growth_fault (item_count (stored T.Key.cmp T.Key.eq (M.entries self.old.chains.heads) self.old.chains.older))) }
-        ensures pruned { self.new.pruned ≡ self.old.pruned }
-        ensures translator { self.new.translator ≡ self.old.translator }
+        ensures fault { IfErr result (λ r. r.fault ≡ growth_fault (item_count self.old.content)) }
     {
         if self.items == usize::MAX {
             let fault = Fault::Full;
@@ -623,17 +617,14 @@ impl<T: Translator, V: Drop, M: Heads<T::Key, V>> Storage<T, V, M> {
         slot: T::Key,
         value: V,
     ) -> Result<Option<usize>, Refused<V>>
-        requires linked { IsLinked T.Key.cmp (M.entries self.old.chains.heads) (older_at T.Key.eq self.old.chains.older) }
-        requires counted { self.old.items ≡ item_count (stored T.Key.cmp T.Key.eq (M.entries self.old.chains.heads) self.old.chains.older) }
-        ensures linked { IsLinked T.Key.cmp (M.entries self.new.chains.heads) (older_at T.Key.eq self.new.chains.older) }
-        ensures counted { self.new.items ≡ item_count (stored T.Key.cmp T.Key.eq (M.entries self.new.chains.heads) self.new.chains.older) }
-        ensures accepted { IfOk result (λ found. let old = list_at T.Key.cmp (stored T.Key.cmp T.Key.eq (M.entries self.old.chains.heads) self.old.chains.older) slot in MatchOption found ((old ≡ []) × (stored T.Key.cmp T.Key.eq (M.entries self.new.chains.heads) self.new.chains.older ≡ with_list T.Key.cmp (stored T.Key.cmp T.Key.eq (M.entries self.old.chains.heads) self.old.chains.older) slot (value ∷ []))) (λ len. (len ≡ length old) × (0 < len) × (stored T.Key.cmp T.Key.eq (M.entries self.new.chains.heads) self.new.chains.older ≡ stored T.Key.cmp T.Key.eq (M.entries self.old.chains.heads) self.old.chains.older))) }
-        ensures room { OnOk result (item_count (stored T.Key.cmp T.Key.eq (M.entries self.old.chains.heads) self.old.chains.older) < usize.MAX) }
-        ensures refused { OnErr result (stored T.Key.cmp T.Key.eq (M.entries self.new.chains.heads) self.new.chains.older ≡ stored T.Key.cmp T.Key.eq (M.entries self.old.chains.heads) self.old.chains.older) }
+        ensures accepted { IfOk result (λ found. let old = run_at T.Key.cmp (view_of T.translated self.old) slot in MatchOption found
+            ((old ≡ []) × (view_of T.translated self.new ≡ with_run T.Key.cmp (view_of T.translated self.old) slot (value ∷ [])))
+            (λ len. (len ≡ length old) × (0 < len) × (self.new ≡ self.old))) }
+        ensures room { OnOk result (item_count self.old.content < usize.MAX) }
+        ensures refused { OnErr result (self.new ≡ self.old) }
+        ensures lawful { IsLawful T.Key.cmp self.new.content }
         ensures returned { IfErr result (λ r. r.value ≡ value) }
-        ensures fault { IfErr result (λ r. r.fault ≡ growth_fault (item_count (stored T.Key.cmp T.Key.eq (M.entries self.old.chains.heads) self.old.chains.older))) }
-        ensures pruned { self.new.pruned ≡ self.old.pruned }
-        ensures translator { self.new.translator ≡ self.old.translator }
+        ensures fault { IfErr result (λ r. r.fault ≡ growth_fault (item_count self.old.content)) }
     {
         if self.items == usize::MAX {
             let fault = Fault::Full;
@@ -653,15 +644,11 @@ impl<T: Translator, V: Drop, M: Heads<T::Key, V>> Storage<T, V, M> {
     }
 
     pub(crate) fn remove_at(&mut self, slot: T::Key, place: usize) -> V
-        requires linked { IsLinked T.Key.cmp (M.entries self.old.chains.heads) (older_at T.Key.eq self.old.chains.older) }
-        requires counted { self.old.items ≡ item_count (stored T.Key.cmp T.Key.eq (M.entries self.old.chains.heads) self.old.chains.older) }
-        requires place { place < length (list_at T.Key.cmp (stored T.Key.cmp T.Key.eq (M.entries self.old.chains.heads) self.old.chains.older) slot) }
-        ensures linked { IsLinked T.Key.cmp (M.entries self.new.chains.heads) (older_at T.Key.eq self.new.chains.older) }
-        ensures counted { self.new.items ≡ item_count (stored T.Key.cmp T.Key.eq (M.entries self.new.chains.heads) self.new.chains.older) }
-        ensures value { slice_get (list_at T.Key.cmp (stored T.Key.cmp T.Key.eq (M.entries self.old.chains.heads) self.old.chains.older) slot) place ≡ Some result }
-        ensures content { stored T.Key.cmp T.Key.eq (M.entries self.new.chains.heads) self.new.chains.older ≡ with_list T.Key.cmp (stored T.Key.cmp T.Key.eq (M.entries self.old.chains.heads) self.old.chains.older) slot (remove (list_at T.Key.cmp (stored T.Key.cmp T.Key.eq (M.entries self.old.chains.heads) self.old.chains.older) slot) place) }
-        ensures pruned { self.new.pruned ≡ pruned_after self.old.pruned 1 }
-        ensures translator { self.new.translator ≡ self.old.translator }
+        requires place { place < length (list_at T.Key.cmp self.old.content slot) }
+        ensures value { slice_get (list_at T.Key.cmp self.old.content slot) place ≡ Some result }
+        ensures edited { view_of T.translated self.new
+            ≡ with_pruned (with_edit T.Key.cmp (view_of T.translated self.old) slot (λ l. remove l place)) 1 }
+        ensures lawful { IsLawful T.Key.cmp self.new.content }
     {
         let value = self.chains.remove_at(slot, place);
         self.items -= 1;
@@ -671,13 +658,10 @@ impl<T: Translator, V: Drop, M: Heads<T::Key, V>> Storage<T, V, M> {
 
     /// Asks once on each value of the key's index key, in list order, and takes out those that are answered false.
     pub(crate) fn retain<F: FnMut(&V) -> bool>(&mut self, key: &[u8], should_retain: F)
-        requires linked { IsLinked T.Key.cmp (M.entries self.old.chains.heads) (older_at T.Key.eq self.old.chains.older) }
-        requires counted { self.old.items ≡ item_count (stored T.Key.cmp T.Key.eq (M.entries self.old.chains.heads) self.old.chains.older) }
         requires callable { F.IsAlwaysCallable should_retain }
-        ensures linked { IsLinked T.Key.cmp (M.entries self.new.chains.heads) (older_at T.Key.eq self.new.chains.older) }
-        ensures counted { self.new.items ≡ item_count (stored T.Key.cmp T.Key.eq (M.entries self.new.chains.heads) self.new.chains.older) }
-        ensures kept { let old = list_at T.Key.cmp (stored T.Key.cmp T.Key.eq (M.entries self.old.chains.heads) self.old.chains.older) (T.translated self.old.translator key.now) in (kept : List V) × IsFiltered (CalledAt F.FnMut) should_retain old kept × (stored T.Key.cmp T.Key.eq (M.entries self.new.chains.heads) self.new.chains.older ≡ with_list T.Key.cmp (stored T.Key.cmp T.Key.eq (M.entries self.old.chains.heads) self.old.chains.older) (T.translated self.old.translator key.now) kept) × (self.new.pruned ≡ pruned_after self.old.pruned (length old - length kept)) }
-        ensures translator { self.new.translator ≡ self.old.translator }
+        ensures kept { RetainsAt T.Key.cmp (CalledAt F.FnMut) should_retain
+            (view_of T.translated self.old) key.now (view_of T.translated self.new) }
+        ensures lawful { IsLawful T.Key.cmp self.new.content }
     {
         let slot = self.translator.transform(key);
         let taken = self.chains.retain(slot, should_retain);
@@ -687,13 +671,8 @@ impl<T: Translator, V: Drop, M: Heads<T::Key, V>> Storage<T, V, M> {
 
     /// Takes the key's index key out.
     pub(crate) fn remove(&mut self, key: &[u8])
-        requires linked { IsLinked T.Key.cmp (M.entries self.old.chains.heads) (older_at T.Key.eq self.old.chains.older) }
-        requires counted { self.old.items ≡ item_count (stored T.Key.cmp T.Key.eq (M.entries self.old.chains.heads) self.old.chains.older) }
-        ensures linked { IsLinked T.Key.cmp (M.entries self.new.chains.heads) (older_at T.Key.eq self.new.chains.older) }
-        ensures counted { self.new.items ≡ item_count (stored T.Key.cmp T.Key.eq (M.entries self.new.chains.heads) self.new.chains.older) }
-        ensures content { stored T.Key.cmp T.Key.eq (M.entries self.new.chains.heads) self.new.chains.older ≡ after_remove T.Key.cmp (stored T.Key.cmp T.Key.eq (M.entries self.old.chains.heads) self.old.chains.older) (T.translated self.old.translator key.now) }
-        ensures pruned { self.new.pruned ≡ pruned_after self.old.pruned (length (list_at T.Key.cmp (stored T.Key.cmp T.Key.eq (M.entries self.old.chains.heads) self.old.chains.older) (T.translated self.old.translator key.now))) }
-        ensures translator { self.new.translator ≡ self.old.translator }
+        ensures removed { view_of T.translated self.new ≡ after_remove T.Key.cmp (view_of T.translated self.old) key.now }
+        ensures lawful { IsLawful T.Key.cmp self.new.content }
     {
         let slot = self.translator.transform(key);
         let taken = self.chains.remove(slot);
@@ -703,16 +682,14 @@ impl<T: Translator, V: Drop, M: Heads<T::Key, V>> Storage<T, V, M> {
 
     #[inline]
     pub(crate) fn keys(&self) -> usize
-        requires linked { IsLinked T.Key.cmp (M.entries self.now.chains.heads) (older_at T.Key.eq self.now.chains.older) }
-        ensures { result ≡ key_count (stored T.Key.cmp T.Key.eq (M.entries self.now.chains.heads) self.now.chains.older) }
+        ensures { result ≡ key_count self.now.content }
     {
         self.chains.keys()
     }
 
     #[inline]
     pub(crate) fn items(&self) -> usize
-        requires counted { self.now.items ≡ item_count (stored T.Key.cmp T.Key.eq (M.entries self.now.chains.heads) self.now.chains.older) }
-        ensures { result ≡ item_count (stored T.Key.cmp T.Key.eq (M.entries self.now.chains.heads) self.now.chains.older) }
+        ensures { result ≡ item_count self.now.content }
     {
         self.items
     }

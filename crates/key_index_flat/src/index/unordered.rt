@@ -1,9 +1,7 @@
 //! The flat unordered index.
 ghost use Rattle.std.specs.Prelude.{◌≡◌, [], true, false, refl, IsOk, IfOk, IfErr};
-ghost use Rattle.key_index_flat.specs.Chains.{older_at, stored};
-ghost use Rattle.key_index_flat.specs.Content.{item_count};
-ghost use Rattle.key_index_flat.specs.Storage.{IsLinked};
-ghost use Rattle.key_index_flat.specs.Laws.{IsLawful-stored};
+ghost use Rattle.key_index_flat.specs.Content.{IsLawful};
+ghost use Rattle.key_index_flat.specs.Kept.{view_of};
 
 use super::storage::Storage;
 use super::{Factory, Fault, IndexCursor, Refused, Runs, Search, Unordered, Values};
@@ -18,8 +16,7 @@ use std::collections::HashMap;
 #[derive(Drop)]
 pub struct Index<T: Translator, V> {
     storage: Storage<T, V, HashMap<T::Key, V>>,
-    ghost linked: { IsLinked T.Key.cmp storage.chains.heads.entries (older_at T.Key.eq storage.chains.older) },
-    ghost counted: { storage.items ≡ item_count (stored T.Key.cmp T.Key.eq storage.chains.heads.entries storage.chains.older) },
+    ghost lawful: { IsLawful T.Key.cmp storage.content },
 }
 
 impl<T: Translator, V: Drop> Runs for Index<T, V> {
@@ -27,17 +24,11 @@ impl<T: Translator, V: Drop> Runs for Index<T, V> {
 
     type Key = T::Key;
 
-    ghost content = { λ index. stored T.Key.cmp T.Key.eq index.storage.chains.heads.entries index.storage.chains.older };
-
-    ghost slot = { λ index. T.translated index.storage.translator };
-
-    ghost admitted = { λ _ _. true };
-
-    ghost pruned_count = { λ index. index.storage.pruned };
+    ghost view = { λ index. view_of T.translated index.storage };
 
     ghost edited = { λ _ _. Unit {0} };
 
-    ghost lawful = { λ index. IsLawful-stored T.Key.total T.Key.eq index.storage.chains.heads.entries index.storage.chains.older };
+    ghost lawful = { λ index. index.lawful };
 
     ghost exact = { T.exact };
 
@@ -84,13 +75,26 @@ impl<T: Translator, V: Drop> Search for Index<T, V> {
 
     ghost may_refuse = { λ _ _. false };
 
+    fn reach(&mut self, key: &[u8]) -> Result<usize, Fault> {
+        Ok(self.run_len(self.slot_of(key)))
+    }
+
+    fn reach_or_insert(&mut self, key: &[u8], value: V) -> Result<usize, Refused<V>> {
+        let slot = self.slot_of(key);
+        match self.storage.insert_absent(slot, value) {
+            Ok(None) => Ok(0),
+            Ok(Some(len)) => Ok(len),
+            Err(refused) => Err(refused),
+        }
+    }
+
     fn search(&mut self, key: &[u8]) -> Result<IndexCursor<'_, Index<T, V>>, Option<Fault>> {
         let slot = self.slot_of(key);
-        let len = self.run_len(slot);
-        if len == 0 {
-            return Err(None);
+        match self.reach(key) {
+            Ok(0) => Err(None),
+            Ok(len) => Ok(IndexCursor::with_len(self, slot, len)),
+            Err(fault) => Err(Some(fault)),
         }
-        Ok(IndexCursor::with_len(self, slot, len))
     }
 
     fn search_or_insert(
@@ -99,9 +103,9 @@ impl<T: Translator, V: Drop> Search for Index<T, V> {
         value: V,
     ) -> Result<IndexCursor<'_, Index<T, V>>, Option<Refused<V>>> {
         let slot = self.slot_of(key);
-        match self.storage.insert_absent(slot, value) {
-            Ok(None) => Err(None),
-            Ok(Some(len)) => Ok(IndexCursor::with_len(self, slot, len)),
+        match self.reach_or_insert(key, value) {
+            Ok(0) => Err(None),
+            Ok(len) => Ok(IndexCursor::with_len(self, slot, len)),
             Err(refused) => Err(Some(refused)),
         }
     }
@@ -159,12 +163,14 @@ impl<T: Translator, V: Drop> Factory for Index<T, V> {
 
     ghost slot_by = { T.translated };
 
+    ghost makes = { Unit {0} };
+
     /// Takes no memory, and never refuses.
     fn new(alloc: Global, translator: T) -> Result<Index<T, V>, Fault>
         ensures made { IsOk result }
-        ensures empty { IfOk result (λ index. ⟦<Index<T, V> as Runs>⟧.content index ≡ []) }
-        ensures pruned { IfOk result (λ index. ⟦<Index<T, V> as Runs>⟧.pruned_count index ≡ 0) }
-        ensures slots { IfOk result (λ index. ⟦<Index<T, V> as Runs>⟧.slot index ≡ T.translated translator) }
+        ensures empty { IfOk result (λ index. (⟦<Index<T, V> as Runs>⟧.view index).content ≡ []) }
+        ensures pruned { IfOk result (λ index. (⟦<Index<T, V> as Runs>⟧.view index).pruned ≡ 0) }
+        ensures slots { IfOk result (λ index. (⟦<Index<T, V> as Runs>⟧.view index).slot ≡ T.translated translator) }
         ensures fault { IfErr result (λ f. f ≡ Fault.Memory) }
     {
         Ok(Index {

@@ -7,11 +7,12 @@ ghost use Rattle.std.specs.Option.{option_map};
 ghost use Rattle.key_index_flat.specs.Chains.{older_at, stored};
 ghost use Rattle.key_index_flat.specs.Neighbours.{first_entry, last_entry, entries_above, entries_below, first_list, last_list, next_list, prev_list};
 
-use super::{Chains, Heads, Storage};
+use super::{Chains, Heads, Storage, older_of};
 use crate::index::Values;
 use crate::translator::Translator;
-use std::collections::BTreeMap;
 use std::collections::btree_map::Entry;
+use std::collections::{BTreeMap, HashMap};
+use std::hash::Hash;
 use std::ops::Bound;
 
 impl<K: Ord + Copy, V> Heads<K, V> for BTreeMap<K, V> {
@@ -108,37 +109,40 @@ impl<K: Ord + Copy, V> OrderedHeads<K, V> for BTreeMap<K, V> {
     }
 }
 
-impl<T: Translator, V: Drop, M: OrderedHeads<T::Key, V>> Chains<T, V, M> {
-    /// The values of a key with its newest value.
-    #[inline]
-    fn values_of<'a>(&'a self, head: Option<(&'a T::Key, &'a V)>) -> Option<Values<'a, V>>
-        ensures { result ≡ option_map (λ e. e.1 ∷ reverse (older_at T.Key.eq self.now.older e.0)) (option_map deref_pair head.entry) }
-    {
-        match head {
-            Some((slot, newest)) => Some(Values::newest_first(newest, self.older_of(*slot))),
-            None => None,
-        }
+/// The values of a key with its newest value.
+#[inline]
+fn values_of<'a, K: Ord + Hash + Copy, V>(
+    older: &'a HashMap<K, Vec<V>>,
+    head: Option<(&'a K, &'a V)>,
+) -> Option<Values<'a, V>>
+    ensures { result ≡ option_map (λ e. e.1 ∷ reverse (older_at K.eq older.now e.0)) (option_map deref_pair head.entry) }
+{
+    match head {
+        Some((key, newest)) => Some(Values::newest_first(newest, older_of(older, *key))),
+        None => None,
     }
+}
 
+impl<T: Translator, V: Drop, M: OrderedHeads<T::Key, V>> Chains<T, V, M> {
     #[inline]
     fn first(&self) -> Option<Values<'_, V>>
-        ensures { result ≡ first_list (stored T.Key.cmp T.Key.eq (M.entries self.now.heads) self.now.older) }
+        ensures { result ≡ first_list self.now }
     {
-        self.values_of(self.heads.first())
+        values_of(&self.older, self.heads.first())
     }
 
     #[inline]
     fn last(&self) -> Option<Values<'_, V>>
-        ensures { result ≡ last_list (stored T.Key.cmp T.Key.eq (M.entries self.now.heads) self.now.older) }
+        ensures { result ≡ last_list self.now }
     {
-        self.values_of(self.heads.last())
+        values_of(&self.older, self.heads.last())
     }
 
     #[inline]
     fn next(&self, slot: T::Key) -> Option<(Values<'_, V>, bool)>
-        ensures { result ≡ next_list T.Key.cmp (stored T.Key.cmp T.Key.eq (M.entries self.now.heads) self.now.older) slot }
+        ensures { result ≡ next_list T.Key.cmp self.now slot }
     {
-        match self.values_of(self.heads.above(&slot)) {
+        match values_of(&self.older, self.heads.above(&slot)) {
             Some(above) => Some((above, false)),
             None => match self.first() {
                 Some(first) => Some((first, true)),
@@ -149,9 +153,9 @@ impl<T: Translator, V: Drop, M: OrderedHeads<T::Key, V>> Chains<T, V, M> {
 
     #[inline]
     fn prev(&self, slot: T::Key) -> Option<(Values<'_, V>, bool)>
-        ensures { result ≡ prev_list T.Key.cmp (stored T.Key.cmp T.Key.eq (M.entries self.now.heads) self.now.older) slot }
+        ensures { result ≡ prev_list T.Key.cmp self.now slot }
     {
-        match self.values_of(self.heads.below(&slot)) {
+        match values_of(&self.older, self.heads.below(&slot)) {
             Some(below) => Some((below, false)),
             None => match self.last() {
                 Some(last) => Some((last, true)),
@@ -164,28 +168,28 @@ impl<T: Translator, V: Drop, M: OrderedHeads<T::Key, V>> Chains<T, V, M> {
 impl<T: Translator, V: Drop, M: OrderedHeads<T::Key, V>> Storage<T, V, M> {
     #[inline]
     pub(crate) fn first(&self) -> Option<Values<'_, V>>
-        ensures { result ≡ first_list (stored T.Key.cmp T.Key.eq (M.entries self.now.chains.heads) self.now.chains.older) }
+        ensures { result ≡ first_list self.now.content }
     {
         self.chains.first()
     }
 
     #[inline]
     pub(crate) fn last(&self) -> Option<Values<'_, V>>
-        ensures { result ≡ last_list (stored T.Key.cmp T.Key.eq (M.entries self.now.chains.heads) self.now.chains.older) }
+        ensures { result ≡ last_list self.now.content }
     {
         self.chains.last()
     }
 
     #[inline]
     pub(crate) fn next(&self, key: &[u8]) -> Option<(Values<'_, V>, bool)>
-        ensures { result ≡ next_list T.Key.cmp (stored T.Key.cmp T.Key.eq (M.entries self.now.chains.heads) self.now.chains.older) (T.translated self.now.translator key.now) }
+        ensures { result ≡ next_list T.Key.cmp self.now.content (T.translated self.now.translator key.now) }
     {
         self.chains.next(self.translator.transform(key))
     }
 
     #[inline]
     pub(crate) fn prev(&self, key: &[u8]) -> Option<(Values<'_, V>, bool)>
-        ensures { result ≡ prev_list T.Key.cmp (stored T.Key.cmp T.Key.eq (M.entries self.now.chains.heads) self.now.chains.older) (T.translated self.now.translator key.now) }
+        ensures { result ≡ prev_list T.Key.cmp self.now.content (T.translated self.now.translator key.now) }
     {
         self.chains.prev(self.translator.transform(key))
     }

@@ -5,6 +5,7 @@ use Rattle.key_index_flat.specs.Content.{item_count, list_at}
 use Rattle.key_index_plain.specs.Entries.{listed}
 use Rattle.key_index_plain.proofs.EntryLemmas.{content_of-listed}
 use Rattle.key_index_plain.proofs.IndexLemmas.{told, told_same, kept_or}
+use Rattle.key_index_flat.proofs.ViewLemmas.{same_view}
 use Rattle.key_index_plain.proofs.IndexRuns.insert_at.Goals as goal
 
 pub insert_at-requires-clause-place : goal.insert_at-requires-clause-place
@@ -23,18 +24,8 @@ invariant_of-self g c =
 
 pub returns-in-Ok-clause-accepted : goal.returns-in-Ok-clause-accepted
 returns-in-Ok-clause-accepted g c =
-    record {
-      content_is = told g.met.T.Key.Ord.total c.args.self.now.entries.items c.insert_at.new.entries.items c.args.key c.args.key (λ x k. insert (list_at g.T.Key.Ord.cmp x k) c.args.place c.args.value) c.args.self.now.lawful c.in-Ok.ensures.accepted refl;
-      pruned_is = refl;
-      same_slots = refl;
-      same_admitted = refl;
-    }
+    same_view (told g.met.T.Key.Ord.total c.args.self.now.entries.items c.insert_at.new.entries.items c.args.key c.args.key (λ x k. insert (list_at g.T.Key.Ord.cmp x k) c.args.place c.args.value) c.args.self.now.lawful c.in-Ok.ensures.accepted refl) (refl) refl refl
 
 pub returns-in-Err-clause-refused : goal.returns-in-Err-clause-refused
 returns-in-Err-clause-refused g c =
-    record {
-      content_is = told_same g.met.T.Key.Ord.total c.args.self.now.entries.items c.insert_at.new.entries.items c.args.self.now.lawful c.in-Err.ensures.refused;
-      pruned_is = refl;
-      same_slots = refl;
-      same_admitted = refl;
-    }
+    same_view (told_same g.met.T.Key.Ord.total c.args.self.now.entries.items c.insert_at.new.entries.items c.args.self.now.lawful c.in-Err.ensures.refused) (refl) refl refl

@@ -5,6 +5,7 @@ use Rattle.key_index_flat.specs.Content.{list_at}
 use Rattle.key_index_plain.specs.Entries.{listed}
 use Rattle.key_index_plain.proofs.EntryLemmas.{content_of-listed}
 use Rattle.key_index_plain.proofs.IndexLemmas.{told, kept}
+use Rattle.key_index_flat.proofs.ViewLemmas.{same_view}
 use Rattle.key_index_plain.proofs.IndexRuns.remove_at.Goals as goal
 
 pub remove_at-value-requires-clause-place : goal.remove_at-value-requires-clause-place
@@ -27,9 +28,4 @@ returns-clause-value g c =
 
 pub returns-clause-changed : goal.returns-clause-changed
 returns-clause-changed g c =
-    record {
-      content_is = told g.met.T.Key.Ord.total c.args.self.now.entries.items c.remove_at-value.new.entries.items c.args.key c.args.key (λ x k. remove (list_at g.T.Key.Ord.cmp x k) c.args.place) c.args.self.now.lawful c.remove_at-value.ensures.content refl;
-      pruned_is = omega (arith, c.saturating_add-self.ensures);
-      same_slots = refl;
-      same_admitted = refl;
-    }
+    same_view (told g.met.T.Key.Ord.total c.args.self.now.entries.items c.remove_at-value.new.entries.items c.args.key c.args.key (λ x k. remove (list_at g.T.Key.Ord.cmp x k) c.args.place) c.args.self.now.lawful c.remove_at-value.ensures.content refl) (omega (arith, c.saturating_add-self.ensures)) refl refl

@@ -4,6 +4,7 @@ use Rattle.key_index_flat.specs.Content.{list_at}
 use Rattle.key_index_plain.specs.Entries.{listed}
 use Rattle.key_index_plain.proofs.EntryLemmas.{content_of-listed}
 use Rattle.key_index_plain.proofs.IndexLemmas.{told, kept}
+use Rattle.key_index_flat.proofs.ViewLemmas.{same_view}
 use Rattle.key_index_plain.proofs.IndexRuns.set_at.Goals as goal
 
 pub set_at-requires-clause-place : goal.set_at-requires-clause-place
@@ -21,9 +22,4 @@ invariant_of-self g c =
 
 pub returns-clause-changed : goal.returns-clause-changed
 returns-clause-changed g c =
-    record {
-      content_is = told g.met.T.Key.Ord.total c.args.self.now.entries.items c.set_at.new.entries.items c.args.key c.args.key (λ x k. set (list_at g.T.Key.Ord.cmp x k) c.args.place c.args.value) c.args.self.now.lawful c.set_at.ensures refl;
-      pruned_is = refl;
-      same_slots = refl;
-      same_admitted = refl;
-    }
+    same_view (told g.met.T.Key.Ord.total c.args.self.now.entries.items c.set_at.new.entries.items c.args.key c.args.key (λ x k. set (list_at g.T.Key.Ord.cmp x k) c.args.place c.args.value) c.args.self.now.lawful c.set_at.ensures refl) (refl) refl refl

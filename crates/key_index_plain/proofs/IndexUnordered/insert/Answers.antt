@@ -4,6 +4,7 @@ use Rattle.key_index_flat.specs.Fault.{growth_fault}
 use Rattle.key_index_plain.specs.Entries.{listed}
 use Rattle.key_index_plain.proofs.EntryLemmas.{content_of-listed}
 use Rattle.key_index_plain.proofs.IndexLemmas.{told, told_same, kept_or, growth_memory}
+use Rattle.key_index_flat.proofs.ViewLemmas.{same_view}
 use Rattle.key_index_plain.proofs.IndexUnordered.insert.Goals as goal
 
 pub returns-then-items-eq18446744073709551615-clause-fault : goal.returns-then-items-eq18446744073709551615-clause-fault
@@ -20,13 +21,8 @@ invariant_of-self g c =
 
 pub returns-in-Ok-clause-accepted : goal.returns-in-Ok-clause-accepted
 returns-in-Ok-clause-accepted g c =
-    record {
-      content_is = told g.met.T.Key.Ord.total c.args.self.now.entries.items c.insert_first.new.entries.items c.transform-slot.result _ (λ x k. c.args.value ∷ list_at g.T.Key.Ord.cmp x k) c.args.self.now.lawful
-          c.in-Ok.ensures.accepted c.transform-slot.ensures;
-      pruned_is = refl;
-      same_slots = refl;
-      same_admitted = refl;
-    }
+    same_view (told g.met.T.Key.Ord.total c.args.self.now.entries.items c.insert_first.new.entries.items c.transform-slot.result _ (λ x k. c.args.value ∷ list_at g.T.Key.Ord.cmp x k) c.args.self.now.lawful
+    c.in-Ok.ensures.accepted c.transform-slot.ensures) (refl) refl refl
 
 pub returns-in-Ok-clause-room : goal.returns-in-Ok-clause-room
 returns-in-Ok-clause-room g c =
@@ -35,12 +31,7 @@ returns-in-Ok-clause-room g c =
 
 pub returns-in-Err-clause-refused : goal.returns-in-Err-clause-refused
 returns-in-Err-clause-refused g c = (
-  record {
-    content_is = told_same g.met.T.Key.Ord.total c.args.self.now.entries.items c.insert_first.new.entries.items c.args.self.now.lawful c.in-Err.ensures.refused;
-    pruned_is = refl;
-    same_slots = refl;
-    same_admitted = refl;
-  },
+  same_view (told_same g.met.T.Key.Ord.total c.args.self.now.entries.items c.insert_first.new.entries.items c.args.self.now.lawful c.in-Err.ensures.refused) (refl) refl refl,
   tt,
 )
 

@@ -3,6 +3,7 @@ use Rattle.key_index_flat.specs.Content.{list_at}
 use Rattle.key_index_plain.specs.Entries.{listed}
 use Rattle.key_index_plain.proofs.EntryLemmas.{content_of-listed}
 use Rattle.key_index_plain.proofs.IndexLemmas.{told, kept}
+use Rattle.key_index_flat.proofs.ViewLemmas.{same_view}
 use Rattle.key_index_plain.proofs.IndexUnordered.remove.Goals as goal
 
 pub invariant_of-self : goal.invariant_of-self
@@ -15,9 +16,4 @@ pub returns-clause-accepted : goal.returns-clause-accepted
 returns-clause-accepted g c =
     let now = sym (content_of-listed g.T.Key.Ord.cmp c.args.self.now.entries.items c.args.self.now.lawful) in
     let taken = c.remove-taken.ensures.taken ∙ (λ i. length (list_at g.T.Key.Ord.cmp (now i) (c.transform-slot.ensures i))) in
-    record {
-      content_is = told g.met.T.Key.Ord.total c.args.self.now.entries.items c.remove-taken.new.entries.items c.transform-slot.result _ (λ x k. []) c.args.self.now.lawful c.remove-taken.ensures.content c.transform-slot.ensures;
-      pruned_is = omega (arith, c.saturating_add-self.ensures, taken);
-      same_slots = refl;
-      same_admitted = refl;
-    }
+    same_view (told g.met.T.Key.Ord.total c.args.self.now.entries.items c.remove-taken.new.entries.items c.transform-slot.result _ (λ x k. []) c.args.self.now.lawful c.remove-taken.ensures.content c.transform-slot.ensures) (omega (arith, c.saturating_add-self.ensures, taken)) refl refl

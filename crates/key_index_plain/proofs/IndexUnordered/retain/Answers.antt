@@ -5,6 +5,7 @@ use Rattle.key_index_flat.specs.Content.{list_at}
 use Rattle.key_index_plain.specs.Entries.{listed, content_of}
 use Rattle.key_index_plain.proofs.EntryLemmas.{content_of-listed}
 use Rattle.key_index_plain.proofs.IndexLemmas.{told, kept}
+use Rattle.key_index_flat.proofs.ViewLemmas.{same_view}
 use Rattle.key_index_plain.proofs.IndexUnordered.retain.Goals as goal
 
 pub invariant_of-self : goal.invariant_of-self
@@ -21,10 +22,5 @@ returns-clause-accepted g c =
     let list : list_at g.T.Key.Ord.cmp (listed c.args.self.now.entries.items) c.transform-slot.result ≡ list_at g.T.Key.Ord.cmp (content_of g.T.Key.Ord.cmp c.args.self.now.entries.items) (g.T.Translator.translated c.args.self.now.translator c.args.key.now) = (λ i. list_at g.T.Key.Ord.cmp (now i) (c.transform-slot.ensures i)) in (
       left.0,
       subst (λ (l : List g.row.V.Denot). IsFiltered (CalledAt g.F.FnMut) c.args.should_retain l left.0) list left.1,
-      record {
-        content_is = told g.met.T.Key.Ord.total c.args.self.now.entries.items c.retain-taken.new.entries.items c.transform-slot.result _ (λ x k. left.0) c.args.self.now.lawful left.2 c.transform-slot.ensures;
-        pruned_is = omega (arith, c.saturating_add-self.ensures, left.3, ap (λ l. length l) list);
-        same_slots = refl;
-        same_admitted = refl;
-      },
+      same_view (told g.met.T.Key.Ord.total c.args.self.now.entries.items c.retain-taken.new.entries.items c.transform-slot.result _ (λ x k. left.0) c.args.self.now.lawful left.2 c.transform-slot.ensures) (omega (arith, c.saturating_add-self.ensures, left.3, ap (λ l. length l) list)) refl refl,
     )

@@ -1,17 +1,17 @@
 use Rattle.std.proofs.Common.{◌<◌, IsTrue, sym, subst, arith}
 use Rattle.std.proofs.lemmas.List.Elements.{All-from_get_or}
-use Rattle.key_index_flat.proofs.RunLemmas.{if_false}
 use Rattle.key_index_uses.proofs.CallerLemmas.{absent_stays}
+use Rattle.key_index_flat.proofs.ViewLemmas.{same_content}
 use Rattle.key_index_uses.proofs.callers.replace_first.Goals as goal
 
-pub returns-then-not-branch-clause-replaced : goal.returns-then-not-branch-clause-replaced
-returns-then-not-branch-clause-replaced g c =
+pub returns-then-branch-eq0-clause-replaced : goal.returns-then-branch-eq0-clause-replaced
+returns-then-branch-eq0-clause-replaced g c =
     let index = c.args.index.now in
-    absent_stays g.met.I.Key.Ord.total g.met.I.Runs.exact (g.I.Runs.content index) (g.I.Runs.content c.reach.new.index) (g.I.Runs.slot index c.args.key.now) c.args.value (g.met.I.Runs.lawful index)
-    c.in_ok-reach.ensures.settled.0.content_is (if_false _ c.if-not-branch.true c.in_ok-reach.ensures.held.1)
+    absent_stays g.met.I.Key.Ord.total g.met.I.Runs.exact (g.I.Runs.view index).content (g.I.Runs.view c.reach.new.self).content ((g.I.Runs.view index).slot c.args.key.now) c.args.value (g.met.I.Runs.lawful index)
+    (same_content c.in_ok-reach.ensures.settled.0) (λ h. omega (arith, h, c.in_ok-reach.ensures.len, c.if-branch-eq0.true))
 
 pub new-cursor-requires-clause-admits : goal.new-cursor-requires-clause-admits
 new-cursor-requires-clause-admits g c =
     let key = c.args.key.now in
-    subst (λ k. IsTrue (g.I.Runs.admitted c.reach.new.index k)) (sym c.slot_of-slot.ensures)
-    (g.met.I.Unordered.reaches c.reach.new.index key (All-from_get_or (λ n. n < 256) key 0 (λ i within. omega (arith, c.type_inv.key i))))
+    subst (λ k. IsTrue ((g.I.Runs.view c.reach.new.self).admitted k)) (sym c.slot_of-slot.ensures)
+    (g.met.I.Unordered.reaches c.reach.new.self key (All-from_get_or (λ n. n < 256) key 0 (λ i within. omega (arith, c.type_inv.key i))))

@@ -10,4 +10,4 @@ returns-clause-filed g c =
     let index = c.args.index.now in
     let key = c.args.key.now in
     let bytes : IsBytes key = All-from_get_or (λ n. n < 256) key 0 (λ i within. omega (arith, c.type_inv.key i)) in
-    λ f. prev_of_filed g.met.I.Key.Ord.total g.I.Value.Keyed.full_key (g.I.Runs.slot index) (g.met.I.Ordered.keeps_order index) key bytes (g.I.Runs.content index) (option_copied c.prev_candidate.result) (g.met.I.Runs.lawful index) f c.prev_candidate.ensures
+    λ f. prev_of_filed g.met.I.Key.Ord.total g.I.Value.Keyed.full_key (g.I.Runs.view index).slot (g.met.I.Ordered.keeps_order index) key bytes (g.I.Runs.view index).content (option_copied c.prev_candidate.result) (g.met.I.Runs.lawful index) f c.prev_candidate.ensures

@@ -16,7 +16,7 @@ loop-place-preserved g c =
     let start = next_place xs (cursor_place c.args.self.now) in
     let here = c.loop-place-test.true in
     let from = at.invariant.from in
-    let list : cursor_list at.self ≡ xs = λ i. list_at g.I.Key.Ord.cmp (g.I.Runs.content (at.invariant.stays.1 i)) (at.invariant.stays.2 i) in
+    let list : cursor_list at.self ≡ xs = λ i. list_at g.I.Key.Ord.cmp (g.I.Runs.view (at.invariant.stays.1 i)).content (at.invariant.stays.2 i) in
     let value : slice_get xs at.place ≡ Some c.value_at.result.now = ap (λ l. slice_get l at.place) (sym list) ∙ c.value_at.ensures in
     record {
       stays = at.invariant.stays;
@@ -35,7 +35,7 @@ returns-clause-place g c =
     let from = at.invariant.from in
     let len = c.args.self.now.len in
     let known : length xs ≡ len = sym c.args.self.now.known in
-    let list : cursor_list at.self ≡ xs = λ i. list_at g.I.Key.Ord.cmp (g.I.Runs.content (at.invariant.stays.1 i)) (at.invariant.stays.2 i) in
+    let list : cursor_list at.self ≡ xs = λ i. list_at g.I.Key.Ord.cmp (g.I.Runs.view (at.invariant.stays.1 i)).content (at.invariant.stays.2 i) in
     elim c.loop-place-test.branch [
       | then-loop-place-test+else-not-predicate w ↦
           let value : slice_get xs at.place ≡ Some w.value_at.result.now = ap (λ l. slice_get l at.place) (sym list) ∙ w.value_at.ensures in

@@ -10,6 +10,7 @@ use Rattle.key_index_flat.specs.IndexCursor.{cursor_list, cursor_place}
 use Rattle.key_index_flat.specs.declared.index.cursor.CursorState.TheVariants.{Done}
 use Rattle.key_index_flat.proofs.Asked.{drop-value, take-value, drop-remove, take-remove, kept_first, kept_more, kept_less, kept_parts, retained}
 use Rattle.key_index_flat.proofs.CursorLemmas.{list_at_edit, edited_none, edited_more}
+use Rattle.key_index_flat.proofs.ViewLemmas.{same_content, same_admitted}
 use Rattle.key_index_flat.proofs.index.index_cursor.IndexCursorCursor.retain.Goals as goal
 
 pub loop-place-init : goal.loop-place-init
@@ -62,14 +63,14 @@ invariant_of-self-else-should_retain g c =
     let known : at.len ≡ length ys = at.known in
     let here : place < at.len = c.loop-place-test.true in
     let less : length (remove ys place) + 1 ≡ length ys = length-remove ys place (omega (arith, here, known)) in
-    let now = list_at_edit g.met.I.Key.Ord.total _ _ _ _ c.remove_at.ensures.changed.content_is in
+    let now = list_at_edit g.met.I.Key.Ord.total _ _ _ _ (same_content c.remove_at.ensures.changed) in
     let count : at.len - 1 ≡ length (remove ys place) = omega (arith, known, less) in
     let front : at.place ≡ 0 = c.loop-place.invariant.front in
     let within : at.place ≤ at.len - 1 = omega (arith, front) in
     let done : at.state ≡ Done = c.loop-place.invariant.done in
     record {
       known = count ∙ sym (ap (λ l. length l) now);
-      admits = subst IsTrue (sym (ap (λ f. f at.key) c.remove_at.ensures.changed.same_admitted)) at.admits;
+      admits = subst IsTrue (sym (ap (λ f. f at.key) (same_admitted c.remove_at.ensures.changed))) at.admits;
       within = within;
       active = λ e. absurd (cc (e, done));
     }
@@ -87,7 +88,7 @@ loop-place-preserved g c =
     let fewer : at.self.len ≤ c.args.self.now.len = held.fewer in
     let x = c.value_at.result.now in
     let R = CalledAt g.F.FnMut in
-    let now = list_at_edit g.met.I.Key.Ord.total _ _ _ _ c.remove_at.ensures.changed.content_is in
+    let now = list_at_edit g.met.I.Key.Ord.total _ _ _ _ (same_content c.remove_at.ensures.changed) in
     record {
       same_reference = held.same_reference;
       same_key = held.same_key;

@@ -1,5 +1,5 @@
 -- `get_mut` calls `search`, and passes what that gives to `nest`. Assumes `Logic`.
-use Rattle.std.proofs.Common.{◌≡◌, ◌↔◌, ◌<◌, [], ◌∷◌, length, refl, IfOk, IfErr, IsSome}
+use Rattle.std.proofs.Common.{IsTrue, ◌≡◌, ◌↔◌, ◌<◌, [], ◌∷◌, length, refl, IfOk, IfErr, IsSome}
 use Rattle.std.proofs.raw_atomic.Walks.{proved}
 use base.Share
 use mir.Syntax.{Args, Fn, a_type, dnil, dcons, named}
@@ -34,9 +34,8 @@ use Rattle.std.specs.Borrow.{RestsIfErr}
 use Rattle.std.specs.contracts.option.Option as option
 use Rattle.std.proofs.option.Option.TheLaws as option_laws
 use Rattle.std.proofs.result.Result.TheLaws as result_laws
-use Rattle.key_index_flat.specs.Content.{list_at}
 use Rattle.key_index_flat.specs.Cursor.{NeedNext}
-use Rattle.key_index_flat.specs.Edits.{SameIndex}
+use Rattle.key_index_flat.specs.View.{run_of}
 use Rattle.key_index_flat.specs.IndexCursor.{cursor_key, cursor_place}
 use Rattle.key_index_flat.specs.Start.{IsWant}
 use Rattle.key_index_flat.specs.Lent.{OnFound, NoneOrErr, RestsUnlessFound, nested}
@@ -82,14 +81,15 @@ get_mut_spec 𝓤 𝓛 𝓜 𝓡 wired S V K LS LV LK CK gU dU gR dR gO dO gE dE
     let Held : RattleType = type_at (f.signature S V K gU dU gR dR gO dO gE dE gP dP gQ dQ gC dC).result κs in
     let Found-laws : Laws Found = result_laws.the_row_laws Cursor (option.the_row X) Cursor-laws (option_laws.the_row_laws X LX) in
     let Held-laws : Laws Held = result_laws.the_row_laws (option.the_row Cursor) X (option_laws.the_row_laws Cursor Cursor-laws) LX in
-    let slot = gR.slot a.0.now a.1.0.now in let list = list_at gO.cmp (gR.content a.0.now) slot in let Same : S.Denot → Type 0 = SameIndex gR.content gR.slot gR.admitted gR.pruned_count a.0.now in
+    let slot = (gR.view a.0.now).slot a.1.0.now in let list = run_of gO.cmp (gR.view a.0.now) a.1.0.now in let Same : S.Denot → Type 0 = λ n. gR.view n ≡ gR.view a.0.now in
     let Refused : S.Denot → Type 0 = λ n. Same n × gU.left_by_refusal a.0.now slot n in let Settled : S.Denot → Type 0 = λ n. Same n × gU.settled a.0.now slot n in
     let Facts : Held.Denot → Item 𝓤 = λ r. raw (fact 𝓤 (OnFound r (λ c. c.index.ghost_name ≡ a.0.ghost_name))) ⊛
     raw (fact 𝓤 (OnFound r (λ c. Same c.index.now × gU.settled a.0.now slot c.index.now))) ⊛ raw (fact 𝓤 (OnFound r (λ c. (cursor_key c ≡ slot) × (cursor_place c ≡ NeedNext 0)))) ⊛
     raw (fact 𝓤 (IfOk r (λ o. IsSome o ↔ (0 < length list)))) ⊛ raw (fact 𝓤 (IfErr r (λ f. IsWant f (gU.may_refuse a.0.now slot)))) in
     let T₃₄ : Item 𝓤 = ‵ (flft κs.1.1.1.0 qs.1.1.1.0) ⊛ ‵ (flft κs.1.1.1.1.0 qs.1.1.1.1.0) ⊛ ‵ ftrue in
+    let AD : Type 0 = IsTrue ((gR.view a.0.now).admitted slot) in
     let SL = κᵢ ⊑ S.lives in let XL = κᵢ ⊑ X.lives in let VL = κs.1.1.1.0 ⊑ V.lives in let KL = κs.1.1.1.1.0 ⊑ K.lives in
-    qed 𝓛 (raw (on_entry 𝓛 (f.signature S V K gU dU gR dR gO dO gE dE gP dP gQ dQ gC dC) κs qs a (mut_vals a.0, (shr_slice_vals a.1.0, tt))) ∷ (raw (fact 𝓤 SL) ⊛ raw (fact 𝓤 VL) ⊛ raw (fact 𝓤 KL) ⊛ ‵ ftrue) ∷ []) ∵
+    qed 𝓛 (raw (on_entry 𝓛 (f.signature S V K gU dU gR dR gO dO gE dE gP dP gQ dQ gC dC) κs qs a (mut_vals a.0, (shr_slice_vals a.1.0, tt))) ∷ (raw (fact 𝓤 SL) ⊛ raw (fact 𝓤 VL) ⊛ raw (fact 𝓤 KL) ⊛ raw (fact 𝓤 AD)) ∷ []) ∵
     move ! (1 ∷ []) $ split ! $ heard ! SL (λ sl. split ! $ heard ! VL (λ vl. split ! $ heard ! KL (λ kl.
     use0 𝓛 (raw (fact 𝓤 KL)) (fact_i 𝓤 KL (emp 𝓤) kl) $ join ! $ use0 𝓛 (raw (fact 𝓤 VL)) (fact_i 𝓤 VL (emp 𝓤) vl) $ join ! $ use0 𝓛 (raw (fact 𝓤 SL)) (fact_i 𝓤 SL (emp 𝓤) sl) $ join ! $
     move ! (1 ∷ 0 ∷ []) $ join ! $ use1 𝓛 (raw (G.pre z)) (id⊢ 𝓤 _) $

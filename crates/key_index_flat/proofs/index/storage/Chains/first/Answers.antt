@@ -6,6 +6,8 @@ use Rattle.key_index_flat.proofs.index.storage.Chains.first.Goals as goal
 
 pub returns : goal.returns
 returns g c =
-    let older = older_at g.T.Key.PartialEq.eq c.args.self.now.older in
+    rw (← c.self.view_is) (
+    let older = older_at g.T.Key.PartialEq.eq c.self.inside.older in
     c.values_of.ensures ∙ ap (option_map (listed older)) c.first.ensures.entry
-    ∙ sym (first_list-in_order g.T.Key.Ord.cmp (g.M.Heads.entries c.args.self.now.heads) older c.first.ensures.rises)
+    ∙ sym (first_list-in_order g.T.Key.Ord.cmp (g.M.Heads.entries c.self.inside.heads) older c.first.ensures.rises)
+    )

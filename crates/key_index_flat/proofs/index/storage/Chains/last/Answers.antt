@@ -6,6 +6,8 @@ use Rattle.key_index_flat.proofs.index.storage.Chains.last.Goals as goal
 
 pub returns : goal.returns
 returns g c =
-    let older = older_at g.T.Key.PartialEq.eq c.args.self.now.older in
+    rw (← c.self.view_is) (
+    let older = older_at g.T.Key.PartialEq.eq c.self.inside.older in
     c.values_of.ensures ∙ ap (option_map (listed older)) c.last.ensures.entry
-    ∙ sym (last_list-in_order g.T.Key.Ord.cmp (g.M.Heads.entries c.args.self.now.heads) older c.last.ensures.rises)
+    ∙ sym (last_list-in_order g.T.Key.Ord.cmp (g.M.Heads.entries c.self.inside.heads) older c.last.ensures.rises)
+    )

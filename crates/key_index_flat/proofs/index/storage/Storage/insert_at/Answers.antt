@@ -1,13 +1,14 @@
-use Rattle.std.proofs.Common.{insert, ap, arith}
-use Rattle.key_index_flat.specs.Chains.{older_at, stored}
-use Rattle.key_index_flat.specs.Content.{item_count, list_at}
-use Rattle.key_index_flat.specs.Laws.{IsLawful-content_of}
-use Rattle.key_index_flat.proofs.ContentLemmas.{item_count-with_list}
+use Rattle.std.proofs.Common.{◌≤◌, length, subst, sym, arith}
 use Rattle.std.proofs.lemmas.List.Edits.{length-insert}
+use Rattle.key_index_flat.specs.Content.{list_at}
+use Rattle.key_index_flat.proofs.KeptLemmas.{lawful_edit, counted_edit}
 use Rattle.key_index_flat.proofs.index.storage.Storage.insert_at.Goals as goal
 
-pub returns-in-Ok-clause-counted : goal.returns-in-Ok-clause-counted
-returns-in-Ok-clause-counted g c =
-    let counts = item_count-with_list g.met.T.Key.Ord.total (stored g.T.Key.Ord.cmp g.T.Key.PartialEq.eq (g.M.Heads.entries c.args.self.now.chains.heads) c.args.self.now.chains.older) c.args.slot (insert (list_at g.T.Key.Ord.cmp (stored g.T.Key.Ord.cmp g.T.Key.PartialEq.eq (g.M.Heads.entries c.args.self.now.chains.heads) c.args.self.now.chains.older) c.args.slot) c.args.place c.args.value) (IsLawful-content_of g.met.T.Key.Ord.total (g.M.Heads.entries c.args.self.now.chains.heads) (older_at g.T.Key.PartialEq.eq c.args.self.now.chains.older)) in
-    let n = length-insert (list_at g.T.Key.Ord.cmp (stored g.T.Key.Ord.cmp g.T.Key.PartialEq.eq (g.M.Heads.entries c.args.self.now.chains.heads) c.args.self.now.chains.older) c.args.slot) c.args.place c.args.value c.requires.place in
-    omega (arith, counts, n, ap (λ x. item_count x) c.in-Ok.ensures.accepted, c.requires.counted)
+pub invariant_of-self : goal.invariant_of-self
+invariant_of-self g c =
+    let list = list_at g.T.Key.Ord.cmp c.self.inside.chains c.args.slot in
+    let more = length-insert list c.args.place c.args.value (subst (λ s. c.args.place ≤ length (list_at g.T.Key.Ord.cmp s.content c.args.slot)) (sym c.self.view_is) c.requires.place) in
+    counted_edit g.met.T.Key.Ord.total _ _ _ _ _ _ c.self.invariant c.in-Ok.ensures.accepted (omega (arith, more))
+
+pub returns-in-Ok-clause-lawful : goal.returns-in-Ok-clause-lawful
+returns-in-Ok-clause-lawful g c = lawful_edit g.met.T.Key.Ord.total _ _ _ _ c.self.invariant.lawful c.in-Ok.ensures.accepted

@@ -1,16 +1,16 @@
-use Rattle.std.proofs.Common.{[], ap, arith}
-use Rattle.key_index_flat.specs.Chains.{older_at, stored}
-use Rattle.key_index_flat.specs.Content.{item_count}
-use Rattle.key_index_flat.specs.Laws.{IsLawful-content_of}
-use Rattle.key_index_flat.proofs.ContentLemmas.{item_count-with_list}
+use Rattle.std.proofs.Common.{[], arith}
+use Rattle.key_index_flat.proofs.KeptLemmas.{lawful_edit, counted_edit, within_count}
 use Rattle.key_index_flat.proofs.index.storage.Storage.remove.Goals as goal
 
 pub overflow_sub-self : goal.overflow_sub-self
 overflow_sub-self g c =
-    let counts = item_count-with_list g.met.T.Key.Ord.total (stored g.T.Key.Ord.cmp g.T.Key.PartialEq.eq (g.M.Heads.entries c.args.self.now.chains.heads) c.args.self.now.chains.older) c.transform-slot.result [] (IsLawful-content_of g.met.T.Key.Ord.total (g.M.Heads.entries c.args.self.now.chains.heads) (older_at g.T.Key.PartialEq.eq c.args.self.now.chains.older)) in
-    omega (arith, counts, c.remove-taken.ensures.taken, c.requires.counted)
+    let within = within_count g.met.T.Key.Ord.total c.self.inside.chains c.transform-slot.result _ c.self.invariant in
+    omega (arith, within, c.remove-taken.ensures.taken)
 
-pub returns-clause-counted : goal.returns-clause-counted
-returns-clause-counted g c =
-    let counts = item_count-with_list g.met.T.Key.Ord.total (stored g.T.Key.Ord.cmp g.T.Key.PartialEq.eq (g.M.Heads.entries c.args.self.now.chains.heads) c.args.self.now.chains.older) c.transform-slot.result [] (IsLawful-content_of g.met.T.Key.Ord.total (g.M.Heads.entries c.args.self.now.chains.heads) (older_at g.T.Key.PartialEq.eq c.args.self.now.chains.older)) in
-    omega (arith, counts, ap (λ x. item_count x) c.remove-taken.ensures.content, c.remove-taken.ensures.taken, c.requires.counted)
+pub invariant_of-self : goal.invariant_of-self
+invariant_of-self g c =
+    let within = within_count g.met.T.Key.Ord.total c.self.inside.chains c.transform-slot.result _ c.self.invariant in
+    counted_edit g.met.T.Key.Ord.total _ _ c.transform-slot.result [] _ _ c.self.invariant c.remove-taken.ensures.content (omega (arith, within, c.remove-taken.ensures.taken))
+
+pub returns-clause-lawful : goal.returns-clause-lawful
+returns-clause-lawful g c = lawful_edit g.met.T.Key.Ord.total _ _ c.transform-slot.result [] c.self.invariant.lawful c.remove-taken.ensures.content

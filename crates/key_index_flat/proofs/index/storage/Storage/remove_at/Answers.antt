@@ -1,18 +1,23 @@
-use Rattle.std.proofs.Common.{[], remove, ap, arith}
-use Rattle.key_index_flat.specs.Chains.{older_at, stored}
-use Rattle.key_index_flat.specs.Content.{item_count, list_at}
-use Rattle.key_index_flat.specs.Laws.{IsLawful-content_of}
-use Rattle.key_index_flat.proofs.ContentLemmas.{item_count-with_list}
+use Rattle.std.proofs.Common.{◌<◌, length, subst, sym, arith}
 use Rattle.std.proofs.lemmas.List.Edits.{length-remove}
+use Rattle.key_index_flat.specs.Content.{list_at}
+use Rattle.key_index_flat.proofs.KeptLemmas.{lawful_edit, counted_edit, within_count}
 use Rattle.key_index_flat.proofs.index.storage.Storage.remove_at.Goals as goal
 
 pub overflow_sub-self : goal.overflow_sub-self
 overflow_sub-self g c =
-    let counts = item_count-with_list g.met.T.Key.Ord.total (stored g.T.Key.Ord.cmp g.T.Key.PartialEq.eq (g.M.Heads.entries c.args.self.now.chains.heads) c.args.self.now.chains.older) c.args.slot [] (IsLawful-content_of g.met.T.Key.Ord.total (g.M.Heads.entries c.args.self.now.chains.heads) (older_at g.T.Key.PartialEq.eq c.args.self.now.chains.older)) in
-    omega (arith, counts, c.requires.place, c.requires.counted)
+    let list = list_at g.T.Key.Ord.cmp c.self.inside.chains c.args.slot in
+    let within = within_count g.met.T.Key.Ord.total c.self.inside.chains c.args.slot _ c.self.invariant in
+    let place : c.args.place < length list = subst (λ s. c.args.place < length (list_at g.T.Key.Ord.cmp s.content c.args.slot)) (sym c.self.view_is) c.requires.place in
+    omega (arith, within, place)
 
-pub returns-clause-counted : goal.returns-clause-counted
-returns-clause-counted g c =
-    let counts = item_count-with_list g.met.T.Key.Ord.total (stored g.T.Key.Ord.cmp g.T.Key.PartialEq.eq (g.M.Heads.entries c.args.self.now.chains.heads) c.args.self.now.chains.older) c.args.slot (remove (list_at g.T.Key.Ord.cmp (stored g.T.Key.Ord.cmp g.T.Key.PartialEq.eq (g.M.Heads.entries c.args.self.now.chains.heads) c.args.self.now.chains.older) c.args.slot) c.args.place) (IsLawful-content_of g.met.T.Key.Ord.total (g.M.Heads.entries c.args.self.now.chains.heads) (older_at g.T.Key.PartialEq.eq c.args.self.now.chains.older)) in
-    let n = length-remove (list_at g.T.Key.Ord.cmp (stored g.T.Key.Ord.cmp g.T.Key.PartialEq.eq (g.M.Heads.entries c.args.self.now.chains.heads) c.args.self.now.chains.older) c.args.slot) c.args.place c.requires.place in
-    omega (arith, counts, n, ap (λ x. item_count x) c.remove_at-value.ensures.content, c.requires.counted)
+pub invariant_of-self : goal.invariant_of-self
+invariant_of-self g c =
+    let list = list_at g.T.Key.Ord.cmp c.self.inside.chains c.args.slot in
+    let within = within_count g.met.T.Key.Ord.total c.self.inside.chains c.args.slot _ c.self.invariant in
+    let place : c.args.place < length list = subst (λ s. c.args.place < length (list_at g.T.Key.Ord.cmp s.content c.args.slot)) (sym c.self.view_is) c.requires.place in
+    let less = length-remove list c.args.place place in
+    counted_edit g.met.T.Key.Ord.total _ _ _ _ _ _ c.self.invariant c.remove_at-value.ensures.content (omega (arith, within, place, less))
+
+pub returns-clause-lawful : goal.returns-clause-lawful
+returns-clause-lawful g c = lawful_edit g.met.T.Key.Ord.total _ _ _ _ c.self.invariant.lawful c.remove_at-value.ensures.content
