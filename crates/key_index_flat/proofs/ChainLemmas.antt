@@ -8,7 +8,7 @@ use Rattle.std.specs.Ordering.{eq_by_cmp, is_eq}
 use Rattle.std.specs.Cmp.{IsTotalOrder}
 use Rattle.std.specs.Map.{lookup}
 use Rattle.key_index_flat.specs.Content.{Content, key_count, list_at, with_list}
-use Rattle.key_index_flat.specs.Chains.{list_of, content_of}
+use Rattle.key_index_flat.specs.Storage.{list_of, content_of}
 use Rattle.key_index_flat.specs.Storage.{value_of, Sets, IsLinked}
 use Rattle.key_index_flat.specs.Laws.{IsLawful-with_list, IsLawful-content_of}
 use Rattle.key_index_flat.proofs.ContentLemmas.{list_at-with_list, same_content, key_count-with_list, entries_for}

@@ -14,16 +14,16 @@ use Rattle.std.specs.Cmp.{IsTotalOrder, eq_by_cmp_equiv}
 use Rattle.std.specs.List.{insert}
 use Rattle.std.proofs.lemmas.List.{take_all, drop_all}
 use Rattle.key_index_flat.specs.Content.{Content, item_count, list_at, with_list, IsLawful}
-use Rattle.key_index_flat.specs.Commands.{pruned_after}
-use Rattle.key_index_flat.specs.declared.index.cursor.CursorState.{CursorState}
-use Rattle.key_index_flat.specs.declared.index.cursor.CursorState.TheVariants as state
+use Rattle.key_index_flat.specs.View.{pruned_after}
+use Rattle.key_index_flat.specs.declared.index.traits.cursor.CursorState.{CursorState}
+use Rattle.key_index_flat.specs.declared.index.traits.cursor.CursorState.TheVariants as state
 use Rattle.key_index_flat.specs.Cursor.{Place, IsOnValue, AllowsInsert, NeedNext, Active, Done, list_after_insert, next_place}
-use Rattle.key_index_flat.specs.CursorState.{place_of}
+use Rattle.key_index_flat.specs.Cursor.{place_of}
 use Rattle.key_index_flat.specs.View.{run_at, with_run, with_pruned}
-use Rattle.key_index_flat.specs.Edits.{Chain}
+use Rattle.key_index_flat.specs.IndexCursor.{Chain}
 use Rattle.key_index_flat.specs.declared.index.index_cursor.IndexCursor.{IndexCursor}
-use Rattle.key_index_flat.specs.declared.index.runs.Runs as runs
-use Rattle.key_index_flat.specs.contracts.index.cursor.CursorState.{the_type}
+use Rattle.key_index_flat.specs.declared.index.traits.runs.Runs as runs
+use Rattle.key_index_flat.specs.contracts.index.traits.cursor.CursorState.{the_type}
 use Rattle.key_index_flat.specs.IndexCursor.{EditsIndex}
 use Rattle.std.specs.declared.cmp.Ord as ord
 use Rattle.std.specs.declared.cmp.PartialEq as eq
@@ -83,17 +83,17 @@ inserted l Done v h = λ i. take_all (length l) l (omega arith) i ++ v ∷ drop_
 
 module _ {I V K : Type 0} {r : runs.Ghosts I V K} {o : ord.Ghosts K} {e : eq.Ghosts K} {p : partial.Ghosts K} where
   pub edits_index : IsTotalOrder o.cmp → (old new : IndexCursor I V K r o e p) (l : List V) (taken pruned : ℕ)
-      → new.index.ghost_name ≡ old.index.ghost_name → new.key ≡ old.key
-      → r.view new.index.now ≡ record (with_run o.cmp (r.view old.index.now) old.key l) { pruned = pruned }
+      → new.index.ghost_name ≡ old.index.ghost_name → new.slot ≡ old.slot
+      → r.view new.index.now ≡ record (with_run o.cmp (r.view old.index.now) old.slot l) { pruned = pruned }
       → pruned ≡ pruned_after (r.view old.index.now).pruned taken
       → r.edited old.index.now new.index.now
       → EditsIndex old new taken
-  edits_index total old new l taken pruned same_reference same_key changed count edited =
-      let list = ap (λ k. run_at o.cmp (r.view new.index.now) k) same_key ∙ list_at_edit total _ _ _ _ (same_content changed) in
+  edits_index total old new l taken pruned same_reference slot_kept changed count edited =
+      let list = ap (λ k. run_at o.cmp (r.view new.index.now) k) slot_kept ∙ list_at_edit total _ _ _ _ (same_content changed) in
       record {
         same_reference = same_reference;
-        same_key = same_key;
-        changed = changed ∙ (λ i. record (with_run o.cmp (r.view old.index.now) old.key (sym list i)) { pruned = count i });
+        slot_kept = slot_kept;
+        changed = changed ∙ (λ i. record (with_run o.cmp (r.view old.index.now) old.slot (sym list i)) { pruned = count i });
         states = new.index.now ∷ [];
         edited = (edited, refl);
       }

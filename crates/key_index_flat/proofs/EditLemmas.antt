@@ -8,7 +8,7 @@ use Rattle.std.specs.Ordering.{eq_by_cmp}
 use Rattle.std.specs.Cmp.{IsTotalOrder}
 use Rattle.std.specs.List.Retain.{IsFiltered}
 use Rattle.key_index_flat.specs.Content.{list_at, with_list}
-use Rattle.key_index_flat.specs.Chains.{list_of, content_of}
+use Rattle.key_index_flat.specs.Storage.{list_of, content_of}
 use Rattle.key_index_flat.specs.Storage.{value_of, Sets, IsLinked}
 use Rattle.key_index_flat.proofs.ChainLemmas.{StandsFor, everywhere, list_at-content_of, replaced, taken_out, place_older, slice_get-older, slice_get-newest}
 use Rattle.key_index_flat.proofs.ReversedLemmas.{set_reversed, remove_reversed, insert_reversed}

@@ -6,7 +6,7 @@ use Rattle.std.proofs.Common.{◌≡◌, ℕ, ◌+◌, ◌≤◌, [], List, leng
 use Rattle.std.specs.declared.cmp.Ordering.{Ordering}
 use Rattle.std.specs.Cmp.{IsTotalOrder}
 use Rattle.key_index_flat.specs.Content.{Content, IsLawful, item_count, list_at, with_list}
-use Rattle.key_index_flat.specs.Kept.{IsCounted}
+use Rattle.key_index_flat.specs.Storage.{IsCounted}
 use Rattle.key_index_flat.specs.Laws.{IsLawful-with_list}
 use Rattle.key_index_flat.proofs.ContentLemmas.{item_count-with_list}
 

@@ -20,7 +20,7 @@ use Rattle.std.specs.Cmp.{IsTotalOrder}
 use Rattle.std.specs.FinMap.{put}
 use Rattle.std.specs.FinMap.Entries.{by_order}
 use Rattle.key_index_flat.specs.Content.{Content, with_list}
-use Rattle.key_index_flat.specs.Chains.{content_of}
+use Rattle.key_index_flat.specs.Storage.{content_of}
 use Rattle.key_index_flat.specs.Neighbours.{first_entry, last_entry, or_cycled, entries_above, entries_below, first_list, last_list, next_list, prev_list}
 
 -- ---- the last entry

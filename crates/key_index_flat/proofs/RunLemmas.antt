@@ -21,11 +21,11 @@ use Rattle.std.specs.declared.cmp.Ord as ord
 use Rattle.std.specs.declared.cmp.PartialEq as eq
 use Rattle.std.specs.declared.cmp.PartialOrd as partial
 use Rattle.key_index_flat.specs.Content.{item_count, list_at, with_list, IsLawful}
-use Rattle.key_index_flat.specs.Commands.{pruned_after}
+use Rattle.key_index_flat.specs.View.{pruned_after}
 use Rattle.key_index_flat.specs.View.{View, run_at, with_run, with_edit, with_pruned}
-use Rattle.key_index_flat.specs.Edits.{Chain}
+use Rattle.key_index_flat.specs.IndexCursor.{Chain}
 use Rattle.key_index_flat.specs.declared.index.index_cursor.IndexCursor.{IndexCursor}
-use Rattle.key_index_flat.specs.declared.index.runs.Runs as runs
+use Rattle.key_index_flat.specs.declared.index.traits.runs.Runs as runs
 use Rattle.key_index_flat.specs.IndexCursor.{EditsIndex, StaysAt, cursor_list, cursor_place}
 use Rattle.std.specs.Prelude.{Result, Ok, Err, OnOk, OnErr}
 use Rattle.std.specs.Result.{is_ok, is_err}
@@ -65,16 +65,16 @@ module _ {I V K : Type 0} {r : runs.Ghosts I V K} {o : ord.Ghosts K} {e : eq.Gho
     pub stays_edits : (new : IndexCursor I V K r o e p) → StaysAt old new → EditsIndex old new 0
     stays_edits new s = record {
       same_reference = s.0;
-      same_key = s.2;
+      slot_kept = s.2;
       changed =
-          let content : (r.view old.index.now).content ≡ with_list o.cmp (r.view old.index.now).content old.key (cursor_list new) = sym (with_list-same total exact (r.view old.index.now).content old.key lawful) ∙ ap (λ l. with_list o.cmp (r.view old.index.now).content old.key l) (sym (same_list old new s)) in
+          let content : (r.view old.index.now).content ≡ with_list o.cmp (r.view old.index.now).content old.slot (cursor_list new) = sym (with_list-same total exact (r.view old.index.now).content old.slot lawful) ∙ ap (λ l. with_list o.cmp (r.view old.index.now).content old.slot l) (sym (same_list old new s)) in
           ap (λ x. r.view x) s.1 ∙ (λ i. record (r.view old.index.now) { content = content i; pruned = pruned_none (r.view old.index.now).pruned i });
       states = [];
       edited = sym s.1;
     }
 
     pub all_items : item_count (r.view old.index.now).content ≡ others_of old + length (cursor_list old)
-    all_items = let n = item_count-with_list total (r.view old.index.now).content old.key [] lawful in omega (arith, n)
+    all_items = let n = item_count-with_list total (r.view old.index.now).content old.slot [] lawful in omega (arith, n)
 
     pub insert_steps : {X : Type 0} (new : IndexCursor I V K r o e p) (v : V) (b : Bool) (answer : Result (Unit {0}) X) → b ≡ is_ok answer
         → AllowsInsert (cursor_place old) → OnOk answer (item_count (r.view old.index.now).content < 2 ^ 64 - 1)
@@ -94,9 +94,9 @@ module _ {I V K : Type 0} {r : runs.Ghosts I V K} {o : ord.Ghosts K} {e : eq.Gho
     pub edits_more : (now new : IndexCursor I V K r o e p) (a b : ℕ) → EditsIndex old now a → EditsIndex now new b → EditsIndex old new (a + b)
     edits_more now new a b f g = record {
       same_reference = g.same_reference ∙ f.same_reference;
-      same_key = g.same_key ∙ f.same_key;
+      slot_kept = g.slot_kept ∙ f.slot_kept;
       changed =
-          let content = same_content g.changed ∙ (λ i. with_list o.cmp (same_content f.changed i) (f.same_key i) (cursor_list new)) ∙ with_list-twice total exact (r.view old.index.now).content old.key (cursor_list now) (cursor_list new) lawful in
+          let content = same_content g.changed ∙ (λ i. with_list o.cmp (same_content f.changed i) (f.slot_kept i) (cursor_list new)) ∙ with_list-twice total exact (r.view old.index.now).content old.slot (cursor_list now) (cursor_list new) lawful in
           let pruned = same_pruned g.changed ∙ ap (λ n. pruned_after n b) (same_pruned f.changed) ∙ pruned_twice (r.view old.index.now).pruned a b in
           λ i. record { content = content i; pruned = pruned i; slot = (same_slot g.changed ∙ same_slot f.changed) i; admitted = (same_admitted g.changed ∙ same_admitted f.changed) i };
       states = f.states ++ g.states;
@@ -104,7 +104,7 @@ module _ {I V K : Type 0} {r : runs.Ghosts I V K} {o : ord.Ghosts K} {e : eq.Gho
     }
 
     pub same_others : (now : IndexCursor I V K r o e p) (a : ℕ) → EditsIndex old now a → others_of now ≡ others_of old
-    same_others now a f = ap (λ c. item_count c) ((λ i. with_list o.cmp (same_content f.changed i) (f.same_key i) []) ∙ with_list-twice total exact (r.view old.index.now).content old.key (cursor_list now) [] lawful)
+    same_others now a f = ap (λ c. item_count c) ((λ i. with_list o.cmp (same_content f.changed i) (f.slot_kept i) []) ∙ with_list-twice total exact (r.view old.index.now).content old.slot (cursor_list now) [] lawful)
 
   -- the steps before, with their flags, whatever becomes of those that are left
   pub record RunTo (steps rest : List (Step V)) (at : ℕ) (flags : List Bool) (start now : IndexCursor I V K r o e p) : Type 0 where
@@ -155,9 +155,8 @@ no_items (x ∷ xs) n e h = absurd (omega (arith, e, h))
 
 module _ {I V K : Type 0} {r : runs.Ghosts I V K} {o : ord.Ghosts K} {e : eq.Ghosts K} {p : partial.Ghosts K} where
   -- what the steps leave of an index, as the cursor found it
-  pub edit_done : (steps : List (Step V)) (flags : List Bool) (old new : IndexCursor I V K r o e p) (x y : I) (k : K) → old.index.now ≡ x → new.index.now ≡ y → old.key ≡ k → cursor_place old ≡ NeedNext 0 → RunsSteps steps flags old new
-      → (t : Edited V) × EditGives (item_count (with_list o.cmp (r.view x).content k [])) steps flags (record { items = run_at o.cmp (r.view x) k; place = NeedNext 0; taken = 0 }) t
-      × (r.view y ≡ with_pruned (with_run o.cmp (r.view x) k t.items) t.taken)
+  pub edit_done : (steps : List (Step V)) (flags : List Bool) (old new : IndexCursor I V K r o e p) (x y : I) (k : K) → old.index.now ≡ x → new.index.now ≡ y → old.slot ≡ k → cursor_place old ≡ NeedNext 0 → RunsSteps steps flags old new
+      → EditAt o.cmp k steps flags (r.view x) (r.view y)
   edit_done steps flags old new x y k from into key place done =
       let P : Edited V → ℕ → Type 0 = λ s n. EditGives n steps flags s (edited_at new done.taken) in
       let start : edited_at old 0 ≡ record { items = run_at o.cmp (r.view x) k; place = NeedNext 0; taken = 0 } = λ i. record { items = run_at o.cmp (r.view (from i)) (key i); place = place i; taken = 0 } in

@@ -1,16 +1,31 @@
 -- A cursor is a list and a place in it. Each call of a cursor is one function here.
 --     Place                       before the value at i, on the value at i, or past the end
+--     state_of, place_of          the state that a cursor tells at a place, and the place that a state and a number stand for
 --     after_next, value_next      where `next` goes, and what it answers
 --     list_after_insert, ..       the list that `insert`, `update` and `delete` leave, and place_after_insert, .. the place
 --     Retains, Finds, FindsNone   what `retain` leaves, and where `find` ends: f is asked on each value in turn, by the relation step
 --     IsOnValue, AllowsInsert     where `update` and `delete` are allowed, and where `insert` is
 use Rattle.std.specs.Prelude.{◌≡◌, ◌<◌, ℕ, ◌+◌, Bool, true, false, if◌then◌else◌, nat_lt, List, [], ◌∷◌, ◌++◌, length, take, drop, slice_get, slice_set, replicate, Option, None}
 use Rattle.std.specs.List.Retain.{IsFiltered, ReturnsInTurn}
+use Rattle.key_index_flat.specs.declared.index.traits.cursor.CursorState.{CursorState}
+use Rattle.key_index_flat.specs.declared.index.traits.cursor.CursorState.TheVariants as state
 
 pub data Place : Type 0 where
   NeedNext : ℕ → Place
   Active : ℕ → Place
   Done : Place
+
+-- the state at a place
+abbrev pub state_of : Place → CursorState
+state_of (NeedNext i) = state.NeedNext
+state_of (Active i) = state.Active
+state_of Done = state.Done
+
+-- the place that a state and a number stand for
+abbrev pub place_of : CursorState → ℕ → Place
+place_of state.NeedNext i = NeedNext i
+place_of state.Active i = Active i
+place_of state.Done i = Done
 
 abbrev pub place_after_insert : Place → Place
 place_after_insert (NeedNext i) = NeedNext i
@@ -65,14 +80,19 @@ values_left l p = drop (next_place l p) l
 
 -- what `retain` leaves: the values before the next one, and those left of which f said true, asked on each in order
 abbrev pub Retains : {F V : Type 0} → (F → V → Bool → F → Type 0) → F → List V → Place → List V → Type 0
-Retains {V = V} step f l p new = (rest : List V) × IsFiltered step f (values_left l p) rest × (new ≡ take (next_place l p) l ++ rest)
+Retains {V = V} step f l p new =
+    (rest : List V) × IsFiltered step f (values_left l p) rest × (new ≡ take (next_place l p) l ++ rest)
 
 -- where `find` ends: on the first of the values left of which f said true, or past the end where it said false of each
 abbrev pub Finds : {F V : Type 0} → (F → V → Bool → F → Type 0) → F → List V → Place → Place → Type 0
-Finds {F = F} step f l p new = (i : ℕ) × (last : F) × (i < length (values_left l p)) × ReturnsInTurn step f (replicate i false ++ true ∷ []) (values_left l p) last × (new ≡ Active (next_place l p + i))
+Finds {F = F} step f l p new =
+    (i : ℕ) × (last : F) × (i < length (values_left l p))
+    × ReturnsInTurn step f (replicate i false ++ true ∷ []) (values_left l p) last
+    × (new ≡ Active (next_place l p + i))
 
 abbrev pub FindsNone : {F V : Type 0} → (F → V → Bool → F → Type 0) → F → List V → Place → Place → Type 0
-FindsNone {F = F} step f l p new = (last : F) × ReturnsInTurn step f (replicate (length (values_left l p)) false) (values_left l p) last × (new ≡ Done)
+FindsNone {F = F} step f l p new =
+    (last : F) × ReturnsInTurn step f (replicate (length (values_left l p)) false) (values_left l p) last × (new ≡ Done)
 
 -- on a value
 abbrev pub IsOnValue : Place → Type 0

@@ -25,7 +25,9 @@ byte_cmp = slice_cmp nat_cmp
 
 abbrev pub IsLeast : {V : Type 0} → (V → V → Ordering) → List V → Option V → Type 0
 IsLeast cmp l None = l ≡ []
-IsLeast {V = V} cmp l (Some v) = (before : List V) × (after : List V) × (l ≡ before ++ v ∷ after) × All (λ w. cmp v w ≡ Less) before × All (λ w. IsLeBy cmp v w) after
+IsLeast {V = V} cmp l (Some v) =
+      (before : List V) × (after : List V) × (l ≡ before ++ v ∷ after)
+      × All (λ w. cmp v w ≡ Less) before × All (λ w. IsLeBy cmp v w) after
 
 abbrev pub values_of : {K V : Type 0} → Content K V → List V
 values_of c = flat_map (λ e. e.1) c
@@ -65,7 +67,8 @@ module _ {V : Type 0} (full_key : V → List ℕ) where
     IsNextCandidate c k a o = IsLeast cmp_keys (or_list (above a (list_at cmp c k)) (unflagged (next_list cmp c k))) o
 
     abbrev pub IsPrevCandidate : Content K V → K → List ℕ → Option V → Type 0
-    IsPrevCandidate c k a o = IsLeast (flip_args cmp_keys) (or_list (below a (list_at cmp c k)) (unflagged (prev_list cmp c k))) o
+    IsPrevCandidate c k a o =
+        IsLeast (flip_args cmp_keys) (or_list (below a (list_at cmp c k)) (unflagged (prev_list cmp c k))) o
 
     -- the same of an index as it is seen, at a key
     abbrev pub IsFiledIn : View K V → Type 0

@@ -12,7 +12,8 @@ use Rattle.key_index_flat.specs.declared.index.unordered.Index.{Index}
 use Rattle.key_index_flat.specs.declared.translator.Translator as translator
 use Rattle.key_index_flat.specs.Content.{Content, IsLawful}
 
-module _ {T V K : Type 0} {t : translator.Ghosts T K} {o : ord.Ghosts K} {e : eq.Ghosts K} {p : partial.Ghosts K} {h : hash.Ghosts K} where
+module _ {T V K : Type 0} {t : translator.Ghosts T K} {o : ord.Ghosts K} {e : eq.Ghosts K} {p : partial.Ghosts K}
+    {h : hash.Ghosts K} where
   abbrev pub held : Index T V K t o e p h → Content K V
   held index = index.storage.content
 

@@ -10,7 +10,7 @@ use Rattle.std.specs.Cmp.{IsTotalOrder}
 use Rattle.std.specs.FinMap.{put}
 use Rattle.std.specs.FinMap.Entries.{by_order, where_key, is_sorted-put, is_sorted-where_key}
 use Rattle.key_index_flat.specs.Content.{Content, is_filled, all_filled, with_list, IsLawful}
-use Rattle.key_index_flat.specs.Chains.{content_of, older_at, stored}
+use Rattle.key_index_flat.specs.Storage.{content_of, older_at, stored}
 
 pub both : (a b : Bool) → T a → T b → T (a && b)
 both true b p q = q

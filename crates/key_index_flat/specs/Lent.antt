@@ -29,5 +29,7 @@ cursor_name name (Ok (Some c)) = maybe.some (name c)
 cursor_name name (Ok None) = maybe.none
 cursor_name name (Err f) = maybe.none
 
-abbrev pub RestsUnlessFound : (R : RattleType) → MutBor R.Denot → {C F : Type 0} → (C → GName) → Result (Option C) F → (R.Denot → Type 0) → (R.Denot → Type 0) → Fml
-RestsUnlessFound R s name r P Q = follows_so R R s.ghost_name (cursor_name name r) (λ x n. OnFound r (λ c. n ≡ x)) (λ n. NoneOrErr r (P n) (Q n))
+abbrev pub RestsUnlessFound : (R : RattleType) → MutBor R.Denot → {C F : Type 0} → (C → GName)
+    → Result (Option C) F → (R.Denot → Type 0) → (R.Denot → Type 0) → Fml
+RestsUnlessFound R s name r P Q =
+    follows_so R R s.ghost_name (cursor_name name r) (λ x n. OnFound r (λ c. n ≡ x)) (λ n. NoneOrErr r (P n) (Q n))

@@ -14,9 +14,8 @@ use Rattle.key_index_flat.specs.declared.index.command.Outcome.{Outcome}
 use Rattle.key_index_flat.specs.declared.index.command.Outcome.TheVariants as outcome
 use Rattle.key_index_flat.specs.declared.index.command.Step.{Step}
 use Rattle.key_index_flat.specs.declared.index.command.Step.TheVariants as step
-use Rattle.key_index_flat.specs.Content.{with_list, item_count}
-use Rattle.key_index_flat.specs.Fault.{growth_fault}
-use Rattle.key_index_flat.specs.View.{View, items_in, run_at, run_of, with_run, with_edit, with_pruned, after_insert, after_remove, RetainsAt}
+use Rattle.key_index_flat.specs.declared.index.Fault.{Fault}
+use Rattle.key_index_flat.specs.View.{View, growth_fault_in, items_in, run_at, run_of, with_run, with_edit, with_pruned, after_insert, after_remove, RetainsAt}
 use Rattle.key_index_flat.specs.Cursor.{Place, NeedNext, IsOnValue, AllowsInsert, after_next, list_after_insert, place_after_insert, list_after_update, list_after_delete, place_after_delete}
 
 -- whether no value has room, at so many
@@ -40,11 +39,15 @@ IsAt t l p n = (t.items ≡ l) × (t.place ≡ p) × (t.taken ≡ n)
 abbrev pub StepGives : {V : Type 0} → ℕ → Step V → Bool → Edited V → Edited V → Type 0
 StepGives others step.Next true s t = IsAt t s.items (after_next s.items s.place) s.taken
 StepGives others step.Next false s t = ⊥
-StepGives others (step.Update v) true s t = IsOnValue s.place × IsAt t (list_after_update s.items s.place v) s.place s.taken
+StepGives others (step.Update v) true s t =
+    IsOnValue s.place × IsAt t (list_after_update s.items s.place v) s.place s.taken
 StepGives others (step.Update v) false s t = ¬ (IsOnValue s.place) × Skipped s t
-StepGives others step.Delete true s t = IsOnValue s.place × IsAt t (list_after_delete s.items s.place) (place_after_delete s.place) (s.taken + 1)
+StepGives others step.Delete true s t =
+    IsOnValue s.place × IsAt t (list_after_delete s.items s.place) (place_after_delete s.place) (s.taken + 1)
 StepGives others step.Delete false s t = ¬ (IsOnValue s.place) × Skipped s t
-StepGives others (step.Insert v) true s t = AllowsInsert s.place × IsTrue (not (is_full (others + length s.items))) × IsAt t (list_after_insert s.items s.place v) (place_after_insert s.place) s.taken
+StepGives others (step.Insert v) true s t =
+    AllowsInsert s.place × IsTrue (not (is_full (others + length s.items)))
+    × IsAt t (list_after_insert s.items s.place v) (place_after_insert s.place) s.taken
 StepGives others (step.Insert v) false s t = Skipped s t
 
 abbrev pub EditGives : {V : Type 0} → ℕ → List (Step V) → List Bool → Edited V → Edited V → Type 0
@@ -58,37 +61,54 @@ abbrev pub one_if_absent : {V : Type 0} → V → List V → List V
 one_if_absent v [] = v ∷ []
 one_if_absent v (x ∷ xs) = x ∷ xs
 
+-- before the first value of a list
+abbrev pub edit_start : {V : Type 0} → List V → Edited V
+edit_start l = record { items = l; place = NeedNext 0; taken = 0 }
+
 -- the edit of the list at an index key
-abbrev pub EditAt : {K V : Type 0} → (K → K → Ordering) → K → List (Step V) → List Bool → View K V → View K V → Type 0
+abbrev pub EditAt : {K V : Type 0} → (K → K → Ordering) → K → List (Step V) → List Bool
+    → View K V → View K V → Type 0
 EditAt {V = V} cmp k steps flags s t =
-    (e : Edited V) × EditGives (item_count (with_list cmp s.content k [])) steps flags (record { items = run_at cmp s k; place = NeedNext 0; taken = 0 }) e
+    (e : Edited V) × EditGives (items_in (with_run cmp s k [])) steps flags (edit_start (run_at cmp s k)) e
     × (t ≡ with_pruned (with_run cmp s k e.items) e.taken)
 
 -- a key that has no value is not edited
-abbrev pub EditOf : {K V : Type 0} → (K → K → Ordering) → K → List V → List (Step V) → List Bool → View K V → View K V → Type 0
-EditOf cmp k [] steps flags s t = (flags ≡ map (λ x. false) steps) × (t ≡ s)
-EditOf {V = V} cmp k (v ∷ vs) steps flags s t =
-    (e : Edited V) × EditGives (item_count (with_list cmp s.content k [])) steps flags (record { items = v ∷ vs; place = NeedNext 0; taken = 0 }) e
-    × (t ≡ with_pruned (with_run cmp s k e.items) e.taken)
+abbrev pub EditUnlessAbsent : {K V : Type 0} → (K → K → Ordering) → K → List V → List (Step V) → List Bool
+    → View K V → View K V → Type 0
+EditUnlessAbsent cmp k [] steps flags s t = (flags ≡ map (λ x. false) steps) × (t ≡ s)
+EditUnlessAbsent cmp k (v ∷ vs) steps flags s t = EditAt cmp k steps flags s t
+
+abbrev pub EditOf : {K V : Type 0} → (K → K → Ordering) → List ℕ → List (Step V) → List Bool
+    → View K V → View K V → Type 0
+EditOf cmp b steps flags s t = EditUnlessAbsent cmp (s.slot b) (run_of cmp s b) steps flags s t
+
+-- one more value has room, and what is left
+abbrev pub Grows : {K V : Type 0} → View K V → View K V → View K V → Type 0
+Grows s left t = IsTrue (not (is_full (items_in s))) × (t ≡ left)
+
+-- refused for this reason, with nothing changed
+abbrev pub IsRefused : {K V : Type 0} → Fault → Fault → View K V → View K V → Type 0
+IsRefused why f s t = (f ≡ why) × (t ≡ s)
 
 -- first: whether a new value goes in front; ask: one question of a command's test on a value
 module _ {K V F : Type 0} (cmp : K → K → Ordering) (first : Bool) (ask : F → V → Bool → F → Type 0) where
   abbrev pub CommandGives : Command V F → Outcome → View K V → View K V → Type 0
-  CommandGives (command.Insert key v) outcome.Done s t = IsTrue (not (is_full (items_in s))) × (t ≡ after_insert cmp first s key.items v)
-  CommandGives (command.Insert key v) (outcome.Refused f) s t = (f ≡ growth_fault (items_in s)) × (t ≡ s)
+  CommandGives (command.Insert key v) outcome.Done s t = Grows s (after_insert cmp first s key.items v) t
+  CommandGives (command.Insert key v) (outcome.Refused f) s t = IsRefused (growth_fault_in s) f s t
   CommandGives (command.Insert key v) (outcome.Edited flags) s t = ⊥
   CommandGives (command.Retain key test) outcome.Done s t = RetainsAt cmp ask test s key.items t
-  CommandGives (command.Retain key test) (outcome.Refused f) s t = (f ≡ Memory) × (t ≡ s)
+  CommandGives (command.Retain key test) (outcome.Refused f) s t = IsRefused Memory f s t
   CommandGives (command.Retain key test) (outcome.Edited flags) s t = ⊥
   CommandGives (command.Remove key) outcome.Done s t = t ≡ after_remove cmp s key.items
-  CommandGives (command.Remove key) (outcome.Refused f) s t = (f ≡ Memory) × (t ≡ s)
+  CommandGives (command.Remove key) (outcome.Refused f) s t = IsRefused Memory f s t
   CommandGives (command.Remove key) (outcome.Edited flags) s t = ⊥
-  CommandGives (command.GetOrInsert key v) outcome.Done s t = IsTrue (not (is_full (items_in s))) × (t ≡ with_edit cmp s (s.slot key.items) (one_if_absent v))
-  CommandGives (command.GetOrInsert key v) (outcome.Refused f) s t = (f ≡ growth_fault (items_in s)) × (t ≡ s)
+  CommandGives (command.GetOrInsert key v) outcome.Done s t =
+      Grows s (with_edit cmp s (s.slot key.items) (one_if_absent v)) t
+  CommandGives (command.GetOrInsert key v) (outcome.Refused f) s t = IsRefused (growth_fault_in s) f s t
   CommandGives (command.GetOrInsert key v) (outcome.Edited flags) s t = ⊥
   CommandGives (command.Edit key steps) outcome.Done s t = ⊥
-  CommandGives (command.Edit key steps) (outcome.Refused f) s t = (f ≡ Memory) × (t ≡ s)
-  CommandGives (command.Edit key steps) (outcome.Edited flags) s t = EditOf cmp (s.slot key.items) (run_of cmp s key.items) steps.items flags.items s t
+  CommandGives (command.Edit key steps) (outcome.Refused f) s t = IsRefused Memory f s t
+  CommandGives (command.Edit key steps) (outcome.Edited flags) s t = EditOf cmp key.items steps.items flags.items s t
 
   abbrev pub IsLegal : List (Command V F) → List Outcome → View K V → View K V → Type 0
   IsLegal [] [] s t = t ≡ s

@@ -5,28 +5,24 @@ ghost use Rattle.key_index_flat.specs.Content.{Content, list_at, IsLawful, key_c
 use std::fmt;
 
 mod command;
-mod cursor;
 mod fold;
 mod index_cursor;
-mod interface;
-mod neighbours;
 pub mod ordered;
 mod resolve;
-mod runs;
-mod search;
 mod storage;
+mod traits;
 pub mod unordered;
 mod values;
 
 pub use command::{Command, Outcome, Step};
-pub use cursor::{Cursor, CursorState};
+pub use traits::cursor::{Cursor, CursorState};
 pub use fold::run;
 pub use index_cursor::IndexCursor;
-pub use interface::{Factory, Unordered};
-pub use neighbours::Ordered;
+pub use traits::unordered::{Factory, Unordered};
+pub use traits::ordered::Ordered;
 pub use resolve::{Keyed, resolve_next, resolve_prev};
-pub use runs::Runs;
-pub use search::Search;
+pub use traits::runs::Runs;
+pub use traits::search::Search;
 pub use values::Values;
 
 /// Why a call was refused. A refused call changes no content and no count.

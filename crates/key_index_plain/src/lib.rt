@@ -55,28 +55,28 @@ impl<T: Translator, V: Drop> Runs for Index<T, V> {
         self.translator.transform(key)
     }
 
-    fn admits(&self, _key: T::Key) -> bool {
+    fn admits(&self, _slot: T::Key) -> bool {
         true
     }
 
-    fn run_len(&self, key: T::Key) -> usize {
-        self.values_of(key).len()
+    fn run_len(&self, slot: T::Key) -> usize {
+        self.values_of(slot).len()
     }
 
-    fn value_at(&self, key: T::Key, place: usize) -> &V {
-        &self.values_of(key)[place]
+    fn value_at(&self, slot: T::Key, place: usize) -> &V {
+        &self.values_of(slot)[place]
     }
 
-    fn set_at(&mut self, key: T::Key, place: usize, value: V) {
-        entries::set_at(&mut self.entries, &key, place, value);
+    fn set_at(&mut self, slot: T::Key, place: usize, value: V) {
+        entries::set_at(&mut self.entries, &slot, place, value);
     }
 
-    fn insert_at(&mut self, key: T::Key, place: usize, value: V) -> Result<(), Refused<V>> {
+    fn insert_at(&mut self, slot: T::Key, place: usize, value: V) -> Result<(), Refused<V>> {
         if self.items() == usize::MAX {
             let fault = Fault::Full;
             return Err(Refused { value, fault });
         }
-        match entries::insert_at(&mut self.entries, key, place, value) {
+        match entries::insert_at(&mut self.entries, slot, place, value) {
             Ok(()) => Ok(()),
             Err(value) => {
                 let fault = Fault::Memory;
@@ -85,8 +85,8 @@ impl<T: Translator, V: Drop> Runs for Index<T, V> {
         }
     }
 
-    fn remove_at(&mut self, key: T::Key, place: usize) -> V {
-        let value = entries::remove_at(&mut self.entries, &key, place);
+    fn remove_at(&mut self, slot: T::Key, place: usize) -> V {
+        let value = entries::remove_at(&mut self.entries, &slot, place);
         self.pruned = self.pruned.saturating_add(1);
         value
     }

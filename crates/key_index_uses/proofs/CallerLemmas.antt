@@ -4,7 +4,7 @@ use Rattle.std.specs.declared.cmp.Ordering.{Ordering}
 use Rattle.std.specs.Cmp.{IsTotalOrder}
 use Rattle.std.specs.declared.cmp.Ordering.TheVariants.{Equal}
 use Rattle.key_index_flat.specs.Content.{Content, list_at, with_list, IsLawful}
-use Rattle.key_index_flat.specs.Commands.{put_value, after_insert, after_remove}
+use Rattle.key_index_flat.specs.View.{put_value, after_insert, after_remove}
 use Rattle.key_index_flat.proofs.ContentLemmas.{with_list-same}
 use Rattle.key_index_flat.proofs.CursorLemmas.{list_at-with_list_same}
 

@@ -6,7 +6,7 @@ use Rattle.std.specs.declared.cmp.Ordering.TheVariants.{Equal}
 use Rattle.std.specs.Ordering.{eq_by_cmp}
 use Rattle.std.specs.Cmp.{IsTotalOrder}
 use Rattle.key_index_flat.specs.Content.{Content, list_at}
-use Rattle.key_index_flat.specs.Commands.{put_value, after_insert}
+use Rattle.key_index_flat.specs.View.{put_value, after_insert}
 use Rattle.key_index_flat.specs.FullKeys.{IsBytes, IsFiled}
 use Rattle.key_index_flat.proofs.ContentLemmas.{list_at-with_list, tied}
 

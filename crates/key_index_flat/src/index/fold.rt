@@ -4,8 +4,7 @@ ghost use Rattle.std.specs.Fn.{CalledAt};
 ghost use Rattle.key_index_flat.specs.Content.{with_list, item_count};
 ghost use Rattle.key_index_flat.specs.Cursor.{NeedNext};
 ghost use Rattle.key_index_flat.specs.CursorRun.{Steps, RunsSteps};
-ghost use Rattle.key_index_flat.specs.View.{items_in, run_at, run_of, with_run, with_edit, with_pruned};
-ghost use Rattle.key_index_flat.specs.Fault.{growth_fault};
+ghost use Rattle.key_index_flat.specs.View.{items_in, run_at, with_edit, growth_fault_in};
 ghost use Rattle.key_index_flat.specs.Run.{is_full, IsLegal, one_if_absent, EditAt, EditOf, CommandGives, HasTest, HaveTests, HasRoom, HaveRoom};
 
 use super::{Command, Cursor, Fault, IndexCursor, Outcome, Runs, Step, Unordered};
@@ -106,8 +105,7 @@ fn edit<I: Unordered>(
 where
     I::Value: Drop,
     requires { flags.old ≡ map (λ x. false) steps.items }
-    ensures edited { OnOk result (EditOf I.Key.cmp ((I.view index.old).slot key.now) (run_of I.Key.cmp (I.view index.old) key.now)
-        steps.items flags.new (I.view index.old) (I.view index.new)) }
+    ensures edited { OnOk result (EditOf I.Key.cmp key.now steps.items flags.new (I.view index.old) (I.view index.new)) }
     ensures refused { OnErr result (I.view index.new ≡ I.view index.old) }
     ensures fault { IfErr result (λ f. f ≡ Fault.Memory) }
 {
@@ -127,7 +125,7 @@ where
     ensures accepted { OnOk result (I.view index.new
         ≡ with_edit I.Key.cmp (I.view index.old) ((I.view index.old).slot key.now) (one_if_absent value)) }
     ensures refused { OnErr result (I.view index.new ≡ I.view index.old) }
-    ensures fault { IfErr result (λ f. f ≡ growth_fault (items_in (I.view index.old))) }
+    ensures fault { IfErr result (λ f. f ≡ growth_fault_in (I.view index.old)) }
 {
     match index.reach_or_insert(key, value) {
         Ok(_) => Ok(()),
@@ -145,7 +143,8 @@ where
     I::Value: Drop,
     requires callable { HasTest (λ f. F.IsAlwaysCallable f) command }
     requires room { HasRoom command room }
-    ensures gives { CommandGives I.Key.cmp I.INSERT_FIRST (CalledAt F.FnMut) command result (I.view index.old) (I.view index.new) }
+    ensures gives { CommandGives I.Key.cmp I.INSERT_FIRST (CalledAt F.FnMut)
+        command result (I.view index.old) (I.view index.new) }
 {
     match command {
         Command::Insert(key, value) => match index.insert(key.as_slice(), value) {
@@ -190,7 +189,8 @@ where
     I::Value: Drop,
     requires callable { HaveTests (λ f. F.IsAlwaysCallable f) commands.items }
     requires room { HaveRoom commands.items outcomes.old }
-    ensures { IsLegal I.Key.cmp I.INSERT_FIRST (CalledAt F.FnMut) commands.items outcomes.new (I.view index.old) (I.view index.new) }
+    ensures { IsLegal I.Key.cmp I.INSERT_FIRST (CalledAt F.FnMut)
+        commands.items outcomes.new (I.view index.old) (I.view index.new) }
 {
     let mut rest = commands.into_iter();
     let mut at = 0;

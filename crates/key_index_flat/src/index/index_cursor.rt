@@ -1,7 +1,7 @@
 //! The cursor of every index, proved once over the lists of any.
 ghost use Rattle.std.specs.Prelude.{◌≡◌, ◌<◌, ◌≤◌, length, true, IsTrue};
 ghost use Rattle.key_index_flat.specs.View.{run_at};
-ghost use Rattle.key_index_flat.specs.declared.index.cursor.CursorState.TheVariants.{Active};
+ghost use Rattle.key_index_flat.specs.declared.index.traits.cursor.CursorState.TheVariants.{Active};
 
 use super::{Cursor, CursorState, Refused, Runs};
 
@@ -11,12 +11,12 @@ use super::{Cursor, CursorState, Refused, Runs};
 #[derive(Drop)]
 pub struct IndexCursor<'a, I: Runs> {
     pub(crate) index: &'a mut I,
-    pub(crate) key: I::Key,
+    pub(crate) slot: I::Key,
     pub(crate) place: usize,
     pub(crate) len: usize,
     pub(crate) state: CursorState,
-    ghost known: { len ≡ length (run_at I.Key.cmp (I.view index.now) key) },
-    ghost admits: { IsTrue ((I.view index.now).admitted key) },
+    ghost known: { len ≡ length (run_at I.Key.cmp (I.view index.now) slot) },
+    ghost admits: { IsTrue ((I.view index.now).admitted slot) },
     ghost within: { place ≤ len },
     ghost active: { state ≡ Active → place < len },
 }
@@ -25,32 +25,32 @@ impl<'a, I: Runs> IndexCursor<'a, I> {
     ghost use Rattle.std.specs.Prelude.{◌≡◌, ◌<◌, ◌≤◌, ◌↔◌, length, slice_get, Some, IsTrue};
     ghost use Rattle.key_index_flat.specs.View.{run_at};
     ghost use Rattle.key_index_flat.specs.Cursor.{NeedNext, next_place, place_from, after_next, IsOnValue, AllowsInsert};
-    ghost use Rattle.key_index_flat.specs.IndexCursor.{cursor_index, cursor_key, cursor_list, cursor_place, StaysAt};
+    ghost use Rattle.key_index_flat.specs.IndexCursor.{cursor_index, cursor_slot, cursor_list, cursor_place, StaysAt};
 
     /// A cursor before the first value of an index key.
-    pub fn new(index: &'a mut I, key: I::Key) -> IndexCursor<'a, I>
-        requires admits { IsTrue ((I.view index.old).admitted key) }
-        requires held { 0 < length (run_at I.Key.cmp (I.view index.old) key) }
+    pub fn new(index: &'a mut I, slot: I::Key) -> IndexCursor<'a, I>
+        requires admits { IsTrue ((I.view index.old).admitted slot) }
+        requires held { 0 < length (run_at I.Key.cmp (I.view index.old) slot) }
         ensures same_reference { (cursor_index result).ghost_name ≡ index.entry.ghost_name }
         ensures same_index { (cursor_index result).now ≡ index.old }
-        ensures start { (cursor_key result ≡ key) × (cursor_place result ≡ NeedNext 0) }
+        ensures start { (cursor_slot result ≡ slot) × (cursor_place result ≡ NeedNext 0) }
     {
-        let len = index.run_len(key);
-        IndexCursor::with_len(index, key, len)
+        let len = index.run_len(slot);
+        IndexCursor::with_len(index, slot, len)
     }
 
     /// The same, where the length of the list is known: it saves a look-up.
-    pub fn with_len(index: &'a mut I, key: I::Key, len: usize) -> IndexCursor<'a, I>
-        requires admits { IsTrue ((I.view index.old).admitted key) }
-        requires known { len ≡ length (run_at I.Key.cmp (I.view index.old) key) }
+    pub fn with_len(index: &'a mut I, slot: I::Key, len: usize) -> IndexCursor<'a, I>
+        requires admits { IsTrue ((I.view index.old).admitted slot) }
+        requires known { len ≡ length (run_at I.Key.cmp (I.view index.old) slot) }
         requires held { 0 < len }
         ensures same_reference { (cursor_index result).ghost_name ≡ index.entry.ghost_name }
         ensures same_index { (cursor_index result).now ≡ index.old }
-        ensures start { (cursor_key result ≡ key) × (cursor_place result ≡ NeedNext 0) }
+        ensures start { (cursor_slot result ≡ slot) × (cursor_place result ≡ NeedNext 0) }
     {
         IndexCursor {
             index,
-            key,
+            slot,
             place: 0,
             len,
             state: CursorState::NeedNext,
@@ -68,7 +68,7 @@ impl<'a, I: Runs> IndexCursor<'a, I> {
         requires { self.now.state ≡ CursorState.Active }
         ensures { slice_get (cursor_list self.now) self.now.place ≡ Some result.now }
     {
-        self.index.value_at(self.key, self.place)
+        self.index.value_at(self.slot, self.place)
     }
 
     /// The place of the value that `next` would give.
@@ -169,7 +169,7 @@ where
 
     fn insert(&mut self, value: I::Value) -> Result<(), Refused<I::Value>> {
         let place = self.next_place();
-        self.index.insert_at(self.key, place, value)?;
+        self.index.insert_at(self.slot, place, value)?;
         self.len += 1;
         if self.state == CursorState::Active {
             self.place += 2;
@@ -179,13 +179,13 @@ where
     }
 
     fn delete(&mut self) {
-        self.index.remove_at(self.key, self.place);
+        self.index.remove_at(self.slot, self.place);
         self.len -= 1;
         self.state = CursorState::NeedNext;
     }
 
     fn update(&mut self, value: I::Value) {
-        self.index.set_at(self.key, self.place, value);
+        self.index.set_at(self.slot, self.place, value);
     }
 
     fn retain<F: FnMut(&I::Value) -> bool>(&mut self, mut should_retain: F) {
@@ -193,10 +193,10 @@ where
         self.place = 0;
         self.state = CursorState::Done;
         while place < self.len {
-            if should_retain(self.index.value_at(self.key, place)) {
+            if should_retain(self.index.value_at(self.slot, place)) {
                 place += 1;
             } else {
-                self.index.remove_at(self.key, place);
+                self.index.remove_at(self.slot, place);
                 self.len -= 1;
             }
         }
@@ -205,7 +205,7 @@ where
     fn find<F: FnMut(&I::Value) -> bool>(&mut self, mut predicate: F) -> bool {
         let len = self.len;
         let mut place = self.next_place();
-        while place < len && !predicate(self.index.value_at(self.key, place)) {
+        while place < len && !predicate(self.index.value_at(self.slot, place)) {
             place += 1;
         }
         self.go(place);

@@ -1,7 +1,7 @@
 //! The flat ordered index.
 ghost use Rattle.std.specs.Prelude.{◌≡◌, [], true, false, refl, IsOk, IfOk, IfErr};
 ghost use Rattle.key_index_flat.specs.Content.{IsLawful};
-ghost use Rattle.key_index_flat.specs.Kept.{view_of};
+ghost use Rattle.key_index_flat.specs.Storage.{view_of};
 
 use super::storage::Storage;
 use super::{Factory, Fault, IndexCursor, Ordered, Refused, Runs, Search, Unordered, Values};
@@ -39,33 +39,33 @@ impl<T: Translator, V: Drop> Runs for Index<T, V> {
     }
 
     #[inline]
-    fn admits(&self, _key: T::Key) -> bool {
+    fn admits(&self, _slot: T::Key) -> bool {
         true
     }
 
     #[inline]
-    fn run_len(&self, key: T::Key) -> usize {
-        self.storage.run_len(key)
+    fn run_len(&self, slot: T::Key) -> usize {
+        self.storage.run_len(slot)
     }
 
     #[inline]
-    fn value_at(&self, key: T::Key, place: usize) -> &V {
-        self.storage.value_at(key, place)
+    fn value_at(&self, slot: T::Key, place: usize) -> &V {
+        self.storage.value_at(slot, place)
     }
 
     #[inline]
-    fn set_at(&mut self, key: T::Key, place: usize, value: V) {
-        self.storage.set_at(key, place, value);
+    fn set_at(&mut self, slot: T::Key, place: usize, value: V) {
+        self.storage.set_at(slot, place, value);
     }
 
     #[inline]
-    fn insert_at(&mut self, key: T::Key, place: usize, value: V) -> Result<(), Refused<V>> {
-        self.storage.insert_at(key, place, value)
+    fn insert_at(&mut self, slot: T::Key, place: usize, value: V) -> Result<(), Refused<V>> {
+        self.storage.insert_at(slot, place, value)
     }
 
     #[inline]
-    fn remove_at(&mut self, key: T::Key, place: usize) -> V {
-        self.storage.remove_at(key, place)
+    fn remove_at(&mut self, slot: T::Key, place: usize) -> V {
+        self.storage.remove_at(slot, place)
     }
 }
 

@@ -62,7 +62,8 @@ impl Side for Below {
 
 /// Of the nearest value of a list and one that comes behind it, the one with the nearer full key.
 fn nearer<'a, S: Side, V: Keyed>(nearest: Option<&'a V>, value: &'a V) -> Option<&'a V>
-    ensures { (l : List V) → IsLeast (on V.full_key S.cmp) l (option_copied nearest.entry) → IsLeast (on V.full_key S.cmp) (l ++ value.now ∷ []) (option_copied result) }
+    ensures { (l : List V) → IsLeast (on V.full_key S.cmp) l (option_copied nearest.entry)
+        → IsLeast (on V.full_key S.cmp) (l ++ value.now ∷ []) (option_copied result) }
 {
     let Some(first) = nearest else {
         return Some(value);
@@ -87,7 +88,8 @@ fn nearest<'a, S: Side, V: Keyed>(values: Values<'a, V>) -> Option<&'a V>
 
 /// The first of the values with the nearest full key beyond a key.
 fn nearest_beyond<'a, S: Side, V: Keyed>(values: Values<'a, V>, key: &[u8]) -> Option<&'a V>
-    ensures { IsLeast (on V.full_key S.cmp) (filter (λ v. is_lt (S.cmp key.now (V.full_key v))) values.entry) (option_copied result) }
+    ensures { IsLeast (on V.full_key S.cmp) (filter (λ v. is_lt (S.cmp key.now (V.full_key v))) values.entry)
+        (option_copied result) }
 {
     let mut nearest: Option<&'a V> = None;
     for value in values {

@@ -18,7 +18,8 @@ impl<'a, V> Model for Values<'a, V> {
 
     ghost Value = { List V };
 
-    ghost view = { λ v. option_to_list (option_copied v.newest) ++ (if v.from_end then reverse v.rest.now else v.rest.now) };
+    ghost view = { λ v. option_to_list (option_copied v.newest)
+        ++ (if v.from_end then reverse v.rest.now else v.rest.now) };
 }
 
 impl<'a, V> Values<'a, V> {

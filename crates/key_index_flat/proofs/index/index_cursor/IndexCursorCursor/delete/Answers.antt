@@ -3,7 +3,7 @@ use Rattle.std.proofs.lemmas.List.Edits.{length-remove}
 use Rattle.std.specs.List.{remove}
 use Rattle.key_index_flat.specs.Content.{list_at}
 use Rattle.key_index_flat.specs.Cursor.{list_after_delete}
-use Rattle.key_index_flat.specs.CursorState.{place_of}
+use Rattle.key_index_flat.specs.Cursor.{place_of}
 use Rattle.key_index_flat.proofs.CursorLemmas.{list_at_edit, on_value, edits_index}
 use Rattle.key_index_flat.proofs.ViewLemmas.{same_content, same_admitted}
 use Rattle.key_index_flat.proofs.index.index_cursor.IndexCursorCursor.delete.Goals as goal
@@ -11,7 +11,7 @@ use Rattle.key_index_flat.proofs.index.index_cursor.IndexCursorCursor.delete.Goa
 pub invariant_of-self : goal.invariant_of-self
 invariant_of-self g c =
     let at = c.args.self.now in
-    let old = list_at g.I.Key.Ord.cmp (g.I.Runs.view at.index.now).content at.key in
+    let old = list_at g.I.Key.Ord.cmp (g.I.Runs.view at.index.now).content at.slot in
     let within : at.place < at.len = at.active (on_value at.state at.place c.requires) in
     let known : at.len ≡ length old = at.known in
     let less : length (remove old at.place) + 1 ≡ length old = length-remove old at.place (omega (arith, within, known)) in
@@ -19,7 +19,7 @@ invariant_of-self g c =
     let count : at.len - 1 ≡ length (remove old at.place) = omega (arith, known, less) in
     record {
       known = count ∙ sym (ap (λ l. length l) now);
-      admits = subst IsTrue (sym (ap (λ f. f at.key) (same_admitted c.remove_at.ensures.changed))) at.admits;
+      admits = subst IsTrue (sym (ap (λ f. f at.slot) (same_admitted c.remove_at.ensures.changed))) at.admits;
       within = omega (arith, within);
       active = λ e. absurd (cc e);
     }
@@ -27,7 +27,7 @@ invariant_of-self g c =
 pub returns-clause-items : goal.returns-clause-items
 returns-clause-items g c =
     let at = c.args.self.now in
-    let old = list_at g.I.Key.Ord.cmp (g.I.Runs.view at.index.now).content at.key in
+    let old = list_at g.I.Key.Ord.cmp (g.I.Runs.view at.index.now).content at.slot in
     let next : suc at.place ≡ at.place + 1 = omega arith in
     list_at_edit g.met.I.Key.Ord.total _ _ _ _ (same_content c.remove_at.ensures.changed)
     ∙ ap (λ n. take at.place old ++ drop n old) next

@@ -3,10 +3,10 @@ use Rattle.std.proofs.lemmas.List.Edits.{length-insert}
 use Rattle.std.specs.List.{insert}
 use denote.Enum.Bare.{same_true}
 use Rattle.key_index_flat.specs.Content.{list_at}
-use Rattle.key_index_flat.specs.CursorState.{place_of}
+use Rattle.key_index_flat.specs.Cursor.{place_of}
 use Rattle.key_index_flat.specs.IndexCursor.{EditsIndex, cursor_list}
-use Rattle.key_index_flat.specs.declared.index.cursor.CursorState.TheVariants as state
-use Rattle.key_index_flat.specs.contracts.index.cursor.CursorState.{the_type}
+use Rattle.key_index_flat.specs.declared.index.traits.cursor.CursorState.TheVariants as state
+use Rattle.key_index_flat.specs.contracts.index.traits.cursor.CursorState.{the_type}
 use Rattle.key_index_flat.proofs.CursorLemmas.{list_at_edit, same_edit, length-list_at, pruned_none, past_end, inserted, edits_index}
 use Rattle.key_index_flat.proofs.ViewLemmas.{same_content, same_pruned, same_slot, same_admitted}
 use Rattle.key_index_flat.proofs.index.index_cursor.IndexCursorCursor.insert.Goals as goal
@@ -18,10 +18,10 @@ returns-in_err-insert_at-clause-edited g c =
     let same = c.in_err-insert_at.ensures.refused in
     record {
       same_reference = refl;
-      same_key = refl;
+      slot_kept = refl;
       changed =
           let view = g.I.Runs.view at.index.now in
-          let content = same_edit g.met.I.Key.Ord.total g.met.I.Runs.exact view.content _ at.key (g.met.I.Runs.lawful at.index.now) (same_content same) in
+          let content = same_edit g.met.I.Key.Ord.total g.met.I.Runs.exact view.content _ at.slot (g.met.I.Runs.lawful at.index.now) (same_content same) in
           λ i. record { content = content i; pruned = (same_pruned same ∙ pruned_none view.pruned) i; slot = same_slot same i; admitted = same_admitted same i };
       states = c.insert_at.new.self ∷ [];
       edited = (c.insert_at.ensures.edited, refl);
@@ -30,13 +30,13 @@ returns-in_err-insert_at-clause-edited g c =
 pub overflow_add-self : goal.overflow_add-self
 overflow_add-self g c =
     let at = c.args.self.now in
-    let most = length-list_at g.met.I.Key.Ord.total (g.I.Runs.view at.index.now).content at.key (g.met.I.Runs.lawful at.index.now) in
+    let most = length-list_at g.met.I.Key.Ord.total (g.I.Runs.view at.index.now).content at.slot (g.met.I.Runs.lawful at.index.now) in
     omega (arith, most, at.known, c.in_ok-insert_at.ensures.room)
 
 pub overflow_add-self-then-eq : goal.overflow_add-self-then-eq
 overflow_add-self-then-eq g c =
     let at = c.args.self.now in
-    let most = length-list_at g.met.I.Key.Ord.total (g.I.Runs.view at.index.now).content at.key (g.met.I.Runs.lawful at.index.now) in
+    let most = length-list_at g.met.I.Key.Ord.total (g.I.Runs.view at.index.now).content at.slot (g.met.I.Runs.lawful at.index.now) in
     let active : at.state ≡ state.Active = same_true the_type (search rules) _ _ (sym c.if-eq.ensures) in
     let here : at.place < at.len = at.active active in
     omega (arith, most, at.known, c.in_ok-insert_at.ensures.room, here)
@@ -44,7 +44,7 @@ overflow_add-self-then-eq g c =
 pub invariant_of-self-then-eq : goal.invariant_of-self-then-eq
 invariant_of-self-then-eq g c =
     let at = c.args.self.now in
-    let old = list_at g.I.Key.Ord.cmp (g.I.Runs.view at.index.now).content at.key in
+    let old = list_at g.I.Key.Ord.cmp (g.I.Runs.view at.index.now).content at.slot in
     let active : at.state ≡ state.Active = same_true the_type (search rules) _ _ (sym c.if-eq.ensures) in
     let here : at.place < at.len = at.active active in
     let next = c.next_place-place in
@@ -52,7 +52,7 @@ invariant_of-self-then-eq g c =
     let now = list_at_edit g.met.I.Key.Ord.total _ _ _ _ (same_content c.in_ok-insert_at.ensures.accepted) in
     record {
       known = ap (λ n. n + 1) at.known ∙ sym (ap (λ l. length l) now ∙ length-insert old next.result c.args.value within);
-      admits = subst IsTrue (sym (ap (λ f. f at.key) (same_admitted c.in_ok-insert_at.ensures.accepted))) at.admits;
+      admits = subst IsTrue (sym (ap (λ f. f at.slot) (same_admitted c.in_ok-insert_at.ensures.accepted))) at.admits;
       within = omega (arith, here);
       active = λ e. absurd (cc e);
     }
@@ -60,7 +60,7 @@ invariant_of-self-then-eq g c =
 pub invariant_of-self-else-eq : goal.invariant_of-self-else-eq
 invariant_of-self-else-eq g c =
     let at = c.args.self.now in
-    let old = list_at g.I.Key.Ord.cmp (g.I.Runs.view at.index.now).content at.key in
+    let old = list_at g.I.Key.Ord.cmp (g.I.Runs.view at.index.now).content at.slot in
     let done : at.state ≡ state.Done = past_end at.state at.place c.requires c.if-eq.ensures in
     let next = c.next_place-place in
     let within : next.result ≤ length old = omega (arith, next.ensures.within, at.known) in
@@ -68,7 +68,7 @@ invariant_of-self-else-eq g c =
     let held : at.place ≤ at.len = at.within in
     record {
       known = ap (λ n. n + 1) at.known ∙ sym (ap (λ l. length l) now ∙ length-insert old next.result c.args.value within);
-      admits = subst IsTrue (sym (ap (λ f. f at.key) (same_admitted c.in_ok-insert_at.ensures.accepted))) at.admits;
+      admits = subst IsTrue (sym (ap (λ f. f at.slot) (same_admitted c.in_ok-insert_at.ensures.accepted))) at.admits;
       within = omega (arith, held);
       active = λ e. absurd (cc (e, done));
     }
@@ -76,10 +76,10 @@ invariant_of-self-else-eq g c =
 pub returns-clause-items : goal.returns-clause-items
 returns-clause-items g c =
     let at = c.args.self.now in
-    let old = list_at g.I.Key.Ord.cmp (g.I.Runs.view at.index.now).content at.key in
+    let old = list_at g.I.Key.Ord.cmp (g.I.Runs.view at.index.now).content at.slot in
     let next = c.next_place-place in
     let now = list_at_edit g.met.I.Key.Ord.total _ _ _ _ (same_content c.in_ok-insert_at.ensures.accepted) in
-    let joined : cursor_list c.if-eq.self ≡ list_at g.I.Key.Ord.cmp (g.I.Runs.view c.insert_at.new.self).content at.key = elim c.if-eq.branch [
+    let joined : cursor_list c.if-eq.self ≡ list_at g.I.Key.Ord.cmp (g.I.Runs.view c.insert_at.new.self).content at.slot = elim c.if-eq.branch [
       | then-eq w ↦ ap (λ s. cursor_list s) w.self-is
       | else-eq w ↦ ap (λ s. cursor_list s) w.self-is
     ] in

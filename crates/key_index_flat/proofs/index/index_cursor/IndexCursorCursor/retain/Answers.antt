@@ -7,7 +7,7 @@ use Rattle.std.specs.List.{remove}
 use borrow.Author.Rules.{of_calls}
 use Rattle.key_index_flat.specs.Cursor.{next_place}
 use Rattle.key_index_flat.specs.IndexCursor.{cursor_list, cursor_place}
-use Rattle.key_index_flat.specs.declared.index.cursor.CursorState.TheVariants.{Done}
+use Rattle.key_index_flat.specs.declared.index.traits.cursor.CursorState.TheVariants.{Done}
 use Rattle.key_index_flat.proofs.Asked.{drop-value, take-value, drop-remove, take-remove, kept_first, kept_more, kept_less, kept_parts, retained}
 use Rattle.key_index_flat.proofs.CursorLemmas.{list_at_edit, edited_none, edited_more}
 use Rattle.key_index_flat.proofs.ViewLemmas.{same_content, same_admitted}
@@ -21,12 +21,12 @@ loop-place-init g c =
     let start = next_place xs (cursor_place at) in
     record {
       same_reference = refl;
-      same_key = refl;
+      slot_kept = refl;
       done = refl;
       front = refl;
       within = next.ensures.within;
       fewer = omega arith;
-      edited = edited_none g.I.Runs g.I.Key.Ord.cmp g.met.I.Key.Ord.total g.met.I.Runs.exact at.key at.index.now (g.met.I.Runs.lawful at.index.now) (at.len - at.len) (omega arith);
+      edited = edited_none g.I.Runs g.I.Key.Ord.cmp g.met.I.Key.Ord.total g.met.I.Runs.exact at.slot at.index.now (g.met.I.Runs.lawful at.index.now) (at.len - at.len) (omega arith);
       kept = kept_parts (CalledAt g.F.FnMut) c.args.should_retain c.args.should_retain xs (take start xs) _ (drop start xs) _ start (ap (λ n. take n xs) (sym next.ensures.next)) (ap (λ n. drop n xs) (sym next.ensures.next)) (kept_first (CalledAt g.F.FnMut) c.args.should_retain xs start);
       again = c.requires;
     }
@@ -43,7 +43,7 @@ loop-place-preserved-then-should_retain g c =
     let R = CalledAt g.F.FnMut in
     record {
       same_reference = held.same_reference;
-      same_key = held.same_key;
+      slot_kept = held.slot_kept;
       done = held.done;
       front = held.front;
       within = omega (arith, here);
@@ -70,7 +70,7 @@ invariant_of-self-else-should_retain g c =
     let done : at.state ≡ Done = c.loop-place.invariant.done in
     record {
       known = count ∙ sym (ap (λ l. length l) now);
-      admits = subst IsTrue (sym (ap (λ f. f at.key) (same_admitted c.remove_at.ensures.changed))) at.admits;
+      admits = subst IsTrue (sym (ap (λ f. f at.slot) (same_admitted c.remove_at.ensures.changed))) at.admits;
       within = within;
       active = λ e. absurd (cc (e, done));
     }
@@ -91,13 +91,13 @@ loop-place-preserved g c =
     let now = list_at_edit g.met.I.Key.Ord.total _ _ _ _ (same_content c.remove_at.ensures.changed) in
     record {
       same_reference = held.same_reference;
-      same_key = held.same_key;
+      slot_kept = held.slot_kept;
       done = held.done;
       front = held.front;
       within = omega (arith, here);
       fewer = omega (arith, fewer);
-      edited = edited_more g.I.Runs g.I.Key.Ord.cmp g.met.I.Key.Ord.total g.met.I.Runs.exact c.args.self.now.key c.args.self.now.index.now (g.met.I.Runs.lawful c.args.self.now.index.now)
-          at.self.index.now c.remove_at.new.self at.self.key (remove ys at.place) (c.args.self.now.len - at.self.len) _ held.same_key (omega (arith, here, fewer)) held.edited c.remove_at.ensures.changed c.remove_at.ensures.edited;
+      edited = edited_more g.I.Runs g.I.Key.Ord.cmp g.met.I.Key.Ord.total g.met.I.Runs.exact c.args.self.now.slot c.args.self.now.index.now (g.met.I.Runs.lawful c.args.self.now.index.now)
+          at.self.index.now c.remove_at.new.self at.self.slot (remove ys at.place) (c.args.self.now.len - at.self.len) _ held.slot_kept (omega (arith, here, fewer)) held.edited c.remove_at.ensures.changed c.remove_at.ensures.edited;
       kept = kept_parts R c.args.should_retain c.should_retain.new.self xs _ _ _ _ start (sym (take-remove ys at.place below) ∙ ap (λ l. take at.place l) (sym now)) (sym (drop-remove ys at.place below) ∙ ap (λ l. drop at.place l) (sym now))
           (kept_less R c.args.should_retain at.should_retain c.should_retain.new.self xs (take at.place ys) (drop (at.place + 1) ys) start x (called_at g.F.FnMut c.should_retain.ensures c.if-should_retain.false)
           (kept_parts R c.args.should_retain at.should_retain xs _ _ _ _ start refl (drop-value ys at.place x c.value_at.ensures) held.kept));

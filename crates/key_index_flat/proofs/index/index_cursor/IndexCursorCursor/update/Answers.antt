@@ -2,7 +2,7 @@ use Rattle.std.proofs.Common.{length, IsTrue, refl, ap, sym, subst, ◌∙◌}
 use Rattle.std.proofs.lemmas.List.{length-set}
 use Rattle.key_index_flat.specs.Content.{list_at}
 use Rattle.key_index_flat.specs.Cursor.{list_after_update}
-use Rattle.key_index_flat.specs.CursorState.{place_of}
+use Rattle.key_index_flat.specs.Cursor.{place_of}
 use Rattle.key_index_flat.proofs.CursorLemmas.{list_at_edit, pruned_none, on_value, edits_index}
 use Rattle.key_index_flat.proofs.ViewLemmas.{same_content, same_admitted}
 use Rattle.key_index_flat.proofs.index.index_cursor.IndexCursorCursor.update.Goals as goal
@@ -10,11 +10,11 @@ use Rattle.key_index_flat.proofs.index.index_cursor.IndexCursorCursor.update.Goa
 pub invariant_of-self : goal.invariant_of-self
 invariant_of-self g c =
     let at = c.args.self.now in
-    let old = list_at g.I.Key.Ord.cmp (g.I.Runs.view at.index.now).content at.key in
+    let old = list_at g.I.Key.Ord.cmp (g.I.Runs.view at.index.now).content at.slot in
     let now = list_at_edit g.met.I.Key.Ord.total _ _ _ _ (same_content c.set_at.ensures.changed) in
     record {
       known = at.known ∙ sym (ap (λ l. length l) now ∙ length-set old at.place c.args.value);
-      admits = subst IsTrue (sym (ap (λ f. f at.key) (same_admitted c.set_at.ensures.changed))) at.admits;
+      admits = subst IsTrue (sym (ap (λ f. f at.slot) (same_admitted c.set_at.ensures.changed))) at.admits;
       within = at.within;
       active = at.active;
     }
@@ -22,7 +22,7 @@ invariant_of-self g c =
 pub returns-clause-items : goal.returns-clause-items
 returns-clause-items g c =
     let at = c.args.self.now in
-    let old = list_at g.I.Key.Ord.cmp (g.I.Runs.view at.index.now).content at.key in
+    let old = list_at g.I.Key.Ord.cmp (g.I.Runs.view at.index.now).content at.slot in
     list_at_edit g.met.I.Key.Ord.total _ _ _ _ (same_content c.set_at.ensures.changed)
     ∙ sym (ap (λ s. list_after_update old (place_of s at.place) c.args.value) (on_value at.state at.place c.requires))
 

@@ -1,0 +1,265 @@
+//! The lists of a flat index: the newest value of each key in one map, and in another the older values of the keys that have any. An
+//! entry whose key has one value then costs that key and that value alone.
+ghost use Rattle.std.specs.Prelude.{◌≡◌, ◌+◌, ◌<◌, ◌≤◌, List, [], ◌∷◌, length, reverse, slice_get, slice_set, insert, remove, Some, MatchOption, IfOk, IfErr, OnOk, OnErr};
+ghost use Rattle.std.specs.Fn.{CalledAt};
+ghost use Rattle.std.specs.List.Retain.{IsFiltered};
+ghost use Rattle.std.specs.Map.Iter.{deref_pair};
+ghost use Rattle.std.specs.Option.{option_map};
+ghost use Rattle.key_index_flat.specs.Content.{Content, key_count, list_at, with_list, with_list_by};
+ghost use Rattle.key_index_flat.specs.Neighbours.{first_list, last_list, next_list, prev_list};
+ghost use Rattle.key_index_flat.specs.Storage.{older_at, stored, IsLinked};
+
+use super::heads::{Heads, OrderedHeads};
+use super::older::{insert_older, older_of, pop_older, remove_older, retain_older, set_older, take_older};
+use crate::index::Values;
+use crate::translator::Translator;
+use std::alloc::Global;
+use std::collections::HashMap;
+use std::hash::Hash;
+use std::marker::Model;
+
+/// The newest value of each index key in `heads`, and in `older` the older values of those that have any, the oldest first.
+/// Contracts see the content that they stand for.
+#[derive(Drop)]
+pub(crate) struct Chains<T: Translator, V, M: Heads<T::Key, V>> {
+    heads: M,
+    older: HashMap<T::Key, Vec<V>>,
+    alloc: Global,
+}
+
+impl<T: Translator, V, M: Heads<T::Key, V>> Model for Chains<T, V, M> {
+    ghost Value = { Content T.Key V };
+
+    ghost view = { λ c. stored T.Key.cmp T.Key.eq (M.entries c.heads) c.older };
+
+    ghost invariant = { λ c. IsLinked T.Key.cmp (M.entries c.heads) (older_at T.Key.eq c.older) };
+}
+
+impl<T: Translator, V: Drop, M: Heads<T::Key, V>> Chains<T, V, M> {
+    /// No values, over an empty map of newest values.
+    pub(super) fn new(alloc: Global, heads: M) -> Chains<T, V, M>
+        requires { M.entries heads ≡ [] }
+        ensures content { result ≡ [] }
+    {
+        Chains {
+            heads,
+            older: HashMap::new(alloc),
+            alloc,
+        }
+    }
+
+    #[inline]
+    pub(super) fn get(&self, slot: T::Key) -> Values<'_, V>
+        ensures { result ≡ list_at T.Key.cmp self.now slot }
+    {
+        match self.heads.get(&slot) {
+            Some(newest) => Values::newest_first(newest, older_of(&self.older, slot)),
+            None => Values::of_slice(&[]),
+        }
+    }
+
+    #[inline]
+    pub(super) fn run_len(&self, slot: T::Key) -> usize
+        ensures { result ≡ length (list_at T.Key.cmp self.now slot) }
+    {
+        match self.heads.get(&slot) {
+            Some(_) => 1 + older_of(&self.older, slot).len(),
+            None => 0,
+        }
+    }
+
+    #[inline]
+    pub(super) fn value_at(&self, slot: T::Key, place: usize) -> &V
+        requires { place < length (list_at T.Key.cmp self.now slot) }
+        ensures { slice_get (list_at T.Key.cmp self.now slot) place ≡ Some result.now }
+    {
+        if place == 0 {
+            return self.heads.get(&slot).unwrap();
+        }
+        let older = older_of(&self.older, slot);
+        &older[older.len() - place]
+    }
+
+    /// Puts a value in front of the list at an index key. The one look-up that finds the key also puts the value there; a newest
+    /// value that finds no room among the older ones then goes back to its place, which takes no memory.
+    #[inline]
+    pub(super) fn insert(&mut self, slot: T::Key, value: V) -> Result<(), V>
+        ensures accepted { OnOk result (self.new ≡ with_list_by T.Key.cmp self.old slot (λ l. value ∷ l)) }
+        ensures refused { OnErr result (self.new ≡ self.old) }
+        ensures returned { IfErr result (λ back. back ≡ value) }
+    {
+        let Some(displaced) = self.heads.insert(slot, value)? else {
+            return Ok(());
+        };
+        match insert_older(self.alloc, &mut self.older, slot, 1, displaced) {
+            Ok(()) => Ok(()),
+            Err(displaced) => {
+                let Ok(Some(value)) = self.heads.insert(slot, displaced) else {
+                    unreachable!()
+                };
+                Err(value)
+            }
+        }
+    }
+
+    /// Puts a value under an index key that has none, and answers how many values the index key has otherwise. The one look-up that
+    /// finds no key also makes its place.
+    #[inline]
+    pub(super) fn insert_absent(&mut self, slot: T::Key, value: V) -> Result<Option<usize>, V>
+        ensures accepted { IfOk result (λ found. let old = list_at T.Key.cmp self.old slot in MatchOption found
+            ((old ≡ []) × (self.new ≡ with_list T.Key.cmp self.old slot (value ∷ [])))
+            (λ len. (len ≡ length old) × (0 < len) × (self.new ≡ self.old))) }
+        ensures refused { OnErr result (self.new ≡ self.old) }
+        ensures returned { IfErr result (λ back. back ≡ value) }
+    {
+        if self.heads.insert_absent(slot, value)? {
+            return Ok(None);
+        }
+        Ok(Some(1 + older_of(&self.older, slot).len()))
+    }
+
+    /// Takes an index key out, and tells how many values it had.
+    #[inline]
+    pub(super) fn remove(&mut self, slot: T::Key) -> usize
+        ensures content { self.new ≡ with_list T.Key.cmp self.old slot [] }
+        ensures taken { result ≡ length (list_at T.Key.cmp self.old slot) }
+    {
+        if self.heads.remove(&slot).is_none() {
+            return 0;
+        }
+        1 + take_older(&mut self.older, slot)
+    }
+
+    /// Puts another value at a place of the index key's list.
+    #[inline]
+    pub(super) fn set_at(&mut self, slot: T::Key, place: usize, value: V)
+        requires place { place < length (list_at T.Key.cmp self.old slot) }
+        ensures content { self.new ≡ with_list_by T.Key.cmp self.old slot (λ l. slice_set l place value) }
+    {
+        if place != 0 {
+            set_older(&mut self.older, slot, place, value);
+            return;
+        }
+        let Ok(_) = self.heads.insert(slot, value) else {
+            unreachable!()
+        };
+    }
+
+    /// Puts a value in at a place of the index key's list, or behind its last one.
+    #[inline]
+    pub(super) fn insert_at(&mut self, slot: T::Key, place: usize, value: V) -> Result<(), V>
+        requires place { place ≤ length (list_at T.Key.cmp self.old slot) }
+        ensures accepted { OnOk result (self.new ≡ with_list_by T.Key.cmp self.old slot (λ l. insert l place value)) }
+        ensures refused { OnErr result (self.new ≡ self.old) }
+        ensures returned { IfErr result (λ back. back ≡ value) }
+    {
+        if place == 0 {
+            return self.insert(slot, value);
+        }
+        insert_older(self.alloc, &mut self.older, slot, place, value)
+    }
+
+    /// Takes the value at a place of the index key's list out.
+    #[inline]
+    pub(super) fn remove_at(&mut self, slot: T::Key, place: usize) -> V
+        requires place { place < length (list_at T.Key.cmp self.old slot) }
+        ensures value { slice_get (list_at T.Key.cmp self.old slot) place ≡ Some result }
+        ensures content { self.new ≡ with_list_by T.Key.cmp self.old slot (λ l. remove l place) }
+    {
+        if place != 0 {
+            return remove_older(&mut self.older, slot, place);
+        }
+        let Some(next) = pop_older(&mut self.older, slot) else {
+            return self.heads.remove(&slot).unwrap();
+        };
+        let Ok(Some(newest)) = self.heads.insert(slot, next) else {
+            unreachable!()
+        };
+        newest
+    }
+
+    /// Asks once on each value of the index key, in list order, takes out those that are answered false, and tells how many.
+    pub(super) fn retain<F: FnMut(&V) -> bool>(&mut self, slot: T::Key, mut should_retain: F) -> usize
+        requires callable { F.IsAlwaysCallable should_retain }
+        ensures kept { (kept : List V)
+            × IsFiltered (CalledAt F.FnMut) should_retain (list_at T.Key.cmp self.old slot) kept
+            × (self.new ≡ with_list T.Key.cmp self.old slot kept)
+            × (result + length kept ≡ length (list_at T.Key.cmp self.old slot)) }
+    {
+        let Some(newest) = self.heads.get(&slot) else {
+            return 0;
+        };
+        let keeps_newest = should_retain(newest);
+        let taken = retain_older(&mut self.older, slot, should_retain);
+        if keeps_newest {
+            return taken;
+        }
+        self.remove_at(slot, 0);
+        taken + 1
+    }
+
+    /// How many index keys have values.
+    #[inline]
+    pub(super) fn keys(&self) -> usize
+        ensures { result ≡ key_count self.now }
+    {
+        self.heads.len()
+    }
+}
+
+/// The values of a key with its newest value.
+#[inline]
+fn values_of<'a, K: Ord + Hash + Copy, V>(
+    older: &'a HashMap<K, Vec<V>>,
+    head: Option<(&'a K, &'a V)>,
+) -> Option<Values<'a, V>>
+    ensures { result ≡ option_map (λ e. e.1 ∷ reverse (older_at K.eq older.now e.0))
+        (option_map deref_pair head.entry) }
+{
+    match head {
+        Some((key, newest)) => Some(Values::newest_first(newest, older_of(older, *key))),
+        None => None,
+    }
+}
+
+impl<T: Translator, V: Drop, M: OrderedHeads<T::Key, V>> Chains<T, V, M> {
+    #[inline]
+    pub(super) fn first(&self) -> Option<Values<'_, V>>
+        ensures { result ≡ first_list self.now }
+    {
+        values_of(&self.older, self.heads.first())
+    }
+
+    #[inline]
+    pub(super) fn last(&self) -> Option<Values<'_, V>>
+        ensures { result ≡ last_list self.now }
+    {
+        values_of(&self.older, self.heads.last())
+    }
+
+    #[inline]
+    pub(super) fn next(&self, slot: T::Key) -> Option<(Values<'_, V>, bool)>
+        ensures { result ≡ next_list T.Key.cmp self.now slot }
+    {
+        match values_of(&self.older, self.heads.above(&slot)) {
+            Some(above) => Some((above, false)),
+            None => match self.first() {
+                Some(first) => Some((first, true)),
+                None => None,
+            },
+        }
+    }
+
+    #[inline]
+    pub(super) fn prev(&self, slot: T::Key) -> Option<(Values<'_, V>, bool)>
+        ensures { result ≡ prev_list T.Key.cmp self.now slot }
+    {
+        match values_of(&self.older, self.heads.below(&slot)) {
+            Some(below) => Some((below, false)),
+            None => match self.last() {
+                Some(last) => Some((last, true)),
+                None => None,
+            },
+        }
+    }
+}

@@ -1,0 +1,220 @@
+//! A map from keys to the newest value of each, hashed or in the order of its keys.
+ghost use Rattle.std.specs.Prelude.{◌≡◌, ◌+◌, List, Option, Some, None, IfOk, IfErr, OnOk, OnErr, is_some, unwrap_or, not, if◌then◌else◌, length};
+ghost use Rattle.std.specs.List.Sorted.{IsStrictlySortedBy};
+ghost use Rattle.std.specs.Map.{keys_of};
+ghost use Rattle.std.specs.Map.Iter.{deref_pair};
+ghost use Rattle.std.specs.Option.{option_copied, option_map};
+ghost use Rattle.std.specs.HashMap.{get, hash_map_len};
+ghost use Rattle.key_index_flat.specs.Neighbours.{first_entry, last_entry, entries_above, entries_below};
+ghost use Rattle.key_index_flat.specs.Storage.{value_of, SameBut, Sets};
+
+use std::collections::btree_map;
+use std::collections::hash_map::Entry;
+use std::collections::{BTreeMap, HashMap};
+use std::hash::Hash;
+use std::ops::Bound;
+
+/// A map from keys to the newest value of each.
+pub(crate) trait Heads<K: Ord, V> {
+    ghost entries: { Self → List (K × V) };
+
+    fn len(&self) -> usize
+        ensures { result ≡ length (entries self.now) };
+
+    fn get(&self, key: &K) -> Option<&V>
+        ensures { option_copied result ≡ value_of K.cmp (entries self.now) key.now };
+
+    /// Puts a value at a key, and answers the one that stood there. A refusal, which comes at an absent key alone, hands the
+    /// value back.
+    fn insert(&mut self, key: K, value: V) -> Result<Option<V>, V>
+        ensures old { IfOk result (λ old. old ≡ value_of K.cmp (entries self.old) key) }
+        ensures sets { OnOk result (Sets K.cmp (entries self.old) (entries self.new) key (Some value)) }
+        ensures len { IfOk result (λ old.
+            length (entries self.new) ≡ length (entries self.old) + (if is_some old then 0 else 1)) }
+        ensures absent { OnErr result (value_of K.cmp (entries self.old) key ≡ None) }
+        ensures refused { OnErr result (entries self.new ≡ entries self.old) }
+        ensures returned { IfErr result (λ back. back ≡ value) };
+
+    /// Puts a value at a key that has none, and tells whether it did. The value of a key that has one stays. A refusal, which comes
+    /// at an absent key alone, hands the value back.
+    fn insert_absent(&mut self, key: K, value: V) -> Result<bool, V>
+    where
+        V: Drop,
+        ensures inserted { IfOk result (λ b. b ≡ not (is_some (value_of K.cmp (entries self.old) key))) }
+        ensures at { OnOk result (value_of K.cmp (entries self.new) key
+            ≡ Some (unwrap_or (value_of K.cmp (entries self.old) key) value)) }
+        ensures others { SameBut K.cmp (value_of K.cmp (entries self.old)) (value_of K.cmp (entries self.new)) key }
+        ensures len { OnOk result (length (entries self.new)
+            ≡ length (entries self.old) + (if is_some (value_of K.cmp (entries self.old) key) then 0 else 1)) }
+        ensures absent { OnErr result (value_of K.cmp (entries self.old) key ≡ None) }
+        ensures refused { OnErr result (entries self.new ≡ entries self.old) }
+        ensures returned { IfErr result (λ back. back ≡ value) };
+
+    fn remove(&mut self, key: &K) -> Option<V>
+        ensures value { result ≡ value_of K.cmp (entries self.old) key.now }
+        ensures sets { Sets K.cmp (entries self.old) (entries self.new) key.now None }
+        ensures len { length (entries self.new) + (if is_some result then 1 else 0) ≡ length (entries self.old) };
+}
+
+impl<K: Ord + Hash + Copy, V> Heads<K, V> for HashMap<K, V> {
+    ghost entries = { λ map. map.entries };
+
+    #[inline]
+    fn len(&self) -> usize {
+        HashMap::len(self)
+    }
+
+    #[inline]
+    fn get(&self, key: &K) -> Option<&V> {
+        HashMap::get(self, key)
+    }
+
+    #[inline]
+    fn insert(&mut self, key: K, value: V) -> Result<Option<V>, V> {
+        match HashMap::insert(self, key, value) {
+            Ok(old) => Ok(old),
+            Err(failed) => {
+                let (_, value) = failed.value;
+                Err(value)
+            }
+        }
+    }
+
+    #[inline]
+    fn insert_absent(&mut self, key: K, value: V) -> Result<bool, V>
+    where
+        V: Drop,
+    {
+        put_absent(self, key, value)
+    }
+
+    #[inline]
+    fn remove(&mut self, key: &K) -> Option<V> {
+        HashMap::remove(self, key)
+    }
+}
+
+/// Puts a value at a key that has none, and tells whether it did.
+#[inline]
+fn put_absent<K: Ord + Hash + Copy, V: Drop>(
+    map: &mut HashMap<K, V>,
+    key: K,
+    value: V,
+) -> Result<bool, V>
+    ensures inserted { IfOk result (λ b. b ≡ not (is_some (get K.eq map.old key))) }
+    ensures at { OnOk result (get K.eq map.new key ≡ Some (unwrap_or (get K.eq map.old key) value)) }
+    ensures others { SameBut K.cmp (get K.eq map.old) (get K.eq map.new) key }
+    ensures len { OnOk result (hash_map_len map.new
+        ≡ hash_map_len map.old + (if is_some (get K.eq map.old key) then 0 else 1)) }
+    ensures absent { OnErr result (get K.eq map.old key ≡ None) }
+    ensures refused { OnErr result (map.new.entries ≡ map.old.entries) }
+    ensures returned { IfErr result (λ back. back ≡ value) }
+{
+    match map.entry(key) {
+        Err(_) => Err(value),
+        Ok(Entry::Occupied(held)) => {
+            held.into_mut();
+            Ok(false)
+        }
+        Ok(Entry::Vacant(entry)) => {
+            entry.insert(value);
+            Ok(true)
+        }
+    }
+}
+
+impl<K: Ord + Copy, V> Heads<K, V> for BTreeMap<K, V> {
+    ghost entries = { λ map. map.entries };
+
+    #[inline]
+    fn len(&self) -> usize {
+        BTreeMap::len(self)
+    }
+
+    #[inline]
+    fn get(&self, key: &K) -> Option<&V> {
+        BTreeMap::get(self, key)
+    }
+
+    #[inline]
+    fn insert(&mut self, key: K, value: V) -> Result<Option<V>, V> {
+        match BTreeMap::insert(self, key, value) {
+            Ok(old) => Ok(old),
+            Err(failed) => {
+                let (_, value) = failed.value;
+                Err(value)
+            }
+        }
+    }
+
+    #[inline]
+    fn insert_absent(&mut self, key: K, value: V) -> Result<bool, V>
+    where
+        V: Drop,
+    {
+        match self.entry(key) {
+            Err(_) => Err(value),
+            Ok(btree_map::Entry::Occupied(entry)) => {
+                entry.into_mut();
+                Ok(false)
+            }
+            Ok(btree_map::Entry::Vacant(entry)) => {
+                entry.insert(value);
+                Ok(true)
+            }
+        }
+    }
+
+    #[inline]
+    fn remove(&mut self, key: &K) -> Option<V> {
+        BTreeMap::remove(self, key)
+    }
+}
+
+/// A map of newest values whose keys are in order. Each call takes a number of comparisons that is logarithmic in the keys.
+pub(crate) trait OrderedHeads<K: Ord, V>: Heads<K, V> {
+    fn first(&self) -> Option<(&K, &V)>
+        ensures entry { option_map deref_pair result ≡ first_entry (Self.entries self.now) }
+        ensures rises { IsStrictlySortedBy K.cmp (keys_of (Self.entries self.now)) };
+
+    fn last(&self) -> Option<(&K, &V)>
+        ensures entry { option_map deref_pair result ≡ last_entry (Self.entries self.now) }
+        ensures rises { IsStrictlySortedBy K.cmp (keys_of (Self.entries self.now)) };
+
+    /// The entry with the least key strictly above this one.
+    fn above(&self, key: &K) -> Option<(&K, &V)>
+        ensures entry { option_map deref_pair result
+            ≡ first_entry (entries_above K.cmp (Self.entries self.now) key.now) }
+        ensures rises { IsStrictlySortedBy K.cmp (keys_of (Self.entries self.now)) };
+
+    /// The entry with the greatest key strictly below this one.
+    fn below(&self, key: &K) -> Option<(&K, &V)>
+        ensures entry { option_map deref_pair result
+            ≡ last_entry (entries_below K.cmp (Self.entries self.now) key.now) }
+        ensures rises { IsStrictlySortedBy K.cmp (keys_of (Self.entries self.now)) };
+}
+
+impl<K: Ord + Copy, V> OrderedHeads<K, V> for BTreeMap<K, V> {
+    #[inline]
+    fn first(&self) -> Option<(&K, &V)> {
+        // Its contract says that the keys rise.
+        let _len = self.len();
+        self.first_key_value()
+    }
+
+    #[inline]
+    fn last(&self) -> Option<(&K, &V)> {
+        let _len = self.len();
+        self.last_key_value()
+    }
+
+    #[inline]
+    fn above(&self, key: &K) -> Option<(&K, &V)> {
+        self.range((Bound::Excluded(*key), Bound::Unbounded)).next()
+    }
+
+    #[inline]
+    fn below(&self, key: &K) -> Option<(&K, &V)> {
+        self.range(..*key).next_back()
+    }
+}

@@ -1,0 +1,179 @@
+//! The older values of the keys that have any, the oldest first.
+ghost use Rattle.std.specs.Prelude.{◌≡◌, ◌+◌, ◌-◌, ◌<◌, ◌≤◌, List, [], ◌++◌, length, reverse, slice_get, slice_set, insert, remove, Some, IfErr, IfNone, OnOk, OnErr};
+ghost use Rattle.std.specs.Fn.{CalledAt};
+ghost use Rattle.std.specs.List.Retain.{IsFiltered};
+ghost use Rattle.std.specs.Option.{option_to_list};
+ghost use Rattle.key_index_flat.specs.Storage.{older_at, SameBut};
+
+use std::alloc::Global;
+use std::collections::HashMap;
+use std::collections::hash_map::Entry;
+use std::hash::Hash;
+use std::mem::replace;
+
+/// The older values of a key, the oldest first.
+#[inline(never)]
+fn older_in<K: Ord + Hash + Copy, V>(older: &HashMap<K, Vec<V>>, key: K) -> &[V]
+    ensures { result.now ≡ older_at K.eq older.now key }
+{
+    match older.get(&key) {
+        Some(values) => values.as_slice(),
+        None => &[],
+    }
+}
+
+/// The older values of a key, the oldest first. Where no key has any, it looks nothing up.
+#[inline]
+pub(super) fn older_of<K: Ord + Hash + Copy, V>(older: &HashMap<K, Vec<V>>, key: K) -> &[V]
+    ensures { result.now ≡ older_at K.eq older.now key }
+{
+    if older.is_empty() {
+        return &[];
+    }
+    older_in(older, key)
+}
+
+/// Puts a value in among the older values of a key, where 1 is the place in front of the newest of them. A refusal hands it back
+/// and changes none of them.
+pub(super) fn insert_older<K: Ord + Hash + Copy, V: Drop>(
+    alloc: Global,
+    older: &mut HashMap<K, Vec<V>>,
+    key: K,
+    place: usize,
+    value: V,
+) -> Result<(), V>
+    requires first { 0 < place }
+    requires within { place ≤ length (older_at K.eq older.old key) + 1 }
+    ensures at { OnOk result (let old = older_at K.eq older.old key in
+        older_at K.eq older.new key ≡ insert old (length old + 1 - place) value) }
+    ensures others { SameBut K.cmp (older_at K.eq older.old) (older_at K.eq older.new) key }
+    ensures refused { OnErr result (older_at K.eq older.new key ≡ older_at K.eq older.old key) }
+    ensures returned { IfErr result (λ back. back ≡ value) }
+{
+    match older.entry(key) {
+        Err(_) => Err(value),
+        Ok(Entry::Occupied(entry)) => {
+            let values = entry.into_mut();
+            let index = values.len() + 1 - place;
+            match values.insert(index, value) {
+                Ok(()) => Ok(()),
+                Err(failed) => Err(failed.value),
+            }
+        }
+        Ok(Entry::Vacant(entry)) => {
+            let mut values = Vec::new(alloc);
+            match values.push(value) {
+                Ok(()) => {
+                    entry.insert(values);
+                    Ok(())
+                }
+                Err(failed) => {
+                    entry.into_key();
+                    Err(failed.value)
+                }
+            }
+        }
+    }
+}
+
+/// Takes the older values of a key out, and tells how many there were.
+pub(super) fn take_older<K: Ord + Hash + Copy, V: Drop>(older: &mut HashMap<K, Vec<V>>, key: K) -> usize
+    ensures taken { result ≡ length (older_at K.eq older.old key) }
+    ensures fits { result < usize.MAX }
+    ensures at { older_at K.eq older.new key ≡ [] }
+    ensures others { SameBut K.cmp (older_at K.eq older.old) (older_at K.eq older.new) key }
+{
+    if older.is_empty() {
+        return 0;
+    }
+    match older.remove(&key) {
+        Some(values) => values.len(),
+        None => 0,
+    }
+}
+
+/// Puts another value in the place of an older value of a key, where 1 is the newest of them, and answers the one that stood there.
+pub(super) fn set_older<K: Ord + Hash + Copy, V>(
+    older: &mut HashMap<K, Vec<V>>,
+    key: K,
+    place: usize,
+    value: V,
+) -> V
+    requires first { 0 < place }
+    requires within { place ≤ length (older_at K.eq older.old key) }
+    ensures at { let old = older_at K.eq older.old key in
+        older_at K.eq older.new key ≡ slice_set old (length old - place) value }
+    ensures others { SameBut K.cmp (older_at K.eq older.old) (older_at K.eq older.new) key }
+{
+    let values = older.get_mut(&key).unwrap();
+    let index = values.len() - place;
+    replace(&mut values[index], value)
+}
+
+/// Takes an older value of a key out, where 1 is the newest of them, and with the last one the key.
+pub(super) fn remove_older<K: Ord + Hash + Copy, V: Drop>(
+    older: &mut HashMap<K, Vec<V>>,
+    key: K,
+    place: usize,
+) -> V
+    requires first { 0 < place }
+    requires within { place ≤ length (older_at K.eq older.old key) }
+    ensures value { let old = older_at K.eq older.old key in slice_get old (length old - place) ≡ Some result }
+    ensures at { let old = older_at K.eq older.old key in
+        older_at K.eq older.new key ≡ remove old (length old - place) }
+    ensures others { SameBut K.cmp (older_at K.eq older.old) (older_at K.eq older.new) key }
+{
+    let values = older.get_mut(&key).unwrap();
+    let index = values.len() - place;
+    let value = values.remove(index);
+    if values.is_empty() {
+        older.remove(&key);
+    }
+    value
+}
+
+/// Takes the newest of the older values of a key out, if there is one, and with the last one the key.
+pub(super) fn pop_older<K: Ord + Hash + Copy, V: Drop>(older: &mut HashMap<K, Vec<V>>, key: K) -> Option<V>
+    ensures at { older_at K.eq older.old key ≡ older_at K.eq older.new key ++ option_to_list result }
+    ensures none { IfNone result (older_at K.eq older.new key ≡ []) }
+    ensures others { SameBut K.cmp (older_at K.eq older.old) (older_at K.eq older.new) key }
+{
+    if older.is_empty() {
+        return None;
+    }
+    let values = older.get_mut(&key)?;
+    let value = values.pop();
+    if values.is_empty() {
+        older.remove(&key);
+    }
+    value
+}
+
+/// Asks once on each of the older values of a key, the newest first, takes out those that are answered false, and tells how many.
+pub(super) fn retain_older<K: Ord + Hash + Copy, V: Drop, F: FnMut(&V) -> bool>(
+    older: &mut HashMap<K, Vec<V>>,
+    key: K,
+    should_retain: F,
+) -> usize
+    requires { F.IsAlwaysCallable should_retain }
+    ensures at { IsFiltered (CalledAt F.FnMut) should_retain
+        (reverse (older_at K.eq older.old key)) (reverse (older_at K.eq older.new key)) }
+    ensures taken { result + length (older_at K.eq older.new key) ≡ length (older_at K.eq older.old key) }
+    ensures others { SameBut K.cmp (older_at K.eq older.old) (older_at K.eq older.new) key }
+{
+    if older.is_empty() {
+        return 0;
+    }
+    let Some(values) = older.get_mut(&key) else {
+        return 0;
+    };
+    let before = values.len();
+    values.reverse();
+    values.retain(should_retain);
+    values.reverse();
+    let after = values.len();
+    if after == 0 {
+        older.remove(&key);
+    }
+    before - after
+}
