@@ -35,7 +35,7 @@ use Rattle.key_index_flat.specs.declared.index.command.Step.{Step}
 use Rattle.key_index_flat.specs.declared.index.command.Step.TheVariants as step
 use Rattle.key_index_flat.specs.Cursor.{NeedNext, AllowsInsert, list_after_insert, place_after_insert}
 use Rattle.key_index_flat.specs.CursorRun.{others_of, edited_at, Steps, RunsSteps}
-use Rattle.key_index_flat.specs.Run.{is_full, one_if_absent, CommandGives, IsLegal, Edited, StepGives, EditGives, HasRoom, HaveRoom}
+use Rattle.key_index_flat.specs.Run.{is_full, one_if_absent, CommandGives, EditAt, IsLegal, Edited, StepGives, EditGives, HasRoom, HaveRoom}
 use Rattle.key_index_flat.proofs.ContentLemmas.{item_count-with_list, with_list-same, with_list-twice}
 use Rattle.key_index_flat.proofs.CursorLemmas.{pruned_none, pruned_twice}
 use Rattle.key_index_flat.proofs.ViewLemmas.{same_content, same_pruned, same_slot, same_admitted}
