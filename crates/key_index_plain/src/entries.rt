@@ -3,7 +3,7 @@ ghost use Rattle.std.specs.Prelude.{◌≡◌, ◌+◌, ◌<◌, ◌≤◌, ◌^
 ghost use Rattle.std.specs.Fn.{CalledAt};
 ghost use Rattle.std.specs.List.{insert, remove};
 ghost use Rattle.std.specs.List.Retain.{IsFiltered};
-ghost use Rattle.key_index_flat.specs.Content.{IsLawful, list_at, with_list, item_count};
+ghost use Rattle.key_index_flat.specs.Content.{IsLawful, list_at, with_list, item_count, with_list_by};
 ghost use Rattle.key_index_plain.specs.Entries.{listed, place_of};
 
 mod neighbours;
@@ -63,7 +63,8 @@ fn insert_entry<K: Drop, V: Drop>(
     value: V,
 ) -> Result<(), V>
     requires { place ≤ length entries.old.items }
-    ensures accepted { OnOk result (listed entries.new.items ≡ insert (listed entries.old.items) place (key, value ∷ [])) }
+    ensures accepted { OnOk result (listed entries.new.items
+        ≡ insert (listed entries.old.items) place (key, value ∷ [])) }
     ensures refused { OnErr result (entries.new.items ≡ entries.old.items) }
     ensures returned { IfErr result (λ back. back ≡ value) }
 {
@@ -87,7 +88,8 @@ pub(crate) fn insert_first<K: Ord + Drop, V: Drop>(
     value: V,
 ) -> Result<(), V>
     requires { IsLawful K.cmp (listed entries.old.items) }
-    ensures accepted { OnOk result (listed entries.new.items ≡ with_list K.cmp (listed entries.old.items) key (value ∷ list_at K.cmp (listed entries.old.items) key)) }
+    ensures accepted { OnOk result (listed entries.new.items
+        ≡ with_list_by K.cmp (listed entries.old.items) key (λ l. value ∷ l)) }
     ensures refused { OnErr result (listed entries.new.items ≡ listed entries.old.items) }
     ensures returned { IfErr result (λ back. back ≡ value) }
 {
@@ -121,7 +123,8 @@ pub(crate) fn set_at<K: Ord, V: Drop>(
 )
     requires lawful { IsLawful K.cmp (listed entries.old.items) }
     requires place { index < length (list_at K.cmp (listed entries.old.items) key.now) }
-    ensures { listed entries.new.items ≡ with_list K.cmp (listed entries.old.items) key.now (slice_set (list_at K.cmp (listed entries.old.items) key.now) index value) }
+    ensures { listed entries.new.items
+        ≡ with_list_by K.cmp (listed entries.old.items) key.now (λ l. slice_set l index value) }
 {
     let Ok(place) = search(entries.as_slice(), key) else {
         unreachable!()
@@ -138,7 +141,8 @@ pub(crate) fn insert_at<K: Ord + Drop, V: Drop>(
 ) -> Result<(), V>
     requires lawful { IsLawful K.cmp (listed entries.old.items) }
     requires place { index ≤ length (list_at K.cmp (listed entries.old.items) key) }
-    ensures accepted { OnOk result (listed entries.new.items ≡ with_list K.cmp (listed entries.old.items) key (insert (list_at K.cmp (listed entries.old.items) key) index value)) }
+    ensures accepted { OnOk result (listed entries.new.items
+        ≡ with_list_by K.cmp (listed entries.old.items) key (λ l. insert l index value)) }
     ensures refused { OnErr result (listed entries.new.items ≡ listed entries.old.items) }
     ensures returned { IfErr result (λ back. back ≡ value) }
 {
@@ -160,7 +164,8 @@ pub(crate) fn remove_at<K: Ord + Drop, V: Drop>(
     requires lawful { IsLawful K.cmp (listed entries.old.items) }
     requires place { index < length (list_at K.cmp (listed entries.old.items) key.now) }
     ensures value { slice_get (list_at K.cmp (listed entries.old.items) key.now) index ≡ Some result }
-    ensures content { listed entries.new.items ≡ with_list K.cmp (listed entries.old.items) key.now (remove (list_at K.cmp (listed entries.old.items) key.now) index) }
+    ensures content { listed entries.new.items
+        ≡ with_list_by K.cmp (listed entries.old.items) key.now (λ l. remove l index) }
 {
     let Ok(place) = search(entries.as_slice(), key) else {
         unreachable!()
@@ -182,7 +187,11 @@ pub(crate) fn retain<K: Ord + Drop, V: Drop, F: FnMut(&V) -> bool>(
 ) -> usize
     requires lawful { IsLawful K.cmp (listed entries.old.items) }
     requires callable { F.IsAlwaysCallable should_retain }
-    ensures { (kept : List V) × IsFiltered (CalledAt F.FnMut) should_retain (list_at K.cmp (listed entries.old.items) key.now) kept × (listed entries.new.items ≡ with_list K.cmp (listed entries.old.items) key.now kept) × (result + length kept ≡ length (list_at K.cmp (listed entries.old.items) key.now)) }
+    ensures { let old = listed entries.old.items in
+        (kept : List V)
+        × IsFiltered (CalledAt F.FnMut) should_retain (list_at K.cmp old key.now) kept
+        × (listed entries.new.items ≡ with_list K.cmp old key.now kept)
+        × (result + length kept ≡ length (list_at K.cmp old key.now)) }
 {
     let Ok(place) = search(entries.as_slice(), key) else {
         return 0;

@@ -1,10 +1,10 @@
 -- On callers of an index, over any content.
-use Rattle.std.proofs.Common.{◌≡◌, ◌<◌, Bool, true, false, List, [], ◌∷◌, length, slice_set, refl, sym, ap, ◌∙◌, arith}
+use Rattle.std.proofs.Common.{◌≡◌, ◌<◌, ℕ, Bool, true, false, List, [], ◌∷◌, length, slice_set, refl, sym, ap, ◌∙◌, arith}
 use Rattle.std.specs.declared.cmp.Ordering.{Ordering}
 use Rattle.std.specs.Cmp.{IsTotalOrder}
 use Rattle.std.specs.declared.cmp.Ordering.TheVariants.{Equal}
 use Rattle.key_index_flat.specs.Content.{Content, list_at, with_list, IsLawful}
-use Rattle.key_index_flat.specs.View.{put_value, after_insert, after_remove}
+use Rattle.key_index_flat.specs.View.{View, put_value, run_at, run_of, with_edit, after_insert, after_remove}
 use Rattle.key_index_flat.proofs.ContentLemmas.{with_list-same}
 use Rattle.key_index_flat.proofs.CursorLemmas.{list_at-with_list_same}
 
@@ -18,12 +18,20 @@ none_set (x ∷ xs) v h = absurd (h (omega arith))
 
 module _ {K V : Type 0} {cmp : K → K → Ordering} (o : IsTotalOrder cmp) where
   -- a value that is put under a key whose values were taken out
-  pub list_at-replaced : (first : Bool) (old mid new : Content K V) (k l m : K) (v : V) → mid ≡ after_remove cmp old k → new ≡ after_insert cmp first mid l v → l ≡ k → m ≡ l → list_at cmp new m ≡ v ∷ []
-  list_at-replaced first old mid new k l m v taken put same again =
-      (λ i. list_at cmp (put i) (again i)) ∙ list_at-with_list_same o mid l (put_value first v (list_at cmp mid l))
-      ∙ ap (λ l. put_value first v l) ((λ i. list_at cmp (taken i) (same i)) ∙ list_at-with_list_same o old k []) ∙ alone first v
+  pub alone-replaced : (first : Bool) (s t u : View K V) (b : List ℕ) (v : V) → t ≡ after_remove cmp s b → u ≡ after_insert cmp first t b v
+      → run_of cmp u b ≡ v ∷ []
+  alone-replaced first s t u b v taken put =
+      let slot = s.slot b in
+      let whole : u ≡ after_insert cmp first (after_remove cmp s b) b v = put ∙ ap (λ x. after_insert cmp first x b v) taken in
+      let gone = list_at-with_list_same o s.content slot [] in
+      ap (λ x. run_of cmp x b) whole
+      ∙ list_at-with_list_same o (with_list cmp s.content slot []) slot (put_value first v (list_at cmp (with_list cmp s.content slot []) slot))
+      ∙ ap (λ l. put_value first v l) gone ∙ alone first v
 
   -- a key that has no value has no first one
-  pub absent_stays : ((x y : K) → cmp x y ≡ Equal → x ≡ y) → (c d : Content K V) (k : K) (v : V) → IsLawful cmp c → d ≡ c → ¬ (0 < length (list_at cmp c k)) → d ≡ with_list cmp c k (slice_set (list_at cmp c k) 0 v)
-  absent_stays exact c d k v lawful same none =
-      same ∙ sym (with_list-same o exact c k lawful) ∙ ap (λ l. with_list cmp c k l) (sym (none_set (list_at cmp c k) v none))
+  pub absent_stays : ((x y : K) → cmp x y ≡ Equal → x ≡ y) → (s t : View K V) (k : K) (v : V) → IsLawful cmp s.content → t ≡ s
+      → ¬ (0 < length (run_at cmp s k)) → t ≡ with_edit cmp s k (λ l. slice_set l 0 v)
+  absent_stays exact s t k v lawful same none =
+      let content : s.content ≡ with_list cmp s.content k (slice_set (list_at cmp s.content k) 0 v) =
+          sym (with_list-same o exact s.content k lawful) ∙ ap (λ l. with_list cmp s.content k l) (sym (none_set (list_at cmp s.content k) v none)) in
+      same ∙ (λ i. record s { content = content i })

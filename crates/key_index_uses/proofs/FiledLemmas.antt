@@ -5,8 +5,8 @@ use Rattle.std.specs.declared.cmp.Ordering.{Ordering}
 use Rattle.std.specs.declared.cmp.Ordering.TheVariants.{Equal}
 use Rattle.std.specs.Ordering.{eq_by_cmp}
 use Rattle.std.specs.Cmp.{IsTotalOrder}
-use Rattle.key_index_flat.specs.Content.{Content, list_at}
-use Rattle.key_index_flat.specs.View.{put_value, after_insert}
+use Rattle.key_index_flat.specs.Content.{Content, list_at, with_list_by}
+use Rattle.key_index_flat.specs.View.{put_value}
 use Rattle.key_index_flat.specs.FullKeys.{IsBytes, IsFiled}
 use Rattle.key_index_flat.proofs.ContentLemmas.{list_at-with_list, tied}
 
@@ -15,7 +15,7 @@ put_all P true v l h k = All-cons P v l h k
 put_all P false v l h k = All-append P l (v ∷ []) k (All-cons P v [] h (All-nil P))
 
 module _ {K V : Type 0} {cmp : K → K → Ordering} (o : IsTotalOrder cmp) (exact : (x y : K) → cmp x y ≡ Equal → x ≡ y) (full_key : V → List ℕ) (slot : List ℕ → K) where
-  pub filed_more : (first : Bool) (c d : Content K V) (key : List ℕ) (v : V) → full_key v ≡ key → IsBytes key → d ≡ after_insert cmp first c (slot key) v → IsFiled full_key cmp slot c → IsFiled full_key cmp slot d
+  pub filed_more : (first : Bool) (c d : Content K V) (key : List ℕ) (v : V) → full_key v ≡ key → IsBytes key → d ≡ with_list_by cmp c (slot key) (λ l. put_value first v l) → IsFiled full_key cmp slot c → IsFiled full_key cmp slot d
   filed_more first c d key v own bytes put filed k =
       let P : K → V → Type 0 = λ q w. IsBytes (full_key w) × (slot (full_key w) ≡ q) in
       let old = list_at cmp c (slot key) in

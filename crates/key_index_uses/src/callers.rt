@@ -1,9 +1,8 @@
 //! Callers as a user writes them: over any index, by its content alone.
-ghost use Rattle.std.specs.Prelude.{◌≡◌, ◌<◌, ◌↔◌, [], ◌∷◌, true, IfOk, IfErr, OnOk, OnErr, IsTrue, length, slice_set};
+ghost use Rattle.std.specs.Prelude.{◌≡◌, ◌<◌, ◌↔◌, ◌⊎◌, [], ◌∷◌, true, IfOk, IfErr, OnOk, OnErr, IsTrue, length, slice_set};
 ghost use Rattle.std.specs.Option.{MatchOption, option_copied};
-ghost use Rattle.key_index_flat.specs.Content.{with_list};
-ghost use Rattle.key_index_flat.specs.View.{items_in, run_of, after_insert};
-ghost use Rattle.key_index_flat.specs.FullKeys.{IsFiled, values_of};
+ghost use Rattle.key_index_flat.specs.View.{items_in, run_of, with_edit, after_insert, after_remove, IsHeld};
+ghost use Rattle.key_index_flat.specs.FullKeys.{IsFiledIn, values_of};
 ghost use Rattle.key_index_uses.specs.Exclusion.{has_key, Excludes};
 
 use key_index_flat::index::unordered::Index;
@@ -31,7 +30,8 @@ pub fn add<I: Unordered>(
     key: &[u8],
     value: I::Value,
 ) -> Result<usize, Refused<I::Value>>
-    ensures added { OnOk result (I.view index.new ≡ after_insert I.Key.cmp I.INSERT_FIRST (I.view index.old) key.now value) }
+    ensures added { OnOk result (I.view index.new
+        ≡ after_insert I.Key.cmp I.INSERT_FIRST (I.view index.old) key.now value) }
     ensures counted { IfOk result (λ items. items ≡ items_in (I.view index.new)) }
     ensures refused { OnErr result (I.view index.new ≡ I.view index.old) }
 {
@@ -39,11 +39,16 @@ pub fn add<I: Unordered>(
     Ok(index.items())
 }
 
-/// Puts a value in place of those of a key, which then has that value alone. After a refusal the key has its old values or none.
+/// Puts a value in place of those of a key, which then has that value alone. A refusal leaves
+/// the index as it was, or without the key.
 pub fn replace<I: Unordered>(index: &mut I, key: &[u8], value: I::Value) -> Result<(), Fault>
 where
     I::Value: Drop,
     ensures alone { OnOk result (run_of I.Key.cmp (I.view index.new) key.now ≡ value ∷ []) }
+    ensures replaced { OnOk result (I.view index.new
+        ≡ after_insert I.Key.cmp I.INSERT_FIRST (after_remove I.Key.cmp (I.view index.old) key.now) key.now value) }
+    ensures refused { OnErr result ((I.view index.new ≡ I.view index.old)
+        ⊎ (I.view index.new ≡ after_remove I.Key.cmp (I.view index.old) key.now)) }
 {
     index.remove(key)?;
     match index.insert(key, value) {
@@ -60,8 +65,9 @@ pub fn replace_first<I: Unordered>(
 ) -> Result<bool, Fault>
 where
     I::Value: Drop,
-    ensures had { IfOk result (λ had. IsTrue had ↔ (0 < length (run_of I.Key.cmp (I.view index.old) key.now))) }
-    ensures replaced { OnOk result ((I.view index.new).content ≡ with_list I.Key.cmp (I.view index.old).content ((I.view index.old).slot key.now) (slice_set (run_of I.Key.cmp (I.view index.old) key.now) 0 value)) }
+    ensures had { IfOk result (λ had. IsTrue had ↔ IsHeld I.Key.cmp (I.view index.old) key.now) }
+    ensures replaced { OnOk result (I.view index.new
+        ≡ with_edit I.Key.cmp (I.view index.old) ((I.view index.old).slot key.now) (λ l. slice_set l 0 value)) }
     ensures refused { OnErr result (I.view index.new ≡ I.view index.old) }
 {
     if index.reach(key)? == 0 {
@@ -103,8 +109,10 @@ pub fn file<I: Unordered>(
 where
     I::Value: Keyed,
     requires { I.Value.full_key item ≡ key.now }
-    ensures filed { IsFiled I.Value.full_key I.Key.cmp (I.view index.old).slot (I.view index.old).content → IsFiled I.Value.full_key I.Key.cmp (I.view index.new).slot (I.view index.new).content }
-    ensures added { OnOk result (I.view index.new ≡ after_insert I.Key.cmp I.INSERT_FIRST (I.view index.old) key.now item) }
+    ensures filed { IsFiledIn I.Value.full_key I.Key.cmp (I.view index.old)
+        → IsFiledIn I.Value.full_key I.Key.cmp (I.view index.new) }
+    ensures added { OnOk result (I.view index.new
+        ≡ after_insert I.Key.cmp I.INSERT_FIRST (I.view index.old) key.now item) }
     ensures refused { OnErr result (I.view index.new ≡ I.view index.old) }
     ensures returned { IfErr result (λ refused. refused.value ≡ item) }
 {
@@ -117,7 +125,11 @@ where
 pub fn exclude<'a, I: Ordered>(index: &'a I, key: &[u8]) -> Option<Exclusion<'a, I::Value>>
 where
     I::Value: Keyed,
-    ensures { IsFiled I.Value.full_key I.Key.cmp (I.view index.now).slot (I.view index.now).content → MatchOption result (has_key I.Value.full_key key.now (values_of (I.view index.now).content) ≡ true) (λ next_to. Excludes I.Value.full_key (values_of (I.view index.now).content) key.now (option_copied next_to.below) (option_copied next_to.above)) }
+    ensures { let values = values_of (I.view index.now).content in
+        IsFiledIn I.Value.full_key I.Key.cmp (I.view index.now) → MatchOption result
+        (has_key I.Value.full_key key.now values ≡ true)
+        (λ next_to. Excludes I.Value.full_key values key.now
+            (option_copied next_to.below) (option_copied next_to.above)) }
 {
     if has_key(index.get(key), key) {
         return None;
