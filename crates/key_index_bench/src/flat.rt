@@ -55,7 +55,21 @@ pub(crate) fn get<I: Unordered<Value = u64>, C: Clock, W: Write>(
     Ok(())
 }
 
-/// Adds one to the first value of each key, by a cursor.
+/// Adds one to the first value of a key, by a cursor, and answers the value before.
+fn add_one<I: Unordered<Value = u64>>(index: &mut I, key: &[u8]) -> Result<u64, Failure> {
+    let mut cursor = match index.get_mut(key) {
+        Ok(Some(cursor)) => cursor,
+        Ok(None) => return Ok(0),
+        Err(fault) => return Err(Failure::Refused(fault)),
+    };
+    let value = cursor.next().copied().unwrap_or(0);
+    if cursor.state() == CursorState::Active {
+        cursor.update(value.wrapping_add(1));
+    }
+    Ok(value)
+}
+
+/// Adds one to the first value of each key.
 pub(crate) fn update<I: Unordered<Value = u64>, C: Clock, W: Write>(
     index: &mut I,
     keys: &[[u8; 32]],
@@ -64,17 +78,7 @@ pub(crate) fn update<I: Unordered<Value = u64>, C: Clock, W: Write>(
     let start = report.start()?;
     let mut sum = 0u64;
     for key in keys {
-        match index.get_mut(key) {
-            Ok(Some(mut cursor)) => {
-                let value = cursor.next().copied().unwrap_or(0);
-                if cursor.state() == CursorState::Active {
-                    cursor.update(value.wrapping_add(1));
-                }
-                sum = sum.wrapping_add(value);
-            }
-            Ok(None) => {}
-            Err(fault) => return Err(Failure::Refused(fault)),
-        }
+        sum = sum.wrapping_add(add_one(index, key)?);
     }
     report.line("update", keys.len(), start, sum)?;
     Ok(())
