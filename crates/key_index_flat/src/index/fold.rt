@@ -104,7 +104,8 @@ fn edit<I: Unordered>(
 where
     I::Value: Drop,
     requires { flags.old ≡ map (λ x. false) steps.items }
-    ensures edited { OnOk result (EditOf I.Key.cmp key.now steps.items flags.new (I.view index.old) (I.view index.new)) }
+    ensures edited { OnOk result (EditOf I.Key.cmp key.now
+        steps.items flags.new (I.view index.old) (I.view index.new)) }
     ensures refused { OnErr result (I.view index.new ≡ I.view index.old) }
     ensures fault { IfErr result (λ f. f ≡ Fault.Memory) }
 {
