@@ -7,7 +7,7 @@ mod maps;
 mod report;
 
 use flat::Failure;
-use key_index_flat::index::{Factory, Fault, ordered, unordered};
+use key_index_flat::index::{Factory, Fault, Ordered, ordered, unordered};
 use key_index_flat::translator::EightCap;
 use keys::{ABSENT, PRESENT, keys};
 use report::Report;
@@ -57,19 +57,34 @@ fn arguments(words: &[String]) -> Option<(Kind, usize)> {
     }
 }
 
-/// Measures the flat unordered index.
-fn run_unordered<C: Clock, W: Write>(
+/// Makes an index, and measures that.
+fn make<I: Factory<Translator = EightCap> + Drop, C: Clock, W: Write>(
+    alloc: Global,
+    report: &mut Report<'_, C, W>,
+) -> Result<I, Failure>
+    requires { I.makes }
+{
+    let start = report.start()?;
+    let index = match I::new(alloc, EightCap) {
+        Ok(index) => index,
+        Err(fault) => return Err(Failure::Refused(fault)),
+    };
+    report.line("new", 1, start, 0)?;
+    Ok(index)
+}
+
+/// Measures an index whose keys are in no order.
+fn run_unordered<I: Factory<Translator = EightCap, Value = u64> + Drop, C: Clock, W: Write>(
     alloc: Global,
     present: &[[u8; 32]],
     absent: &[[u8; 32]],
     report: &mut Report<'_, C, W>,
-) -> Result<(), Failure> {
+) -> Result<(), Failure>
+    requires { I.makes }
+{
     let few = &present[..present.len() / 10];
     let half = &present[..present.len() / 2];
-    let mut index = match unordered::Index::<EightCap, u64>::new(alloc, EightCap) {
-        Ok(index) => index,
-        Err(fault) => return Err(Failure::Refused(fault)),
-    };
+    let mut index = make::<I, C, W>(alloc, report)?;
     flat::insert(&mut index, present, report)?;
     flat::get(&index, "get", present, report)?;
     flat::get(&index, "miss", absent, report)?;
@@ -78,19 +93,18 @@ fn run_unordered<C: Clock, W: Write>(
     flat::remove(&mut index, half, report)
 }
 
-/// Measures the flat ordered index.
-fn run_ordered<C: Clock, W: Write>(
+/// Measures an index whose keys are in order.
+fn run_ordered<I: Factory<Translator = EightCap, Value = u64> + Ordered + Drop, C: Clock, W: Write>(
     alloc: Global,
     present: &[[u8; 32]],
     absent: &[[u8; 32]],
     report: &mut Report<'_, C, W>,
-) -> Result<(), Failure> {
+) -> Result<(), Failure>
+    requires { I.makes }
+{
     let few = &present[..present.len() / 10];
     let half = &present[..present.len() / 2];
-    let mut index = match ordered::Index::<EightCap, u64>::new(alloc, EightCap) {
-        Ok(index) => index,
-        Err(fault) => return Err(Failure::Refused(fault)),
-    };
+    let mut index = make::<I, C, W>(alloc, report)?;
     flat::insert(&mut index, present, report)?;
     flat::get(&index, "get", present, report)?;
     flat::get(&index, "miss", absent, report)?;
@@ -153,8 +167,18 @@ fn measure<C: Clock, W: Write>(
         count,
     };
     match kind {
-        Kind::Unordered => run_unordered(alloc, &present, &absent, &mut report),
-        Kind::Ordered => run_ordered(alloc, &present, &absent, &mut report),
+        Kind::Unordered => run_unordered::<unordered::Index<EightCap, u64>, C, W>(
+            alloc,
+            &present,
+            &absent,
+            &mut report,
+        ),
+        Kind::Ordered => run_ordered::<ordered::Index<EightCap, u64>, C, W>(
+            alloc,
+            &present,
+            &absent,
+            &mut report,
+        ),
         Kind::StdHash => run_std_hash(alloc, &present, &absent, &mut report),
         Kind::StdTree => run_std_tree(alloc, &present, &absent, &mut report),
     }
