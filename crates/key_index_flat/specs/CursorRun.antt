@@ -25,7 +25,7 @@ module _ {I V K : Type 0} {r : runs.Ghosts I V K} {o : ord.Ghosts K} {e : eq.Gho
     pub taken : ℕ
     pub edits : EditsIndex old new taken
     pub gives : (before : ℕ) →
-      StepGives (others_of old) step flag (edited_at old before) (edited_at new (before + taken))
+        StepGives (others_of old) step flag (edited_at old before) (edited_at new (before + taken))
 
   pub record RunsSteps (steps : List (Step V)) (flags : List Bool) (old new : IndexCursor I V K r o e p) : Type 0 where
     pub taken : ℕ

@@ -26,8 +26,8 @@ byte_cmp = slice_cmp nat_cmp
 abbrev pub IsLeast : {V : Type 0} → (V → V → Ordering) → List V → Option V → Type 0
 IsLeast cmp l None = l ≡ []
 IsLeast {V = V} cmp l (Some v) =
-      (before : List V) × (after : List V) × (l ≡ before ++ v ∷ after)
-      × All (λ w. cmp v w ≡ Less) before × All (λ w. IsLeBy cmp v w) after
+    (before : List V) × (after : List V) × (l ≡ before ++ v ∷ after)
+    × All (λ w. cmp v w ≡ Less) before × All (λ w. IsLeBy cmp v w) after
 
 abbrev pub values_of : {K V : Type 0} → Content K V → List V
 values_of c = flat_map (λ e. e.1) c

@@ -48,6 +48,6 @@ module _ {I V K : Type 0} {r : runs.Ghosts I V K} {o : ord.Ghosts K} {e : eq.Gho
     pub same_reference : new.index.ghost_name ≡ old.index.ghost_name
     pub slot_kept : new.slot ≡ old.slot
     pub changed : r.view new.index.now
-      ≡ with_pruned (with_run o.cmp (r.view old.index.now) old.slot (cursor_list new)) taken
+        ≡ with_pruned (with_run o.cmp (r.view old.index.now) old.slot (cursor_list new)) taken
     pub states : List I
     pub edited : Chain r.edited old.index.now states new.index.now

@@ -57,7 +57,7 @@ view_of translated s = record {
   content = s.content;
   pruned = s.pruned;
   slot = translated s.translator;
-  admitted = λ _. true
+  admitted = λ _. true;
 }
 
 pub record IsCounted {K V : Type 0} (cmp : K → K → Ordering) (content : Content K V) (items : ℕ) : Type 0 where

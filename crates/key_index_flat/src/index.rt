@@ -1,6 +1,5 @@
 //! Indices: maps from translated keys to lists of values, and what they have in common.
-ghost use Rattle.std.specs.Prelude.{◌≡◌, ℕ, List, Some};
-ghost use Rattle.key_index_flat.specs.Content.{Content, list_at, IsLawful, key_count, item_count};
+ghost use Rattle.std.specs.Prelude.{Some};
 
 use std::fmt;
 
@@ -15,14 +14,14 @@ pub mod unordered;
 mod values;
 
 pub use command::{Command, Outcome, Step};
-pub use traits::cursor::{Cursor, CursorState};
 pub use fold::run;
 pub use index_cursor::IndexCursor;
-pub use traits::unordered::{Factory, Unordered};
-pub use traits::ordered::Ordered;
 pub use resolve::{Keyed, resolve_next, resolve_prev};
+pub use traits::cursor::{Cursor, CursorState};
+pub use traits::ordered::Ordered;
 pub use traits::runs::Runs;
 pub use traits::search::Search;
+pub use traits::unordered::{Factory, Unordered};
 pub use values::Values;
 
 /// Why a call was refused. A refused call changes no content and no count.

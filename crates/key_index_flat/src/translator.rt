@@ -1,7 +1,6 @@
 //! Translators: they shorten the bytes of a key to a translated key of a fixed size. Different keys may share one.
 ghost use Rattle.std.specs.Prelude.{◌≡◌, ℕ, List};
 ghost use Rattle.std.specs.declared.cmp.Ordering.TheVariants.{Equal};
-ghost use Rattle.std.specs.Ordering.{nat_cmp};
 ghost use Rattle.key_index_flat.specs.Neighbours.{KeepsOrder};
 ghost use Rattle.key_index_flat.specs.Padding.{padded, cap_number};
 

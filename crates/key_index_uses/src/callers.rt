@@ -1,5 +1,5 @@
 //! Callers as a user writes them: over any index, by its content alone.
-ghost use Rattle.std.specs.Prelude.{◌≡◌, ◌<◌, ◌↔◌, ◌⊎◌, [], ◌∷◌, true, IfOk, IfErr, OnOk, OnErr, IsTrue, length, slice_set};
+ghost use Rattle.std.specs.Prelude.{◌≡◌, ◌<◌, ◌↔◌, ◌⊎◌, [], ◌∷◌, true, IfOk, IfErr, OnOk, OnErr, IsTrue, slice_set};
 ghost use Rattle.std.specs.Option.{MatchOption, option_copied};
 ghost use Rattle.key_index_flat.specs.View.{items_in, run_of, with_edit, after_insert, after_remove, IsHeld};
 ghost use Rattle.key_index_flat.specs.FullKeys.{IsFiledIn, values_of};

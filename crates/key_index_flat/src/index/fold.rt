@@ -1,7 +1,6 @@
 //! The run of a list of commands, proved once over any index.
-ghost use Rattle.std.specs.Prelude.{◌≡◌, ◌<◌, ℕ, List, [], false, not, map, length, IsTrue, IfOk, OnOk, OnErr, IfErr};
+ghost use Rattle.std.specs.Prelude.{◌≡◌, ◌<◌, false, not, map, length, IsTrue, IfOk, OnOk, OnErr, IfErr};
 ghost use Rattle.std.specs.Fn.{CalledAt};
-ghost use Rattle.key_index_flat.specs.Cursor.{NeedNext};
 ghost use Rattle.key_index_flat.specs.CursorRun.{Steps, RunsSteps};
 ghost use Rattle.key_index_flat.specs.View.{items_in, run_at, with_edit, growth_fault_in};
 ghost use Rattle.key_index_flat.specs.Run.{is_full, IsLegal, one_if_absent, EditAt, EditOf, CommandGives, HasTest, HaveTests, HasRoom, HaveRoom};

@@ -5,7 +5,7 @@ ghost use Rattle.key_index_flat.specs.Content.{item_count, key_count, list_at, I
 ghost use Rattle.key_index_flat.specs.Fault.{growth_fault};
 ghost use Rattle.key_index_flat.specs.Neighbours.{first_list, last_list, next_list, prev_list};
 ghost use Rattle.key_index_flat.specs.Storage.{Kept, IsCounted, view_of};
-ghost use Rattle.key_index_flat.specs.View.{run_at, with_run, with_edit, with_pruned, after_insert, after_remove, RetainsAt};
+ghost use Rattle.key_index_flat.specs.View.{with_run, with_edit, with_pruned, after_insert, after_remove, RetainsAt};
 
 mod chains;
 mod heads;
@@ -158,7 +158,7 @@ impl<T: Translator, V: Drop, M: Heads<T::Key, V>> Storage<T, V, M> {
     ) -> Result<Option<usize>, Refused<V>>
         ensures accepted { IfOk result (λ found. let old = list_at T.Key.cmp self.old.content slot in MatchOption found
             ((old ≡ []) × (view_of T.translated self.new
-                ≡ with_run T.Key.cmp (view_of T.translated self.old) slot (value ∷ [])))
+            ≡ with_run T.Key.cmp (view_of T.translated self.old) slot (value ∷ [])))
             (λ len. (len ≡ length old) × (0 < len) × (self.new ≡ self.old))) }
         ensures room { OnOk result (item_count self.old.content < usize.MAX) }
         ensures refused { OnErr result (self.new ≡ self.old) }

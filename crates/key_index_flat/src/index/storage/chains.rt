@@ -10,7 +10,9 @@ ghost use Rattle.key_index_flat.specs.Neighbours.{first_list, last_list, next_li
 ghost use Rattle.key_index_flat.specs.Storage.{older_at, stored, IsLinked};
 
 use super::heads::{Heads, OrderedHeads};
-use super::older::{insert_older, older_of, pop_older, remove_older, retain_older, set_older, take_older};
+use super::older::{
+    insert_older, older_of, pop_older, remove_older, retain_older, set_older, take_older,
+};
 use crate::index::Values;
 use crate::translator::Translator;
 use std::alloc::Global;
@@ -179,7 +181,11 @@ impl<T: Translator, V: Drop, M: Heads<T::Key, V>> Chains<T, V, M> {
     }
 
     /// Asks once on each value of the index key, in list order, takes out those that are answered false, and tells how many.
-    pub(super) fn retain<F: FnMut(&V) -> bool>(&mut self, slot: T::Key, mut should_retain: F) -> usize
+    pub(super) fn retain<F: FnMut(&V) -> bool>(
+        &mut self,
+        slot: T::Key,
+        mut should_retain: F,
+    ) -> usize
         requires callable { F.IsAlwaysCallable should_retain }
         ensures kept { (kept : List V)
             × IsFiltered (CalledAt F.FnMut) should_retain (list_at T.Key.cmp self.old slot) kept

@@ -8,9 +8,8 @@ ghost use Rattle.std.specs.HashMap.{get, hash_map_len};
 ghost use Rattle.key_index_flat.specs.Neighbours.{first_entry, last_entry, entries_above, entries_below};
 ghost use Rattle.key_index_flat.specs.Storage.{value_of, SameBut, Sets};
 
-use std::collections::btree_map;
 use std::collections::hash_map::Entry;
-use std::collections::{BTreeMap, HashMap};
+use std::collections::{BTreeMap, HashMap, btree_map};
 use std::hash::Hash;
 use std::ops::Bound;
 

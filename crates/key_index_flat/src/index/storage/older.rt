@@ -1,5 +1,5 @@
 //! The older values of the keys that have any, the oldest first.
-ghost use Rattle.std.specs.Prelude.{◌≡◌, ◌+◌, ◌-◌, ◌<◌, ◌≤◌, List, [], ◌++◌, length, reverse, slice_get, slice_set, insert, remove, Some, IfErr, IfNone, OnOk, OnErr};
+ghost use Rattle.std.specs.Prelude.{◌≡◌, ◌+◌, ◌-◌, ◌<◌, ◌≤◌, [], ◌++◌, length, reverse, slice_get, slice_set, insert, remove, Some, IfErr, IfNone, OnOk, OnErr};
 ghost use Rattle.std.specs.Fn.{CalledAt};
 ghost use Rattle.std.specs.List.Retain.{IsFiltered};
 ghost use Rattle.std.specs.Option.{option_to_list};
@@ -77,7 +77,10 @@ pub(super) fn insert_older<K: Ord + Hash + Copy, V: Drop>(
 }
 
 /// Takes the older values of a key out, and tells how many there were.
-pub(super) fn take_older<K: Ord + Hash + Copy, V: Drop>(older: &mut HashMap<K, Vec<V>>, key: K) -> usize
+pub(super) fn take_older<K: Ord + Hash + Copy, V: Drop>(
+    older: &mut HashMap<K, Vec<V>>,
+    key: K,
+) -> usize
     ensures taken { result ≡ length (older_at K.eq older.old key) }
     ensures fits { result < usize.MAX }
     ensures at { older_at K.eq older.new key ≡ [] }
@@ -133,7 +136,10 @@ pub(super) fn remove_older<K: Ord + Hash + Copy, V: Drop>(
 }
 
 /// Takes the newest of the older values of a key out, if there is one, and with the last one the key.
-pub(super) fn pop_older<K: Ord + Hash + Copy, V: Drop>(older: &mut HashMap<K, Vec<V>>, key: K) -> Option<V>
+pub(super) fn pop_older<K: Ord + Hash + Copy, V: Drop>(
+    older: &mut HashMap<K, Vec<V>>,
+    key: K,
+) -> Option<V>
     ensures at { older_at K.eq older.old key ≡ older_at K.eq older.new key ++ option_to_list result }
     ensures none { IfNone result (older_at K.eq older.new key ≡ []) }
     ensures others { SameBut K.cmp (older_at K.eq older.old) (older_at K.eq older.new) key }

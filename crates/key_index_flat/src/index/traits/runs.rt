@@ -1,5 +1,5 @@
 //! A map from index keys to lists, read and changed place by place.
-ghost use Rattle.std.specs.Prelude.{◌≡◌, ℕ, List, Bool, true, IsTrue, length, slice_get, slice_set, insert, remove, Some, ◌<◌, ◌≤◌, IfErr, OnOk, OnErr};
+ghost use Rattle.std.specs.Prelude.{◌≡◌, IsTrue, length, slice_get, slice_set, insert, remove, Some, ◌<◌, ◌≤◌, IfErr, OnOk, OnErr};
 ghost use Rattle.std.specs.declared.cmp.Ordering.TheVariants.{Equal};
 ghost use Rattle.key_index_flat.specs.Content.{IsLawful};
 ghost use Rattle.key_index_flat.specs.View.{View, growth_fault_in, items_in, run_at, with_edit, with_pruned};

@@ -1,5 +1,5 @@
 //! The search for a cursor: what each index does itself, and the two calls by key that are made of it.
-ghost use Rattle.std.specs.Prelude.{◌≡◌, ◌↔◌, ◌<◌, [], ◌∷◌, length, IfErr, IfOk, OnOk, OnErr, IsSome, Bool};
+ghost use Rattle.std.specs.Prelude.{◌≡◌, ◌↔◌, ◌<◌, length, IfErr, IfOk, OnOk, OnErr, IsSome, Bool};
 ghost use Rattle.std.specs.Borrow.{sem, RestsIfErr};
 ghost use Rattle.key_index_flat.specs.View.{items_in, run_of, growth_fault_in, Admits, InsertsBut, IsHeld, IsWantAt, StaysBut};
 ghost use Rattle.key_index_flat.specs.IndexCursor.{cursor_index, cursor_name, StartsAt};
