@@ -14,7 +14,7 @@ use Rattle.key_index_flat.specs.Neighbours.{KeepsOrder}
 abbrev IsByte : ℕ → Type 0
 IsByte n = n < 256
 
-length-padded : (n : ℕ) (b : List ℕ) → length (padded n b) ≡ n
+pub length-padded : (n : ℕ) (b : List ℕ) → length (padded n b) ≡ n
 length-padded zero b = refl
 length-padded (suc n) [] = ap suc (length-padded n [])
 length-padded (suc n) (x ∷ xs) = ap suc (length-padded n xs)
@@ -30,7 +30,7 @@ cap_number-empty (suc n) = let rest = cap_number-empty n in omega (arith, rest)
 below_digit : (x r p : ℕ) → x < 256 → r < p → x * p + r < 256 * p
 below_digit x r p h k = let e : suc x * p ≤ 256 * p = mul-le-mul_right p h in omega (arith, e)
 
-cap_number-below : (n : ℕ) (b : List ℕ) → All IsByte b → cap_number n b < 256 ^ n
+pub cap_number-below : (n : ℕ) (b : List ℕ) → All IsByte b → cap_number n b < 256 ^ n
 cap_number-below zero b h = omega arith
 cap_number-below (suc n) [] h =
     subst (λ m. cap_number (suc n) [] < m) (sym (pow-succ' 256 n)) (let none = cap_number-empty (suc n) in let rest = cap_number-below n [] h in omega (arith, none, rest))

@@ -19,6 +19,33 @@ pub struct Index<T: Translator, V> {
     ghost lawful: { IsLawful T.Key.cmp storage.content },
 }
 
+impl<T: Translator, V: Drop> Index<T, V> {
+    ghost use Rattle.std.specs.Prelude.{◌≡◌, ◌<◌, [], ◌∷◌, length, IfOk, IfErr, OnOk, OnErr};
+    ghost use Rattle.key_index_flat.specs.View.{growth_fault_in, items_in, run_at, with_run};
+
+    /// What `reach_or_insert` does, at an index key: puts the value in where the index key has none, and tells how many values it
+    /// had. It looks the index key up once.
+    pub fn reach_or_insert_at(&mut self, slot: T::Key, value: V) -> Result<usize, Refused<V>>
+        ensures found { IfOk result (λ n. 0 < n
+            → ⟦<Index<T, V> as Runs>⟧.view self.new ≡ ⟦<Index<T, V> as Runs>⟧.view self.old) }
+        ensures inserted { IfOk result (λ n. n ≡ 0 → ⟦<Index<T, V> as Runs>⟧.view self.new
+            ≡ with_run T.Key.cmp (⟦<Index<T, V> as Runs>⟧.view self.old) slot (value ∷ [])) }
+        ensures refused { OnErr result
+            (⟦<Index<T, V> as Runs>⟧.view self.new ≡ ⟦<Index<T, V> as Runs>⟧.view self.old) }
+        ensures len { IfOk result (λ n. n
+            ≡ length (run_at T.Key.cmp (⟦<Index<T, V> as Runs>⟧.view self.old) slot)) }
+        ensures room { OnOk result (items_in (⟦<Index<T, V> as Runs>⟧.view self.old) < usize.MAX) }
+        ensures returned { IfErr result (λ r. r.value ≡ value) }
+        ensures fault { IfErr result (λ r. r.fault ≡ growth_fault_in (⟦<Index<T, V> as Runs>⟧.view self.old)) }
+    {
+        match self.storage.insert_absent(slot, value) {
+            Ok(None) => Ok(0),
+            Ok(Some(len)) => Ok(len),
+            Err(refused) => Err(refused),
+        }
+    }
+}
+
 impl<T: Translator, V: Drop> Runs for Index<T, V> {
     type Value = V;
 
@@ -81,11 +108,7 @@ impl<T: Translator, V: Drop> Search for Index<T, V> {
 
     fn reach_or_insert(&mut self, key: &[u8], value: V) -> Result<usize, Refused<V>> {
         let slot = self.slot_of(key);
-        match self.storage.insert_absent(slot, value) {
-            Ok(None) => Ok(0),
-            Ok(Some(len)) => Ok(len),
-            Err(refused) => Err(refused),
-        }
+        self.reach_or_insert_at(slot, value)
     }
 
     fn search(&mut self, key: &[u8]) -> Result<IndexCursor<'_, Index<T, V>>, Option<Fault>> {
