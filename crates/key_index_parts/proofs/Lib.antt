@@ -1,0 +1,4 @@
+pub mod GatheredLemmas
+pub mod GroupingLemmas
+pub mod PartLemmas
+pub mod PrefixLemmas

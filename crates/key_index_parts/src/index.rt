@@ -1,0 +1,2 @@
+//! Indices.
+pub mod partitioned;
