@@ -6,7 +6,6 @@ ghost use Rattle.std.specs.List.{list_all};
 ghost use Rattle.key_index.specs.Line.{alone, command_of, hex_bytes, is_hex, key_of, number_of, ordered_command_of, command_of_words, with_key, with_key_and_number, words_of};
 ghost use Rattle.key_index.specs.Words.{words_left};
 
-use memchr::memchr;
 use std::alloc::AllocError;
 
 /// What a line says. The key that it names is in the buffer that `parse` filled.
@@ -49,7 +48,7 @@ pub enum LineFault {
 fn first_space(line: &[u8]) -> Option<usize>
     ensures { result ≡ position (λ byte. byte == 32) line.now }
 {
-    memchr(b' ', line)
+    line.iter().position(|byte| *byte == b' ')
 }
 
 // The words of a line, from the first on: `rest` is what is left of the line, and `None` once its last word is taken.
@@ -96,39 +95,13 @@ fn hex_digit(digit: u8) -> u8
     ensures value { result ≡ digit_value digit }
     ensures small { result < 16 }
 {
-    match digit {
-        b'0'..=b'9' => digit - b'0',
-        b'A'..=b'F' => digit - b'A' + 10,
-        _ => digit - b'a' + 10,
-    }
-}
-
-fn all_hex_digits(word: &[u8]) -> bool
-    ensures { result ≡ list_all is_ascii_hexdigit word.now }
-{
-    // With no early end, so that no branch hangs on what a digit is.
-    let mut all = true;
-    for digit in word {
-        all &= digit.is_ascii_hexdigit();
-    }
-    all
+    char::from(digit).to_digit(16).unwrap() as u8
 }
 
 fn is_hex(word: &[u8]) -> bool
     ensures { result ≡ is_hex word.now }
 {
-    !word.is_empty() && word.len() % 2 == 0 && all_hex_digits(word)
-}
-
-// Overwrites bytes with those that hexadecimal digits write.
-fn decode_into(word: &[u8], bytes: &mut [u8])
-    requires digits { IsTrue (is_hex word.now) }
-    requires half { length bytes.old ≡ length word.now / 2 }
-    ensures { bytes.new ≡ hex_bytes word.now }
-{
-    for i in 0..bytes.len() {
-        bytes[i] = 16 * hex_digit(word[2 * i]) + hex_digit(word[2 * i + 1]);
-    }
+    !word.is_empty() && word.len() % 2 == 0 && word.iter().all(u8::is_ascii_hexdigit)
 }
 
 // Puts the bytes that hexadecimal digits write into an empty buffer.
@@ -138,8 +111,9 @@ fn decode_hex(word: &[u8], key: &mut Vec<u8>) -> Result<(), AllocError>
     ensures decoded { OnOk result (key.new.items ≡ hex_bytes word.now) }
     ensures memory { OnErr result (vec_capacity key.old < length (hex_bytes word.now)) }
 {
-    key.resize(word.len() / 2, 0)?;
-    decode_into(word, key.as_mut_slice());
+    for i in 0..word.len() / 2 {
+        key.push(16 * hex_digit(word[2 * i]) + hex_digit(word[2 * i + 1]))?;
+    }
     Ok(())
 }
 
@@ -163,22 +137,14 @@ fn decode_key(word: &[u8], key: &mut Vec<u8>) -> Result<(), LineFault>
     }
 }
 
+// The number that a word writes. A sign, which `parse` would take, is no digit.
 fn number_of(word: &[u8]) -> Option<u64>
     ensures { result ≡ number_of word.now }
 {
-    if word.is_empty() {
+    if !word.iter().all(u8::is_ascii_digit) {
         return None;
     }
-    let mut number = 0u64;
-    for digit in word {
-        if !digit.is_ascii_digit() {
-            return None;
-        }
-        number = number
-            .checked_mul(10)?
-            .checked_add(u64::from(digit - b'0'))?;
-    }
-    Some(number)
+    str::from_utf8(word).ok()?.parse().ok()
 }
 
 // Reads the two words of `insert`: a key and a number.
