@@ -1,41 +1,43 @@
 -- Lemmas on the words of a line, on hexadecimal digits and on numbers.
-use Rattle.std.proofs.Common.{◌≡◌, ℕ, ◌+◌, ◌-◌, ◌*◌, ◌/◌, ◌==◌, ◌<◌, ◌≤◌, Bool, true, false, List, [], ◌∷◌, ◌++◌, length, get_or, take, drop, Some, None, Result, Ok, Err, append_assoc, refl, ap, arith, rules}
+use Rattle.std.proofs.Common.{Option, Bor, ◌≡◌, ℕ, ◌+◌, ◌*◌, ◌/◌, ◌<◌, true, false, List, [], ◌∷◌, ◌++◌, length, get_or, take, drop, Some, None, Result, Ok, Err, append_assoc, refl, arith, rules}
 use Rattle.std.specs.Char.{digit_value, is_ascii_digit, is_ascii_hexdigit}
-use Rattle.std.specs.List.{list_all, position, position_or_len}
+use Rattle.std.specs.List.{list_all}
 use Rattle.std.specs.Result.{result_ok}
 use Rattle.std.specs.Str.{IsUtf8}
 use Rattle.std.specs.Str.Parse.{digits_value, ParsesUnsigned}
 use Rattle.std.proofs.lemmas.Grind.{common_steps}
-use Rattle.std.proofs.lemmas.List.{take_rest}
-use Rattle.std.proofs.lemmas.List.Splits.{slice_split_first, slice_split_none, length-slice_split}
-use Rattle.std.proofs.lemmas.List.Sums.{AllPass-from_list_all, fails_before_first}
-use Rattle.std.proofs.lemmas.Option.{cond_some}
+use Rattle.std.proofs.lemmas.Iterator.{YieldsList}
+use Rattle.std.proofs.lemmas.Iterator.Consumers.{YieldsList-end, YieldsList-so_far}
+use Rattle.std.proofs.lemmas.List.Sums.{AllPass-from_list_all}
 use Rattle.std.proofs.lemmas.Str.{IsUtf8-from_ascii}
 use Rattle.std.proofs.lemmas.Str.Ascii.{IsAscii-from_all}
 use Rattle.std.proofs.lemmas.List.Elements.{All-from_get_or}
 use Rattle.std.proofs.lemmas.Str.Parse.{IsNumeralModel, numerals_by_value, parse_digits}
 use Rattle.std.proofs.lemmas.Bool.Decides.{nat_tests}
-use Rattle.key_index.specs.Line.{words_of, hex_bytes, is_hex, number_of}
+use Rattle.key_index.specs.Line.{command_of_words, hex_bytes, is_hex, number_of, ordered_command_of_words}
+use Rattle.key_index.specs.Words.{words_in}
 
-abbrev is_space : ℕ → Bool
-is_space = λ b. b == 32
+-- what four calls gave are the first four words: one, and up to three more
+pub words_in-yielded : {S : Type 0} {steps : S → Option (Bor (List ℕ)) → S → Type 0} {s : S} {words : List (List ℕ)} (t u v w : S) (first : Bor (List ℕ)) (x y z : Option (Bor (List ℕ))) → steps s (Some first) t → steps t x u → steps u y v → steps v z w → YieldsList steps (λ x. x.now) s words → first.now ∷ words_in (x, y, z) ≡ take 4 words
+words_in-yielded t u v w first None y z h hx hy hz e = rw (← (YieldsList-end e (first ∷ []) t (t, h, refl) None u refl hx).0) refl
+words_in-yielded t u v w first (Some x) None z h hx hy hz e = rw (← (YieldsList-end e (first ∷ x ∷ []) u (t, h, (u, hx, refl)) None v refl hy).0) refl
+words_in-yielded t u v w first (Some x) (Some y) None h hx hy hz e = rw (← (YieldsList-end e (first ∷ x ∷ y ∷ []) v (t, h, (u, hx, (v, hy, refl))) None w refl hz).0) refl
+words_in-yielded t u v w first (Some x) (Some y) (Some z) h hx hy hz e = YieldsList-so_far e (first ∷ x ∷ y ∷ z ∷ []) w (t, h, (u, hx, (v, hy, (w, hz, refl))))
 
--- a line has a word, be it an empty one
-pub words_of-some : (line : List ℕ) → words_of line ≡ [] → ⊥
-words_of-some line h = omega (arith, length-slice_split is_space line, ap length h)
+-- no command has more than three words, so the first four tell which it is
+pub command_of_four : (words : List (List ℕ)) → command_of_words words ≡ command_of_words (take 4 words)
+command_of_four [] = refl
+command_of_four (a ∷ []) = refl
+command_of_four (a ∷ b ∷ []) = refl
+command_of_four (a ∷ b ∷ c ∷ []) = refl
+command_of_four (a ∷ b ∷ c ∷ d ∷ words) = refl
 
--- the first word ends at the first space
-pub words_of-space : (line : List ℕ) (end : ℕ) → position is_space line ≡ Some end → words_of line ≡ take end line ∷ words_of (take (length line - (end + 1)) (drop (end + 1) line))
-words_of-space line end h =
-    let found = cond_some _ _ _ h in
-    let within : position_or_len is_space line < length line = grind (arith, nat_tests, found.0) in
-    rw (take_rest, ← found.1) (slice_split_first is_space line 0 within)
-
--- a line with no space is one word
-pub words_of-no_space : (line : List ℕ) → position is_space line ≡ None → words_of line ≡ line ∷ []
-words_of-no_space line h =
-    let past : length line ≤ position_or_len is_space line = grind (arith, nat_tests) in
-    slice_split_none is_space line (λ k d within. fails_before_first is_space line k d (omega arith))
+pub ordered_command_of_four : (words : List (List ℕ)) → ordered_command_of_words words ≡ ordered_command_of_words (take 4 words)
+ordered_command_of_four [] = refl
+ordered_command_of_four (a ∷ []) = refl
+ordered_command_of_four (a ∷ b ∷ []) = refl
+ordered_command_of_four (a ∷ b ∷ c ∷ []) = refl
+ordered_command_of_four (a ∷ b ∷ c ∷ d ∷ words) = refl
 
 -- a word with a byte that is no digit is no number
 pub number_of-no_digits : (word : List ℕ) → list_all is_ascii_digit word ≡ false → number_of word ≡ None
