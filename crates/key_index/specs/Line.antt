@@ -9,7 +9,7 @@ use Rattle.key_index.specs.declared.line.Command.TheVariants.{Insert, Remove, Ge
 use Rattle.key_index.specs.declared.line.OrderedCommand.{OrderedCommand}
 use Rattle.key_index.specs.declared.line.OrderedCommand.TheVariants.{Common, Next, Prev, First, Last}
 
--- the words of a line: its parts round each single space, 32, so that two spaces in a row have an empty word between them
+-- the words of a line: its parts round each single space, 32, so that two in a row have an empty word between them
 abbrev pub words_of : List ℕ → List (List ℕ)
 words_of line = slice_split (λ b. b == 32) line
 

@@ -45,9 +45,10 @@ pub enum LineFault {
     Memory,
 }
 
-// The words behind the first of a line, as far as the third of them, which no command has.
+// Up to three words behind the first of a line. A command has two at most.
 type Words<'a> = (Option<&'a [u8]>, Option<&'a [u8]>, Option<&'a [u8]>);
 
+// The first word of a line, and those behind it.
 fn words_of(line: &[u8]) -> (&[u8], Words<'_>)
     ensures { result.0.now ∷ words_in result.1 ≡ take 4 (words_of line.now) }
 {
@@ -92,7 +93,8 @@ fn decode_key(word: &[u8], key: &mut Vec<u8>) -> Result<(), LineFault>
     requires { key.old.items ≡ [] }
     ensures accepted { OnOk result (key_of word.now ≡ Some key.new.items) }
     ensures refused { IsErrOf result LineFault.BadLine ↔ IsNone (key_of word.now) }
-    ensures memory { IsErrOf result LineFault.Memory → IfSome (key_of word.now) (λ bytes. vec_capacity key.old < length bytes) }
+    ensures memory { IsErrOf result LineFault.Memory
+        → IfSome (key_of word.now) (λ bytes. vec_capacity key.old < length bytes) }
 {
     if word == b"-".as_slice() {
         return Ok(());
@@ -118,9 +120,11 @@ fn insert(words: Words<'_>, key: &mut Vec<u8>) -> Result<Command, LineFault>
     requires { key.old.items ≡ [] }
     ensures accepted { IfOk result
         (λ command. with_key_and_number Command.Insert (words_in words.entry) ≡ Some (command, key.new.items)) }
-    ensures refused { IsErrOf result LineFault.BadLine ↔ IsNone (with_key_and_number Command.Insert (words_in words.entry)) }
+    ensures refused { IsErrOf result LineFault.BadLine
+        ↔ IsNone (with_key_and_number Command.Insert (words_in words.entry)) }
     ensures memory { IsErrOf result LineFault.Memory
-        → IfSome (with_key_and_number Command.Insert (words_in words.entry)) (λ said. vec_capacity key.old < length said.1) }
+        → IfSome (with_key_and_number Command.Insert (words_in words.entry))
+        (λ said. vec_capacity key.old < length said.1) }
 {
     let (Some(hex), Some(number), None) = words else {
         return Err(LineFault::BadLine);
