@@ -9,6 +9,8 @@ use std::alloc::{AllocError, Global};
 use std::io::{self, Error, ErrorKind, Read, Write};
 use std::test::Fail;
 
+mod rust_answers;
+
 #[test]
 fn lines_are_read(rt: HostRuntime) -> Result<(), Fail> {
     let lines: [(&[u8], Command, &[u8]); 10] = [
