@@ -14,8 +14,7 @@ use Rattle.std.proofs.lemmas.Str.Ascii.{IsAscii-from_all}
 use Rattle.std.proofs.lemmas.List.Elements.{All-from_get_or}
 use Rattle.std.proofs.lemmas.Str.Parse.{IsNumeralModel, numerals_by_value, parse_digits}
 use Rattle.std.proofs.lemmas.Bool.Decides.{nat_tests}
-use Rattle.key_index.specs.Line.{command_of_words, hex_bytes, is_hex, number_of, ordered_command_of_words}
-use Rattle.key_index.specs.Words.{words_in}
+use Rattle.key_index.specs.Line.{command_of_words, hex_bytes, is_hex, number_of, ordered_command_of_words, words_in}
 
 -- what four calls gave are the first four words: one, and up to three more
 pub words_in-yielded : {S : Type 0} {steps : S → Option (Bor (List ℕ)) → S → Type 0} {s : S} {words : List (List ℕ)} (t u v w : S) (first : Bor (List ℕ)) (x y z : Option (Bor (List ℕ))) → steps s (Some first) t → steps t x u → steps u y v → steps v z w → YieldsList steps (λ x. x.now) s words → first.now ∷ words_in (x, y, z) ≡ take 4 words

@@ -3,8 +3,7 @@
 ghost use Rattle.std.specs.Prelude.{◌≡◌, ◌==◌, ◌/◌, ◌<◌, ◌↔◌, [], ◌∷◌, length, take, IsTrue, IsNone, IfSome, IfOk, IfErr, OnOk, OnErr, IsErrOf, vec_capacity};
 ghost use Rattle.std.specs.Char.{digit_value, is_ascii_hexdigit};
 ghost use Rattle.std.specs.List.{list_all};
-ghost use Rattle.key_index.specs.Line.{alone, command_of, hex_bytes, is_hex, key_of, number_of, ordered_command_of, command_of_words, with_key, with_key_and_number, words_of};
-ghost use Rattle.key_index.specs.Words.{words_in};
+ghost use Rattle.key_index.specs.Line.{alone, command_of, hex_bytes, is_hex, key_of, number_of, ordered_command_of, command_of_words, with_key, with_key_and_number, words_in, words_of};
 
 use std::alloc::AllocError;
 
