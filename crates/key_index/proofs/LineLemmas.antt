@@ -1,73 +1,67 @@
 -- Lemmas on the words of a line, on hexadecimal digits and on numbers.
-use Rattle.std.proofs.Common.{◌≡◌, ℕ, ◌+◌, ◌-◌, ◌*◌, ◌/◌, ◌==◌, ◌<◌, ◌≤◌, ◌^◌, Bool, true, false, ltb, List, [], ◌∷◌, ◌++◌, Option, length, get_or, take, drop, Some, None, lit≤, append_assoc, refl, ap, ◌∙◌, arith}
+use Rattle.std.proofs.Common.{Option, Bor, ◌≡◌, ℕ, ◌+◌, ◌*◌, ◌/◌, ◌<◌, true, false, List, [], ◌∷◌, ◌++◌, length, get_or, take, drop, Some, None, Result, Ok, Err, append_assoc, refl, arith, rules}
 use Rattle.std.specs.Char.{digit_value, is_ascii_digit, is_ascii_hexdigit}
-use Rattle.std.specs.List.{list_all, position, position_or_len}
-use Rattle.std.specs.Str.Parse.{digits_value}
+use Rattle.std.specs.List.{list_all}
+use Rattle.std.specs.Result.{result_ok}
+use Rattle.std.specs.Str.{IsUtf8}
+use Rattle.std.specs.Str.Parse.{digits_value, ParsesUnsigned}
 use Rattle.std.proofs.lemmas.Grind.{common_steps}
-use Rattle.std.proofs.lemmas.List.{take_rest}
-use Rattle.std.proofs.lemmas.List.Splits.{slice_split_first, slice_split_none, length-slice_split}
-use Rattle.std.proofs.lemmas.List.Sums.{AllPass-from_list_all, fails_before_first, position_or_len_is}
-use Rattle.std.proofs.lemmas.List.Folds.{list_all_at, list_all_more}
-use Rattle.std.proofs.lemmas.Option.{cond_some}
-use Rattle.std.proofs.lemmas.Str.Parse.{digits_value-take-le}
+use Rattle.std.proofs.lemmas.Iterator.{YieldsList}
+use Rattle.std.proofs.lemmas.Iterator.Consumers.{YieldsList-end, YieldsList-so_far}
+use Rattle.std.proofs.lemmas.List.Sums.{AllPass-from_list_all}
+use Rattle.std.proofs.lemmas.Str.{IsUtf8-from_ascii}
+use Rattle.std.proofs.lemmas.Str.Ascii.{IsAscii-from_all}
+use Rattle.std.proofs.lemmas.List.Elements.{All-from_get_or}
+use Rattle.std.proofs.lemmas.Str.Parse.{IsNumeralModel, numerals_by_value, parse_digits}
 use Rattle.std.proofs.lemmas.Bool.Decides.{nat_tests}
-use Rattle.std.proofs.lemmas.Int.Digits.{digits_value_more}
-use Rattle.memchr.specs.Find.{IsFirstByte, is_byte}
-use Rattle.key_index.specs.Line.{words_of, hex_bytes, is_hex, number_of}
+use Rattle.key_index.specs.Line.{command_of_words, hex_bytes, is_hex, number_of, ordered_command_of_words, words_in}
 
-abbrev is_space : ℕ → Bool
-is_space = λ b. b == 32
+-- what four calls gave are the first four words: one, and up to three more
+pub words_in-yielded : {S : Type 0} {steps : S → Option (Bor (List ℕ)) → S → Type 0} {s : S} {words : List (List ℕ)} (t u v w : S) (first : Bor (List ℕ)) (x y z : Option (Bor (List ℕ))) → steps s (Some first) t → steps t x u → steps u y v → steps v z w → YieldsList steps (λ x. x.now) s words → first.now ∷ words_in (x, y, z) ≡ take 4 words
+words_in-yielded t u v w first None y z h hx hy hz e = rw (← (YieldsList-end e (first ∷ []) t (t, h, refl) None u refl hx).0) refl
+words_in-yielded t u v w first (Some x) None z h hx hy hz e = rw (← (YieldsList-end e (first ∷ x ∷ []) u (t, h, (u, hx, refl)) None v refl hy).0) refl
+words_in-yielded t u v w first (Some x) (Some y) None h hx hy hz e = rw (← (YieldsList-end e (first ∷ x ∷ y ∷ []) v (t, h, (u, hx, (v, hy, refl))) None w refl hz).0) refl
+words_in-yielded t u v w first (Some x) (Some y) (Some z) h hx hy hz e = YieldsList-so_far e (first ∷ x ∷ y ∷ z ∷ []) w (t, h, (u, hx, (v, hy, (w, hz, refl))))
 
--- the first space is where a search for its byte finds it
-pub IsFirstByte-position : (line : List ℕ) (r : Option ℕ) → IsFirstByte (is_byte 32) line r → r ≡ position is_space line
-IsFirstByte-position line None h =
-    let past = position_or_len_is is_space line (length line) 0 (omega arith) (λ k within. grind (arith, nat_tests, h k (omega arith) within)) (λ within. absurd (omega (arith, within))) in
-    grind (arith, nat_tests, past)
-IsFirstByte-position line (Some k) h =
-    let first = position_or_len_is is_space line k 0 (omega (arith, h.0.high)) (λ j below. grind (arith, nat_tests, h.0.before j (omega arith) below)) (λ _. h.1) in
-    grind (arith, nat_tests, first, h.0.high)
+-- no command has more than three words, so the first four tell which it is
+pub command_of_four : (words : List (List ℕ)) → command_of_words words ≡ command_of_words (take 4 words)
+command_of_four [] = refl
+command_of_four (a ∷ []) = refl
+command_of_four (a ∷ b ∷ []) = refl
+command_of_four (a ∷ b ∷ c ∷ []) = refl
+command_of_four (a ∷ b ∷ c ∷ d ∷ words) = refl
 
--- a line has a word, be it an empty one
-pub words_of-some : (line : List ℕ) → words_of line ≡ [] → ⊥
-words_of-some line h = omega (arith, length-slice_split is_space line, ap length h)
+pub ordered_command_of_four : (words : List (List ℕ)) → ordered_command_of_words words ≡ ordered_command_of_words (take 4 words)
+ordered_command_of_four [] = refl
+ordered_command_of_four (a ∷ []) = refl
+ordered_command_of_four (a ∷ b ∷ []) = refl
+ordered_command_of_four (a ∷ b ∷ c ∷ []) = refl
+ordered_command_of_four (a ∷ b ∷ c ∷ d ∷ words) = refl
 
--- the first word ends at the first space
-pub words_of-space : (line : List ℕ) (end : ℕ) → position is_space line ≡ Some end → words_of line ≡ take end line ∷ words_of (take (length line - (end + 1)) (drop (end + 1) line))
-words_of-space line end h =
-    let found = cond_some _ _ _ h in
-    let within : position_or_len is_space line < length line = grind (arith, nat_tests, found.0) in
-    rw (take_rest, ← found.1) (slice_split_first is_space line 0 within)
-
--- a line with no space is one word
-pub words_of-no_space : (line : List ℕ) → position is_space line ≡ None → words_of line ≡ line ∷ []
-words_of-no_space line h =
-    let past : length line ≤ position_or_len is_space line = grind (arith, nat_tests) in
-    slice_split_none is_space line (λ k d within. fails_before_first is_space line k d (omega arith))
-
--- a word of digits is a number where its value fits
-pub number_of-digits : (word : List ℕ) → 0 < length word → list_all is_ascii_digit word ≡ true → digits_value 10 word < 2 ^ 64 → number_of word ≡ Some (digits_value 10 word)
+-- a word with a byte that is no digit is no number
+pub number_of-no_digits : (word : List ℕ) → list_all is_ascii_digit word ≡ false → number_of word ≡ None
 unfolding number_of
-number_of-digits word some digits fits = grind (arith, nat_tests)
+number_of-no_digits word other = grind (arith, nat_tests)
 
--- a word with another byte is none
-pub number_of-no_digit : (word : List ℕ) (i : ℕ) → i < length word → is_ascii_digit (get_or word i 0) ≡ false → number_of word ≡ None
-unfolding number_of
-number_of-no_digit word i within other =
-    let no = list_all_at is_ascii_digit word i 0 within other in
-    grind (arith, nat_tests)
+-- digits are ASCII
+pub IsUtf8-digits : (word : List ℕ) → list_all is_ascii_digit word ≡ true → IsUtf8 word
+IsUtf8-digits word digits = IsUtf8-from_ascii word (IsAscii-from_all word (All-from_get_or (λ b. b < 128) word 0 (λ i within.
+    let digit = AllPass-from_list_all is_ascii_digit word digits i 0 within in
+    grind (arith, nat_tests))))
 
--- nor is one that writes too much already in its first bytes
-pub number_of-large : (word : List ℕ) (n : ℕ) → 2 ^ 64 ≤ digits_value 10 (take n word) → number_of word ≡ None
-unfolding number_of
-number_of-large word n large =
-    let more = digits_value-take-le 10 word n (lit≤ tt) in
-    let no : ltb (digits_value 10 word) (2 ^ 64) ≡ false = grind (arith, nat_tests) in
-    grind (arith, nat_tests)
+-- digits alone, in the words of what `parse` reads
+decimals : IsNumeralModel (λ ds. list_all is_ascii_digit ds ≡ true) (digits_value 10)
+decimals = numerals_by_value _ (search rules)
 
--- nor is the empty word
-pub number_of-empty : (word : List ℕ) → length word ≡ 0 → number_of word ≡ None
+-- what `parse` makes of digits is the number that they write
+pub number_of-parsed : {E : Type 0} (word : List ℕ) (r : Result ℕ E) → list_all is_ascii_digit word ≡ true → ParsesUnsigned 64 10 word r → result_ok r ≡ number_of word
 unfolding number_of
-number_of-empty word empty = grind (arith, nat_tests)
+number_of-parsed {E = E} word (Ok n) digits h =
+    let parsed = parse_digits decimals {E = E} 64 word (Ok n) h digits in
+    grind (arith, nat_tests, parsed)
+number_of-parsed {E = E} word (Err e) digits h =
+    let parsed = parse_digits decimals {E = E} 64 word (Err e) h digits in
+    grind (arith, nat_tests, parsed)
 
 -- two digits write a byte
 pub length-hex_bytes : (word : List ℕ) → length (hex_bytes word) ≡ length word / 2
@@ -89,23 +83,6 @@ pub is_hex-at : (word : List ℕ) (i : ℕ) → is_hex word ≡ true → i < len
 is_hex-at word i hex within =
     let digits : list_all is_ascii_hexdigit word ≡ true = grind (arith, nat_tests) in
     AllPass-from_list_all is_ascii_hexdigit word digits i 0 within
-
--- a further digit of a number
-pub digits_value-next : (word : List ℕ) (i : ℕ) → i < length word → is_ascii_digit (get_or word i 0) ≡ true → digits_value 10 (take (i + 1) word) ≡ digits_value 10 (take i word) * 10 + (get_or word i 0 - 48)
-digits_value-next word i within digit =
-    let value : digit_value (get_or word i 0) ≡ get_or word i 0 - 48 = grind (arith, nat_tests) in
-    rw (← value) (digits_value_more 10 word i within)
-
--- a further byte that is a digit
-pub digits-next : (word : List ℕ) (i : ℕ) → i < length word → list_all is_ascii_digit (take i word) ≡ true → is_ascii_digit (get_or word i 0) ≡ true → list_all is_ascii_digit (take (i + 1) word) ≡ true
-digits-next word i within so_far digit = rw (list_all_more is_ascii_digit word i 0 within, so_far, digit) refl
-
--- the number that was read up to the end of the word
-pub number_of-whole : (word : List ℕ) (i n : ℕ) → length word ≤ i → 0 < length word → list_all is_ascii_digit (take i word) ≡ true → n ≡ digits_value 10 (take i word) → n < 2 ^ 64 → number_of word ≡ Some n
-number_of-whole word i n end some digits written fits =
-    let all : take i word ≡ word = grind (arith, common_steps) in
-    let value : n ≡ digits_value 10 word = written ∙ ap (digits_value 10) all in
-    rw value (number_of-digits word some (rw all at digits) (omega arith))
 
 -- a further byte of a key
 pub hex_bytes-next : (word before key : List ℕ) (i byte : ℕ) → 2 * i + 1 < length word → before ++ hex_bytes (drop (2 * i) word) ≡ hex_bytes word → byte ≡ 16 * digit_value (get_or word (2 * i) 0) + digit_value (get_or word (2 * i + 1) 0) → key ≡ before ++ byte ∷ [] → key ++ hex_bytes (drop (2 * (i + 1)) word) ≡ hex_bytes word

@@ -1,5 +1,3 @@
 pub mod Answers
-pub mod Kind
 pub mod Line
-pub mod ServeError
-pub mod Words
+pub mod Program

@@ -1,5 +1,6 @@
 -- What a line of input says. A line is the bytes of one command, without the newline that ends it.
 use Rattle.std.specs.Prelude.{ℕ, ◌+◌, ◌*◌, ◌%◌, ◌^◌, ◌==◌, ◌&&◌, nat_lt, Bool, List, [], ◌∷◌, length, if◌then◌else◌, Option, Some, None, option_and_then, option_map, codes}
+use Rattle.std.specs.Borrow.{Bor}
 use Rattle.std.specs.Char.{digit_value, is_ascii_digit, is_ascii_hexdigit}
 use Rattle.std.specs.List.{slice_split, list_all}
 use Rattle.std.specs.Str.{bytes_eq}
@@ -9,9 +10,16 @@ use Rattle.key_index.specs.declared.line.Command.TheVariants.{Insert, Remove, Ge
 use Rattle.key_index.specs.declared.line.OrderedCommand.{OrderedCommand}
 use Rattle.key_index.specs.declared.line.OrderedCommand.TheVariants.{Common, Next, Prev, First, Last}
 
--- the words of a line: its parts round each single space, 32, so that two spaces in a row have an empty word between them
+-- the words of a line: its parts round each single space, 32, so that two in a row have an empty word between them
 abbrev pub words_of : List ℕ → List (List ℕ)
 words_of line = slice_split (λ b. b == 32) line
+
+-- of some words found in a line, those in front of the first place where none was
+abbrev pub words_in : Option (Bor (List ℕ)) × Option (Bor (List ℕ)) × Option (Bor (List ℕ)) → List (List ℕ)
+words_in (None, _, _) = []
+words_in (Some first, None, _) = first.now ∷ []
+words_in (Some first, Some second, None) = first.now ∷ second.now ∷ []
+words_in (Some first, Some second, Some third) = first.now ∷ second.now ∷ third.now ∷ []
 
 -- the bytes that hexadecimal digits write, two digits a byte, the high one first
 abbrev pub hex_bytes : List ℕ → List ℕ

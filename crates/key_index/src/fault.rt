@@ -1,7 +1,7 @@
 //! Why the program ends early, and with which status.
 
 ghost use Rattle.std.specs.Prelude.{◌≡◌};
-ghost use Rattle.key_index.specs.ServeError.{status_of};
+ghost use Rattle.key_index.specs.Program.{status_of};
 
 use thiserror::Error;
 

@@ -2,7 +2,7 @@
 
 ghost use Rattle.std.specs.Prelude.{◌≡◌, map};
 ghost use Rattle.std.specs.String.{string_bytes};
-ghost use Rattle.key_index.specs.Kind.{kind_of};
+ghost use Rattle.key_index.specs.Program.{kind_of};
 
 /// A kind of index, as the program's first argument names it.
 #[derive(Clone, Copy, Debug, PartialEq, Eq)]

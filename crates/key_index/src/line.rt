@@ -1,12 +1,10 @@
 //! One line of input, parsed into a command.
 
-ghost use Rattle.std.specs.Prelude.{◌≡◌, ◌==◌, ◌/◌, ◌<◌, ◌↔◌, [], ◌∷◌, length, position, IsTrue, IsNone, IfSome, IfNone, IfOk, IfErr, OnOk, OnErr, IsErrOf, vec_capacity};
+ghost use Rattle.std.specs.Prelude.{◌≡◌, ◌==◌, ◌/◌, ◌<◌, ◌↔◌, [], ◌∷◌, length, take, IsTrue, IsNone, IfSome, IfOk, IfErr, OnOk, OnErr, IsErrOf, vec_capacity};
 ghost use Rattle.std.specs.Char.{digit_value, is_ascii_hexdigit};
 ghost use Rattle.std.specs.List.{list_all};
-ghost use Rattle.key_index.specs.Line.{alone, command_of, hex_bytes, is_hex, key_of, number_of, ordered_command_of, command_of_words, with_key, with_key_and_number, words_of};
-ghost use Rattle.key_index.specs.Words.{words_left};
+ghost use Rattle.key_index.specs.Line.{alone, command_of, hex_bytes, is_hex, key_of, number_of, ordered_command_of, command_of_words, with_key, with_key_and_number, words_in, words_of};
 
-use memchr::memchr;
 use std::alloc::AllocError;
 
 /// What a line says. The key that it names is in the buffer that `parse` filled.
@@ -46,48 +44,18 @@ pub enum LineFault {
     Memory,
 }
 
-fn first_space(line: &[u8]) -> Option<usize>
-    ensures { result ≡ position (λ byte. byte == 32) line.now }
+// Up to three words behind the first of a line. A command has two at most.
+type Words<'a> = (Option<&'a [u8]>, Option<&'a [u8]>, Option<&'a [u8]>);
+
+// The first word of a line, and those behind it.
+fn words_of(line: &[u8]) -> (&[u8], Words<'_>)
+    ensures { result.0.now ∷ words_in result.1 ≡ take 4 (words_of line.now) }
 {
-    memchr(b' ', line)
-}
-
-// The words of a line, from the first on: `rest` is what is left of the line, and `None` once its last word is taken.
-#[derive(Drop)]
-struct Words<'a> {
-    rest: Option<&'a [u8]>,
-}
-
-impl<'a> Words<'a> {
-    fn of(line: &'a [u8]) -> Words<'a>
-        ensures { words_left result ≡ words_of line.now }
-    {
-        Words { rest: Some(line) }
-    }
-
-    fn is_empty(&self) -> bool
-        ensures { IsTrue result ↔ (words_left self.now ≡ []) }
-    {
-        self.rest.is_none()
-    }
-
-    // Takes the next word off.
-    fn take(&mut self) -> Option<&'a [u8]>
-        ensures taken { IfSome result (λ word. words_left self.old ≡ word.now ∷ words_left self.new) }
-        ensures ended { IfNone result (words_left self.old ≡ []) }
-    {
-        let line = self.rest?;
-        match first_space(line) {
-            Some(end) => {
-                self.rest = Some(&line[end + 1..]);
-                Some(&line[..end])
-            }
-            None => {
-                self.rest = None;
-                Some(line)
-            }
-        }
-    }
+    let mut words = line.split(|byte| *byte == b' ');
+    (
+        words.next().unwrap(),
+        (words.next(), words.next(), words.next()),
+    )
 }
 
 // The value of a hexadecimal digit of either case.
@@ -96,39 +64,13 @@ fn hex_digit(digit: u8) -> u8
     ensures value { result ≡ digit_value digit }
     ensures small { result < 16 }
 {
-    match digit {
-        b'0'..=b'9' => digit - b'0',
-        b'A'..=b'F' => digit - b'A' + 10,
-        _ => digit - b'a' + 10,
-    }
-}
-
-fn all_hex_digits(word: &[u8]) -> bool
-    ensures { result ≡ list_all is_ascii_hexdigit word.now }
-{
-    // With no early end, so that no branch hangs on what a digit is.
-    let mut all = true;
-    for digit in word {
-        all &= digit.is_ascii_hexdigit();
-    }
-    all
+    char::from(digit).to_digit(16).unwrap() as u8
 }
 
 fn is_hex(word: &[u8]) -> bool
     ensures { result ≡ is_hex word.now }
 {
-    !word.is_empty() && word.len() % 2 == 0 && all_hex_digits(word)
-}
-
-// Overwrites bytes with those that hexadecimal digits write.
-fn decode_into(word: &[u8], bytes: &mut [u8])
-    requires digits { IsTrue (is_hex word.now) }
-    requires half { length bytes.old ≡ length word.now / 2 }
-    ensures { bytes.new ≡ hex_bytes word.now }
-{
-    for i in 0..bytes.len() {
-        bytes[i] = 16 * hex_digit(word[2 * i]) + hex_digit(word[2 * i + 1]);
-    }
+    !word.is_empty() && word.len() % 2 == 0 && word.iter().all(u8::is_ascii_hexdigit)
 }
 
 // Puts the bytes that hexadecimal digits write into an empty buffer.
@@ -138,8 +80,9 @@ fn decode_hex(word: &[u8], key: &mut Vec<u8>) -> Result<(), AllocError>
     ensures decoded { OnOk result (key.new.items ≡ hex_bytes word.now) }
     ensures memory { OnErr result (vec_capacity key.old < length (hex_bytes word.now)) }
 {
-    key.resize(word.len() / 2, 0)?;
-    decode_into(word, key.as_mut_slice());
+    for i in 0..word.len() / 2 {
+        key.push(16 * hex_digit(word[2 * i]) + hex_digit(word[2 * i + 1]))?;
+    }
     Ok(())
 }
 
@@ -149,7 +92,8 @@ fn decode_key(word: &[u8], key: &mut Vec<u8>) -> Result<(), LineFault>
     requires { key.old.items ≡ [] }
     ensures accepted { OnOk result (key_of word.now ≡ Some key.new.items) }
     ensures refused { IsErrOf result LineFault.BadLine ↔ IsNone (key_of word.now) }
-    ensures memory { IsErrOf result LineFault.Memory → IfSome (key_of word.now) (λ bytes. vec_capacity key.old < length bytes) }
+    ensures memory { IsErrOf result LineFault.Memory
+        → IfSome (key_of word.now) (λ bytes. vec_capacity key.old < length bytes) }
 {
     if word == b"-".as_slice() {
         return Ok(());
@@ -157,117 +101,68 @@ fn decode_key(word: &[u8], key: &mut Vec<u8>) -> Result<(), LineFault>
     if !is_hex(word) {
         return Err(LineFault::BadLine);
     }
-    match decode_hex(word, key) {
-        Ok(()) => Ok(()),
-        Err(_) => Err(LineFault::Memory),
-    }
+    decode_hex(word, key).map_err(|_| LineFault::Memory)
 }
 
+// The number that a word writes. A sign, which `parse` would take, is no digit.
 fn number_of(word: &[u8]) -> Option<u64>
     ensures { result ≡ number_of word.now }
 {
-    if word.is_empty() {
+    if !word.iter().all(u8::is_ascii_digit) {
         return None;
     }
-    let mut number = 0u64;
-    for digit in word {
-        if !digit.is_ascii_digit() {
-            return None;
-        }
-        number = number
-            .checked_mul(10)?
-            .checked_add(u64::from(digit - b'0'))?;
-    }
-    Some(number)
+    str::from_utf8(word).ok()?.parse().ok()
 }
 
 // Reads the two words of `insert`: a key and a number.
-fn insert(mut words: Words<'_>, key: &mut Vec<u8>) -> Result<Command, LineFault>
+fn insert(words: Words<'_>, key: &mut Vec<u8>) -> Result<Command, LineFault>
     requires { key.old.items ≡ [] }
     ensures accepted { IfOk result
-        (λ command. with_key_and_number Command.Insert (words_left words.entry) ≡ Some (command, key.new.items)) }
-    ensures refused { IsErrOf result LineFault.BadLine ↔ IsNone (with_key_and_number Command.Insert (words_left words.entry)) }
+        (λ command. with_key_and_number Command.Insert (words_in words.entry) ≡ Some (command, key.new.items)) }
+    ensures refused { IsErrOf result LineFault.BadLine
+        ↔ IsNone (with_key_and_number Command.Insert (words_in words.entry)) }
     ensures memory { IsErrOf result LineFault.Memory
-        → IfSome (with_key_and_number Command.Insert (words_left words.entry)) (λ said. vec_capacity key.old < length said.1) }
+        → IfSome (with_key_and_number Command.Insert (words_in words.entry))
+        (λ said. vec_capacity key.old < length said.1) }
 {
-    let Some(hex) = words.take() else {
+    let (Some(hex), Some(number), None) = words else {
         return Err(LineFault::BadLine);
     };
-    let Some(number) = words.take().and_then(number_of) else {
-        return Err(LineFault::BadLine);
-    };
-    if !words.is_empty() {
-        return Err(LineFault::BadLine);
-    }
+    let number = number_of(number).ok_or(LineFault::BadLine)?;
     decode_key(hex, key)?;
     Ok(Command::Insert(number))
 }
 
 // Reads the one word, a key, of a command.
-fn with_key<C: Drop>(command: C, mut words: Words<'_>, key: &mut Vec<u8>) -> Result<C, LineFault>
+fn with_key<C: Drop>(command: C, words: Words<'_>, key: &mut Vec<u8>) -> Result<C, LineFault>
     requires { key.old.items ≡ [] }
-    ensures accepted { IfOk result (λ read. with_key command (words_left words.entry) ≡ Some (read, key.new.items)) }
-    ensures refused { IsErrOf result LineFault.BadLine ↔ IsNone (with_key command (words_left words.entry)) }
+    ensures accepted { IfOk result (λ read. with_key command (words_in words.entry) ≡ Some (read, key.new.items)) }
+    ensures refused { IsErrOf result LineFault.BadLine ↔ IsNone (with_key command (words_in words.entry)) }
     ensures memory { IsErrOf result LineFault.Memory
-        → IfSome (with_key command (words_left words.entry)) (λ said. vec_capacity key.old < length said.1) }
+        → IfSome (with_key command (words_in words.entry)) (λ said. vec_capacity key.old < length said.1) }
 {
-    let Some(hex) = words.take() else {
+    let (Some(hex), None, _) = words else {
         return Err(LineFault::BadLine);
     };
-    if !words.is_empty() {
-        return Err(LineFault::BadLine);
-    }
     decode_key(hex, key)?;
     Ok(command)
 }
 
 // Sees that no word follows a command.
-fn alone<C: Drop>(command: C, words: &Words<'_>) -> Result<C, LineFault>
-    ensures accepted { IfOk result (λ read. alone command (words_left words.now) ≡ Some (read, [])) }
-    ensures refused { IsErrOf result LineFault.BadLine ↔ IsNone (alone command (words_left words.now)) }
+fn alone<C: Drop>(command: C, words: Words<'_>) -> Result<C, LineFault>
+    ensures accepted { IfOk result (λ read. alone command (words_in words.entry) ≡ Some (read, [])) }
+    ensures refused { IsErrOf result LineFault.BadLine ↔ IsNone (alone command (words_in words.entry)) }
     ensures only { IfErr result (λ fault. fault ≡ LineFault.BadLine) }
 {
-    if words.is_empty() {
-        Ok(command)
-    } else {
-        Err(LineFault::BadLine)
-    }
-}
-
-// Empties the buffer for a line's key, and gives the line's words.
-fn begin<'a>(line: &'a [u8], key: &mut Vec<u8>) -> Words<'a>
-    ensures words { words_left result ≡ words_of line.now }
-    ensures empty { key.new.items ≡ [] }
-    ensures room { vec_capacity key.new ≡ vec_capacity key.old }
-{
-    key.clear();
-    Words::of(line)
-}
-
-// The command that a first word and those behind it say.
-fn common(name: &[u8], words: Words<'_>, key: &mut Vec<u8>) -> Result<Command, LineFault>
-    requires { key.old.items ≡ [] }
-    ensures accepted { IfOk result
-        (λ command. command_of_words (name.now ∷ words_left words.entry) ≡ Some (command, key.new.items)) }
-    ensures refused { IsErrOf result LineFault.BadLine ↔ IsNone (command_of_words (name.now ∷ words_left words.entry)) }
-    ensures memory { IsErrOf result LineFault.Memory
-        → IfSome (command_of_words (name.now ∷ words_left words.entry)) (λ said. vec_capacity key.old < length said.1) }
-{
-    if name == b"insert".as_slice() {
-        insert(words, key)
-    } else if name == b"remove".as_slice() {
-        with_key(Command::Remove, words, key)
-    } else if name == b"get".as_slice() {
-        with_key(Command::Get, words, key)
-    } else if name == b"counts".as_slice() {
-        alone(Command::Counts, &words)
-    } else {
-        Err(LineFault::BadLine)
+    match words {
+        (None, _, _) => Ok(command),
+        _ => Err(LineFault::BadLine),
     }
 }
 
 /// The command that a line says, without its newline. The key that the command names is put into
 /// `key`, whose room is used again; what `key` holds after an `Err` is open.
+#[tactic(auto, using(crate::proofs::LineLemmas::command_of_four))]
 pub fn parse(line: &[u8], key: &mut Vec<u8>) -> Result<Command, LineFault>
     ensures accepted { IfOk result (λ command. command_of line.now ≡ Some (command, key.new.items)) }
     ensures refused { IsErrOf result LineFault.BadLine ↔ IsNone (command_of line.now) }
@@ -276,14 +171,23 @@ pub fn parse(line: &[u8], key: &mut Vec<u8>) -> Result<Command, LineFault>
     ensures memory { IsErrOf result LineFault.Memory
         → IfSome (command_of line.now) (λ said. vec_capacity key.old < length said.1) }
 {
-    let mut words = begin(line, key);
-    match words.take() {
-        Some(name) => common(name, words, key),
-        None => Err(LineFault::BadLine),
+    key.clear();
+    let (name, words) = words_of(line);
+    if name == b"insert".as_slice() {
+        insert(words, key)
+    } else if name == b"remove".as_slice() {
+        with_key(Command::Remove, words, key)
+    } else if name == b"get".as_slice() {
+        with_key(Command::Get, words, key)
+    } else if name == b"counts".as_slice() {
+        alone(Command::Counts, words)
+    } else {
+        Err(LineFault::BadLine)
     }
 }
 
 /// The same of an index whose keys are in order, which has commands more.
+#[tactic(auto, using(crate::proofs::LineLemmas::command_of_four, crate::proofs::LineLemmas::ordered_command_of_four))]
 pub fn parse_ordered(line: &[u8], key: &mut Vec<u8>) -> Result<OrderedCommand, LineFault>
     ensures accepted { IfOk result (λ command. ordered_command_of line.now ≡ Some (command, key.new.items)) }
     ensures refused { IsErrOf result LineFault.BadLine ↔ IsNone (ordered_command_of line.now) }
@@ -292,22 +196,17 @@ pub fn parse_ordered(line: &[u8], key: &mut Vec<u8>) -> Result<OrderedCommand, L
     ensures memory { IsErrOf result LineFault.Memory
         → IfSome (ordered_command_of line.now) (λ said. vec_capacity key.old < length said.1) }
 {
-    let mut words = begin(line, key);
-    let Some(name) = words.take() else {
-        return Err(LineFault::BadLine);
-    };
+    key.clear();
+    let (name, words) = words_of(line);
     if name == b"next".as_slice() {
         with_key(OrderedCommand::Next, words, key)
     } else if name == b"prev".as_slice() {
         with_key(OrderedCommand::Prev, words, key)
     } else if name == b"first".as_slice() {
-        alone(OrderedCommand::First, &words)
+        alone(OrderedCommand::First, words)
     } else if name == b"last".as_slice() {
-        alone(OrderedCommand::Last, &words)
+        alone(OrderedCommand::Last, words)
     } else {
-        match common(name, words, key) {
-            Ok(command) => Ok(OrderedCommand::Common(command)),
-            Err(fault) => Err(fault),
-        }
+        parse(line, key).map(OrderedCommand::Common)
     }
 }

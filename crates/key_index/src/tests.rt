@@ -3,10 +3,13 @@
 use crate::fault::ServeError;
 use crate::kind::{Kind, kind_of};
 use crate::line::{Command, LineFault, OrderedCommand, parse, parse_ordered};
-use crate::serve::serve;
+use crate::serve::{serve, write_refusal};
+use key_index_flat::index::Fault;
 use std::alloc::{AllocError, Global};
 use std::io::{self, Error, ErrorKind, Read, Write};
 use std::test::Fail;
+
+mod rust_answers;
 
 #[test]
 fn lines_are_read(rt: HostRuntime) -> Result<(), Fail> {
@@ -200,6 +203,20 @@ impl Write for FailingWriter {
     }
 }
 
+// A writer that takes every byte, and fails where it is flushed.
+#[derive(Drop)]
+struct UnflushedWriter {}
+
+impl Write for UnflushedWriter {
+    fn write(&mut self, buffer: &[u8]) -> io::Result<usize> {
+        Ok(buffer.len())
+    }
+
+    fn flush(&mut self) -> io::Result<()> {
+        Err(Error::from(ErrorKind::BrokenPipe))
+    }
+}
+
 fn arguments(alloc: Global, texts: &[&str]) -> Result<Vec<String>, AllocError> {
     let mut words = Vec::new(alloc);
     for text in texts {
@@ -307,7 +324,8 @@ fn ordered_lines_are_read(rt: HostRuntime) -> Result<(), Fail> {
 fn ordered_sessions_are_answered(rt: HostRuntime) -> Result<(), Fail> {
     let sessions: [(&[u8], &[u8], &[u8], u8); 4] = [
         (
-            b"insert 0b02aa 1\ninsert 1c04cc 21\ninsert 1c0311 22\ninsert 2d06ee 3\nnext 0b0102\nnext 2d06ee\nprev cc0102\nfirst\nlast\ncounts\n",
+            b"insert 0b02aa 1\ninsert 1c04cc 21\ninsert 1c0311 22\ninsert 2d06ee 3\n\
+              next 0b0102\nnext 2d06ee\nprev cc0102\nfirst\nlast\ncounts\n",
             b"ok\nok\nok\nok\nvalues 22 21\nvalues 1 wrapped\nvalues 3\nvalues 1\nvalues 3\nkeys 3 items 4 pruned 0\n",
             b"",
             0,
@@ -436,6 +454,39 @@ fn failed_writes_end_the_program(rt: HostRuntime) -> Result<(), Fail> {
             FailingWriter { room: 0 },
         );
         assert_eq!(rt; ended, status);
+    }
+    Ok(())
+}
+
+#[test]
+fn failed_last_flush_is_told(rt: HostRuntime) -> Result<(), Fail> {
+    let words = arguments(rt.alloc(), &["unordered"])?;
+    let inputs: [&[u8]; 4] = [b"", b"counts\n", b"x\n", b"counts\nx\n"];
+    for input in inputs {
+        let mut faults = Vec::new(rt.alloc());
+        let status = serve(rt.alloc(), &words, input, UnflushedWriter {}, &mut faults);
+        assert_eq!(rt; faults.as_slice(), b"failed\n".as_slice(), "{input:?}");
+        assert_eq!(rt; status, 1);
+    }
+    // Answers that wait cannot be written behind a bad line.
+    let mut faults = Vec::new(rt.alloc());
+    let input = b"counts\nx\n".as_slice();
+    let output = FailingWriter { room: 0 };
+    let status = serve(rt.alloc(), &words, input, output, &mut faults);
+    assert_eq!(rt; faults.as_slice(), b"failed\n".as_slice());
+    assert_eq!(rt; status, 1);
+    Ok(())
+}
+
+#[test]
+fn refusals_are_printed(rt: HostRuntime) -> Result<(), Fail> {
+    for (fault, line) in [
+        (Fault::Memory, b"refused memory\n".as_slice()),
+        (Fault::Full, b"refused full\n"),
+    ] {
+        let mut output = Vec::new(rt.alloc());
+        write_refusal(fault, &mut output)?;
+        assert_eq!(rt; output.as_slice(), line);
     }
     Ok(())
 }

@@ -1,12 +1,13 @@
-use Rattle.std.proofs.Common.{length, ap, arith}
-use Rattle.std.proofs.lemmas.Grind.{common_steps}
-use Rattle.std.proofs.lemmas.Result.{err_from_is_err_and}
-use Rattle.key_index.proofs.LineLemmas.{length-hex_bytes}
+use Rattle.std.proofs.Common.{◌+◌, ◌*◌, arith, rules}
+use Rattle.key_index.proofs.LineLemmas.{hex_bytes-next, is_hex-at}
 use Rattle.key_index.proofs.line.decode_hex.Goals as goal
 
-pub returns-in_err-resize-clause-memory : goal.returns-in_err-resize-clause-memory
-returns-in_err-resize-clause-memory c =
-    let size = length-hex_bytes c.args.word.now in
-    let empty = ap length c.requires.empty in
-    let p = err_from_is_err_and c.from_residual.result c.from_residual.ensures.1 in
-    rw p.1 (grind (arith, common_steps, size, empty, c.in_err-resize.ensures.full, c.args.key.now.ok.0))
+pub hex_digit-requires : goal.hex_digit-requires
+hex_digit-requires c = is_hex-at c.args.word.now (2 * c.loop-i.i) c.requires.digits (omega arith)
+
+pub loop-i-preserved : goal.loop-i-preserved
+loop-i-preserved c = record {
+  written = hex_bytes-next c.args.word.now c.loop-i.key.items _ c.loop-i.i (16 * c.hex_digit.result + c.hex_digit-in-loop-i.result) (omega arith) c.loop-i.invariant.written (omega arith) (search rules);
+  count = search rules;
+  room = omega arith;
+}

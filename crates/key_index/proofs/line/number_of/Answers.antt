@@ -1,38 +1,24 @@
-use Rattle.std.proofs.Common.{◌+◌, sym, ◌∙◌, arith}
-use Rattle.std.proofs.lemmas.Bool.Decides.{nat_tests}
-use Rattle.key_index.proofs.LineLemmas.{digits-next, digits_value-next, number_of-empty, number_of-large, number_of-no_digit, number_of-whole}
+use Rattle.std.proofs.Common.{◌≡◌, ◌∙◌, sym, arith, rules}
+use Rattle.std.specs.Char.{is_ascii_digit}
+use Rattle.std.specs.List.{list_all}
+use Rattle.std.proofs.lemmas.Iterator.{YieldsList-from_slice}
+use Rattle.std.proofs.lemmas.Iterator.Search.{all_from_yields_List}
+use Rattle.key_index.proofs.LineLemmas.{number_of-no_digits, number_of-parsed, IsUtf8-digits}
 use Rattle.key_index.proofs.line.number_of.Goals as goal
 
-pub returns-then-is_empty : goal.returns-then-is_empty
-returns-then-is_empty c = sym (number_of-empty c.args.word.now (grind (arith, nat_tests)))
+pub returns-then-not-all : goal.returns-then-not-all
+returns-then-not-all c =
+    let all : c.all.result ≡ list_all is_ascii_digit c.args.word.now = all_from_yields_List is_ascii_digit _ _ c.all.result c.all.ensures.ran (YieldsList-from_slice c.args.word.now (cc)) (λ x b q k. search rules) in
+    sym (number_of-no_digits c.args.word.now (cc))
 
-pub returns-then-not-is_ascii_digit : goal.returns-then-not-is_ascii_digit
-returns-then-not-is_ascii_digit c = sym (number_of-no_digit c.args.word.now c.loop-digit.digit-index c.loop-digit-test.true (cc))
-
-pub returns-in_err-checked_mul : goal.returns-in_err-checked_mul
-returns-in_err-checked_mul c =
-    let word = c.args.word.now in
-    let i = c.loop-digit.digit-index in
-    let next = digits_value-next word i c.loop-digit-test.true (cc) in
-    c.from_residual.ensures ∙ sym (number_of-large word (i + 1) (omega (arith, c.in_err-checked_mul.ensures)))
-
-pub returns-in_err-number : goal.returns-in_err-number
-returns-in_err-number c =
-    let word = c.args.word.now in
-    let i = c.loop-digit.digit-index in
-    let next = digits_value-next word i c.loop-digit-test.true (cc) in
-    c.from_residual-in_err-number.ensures ∙ sym (number_of-large word (i + 1) (omega (arith, c.in_ok-checked_mul.ensures, c.in_err-number.ensures)))
-
-pub loop-digit-preserved : goal.loop-digit-preserved
-loop-digit-preserved c =
-    let word = c.args.word.now in
-    let i = c.loop-digit.digit-index in
-    let next = digits_value-next word i c.loop-digit-test.true (cc) in
-    record {
-      written = omega (arith, c.in_ok-checked_mul.ensures, c.in_ok-number.ensures);
-      fits = omega (arith, c.in_ok-number.ensures);
-      digits = digits-next word i c.loop-digit-test.true c.loop-digit.invariant.digits (cc);
-    }
+pub returns-in_err-ok : goal.returns-in_err-ok
+returns-in_err-ok c =
+    let all : c.all.result ≡ list_all is_ascii_digit c.args.word.now = all_from_yields_List is_ascii_digit _ _ c.all.result c.all.ensures.ran (YieldsList-from_slice c.args.word.now (cc)) (λ x b q k. search rules) in
+    let text = IsUtf8-digits c.args.word.now (cc) in
+    grind (arith, text, c.from_utf8.ensures.cases, c.ok.ensures)
 
 pub returns : goal.returns
-returns c = sym (number_of-whole c.args.word.now c.loop-digit.digit-index c.loop-digit.number c.loop-digit-test.false (grind (arith, nat_tests)) c.loop-digit.invariant.digits c.loop-digit.invariant.written (omega arith))
+returns c =
+    let all : c.all.result ≡ list_all is_ascii_digit c.args.word.now = all_from_yields_List is_ascii_digit _ _ c.all.result c.all.ensures.ran (YieldsList-from_slice c.args.word.now (cc)) (λ x b q k. search rules) in
+    let same : c.in_ok-ok.field-0.now ≡ c.args.word.now = grind (arith, c.from_utf8.ensures.cases, c.ok.ensures) in
+    c.ok-2.ensures.value ∙ number_of-parsed c.args.word.now c.parse.result (cc) (rw same at c.parse.ensures.value.0)

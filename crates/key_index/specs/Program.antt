@@ -1,6 +1,8 @@
--- Which kind of index the program's arguments name.
+-- Which kind of index the program's arguments name, and with which status it ends early.
 use Rattle.std.specs.Prelude.{ℕ, List, [], ◌∷◌, Option, Some, None, if◌then◌else◌, codes}
 use Rattle.std.specs.Str.{bytes_eq}
+use Rattle.key_index.specs.declared.fault.ServeError.{ServeError}
+use Rattle.key_index.specs.declared.fault.ServeError.TheVariants.{Usage, BadLine, Failed}
 use Rattle.key_index.specs.declared.kind.Kind.{Kind}
 use Rattle.key_index.specs.declared.kind.Kind.TheVariants.{Unordered, Ordered}
 
@@ -11,3 +13,9 @@ kind_of (kind ∷ []) =
     else (if bytes_eq kind (codes "ordered") then Some Ordered
     else None)
 kind_of _ = None
+
+-- 2 for wrong arguments, and 1 for all that goes wrong later
+abbrev pub status_of : ServeError → ℕ
+status_of Usage = 2
+status_of (BadLine _) = 1
+status_of Failed = 1
