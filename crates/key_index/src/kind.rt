@@ -11,6 +11,8 @@ pub enum Kind {
     Unordered,
     /// A flat index that keeps its keys in order.
     Ordered,
+    /// An index in 256 partitions, by the first byte of a key, that keeps its keys in no order.
+    PartitionedUnordered,
 }
 
 /// The kind that the program's arguments name, and `None` where they are not those of the program.
@@ -20,6 +22,7 @@ pub fn kind_of(words: &[String]) -> Option<Kind>
     match words {
         [kind] if kind.as_str() == "unordered" => Some(Kind::Unordered),
         [kind] if kind.as_str() == "ordered" => Some(Kind::Ordered),
+        [kind] if kind.as_str() == "punordered" => Some(Kind::PartitionedUnordered),
         _ => None,
     }
 }

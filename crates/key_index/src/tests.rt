@@ -118,14 +118,16 @@ fn faults_are_printed(rt: HostRuntime) -> Result<(), Fail> {
 fn arguments_are_read(rt: HostRuntime) -> Result<(), Fail> {
     let unordered = String::from_str(rt.alloc(), "unordered")?;
     let ordered = String::from_str(rt.alloc(), "ordered")?;
+    let partitioned = String::from_str(rt.alloc(), "punordered")?;
     let further = String::from_str(rt.alloc(), "512")?;
-    let words = vec![in rt.alloc(); unordered, ordered, further]?;
-    assert_eq!(rt; words.len(), 3);
+    let words = vec![in rt.alloc(); unordered, ordered, partitioned, further]?;
+    assert_eq!(rt; words.len(), 4);
     assert_eq!(rt; kind_of(&words[..1]), Some(Kind::Unordered));
     assert_eq!(rt; kind_of(&words[1..2]), Some(Kind::Ordered));
+    assert_eq!(rt; kind_of(&words[2..3]), Some(Kind::PartitionedUnordered));
     assert_eq!(rt; kind_of(&words[..2]), None);
-    assert_eq!(rt; kind_of(&words[1..]), None);
     assert_eq!(rt; kind_of(&words[2..]), None);
+    assert_eq!(rt; kind_of(&words[3..]), None);
     assert_eq!(rt; kind_of(&words[..0]), None);
     Ok(())
 }
@@ -240,52 +242,106 @@ fn session<R: Read + Drop>(
 
 #[test]
 fn sessions_are_answered(rt: HostRuntime) -> Result<(), Fail> {
-    let sessions: [(&[u8], &[u8], &[u8], u8); 14] = [
+    let sessions: [(&str, &[u8], &[u8], &[u8], u8); 20] = [
         (
+            "unordered",
             b"insert 0b02 1\ninsert 0bff 2\nget 0b\nremove 0b77\ncounts\n",
             b"ok\nok\nvalues 2 1\nok\nkeys 0 items 0 pruned 2\n",
             b"",
             0,
         ),
         (
+            "unordered",
             b"insert - 7\nget 00\nnext 00\n",
             b"ok\nvalues 7\n",
             b"bad line 3\n",
             1,
         ),
         (
+            "unordered",
             b"insert 0b 1\ninsert 0b 2\ninsert 0c 3\nremove 0b\nget 0b\ncounts\n",
             b"ok\nok\nok\nok\nnone\nkeys 1 items 1 pruned 2\n",
             b"",
             0,
         ),
-        (b"", b"", b"", 0),
-        (b"counts", b"keys 0 items 0 pruned 0\n", b"", 0),
-        (b"\n", b"", b"bad line 1\n", 1),
+        ("unordered", b"", b"", b"", 0),
+        ("unordered", b"counts", b"keys 0 items 0 pruned 0\n", b"", 0),
+        ("unordered", b"\n", b"", b"bad line 1\n", 1),
         (
+            "unordered",
             b"counts\n\ncounts\n",
             b"keys 0 items 0 pruned 0\n",
             b"bad line 2\n",
             1,
         ),
-        (b"insert 0b  1\n", b"", b"bad line 1\n", 1),
-        (b"insert 0b0 1\n", b"", b"bad line 1\n", 1),
-        (b"insert 0b 1\r\n", b"", b"bad line 1\n", 1),
-        (b"insert 0b 18446744073709551616\n", b"", b"bad line 1\n", 1),
+        ("unordered", b"insert 0b  1\n", b"", b"bad line 1\n", 1),
+        ("unordered", b"insert 0b0 1\n", b"", b"bad line 1\n", 1),
+        ("unordered", b"insert 0b 1\r\n", b"", b"bad line 1\n", 1),
         (
+            "unordered",
+            b"insert 0b 18446744073709551616\n",
+            b"",
+            b"bad line 1\n",
+            1,
+        ),
+        (
+            "unordered",
             b"insert Ff 18446744073709551615\nget fF",
             b"ok\nvalues 18446744073709551615\n",
             b"",
             0,
         ),
-        (b"first\n", b"", b"bad line 1\n", 1),
-        (b"prune 0\n", b"", b"bad line 1\n", 1),
+        ("unordered", b"first\n", b"", b"bad line 1\n", 1),
+        ("unordered", b"prune 0\n", b"", b"bad line 1\n", 1),
+        (
+            "ordered",
+            b"insert 0b02aa 1\ninsert 1c04cc 21\ninsert 1c0311 22\ninsert 2d06ee 3\n\
+              next 0b0102\nnext 2d06ee\nprev cc0102\nfirst\nlast\ncounts\n",
+            b"ok\nok\nok\nok\nvalues 22 21\nvalues 1 wrapped\nvalues 3\nvalues 1\nvalues 3\nkeys 3 items 4 pruned 0\n",
+            b"",
+            0,
+        ),
+        (
+            "ordered",
+            b"next 0b\nprev 0b\nfirst\nlast\ninsert 0b 1\nnext 0b\nprev 0b\nremove 0b\nlast\n",
+            b"none\nnone\nnone\nnone\nok\nvalues 1 wrapped\nvalues 1 wrapped\nok\nnone\n",
+            b"",
+            0,
+        ),
+        (
+            "ordered",
+            b"insert 0b02 1\ninsert 0bff 2\nget 0b\nremove 0b77\ncounts\n",
+            b"ok\nok\nvalues 2 1\nok\nkeys 0 items 0 pruned 2\n",
+            b"",
+            0,
+        ),
+        (
+            "ordered",
+            b"first\nlast 0b\n",
+            b"none\n",
+            b"bad line 2\n",
+            1,
+        ),
+        (
+            "punordered",
+            b"insert 01 1\ninsert 0100 2\ninsert 0101 3\nget 01\ncounts\n",
+            b"ok\nok\nok\nvalues 2 1\nkeys 2 items 3 pruned 0\n",
+            b"",
+            0,
+        ),
+        (
+            "punordered",
+            b"counts\nnext 01\n",
+            b"keys 0 items 0 pruned 0\n",
+            b"bad line 2\n",
+            1,
+        ),
     ];
-    for (input, output, faults, status) in sessions {
-        let ended = session(rt.alloc(), &["unordered"], input)?;
-        assert_eq!(rt; ended.0.as_slice(), output, "{input:?}");
-        assert_eq!(rt; ended.1.as_slice(), faults, "{input:?}");
-        assert_eq!(rt; ended.2, status, "{input:?}");
+    for (kind, input, output, faults, status) in sessions {
+        let ended = session(rt.alloc(), &[kind], input)?;
+        assert_eq!(rt; ended.0.as_slice(), output, "{kind} {input:?}");
+        assert_eq!(rt; ended.1.as_slice(), faults, "{kind} {input:?}");
+        assert_eq!(rt; ended.2, status, "{kind} {input:?}");
     }
     Ok(())
 }
@@ -316,39 +372,6 @@ fn ordered_lines_are_read(rt: HostRuntime) -> Result<(), Fail> {
             Err(LineFault::BadLine),
             "{line:?}"
         );
-    }
-    Ok(())
-}
-
-#[test]
-fn ordered_sessions_are_answered(rt: HostRuntime) -> Result<(), Fail> {
-    let sessions: [(&[u8], &[u8], &[u8], u8); 4] = [
-        (
-            b"insert 0b02aa 1\ninsert 1c04cc 21\ninsert 1c0311 22\ninsert 2d06ee 3\n\
-              next 0b0102\nnext 2d06ee\nprev cc0102\nfirst\nlast\ncounts\n",
-            b"ok\nok\nok\nok\nvalues 22 21\nvalues 1 wrapped\nvalues 3\nvalues 1\nvalues 3\nkeys 3 items 4 pruned 0\n",
-            b"",
-            0,
-        ),
-        (
-            b"next 0b\nprev 0b\nfirst\nlast\ninsert 0b 1\nnext 0b\nprev 0b\nremove 0b\nlast\n",
-            b"none\nnone\nnone\nnone\nok\nvalues 1 wrapped\nvalues 1 wrapped\nok\nnone\n",
-            b"",
-            0,
-        ),
-        (
-            b"insert 0b02 1\ninsert 0bff 2\nget 0b\nremove 0b77\ncounts\n",
-            b"ok\nok\nvalues 2 1\nok\nkeys 0 items 0 pruned 2\n",
-            b"",
-            0,
-        ),
-        (b"first\nlast 0b\n", b"none\n", b"bad line 2\n", 1),
-    ];
-    for (input, output, faults, status) in sessions {
-        let ended = session(rt.alloc(), &["ordered"], input)?;
-        assert_eq!(rt; ended.0.as_slice(), output, "{input:?}");
-        assert_eq!(rt; ended.1.as_slice(), faults, "{input:?}");
-        assert_eq!(rt; ended.2, status, "{input:?}");
     }
     Ok(())
 }
