@@ -9,6 +9,7 @@ mod report;
 use flat::Failure;
 use key_index_flat::index::{Factory, Fault, Ordered, ordered, unordered};
 use key_index_flat::translator::EightCap;
+use key_index_parts::index::partitioned;
 use keys::{ABSENT, PRESENT, keys};
 use report::Report;
 use std::alloc::Global;
@@ -24,6 +25,9 @@ use std::time::Clock;
 enum Kind {
     Unordered,
     Ordered,
+    PartitionedUnordered1,
+    PartitionedUnordered2,
+    PartitionedUnordered3,
     StdHash,
     StdTree,
 }
@@ -33,6 +37,9 @@ impl Kind {
         match self {
             Kind::Unordered => "unordered",
             Kind::Ordered => "ordered",
+            Kind::PartitionedUnordered1 => "punordered1",
+            Kind::PartitionedUnordered2 => "punordered2",
+            Kind::PartitionedUnordered3 => "punordered3",
             Kind::StdHash => "std_hash",
             Kind::StdTree => "std_tree",
         }
@@ -47,6 +54,9 @@ fn arguments(words: &[String]) -> Option<(Kind, usize)> {
     let kind = match kind.as_str() {
         "unordered" => Kind::Unordered,
         "ordered" => Kind::Ordered,
+        "punordered1" => Kind::PartitionedUnordered1,
+        "punordered2" => Kind::PartitionedUnordered2,
+        "punordered3" => Kind::PartitionedUnordered3,
         "std_hash" => Kind::StdHash,
         "std_tree" => Kind::StdTree,
         _ => return None,
@@ -179,6 +189,30 @@ fn measure<C: Clock, W: Write>(
             &absent,
             &mut report,
         ),
+        Kind::PartitionedUnordered1 => {
+            run_unordered::<partitioned::unordered::Index<EightCap, u64, 1>, C, W>(
+                alloc,
+                &present,
+                &absent,
+                &mut report,
+            )
+        }
+        Kind::PartitionedUnordered2 => {
+            run_unordered::<partitioned::unordered::Index<EightCap, u64, 2>, C, W>(
+                alloc,
+                &present,
+                &absent,
+                &mut report,
+            )
+        }
+        Kind::PartitionedUnordered3 => {
+            run_unordered::<partitioned::unordered::Index<EightCap, u64, 3>, C, W>(
+                alloc,
+                &present,
+                &absent,
+                &mut report,
+            )
+        }
         Kind::StdHash => run_std_hash(alloc, &present, &absent, &mut report),
         Kind::StdTree => run_std_tree(alloc, &present, &absent, &mut report),
     }
@@ -197,7 +231,7 @@ fn main(rt: HostRuntime) -> ExitCode {
     let Some((kind, count)) = named else {
         let _ = writeln!(
             rt.stderr(),
-            "usage: key_index_bench unordered|ordered|std_hash|std_tree COUNT"
+            "usage: key_index_bench unordered|ordered|punordered1|punordered2|punordered3|std_hash|std_tree COUNT"
         );
         return ExitCode::from(2);
     };
