@@ -17,11 +17,19 @@ use Rattle.std.proofs.lemmas.Bool.Decides.{nat_tests}
 use Rattle.key_index.specs.Line.{command_of_words, hex_bytes, is_hex, number_of, ordered_command_of_words, words_in}
 
 -- what four calls gave are the first four words: one, and up to three more
-pub words_in-yielded : {S : Type 0} {steps : S → Option (Bor (List ℕ)) → S → Type 0} {s : S} {words : List (List ℕ)} (t u v w : S) (first : Bor (List ℕ)) (x y z : Option (Bor (List ℕ))) → steps s (Some first) t → steps t x u → steps u y v → steps v z w → YieldsList steps (λ x. x.now) s words → first.now ∷ words_in (x, y, z) ≡ take 4 words
-words_in-yielded t u v w first None y z h hx hy hz e = rw (← (YieldsList-end e (first ∷ []) t (t, h, refl) None u refl hx).0) refl
-words_in-yielded t u v w first (Some x) None z h hx hy hz e = rw (← (YieldsList-end e (first ∷ x ∷ []) u (t, h, (u, hx, refl)) None v refl hy).0) refl
-words_in-yielded t u v w first (Some x) (Some y) None h hx hy hz e = rw (← (YieldsList-end e (first ∷ x ∷ y ∷ []) v (t, h, (u, hx, (v, hy, refl))) None w refl hz).0) refl
-words_in-yielded t u v w first (Some x) (Some y) (Some z) h hx hy hz e = YieldsList-so_far e (first ∷ x ∷ y ∷ z ∷ []) w (t, h, (u, hx, (v, hy, (w, hz, refl))))
+pub words_in-yielded : {S : Type 0} {steps : S → Option (Bor (List ℕ)) → S → Type 0} {s : S} {words : List (List ℕ)}
+    (t u v w : S) (first : Bor (List ℕ)) (x y z : Option (Bor (List ℕ)))
+    → steps s (Some first) t → steps t x u → steps u y v → steps v z w → YieldsList steps (λ x. x.now) s words
+    → first.now ∷ words_in (x, y, z) ≡ take 4 words
+words_in-yielded t u v w first None y z h hx hy hz e =
+    rw (← (YieldsList-end e (first ∷ []) t (t, h, refl) None u refl hx).0) refl
+words_in-yielded t u v w first (Some x) None z h hx hy hz e =
+    rw (← (YieldsList-end e (first ∷ x ∷ []) u (t, h, (u, hx, refl)) None v refl hy).0) refl
+words_in-yielded t u v w first (Some x) (Some y) None h hx hy hz e =
+    let all = YieldsList-end e (first ∷ x ∷ y ∷ []) v (t, h, (u, hx, (v, hy, refl))) None w refl hz in
+    rw (← all.0) refl
+words_in-yielded t u v w first (Some x) (Some y) (Some z) h hx hy hz e =
+    YieldsList-so_far e (first ∷ x ∷ y ∷ z ∷ []) w (t, h, (u, hx, (v, hy, (w, hz, refl))))
 
 -- no command has more than three words, so the first four tell which it is
 pub command_of_four : (words : List (List ℕ)) → command_of_words words ≡ command_of_words (take 4 words)

@@ -7,7 +7,9 @@ hex_digit-requires c = is_hex-at c.args.word.now (2 * c.loop-i.i) c.requires.dig
 
 pub loop-i-preserved : goal.loop-i-preserved
 loop-i-preserved c = record {
-  written = hex_bytes-next c.args.word.now c.loop-i.key.items _ c.loop-i.i (16 * c.hex_digit.result + c.hex_digit-in-loop-i.result) (omega arith) c.loop-i.invariant.written (omega arith) (search rules);
+  written = hex_bytes-next c.args.word.now c.loop-i.key.items _ c.loop-i.i
+      (16 * c.hex_digit.result + c.hex_digit-in-loop-i.result)
+      (omega arith) c.loop-i.invariant.written (omega arith) (search rules);
   count = search rules;
   room = omega arith;
 }
