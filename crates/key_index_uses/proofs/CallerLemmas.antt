@@ -33,5 +33,5 @@ module _ {K V : Type 0} {cmp : K → K → Ordering} (o : IsTotalOrder cmp) wher
       → ¬ (0 < length (run_at cmp s k)) → t ≡ with_edit cmp s k (λ l. slice_set l 0 v)
   absent_stays exact s t k v lawful same none =
       let content : s.content ≡ with_list cmp s.content k (slice_set (list_at cmp s.content k) 0 v) =
-          sym (with_list-same o exact s.content k lawful) ∙ ap (λ l. with_list cmp s.content k l) (sym (none_set (list_at cmp s.content k) v none)) in
+      sym (with_list-same o exact s.content k lawful) ∙ ap (λ l. with_list cmp s.content k l) (sym (none_set (list_at cmp s.content k) v none)) in
       same ∙ (λ i. record s { content = content i })

@@ -1,16 +1,20 @@
 //! Callers as a user writes them: over any index, by its content alone.
-ghost use Rattle.std.specs.Prelude.{◌≡◌, ◌<◌, ◌↔◌, ◌⊎◌, [], ◌∷◌, true, IfOk, IfErr, OnOk, OnErr, IsTrue, slice_set};
+ghost use Rattle.std.specs.Prelude.{◌≡◌, ◌+◌, ◌<◌, ◌↔◌, ◌⊎◌, [], ◌∷◌, true, IfOk, IfErr, OnOk, OnErr, IsTrue, slice_set};
+ghost use Rattle.std.specs.Ordering.{nat_cmp};
 ghost use Rattle.std.specs.Option.{MatchOption, option_copied};
 ghost use Rattle.key_index_flat.specs.View.{items_in, run_of, with_edit, after_insert, after_remove, IsHeld};
 ghost use Rattle.key_index_flat.specs.FullKeys.{IsFiledIn, values_of};
+ghost use Rattle.key_index_flat.specs.Padding.{padded};
+ghost use Rattle.key_index_parts.specs.Gathered.{pair_cmp};
 ghost use Rattle.key_index_uses.specs.Exclusion.{has_key, Excludes};
 
 use key_index_flat::index::unordered::Index;
 use key_index_flat::index::{
-    Cursor, Factory, Fault, IndexCursor, Keyed, Ordered, Refused, Unordered, Values, resolve_next,
-    resolve_prev,
+    Cursor, Factory, Fault, IndexCursor, Keyed, Ordered, Refused, Runs, Unordered, Values,
+    resolve_next, resolve_prev,
 };
-use key_index_flat::translator::OneCap;
+use key_index_flat::translator::{OneCap, TwoCap};
+use key_index_parts::index::partitioned::{self, grouping_and_order};
 use std::alloc::Global;
 
 /// Files two positions under keys that share their first byte, and gives the newest that stands there, which is 2.
@@ -81,6 +85,21 @@ where
     Ok(true)
 }
 
+/// The values of a key, by the first `P` bytes of it and the two behind them, with zeros behind a shorter one: all that an index in
+/// partitions of `P` bytes by `TwoCap` tells keys apart by.
+pub fn values_by_front<'a, V: Drop, const P: usize>(
+    index: &'a partitioned::unordered::Index<TwoCap, V, P>,
+    key: &[u8],
+    front: &[u8],
+) -> Values<'a, V>
+    requires { padded (P + 2) front.now ≡ padded (P + 2) key.now }
+    ensures { result ≡ run_of (pair_cmp nat_cmp)
+        (⟦<partitioned::unordered::Index<TwoCap, V, P> as Runs>⟧.view index.now) key.now }
+{
+    grouping_and_order();
+    index.get(front)
+}
+
 /// The values next to a full key that no value has. One that is absent says that no full key is on that side.
 #[derive(Drop)]
 pub struct Exclusion<'a, V> {
@@ -129,7 +148,7 @@ where
         IsFiledIn I.Value.full_key I.Key.cmp (I.view index.now) → MatchOption result
         (has_key I.Value.full_key key.now values ≡ true)
         (λ next_to. Excludes I.Value.full_key values key.now
-            (option_copied next_to.below) (option_copied next_to.above)) }
+        (option_copied next_to.below) (option_copied next_to.above)) }
 {
     if has_key(index.get(key), key) {
         return None;
