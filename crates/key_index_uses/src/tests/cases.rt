@@ -30,7 +30,9 @@ fn on<I: Unordered<Value = u64> + Factory + Drop>(
     alloc: Global,
     translator: I::Translator,
     case: Case,
-) {
+)
+    requires { I.makes }
+{
     match case {
         Case::CursorEdits => cursors::edited::<I>(rt, alloc, translator),
         Case::CursorEmpties => cursors::emptied::<I>(rt, alloc, translator),

@@ -7,7 +7,9 @@ use std::alloc::Global;
 use std::process::Abort;
 
 /// An index with no values.
-pub(super) fn fresh<I: Factory>(rt: &impl Abort, alloc: Global, translator: I::Translator) -> I {
+pub(super) fn fresh<I: Factory>(rt: &impl Abort, alloc: Global, translator: I::Translator) -> I
+    requires { I.makes }
+{
     I::new(alloc, translator).expect(rt, "an index")
 }
 

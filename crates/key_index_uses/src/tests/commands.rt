@@ -35,7 +35,9 @@ pub(super) fn three<I: Unordered<Value = u64> + Factory + Drop>(
     rt: &impl Abort,
     alloc: Global,
     translator: I::Translator,
-) -> I {
+) -> I
+    requires { I.makes }
+{
     let mut index: I = fresh(rt, alloc, translator);
     inserts(rt, &mut index, b"k", 2);
     inserts(rt, &mut index, b"k", 1);
@@ -60,12 +62,26 @@ fn push_edit<F: Drop, const N: usize>(
     push(rt, commands, Command::Edit(key(rt, alloc, byte), edit));
 }
 
+/// `run` is accepted.
+pub(super) fn runs<I: Unordered<Value = u64>, F: Fn(&u64) -> bool + Drop>(
+    rt: &impl Abort,
+    alloc: Global,
+    index: &mut I,
+    commands: Vec<Command<u64, F>>,
+) -> Vec<Outcome>
+    requires { (f : F) → F.IsAlwaysCallable f }
+{
+    run(alloc, index, commands).expect(rt, "run")
+}
+
 /// Next 3, delete, next 1, insert 9, next 2, next none, insert 7.
 pub(super) fn edited<I: Unordered<Value = u64> + Factory + Drop>(
     rt: &impl Abort,
     alloc: Global,
     translator: I::Translator,
-) {
+)
+    requires { I.makes }
+{
     let mut index = three::<I>(rt, alloc, translator);
     let mut commands = Vec::new(alloc);
     push_edit(
@@ -88,7 +104,7 @@ pub(super) fn edited<I: Unordered<Value = u64> + Factory + Drop>(
         &mut commands,
         Command::Retain(key(rt, alloc, b'j'), |value: &u64| *value == 8),
     );
-    let outcomes = run(alloc, &mut index, commands).expect(rt, "run");
+    let outcomes = runs(rt, alloc, &mut index, commands);
     assert!(rt; has_flags(outcomes.get(0), &[true, true, true, true, true, true, true]));
     holds(rt, &index, b"k", &[1, 9, 2, 7]);
     counts(rt, &index, (1, 4, 1));
@@ -109,7 +125,9 @@ pub(super) fn emptied<I: Unordered<Value = u64> + Factory + Drop>(
     rt: &impl Abort,
     alloc: Global,
     translator: I::Translator,
-) {
+)
+    requires { I.makes }
+{
     let mut index: I = fresh(rt, alloc, translator);
     inserts(rt, &mut index, b"k", 5);
     let mut commands = Vec::new(alloc);
@@ -131,7 +149,7 @@ pub(super) fn emptied<I: Unordered<Value = u64> + Factory + Drop>(
         &mut commands,
         Command::Retain(key(rt, alloc, b'j'), |value: &u64| *value == 8),
     );
-    let outcomes = run(alloc, &mut index, commands).expect(rt, "run");
+    let outcomes = runs(rt, alloc, &mut index, commands);
     assert!(rt; has_flags(outcomes.get(0), &[true, true, false, true, true]));
     holds(rt, &index, b"k", &[6]);
     counts(rt, &index, (1, 1, 1));
@@ -182,7 +200,9 @@ pub(super) fn each_command<I: Unordered<Value = u64> + Factory + Drop>(
     rt: &impl Abort,
     alloc: Global,
     translator: I::Translator,
-) {
+)
+    requires { I.makes }
+{
     let mut index: I = fresh(rt, alloc, translator);
     let mut commands = Vec::new(alloc);
     push_first(rt, alloc, &mut commands);
@@ -192,7 +212,7 @@ pub(super) fn each_command<I: Unordered<Value = u64> + Factory + Drop>(
         Command::Retain(key(rt, alloc, b'k'), |value: &u64| *value == 8),
     );
     push_edit(rt, alloc, &mut commands, b'j', [Step::Next]);
-    let outcomes = run(alloc, &mut index, commands).expect(rt, "run");
+    let outcomes = runs(rt, alloc, &mut index, commands);
     each_outcome(rt, outcomes.as_slice());
     holds(rt, &index, b"k", &[8]);
     counts(rt, &index, (1, 1, 2));
@@ -236,7 +256,9 @@ pub(super) fn kept<I: Unordered<Value = u64> + Factory + Drop>(
     rt: &impl Abort,
     alloc: Global,
     translator: I::Translator,
-) {
+)
+    requires { I.makes }
+{
     let mut index = three::<I>(rt, alloc, translator);
     let mut keeps = false;
     let kept = index.retain(b"k", |_value: &u64| {

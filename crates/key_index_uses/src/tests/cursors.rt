@@ -15,7 +15,9 @@ pub(super) fn edited<I: Unordered<Value = u64> + Factory + Drop>(
     rt: &impl Abort,
     alloc: Global,
     translator: I::Translator,
-) {
+)
+    requires { I.makes }
+{
     let mut index = three::<I>(rt, alloc, translator);
     let mut cursor = cursor_at(rt, &mut index, b"k");
     goes_to(rt, &mut cursor, 3);
@@ -49,7 +51,9 @@ pub(super) fn emptied<I: Unordered<Value = u64> + Factory + Drop>(
     rt: &impl Abort,
     alloc: Global,
     translator: I::Translator,
-) {
+)
+    requires { I.makes }
+{
     let mut index: I = fresh(rt, alloc, translator);
     inserts(rt, &mut index, b"k", 5);
     let mut cursor = cursor_at(rt, &mut index, b"k");
@@ -83,7 +87,9 @@ pub(super) fn retained<I: Unordered<Value = u64> + Factory + Drop>(
     rt: &impl Abort,
     alloc: Global,
     translator: I::Translator,
-) {
+)
+    requires { I.makes }
+{
     let mut index = three::<I>(rt, alloc, translator);
     let mut cursor = cursor_at(rt, &mut index, b"k");
     goes_to(rt, &mut cursor, 3);
@@ -113,7 +119,9 @@ pub(super) fn retained_in_turn<I: Unordered<Value = u64> + Factory + Drop>(
     rt: &impl Abort,
     alloc: Global,
     translator: I::Translator,
-) {
+)
+    requires { I.makes }
+{
     let mut index = three::<I>(rt, alloc, translator);
     let mut cursor = cursor_at(rt, &mut index, b"k");
     let mut keeps = false;
@@ -168,7 +176,9 @@ pub(super) fn found<I: Unordered<Value = u64> + Factory + Drop>(
     rt: &impl Abort,
     alloc: Global,
     translator: I::Translator,
-) {
+)
+    requires { I.makes }
+{
     let mut index = three::<I>(rt, alloc, translator);
     let mut cursor = cursor_at(rt, &mut index, b"k");
     finds(rt, &mut cursor, 1);
@@ -248,7 +258,9 @@ pub(super) fn dropped<I: Unordered<Value = u64> + Factory + Drop>(
     rt: &impl Abort,
     alloc: Global,
     translator: I::Translator,
-) {
+)
+    requires { I.makes }
+{
     let mut index = three::<I>(rt, alloc, translator);
     dropped_at_start(rt, &mut index);
     dropped_after_delete(rt, &mut index);
@@ -291,7 +303,9 @@ pub(super) fn dropped_without_values<I: Unordered<Value = u64> + Factory + Drop>
     rt: &impl Abort,
     alloc: Global,
     translator: I::Translator,
-) {
+)
+    requires { I.makes }
+{
     let mut index = three::<I>(rt, alloc, translator);
     inserts(rt, &mut index, b"j", 5);
     takes_only_value(rt, &mut index);

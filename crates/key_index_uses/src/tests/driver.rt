@@ -57,7 +57,9 @@ pub(super) fn drive<I: Unordered<Value = u64> + Factory + Drop>(
     rt: &impl Abort,
     alloc: Global,
     translator: I::Translator,
-) {
+)
+    requires { I.makes }
+{
     let mut index: I = fresh(rt, alloc, translator);
     let mut lists: Vec<Vec<u64>> = Vec::new(alloc);
     for _ in 0..8 {
@@ -104,6 +106,8 @@ pub(super) fn beside<
 >(rt: &impl Abort, alloc: Global, first_translator: A::Translator, second_translator: B::Translator)
 where
     B::Translator: Drop,
+    requires first { A.makes }
+    requires second { B.makes }
 {
     let mut first: A = fresh(rt, alloc, first_translator);
     let mut second: B = fresh(rt, alloc, second_translator);

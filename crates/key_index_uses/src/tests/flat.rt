@@ -83,7 +83,9 @@ pub(super) fn replaced<I: Unordered<Value = u64> + Factory + Drop>(
     rt: &impl Abort,
     alloc: Global,
     translator: I::Translator,
-) {
+)
+    requires { I.makes }
+{
     let mut index: I = fresh(rt, alloc, translator);
     inserts(rt, &mut index, b"key", 1);
     inserts(rt, &mut index, b"key", 2);
@@ -120,7 +122,9 @@ pub(super) fn first_replaced<I: Unordered<Value = u64> + Factory + Drop>(
     rt: &impl Abort,
     alloc: Global,
     translator: I::Translator,
-) {
+)
+    requires { I.makes }
+{
     let mut index: I = fresh(rt, alloc, translator);
     inserts(rt, &mut index, b"one", 5);
     inserts(rt, &mut index, b"three", 1);

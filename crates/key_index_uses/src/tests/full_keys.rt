@@ -73,7 +73,9 @@ fn neighbours<I: Ordered<Value = Record> + Factory + Drop>(
     rt: &impl Abort,
     alloc: Global,
     translator: I::Translator,
-) {
+)
+    requires { I.makes }
+{
     let mut index: I = fresh(rt, alloc, translator);
     next_is(rt, &index, b"", None);
     prev_is(rt, &index, b"\xff", None);
@@ -106,7 +108,9 @@ fn together<I: Ordered<Value = Record> + Factory + Drop>(
     rt: &impl Abort,
     alloc: Global,
     translator: I::Translator,
-) {
+)
+    requires { I.makes }
+{
     let mut index: I = fresh(rt, alloc, translator);
     add(rt, alloc, &mut index, b"", 1);
     add(rt, alloc, &mut index, b"\x00", 2);
@@ -152,7 +156,9 @@ fn excluded<I: Ordered<Value = Record> + Factory + Drop>(
     rt: &impl Abort,
     alloc: Global,
     translator: I::Translator,
-) {
+)
+    requires { I.makes }
+{
     let mut index: I = fresh(rt, alloc, translator);
     add(rt, alloc, &mut index, b"\x0b\x02", 1);
     add(rt, alloc, &mut index, b"\x0b\x05", 2);
@@ -191,7 +197,9 @@ fn on<I: Ordered<Value = Record> + Factory + Drop>(
     alloc: Global,
     translator: I::Translator,
     case: Case,
-) {
+)
+    requires { I.makes }
+{
     match case {
         Case::Resolves => neighbours::<I>(rt, alloc, translator),
         Case::ResolvesTogether => together::<I>(rt, alloc, translator),

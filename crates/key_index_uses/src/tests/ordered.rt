@@ -82,7 +82,9 @@ fn neighbours<I: Ordered<Value = u64> + Factory + Drop>(
     rt: &impl Abort,
     alloc: Global,
     translator: I::Translator,
-) {
+)
+    requires { I.makes }
+{
     let mut index: I = fresh(rt, alloc, translator);
     inserts(rt, &mut index, b"\x0b\x02\xaa", 1);
     inserts(rt, &mut index, b"\x1c\x04\xcc", 21);
@@ -117,7 +119,9 @@ fn lone<I: Ordered<Value = u64> + Factory + Drop>(
     rt: &impl Abort,
     alloc: Global,
     translator: I::Translator,
-) {
+)
+    requires { I.makes }
+{
     let mut index: I = fresh(rt, alloc, translator);
     has_none(rt, &index, b"\x0b");
     inserts(rt, &mut index, b"\x0b", 1);
@@ -264,6 +268,8 @@ fn neighbours_beside<
 >(rt: &impl Abort, alloc: Global, first_translator: A::Translator, second_translator: B::Translator)
 where
     B::Translator: Drop,
+    requires first { A.makes }
+    requires second { B.makes }
 {
     let mut first: A = fresh(rt, alloc, first_translator);
     let mut second: B = fresh(rt, alloc, second_translator);
