@@ -1,3 +1,4 @@
 pub mod CallerLemmas
+pub mod CommandLemmas
 pub mod ExclusionLemmas
 pub mod FiledLemmas

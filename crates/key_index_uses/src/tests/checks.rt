@@ -2,12 +2,15 @@
 //! test is proved by its calls alone.
 ghost use Rattle.key_index_flat.specs.Cursor.{IsOnValue, AllowsInsert};
 
+use super::asks::Asks;
 use key_index_flat::index::{Cursor, CursorState, Factory, IndexCursor, Unordered};
 use std::alloc::Global;
 use std::process::Abort;
 
 /// An index with no values.
-pub(super) fn fresh<I: Factory>(rt: &impl Abort, alloc: Global, translator: I::Translator) -> I {
+pub(super) fn fresh<I: Factory>(rt: &impl Abort, alloc: Global, translator: I::Translator) -> I
+    requires { I.makes }
+{
     I::new(alloc, translator).expect(rt, "an index")
 }
 
@@ -19,6 +22,24 @@ pub(super) fn inserts<I: Unordered<Value = u64>>(
     value: u64,
 ) {
     index.insert(key, value).expect(rt, "insert");
+}
+
+/// A key that has no value gets these, in this order.
+pub(super) fn fill<I: Unordered<Value = u64>>(
+    rt: &impl Abort,
+    index: &mut I,
+    key: &[u8],
+    values: &[u64],
+) {
+    if I::INSERT_FIRST {
+        for value in values.iter().rev() {
+            inserts(rt, index, key, *value);
+        }
+    } else {
+        for value in values {
+            inserts(rt, index, key, *value);
+        }
+    }
 }
 
 /// `remove` is accepted.
@@ -75,16 +96,53 @@ pub(super) fn same_counts<A: Unordered<Value = u64>, B: Unordered<Value = u64>>(
     counts(rt, first, (second.keys(), second.items(), second.pruned()));
 }
 
+/// `retain` asks on these values, in this order, and on no others. It is answered by the bits of a number, the lowest first.
+pub(super) fn retains<I: Unordered<Value = u64>>(
+    rt: &impl Abort,
+    alloc: Global,
+    index: &mut I,
+    key: &[u8],
+    answers: u64,
+    asked: &[u64],
+) {
+    let mut asks = Asks::new(alloc, answers);
+    let kept = index.retain(key, |value: &u64| asks.ask(rt, *value));
+    assert!(rt; kept.is_ok());
+    asks.are(rt, asked);
+}
+
+/// `get_mut` is accepted.
+pub(super) fn gets<'a, I: Unordered<Value = u64>>(
+    rt: &impl Abort,
+    index: &'a mut I,
+    key: &[u8],
+) -> Option<IndexCursor<'a, I>> {
+    let Ok(found) = index.get_mut(key) else {
+        panic!(rt; "get_mut of {key:?} is accepted")
+    };
+    found
+}
+
+/// `get_mut_or_insert` is accepted.
+pub(super) fn gets_or_inserts<'a, I: Unordered<Value = u64>>(
+    rt: &impl Abort,
+    index: &'a mut I,
+    key: &[u8],
+    value: u64,
+) -> Option<IndexCursor<'a, I>> {
+    let Ok(found) = index.get_mut_or_insert(key, value) else {
+        panic!(rt; "get_mut_or_insert of {key:?} is accepted")
+    };
+    found
+}
+
 /// A cursor before the first value of a key that has one.
 pub(super) fn cursor_at<'a, I: Unordered<Value = u64>>(
     rt: &impl Abort,
     index: &'a mut I,
     key: &[u8],
 ) -> IndexCursor<'a, I> {
-    let Ok(found) = index.get_mut(key) else {
-        panic!(rt; "get_mut of {key:?} is accepted")
-    };
-    let Some(cursor) = found else {
+    let Some(cursor) = gets(rt, index, key) else {
         panic!(rt; "{key:?} has a value")
     };
     cursor
@@ -92,10 +150,7 @@ pub(super) fn cursor_at<'a, I: Unordered<Value = u64>>(
 
 /// A key has no value for a cursor.
 pub(super) fn has_no_cursor<I: Unordered<Value = u64>>(rt: &impl Abort, index: &mut I, key: &[u8]) {
-    let Ok(found) = index.get_mut(key) else {
-        panic!(rt; "get_mut of {key:?} is accepted")
-    };
-    assert!(rt; found.is_none(), "{key:?} has no value");
+    assert!(rt; gets(rt, index, key).is_none(), "{key:?} has no value");
 }
 
 /// A cursor's `insert` is accepted.
@@ -123,5 +178,50 @@ pub(super) fn ends<C: Cursor<Value = u64>>(rt: &impl Abort, cursor: &mut C)
     ensures { AllowsInsert (C.place cursor.new) }
 {
     assert!(rt; cursor.next().is_none(), "next gives no value");
+    assert_eq!(rt; cursor.state(), CursorState::Done);
+}
+
+/// A cursor's `retain` asks on these values, in this order, and on no others, and the cursor is past the end.
+pub(super) fn keeps<C: Cursor<Value = u64>>(
+    rt: &impl Abort,
+    alloc: Global,
+    cursor: &mut C,
+    answers: u64,
+    asked: &[u64],
+) {
+    let mut asks = Asks::new(alloc, answers);
+    cursor.retain(|value: &u64| asks.ask(rt, *value));
+    stands(rt, cursor, CursorState::Done);
+    asks.are(rt, asked);
+}
+
+/// `find` asks on these values, in this order, and on no others, and the cursor is on the last of them.
+pub(super) fn finds<C: Cursor<Value = u64>>(
+    rt: &impl Abort,
+    alloc: Global,
+    cursor: &mut C,
+    answers: u64,
+    asked: &[u64],
+)
+    ensures { IsOnValue (C.place cursor.new) }
+{
+    let mut asks = Asks::new(alloc, answers);
+    assert!(rt; cursor.find(|value: &u64| asks.ask(rt, *value)));
+    asks.are(rt, asked);
+    assert_eq!(rt; cursor.state(), CursorState::Active);
+}
+
+/// `find` asks on these values, in this order, and on no others, and the cursor is past the end.
+pub(super) fn finds_none<C: Cursor<Value = u64>>(
+    rt: &impl Abort,
+    alloc: Global,
+    cursor: &mut C,
+    asked: &[u64],
+)
+    ensures { AllowsInsert (C.place cursor.new) }
+{
+    let mut asks = Asks::new(alloc, 0);
+    assert!(rt; !cursor.find(|value: &u64| asks.ask(rt, *value)));
+    asks.are(rt, asked);
     assert_eq!(rt; cursor.state(), CursorState::Done);
 }

@@ -1,9 +1,8 @@
 //! Lists of commands, run over any index through one function.
 ghost use Rattle.std.specs.Prelude.{◌≤◌};
 
-use super::cases::{Case, on_flat, on_plain};
-use super::checks::{counts, cursor_at, fresh, has_no_cursor, holds, inserts, push};
-use key_index_flat::index::{Command, Cursor, CursorState, Factory, Outcome, Step, Unordered, run};
+use super::checks::{counts, fill, holds, push};
+use key_index_flat::index::{Command, Outcome, Step, Unordered, run};
 use std::alloc::Global;
 use std::process::Abort;
 
@@ -30,19 +29,6 @@ fn has_flags(outcome: Option<&Outcome>, flags: &[bool]) -> bool {
     }
 }
 
-/// The list 3, 1, 2 under the byte k.
-pub(super) fn three<I: Unordered<Value = u64> + Factory + Drop>(
-    rt: &impl Abort,
-    alloc: Global,
-    translator: I::Translator,
-) -> I {
-    let mut index: I = fresh(rt, alloc, translator);
-    inserts(rt, &mut index, b"k", 2);
-    inserts(rt, &mut index, b"k", 1);
-    inserts(rt, &mut index, b"k", 3);
-    index
-}
-
 /// An edit of the list of a byte, behind the commands of a list.
 fn push_edit<F: Drop, const N: usize>(
     rt: &impl Abort,
@@ -60,91 +46,75 @@ fn push_edit<F: Drop, const N: usize>(
     push(rt, commands, Command::Edit(key(rt, alloc, byte), edit));
 }
 
-/// Next 3, delete, next 1, insert 9, next 2, next none, insert 7.
-pub(super) fn edited<I: Unordered<Value = u64> + Factory + Drop>(
+/// `run` is accepted.
+pub(super) fn runs<I: Unordered<Value = u64>, F: Fn(&u64) -> bool + Drop>(
     rt: &impl Abort,
     alloc: Global,
-    translator: I::Translator,
-) {
-    let mut index = three::<I>(rt, alloc, translator);
+    index: &mut I,
+    commands: Vec<Command<u64, F>>,
+) -> Vec<Outcome>
+    requires { (f : F) → F.IsAlwaysCallable f }
+{
+    run(alloc, index, commands).expect(rt, "run")
+}
+
+/// An edit of the list of k comes to these flags.
+fn edits<I: Unordered<Value = u64>, const N: usize>(
+    rt: &impl Abort,
+    alloc: Global,
+    index: &mut I,
+    steps: [Step<u64>; N],
+    flags: &[bool],
+)
+    requires { N ≤ 8 }
+{
     let mut commands = Vec::new(alloc);
-    push_edit(
-        rt,
-        alloc,
-        &mut commands,
-        b'k',
-        [
-            Step::Next,
-            Step::Delete,
-            Step::Next,
-            Step::Insert(9),
-            Step::Next,
-            Step::Next,
-            Step::Insert(7),
-        ],
-    );
+    push_edit(rt, alloc, &mut commands, b'k', steps);
     push(
         rt,
         &mut commands,
-        Command::Retain(key(rt, alloc, b'j'), |value: &u64| *value == 8),
+        Command::Retain(key(rt, alloc, b'j'), |_value: &u64| false),
     );
-    let outcomes = run(alloc, &mut index, commands).expect(rt, "run");
-    assert!(rt; has_flags(outcomes.get(0), &[true, true, true, true, true, true, true]));
-    holds(rt, &index, b"k", &[1, 9, 2, 7]);
-    counts(rt, &index, (1, 4, 1));
+    let outcomes = runs(rt, alloc, index, commands);
+    assert!(rt; has_flags(outcomes.get(0), flags));
 }
 
-#[test]
-fn flat_is_edited(rt: HostRuntime) {
-    on_flat(&rt, rt.alloc(), Case::IsEdited)
-}
-
-#[test]
-fn plain_is_edited(rt: HostRuntime) {
-    on_plain(&rt, rt.alloc(), Case::IsEdited)
+/// The list 3, 1, 2: next 3, delete, next 1, insert 9, next 2, next none, insert 7.
+pub(super) fn edited<I: Unordered<Value = u64>>(rt: &impl Abort, alloc: Global, index: &mut I) {
+    fill(rt, index, b"k", &[3, 1, 2]);
+    let steps = [
+        Step::Next,
+        Step::Delete,
+        Step::Next,
+        Step::Insert(9),
+        Step::Next,
+        Step::Next,
+        Step::Insert(7),
+    ];
+    edits(
+        rt,
+        alloc,
+        index,
+        steps,
+        &[true, true, true, true, true, true, true],
+    );
+    holds(rt, index, b"k", &[1, 9, 2, 7]);
+    counts(rt, index, (1, 4, 1));
 }
 
 /// The list 5: next 5, delete, next none, insert 6.
-pub(super) fn emptied<I: Unordered<Value = u64> + Factory + Drop>(
-    rt: &impl Abort,
-    alloc: Global,
-    translator: I::Translator,
-) {
-    let mut index: I = fresh(rt, alloc, translator);
-    inserts(rt, &mut index, b"k", 5);
-    let mut commands = Vec::new(alloc);
-    push_edit(
-        rt,
-        alloc,
-        &mut commands,
-        b'k',
-        [
-            Step::Next,
-            Step::Delete,
-            Step::Insert(4),
-            Step::Next,
-            Step::Insert(6),
-        ],
-    );
-    push(
-        rt,
-        &mut commands,
-        Command::Retain(key(rt, alloc, b'j'), |value: &u64| *value == 8),
-    );
-    let outcomes = run(alloc, &mut index, commands).expect(rt, "run");
-    assert!(rt; has_flags(outcomes.get(0), &[true, true, false, true, true]));
-    holds(rt, &index, b"k", &[6]);
-    counts(rt, &index, (1, 1, 1));
-}
-
-#[test]
-fn flat_is_emptied(rt: HostRuntime) {
-    on_flat(&rt, rt.alloc(), Case::IsEmptied)
-}
-
-#[test]
-fn plain_is_emptied(rt: HostRuntime) {
-    on_plain(&rt, rt.alloc(), Case::IsEmptied)
+pub(super) fn emptied<I: Unordered<Value = u64>>(rt: &impl Abort, alloc: Global, index: &mut I) {
+    fill(rt, index, b"k", &[5]);
+    let steps = [
+        Step::Next,
+        Step::Delete,
+        Step::Insert(4),
+        Step::Next,
+        Step::Insert(6),
+    ];
+    edits(rt, alloc, index, steps, &[true, true, false, true, true]);
+    holds(rt, index, b"k", &[6]);
+    counts(rt, index, (1, 1, 1));
 }
 
 /// What the commands of `each_command` came to.
@@ -178,12 +148,11 @@ fn push_first<F: Drop>(rt: &impl Abort, alloc: Global, commands: &mut Vec<Comman
 }
 
 /// Each command once, on an empty index.
-pub(super) fn each_command<I: Unordered<Value = u64> + Factory + Drop>(
+pub(super) fn each_command<I: Unordered<Value = u64>>(
     rt: &impl Abort,
     alloc: Global,
-    translator: I::Translator,
+    index: &mut I,
 ) {
-    let mut index: I = fresh(rt, alloc, translator);
     let mut commands = Vec::new(alloc);
     push_first(rt, alloc, &mut commands);
     push(
@@ -192,72 +161,8 @@ pub(super) fn each_command<I: Unordered<Value = u64> + Factory + Drop>(
         Command::Retain(key(rt, alloc, b'k'), |value: &u64| *value == 8),
     );
     push_edit(rt, alloc, &mut commands, b'j', [Step::Next]);
-    let outcomes = run(alloc, &mut index, commands).expect(rt, "run");
+    let outcomes = runs(rt, alloc, index, commands);
     each_outcome(rt, outcomes.as_slice());
-    holds(rt, &index, b"k", &[8]);
-    counts(rt, &index, (1, 1, 2));
-}
-
-#[test]
-fn flat_runs_each_command(rt: HostRuntime) {
-    on_flat(&rt, rt.alloc(), Case::RunsEachCommand)
-}
-
-#[test]
-fn plain_runs_each_command(rt: HostRuntime) {
-    on_plain(&rt, rt.alloc(), Case::RunsEachCommand)
-}
-
-/// `get_mut_or_insert` of k, which has the values 3 and 2.
-fn held_key_is_found<I: Unordered<Value = u64>>(rt: &impl Abort, index: &mut I) {
-    let Ok(found) = index.get_mut_or_insert(b"k", 8) else {
-        panic!(rt; "the index has room")
-    };
-    let Some(cursor) = found else {
-        panic!(rt; "k has values")
-    };
-    assert_eq!(rt; cursor.state(), CursorState::NeedNext);
-    holds(rt, index, b"k", &[3, 2]);
-    counts(rt, index, (1, 2, 1));
-}
-
-/// `get_mut_or_insert` of j, which has no value.
-fn absent_key_is_inserted<I: Unordered<Value = u64>>(rt: &impl Abort, index: &mut I) {
-    let Ok(found) = index.get_mut_or_insert(b"j", 8) else {
-        panic!(rt; "the index has room")
-    };
-    assert!(rt; found.is_none());
-    holds(rt, index, b"j", &[8]);
-    counts(rt, index, (2, 3, 1));
-}
-
-/// A closure that changes its mind, and a key that is held already.
-pub(super) fn kept<I: Unordered<Value = u64> + Factory + Drop>(
-    rt: &impl Abort,
-    alloc: Global,
-    translator: I::Translator,
-) {
-    let mut index = three::<I>(rt, alloc, translator);
-    let mut keeps = false;
-    let kept = index.retain(b"k", |_value: &u64| {
-        keeps = !keeps;
-        keeps
-    });
-    assert!(rt; kept.is_ok());
-    holds(rt, &index, b"k", &[3, 2]);
-    counts(rt, &index, (1, 2, 1));
-    held_key_is_found(rt, &mut index);
-    absent_key_is_inserted(rt, &mut index);
-    cursor_at(rt, &mut index, b"j");
-    has_no_cursor(rt, &mut index, b"i");
-}
-
-#[test]
-fn flat_keeps_what_is_answered(rt: HostRuntime) {
-    on_flat(&rt, rt.alloc(), Case::KeepsWhatIsAnswered)
-}
-
-#[test]
-fn plain_keeps_what_is_answered(rt: HostRuntime) {
-    on_plain(&rt, rt.alloc(), Case::KeepsWhatIsAnswered)
+    holds(rt, index, b"k", &[8]);
+    counts(rt, index, (1, 1, 2));
 }

@@ -1,7 +1,8 @@
 //! Lists of commands from the fixed run of numbers, over two indices beside one another.
 use super::checks::{fresh, push, same_counts, same_values};
+use super::commands::runs;
 use super::numbers::{Numbers, two_bytes};
-use key_index_flat::index::{Command, Factory, Outcome, Step, Unordered, run};
+use key_index_flat::index::{Command, Factory, Outcome, Step, Unordered};
 use std::alloc::Global;
 use std::process::Abort;
 
@@ -55,7 +56,7 @@ fn run_list<I: Unordered<Value = u64>>(
         };
         push(rt, &mut commands, command);
     }
-    run(alloc, index, commands).expect(rt, "run")
+    runs(rt, alloc, index, commands)
 }
 
 /// Whether two outcomes are the same.
@@ -128,6 +129,8 @@ pub(super) fn run_beside<
 >(rt: &impl Abort, alloc: Global, first_translator: A::Translator, second_translator: B::Translator)
 where
     B::Translator: Drop,
+    requires first { A.makes }
+    requires second { B.makes }
 {
     let mut first: A = fresh(rt, alloc, first_translator);
     let mut second: B = fresh(rt, alloc, second_translator);

@@ -1,23 +1,16 @@
 //! Cursors, called step by step over any index through one function.
-ghost use Rattle.key_index_flat.specs.Cursor.{IsOnValue, AllowsInsert};
-
-use super::cases::{Case, on_flat, on_ordered, on_plain};
 use super::checks::{
-    counts, cursor_at, ends, fresh, goes_to, has_no_cursor, holds, inserts, puts, removes, stands,
+    counts, cursor_at, ends, fill, finds, finds_none, goes_to, has_no_cursor, holds, inserts,
+    keeps, puts, removes, stands,
 };
-use super::commands::three;
-use key_index_flat::index::{Cursor, CursorState, Factory, Unordered};
+use key_index_flat::index::{Cursor, CursorState, Unordered};
 use std::alloc::Global;
 use std::process::Abort;
 
 /// Next 3, delete, next 1, insert 9, next 2, next none, insert 7.
-pub(super) fn edited<I: Unordered<Value = u64> + Factory + Drop>(
-    rt: &impl Abort,
-    alloc: Global,
-    translator: I::Translator,
-) {
-    let mut index = three::<I>(rt, alloc, translator);
-    let mut cursor = cursor_at(rt, &mut index, b"k");
+pub(super) fn edited<I: Unordered<Value = u64>>(rt: &impl Abort, index: &mut I) {
+    fill(rt, index, b"k", &[3, 1, 2]);
+    let mut cursor = cursor_at(rt, index, b"k");
     goes_to(rt, &mut cursor, 3);
     cursor.delete();
     goes_to(rt, &mut cursor, 1);
@@ -25,173 +18,57 @@ pub(super) fn edited<I: Unordered<Value = u64> + Factory + Drop>(
     goes_to(rt, &mut cursor, 2);
     ends(rt, &mut cursor);
     puts(rt, &mut cursor, 7);
-    holds(rt, &index, b"k", &[1, 9, 2, 7]);
-    counts(rt, &index, (1, 4, 1));
-}
-
-#[test]
-fn flat_cursor_edits(rt: HostRuntime) {
-    on_flat(&rt, rt.alloc(), Case::CursorEdits)
-}
-
-#[test]
-fn plain_cursor_edits(rt: HostRuntime) {
-    on_plain(&rt, rt.alloc(), Case::CursorEdits)
-}
-
-#[test]
-fn ordered_cursor_edits(rt: HostRuntime) {
-    on_ordered(&rt, rt.alloc(), Case::CursorEdits)
+    holds(rt, index, b"k", &[1, 9, 2, 7]);
+    counts(rt, index, (1, 4, 1));
 }
 
 /// The list 5: next 5, delete, next none, insert 6.
-pub(super) fn emptied<I: Unordered<Value = u64> + Factory + Drop>(
-    rt: &impl Abort,
-    alloc: Global,
-    translator: I::Translator,
-) {
-    let mut index: I = fresh(rt, alloc, translator);
-    inserts(rt, &mut index, b"k", 5);
-    let mut cursor = cursor_at(rt, &mut index, b"k");
+pub(super) fn emptied<I: Unordered<Value = u64>>(rt: &impl Abort, index: &mut I) {
+    fill(rt, index, b"k", &[5]);
+    let mut cursor = cursor_at(rt, index, b"k");
     goes_to(rt, &mut cursor, 5);
     cursor.delete();
     stands(rt, &cursor, CursorState::NeedNext);
     ends(rt, &mut cursor);
     puts(rt, &mut cursor, 6);
     ends(rt, &mut cursor);
-    holds(rt, &index, b"k", &[6]);
-    counts(rt, &index, (1, 1, 1));
-}
-
-#[test]
-fn flat_cursor_empties(rt: HostRuntime) {
-    on_flat(&rt, rt.alloc(), Case::CursorEmpties)
-}
-
-#[test]
-fn plain_cursor_empties(rt: HostRuntime) {
-    on_plain(&rt, rt.alloc(), Case::CursorEmpties)
-}
-
-#[test]
-fn ordered_cursor_empties(rt: HostRuntime) {
-    on_ordered(&rt, rt.alloc(), Case::CursorEmpties)
+    holds(rt, index, b"k", &[6]);
+    counts(rt, index, (1, 1, 1));
 }
 
 /// The list 3, 1, 2: next 3, retain none.
-pub(super) fn retained<I: Unordered<Value = u64> + Factory + Drop>(
-    rt: &impl Abort,
-    alloc: Global,
-    translator: I::Translator,
-) {
-    let mut index = three::<I>(rt, alloc, translator);
-    let mut cursor = cursor_at(rt, &mut index, b"k");
+pub(super) fn retained<I: Unordered<Value = u64>>(rt: &impl Abort, alloc: Global, index: &mut I) {
+    fill(rt, index, b"k", &[3, 1, 2]);
+    let mut cursor = cursor_at(rt, index, b"k");
     goes_to(rt, &mut cursor, 3);
-    cursor.retain(|_value: &u64| false);
-    stands(rt, &cursor, CursorState::Done);
-    holds(rt, &index, b"k", &[3]);
-    counts(rt, &index, (1, 1, 2));
-}
-
-#[test]
-fn flat_cursor_retains(rt: HostRuntime) {
-    on_flat(&rt, rt.alloc(), Case::CursorRetains)
-}
-
-#[test]
-fn plain_cursor_retains(rt: HostRuntime) {
-    on_plain(&rt, rt.alloc(), Case::CursorRetains)
-}
-
-#[test]
-fn ordered_cursor_retains(rt: HostRuntime) {
-    on_ordered(&rt, rt.alloc(), Case::CursorRetains)
+    keeps(rt, alloc, &mut cursor, 0, &[1, 2]);
+    holds(rt, index, b"k", &[3]);
+    counts(rt, index, (1, 1, 2));
 }
 
 /// The list 3, 1, 2: retain by a closure that changes its mind.
-pub(super) fn retained_in_turn<I: Unordered<Value = u64> + Factory + Drop>(
+pub(super) fn retained_in_turn<I: Unordered<Value = u64>>(
     rt: &impl Abort,
     alloc: Global,
-    translator: I::Translator,
+    index: &mut I,
 ) {
-    let mut index = three::<I>(rt, alloc, translator);
-    let mut cursor = cursor_at(rt, &mut index, b"k");
-    let mut keeps = false;
-    cursor.retain(|_value: &u64| {
-        keeps = !keeps;
-        keeps
-    });
-    stands(rt, &cursor, CursorState::Done);
-    holds(rt, &index, b"k", &[3, 2]);
-    counts(rt, &index, (1, 2, 1));
+    fill(rt, index, b"k", &[3, 1, 2]);
+    let mut cursor = cursor_at(rt, index, b"k");
+    keeps(rt, alloc, &mut cursor, 0b101, &[3, 1, 2]);
+    holds(rt, index, b"k", &[3, 2]);
+    counts(rt, index, (1, 2, 1));
 }
 
-#[test]
-fn flat_cursor_retains_in_turn(rt: HostRuntime) {
-    on_flat(&rt, rt.alloc(), Case::CursorRetainsInTurn)
-}
-
-#[test]
-fn plain_cursor_retains_in_turn(rt: HostRuntime) {
-    on_plain(&rt, rt.alloc(), Case::CursorRetainsInTurn)
-}
-
-#[test]
-fn ordered_cursor_retains_in_turn(rt: HostRuntime) {
-    on_ordered(&rt, rt.alloc(), Case::CursorRetainsInTurn)
-}
-
-/// `find` goes to a value.
-fn finds<C: Cursor<Value = u64>>(rt: &impl Abort, cursor: &mut C, sought: u64)
-    ensures { IsOnValue (C.place cursor.new) }
-{
-    assert!(rt;
-        cursor.find(|value: &u64| *value == sought),
-        "find gives {sought}"
-    );
-    stands(rt, cursor, CursorState::Active);
-}
-
-/// `find` goes past the end.
-fn finds_none<C: Cursor<Value = u64>>(rt: &impl Abort, cursor: &mut C, sought: u64)
-    ensures { AllowsInsert (C.place cursor.new) }
-{
-    assert!(rt;
-        !cursor.find(|value: &u64| *value == sought),
-        "find gives no {sought}"
-    );
-    stands(rt, cursor, CursorState::Done);
-}
-
-/// The list 3, 1, 2: find 1, update 9, find 5 in vain, insert 7.
-pub(super) fn found<I: Unordered<Value = u64> + Factory + Drop>(
-    rt: &impl Abort,
-    alloc: Global,
-    translator: I::Translator,
-) {
-    let mut index = three::<I>(rt, alloc, translator);
-    let mut cursor = cursor_at(rt, &mut index, b"k");
-    finds(rt, &mut cursor, 1);
+/// The list 3, 1, 2: find 1, update 9, find in vain, insert 7.
+pub(super) fn found<I: Unordered<Value = u64>>(rt: &impl Abort, alloc: Global, index: &mut I) {
+    fill(rt, index, b"k", &[3, 1, 2]);
+    let mut cursor = cursor_at(rt, index, b"k");
+    finds(rt, alloc, &mut cursor, 0b10, &[3, 1]);
     cursor.update(9);
-    finds_none(rt, &mut cursor, 5);
+    finds_none(rt, alloc, &mut cursor, &[2]);
     puts(rt, &mut cursor, 7);
-    holds(rt, &index, b"k", &[3, 9, 2, 7]);
-    counts(rt, &index, (1, 4, 0));
-}
-
-#[test]
-fn flat_cursor_finds(rt: HostRuntime) {
-    on_flat(&rt, rt.alloc(), Case::CursorFinds)
-}
-
-#[test]
-fn plain_cursor_finds(rt: HostRuntime) {
-    on_plain(&rt, rt.alloc(), Case::CursorFinds)
-}
-
-#[test]
-fn ordered_cursor_finds(rt: HostRuntime) {
-    on_ordered(&rt, rt.alloc(), Case::CursorFinds)
+    holds(rt, index, b"k", &[3, 9, 2, 7]);
+    counts(rt, index, (1, 4, 0));
 }
 
 /// A cursor that is dropped before the first value.
@@ -244,37 +121,17 @@ fn dropped_past_end<I: Unordered<Value = u64>>(rt: &impl Abort, index: &mut I) {
 }
 
 /// Cursors that are dropped half way, one after another; the index serves on.
-pub(super) fn dropped<I: Unordered<Value = u64> + Factory + Drop>(
-    rt: &impl Abort,
-    alloc: Global,
-    translator: I::Translator,
-) {
-    let mut index = three::<I>(rt, alloc, translator);
-    dropped_at_start(rt, &mut index);
-    dropped_after_delete(rt, &mut index);
-    dropped_on_value(rt, &mut index);
-    dropped_after_insert(rt, &mut index);
-    dropped_past_end(rt, &mut index);
-    inserts(rt, &mut index, b"k", 4);
-    holds(rt, &index, b"k", &[4, 8, 9, 2]);
-    removes(rt, &mut index, b"k");
-    holds(rt, &index, b"k", &[]);
-    counts(rt, &index, (0, 0, 5));
-}
-
-#[test]
-fn flat_cursor_is_dropped(rt: HostRuntime) {
-    on_flat(&rt, rt.alloc(), Case::CursorIsDropped)
-}
-
-#[test]
-fn plain_cursor_is_dropped(rt: HostRuntime) {
-    on_plain(&rt, rt.alloc(), Case::CursorIsDropped)
-}
-
-#[test]
-fn ordered_cursor_is_dropped(rt: HostRuntime) {
-    on_ordered(&rt, rt.alloc(), Case::CursorIsDropped)
+pub(super) fn dropped<I: Unordered<Value = u64>>(rt: &impl Abort, index: &mut I) {
+    fill(rt, index, b"k", &[3, 1, 2]);
+    dropped_at_start(rt, index);
+    dropped_after_delete(rt, index);
+    dropped_on_value(rt, index);
+    dropped_after_insert(rt, index);
+    dropped_past_end(rt, index);
+    removes(rt, index, b"k");
+    inserts(rt, index, b"k", 4);
+    holds(rt, index, b"k", &[4]);
+    counts(rt, index, (1, 1, 4));
 }
 
 /// A cursor that takes 5, the only value of j, out, and is dropped there: the key is gone.
@@ -287,31 +144,12 @@ fn takes_only_value<I: Unordered<Value = u64>>(rt: &impl Abort, index: &mut I) {
 }
 
 /// A key that lost its only value to a cursor, and takes a value again.
-pub(super) fn dropped_without_values<I: Unordered<Value = u64> + Factory + Drop>(
-    rt: &impl Abort,
-    alloc: Global,
-    translator: I::Translator,
-) {
-    let mut index = three::<I>(rt, alloc, translator);
-    inserts(rt, &mut index, b"j", 5);
-    takes_only_value(rt, &mut index);
-    holds(rt, &index, b"k", &[3, 1, 2]);
-    inserts(rt, &mut index, b"j", 6);
-    holds(rt, &index, b"j", &[6]);
-    counts(rt, &index, (2, 4, 1));
-}
-
-#[test]
-fn flat_cursor_leaves_no_key(rt: HostRuntime) {
-    on_flat(&rt, rt.alloc(), Case::CursorLeavesNoKey)
-}
-
-#[test]
-fn plain_cursor_leaves_no_key(rt: HostRuntime) {
-    on_plain(&rt, rt.alloc(), Case::CursorLeavesNoKey)
-}
-
-#[test]
-fn ordered_cursor_leaves_no_key(rt: HostRuntime) {
-    on_ordered(&rt, rt.alloc(), Case::CursorLeavesNoKey)
+pub(super) fn dropped_without_values<I: Unordered<Value = u64>>(rt: &impl Abort, index: &mut I) {
+    fill(rt, index, b"k", &[3, 1, 2]);
+    inserts(rt, index, b"j", 5);
+    takes_only_value(rt, index);
+    holds(rt, index, b"k", &[3, 1, 2]);
+    inserts(rt, index, b"j", 6);
+    holds(rt, index, b"j", &[6]);
+    counts(rt, index, (2, 4, 1));
 }

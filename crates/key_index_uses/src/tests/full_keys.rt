@@ -1,15 +1,12 @@
-//! Records next to a full key, in indices that keep its first byte.
-use super::checks::fresh;
+//! Records next to a full key, in ordered indices.
 use crate::callers::{exclude, file};
-use key_index_flat::index::ordered::Index;
-use key_index_flat::index::{Factory, Keyed, Ordered, resolve_next, resolve_prev};
-use key_index_flat::translator::OneCap;
+use key_index_flat::index::{Keyed, Ordered, resolve_next, resolve_prev};
 use std::alloc::Global;
 use std::process::Abort;
 
 /// A record of a log: its key, and where it stands.
 #[derive(Debug, Drop)]
-struct Record {
+pub(super) struct Record {
     key: Vec<u8>,
     position: u64,
 }
@@ -69,64 +66,35 @@ fn prev_is<I: Ordered<Value = Record>>(
 }
 
 /// Two records that share their first byte, and one further on.
-fn neighbours<I: Ordered<Value = Record> + Factory + Drop>(
-    rt: &impl Abort,
-    alloc: Global,
-    translator: I::Translator,
-) {
-    let mut index: I = fresh(rt, alloc, translator);
-    next_is(rt, &index, b"", None);
-    prev_is(rt, &index, b"\xff", None);
-    add(rt, alloc, &mut index, b"\x0b\x02", 1);
-    add(rt, alloc, &mut index, b"\x0b\x05", 2);
-    add(rt, alloc, &mut index, b"\x1c\x01", 3);
-    next_is(rt, &index, b"\x0b\x02", Some(2));
-    next_is(rt, &index, b"\x0b\x05", Some(3));
-    next_is(rt, &index, b"\x1c\x01", None);
-    prev_is(rt, &index, b"\x1c\x01", Some(2));
-    prev_is(rt, &index, b"\x0b\x02", None);
-    next_is(rt, &index, b"\x0b\x03", Some(2));
-    prev_is(rt, &index, b"\x0b\x03", Some(1));
-    next_is(rt, &index, b"", Some(1));
-    prev_is(rt, &index, b"\xff", Some(3));
+fn resolved<I: Ordered<Value = Record>>(rt: &impl Abort, alloc: Global, index: &mut I) {
+    next_is(rt, index, b"", None);
+    prev_is(rt, index, b"\xff", None);
+    add(rt, alloc, index, b"\x0b\x02", 1);
+    add(rt, alloc, index, b"\x0b\x05", 2);
+    add(rt, alloc, index, b"\x1c\x01", 3);
+    next_is(rt, index, b"\x0b\x02", Some(2));
+    next_is(rt, index, b"\x0b\x05", Some(3));
+    next_is(rt, index, b"\x1c\x01", None);
+    prev_is(rt, index, b"\x1c\x01", Some(2));
+    prev_is(rt, index, b"\x0b\x02", None);
+    next_is(rt, index, b"\x0b\x03", Some(2));
+    prev_is(rt, index, b"\x0b\x03", Some(1));
+    next_is(rt, index, b"", Some(1));
+    prev_is(rt, index, b"\xff", Some(3));
 }
 
-#[test]
-fn ordered_resolves(rt: HostRuntime) {
-    on_ordered(&rt, rt.alloc(), Case::Resolves)
-}
-
-#[test]
-fn plain_resolves(rt: HostRuntime) {
-    on_plain(&rt, rt.alloc(), Case::Resolves)
-}
-
-/// The empty key and the byte 0, which share an index key; and two records of one full key, of which the newer comes first.
-fn together<I: Ordered<Value = Record> + Factory + Drop>(
-    rt: &impl Abort,
-    alloc: Global,
-    translator: I::Translator,
-) {
-    let mut index: I = fresh(rt, alloc, translator);
-    add(rt, alloc, &mut index, b"", 1);
-    add(rt, alloc, &mut index, b"\x00", 2);
-    next_is(rt, &index, b"", Some(2));
-    prev_is(rt, &index, b"\x00", Some(1));
-    prev_is(rt, &index, b"", None);
-    add(rt, alloc, &mut index, b"\x0b\x05", 3);
-    add(rt, alloc, &mut index, b"\x0b\x05", 4);
-    next_is(rt, &index, b"\x0b", Some(4));
-    prev_is(rt, &index, b"\x0b\x06", Some(4));
-}
-
-#[test]
-fn ordered_resolves_together(rt: HostRuntime) {
-    on_ordered(&rt, rt.alloc(), Case::ResolvesTogether)
-}
-
-#[test]
-fn plain_resolves_together(rt: HostRuntime) {
-    on_plain(&rt, rt.alloc(), Case::ResolvesTogether)
+/// The empty key and the byte 0, which share an index key; and two records of one full key, of which the first in the list is given.
+fn together<I: Ordered<Value = Record>>(rt: &impl Abort, alloc: Global, index: &mut I) {
+    add(rt, alloc, index, b"", 1);
+    add(rt, alloc, index, b"\x00", 2);
+    next_is(rt, index, b"", Some(2));
+    prev_is(rt, index, b"\x00", Some(1));
+    prev_is(rt, index, b"", None);
+    add(rt, alloc, index, b"\x0b\x05", 3);
+    add(rt, alloc, index, b"\x0b\x05", 4);
+    let first = if I::INSERT_FIRST { 4 } else { 3 };
+    next_is(rt, index, b"\x0b", Some(first));
+    prev_is(rt, index, b"\x0b\x06", Some(first));
 }
 
 /// No record has a full key, and the records next to it stand there.
@@ -147,64 +115,25 @@ fn excludes<I: Ordered<Value = Record>>(
     );
 }
 
-/// An absent key among others, and below and above them all; and a held one.
-fn excluded<I: Ordered<Value = Record> + Factory + Drop>(
-    rt: &impl Abort,
-    alloc: Global,
-    translator: I::Translator,
-) {
-    let mut index: I = fresh(rt, alloc, translator);
-    add(rt, alloc, &mut index, b"\x0b\x02", 1);
-    add(rt, alloc, &mut index, b"\x0b\x05", 2);
-    add(rt, alloc, &mut index, b"\x1c\x01", 3);
+/// An absent key among those of `resolved`, and below and above them all; and a held one.
+fn excluded<I: Ordered<Value = Record>>(rt: &impl Abort, index: &I) {
     for (key, below, above) in [
         (b"\x0b\x03".as_slice(), Some(1), Some(2)),
         (b"\x0c".as_slice(), Some(2), Some(3)),
         (b"".as_slice(), None, Some(1)),
         (b"\x1c\x01\x00".as_slice(), Some(3), None),
     ] {
-        excludes(rt, &index, key, below, above);
+        excludes(rt, index, key, below, above);
     }
-    assert!(rt; exclude(&index, b"\x0b\x05").is_none());
+    assert!(rt; exclude(index, b"\x0b\x05").is_none());
 }
 
-#[test]
-fn ordered_excludes(rt: HostRuntime) {
-    on_ordered(&rt, rt.alloc(), Case::Excludes)
-}
-
-#[test]
-fn plain_excludes(rt: HostRuntime) {
-    on_plain(&rt, rt.alloc(), Case::Excludes)
-}
-
-/// A case, by the end of its test's name.
-enum Case {
-    Resolves,
-    ResolvesTogether,
-    Excludes,
-}
-
-/// Runs a case on a new index.
-fn on<I: Ordered<Value = Record> + Factory + Drop>(
-    rt: &impl Abort,
-    alloc: Global,
-    translator: I::Translator,
-    case: Case,
-) {
-    match case {
-        Case::Resolves => neighbours::<I>(rt, alloc, translator),
-        Case::ResolvesTogether => together::<I>(rt, alloc, translator),
-        Case::Excludes => excluded::<I>(rt, alloc, translator),
+/// The records next to full keys, in an index that is empty at first and between.
+pub(super) fn next_to<I: Ordered<Value = Record>>(rt: &impl Abort, alloc: Global, index: &mut I) {
+    resolved(rt, alloc, index);
+    excluded(rt, index);
+    for key in [b"\x0b\x02", b"\x0b\x05", b"\x1c\x01"] {
+        assert!(rt; index.remove(key).is_ok());
     }
-}
-
-/// Runs a case on the flat ordered index.
-fn on_ordered(rt: &impl Abort, alloc: Global, case: Case) {
-    on::<Index<OneCap, Record>>(rt, alloc, OneCap, case)
-}
-
-/// Runs a case on the plain index.
-fn on_plain(rt: &impl Abort, alloc: Global, case: Case) {
-    on::<key_index_plain::Index<OneCap, Record>>(rt, alloc, OneCap, case)
+    together(rt, alloc, index);
 }
