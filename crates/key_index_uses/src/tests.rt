@@ -11,5 +11,6 @@ mod kinds;
 mod lists;
 mod neighbours;
 mod numbers;
+mod partitions;
 mod parts;
 mod walk;

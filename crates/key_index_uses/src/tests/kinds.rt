@@ -7,6 +7,7 @@ use super::{callers, calls, commands, cursors, lists, neighbours};
 use crate::callers::newest;
 use key_index_flat::index::{Factory, Ordered, Unordered, ordered, unordered};
 use key_index_flat::translator::{EightCap, FourCap, OneCap, TwoCap};
+use key_index_parts::index::partitioned;
 use std::alloc::Global;
 use std::process::Abort;
 
@@ -138,6 +139,16 @@ fn on_ordered(rt: &impl Abort, alloc: Global, group: Group) {
     in_order::<ordered::Index<OneCap, u64>>(rt, alloc, OneCap, 0x0b, 1, group)
 }
 
+/// The partitioned unordered index, by one byte and then one more.
+fn on_partitioned(rt: &impl Abort, alloc: Global, group: Group) {
+    on::<partitioned::unordered::Index<OneCap, u64, 1>>(rt, alloc, OneCap, (0x0b, 0), 2, group)
+}
+
+/// The partitioned unordered index, by two bytes and then two more.
+fn on_partitioned_by_two(rt: &impl Abort, alloc: Global, group: Group) {
+    on::<partitioned::unordered::Index<TwoCap, u64, 2>>(rt, alloc, TwoCap, (0x0b00, 0), 2, group)
+}
+
 /// The plain index.
 fn on_plain(rt: &impl Abort, alloc: Global, group: Group) {
     in_order::<key_index_plain::Index<OneCap, u64>>(rt, alloc, OneCap, 0x0b, 1, group)
@@ -201,6 +212,30 @@ fn plain_runs_commands(rt: HostRuntime) {
 #[test]
 fn plain_keeps_lists(rt: HostRuntime) {
     on_plain(&rt, rt.alloc(), Group::Lists)
+}
+
+#[test]
+fn partitioned_answers_each_call(rt: HostRuntime) {
+    on_partitioned(&rt, rt.alloc(), Group::Calls);
+    on_partitioned_by_two(&rt, rt.alloc(), Group::Calls);
+}
+
+#[test]
+fn partitioned_is_edited_by_cursors(rt: HostRuntime) {
+    on_partitioned(&rt, rt.alloc(), Group::Cursors);
+    on_partitioned_by_two(&rt, rt.alloc(), Group::Cursors);
+}
+
+#[test]
+fn partitioned_runs_commands(rt: HostRuntime) {
+    on_partitioned(&rt, rt.alloc(), Group::Commands);
+    on_partitioned_by_two(&rt, rt.alloc(), Group::Commands);
+}
+
+#[test]
+fn partitioned_keeps_lists(rt: HostRuntime) {
+    on_partitioned(&rt, rt.alloc(), Group::Lists);
+    on_partitioned_by_two(&rt, rt.alloc(), Group::Lists);
 }
 
 #[test]
@@ -268,6 +303,18 @@ fn ordered_runs_beside_plain(rt: HostRuntime) {
 }
 
 #[test]
+fn partitioned_runs_beside_plain(rt: HostRuntime) {
+    run_beside::<
+        partitioned::unordered::Index<OneCap, u64, 1>,
+        key_index_plain::Index<TwoCap, u64>,
+    >(&rt, rt.alloc(), OneCap, TwoCap);
+    run_beside::<
+        partitioned::unordered::Index<TwoCap, u64, 2>,
+        key_index_plain::Index<FourCap, u64>,
+    >(&rt, rt.alloc(), TwoCap, FourCap)
+}
+
+#[test]
 fn ordered_resolves(rt: HostRuntime) {
     resolves::<ordered::Index<OneCap, Record>>(&rt, rt.alloc(), OneCap)
 }
@@ -289,6 +336,8 @@ fn insert_order_and_warmth(rt: HostRuntime) {
     assert!(&rt; unordered::Index::<OneCap, u64>::LOOKUP_WARMS_UPDATE);
     assert!(&rt; ordered::Index::<OneCap, u64>::INSERT_FIRST);
     assert!(&rt; !ordered::Index::<OneCap, u64>::LOOKUP_WARMS_UPDATE);
+    assert!(&rt; partitioned::unordered::Index::<OneCap, u64, 1>::INSERT_FIRST);
+    assert!(&rt; partitioned::unordered::Index::<OneCap, u64, 1>::LOOKUP_WARMS_UPDATE);
 }
 
 #[test]

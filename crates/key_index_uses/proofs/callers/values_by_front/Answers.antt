@@ -15,5 +15,5 @@ returns g c =
     let of_key = All-from_get_or (λ n. n < 256) key 0 (λ i within. omega (arith, c.type_inv.key i)) in
     let of_front = All-from_get_or (λ n. n < 256) front 0 (λ i within. omega (arith, c.type_inv.front i)) in
     let one : slot_by g.row.P (cap_number 2) front ≡ slot_by g.row.P (cap_number 2) key =
-        (c.grouping_and_order.ensures.partitioned g.row.P 2 front key of_front of_key).1.1 c.requires in
+    (c.grouping_and_order.ensures.partitioned g.row.P 2 front key of_front of_key).1.1 c.requires in
     c.get.ensures ∙ ap (λ k. list_at (pair_cmp nat_cmp) (gathered (map (λ part. held part) c.args.index.now.parts.items)) k) one
