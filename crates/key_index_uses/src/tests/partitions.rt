@@ -1,4 +1,6 @@
 //! The partitions of keys, and the index keys that they make.
+ghost use Rattle.std.specs.Prelude.{◌≤◌};
+
 use super::checks::{counts, fresh, inserts};
 use key_index_flat::index::Runs;
 use key_index_flat::translator::{EightCap, OneCap};
