@@ -1,4 +1,5 @@
 pub mod GatheredLemmas
+pub mod GatheredNeighbours
 pub mod GroupingLemmas
 pub mod PartLemmas
 pub mod PrefixLemmas
