@@ -74,28 +74,6 @@ pub(super) fn counts<I: Unordered<Value = u64>>(
     assert_eq!(rt; (index.keys(), index.items(), index.pruned()), want);
 }
 
-/// Two indices have the same values under a key.
-pub(super) fn same_values<A: Unordered<Value = u64>, B: Unordered<Value = u64>>(
-    rt: &impl Abort,
-    first: &A,
-    second: &B,
-    key: &[u8],
-) {
-    assert!(rt;
-        first.get(key).copied().eq(second.get(key).copied()),
-        "the values of {key:?}"
-    );
-}
-
-/// Two indices have the same counts.
-pub(super) fn same_counts<A: Unordered<Value = u64>, B: Unordered<Value = u64>>(
-    rt: &impl Abort,
-    first: &A,
-    second: &B,
-) {
-    counts(rt, first, (second.keys(), second.items(), second.pruned()));
-}
-
 /// `retain` asks on these values, in this order, and on no others. It is answered by the bits of a number, the lowest first.
 pub(super) fn retains<I: Unordered<Value = u64>>(
     rt: &impl Abort,

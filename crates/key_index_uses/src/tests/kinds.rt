@@ -1,9 +1,8 @@
 //! The kinds of index, and the groups of cases that each goes through. Each place that names a kind has to show anew that it is an
 //! index, so each is named once for all groups.
 use super::checks::fresh;
-use super::commands_beside::run_beside;
 use super::full_keys::{Record, next_to};
-use super::{callers, calls, commands, cursors, lists, neighbours};
+use super::{callers, calls, command_lists, commands, cursors, lists, neighbours};
 use crate::callers::newest;
 use key_index_flat::index::{Factory, Ordered, Unordered, ordered, unordered};
 use key_index_flat::translator::{EightCap, FourCap, OneCap, TwoCap};
@@ -65,6 +64,7 @@ fn each_command<I: Unordered<Value = u64> + Factory + Drop>(
     rt: &impl Abort,
     alloc: Global,
     translator: I::Translator,
+    width: usize,
 )
 where
     I::Translator: Copy,
@@ -73,6 +73,7 @@ where
     commands::edited(rt, alloc, &mut fresh::<I>(rt, alloc, translator));
     commands::emptied(rt, alloc, &mut fresh::<I>(rt, alloc, translator));
     commands::each_command(rt, alloc, &mut fresh::<I>(rt, alloc, translator));
+    command_lists::run_beside(rt, alloc, &mut fresh::<I>(rt, alloc, translator), width);
 }
 
 /// A group of cases on a kind of index, whose index keys have the first `width` bytes of a key. The slot is the index key of 0b.
@@ -91,7 +92,7 @@ where
     match group {
         Group::Calls => each_call::<I>(rt, alloc, translator, slot),
         Group::Cursors => each_edit::<I>(rt, alloc, translator),
-        Group::Commands => each_command::<I>(rt, alloc, translator),
+        Group::Commands => each_command::<I>(rt, alloc, translator, width),
         Group::Lists => lists::kept(rt, alloc, &mut fresh::<I>(rt, alloc, translator), width),
     }
 }
@@ -280,38 +281,6 @@ fn ordered_keeps_lists_by_eight_bytes(rt: HostRuntime) {
         2,
         Group::Lists,
     )
-}
-
-#[test]
-fn flat_runs_beside_plain(rt: HostRuntime) {
-    run_beside::<unordered::Index<OneCap, u64>, key_index_plain::Index<OneCap, u64>>(
-        &rt,
-        rt.alloc(),
-        OneCap,
-        OneCap,
-    )
-}
-
-#[test]
-fn ordered_runs_beside_plain(rt: HostRuntime) {
-    run_beside::<ordered::Index<OneCap, u64>, key_index_plain::Index<OneCap, u64>>(
-        &rt,
-        rt.alloc(),
-        OneCap,
-        OneCap,
-    )
-}
-
-#[test]
-fn partitioned_runs_beside_plain(rt: HostRuntime) {
-    run_beside::<
-        partitioned::unordered::Index<OneCap, u64, 1>,
-        key_index_plain::Index<TwoCap, u64>,
-    >(&rt, rt.alloc(), OneCap, TwoCap);
-    run_beside::<
-        partitioned::unordered::Index<TwoCap, u64, 2>,
-        key_index_plain::Index<FourCap, u64>,
-    >(&rt, rt.alloc(), TwoCap, FourCap)
 }
 
 #[test]

@@ -16,7 +16,7 @@ const CALLS: u32 = 3000;
 const LISTS: usize = 25;
 
 /// The place of a key's list among all, in the order of their index keys, which have the first so many bytes of a key.
-fn place(number: u64, width: usize) -> usize {
+pub(super) fn place(number: u64, width: usize) -> usize {
     let first = (number % 4) as usize + 1;
     let second = (number / 4 % 4) as usize + 1;
     let len = number / 16 % 3;
@@ -29,8 +29,24 @@ fn place(number: u64, width: usize) -> usize {
     }
 }
 
+/// Takes all values of a list out, and tells how many they are.
+pub(super) fn cleared(list: &mut Vec<u64>) -> u64 {
+    let taken = list.len() as u64;
+    list.clear();
+    taken
+}
+
+/// Puts a value in where `insert` does.
+pub(super) fn put(rt: &impl Abort, list: &mut Vec<u64>, value: u64, is_first: bool) {
+    if is_first {
+        assert!(rt; list.insert(0, value).is_ok());
+    } else {
+        push(rt, list, value);
+    }
+}
+
 /// The list at a place.
-fn list_at<'a>(rt: &impl Abort, lists: &'a [Vec<u64>], place: usize) -> &'a [u64] {
+pub(super) fn list_at<'a>(rt: &impl Abort, lists: &'a [Vec<u64>], place: usize) -> &'a [u64] {
     let Some(list) = lists.get(place) else {
         panic!(rt; "there are {LISTS} lists")
     };
@@ -38,7 +54,7 @@ fn list_at<'a>(rt: &impl Abort, lists: &'a [Vec<u64>], place: usize) -> &'a [u64
 }
 
 /// The counts are those of the lists.
-fn counts_as<I: Unordered<Value = u64>>(
+pub(super) fn counts_as<I: Unordered<Value = u64>>(
     rt: &impl Abort,
     index: &I,
     lists: &[Vec<u64>],
@@ -210,9 +226,7 @@ fn remove<I: Unordered<Value = u64>>(
     key: &[u8],
 ) -> u64 {
     removes(rt, index, key);
-    let taken = list.len() as u64;
-    list.clear();
-    taken
+    cleared(list)
 }
 
 /// `insert` of a value under a key.
@@ -224,11 +238,7 @@ fn insert<I: Unordered<Value = u64>>(
     value: u64,
 ) -> u64 {
     inserts(rt, index, key, value);
-    if I::INSERT_FIRST {
-        assert!(rt; list.insert(0, value).is_ok());
-    } else {
-        push(rt, list, value);
-    }
+    put(rt, list, value, I::INSERT_FIRST);
     0
 }
 
@@ -253,15 +263,15 @@ fn call<I: Unordered<Value = u64>>(
 
 /// What is kept beside an index: the lists, how many values were taken out, and the run of numbers.
 #[derive(Drop)]
-struct KeptLists {
-    width: usize,
-    lists: Vec<Vec<u64>>,
-    pruned: u64,
-    numbers: Numbers,
+pub(super) struct KeptLists {
+    pub(super) width: usize,
+    pub(super) lists: Vec<Vec<u64>>,
+    pub(super) pruned: u64,
+    pub(super) numbers: Numbers,
 }
 
 impl KeptLists {
-    fn new(rt: &impl Abort, alloc: Global, width: usize) -> KeptLists {
+    pub(super) fn new(rt: &impl Abort, alloc: Global, width: usize) -> KeptLists {
         let mut lists = Vec::new(alloc);
         for _ in 0..LISTS {
             push(rt, &mut lists, Vec::new(alloc));
