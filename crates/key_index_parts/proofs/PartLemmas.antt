@@ -8,7 +8,8 @@
 --     reached, slot_told         a key has a part, and its index key there is that of the whole
 --     gathered_same, gathered_edited    the parts and the counts of them all, after such a call
 --     same_fault                 a part refuses one more value as the whole does
---     same_count, kept_at_most   on the lengths of lists
+--     same_count, one_more       the count of keys after a list of the same length, or of one value at a key that has none
+--     kept_at_most               what was kept of a list is no longer
 use Rattle.std.proofs.Common.{◌≡◌, ℕ, ◌+◌, ◌-◌, ◌^◌, true, false, nat_eq, if◌then◌else◌, Bool, ◌<◌, ◌≤◌, T, List, [], ◌∷◌, map, get_or, set, length, All, refl, sym, ap, subst, ◌∙◌, arith, lt_of_not-le, slice_index_or}
 use Rattle.std.proofs.lemmas.Bool.{eqb-true}
 use Rattle.std.proofs.lemmas.List.{get_or-map, map-set, length-map, length-set}
