@@ -44,10 +44,10 @@ impl<T: Translator, V: Drop> Runs for Index<T, V> {
     type Key = T::Key;
 
     ghost view = { λ index. record {
-        content = content_of T.Key.cmp index.entries.items;
-        pruned = index.pruned;
-        slot = T.translated index.translator;
-        admitted = λ _. true
+      content = content_of T.Key.cmp index.entries.items;
+      pruned = index.pruned;
+      slot = T.translated index.translator;
+      admitted = λ _. true;
     } };
 
     ghost edited = { λ _ _. Unit {0} };
