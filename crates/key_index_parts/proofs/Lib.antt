@@ -1,0 +1,6 @@
+pub mod SearchLemmas
+pub mod ZipLemmas
+pub mod PairLemmas
+pub mod RunLemmas
+pub mod GroupLemmas
+pub mod EndLemmas

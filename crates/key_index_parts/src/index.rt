@@ -1,0 +1,3 @@
+//! Indices made of partitions.
+
+pub mod partitioned;

@@ -1,0 +1,3 @@
+//! An index for each prefix of keys.
+
+pub mod ordered;
