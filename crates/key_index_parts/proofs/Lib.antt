@@ -4,3 +4,4 @@ pub mod PairLemmas
 pub mod RunLemmas
 pub mod GroupLemmas
 pub mod EndLemmas
+pub mod PairEdits
