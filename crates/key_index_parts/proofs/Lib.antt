@@ -5,3 +5,4 @@ pub mod RunLemmas
 pub mod GroupLemmas
 pub mod EndLemmas
 pub mod PairEdits
+pub mod DrainLemmas

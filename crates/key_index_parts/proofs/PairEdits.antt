@@ -3,8 +3,8 @@
 --     run_at              the pair at a place of a run
 --     IsSorted-insert     a pair of the key may go in at each place of its run
 --     grouped-insert, grouped-set, grouped-remove, grouped-remove_run     the content after it
-use Rattle.std.proofs.Common.{◌≡◌, ℕ, zero, suc, ◌+◌, ◌<◌, ◌≤◌, Bool, true, false, cond, T, List, [], ◌∷◌, ◌++◌, length, take, drop, map, insert, remove, slice_set, slice_get, Option, Some, None, All, refl, sym, ap, subst, ◌∙◌, arith}
-use Rattle.std.proofs.Math.Seq.{take-append_seam, drop-length, take-append-add, drop-append-add}
+use Rattle.std.proofs.Common.{◌≡◌, ℕ, zero, suc, ◌+◌, ◌<◌, ◌≤◌, true, false, cond, T, List, [], ◌∷◌, ◌++◌, length, take, drop, map, insert, remove, slice_set, slice_get, Some, All, refl, sym, ap, subst, ◌∙◌, arith}
+use Rattle.std.proofs.Math.Seq.{drop-length, take-append-add, drop-append-add}
 use Rattle.std.proofs.lemmas.List.{map-append, map-set, length-map, take-map, drop-map, take-append-le, drop-append-le, length-take-le}
 use Rattle.std.proofs.lemmas.List.Elements.{All-nil, All-cons, All-head, All-tail, All-append, All-take, All-drop, All-weaker, All-map, filter-append, filter_passes}
 use Rattle.std.proofs.lemmas.Option.{slice_get-map}
@@ -14,16 +14,16 @@ use Rattle.std.specs.Map.{keys_of, values_of}
 use Rattle.std.specs.Option.{option_map}
 use Rattle.std.specs.Cmp.{IsTotalOrder, tied_back}
 use Rattle.std.specs.declared.cmp.Ordering.{Ordering}
-use Rattle.std.specs.declared.cmp.Ordering.TheVariants.{Less, Equal, Greater}
+use Rattle.std.specs.declared.cmp.Ordering.TheVariants.{Equal}
 use Rattle.std.specs.Ordering.{is_lt, is_eq, eq_by_cmp, ordering_reverse}
 use Rattle.key_index_flat.specs.Content.{list_at, with_list, with_list_by}
 use Rattle.key_index_flat.specs.Laws.{IsLawful-with_list}
 use Rattle.key_index_flat.specs.Neighbours.{entries_below, entries_above}
 use Rattle.key_index_flat.proofs.ContentLemmas.{same_content, list_at-with_list, tied, less}
 use Rattle.key_index_parts.specs.Pairs.{run_of, grouped, with_value, IsRun}
-use Rattle.key_index_parts.proofs.SearchLemmas.{Rises, rises, sorted}
+use Rattle.key_index_parts.proofs.SearchLemmas.{Rises, sorted}
 use Rattle.key_index_parts.proofs.PairLemmas.{filter-none, filter-all, place_among, filter-insert, filter-remove, filter-set}
-use Rattle.key_index_parts.proofs.RunLemmas.{parts, pairs_at, below_part, above_part}
+use Rattle.key_index_parts.proofs.RunLemmas.{parts, pairs_at, below_part}
 use Rattle.key_index_parts.proofs.GroupLemmas.{IsLawful-grouped, list_at-grouped}
 
 -- ---- lists
@@ -46,12 +46,13 @@ picked P [] ys i l h = absurd (omega arith)
 picked P (x ∷ xs) ys zero l h = (x, refl, refl, All-head P x xs h)
 picked P (x ∷ xs) ys (suc i) l h = picked P xs ys i (omega arith) (All-tail P x xs h)
 
+zip-back : {K V : Type 0} (es : List (K × V)) → zip (keys_of es) (values_of es) ≡ es
+zip-back [] = refl
+zip-back (e ∷ es) = ap (λ l. e ∷ l) (zip-back es)
+
 with_value-set : {K V : Type 0} (es : List (K × V)) (i : ℕ) (e : K × V) (v : V) → slice_get es i ≡ Some e → with_value es i v ≡ slice_set es i (e.0, v)
 with_value-set [] i e v h = cc
-with_value-set (f ∷ fs) zero e v h = let same : f.0 ≡ e.0 = cc in (λ j. (same j, v) ∷ zip_back fs j) where
-  zip_back : {K V : Type 0} (fs : List (K × V)) → zip (keys_of fs) (values_of fs) ≡ fs
-  zip_back [] = refl
-  zip_back (f ∷ fs) = ap (λ l. f ∷ l) (zip_back fs)
+with_value-set (f ∷ fs) zero e v h = let same : f.0 ≡ e.0 = cc in (λ j. (same j, v) ∷ zip-back fs j)
 with_value-set (f ∷ fs) (suc i) e v h = ap (λ l. f ∷ l) (with_value-set fs i e v h)
 
 Rises-insert : {K : Type 0} (cmp : K → K → Ordering) (p : ℕ) (ks : List K) (k : K) → Rises cmp ks → All (λ x. is_lt (cmp k x) ≡ false) (take p ks) → All (λ x. is_lt (cmp x k) ≡ false) (drop p ks) → Rises cmp (insert ks p k)

@@ -26,7 +26,7 @@ all_keys P [] h = All-nil (λ e. P e.0)
 all_keys P (e ∷ es) h = All-cons (λ e. P e.0) e es (All-head P e.0 (keys_of es) h) (all_keys P es (All-tail P e.0 (keys_of es) h))
 
 -- above what is below
-above_too : {K : Type 0} {cmp : K → K → Ordering} (o : IsTotalOrder cmp) (k x y : K) → is_lt (cmp y x) ≡ false → cmp k x ≡ Less → cmp k y ≡ Less
+pub above_too : {K : Type 0} {cmp : K → K → Ordering} (o : IsTotalOrder cmp) (k x y : K) → is_lt (cmp y x) ≡ false → cmp k x ≡ Less → cmp k y ≡ Less
 above_too o k x y h b =
     elim (not_above o x y h) [
       | inl l ↦ o.trans k x y b l
@@ -47,7 +47,7 @@ module _ {K V : Type 0} {cmp : K → K → Ordering} (o : IsTotalOrder cmp) wher
   none_below : (es : List (K × V)) (k : K) → All (λ e. cmp k e.0 ≡ Less) es → entries_below cmp es k ≡ []
   none_below es k h = filter-none _ es (All-weaker (λ e. cmp k e.0 ≡ Less) (λ e. is_lt (cmp e.0 k) ≡ false) (λ e l. ap is_lt (o.antisymm e.0 k ∙ ap ordering_reverse l)) es h)
 
-  none_at : (es : List (K × V)) (k : K) → All (λ e. cmp k e.0 ≡ Less) es → pairs_at es k ≡ []
+  pub none_at : (es : List (K × V)) (k : K) → All (λ e. cmp k e.0 ≡ Less) es → pairs_at es k ≡ []
   none_at es k h = filter-none _ es (All-weaker (λ e. cmp k e.0 ≡ Less) (λ e. eq_by_cmp cmp k e.0 ≡ false) (λ e l. ap is_eq l) es h)
 
   all_above : (es : List (K × V)) (k : K) → All (λ e. cmp k e.0 ≡ Less) es → entries_above cmp es k ≡ es

@@ -101,7 +101,7 @@ module _ {K : Type 0} {cmp : K → K → Ordering} (o : IsTotalOrder cmp) where
       let place : suc (i + 1) ≡ suc i + 1 = omega arith in
       subst (λ n. is_lt (cmp (get_or (k ∷ l ∷ ls) n d) (get_or (l ∷ ls) i d)) ≡ false) place (sorted (l ∷ ls) h.1 i d (omega arith) (omega arith))
 
-  Rises-drop : (j : ℕ) (ks : List K) → Rises cmp ks → Rises cmp (drop j ks)
+  pub Rises-drop : (j : ℕ) (ks : List K) → Rises cmp ks → Rises cmp (drop j ks)
   Rises-drop zero ks h = h
   Rises-drop (suc j) [] h = tt
   Rises-drop (suc j) (k ∷ ks) h = Rises-drop j ks h.1

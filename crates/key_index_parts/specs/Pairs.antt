@@ -4,6 +4,7 @@
 --     run_of                    the values at a key, in their order
 --     IsRun                     where the pairs of a key stand: those below it come before them
 --     grouped                   the content that pairs stand for: under each key its values, in their order
+--     list_of, room_of, room_for     a run's list; with the room that it has; the room for an entry's values, and none of them yet
 --     Paired                    as many values as keys, and the keys never fall
 use Rattle.std.specs.Prelude.{ℕ, List, [], ◌∷◌, slice_set, length, ◌≡◌, ◌+◌}
 use Rattle.std.specs.List.{filter, zip}
@@ -11,6 +12,8 @@ use Rattle.std.specs.List.Sorted.{IsSorted}
 use Rattle.std.specs.Map.{keys_of, values_of}
 use Rattle.std.specs.declared.cmp.Ordering.{Ordering}
 use Rattle.std.specs.Ordering.{eq_by_cmp}
+use Rattle.std.specs.declared.vec.Vec.{Vec}
+use Rattle.std.specs.Vec.{vec_capacity}
 use Rattle.key_index_flat.specs.Content.{Content, with_list_by}
 use Rattle.key_index_flat.specs.Neighbours.{entries_below}
 
@@ -38,3 +41,14 @@ pub record IsRun {K V : Type 0} (cmp : K → K → Ordering) (es : List (K × V)
 pub record Paired {K V : Type 0} (cmp : K → K → Ordering) (ks : List K) (vs : List V) : Type 0 where
   pub sized : length ks ≡ length vs
   pub sorted : IsSorted cmp ks
+
+-- a run with the values that it has and the room that it has, and with room for exactly the values that it is to have
+module _ {K V A : Type 0} where
+  abbrev pub list_of : K × Vec V A → K × List V
+  list_of run = (run.0, run.1.items)
+
+  abbrev pub room_of : K × Vec V A → (K × List V) × ℕ
+  room_of run = (list_of run, vec_capacity run.1)
+
+abbrev pub room_for : {K V : Type 0} → K × List V → (K × List V) × ℕ
+room_for e = ((e.0, []), length e.1)

@@ -1,21 +1,25 @@
 //! One partition: its keys in order, and beside each key a value.
-ghost use Rattle.std.specs.Prelude.{◌≡◌, ◌+◌, ◌-◌, ◌<◌, ◌≤◌, List, [], ◌∷◌, length, min, slice_get, insert, remove, Some, IsOk, IfErr, OnOk, OnErr};
+ghost use Rattle.std.specs.Prelude.{◌≡◌, ◌+◌, ◌-◌, ◌<◌, ◌≤◌, List, [], ◌∷◌, length, min, slice_get, insert, remove, Some, IsOk, IfOk, IfErr, OnOk, OnErr, map, take, drop};
 ghost use Rattle.std.specs.Bool.{◌==◌};
-ghost use Rattle.std.specs.List.{filter, zip, slice_range, remove_range};
+ghost use Rattle.std.specs.List.{filter, flat_map, zip, slice_range, remove_range};
 ghost use Rattle.std.specs.List.Sorted.{IsSorted};
 ghost use Rattle.std.specs.Map.{keys_of, values_of};
 ghost use Rattle.std.specs.Option.{option_copied};
 ghost use Rattle.std.specs.Ordering.{is_lt, is_le};
 ghost use Rattle.std.specs.Slice.Iter.{iter_rest};
 ghost use Rattle.std.specs.Vec.{vec_capacity};
+ghost use Rattle.std.specs.Vec.Iter.{into_iter_items};
+ghost use Rattle.key_index_flat.specs.Content.{Content};
 ghost use Rattle.key_index_flat.specs.Neighbours.{entries_above, entries_below, first_list, last_list};
-ghost use Rattle.key_index_parts.specs.Pairs.{Pairs, Paired, IsRun, with_value, run_of, grouped};
+ghost use Rattle.key_index_parts.specs.Pairs.{Pairs, Paired, IsRun, with_value, run_of, grouped, list_of, room_of, room_for};
 
 use key_index_flat::index::{Fault, Refused};
-use std::alloc::Global;
+use std::alloc::{AllocError, Global};
 use std::marker::Model;
+use std::mem::replace;
 use std::ops::Range;
 use std::slice;
+use std::vec::IntoIter;
 
 /// How many of some sorted keys are below a key.
 fn lower_bound<K: Ord>(keys: &[K], key: &K) -> usize
@@ -62,6 +66,57 @@ fn last_run<'a, K: Ord, V>(keys: &[K], values: &'a [V]) -> Option<&'a [V]>
 {
     let start = lower_bound(keys, keys.last()?);
     Some(part(values, start..values.len()))
+}
+
+/// Each of some sorted keys once, with room for exactly its values and none of them yet.
+fn empty_runs<K: Ord + Copy, V: Drop>(
+    alloc: Global,
+    keys: &[K],
+) -> Result<Vec<(K, Vec<V>)>, AllocError>
+    requires { IsSorted K.cmp keys.now }
+    ensures { IfOk result (λ runs. (vs : List V) → length keys.now ≡ length vs
+        → map room_of runs.items ≡ map room_for (grouped K.cmp (zip keys.now vs))) }
+{
+    let mut runs = Vec::new(alloc);
+    let mut start = 0;
+    while start < keys.len() {
+        let count = upper_bound(part(keys, start..keys.len()), &keys[start]);
+        let values = Vec::with_capacity(alloc, count)?;
+        runs.push((keys[start + (count - 1)], values))?;
+        start += count;
+    }
+    Ok(runs)
+}
+
+/// Moves the next values in, as many as there is room for.
+fn fill<V: Drop>(run: &mut Vec<V>, values: &mut IntoIter<V>)
+    requires empty { run.old.items ≡ [] }
+    requires enough { vec_capacity run.old ≤ length (into_iter_items values.old) }
+    ensures run { run.new.items ≡ take (vec_capacity run.old) (into_iter_items values.old) }
+    ensures left { into_iter_items values.new ≡ drop (vec_capacity run.old) (into_iter_items values.old) }
+{
+    let room = run.capacity();
+    while run.len() < room {
+        let Some(value) = values.next() else {
+            unreachable!()
+        };
+        let Ok(()) = run.push(value) else {
+            unreachable!()
+        };
+    }
+}
+
+/// Gives each run its values, as many as it has room for, in turn.
+fn fill_runs<K, V: Drop>(runs: &mut Vec<(K, Vec<V>)>, values: Vec<V>)
+    requires { (c : Content K V) × (map room_of runs.old.items ≡ map room_for c)
+        × (flat_map (λ e. e.1) c ≡ values.items) }
+    ensures { (c : Content K V) → map room_of runs.old.items ≡ map room_for c
+        → flat_map (λ e. e.1) c ≡ values.items → map list_of runs.new.items ≡ c }
+{
+    let mut values = values.into_iter();
+    for place in 0..runs.len() {
+        fill(&mut runs[place].1, &mut values);
+    }
 }
 
 /// The keys in order, and beside each of them a value. Pairs of one key stand in a run, one behind another.
@@ -254,5 +309,22 @@ impl<K: Ord + Copy, V: Drop> Partition<K, V> {
         let (keys, values) = (self.keys.as_slice(), self.values.as_slice());
         let end = lower_bound(keys, key);
         last_run(part(keys, 0..end), part(values, 0..end))
+    }
+    /// Takes all pairs out, as one list of values for each key, in the order of the keys, and gives their memory back. A refusal
+    /// leaves all as it is.
+    pub fn drain_runs(&mut self) -> Result<Vec<(K, Vec<V>)>, Fault>
+        ensures runs { IfOk result (λ runs. map list_of runs.items ≡ grouped K.cmp self.old.pairs) }
+        ensures emptied { OnOk result (self.new.pairs ≡ []) }
+        ensures room { OnOk result (self.new.room ≡ 0) }
+        ensures refused { OnErr result (self.new ≡ self.old) }
+        ensures fault { IfErr result (λ fault. fault ≡ Fault.Memory) }
+    {
+        let alloc = *self.keys.allocator();
+        let Ok(mut runs) = empty_runs(alloc, self.keys.as_slice()) else {
+            return Err(Fault::Memory);
+        };
+        self.keys = Vec::new(alloc);
+        fill_runs(&mut runs, replace(&mut self.values, Vec::new(alloc)));
+        Ok(runs)
     }
 }
