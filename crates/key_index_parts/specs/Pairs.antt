@@ -1,10 +1,11 @@
--- What a sorted array of keys and values holds, and what it stands for. `cmp` is the order of the keys, `k` a key, `es` pairs.
+-- What sorted keys with a value beside each hold, and what they stand for. `cmp` is the order of the keys, `k` a key.
 --     Pairs                     the pairs of a key and a value, and how many more it takes without asking for memory
 --     with_value                the pairs with another value at a place
 --     run_of                    the values at a key, in their order
 --     IsRun                     where the pairs of a key stand: those below it come before them
 --     grouped                   the content that pairs stand for: under each key its values, in their order
---     list_of, room_of, room_for     a run's list; with the room that it has; the room for an entry's values, and none of them yet
+--     list_of, room_of          the key and the values of a run that was taken out, and beside them its room
+--     room_for                  the same of a run with room for the values of an entry, and none of them yet
 --     Paired                    as many values as keys, and the keys never fall
 use Rattle.std.specs.Prelude.{ℕ, List, [], ◌∷◌, slice_set, length, ◌≡◌, ◌+◌}
 use Rattle.std.specs.List.{filter, zip}
@@ -42,7 +43,6 @@ pub record Paired {K V : Type 0} (cmp : K → K → Ordering) (ks : List K) (vs 
   pub sized : length ks ≡ length vs
   pub sorted : IsSorted cmp ks
 
--- a run with the values that it has and the room that it has, and with room for exactly the values that it is to have
 module _ {K V A : Type 0} where
   abbrev pub list_of : K × Vec V A → K × List V
   list_of run = (run.0, run.1.items)

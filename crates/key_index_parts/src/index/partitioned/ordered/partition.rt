@@ -201,7 +201,8 @@ impl<K: Ord + Copy, V: Drop> Partition<K, V> {
         Ok(())
     }
 
-    /// Puts a pair in at a place, and moves those from there on by one. A refusal hands the value back and leaves the room as it is.
+    /// Puts a pair in at a place, and moves those from there on by one. A refusal hands the value back, and leaves
+    /// pairs and room as they were.
     pub fn insert_at(&mut self, place: usize, key: K, value: V) -> Result<(), Refused<V>>
         requires place { place ≤ length self.old.pairs }
         requires sorted { IsSorted K.cmp (insert (keys_of self.old.pairs) place key) }
@@ -310,8 +311,8 @@ impl<K: Ord + Copy, V: Drop> Partition<K, V> {
         let end = lower_bound(keys, key);
         last_run(part(keys, 0..end), part(values, 0..end))
     }
-    /// Takes all pairs out, as one list of values for each key, in the order of the keys, and gives their memory back. A refusal
-    /// leaves all as it is.
+    /// Takes all pairs out, as one list of values for each key, in the order of the keys, and gives their memory back.
+    /// It has room for all of them before the first value moves, and a refusal leaves pairs and room as they were.
     pub fn drain_runs(&mut self) -> Result<Vec<(K, Vec<V>)>, Fault>
         ensures runs { IfOk result (λ runs. map list_of runs.items ≡ grouped K.cmp self.old.pairs) }
         ensures emptied { OnOk result (self.new.pairs ≡ []) }
@@ -328,3 +329,6 @@ impl<K: Ord + Copy, V: Drop> Partition<K, V> {
         Ok(runs)
     }
 }
+
+#[cfg(test)]
+mod tests;
