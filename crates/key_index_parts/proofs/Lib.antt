@@ -3,3 +3,11 @@ pub mod GatheredNeighbours
 pub mod GroupingLemmas
 pub mod PartLemmas
 pub mod PrefixLemmas
+pub mod SearchLemmas
+pub mod ZipLemmas
+pub mod PairLemmas
+pub mod RunLemmas
+pub mod GroupLemmas
+pub mod EndLemmas
+pub mod PairEdits
+pub mod DrainLemmas

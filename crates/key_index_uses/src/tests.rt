@@ -11,6 +11,7 @@ mod kinds;
 mod lists;
 mod neighbours;
 mod numbers;
+mod partition;
 mod partitions;
 mod parts;
 mod walk;

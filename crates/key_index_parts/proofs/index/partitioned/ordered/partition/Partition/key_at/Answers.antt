@@ -1,0 +1,17 @@
+use Rattle.std.proofs.Common.{◌<◌, length, refl, sym, ap, arith}
+use Rattle.std.proofs.lemmas.Option.{slice_get_read}
+use Rattle.std.proofs.lemmas.Map.Made.{keys_of-zip}
+use Rattle.key_index_parts.proofs.ZipLemmas.{length-zip}
+use Rattle.key_index_parts.proofs.index.partitioned.ordered.partition.Partition.key_at.Goals as goal
+
+pub index-requires : goal.index-requires
+index-requires g c =
+    let e = length-zip _ _ c.self.invariant.sized in
+    let pairs = ap (λ s. length s.pairs) c.self.view_is in omega (arith, e, pairs)
+
+pub returns : goal.returns
+returns g c =
+    let e = length-zip _ _ c.self.invariant.sized in
+    let pairs = ap (λ s. length s.pairs) c.self.view_is in
+    let within : c.args.place < length c.self.inside.keys.items = omega (arith, e, pairs) in
+    rw (← c.self.view_is, keys_of-zip _ _ (sym c.self.invariant.sized)) (slice_get_read _ _ _ _ refl within c.index.ensures)

@@ -1,0 +1,42 @@
+use Rattle.std.proofs.Common.{◌≤◌, ◌+◌, ◌∷◌, ◌++◌, [], length, map, drop, sym, ap, ◌∙◌, arith}
+use Rattle.std.proofs.lemmas.List.{map_push, append_assoc, append-nil, take_rest, length-drop, drop_all, get_or_read}
+use Rattle.std.specs.List.{filter, zip}
+use Rattle.std.specs.Ordering.{is_le}
+use Rattle.key_index_parts.specs.Pairs.{grouped, room_of, room_for}
+use Rattle.key_index_parts.proofs.ZipLemmas.{length-zip}
+use Rattle.key_index_parts.proofs.DrainLemmas.{next_room}
+use Rattle.key_index_parts.proofs.index.partitioned.ordered.partition.empty_runs.Goals as goal
+
+pub loop-start-preserved : goal.loop-start-preserved
+loop-start-preserved g c =
+    let cmp = g.K.Ord.cmp in
+    let keys = c.args.keys.now in
+    let start = c.loop-start.start in
+    let count = c.upper_bound-count.result in
+    let key = c.index-keys-start.result in
+    let last = c.index-keys-start-in-loop-start.result in
+    let rest = c.part.ensures ∙ take_rest keys start in
+    let left = ap length rest ∙ length-drop start keys in
+    let most = c.upper_bound-count.ensures.within in
+    let test = c.loop-start-test.true in
+    record {
+      within = omega (arith, left, most, test);
+      made = λ vs sized.
+          let next = next_room g.met.K.Ord.total keys vs sized c.requires start count key last test (get_or_read keys start key test c.index-keys-start.is last)
+          (c.upper_bound-count.ensures.count ∙ ap (λ l. length (filter (λ x. is_le (cmp x key)) l)) rest) in
+          let behind = map room_for (grouped cmp (drop (start + count) (zip keys vs))) in
+          c.loop-start.invariant.made vs sized
+          ∙ ap (λ l. map room_of c.loop-start.runs.items ++ l) (next ∙ (λ i. ((sym c.index-keys-start-in-loop-start.is i, sym c.in_ok-values.ensures.items i), sym c.in_ok-values.ensures.exact i) ∷ behind))
+          ∙ sym (append_assoc (map room_of c.loop-start.runs.items) (room_of (last, c.in_ok-values.values) ∷ []) behind)
+          ∙ ap (λ l. l ++ behind) (sym (map_push room_of c.loop-start.runs.items (last, c.in_ok-values.values)) ∙ ap (map room_of) (sym c.in_ok-push.ensures.items));
+    }
+
+pub returns : goal.returns
+returns g c vs sized =
+    let cmp = g.K.Ord.cmp in
+    let test = c.loop-start-test.false in
+    let len = length-zip c.args.keys.now vs sized in
+    let whole : length (zip c.args.keys.now vs) ≤ c.loop-start.start = omega (arith, len, test) in
+    sym (c.loop-start.invariant.made vs sized
+    ∙ ap (λ l. map room_of c.loop-start.runs.items ++ map room_for (grouped cmp l)) (drop_all c.loop-start.start (zip c.args.keys.now vs) whole)
+    ∙ append-nil (map room_of c.loop-start.runs.items))

@@ -1,0 +1,44 @@
+use Rattle.std.proofs.Common.{◌<◌, length, sym, ◌∙◌, arith}
+use Rattle.std.proofs.lemmas.List.{length-set}
+use Rattle.key_index_parts.proofs.DrainLemmas.{run_empty, run_enough, run_filled, rooms_left, values_left}
+use Rattle.key_index_parts.proofs.index.partitioned.ordered.partition.fill_runs.Goals as goal
+
+pub fill-requires-clause-empty : goal.fill-requires-clause-empty
+fill-requires-clause-empty g c =
+    let flat = c.requires.2 ∙ sym c.into_iter-values.ensures.rest in
+    let test = c.loop-place-test.true in
+    let len = c.loop-place.invariant.len in
+    let end = c.len-place-end.ensures in
+    let within : c.loop-place.place < length c.loop-place.runs.items = omega (arith, test, len, end) in
+    run_empty c.requires.0 c.loop-place.runs.items c.loop-place.place c.index_mut.result.now within c.index_mut.ensures.value
+    (c.loop-place.invariant.empty c.requires.0 c.requires.1 flat) _ (c.loop-place.invariant.left c.requires.0 c.requires.1 flat)
+
+pub fill-requires-clause-enough : goal.fill-requires-clause-enough
+fill-requires-clause-enough g c =
+    let flat = c.requires.2 ∙ sym c.into_iter-values.ensures.rest in
+    let test = c.loop-place-test.true in
+    let len = c.loop-place.invariant.len in
+    let end = c.len-place-end.ensures in
+    let within : c.loop-place.place < length c.loop-place.runs.items = omega (arith, test, len, end) in
+    run_enough c.requires.0 c.loop-place.runs.items c.loop-place.place c.index_mut.result.now within c.index_mut.ensures.value
+    (c.loop-place.invariant.empty c.requires.0 c.requires.1 flat) _ (c.loop-place.invariant.left c.requires.0 c.requires.1 flat)
+
+pub loop-place-preserved : goal.loop-place-preserved
+loop-place-preserved g c =
+    let rs = c.loop-place.runs.items in
+    let place = c.loop-place.place in
+    let run = c.index_mut.result.now in
+    let test = c.loop-place-test.true in
+    let len = c.loop-place.invariant.len in
+    let end = c.len-place-end.ensures in
+    let within : place < length rs = omega (arith, test, len, end) in
+    record {
+      len = length-set rs place (run.0, c.fill.new.run) ∙ len;
+      filled = λ k rooms flat.
+          run_filled k rs place run within c.index_mut.ensures.value (c.loop-place.invariant.empty k rooms flat) _ (c.loop-place.invariant.left k rooms flat)
+          c.fill.new.run c.fill.ensures.run (c.loop-place.invariant.filled k rooms flat);
+      empty = λ k rooms flat.
+          rooms_left k rs place run within c.index_mut.ensures.value (c.loop-place.invariant.empty k rooms flat) _ (c.loop-place.invariant.left k rooms flat) c.fill.new.run;
+      left = λ k rooms flat.
+          values_left k rs place run within c.index_mut.ensures.value (c.loop-place.invariant.empty k rooms flat) _ (c.loop-place.invariant.left k rooms flat) _ c.fill.ensures.left;
+    }

@@ -1,0 +1,3 @@
+//! An ordered index for each prefix of keys.
+
+pub mod partition;

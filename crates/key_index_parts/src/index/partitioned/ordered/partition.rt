@@ -1,0 +1,335 @@
+//! One partition: its keys in order, and beside each key a value.
+ghost use Rattle.std.specs.Prelude.{◌≡◌, ◌+◌, ◌-◌, ◌<◌, ◌≤◌, List, [], ◌∷◌, length, min, slice_get, insert, remove, Some, IsOk, IfOk, IfErr, OnOk, OnErr, map, take, drop};
+ghost use Rattle.std.specs.Bool.{◌==◌};
+ghost use Rattle.std.specs.List.{filter, flat_map, zip, slice_range, remove_range};
+ghost use Rattle.std.specs.List.Sorted.{IsSorted};
+ghost use Rattle.std.specs.Map.{keys_of, values_of};
+ghost use Rattle.std.specs.Option.{option_copied};
+ghost use Rattle.std.specs.Ordering.{is_lt, is_le};
+ghost use Rattle.std.specs.Slice.Iter.{iter_rest};
+ghost use Rattle.std.specs.Vec.{vec_capacity};
+ghost use Rattle.std.specs.Vec.Iter.{into_iter_items};
+ghost use Rattle.key_index_flat.specs.Content.{Content};
+ghost use Rattle.key_index_flat.specs.Neighbours.{entries_above, entries_below, first_list, last_list};
+ghost use Rattle.key_index_parts.specs.Pairs.{Pairs, Paired, IsRun, with_value, run_of, grouped, list_of, room_of, room_for};
+
+use key_index_flat::index::{Fault, Refused};
+use std::alloc::{AllocError, Global};
+use std::marker::Model;
+use std::mem::replace;
+use std::ops::Range;
+use std::slice;
+use std::vec::IntoIter;
+
+/// How many of some sorted keys are below a key.
+fn lower_bound<K: Ord>(keys: &[K], key: &K) -> usize
+    requires { IsSorted K.cmp keys.now }
+    ensures within { result ≤ length keys.now }
+    ensures count { result ≡ length (filter (λ k. is_lt (K.cmp k key.now)) keys.now) }
+{
+    keys.partition_point(|k| k.cmp(key).is_lt())
+}
+
+/// How many of some sorted keys are not above a key.
+fn upper_bound<K: Ord>(keys: &[K], key: &K) -> usize
+    requires { IsSorted K.cmp keys.now }
+    ensures within { result ≤ length keys.now }
+    ensures count { result ≡ length (filter (λ k. is_le (K.cmp k key.now)) keys.now) }
+{
+    keys.partition_point(|k| k.cmp(key).is_le())
+}
+
+/// The items in a range of places.
+fn part<T>(items: &[T], range: Range<usize>) -> &[T]
+    requires start { range.start ≤ range.end }
+    requires end { range.end ≤ length items.now }
+    ensures { result.now ≡ slice_range items.now range.start range.end }
+{
+    &items[range]
+}
+
+/// The values of the first of some sorted keys.
+fn first_run<'a, K: Ord, V>(keys: &[K], values: &'a [V]) -> Option<&'a [V]>
+    requires sized { length keys.now ≡ length values.now }
+    requires sorted { IsSorted K.cmp keys.now }
+    ensures { option_copied result ≡ first_list (grouped K.cmp (zip keys.now values.now)) }
+{
+    let end = upper_bound(keys, keys.first()?);
+    Some(part(values, 0..end))
+}
+
+/// The values of the last of some sorted keys.
+fn last_run<'a, K: Ord, V>(keys: &[K], values: &'a [V]) -> Option<&'a [V]>
+    requires sized { length keys.now ≡ length values.now }
+    requires sorted { IsSorted K.cmp keys.now }
+    ensures { option_copied result ≡ last_list (grouped K.cmp (zip keys.now values.now)) }
+{
+    let start = lower_bound(keys, keys.last()?);
+    Some(part(values, start..values.len()))
+}
+
+/// Each of some sorted keys once, with room for exactly its values and none of them yet.
+fn empty_runs<K: Ord + Copy, V: Drop>(
+    alloc: Global,
+    keys: &[K],
+) -> Result<Vec<(K, Vec<V>)>, AllocError>
+    requires { IsSorted K.cmp keys.now }
+    ensures { IfOk result (λ runs. (vs : List V) → length keys.now ≡ length vs
+        → map room_of runs.items ≡ map room_for (grouped K.cmp (zip keys.now vs))) }
+{
+    let mut runs = Vec::new(alloc);
+    let mut start = 0;
+    while start < keys.len() {
+        let count = upper_bound(part(keys, start..keys.len()), &keys[start]);
+        let values = Vec::with_capacity(alloc, count)?;
+        runs.push((keys[start + (count - 1)], values))?;
+        start += count;
+    }
+    Ok(runs)
+}
+
+/// Moves the next values in, as many as there is room for.
+fn fill<V: Drop>(run: &mut Vec<V>, values: &mut IntoIter<V>)
+    requires empty { run.old.items ≡ [] }
+    requires enough { vec_capacity run.old ≤ length (into_iter_items values.old) }
+    ensures run { run.new.items ≡ take (vec_capacity run.old) (into_iter_items values.old) }
+    ensures left { into_iter_items values.new ≡ drop (vec_capacity run.old) (into_iter_items values.old) }
+{
+    let room = run.capacity();
+    while run.len() < room {
+        let Some(value) = values.next() else {
+            unreachable!()
+        };
+        let Ok(()) = run.push(value) else {
+            unreachable!()
+        };
+    }
+}
+
+/// Gives each run its values, as many as it has room for, in turn.
+fn fill_runs<K, V: Drop>(runs: &mut Vec<(K, Vec<V>)>, values: Vec<V>)
+    requires { (c : Content K V) × (map room_of runs.old.items ≡ map room_for c)
+        × (flat_map (λ e. e.1) c ≡ values.items) }
+    ensures { (c : Content K V) → map room_of runs.old.items ≡ map room_for c
+        → flat_map (λ e. e.1) c ≡ values.items → map list_of runs.new.items ≡ c }
+{
+    let mut values = values.into_iter();
+    for place in 0..runs.len() {
+        fill(&mut runs[place].1, &mut values);
+    }
+}
+
+/// The keys in order, and beside each of them a value. Pairs of one key stand in a run, one behind another.
+#[derive(Drop)]
+pub struct Partition<K: Ord + Copy, V> {
+    keys: Vec<K>,
+    values: Vec<V>,
+}
+
+impl<K: Ord + Copy, V> Model for Partition<K, V> {
+    ghost Value = { Pairs K V };
+
+    ghost view = { λ p. record {
+      pairs = zip p.keys.items p.values.items;
+      room = min (vec_capacity p.keys - length p.keys.items) (vec_capacity p.values - length p.values.items);
+    } };
+
+    ghost invariant = { λ p. Paired K.cmp p.keys.items p.values.items };
+}
+
+impl<K: Ord + Copy, V: Drop> Partition<K, V> {
+    /// No pairs.
+    pub fn new(alloc: Global) -> Partition<K, V>
+        ensures pairs { result.pairs ≡ [] }
+        ensures room { result.room ≡ 0 }
+    {
+        Partition {
+            keys: Vec::new(alloc),
+            values: Vec::new(alloc),
+        }
+    }
+
+    pub fn len(&self) -> usize
+        ensures { result ≡ length self.now.pairs }
+    {
+        self.keys.len()
+    }
+
+    pub fn is_empty(&self) -> bool
+        ensures { result ≡ (length self.now.pairs == 0) }
+    {
+        self.keys.is_empty()
+    }
+
+    pub fn key_at(&self, place: usize) -> K
+        requires { place < length self.now.pairs }
+        ensures { slice_get (keys_of self.now.pairs) place ≡ Some result }
+    {
+        self.keys[place]
+    }
+
+    pub fn value_at(&self, place: usize) -> &V
+        requires { place < length self.now.pairs }
+        ensures { slice_get (values_of self.now.pairs) place ≡ Some result.now }
+    {
+        &self.values[place]
+    }
+
+    /// How many pairs more it takes without asking for memory.
+    pub fn room(&self) -> usize
+        ensures { result ≡ self.now.room }
+    {
+        let keys = self.keys.capacity() - self.keys.len();
+        let values = self.values.capacity() - self.values.len();
+        keys.min(values)
+    }
+
+    /// Makes room for `additional` pairs more. A refusal leaves the pairs as they are, and no less room.
+    pub fn reserve(&mut self, additional: usize) -> Result<(), Fault>
+        ensures pairs { self.new.pairs ≡ self.old.pairs }
+        ensures room { OnOk result (additional ≤ self.new.room) }
+        ensures kept { self.old.room ≤ self.new.room }
+        ensures short { OnErr result (self.new.room < additional) }
+        ensures succeeds { additional ≤ self.old.room → IsOk result }
+        ensures fault { IfErr result (λ fault. fault ≡ Fault.Memory) }
+    {
+        if self.keys.reserve(additional).is_err() {
+            return Err(Fault::Memory);
+        }
+        if self.values.reserve(additional).is_err() {
+            return Err(Fault::Memory);
+        }
+        Ok(())
+    }
+
+    /// Puts a pair in at a place, and moves those from there on by one. A refusal hands the value back, and leaves
+    /// pairs and room as they were.
+    pub fn insert_at(&mut self, place: usize, key: K, value: V) -> Result<(), Refused<V>>
+        requires place { place ≤ length self.old.pairs }
+        requires sorted { IsSorted K.cmp (insert (keys_of self.old.pairs) place key) }
+        ensures accepted { OnOk result (self.new.pairs ≡ insert self.old.pairs place (key, value)) }
+        ensures room { OnOk result (self.old.room ≤ self.new.room + 1) }
+        ensures refused { OnErr result (self.new ≡ self.old) }
+        ensures succeeds { 0 < self.old.room → IsOk result }
+        ensures returned { IfErr result (λ r. r.value ≡ value) }
+        ensures fault { IfErr result (λ r. r.fault ≡ Fault.Memory) }
+    {
+        if let Err(fault) = self.reserve(1) {
+            return Err(Refused { value, fault });
+        }
+        let (Ok(()), Ok(())) = (
+            self.keys.insert(place, key),
+            self.values.insert(place, value),
+        ) else {
+            unreachable!()
+        };
+        Ok(())
+    }
+
+    /// Takes the pair at a place out, and moves those behind it.
+    pub fn remove(&mut self, place: usize) -> V
+        requires { place < length self.old.pairs }
+        ensures value { slice_get (values_of self.old.pairs) place ≡ Some result }
+        ensures pairs { self.new.pairs ≡ remove self.old.pairs place }
+        ensures room { self.new.room ≡ self.old.room + 1 }
+    {
+        self.keys.remove(place);
+        self.values.remove(place)
+    }
+
+    /// Puts another value at a place.
+    pub fn set(&mut self, place: usize, value: V)
+        requires { place < length self.old.pairs }
+        ensures pairs { self.new.pairs ≡ with_value self.old.pairs place value }
+        ensures room { self.new.room ≡ self.old.room }
+    {
+        self.values[place] = value;
+    }
+
+    /// The places of the pairs of a key. Where it has none, they begin and end where a pair of it belongs.
+    pub fn run_range(&self, key: &K) -> Range<usize>
+        ensures run { IsRun K.cmp self.now.pairs key.now result.start result.end }
+        ensures within { result.end ≤ length self.now.pairs }
+        ensures sorted { IsSorted K.cmp (keys_of self.now.pairs) }
+    {
+        let keys = self.keys.as_slice();
+        lower_bound(keys, key)..upper_bound(keys, key)
+    }
+
+    /// The values of a key, in their order.
+    pub fn values(&self, key: &K) -> &[V]
+        ensures { result.now ≡ run_of K.cmp self.now.pairs key.now }
+    {
+        part(self.values.as_slice(), self.run_range(key))
+    }
+
+    /// All values, in the order of their keys.
+    pub fn values_iter(&self) -> slice::Iter<'_, V>
+        ensures { iter_rest result ≡ values_of self.now.pairs }
+    {
+        self.values.iter()
+    }
+
+    /// Takes the whole run of a key out, and moves the pairs behind it.
+    pub fn remove_run(&mut self, range: Range<usize>)
+        requires { (k : K) × IsRun K.cmp self.old.pairs k range.start range.end }
+        ensures pairs { self.new.pairs ≡ remove_range self.old.pairs range.start range.end }
+        ensures room { self.new.room ≡ self.old.room + (range.end - range.start) }
+    {
+        self.keys.drain(range.start..range.end);
+        self.values.drain(range.start..range.end);
+    }
+
+    /// The values of the least key. None where it holds no pair.
+    pub fn first_values(&self) -> Option<&[V]>
+        ensures { option_copied result ≡ first_list (grouped K.cmp self.now.pairs) }
+    {
+        first_run(self.keys.as_slice(), self.values.as_slice())
+    }
+
+    /// The values of the greatest key. None where it holds no pair.
+    pub fn last_values(&self) -> Option<&[V]>
+        ensures { option_copied result ≡ last_list (grouped K.cmp self.now.pairs) }
+    {
+        last_run(self.keys.as_slice(), self.values.as_slice())
+    }
+
+    /// The values of the least key above a key. None where there is no such key.
+    pub fn next_values_after(&self, key: &K) -> Option<&[V]>
+        ensures { option_copied result ≡ first_list (entries_above K.cmp (grouped K.cmp self.now.pairs) key.now) }
+    {
+        let (keys, values) = (self.keys.as_slice(), self.values.as_slice());
+        let start = upper_bound(keys, key);
+        first_run(
+            part(keys, start..keys.len()),
+            part(values, start..values.len()),
+        )
+    }
+
+    /// The values of the greatest key below a key. None where there is no such key.
+    pub fn prev_values_before(&self, key: &K) -> Option<&[V]>
+        ensures { option_copied result ≡ last_list (entries_below K.cmp (grouped K.cmp self.now.pairs) key.now) }
+    {
+        let (keys, values) = (self.keys.as_slice(), self.values.as_slice());
+        let end = lower_bound(keys, key);
+        last_run(part(keys, 0..end), part(values, 0..end))
+    }
+
+    /// Takes all pairs out, as one list of values for each key, in the order of the keys, and gives their memory back.
+    /// It has room for all of them before the first value moves, and a refusal leaves pairs and room as they were.
+    pub fn drain_runs(&mut self) -> Result<Vec<(K, Vec<V>)>, Fault>
+        ensures runs { IfOk result (λ runs. map list_of runs.items ≡ grouped K.cmp self.old.pairs) }
+        ensures emptied { OnOk result (self.new.pairs ≡ []) }
+        ensures room { OnOk result (self.new.room ≡ 0) }
+        ensures refused { OnErr result (self.new ≡ self.old) }
+        ensures fault { IfErr result (λ fault. fault ≡ Fault.Memory) }
+    {
+        let alloc = *self.keys.allocator();
+        let Ok(mut runs) = empty_runs(alloc, self.keys.as_slice()) else {
+            return Err(Fault::Memory);
+        };
+        self.keys = Vec::new(alloc);
+        fill_runs(&mut runs, replace(&mut self.values, Vec::new(alloc)));
+        Ok(runs)
+    }
+}
