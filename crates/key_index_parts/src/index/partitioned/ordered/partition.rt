@@ -1,5 +1,5 @@
 //! One partition: its keys in order, and beside each key a value.
-ghost use Rattle.std.specs.Prelude.{◌≡◌, ◌+◌, ◌-◌, ◌<◌, ◌≤◌, List, [], ◌∷◌, length, min, slice_get, insert, remove, Some, IsOk, IfOk, IfErr, OnOk, OnErr, map, take, drop};
+ghost use Rattle.std.specs.Prelude.{◌≡◌, ◌+◌, ◌-◌, ◌<◌, ◌≤◌, List, [], ◌∷◌, length, min, slice_get, insert, remove, Some, IsOk, IfOk, IfErr, OnOk, OnErr, map, take, drop, vec_len};
 ghost use Rattle.std.specs.Bool.{◌==◌};
 ghost use Rattle.std.specs.List.{filter, flat_map, zip, slice_range, remove_range};
 ghost use Rattle.std.specs.List.Sorted.{IsSorted};
@@ -119,6 +119,29 @@ fn fill_runs<K, V: Drop>(runs: &mut Vec<(K, Vec<V>)>, values: Vec<V>)
     }
 }
 
+/// Makes room for so many items more in two vectors, one after the other.
+fn reserve_in_turn<A, B>(
+    first: &mut Vec<A>,
+    second: &mut Vec<B>,
+    additional: usize,
+) -> Result<(), Fault>
+    ensures first_items { first.new.items ≡ first.old.items }
+    ensures second_items { second.new.items ≡ second.old.items }
+    ensures first_grows { vec_capacity first.old ≤ vec_capacity first.new }
+    ensures second_grows { vec_capacity second.old ≤ vec_capacity second.new }
+    ensures first_room { OnOk result (vec_len first.new + additional ≤ vec_capacity first.new) }
+    ensures second_room { OnOk result (vec_len second.new + additional ≤ vec_capacity second.new) }
+    ensures second_kept { OnErr result (vec_capacity second.new ≡ vec_capacity second.old) }
+    ensures short { OnErr result (min (vec_capacity first.old - vec_len first.old)
+        (vec_capacity second.old - vec_len second.old) < additional) }
+    ensures fault { IfErr result (λ fault. fault ≡ Fault.Memory) }
+{
+    if first.reserve(additional).is_err() || second.reserve(additional).is_err() {
+        return Err(Fault::Memory);
+    }
+    Ok(())
+}
+
 /// The keys in order, and beside each of them a value. Pairs of one key stand in a run, one behind another.
 #[derive(Drop)]
 pub struct Partition<K: Ord + Copy, V> {
@@ -184,22 +207,22 @@ impl<K: Ord + Copy, V: Drop> Partition<K, V> {
         keys.min(values)
     }
 
-    /// Makes room for `additional` pairs more. A refusal leaves the pairs as they are, and no less room.
+    /// Makes room for `additional` pairs more. A refusal leaves pairs and room as they were: the vector with less room comes last.
     pub fn reserve(&mut self, additional: usize) -> Result<(), Fault>
         ensures pairs { self.new.pairs ≡ self.old.pairs }
         ensures room { OnOk result (additional ≤ self.new.room) }
         ensures kept { self.old.room ≤ self.new.room }
-        ensures short { OnErr result (self.new.room < additional) }
-        ensures succeeds { additional ≤ self.old.room → IsOk result }
+        ensures refused { OnErr result (self.new ≡ self.old) }
+        ensures short { OnErr result (self.old.room < additional) }
         ensures fault { IfErr result (λ fault. fault ≡ Fault.Memory) }
     {
-        if self.keys.reserve(additional).is_err() {
-            return Err(Fault::Memory);
+        let keys = self.keys.capacity() - self.keys.len();
+        let values = self.values.capacity() - self.values.len();
+        if keys <= values {
+            reserve_in_turn(&mut self.values, &mut self.keys, additional)
+        } else {
+            reserve_in_turn(&mut self.keys, &mut self.values, additional)
         }
-        if self.values.reserve(additional).is_err() {
-            return Err(Fault::Memory);
-        }
-        Ok(())
     }
 
     /// Puts a pair in at a place, and moves those from there on by one. A refusal hands the value back, and leaves
