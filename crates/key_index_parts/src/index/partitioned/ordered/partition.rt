@@ -307,7 +307,7 @@ impl<K: Ord + Copy, V: Drop> Partition<K, V> {
     pub fn first_values(&self) -> Option<&[V]>
         ensures { option_copied result ≡ first_list (grouped K.cmp self.now.pairs) }
     {
-        last_run(self.keys.as_slice(), self.values.as_slice())
+        first_run(self.keys.as_slice(), self.values.as_slice())
     }
 
     /// The values of the greatest key. None where it holds no pair.
