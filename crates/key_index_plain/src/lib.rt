@@ -1,5 +1,5 @@
-//! The plain index: the definitions' own program. Every call scans a sorted list of entries. It is for tests, where each other index
-//! runs beside it, and it is the shortest index to read.
+//! The plain index: the definitions' own program. Every call scans a sorted list of entries. It shows that the contracts can be met,
+//! and it is the shortest index to read.
 #![tactic(auto)]
 
 ghost use Rattle.std.specs.Prelude.{◌≡◌, ◌<◌, ◌^◌, [], true, false, refl, IsOk, IfOk, IfErr};
