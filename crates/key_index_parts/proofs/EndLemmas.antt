@@ -22,7 +22,8 @@ use Rattle.key_index_parts.proofs.SearchLemmas.{rises, first_lowest, last_highes
 use Rattle.key_index_parts.proofs.ZipLemmas.{length-zip, values_of-zip, take-zip, drop-zip}
 use Rattle.key_index_parts.proofs.PairLemmas.{filter-none, length-filter-keys}
 use Rattle.key_index_parts.proofs.RunLemmas.{all_keys, run_found, above_part, below_part, IsRun-within, IsRun-slice}
-use Rattle.key_index_parts.proofs.GroupLemmas.{IsLawful-grouped, list_at-grouped, entries_above-grouped, entries_below-grouped}
+use Rattle.key_index_parts.specs.PairLaws.{IsLawful-grouped}
+use Rattle.key_index_parts.proofs.GroupLemmas.{list_at-grouped, entries_above-grouped, entries_below-grouped}
 
 module _ {K V : Type 0} {cmp : K → K → Ordering} (o : IsTotalOrder cmp) where
   pub first_told : (c : Content K V) (k : K) → IsLawful cmp c → T (is_filled (list_at cmp c k)) → entries_below cmp c k ≡ [] → first_list c ≡ Some (list_at cmp c k)

@@ -1,8 +1,10 @@
 -- The content that pairs stand for, in whatever order they are.
---     IsLawful-grouped, list_at-grouped, item_count-grouped     its law, its lists, and how many values it has
+--     list_at-grouped, item_count-grouped     its lists, and how many values it has
+--     none_grouped                   it is empty exactly where there is no pair
 --     filter-grouped                 the entries that pass a test of keys are those of the pairs that do
 --     entries_above-grouped, ..      so are those above a key, and below
-use Rattle.std.proofs.Common.{◌≡◌, Bool, true, false, cond, T, List, [], ◌∷◌, length, refl, sym, ap, subst, ◌∙◌, arith}
+use Rattle.std.proofs.Common.{◌≡◌, ℕ, ◌≤◌, Bool, true, false, not, nat_eq, cond, T, List, [], ◌∷◌, length, refl, sym, ap, subst, ◌∙◌, arith}
+use Rattle.std.proofs.lemmas.Bool.{eq-eqb, ne_eqb}
 use Rattle.std.proofs.lemmas.List.Elements.{filter_agree}
 use Rattle.std.specs.List.{filter}
 use Rattle.std.specs.Map.{values_of}
@@ -12,17 +14,14 @@ use Rattle.std.specs.FinMap.Entries.{below_all, by_order}
 use Rattle.std.specs.declared.cmp.Ordering.{Ordering}
 use Rattle.std.specs.declared.cmp.Ordering.TheVariants.{Less, Equal, Greater}
 use Rattle.std.specs.Ordering.{is_lt, is_eq, eq_by_cmp}
-use Rattle.key_index_flat.specs.Content.{IsLawful, list_at, item_count}
+use Rattle.key_index_flat.specs.Content.{Content, IsLawful, is_filled, all_filled, list_at, item_count}
 use Rattle.key_index_flat.specs.Laws.{IsLawful-with_list, both, first, second}
 use Rattle.key_index_flat.specs.Neighbours.{entries_above, entries_below}
 use Rattle.key_index_flat.proofs.ContentLemmas.{list_at-with_list, item_count-with_list, tied, less}
 use Rattle.key_index_parts.specs.Pairs.{run_of, grouped}
+use Rattle.key_index_parts.specs.PairLaws.{IsLawful-grouped}
 
 module _ {K V : Type 0} {cmp : K → K → Ordering} (o : IsTotalOrder cmp) where
-  pub IsLawful-grouped : (es : List (K × V)) → IsLawful cmp (grouped cmp es)
-  IsLawful-grouped [] = (tt, tt)
-  IsLawful-grouped (e ∷ es) = IsLawful-with_list o (grouped cmp es) e.0 (e.1 ∷ list_at cmp (grouped cmp es) e.0) (IsLawful-grouped es)
-
   -- equal keys have one run
   pub run_of-alike : (es : List (K × V)) (k q : K) → cmp k q ≡ Equal → run_of cmp es k ≡ run_of cmp es q
   run_of-alike es k q e = ap values_of (filter_agree _ _ (λ f. ap is_eq (o.congr k q f.0 e)) es)
@@ -42,8 +41,20 @@ module _ {K V : Type 0} {cmp : K → K → Ordering} (o : IsTotalOrder cmp) wher
   item_count-grouped [] = refl
   item_count-grouped (e ∷ es) =
       let rest = item_count-grouped es in
-      let step = item_count-with_list o (grouped cmp es) e.0 (e.1 ∷ list_at cmp (grouped cmp es) e.0) (IsLawful-grouped es) in
+      let step = item_count-with_list o (grouped cmp es) e.0 (e.1 ∷ list_at cmp (grouped cmp es) e.0) (IsLawful-grouped o es) in
       omega (arith, rest, step)
+
+  -- there is no pair exactly where there is no entry
+  pub none_grouped : (es : List (K × V)) → nat_eq (length es) 0 ≡ not (is_filled (grouped cmp es))
+  none_grouped es = told (grouped cmp es) (IsLawful-grouped o es).1 (item_count-grouped es)
+    where
+      told : (c : Content K V) → T (all_filled c) → item_count c ≡ length es → nat_eq (length es) 0 ≡ not (is_filled c)
+      told [] h e = eq-eqb (length es) 0 (sym e)
+      told (x ∷ xs) h e = let some = filled_count x.1 (first _ _ h) in ne_eqb (length es) 0 (λ none. absurd (omega (arith, some, none, e)))
+        where
+          filled_count : (l : List V) → T (is_filled l) → 1 ≤ length l
+          filled_count [] f = absurd f
+          filled_count (v ∷ vs) f = omega arith
 
 -- what passes a wider test first
 filter-filter : {X : Type 0} (p q : X → Bool) → ((x : X) → q x ≡ true → p x ≡ true) → (xs : List X) → filter q (filter p xs) ≡ filter q xs

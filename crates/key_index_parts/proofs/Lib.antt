@@ -9,5 +9,6 @@ pub mod PairLemmas
 pub mod RunLemmas
 pub mod GroupLemmas
 pub mod EndLemmas
+pub mod FoundRun
 pub mod PairEdits
 pub mod DrainLemmas

@@ -24,14 +24,15 @@ use Rattle.key_index_parts.specs.Pairs.{run_of, grouped, with_value, IsRun}
 use Rattle.key_index_parts.proofs.SearchLemmas.{Rises, sorted}
 use Rattle.key_index_parts.proofs.PairLemmas.{filter-none, filter-all, place_among, filter-insert, filter-remove, filter-set}
 use Rattle.key_index_parts.proofs.RunLemmas.{parts, pairs_at, below_part}
-use Rattle.key_index_parts.proofs.GroupLemmas.{IsLawful-grouped, list_at-grouped}
+use Rattle.key_index_parts.specs.PairLaws.{IsLawful-grouped}
+use Rattle.key_index_parts.proofs.GroupLemmas.{list_at-grouped}
 
 -- ---- lists
 
 map-insert : {X Y : Type 0} (f : X → Y) (xs : List X) (i : ℕ) (x : X) → map f (insert xs i x) ≡ insert (map f xs) i (f x)
 map-insert f xs i x = map-append f (take i xs) (x ∷ drop i xs) ∙ (λ j. sym (take-map f i xs) j ++ f x ∷ sym (drop-map f i xs) j)
 
-map-remove : {X Y : Type 0} (f : X → Y) (xs : List X) (i : ℕ) → map f (remove xs i) ≡ remove (map f xs) i
+pub map-remove : {X Y : Type 0} (f : X → Y) (xs : List X) (i : ℕ) → map f (remove xs i) ≡ remove (map f xs) i
 map-remove f xs i = map-append f (take i xs) (drop (suc i) xs) ∙ (λ j. sym (take-map f i xs) j ++ sym (drop-map f (suc i) xs) j)
 
 slice_get-append-add : {X : Type 0} (xs ys : List X) (n : ℕ) → slice_get (xs ++ ys) (length xs + n) ≡ slice_get ys n

@@ -1,0 +1,42 @@
+use Rattle.std.proofs.Common.{rules, ◌<◌, ◌^◌, ap, ◌∙◌, arith}
+use Rattle.key_index_parts.specs.Pairs.{grouped}
+use Rattle.key_index_parts.proofs.FoundRun.{run_count, place_within, set_in}
+use Rattle.key_index_parts.proofs.index.partitioned.ordered.arrays.ArraysPart.set_at.Goals as goal
+
+pub overflow_add-run : goal.overflow_add-run
+overflow_add-run g c =
+    let o = g.met.T.Key.Ord.total in
+    let exact = g.met.T.Translator.exact in
+    let es = c.args.self.now.pairs.pairs in
+    let k = c.args.key in
+    let start = c.run_range-run.result.start in
+    let end = c.run_range-run.result.end in
+    let run = c.run_range-run.ensures.run in
+    let sorted = c.run_range-run.ensures.sorted in
+    let count = run_count o exact es k sorted start end run in
+    let small : end < 2 ^ 64 = search rules in
+    omega (arith, count, small, c.requires)
+
+pub set-requires : goal.set-requires
+set-requires g c =
+    let o = g.met.T.Key.Ord.total in
+    let exact = g.met.T.Translator.exact in
+    let es = c.args.self.now.pairs.pairs in
+    let k = c.args.key in
+    let start = c.run_range-run.result.start in
+    let end = c.run_range-run.result.end in
+    let run = c.run_range-run.ensures.run in
+    let sorted = c.run_range-run.ensures.sorted in
+    place_within o exact es k sorted start end run c.args.place c.requires
+
+pub returns : goal.returns
+returns g c =
+    let o = g.met.T.Key.Ord.total in
+    let exact = g.met.T.Translator.exact in
+    let es = c.args.self.now.pairs.pairs in
+    let k = c.args.key in
+    let start = c.run_range-run.result.start in
+    let end = c.run_range-run.result.end in
+    let run = c.run_range-run.ensures.run in
+    let sorted = c.run_range-run.ensures.sorted in
+    ap (λ fs. grouped g.T.Key.Ord.cmp fs) c.set.ensures.pairs ∙ set_in o exact es k sorted start end run c.args.place c.args.value c.requires

@@ -1,0 +1,26 @@
+use Rattle.std.proofs.Common.{◌-◌, ◌≡◌, ◌≤◌, take, drop}
+use Rattle.std.specs.Fn.{CalledAt}
+use Rattle.std.specs.List.Sorted.{IsSorted}
+use Rattle.std.specs.Map.{keys_of}
+use denote.Param.Always.{always_mut}
+use Rattle.key_index_flat.specs.Content.{list_at, with_list}
+use Rattle.key_index_flat.proofs.Asked.{KeptTo}
+use Rattle.key_index_parts.specs.Pairs.{IsRun, grouped}
+use Rattle.key_index_parts.proofs.index.partitioned.ordered.arrays.retain_run.Given as goal
+
+abbrev pub invariant-loop-place : goal.invariant-loop-place
+invariant-loop-place g l = record {
+  from : l.fn.run.start ≤ l.place;
+  within : l.place ≤ l.end;
+  sorted : IsSorted g.T.Key.Ord.cmp (keys_of l.pairs.pairs);
+  run : IsRun g.T.Key.Ord.cmp l.pairs.pairs l.fn.key l.fn.run.start l.end;
+  content : grouped g.T.Key.Ord.cmp l.pairs.pairs
+      ≡ with_list g.T.Key.Ord.cmp (grouped g.T.Key.Ord.cmp l.fn.pairs.pairs) l.fn.key (list_at g.T.Key.Ord.cmp (grouped g.T.Key.Ord.cmp l.pairs.pairs) l.fn.key);
+  kept : KeptTo (CalledAt g.F.FnMut) l.fn.should_retain (list_at g.T.Key.Ord.cmp (grouped g.T.Key.Ord.cmp l.fn.pairs.pairs) l.fn.key) 0 l.should_retain
+      (take (l.place - l.fn.run.start) (list_at g.T.Key.Ord.cmp (grouped g.T.Key.Ord.cmp l.pairs.pairs) l.fn.key))
+      (drop (l.place - l.fn.run.start) (list_at g.T.Key.Ord.cmp (grouped g.T.Key.Ord.cmp l.pairs.pairs) l.fn.key));
+  again : always_mut g.F.FnMut l.should_retain;
+}
+
+abbrev pub decreases-loop-place : goal.decreases-loop-place
+decreases-loop-place g l = l.end - l.place

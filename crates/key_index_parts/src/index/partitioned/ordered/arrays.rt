@@ -1,0 +1,184 @@
+//! A part as sorted arrays.
+ghost use Rattle.std.specs.Prelude.{◌≡◌, ◌+◌, ◌≤◌, List, false, length};
+ghost use Rattle.std.specs.Fn.{CalledAt};
+ghost use Rattle.std.specs.List.Retain.{IsFiltered};
+ghost use Rattle.std.specs.List.Sorted.{IsSorted};
+ghost use Rattle.std.specs.Map.{keys_of};
+ghost use Rattle.key_index_flat.specs.Content.{item_count, list_at, with_list};
+ghost use Rattle.key_index_flat.specs.Neighbours.{first_list, last_list, entries_above, entries_below};
+ghost use Rattle.key_index_parts.specs.Pairs.{IsRun, grouped};
+
+use super::partition::Partition;
+use crate::index::partitioned::part::{OrderedPart, Part};
+use key_index_flat::index::{Refused, Values};
+use key_index_flat::translator::Translator;
+use std::alloc::Global;
+use std::ops::Range;
+
+/// A part as sorted arrays: each key once for each of its values.
+#[derive(Drop)]
+pub(super) struct Arrays<T: Translator, V> {
+    pairs: Partition<T::Key, V>,
+}
+
+/// Asks once on each value of a key's run, takes out those that are answered false, and tells how many are left.
+fn retain_run<T: Translator, V: Drop, F: FnMut(&V) -> bool>(
+    pairs: &mut Partition<T::Key, V>,
+    key: T::Key,
+    run: Range<usize>,
+    mut should_retain: F,
+) -> usize
+    requires callable { F.IsAlwaysCallable should_retain }
+    requires sorted { IsSorted T.Key.cmp (keys_of pairs.old.pairs) }
+    requires run { IsRun T.Key.cmp pairs.old.pairs key run.start run.end }
+    ensures kept { (kept : List V)
+        × IsFiltered (CalledAt F.FnMut) should_retain (list_at T.Key.cmp (grouped T.Key.cmp pairs.old.pairs) key) kept
+        × (grouped T.Key.cmp pairs.new.pairs ≡ with_list T.Key.cmp (grouped T.Key.cmp pairs.old.pairs) key kept)
+        × (result ≡ length kept) }
+{
+    let start = run.start;
+    let mut end = run.end;
+    let mut place = start;
+    while place < end {
+        if should_retain(pairs.value_at(place)) {
+            place += 1;
+        } else {
+            pairs.remove(place);
+            end -= 1;
+        }
+    }
+    end - start
+}
+
+impl<T: Translator, V: Drop> Arrays<T, V> {
+    /// How many values stand in the arrays.
+    pub(super) fn len(&self) -> usize
+        ensures { result ≡ item_count (grouped T.Key.cmp self.now.pairs.pairs) }
+    {
+        self.pairs.len()
+    }
+}
+
+impl<T: Translator, V: Drop> Part<T, V> for Arrays<T, V> {
+    ghost use Rattle.key_index_parts.specs.PairLaws.{IsLawful-grouped};
+
+    ghost content = { λ part. grouped T.Key.cmp part.pairs.pairs };
+
+    ghost FIRST = { false };
+
+    ghost lawful = { λ part. IsLawful-grouped T.Key.total part.pairs.pairs };
+
+    fn new(alloc: Global) -> Arrays<T, V> {
+        Arrays {
+            pairs: Partition::new(alloc),
+        }
+    }
+
+    #[inline]
+    fn is_empty(&self) -> bool {
+        self.pairs.is_empty()
+    }
+
+    #[inline]
+    fn get(&self, key: T::Key) -> Values<'_, V> {
+        Values::of_slice(self.pairs.values(&key))
+    }
+
+    #[inline]
+    fn run_len(&self, key: T::Key) -> usize {
+        let run = self.pairs.run_range(&key);
+        run.end - run.start
+    }
+
+    #[inline]
+    fn value_at(&self, key: T::Key, place: usize) -> &V {
+        let run = self.pairs.run_range(&key);
+        self.pairs.value_at(run.start + place)
+    }
+
+    fn set_at(&mut self, key: T::Key, place: usize, value: V) {
+        let run = self.pairs.run_range(&key);
+        self.pairs.set(run.start + place, value);
+    }
+
+    fn insert_at(&mut self, key: T::Key, place: usize, value: V) -> Result<bool, V> {
+        let run = self.pairs.run_range(&key);
+        match self.pairs.insert_at(run.start + place, key, value) {
+            Ok(()) => Ok(run.start == run.end),
+            Err(refused) => Err(refused.value),
+        }
+    }
+
+    fn insert(&mut self, key: T::Key, value: V) -> Result<bool, V> {
+        let run = self.pairs.run_range(&key);
+        match self.pairs.insert_at(run.end, key, value) {
+            Ok(()) => Ok(run.start == run.end),
+            Err(refused) => Err(refused.value),
+        }
+    }
+
+    fn insert_absent(&mut self, key: T::Key, value: V) -> Result<usize, V> {
+        let run = self.pairs.run_range(&key);
+        if run.start < run.end {
+            return Ok(run.end - run.start);
+        }
+        match self.pairs.insert_at(run.end, key, value) {
+            Ok(()) => Ok(0),
+            Err(refused) => Err(refused.value),
+        }
+    }
+
+    fn remove_at(&mut self, key: T::Key, place: usize) -> (V, usize) {
+        let run = self.pairs.run_range(&key);
+        let value = self.pairs.remove(run.start + place);
+        (value, run.end - run.start - 1)
+    }
+
+    fn retain<F: FnMut(&V) -> bool>(&mut self, key: T::Key, should_retain: F) -> (usize, usize) {
+        let run = self.pairs.run_range(&key);
+        let had = run.end - run.start;
+        let left = retain_run::<T, V, F>(&mut self.pairs, key, run, should_retain);
+        (had, left)
+    }
+
+    fn remove(&mut self, key: T::Key) -> usize {
+        let run = self.pairs.run_range(&key);
+        let taken = run.end - run.start;
+        self.pairs.remove_run(run);
+        taken
+    }
+}
+
+impl<T: Translator, V: Drop> OrderedPart<T, V> for Arrays<T, V> {
+    #[inline]
+    fn first(&self) -> Option<Values<'_, V>> {
+        match self.pairs.first_values() {
+            Some(values) => Some(Values::of_slice(values)),
+            None => None,
+        }
+    }
+
+    #[inline]
+    fn last(&self) -> Option<Values<'_, V>> {
+        match self.pairs.last_values() {
+            Some(values) => Some(Values::of_slice(values)),
+            None => None,
+        }
+    }
+
+    #[inline]
+    fn above(&self, key: T::Key) -> Option<Values<'_, V>> {
+        match self.pairs.next_values_after(&key) {
+            Some(values) => Some(Values::of_slice(values)),
+            None => None,
+        }
+    }
+
+    #[inline]
+    fn below(&self, key: T::Key) -> Option<Values<'_, V>> {
+        match self.pairs.prev_values_before(&key) {
+            Some(values) => Some(Values::of_slice(values)),
+            None => None,
+        }
+    }
+}
