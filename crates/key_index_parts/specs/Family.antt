@@ -1,11 +1,16 @@
 -- A family of parts by what each holds, listed by their numbers. A slot is a part's number and a key of that part.
 --     part_at                     what the part of a number holds, and nothing past the last one
---     list_in, IsHeldIn           the list at a slot, and whether it has a value
+--     list_in                     the list at a slot
 --     with_list_in, with_edit_in  with this list at a slot, and with what f makes of the list there
 --     filled_parts                of each part, whether it holds anything
-use Rattle.std.specs.Prelude.{ℕ, Bool, List, [], map, slice_index_or, slice_set}
+--     Kept, IsCounted             what the storage of an index keeps, and its counts
+--     view_of                     the view of it, by what its translator makes of a key
+use Rattle.std.specs.Prelude.{◌≡◌, ℕ, ◌≤◌, Bool, nat_lt, List, [], length, map, All, slice_index_or, slice_set}
 use Rattle.std.specs.declared.cmp.Ordering.{Ordering}
-use Rattle.key_index_flat.specs.Content.{Content, is_filled, list_at, with_list}
+use Rattle.key_index_flat.specs.Content.{Content, is_filled, IsLawful, list_at, with_list, item_count, key_count}
+use Rattle.key_index_flat.specs.View.{View}
+use Rattle.key_index_parts.specs.Gathered.{gathered}
+use Rattle.key_index_parts.specs.Prefix.{partition_count, slot_by}
 
 module _ {K V : Type 0} where
   abbrev pub part_at : List (Content K V) → ℕ → Content K V
@@ -23,3 +28,26 @@ module _ {K V : Type 0} (cmp : K → K → Ordering) where
 
   abbrev pub with_edit_in : List (Content K V) → ℕ × K → (List V → List V) → List (Content K V)
   with_edit_in parts slot f = with_list_in parts slot (f (list_in parts slot))
+
+-- an index as its storage's contracts see it: its translator, what its parts hold, and how many held values were ever taken out
+pub record Kept (T K V : Type 0) : Type 0 where
+  pub translator : T
+  pub parts : List (Content K V)
+  pub pruned : ℕ
+
+-- as many parts as there are partitions of p bytes, each a map of lists that are not empty, and so many values and keys in all of them
+pub record IsCounted {K V : Type 0} (cmp : K → K → Ordering) (p : ℕ) (parts : List (Content K V)) (items keys : ℕ) : Type 0 where
+  pub least : 1 ≤ p
+  pub greatest : p ≤ 3
+  pub sized : length parts ≡ partition_count p
+  pub each : All (IsLawful cmp) parts
+  pub counted : items ≡ item_count (gathered parts)
+  pub keyed : keys ≡ key_count (gathered parts)
+
+abbrev pub view_of : {T K V : Type 0} → ℕ → (T → List ℕ → K) → Kept T K V → View (ℕ × K) V
+view_of p translated s = record {
+  content = gathered s.parts;
+  pruned = s.pruned;
+  slot = slot_by p (translated s.translator);
+  admitted = λ slot. nat_lt slot.0 (partition_count p);
+}

@@ -1,0 +1,271 @@
+//! The parts of an index, listed by their numbers.
+ghost use Rattle.std.specs.Prelude.{◌≡◌, ◌+◌, ◌<◌, ◌≤◌, List, [], ◌∷◌, length, map, take, drop, not, replicate, slice_get, slice_set, insert, remove, Some, IfOk, IfErr, OnErr};
+ghost use Rattle.std.specs.Fn.{CalledAt};
+ghost use Rattle.std.specs.List.Retain.{IsFiltered};
+ghost use Rattle.key_index_flat.specs.Content.{Content, is_filled};
+ghost use Rattle.key_index_flat.specs.Neighbours.{first_list, last_list, next_list, prev_list};
+ghost use Rattle.key_index_flat.specs.View.{put_value};
+ghost use Rattle.key_index_parts.specs.Family.{part_at, list_in, with_list_in, with_edit_in, filled_parts};
+ghost use Rattle.key_index_parts.specs.Gathered.{gathered, gathered_from, pair_cmp};
+ghost use Rattle.key_index_parts.specs.Prefix.{partition_count};
+
+use super::filled::Filled;
+use super::part::{OrderedPart, Part};
+use key_index_flat::index::{Fault, Values};
+use key_index_flat::translator::Translator;
+use std::alloc::Global;
+use std::marker::Model;
+
+/// The parts, and which of them hold anything. Contracts see what each part holds.
+#[derive(Drop)]
+pub(super) struct Parts<T: Translator, V, X: Part<T, V>> {
+    parts: Vec<X>,
+    filled: Filled,
+}
+
+impl<T: Translator, V, X: Part<T, V>> Model for Parts<T, V, X> {
+    ghost Value = { List (Content T.Key V) };
+
+    ghost view = { λ p. map X.content p.parts.items };
+
+    ghost invariant = { λ p. p.filled ≡ filled_parts (map X.content p.parts.items) };
+}
+
+impl<T: Translator, V: Drop, X: Part<T, V> + Drop> Parts<T, V, X> {
+    /// So many parts that hold nothing. Takes the memory of their slots at once.
+    pub(super) fn new(alloc: Global, count: usize) -> Result<Parts<T, V, X>, Fault>
+        requires { count ≤ partition_count 3 }
+        ensures parts { IfOk result (λ parts. parts ≡ replicate count []) }
+        ensures fault { IfErr result (λ fault. fault ≡ Fault.Memory) }
+    {
+        let (Ok(mut parts), Ok(filled)) =
+            (Vec::with_capacity(alloc, count), Filled::new(alloc, count))
+        else {
+            return Err(Fault::Memory);
+        };
+        for _ in 0..count {
+            parts.push_reserved(X::new(alloc));
+        }
+        Ok(Parts { parts, filled })
+    }
+
+    /// The part of a number.
+    #[inline]
+    pub(super) fn part(&self, number: usize) -> &X
+        requires { number < length self.now }
+        ensures { X.content result.now ≡ part_at self.now number }
+    {
+        &self.parts[number]
+    }
+
+    #[inline]
+    pub(super) fn get(&self, slot: (usize, T::Key)) -> Values<'_, V>
+        requires { slot.0 < length self.now }
+        ensures { result ≡ list_in T.Key.cmp self.now slot }
+    {
+        self.parts[slot.0].get(slot.1)
+    }
+
+    #[inline]
+    pub(super) fn run_len(&self, slot: (usize, T::Key)) -> usize
+        ensures { result ≡ length (list_in T.Key.cmp self.now slot) }
+    {
+        match self.parts.get(slot.0) {
+            Some(part) => part.run_len(slot.1),
+            None => 0,
+        }
+    }
+
+    #[inline]
+    pub(super) fn value_at(&self, slot: (usize, T::Key), place: usize) -> &V
+        requires { place < length (list_in T.Key.cmp self.now slot) }
+        ensures { slice_get (list_in T.Key.cmp self.now slot) place ≡ Some result.now }
+    {
+        self.parts[slot.0].value_at(slot.1, place)
+    }
+
+    #[inline]
+    pub(super) fn set_at(&mut self, slot: (usize, T::Key), place: usize, value: V)
+        requires { place < length (list_in T.Key.cmp self.old slot) }
+        ensures { self.new ≡ with_edit_in T.Key.cmp self.old slot (λ l. slice_set l place value) }
+    {
+        self.parts[slot.0].set_at(slot.1, place, value);
+    }
+
+    /// Puts a value in at a place of a slot's list, or behind its last one, and tells whether the slot had none.
+    pub(super) fn insert_at(
+        &mut self,
+        slot: (usize, T::Key),
+        place: usize,
+        value: V,
+    ) -> Result<bool, V>
+        requires within { slot.0 < length self.old }
+        requires place { place ≤ length (list_in T.Key.cmp self.old slot) }
+        ensures accepted { IfOk result (λ absent.
+            (self.new ≡ with_edit_in T.Key.cmp self.old slot (λ l. insert l place value))
+            × (absent ≡ not (is_filled (list_in T.Key.cmp self.old slot)))) }
+        ensures refused { OnErr result (self.new ≡ self.old) }
+        ensures returned { IfErr result (λ back. back ≡ value) }
+    {
+        match self.parts[slot.0].insert_at(slot.1, place, value) {
+            Ok(absent) => {
+                self.filled.set(slot.0, true);
+                Ok(absent)
+            }
+            Err(value) => Err(value),
+        }
+    }
+
+    /// Puts a value in at its end of a slot's list, and tells whether the slot had none.
+    pub(super) fn insert(&mut self, slot: (usize, T::Key), value: V) -> Result<bool, V>
+        requires { slot.0 < length self.old }
+        ensures accepted { IfOk result (λ absent.
+            (self.new ≡ with_edit_in T.Key.cmp self.old slot (put_value X.FIRST value))
+            × (absent ≡ not (is_filled (list_in T.Key.cmp self.old slot)))) }
+        ensures refused { OnErr result (self.new ≡ self.old) }
+        ensures returned { IfErr result (λ back. back ≡ value) }
+    {
+        match self.parts[slot.0].insert(slot.1, value) {
+            Ok(absent) => {
+                self.filled.set(slot.0, true);
+                Ok(absent)
+            }
+            Err(value) => Err(value),
+        }
+    }
+
+    /// Puts a value under a slot that has none, and tells how many values the slot had.
+    pub(super) fn insert_absent(&mut self, slot: (usize, T::Key), value: V) -> Result<usize, V>
+        requires { slot.0 < length self.old }
+        ensures found { IfOk result (λ n. 0 < n → self.new ≡ self.old) }
+        ensures inserted { IfOk result (λ n. n ≡ 0 →
+            self.new ≡ with_list_in T.Key.cmp self.old slot (value ∷ [])) }
+        ensures len { IfOk result (λ n. n ≡ length (list_in T.Key.cmp self.old slot)) }
+        ensures refused { OnErr result (self.new ≡ self.old) }
+        ensures returned { IfErr result (λ back. back ≡ value) }
+    {
+        match self.parts[slot.0].insert_absent(slot.1, value) {
+            Ok(0) => {
+                self.filled.set(slot.0, true);
+                Ok(0)
+            }
+            Ok(len) => Ok(len),
+            Err(value) => Err(value),
+        }
+    }
+
+    /// Takes the value at a place out, and tells how many values the slot has left.
+    pub(super) fn remove_at(&mut self, slot: (usize, T::Key), place: usize) -> (V, usize)
+        requires { place < length (list_in T.Key.cmp self.old slot) }
+        ensures value { slice_get (list_in T.Key.cmp self.old slot) place ≡ Some result.0 }
+        ensures parts { self.new ≡ with_edit_in T.Key.cmp self.old slot (λ l. remove l place) }
+        ensures left { result.1 + 1 ≡ length (list_in T.Key.cmp self.old slot) }
+    {
+        let part = &mut self.parts[slot.0];
+        let removed = part.remove_at(slot.1, place);
+        let holds = !part.is_empty();
+        self.filled.set(slot.0, holds);
+        removed
+    }
+
+    /// Asks once on each value of a slot, in list order, takes out those that are answered false, and tells how many values the slot
+    /// had, and how many it has left.
+    pub(super) fn retain<F: FnMut(&V) -> bool>(
+        &mut self,
+        slot: (usize, T::Key),
+        should_retain: F,
+    ) -> (usize, usize)
+        requires within { slot.0 < length self.old }
+        requires callable { F.IsAlwaysCallable should_retain }
+        ensures kept { (kept : List V)
+            × IsFiltered (CalledAt F.FnMut) should_retain (list_in T.Key.cmp self.old slot) kept
+            × (self.new ≡ with_list_in T.Key.cmp self.old slot kept)
+            × (result.1 ≡ length kept) }
+        ensures had { result.0 ≡ length (list_in T.Key.cmp self.old slot) }
+    {
+        let part = &mut self.parts[slot.0];
+        let counts = part.retain(slot.1, should_retain);
+        let holds = !part.is_empty();
+        self.filled.set(slot.0, holds);
+        counts
+    }
+
+    /// Takes a slot out, and tells how many values it had.
+    pub(super) fn remove(&mut self, slot: (usize, T::Key)) -> usize
+        requires { slot.0 < length self.old }
+        ensures parts { self.new ≡ with_list_in T.Key.cmp self.old slot [] }
+        ensures taken { result ≡ length (list_in T.Key.cmp self.old slot) }
+    {
+        let part = &mut self.parts[slot.0];
+        let taken = part.remove(slot.1);
+        let holds = !part.is_empty();
+        self.filled.set(slot.0, holds);
+        taken
+    }
+}
+
+impl<T: Translator, V: Drop, X: OrderedPart<T, V> + Drop> Parts<T, V, X> {
+    /// The list of the least key of the first part from a number on that holds anything.
+    fn first_from(&self, start: usize) -> Option<Values<'_, V>>
+        ensures { result ≡ first_list (gathered_from start (drop start self.now)) }
+    {
+        match self.filled.first_from(start) {
+            Some(number) => self.parts[number].first(),
+            None => None,
+        }
+    }
+
+    /// The list of the greatest key of the last part below a number that holds anything.
+    fn last_below(&self, end: usize) -> Option<Values<'_, V>>
+        ensures { result ≡ last_list (gathered (take end self.now)) }
+    {
+        match self.filled.last_below(end) {
+            Some(number) => self.parts[number].last(),
+            None => None,
+        }
+    }
+
+    pub(super) fn first(&self) -> Option<Values<'_, V>>
+        ensures { result ≡ first_list (gathered self.now) }
+    {
+        self.first_from(0)
+    }
+
+    pub(super) fn last(&self) -> Option<Values<'_, V>>
+        ensures { result ≡ last_list (gathered self.now) }
+    {
+        self.last_below(self.parts.len())
+    }
+
+    pub(super) fn next(&self, slot: (usize, T::Key)) -> Option<(Values<'_, V>, bool)>
+        requires { slot.0 < length self.now }
+        ensures { result ≡ next_list (pair_cmp T.Key.cmp) (gathered self.now) slot }
+    {
+        if let Some(values) = self.parts[slot.0].above(slot.1) {
+            return Some((values, false));
+        }
+        if let Some(values) = self.first_from(slot.0 + 1) {
+            return Some((values, false));
+        }
+        match self.first() {
+            Some(values) => Some((values, true)),
+            None => None,
+        }
+    }
+
+    pub(super) fn prev(&self, slot: (usize, T::Key)) -> Option<(Values<'_, V>, bool)>
+        requires { slot.0 < length self.now }
+        ensures { result ≡ prev_list (pair_cmp T.Key.cmp) (gathered self.now) slot }
+    {
+        if let Some(values) = self.parts[slot.0].below(slot.1) {
+            return Some((values, false));
+        }
+        if let Some(values) = self.last_below(slot.0) {
+            return Some((values, false));
+        }
+        match self.last() {
+            Some(values) => Some((values, true)),
+            None => None,
+        }
+    }
+}
