@@ -11,3 +11,5 @@ pub mod GroupLemmas
 pub mod EndLemmas
 pub mod PairEdits
 pub mod DrainLemmas
+pub mod WordLemmas
+pub mod FilledLemmas

@@ -1,3 +1,4 @@
 //! An ordered index for each prefix of keys.
 
+mod filled;
 pub mod partition;
