@@ -12,3 +12,5 @@ pub mod EndLemmas
 pub mod FoundRun
 pub mod PairEdits
 pub mod DrainLemmas
+pub mod WordLemmas
+pub mod FilledLemmas

@@ -7,7 +7,10 @@ ghost use Rattle.key_index_parts.specs.Gathered.{pair_cmp};
 ghost use Rattle.key_index_parts.specs.Grouping.{ComparesAs};
 ghost use Rattle.key_index_parts.specs.Prefix.{prefix_number, rest_of, slot_by};
 
+mod filled;
 mod part;
+mod parts;
+mod storage;
 pub mod ordered;
 pub mod unordered;
 
