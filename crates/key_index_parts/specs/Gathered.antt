@@ -2,9 +2,12 @@
 --     pair_cmp      pairs of a part's number and a key of its own, ordered as pairs
 --     tagged        the entries of the part of number p, at such pairs
 --     gathered      the content of the whole: the entries of each part in turn
+--     entries_of    the entries of one part
 --     IsGathered    f is what a part holds, and s the index keys of a part: there are so many parts, `items` and `keys` count the
 --                   values and the keys of all, and each part has the index keys `slot`
 use Rattle.std.specs.Prelude.{◌≡◌, ℕ, suc, List, [], ◌∷◌, ◌++◌, length, map, All}
+use Rattle.std.specs.Bool.{◌==◌}
+use Rattle.std.specs.List.{filter}
 use Rattle.std.specs.declared.cmp.Ordering.{Ordering}
 use Rattle.std.specs.Ordering.{nat_cmp, ordering_then}
 use Rattle.key_index_flat.specs.Content.{Content, key_count, item_count}
@@ -23,6 +26,9 @@ module _ {K V : Type 0} where
 
   abbrev pub gathered : List (Content K V) → Content (ℕ × K) V
   gathered cs = gathered_from 0 cs
+
+  abbrev pub entries_of : Content (ℕ × K) V → ℕ → Content (ℕ × K) V
+  entries_of c n = filter (λ e. e.0.0 == n) c
 
   pub record IsGathered {X : Type 0} (f : X → Content K V) (s : X → List ℕ → K) (slot : List ℕ → K) (parts : List X)
       (count items keys : ℕ) : Type 0 where

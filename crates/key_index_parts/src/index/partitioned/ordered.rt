@@ -1,4 +1,226 @@
-//! An ordered index for each prefix of keys.
+//! The partitioned ordered index.
+ghost use Rattle.std.specs.Prelude.{◌≡◌, ◌<◌, ◌≤◌, false, IfOk, IfErr};
+ghost use Rattle.key_index_flat.specs.Content.{IsLawful, item_count};
+ghost use Rattle.key_index_parts.specs.Family.{view_of};
+ghost use Rattle.key_index_parts.specs.Gathered.{gathered, pair_cmp, entries_of};
+ghost use Rattle.key_index_parts.specs.Prefix.{partition_count, slot_by};
 
 mod arrays;
 pub mod partition;
+
+use super::storage::Storage;
+use arrays::Arrays;
+use key_index_flat::index::{
+    Factory, Fault, IndexCursor, Ordered, Refused, Runs, Search, Unordered, Values,
+};
+use key_index_flat::translator::{OrderedTranslator, Translator};
+use std::alloc::Global;
+
+/// Sorted arrays for each of `256^P` partitions: the keys of a partition in order, and beside each key a value. The translator shortens
+/// what follows the first `P` bytes of a key.
+///
+/// `insert` puts a value behind those of its key. `remove` takes no memory and never refuses. A call by key searches the arrays of one
+/// partition, and an edit moves what stands behind it there. Over a translator that keeps the order of bytes it also gives the
+/// neighbours of a key, however many empty partitions lie between.
+#[derive(Drop)]
+pub struct Index<T: Translator, V, const P: usize> {
+    storage: Storage<T, V, Arrays<T, V>, P>,
+    ghost lawful: { IsLawful (pair_cmp T.Key.cmp) (gathered storage.parts) },
+}
+
+impl<T: Translator, V: Drop, const P: usize> Index<T, V, P> {
+    /// How many values stand in the arrays of a partition.
+    pub fn inline_len(&self, partition: usize) -> usize
+        requires { partition < partition_count P }
+        ensures { result ≡ item_count (entries_of (⟦<Index<T, V, P> as Runs>⟧.view self.now).content partition) }
+    {
+        self.storage.part(partition).len()
+    }
+}
+
+impl<T: Translator, V: Drop, const P: usize> Runs for Index<T, V, P> {
+    ghost use Rattle.std.proofs.lemmas.Map.Lookups.{exact_pairs, exact_unsigned};
+    ghost use Rattle.std.specs.Ordering.{nat_cmp};
+
+    type Value = V;
+
+    type Key = (usize, T::Key);
+
+    ghost view = { λ index. view_of P T.translated index.storage };
+
+    ghost edited = { λ _ _. Unit {0} };
+
+    ghost lawful = { λ index. index.lawful };
+
+    ghost exact = { exact_pairs nat_cmp T.Key.cmp exact_unsigned T.exact };
+
+    #[inline]
+    fn slot_of(&self, key: &[u8]) -> (usize, T::Key) {
+        self.storage.slot_of(key)
+    }
+
+    #[inline]
+    fn admits(&self, slot: (usize, T::Key)) -> bool {
+        self.storage.admits(slot)
+    }
+
+    #[inline]
+    fn run_len(&self, slot: (usize, T::Key)) -> usize {
+        self.storage.run_len(slot)
+    }
+
+    #[inline]
+    fn value_at(&self, slot: (usize, T::Key), place: usize) -> &V {
+        self.storage.value_at(slot, place)
+    }
+
+    #[inline]
+    fn set_at(&mut self, slot: (usize, T::Key), place: usize, value: V) {
+        self.storage.set_at(slot, place, value);
+    }
+
+    #[inline]
+    fn insert_at(
+        &mut self,
+        slot: (usize, T::Key),
+        place: usize,
+        value: V,
+    ) -> Result<(), Refused<V>> {
+        self.storage.insert_at(slot, place, value)
+    }
+
+    #[inline]
+    fn remove_at(&mut self, slot: (usize, T::Key), place: usize) -> V {
+        self.storage.remove_at(slot, place)
+    }
+}
+
+impl<T: Translator, V: Drop, const P: usize> Search for Index<T, V, P> {
+    ghost settled = { λ _ _ _. Unit {0} };
+
+    ghost left_by_refusal = { λ _ _ _. Unit {0} };
+
+    ghost may_refuse = { λ _ _. false };
+
+    fn reach(&mut self, key: &[u8]) -> Result<usize, Fault> {
+        Ok(self.run_len(self.slot_of(key)))
+    }
+
+    fn reach_or_insert(&mut self, key: &[u8], value: V) -> Result<usize, Refused<V>> {
+        let slot = self.slot_of(key);
+        self.storage.insert_absent(slot, value)
+    }
+
+    fn search(&mut self, key: &[u8]) -> Result<IndexCursor<'_, Index<T, V, P>>, Option<Fault>> {
+        let slot = self.slot_of(key);
+        let len = self.run_len(slot);
+        if len == 0 {
+            return Err(None);
+        }
+        Ok(IndexCursor::with_len(self, slot, len))
+    }
+
+    fn search_or_insert(
+        &mut self,
+        key: &[u8],
+        value: V,
+    ) -> Result<IndexCursor<'_, Index<T, V, P>>, Option<Refused<V>>> {
+        let slot = self.slot_of(key);
+        match self.storage.insert_absent(slot, value) {
+            Ok(0) => Err(None),
+            Ok(len) => Ok(IndexCursor::with_len(self, slot, len)),
+            Err(refused) => Err(Some(refused)),
+        }
+    }
+}
+
+impl<T: Translator, V: Drop, const P: usize> Unordered for Index<T, V, P> {
+    ghost use Rattle.key_index_parts.specs.PrefixLaws.{prefix_reaches};
+
+    ghost INSERT_FIRST = { false };
+
+    const INSERT_FIRST: bool = false;
+
+    const LOOKUP_WARMS_UPDATE: bool = true;
+
+    ghost reaches = { λ _ b h. prefix_reaches P b h };
+
+    #[inline]
+    fn get(&self, key: &[u8]) -> Values<'_, V> {
+        self.storage.get(key)
+    }
+
+    #[inline]
+    fn insert(&mut self, key: &[u8], value: V) -> Result<(), Refused<V>> {
+        self.storage.insert(key, value)
+    }
+
+    #[inline]
+    fn retain<F: FnMut(&V) -> bool>(&mut self, key: &[u8], should_retain: F) -> Result<(), Fault> {
+        self.storage.retain(key, should_retain);
+        Ok(())
+    }
+
+    #[inline]
+    fn remove(&mut self, key: &[u8]) -> Result<(), Fault> {
+        self.storage.remove(key);
+        Ok(())
+    }
+
+    #[inline]
+    fn keys(&self) -> usize {
+        self.storage.keys()
+    }
+
+    #[inline]
+    fn items(&self) -> usize {
+        self.storage.items()
+    }
+
+    #[inline]
+    fn pruned(&self) -> u64 {
+        self.storage.pruned()
+    }
+}
+
+impl<T: OrderedTranslator, V: Drop, const P: usize> Ordered for Index<T, V, P> {
+    ghost use Rattle.key_index_parts.specs.PrefixLaws.{slot_by-keeps_order};
+
+    ghost keeps_order = { λ index. slot_by-keeps_order P (T.keeps_order index.storage.translator) };
+
+    #[inline]
+    fn prev_translated_key(&self, key: &[u8]) -> Option<(Values<'_, V>, bool)> {
+        self.storage.prev(key)
+    }
+
+    #[inline]
+    fn next_translated_key(&self, key: &[u8]) -> Option<(Values<'_, V>, bool)> {
+        self.storage.next(key)
+    }
+
+    #[inline]
+    fn first_translated_key(&self) -> Option<Values<'_, V>> {
+        self.storage.first()
+    }
+
+    #[inline]
+    fn last_translated_key(&self) -> Option<Values<'_, V>> {
+        self.storage.last()
+    }
+}
+
+impl<T: Translator, V: Drop, const P: usize> Factory for Index<T, V, P> {
+    type Translator = T;
+
+    ghost slot_by = { λ translator. slot_by P (T.translated translator) };
+
+    ghost makes = { (1 ≤ P) × (P ≤ 3) };
+
+    /// Takes the slots of all partitions at once, and answers `Memory` where that is refused.
+    fn new(alloc: Global, translator: T) -> Result<Index<T, V, P>, Fault> {
+        match Storage::new(alloc, translator) {
+            Ok(storage) => Ok(Index { storage }),
+            Err(fault) => Err(fault),
+        }
+    }
+}

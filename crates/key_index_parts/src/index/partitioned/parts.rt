@@ -14,13 +14,14 @@ use super::part::{OrderedPart, Part};
 use key_index_flat::index::{Fault, Values};
 use key_index_flat::translator::Translator;
 use std::alloc::Global;
-use std::marker::Model;
+use std::marker::{Model, PhantomData};
 
 /// The parts, and which of them hold anything. Contracts see what each part holds.
 #[derive(Drop)]
 pub(super) struct Parts<T: Translator, V, X: Part<T, V>> {
     parts: Vec<X>,
     filled: Filled,
+    lists: PhantomData<(T, V)>,
 }
 
 impl<T: Translator, V, X: Part<T, V>> Model for Parts<T, V, X> {
@@ -46,7 +47,11 @@ impl<T: Translator, V: Drop, X: Part<T, V> + Drop> Parts<T, V, X> {
         for _ in 0..count {
             parts.push_reserved(X::new(alloc));
         }
-        Ok(Parts { parts, filled })
+        Ok(Parts {
+            parts,
+            filled,
+            lists: PhantomData,
+        })
     }
 
     /// The part of a number.
