@@ -23,7 +23,7 @@ use std::alloc::Global;
 /// partition, and an edit moves what stands behind it there. Over a translator that keeps the order of bytes it also gives the
 /// neighbours of a key, however many empty partitions lie between.
 #[derive(Drop)]
-pub struct Index<T: Translator, V, const P: usize> {
+pub struct Index<T: Translator, V: Drop, const P: usize> {
     storage: Storage<T, V, Arrays<T, V>, P>,
     ghost lawful: { IsLawful (pair_cmp T.Key.cmp) (gathered storage.parts) },
 }
