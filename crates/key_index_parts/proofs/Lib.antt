@@ -14,3 +14,5 @@ pub mod PairEdits
 pub mod DrainLemmas
 pub mod WordLemmas
 pub mod FilledLemmas
+pub mod FamilyLemmas
+pub mod FamilyNeighbours
