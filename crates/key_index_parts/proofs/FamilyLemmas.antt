@@ -5,7 +5,7 @@
 --     part_told, list_told       what a part holds is what the family tells of it
 --     part_edited, part_stays    the family after one list of a part was edited, and after none was
 --     flags_edited, flags_stay   which parts are filled after such a call
-use Rattle.std.proofs.Common.{◌≡◌, ℕ, ◌<◌, ◌≤◌, Bool, true, false, not, T, List, [], ◌∷◌, ◌++◌, map, insert, take, drop, get_or, set, length, refl, sym, ap, subst, ◌∙◌, arith, lt_of_not-le, slice_index_or}
+use Rattle.std.proofs.Common.{◌≡◌, ℕ, zero, suc, ◌<◌, ◌≤◌, Bool, true, false, not, T, List, [], ◌∷◌, ◌++◌, map, insert, take, drop, get_or, set, length, refl, sym, ap, subst, ◌∙◌, arith, lt_of_not-le, slice_index_or}
 use Rattle.std.proofs.lemmas.List.{get_or-map, map-set, get_or_past, length-map}
 use Rattle.std.proofs.Math.Seq.{map-set_same}
 use Rattle.std.specs.declared.cmp.Ordering.{Ordering}
@@ -19,6 +19,10 @@ use Rattle.key_index_parts.specs.Family.{part_at, list_in, with_list_in, filled_
 some_among : {V : Type 0} (xs ys : List V) (v : V) → 0 < length (xs ++ v ∷ ys)
 some_among [] ys v = omega arith
 some_among (x ∷ xs) ys v = let rest = some_among xs ys v in omega (arith, rest)
+
+pub positive : (n : ℕ) → (n ≡ 0 → ⊥) → 0 < n
+positive zero h = absurd (h refl)
+positive (suc n) h = omega arith
 
 pub not_not : (b c : Bool) → b ≡ not c → not b ≡ c
 not_not b true e = ap not e

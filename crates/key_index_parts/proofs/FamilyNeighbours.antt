@@ -1,4 +1,5 @@
 -- The neighbours of a slot among the parts of a family, by which of them are filled.
+--     flag_told, flag_within       the flag of a part, and a flag that is set is of one
 --     first_of, first_none         the first list of the parts from a number on, by the first of them that is filled, and where none is
 --     last_of, last_none           the last list of the parts below a number, by the last of them that is filled, and where none is
 --     next_own, next_later, ..     the next list of a slot: in its own part, in a later one, and past the end
@@ -22,6 +23,11 @@ module _ {K V : Type 0} where
   flag_told [] n = refl
   flag_told (c ∷ cs) zero = refl
   flag_told (c ∷ cs) (suc n) = flag_told cs n
+
+  pub flag_within : (parts : List (Content K V)) (n : ℕ) → flag_at (filled_parts parts) n ≡ true → n < length parts
+  flag_within [] n h = absurd (subst T (sym h) tt)
+  flag_within (c ∷ cs) zero h = omega arith
+  flag_within (c ∷ cs) (suc n) h = let l = flag_within cs n h in omega (arith, l)
 
   unfilled : (c : Content K V) → is_filled c ≡ false → c ≡ []
   unfilled [] h = refl
