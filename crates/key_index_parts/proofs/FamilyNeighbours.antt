@@ -17,6 +17,10 @@ use Rattle.key_index_parts.specs.Filled.{IsFirst, IsLast, flag_at}
 use Rattle.key_index_parts.specs.Gathered.{pair_cmp, tagged, gathered_from, gathered}
 use Rattle.key_index_parts.proofs.GatheredNeighbours.{above-gathered, below-gathered}
 
+last_or-append : {E : Type 0} (o : Option E) (xs : List E) (y : E) (ys : List E) → last_or o (xs ++ y ∷ ys) ≡ last_or None (y ∷ ys)
+last_or-append o [] y ys = refl
+last_or-append o (x ∷ xs) y ys = last_or-append (Some x) xs y ys
+
 module _ {K V : Type 0} where
   -- the flag of a part
   pub flag_told : (parts : List (Content K V)) (n : ℕ) → flag_at (filled_parts parts) n ≡ is_filled (part_at parts n)
@@ -76,10 +80,6 @@ module _ {K V : Type 0} where
     first_none h = ap (λ c. first_list c) (none_from start (drop start parts) (λ i. ap is_filled (from_start i) ∙ sym (flag_told parts (start + i)) ∙ h (start + i) (omega arith)))
 
   -- ---- below a number
-
-  last_or-append : {E : Type 0} (o : Option E) (xs : List E) (y : E) (ys : List E) → last_or o (xs ++ y ∷ ys) ≡ last_or None (y ∷ ys)
-  last_or-append o [] y ys = refl
-  last_or-append o (x ∷ xs) y ys = last_or-append (Some x) xs y ys
 
   last-append : (c d : Content K V) (l : List V) → last_list d ≡ Some l → last_list (c ++ d) ≡ Some l
   last-append c [] l h = cc
