@@ -275,10 +275,10 @@ impl<T: Translator, V: Drop, const P: usize> Unordered for Index<T, V, P> {
             return Err(Refused { value, fault });
         }
         let (number, sub_key) = partition_index_and_sub_key::<P>(key);
-        let slot = self.translator.transform(sub_key);
         let part = &mut self.parts[number];
         let keys = part.keys();
         let items = part.items();
+        let slot = part.slot_of(sub_key);
         match part.insert_and_retain_at(slot, value, should_retain) {
             Ok(taken) => {
                 self.keys = self.keys - keys + part.keys();
