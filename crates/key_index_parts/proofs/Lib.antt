@@ -14,5 +14,6 @@ pub mod PairEdits
 pub mod DrainLemmas
 pub mod WordLemmas
 pub mod FilledLemmas
+pub mod KeptInTurn
 pub mod FamilyLemmas
 pub mod FamilyNeighbours
