@@ -14,3 +14,4 @@ pub mod PairEdits
 pub mod DrainLemmas
 pub mod WordLemmas
 pub mod FilledLemmas
+pub mod StorageLemmas

@@ -23,7 +23,7 @@ use std::alloc::Global;
 /// partition, and an edit moves what stands behind it there. Over a translator that keeps the order of bytes it also gives the
 /// neighbours of a key, however many empty partitions lie between.
 #[derive(Drop)]
-pub struct Index<T: Translator, V, const P: usize> {
+pub struct Index<T: Translator, V: Drop, const P: usize> {
     storage: Storage<T, V, Arrays<T, V>, P>,
     ghost lawful: { IsLawful (pair_cmp T.Key.cmp) (gathered storage.parts) },
 }
@@ -186,7 +186,8 @@ impl<T: Translator, V: Drop, const P: usize> Unordered for Index<T, V, P> {
 impl<T: OrderedTranslator, V: Drop, const P: usize> Ordered for Index<T, V, P> {
     ghost use Rattle.key_index_parts.specs.PrefixLaws.{slot_by-keeps_order};
 
-    ghost keeps_order = { λ index. slot_by-keeps_order P (T.keeps_order index.storage.translator) };
+    ghost keeps_order = { λ index. slot_by-keeps_order P T.Key.cmp (T.translated index.storage.translator)
+        (T.keeps_order index.storage.translator) };
 
     #[inline]
     fn prev_translated_key(&self, key: &[u8]) -> Option<(Values<'_, V>, bool)> {
