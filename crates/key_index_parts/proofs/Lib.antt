@@ -15,3 +15,5 @@ pub mod DrainLemmas
 pub mod WordLemmas
 pub mod FilledLemmas
 pub mod StorageLemmas
+pub mod FamilyLemmas
+pub mod FamilyNeighbours
