@@ -16,7 +16,7 @@ use Rattle.std.specs.declared.cmp.Ordering.TheVariants.{Equal}
 use Rattle.std.specs.Cmp.{IsTotalOrder}
 use Rattle.key_index_flat.specs.Content.{Content, is_filled, IsLawful, list_at, with_list, with_list_by, item_count, key_count}
 use Rattle.key_index_flat.specs.Laws.{IsLawful-with_list}
-use Rattle.key_index_flat.specs.View.{View, put_value, with_run}
+use Rattle.key_index_flat.specs.View.{View, put_value, with_edit, with_pruned, pruned_after}
 use Rattle.key_index_flat.proofs.ContentLemmas.{item_count-with_list, key_count-with_list, entries_for}
 use Rattle.key_index_parts.specs.Family.{Kept, IsCounted, view_of, part_at, list_in, with_list_in}
 use Rattle.key_index_parts.specs.Gathered.{pair_cmp, gathered_from, gathered}
@@ -149,3 +149,14 @@ module _ {K V : Type 0} {cmp : K → K → Ordering} {p : ℕ} {parts : List (Co
 
       pub edited_by : (f : List V → List V) → l ≡ f (list_in cmp parts slot) → gathered new ≡ with_list_by (pair_cmp cmp) (gathered parts) slot f
       edited_by f told = edited ∙ ap (λ m. with_list (pair_cmp cmp) (gathered parts) slot m) (told ∙ ap f (sym (list_is slot)))
+
+      -- of the index as it is seen
+      pub view_edited : {T : Type 0} (translated : T → List ℕ → K) (t : T) (pruned : ℕ) (f : List V → List V) → l ≡ f (list_in cmp parts slot)
+          → view_of p translated (record { translator = t; parts = new; pruned = pruned }) ≡ with_edit (pair_cmp cmp) (view_of p translated (record { translator = t; parts = parts; pruned = pruned })) slot f
+      view_edited translated t pruned f told =
+          ap (λ w. record (view_of p translated (record { translator = t; parts = parts; pruned = pruned })) { content = w }) (edited_by f told)
+
+      pub view_pruned : {T : Type 0} (translated : T → List ℕ → K) (t : T) (pruned n more : ℕ) (f : List V → List V) → l ≡ f (list_in cmp parts slot) → more ≡ pruned_after pruned n
+          → view_of p translated (record { translator = t; parts = new; pruned = more }) ≡ with_pruned (with_edit (pair_cmp cmp) (view_of p translated (record { translator = t; parts = parts; pruned = pruned })) slot f) n
+      view_pruned translated t pruned n more f told sum =
+          λ i. record (view_of p translated (record { translator = t; parts = parts; pruned = pruned })) { content = edited_by f told i; pruned = sum i }
