@@ -9,6 +9,7 @@
 --     keys_fit                   and it has at most as many keys as values
 --     one_entry, .._entries      how many entries a list takes, by what a part tells of an edit
 use Rattle.std.proofs.Common.{◌≡◌, ℕ, zero, suc, ◌+◌, ◌^◌, ◌<◌, ◌≤◌, T, Bool, true, false, cond, not, nat_eq, nat_lt, List, [], ◌∷◌, ◌++◌, map, replicate, length, All, length-append, refl, sym, ap, subst, ◌∙◌, arith, lt_of_not-le}
+use Rattle.std.proofs.lemmas.Bool.{eqb-true, lt-ltb}
 use Rattle.std.proofs.lemmas.List.{length-set, length-replicate}
 use Rattle.std.proofs.lemmas.List.Elements.{All-get_or, All-set, All-nil, All-cons}
 use Rattle.std.specs.declared.cmp.Ordering.{Ordering}
@@ -24,6 +25,7 @@ use Rattle.key_index_parts.specs.GatheredLaws.{pair_total, IsLawful-gathered}
 use Rattle.key_index_parts.specs.Prefix.{partition_count}
 use Rattle.key_index_parts.proofs.GatheredLemmas.{list_at-gathered, list_at-past, with_list-gathered}
 use Rattle.key_index_parts.proofs.PartLemmas.{keys_at_most}
+use mir.Val.{bool_byte}
 
 pub one_entry : {V : Type 0} (l : List V) → 0 < length l → entries_for l ≡ 1
 one_entry [] h = absurd (omega (arith, h))
@@ -33,10 +35,27 @@ pub no_entry : {V : Type 0} (l : List V) → length l ≡ 0 → entries_for l �
 no_entry [] h = refl
 no_entry (v ∷ vs) h = absurd (omega (arith, h))
 
--- so many new entries, of a list that is about to be put in
-pub new_entries : {V : Type 0} (l : List V) (absent : Bool) → absent ≡ not (is_filled l) → cond absent 1 0 + entries_for l ≡ 1
-new_entries [] absent e = ap (λ b. cond b 1 0 + 0) e
-new_entries (v ∷ vs) absent e = ap (λ b. cond b 1 0 + 1) e
+-- of a list that a value is about to be put into
+pub new_entries : {V : Type 0} (l : List V) (absent : Bool) (n : ℕ) → n ≡ bool_byte absent → absent ≡ not (is_filled l) → n + entries_for l ≡ 1
+new_entries [] absent n made e = let one = made ∙ ap (λ b. bool_byte b) e in omega (arith, one)
+new_entries (v ∷ vs) absent n made e = let none = made ∙ ap (λ b. bool_byte b) e in omega (arith, none)
+
+not_zero : (m : ℕ) → nat_eq (suc m) 0 ≡ false
+not_zero m =
+    elim (nat_eq (suc m) 0) as (λ b. nat_eq (suc m) 0 ≡ b → b ≡ false) [
+      | true ↦ λ e. absurd (let same = eqb-true (suc m) 0 e in omega (arith, same))
+      | false ↦ λ e. refl
+    ] refl
+
+-- of a list that has so many values left
+pub lost_entries : {V : Type 0} (l : List V) (left n : ℕ) → n ≡ bool_byte (nat_eq left 0) → length l ≡ left → n + entries_for l ≡ 1
+lost_entries [] left n made e = let one = made ∙ ap (λ m. bool_byte (nat_eq m 0)) (sym e) in omega (arith, one)
+lost_entries (v ∷ vs) left n made e = let none = made ∙ ap (λ m. bool_byte (nat_eq m 0)) (sym e) ∙ ap (λ b. bool_byte b) (not_zero (length vs)) in omega (arith, none)
+
+-- of a list of so many values
+pub all_entries : {V : Type 0} (l : List V) (had n : ℕ) → n ≡ bool_byte (nat_lt 0 had) → had ≡ length l → n ≡ entries_for l
+all_entries [] had n made e = made ∙ ap (λ m. bool_byte (nat_lt 0 m)) e
+all_entries (v ∷ vs) had n made e = made ∙ ap (λ m. bool_byte (nat_lt 0 m)) e ∙ ap (λ b. bool_byte b) (lt-ltb 0 (suc (length vs)) (omega arith))
 
 pub length-put_value : {V : Type 0} (first : Bool) (v : V) (l : List V) → length (put_value first v l) ≡ length l + 1
 length-put_value true v l = omega arith
