@@ -4,9 +4,11 @@
 --     inside_parts               a part's number is below their count
 --     part_told, list_told       what a part holds is what the family tells of it
 --     part_edited, part_stays    the family after one list of a part was edited, and after none was
+--     none_family, none_filled   parts that hold nothing
 --     flags_edited, flags_stay   which parts are filled after such a call
-use Rattle.std.proofs.Common.{◌≡◌, ℕ, ◌<◌, ◌≤◌, Bool, true, false, not, T, List, [], ◌∷◌, ◌++◌, map, insert, take, drop, get_or, set, length, refl, sym, ap, subst, ◌∙◌, arith, lt_of_not-le, slice_index_or}
+use Rattle.std.proofs.Common.{◌≡◌, ℕ, zero, suc, ◌<◌, ◌≤◌, Bool, true, false, not, T, List, [], ◌∷◌, ◌++◌, map, insert, take, drop, replicate, All, get_or, set, length, refl, sym, ap, subst, ◌∙◌, arith, lt_of_not-le, slice_index_or}
 use Rattle.std.proofs.lemmas.List.{get_or-map, map-set, get_or_past, length-map}
+use Rattle.std.proofs.lemmas.List.Elements.{All-head, All-tail}
 use Rattle.std.proofs.Math.Seq.{map-set_same}
 use Rattle.std.specs.declared.cmp.Ordering.{Ordering}
 use Rattle.std.specs.declared.cmp.Ordering.TheVariants.{Less, Equal, Greater}
@@ -19,6 +21,10 @@ use Rattle.key_index_parts.specs.Family.{part_at, list_in, with_list_in, filled_
 some_among : {V : Type 0} (xs ys : List V) (v : V) → 0 < length (xs ++ v ∷ ys)
 some_among [] ys v = omega arith
 some_among (x ∷ xs) ys v = let rest = some_among xs ys v in omega (arith, rest)
+
+pub positive : (n : ℕ) → (n ≡ 0 → ⊥) → 0 < n
+positive zero h = absurd (h refl)
+positive (suc n) h = omega arith
 
 pub not_not : (b c : Bool) → b ≡ not c → not b ≡ c
 not_not b true e = ap not e
@@ -79,3 +85,11 @@ module _ {X K V : Type 0} (cmp : K → K → Ordering) (f : X → Content K V) (
   pub flags_stay : (flags : List Bool) (y : X) → flags ≡ filled_parts (map f xs) → is_filled (f y) ≡ is_filled (f x) → flags ≡ filled_parts (map f (set xs p y))
   flags_stay flags y told e =
       told ∙ sym (ap (λ cs. filled_parts cs) (map-set f xs p y) ∙ map-set_same is_filled (map f xs) p (f y) (f x) (e ∙ ap is_filled (ap f at ∙ sym (get_or-map f xs p x (f x) inside))))
+
+pub none_family : {X K V : Type 0} (f : X → Content K V) (xs : List X) → All (λ x. f x ≡ []) xs → map f xs ≡ replicate (length xs) []
+none_family f [] h = refl
+none_family f (x ∷ xs) h = λ i. All-head (λ y. f y ≡ []) x xs h i ∷ none_family f xs (All-tail (λ y. f y ≡ []) x xs h) i
+
+pub none_filled : (K V : Type 0) (n : ℕ) → filled_parts {K = K} {V = V} (replicate n []) ≡ replicate n false
+none_filled K V zero = refl
+none_filled K V (suc n) = ap (λ l. false ∷ l) (none_filled K V n)

@@ -1,4 +1,5 @@
 -- The neighbours of a slot among the parts of a family, by which of them are filled.
+--     flag_told, flag_within       the flag of a part, and a flag that is set is of one
 --     first_of, first_none         the first list of the parts from a number on, by the first of them that is filled, and where none is
 --     last_of, last_none           the last list of the parts below a number, by the last of them that is filled, and where none is
 --     next_own, next_later, ..     the next list of a slot: in its own part, in a later one, and past the end
@@ -16,12 +17,21 @@ use Rattle.key_index_parts.specs.Filled.{IsFirst, IsLast, flag_at}
 use Rattle.key_index_parts.specs.Gathered.{pair_cmp, tagged, gathered_from, gathered}
 use Rattle.key_index_parts.proofs.GatheredNeighbours.{above-gathered, below-gathered}
 
+last_or-append : {E : Type 0} (o : Option E) (xs : List E) (y : E) (ys : List E) → last_or o (xs ++ y ∷ ys) ≡ last_or None (y ∷ ys)
+last_or-append o [] y ys = refl
+last_or-append o (x ∷ xs) y ys = last_or-append (Some x) xs y ys
+
 module _ {K V : Type 0} where
   -- the flag of a part
   pub flag_told : (parts : List (Content K V)) (n : ℕ) → flag_at (filled_parts parts) n ≡ is_filled (part_at parts n)
   flag_told [] n = refl
   flag_told (c ∷ cs) zero = refl
   flag_told (c ∷ cs) (suc n) = flag_told cs n
+
+  pub flag_within : (parts : List (Content K V)) (n : ℕ) → flag_at (filled_parts parts) n ≡ true → n < length parts
+  flag_within [] n h = absurd (subst T (sym h) tt)
+  flag_within (c ∷ cs) zero h = omega arith
+  flag_within (c ∷ cs) (suc n) h = let l = flag_within cs n h in omega (arith, l)
 
   unfilled : (c : Content K V) → is_filled c ≡ false → c ≡ []
   unfilled [] h = refl
@@ -70,10 +80,6 @@ module _ {K V : Type 0} where
     first_none h = ap (λ c. first_list c) (none_from start (drop start parts) (λ i. ap is_filled (from_start i) ∙ sym (flag_told parts (start + i)) ∙ h (start + i) (omega arith)))
 
   -- ---- below a number
-
-  last_or-append : {E : Type 0} (o : Option E) (xs : List E) (y : E) (ys : List E) → last_or o (xs ++ y ∷ ys) ≡ last_or None (y ∷ ys)
-  last_or-append o [] y ys = refl
-  last_or-append o (x ∷ xs) y ys = last_or-append (Some x) xs y ys
 
   last-append : (c d : Content K V) (l : List V) → last_list d ≡ Some l → last_list (c ++ d) ≡ Some l
   last-append c [] l h = cc

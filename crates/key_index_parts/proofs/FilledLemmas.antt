@@ -1,7 +1,7 @@
 -- The places that stand for the bits of words, under a summary of which words have one.
-use Rattle.std.proofs.Common.{◌≡◌, ◌≢◌, ℕ, zero, ◌+◌, ◌*◌, ◌/◌, ◌%◌, ◌^◌, ◌<◌, ◌≤◌, Bool, true, false, not, List, length, map, replicate, get_or, Some, slice_get, slice_index, slice_set, refl, sym, ap, ◌∙◌, arith, inl, inr, ◌==◌}
+use Rattle.std.proofs.Common.{◌≡◌, ◌≢◌, ℕ, zero, ◌+◌, ◌*◌, ◌/◌, ◌%◌, ◌^◌, ◌<◌, ◌≤◌, Bool, true, false, not, All, List, length, map, replicate, get_or, Some, slice_get, slice_index, slice_set, refl, sym, ap, ◌∙◌, arith, inl, inr, ◌==◌}
 use Rattle.std.proofs.lemmas.Bool.{cases_lt, cases_eq, true≢false, eqb-true, not-false}
-use Rattle.std.proofs.lemmas.List.{get_or-set_same, get_or-set_other, get_or-replicate, get_or_past, get_or-map, length-map, length-replicate}
+use Rattle.std.proofs.lemmas.List.{get_or-set_same, get_or-set_other, get_or-replicate, get_or_past, get_or-map, length-map, length-replicate, ext_get_or}
 use Rattle.std.proofs.lemmas.Option.{slice_get_cases, slice_get_within, slice_get-get_or}
 use Rattle.std.proofs.lemmas.List.FromFn.{length-map-range_with_len, get_or-map-range_with_len, fill_by_all}
 use Rattle.std.proofs.Math.ListN.{length-set}
@@ -219,3 +219,13 @@ module _ {X : Type 0} (test : X → Bool) (parts : List X) where
       let read : Some (get_or parts p x) ≡ Some x = sym (slice_get-get_or parts p x within) ∙ here in
       let same : get_or parts p x ≡ x = cc in
       get_or-map test parts p x false within ∙ ap test same
+
+  pub flags_of_failing : All (λ x. test x ≡ false) parts → map test parts ≡ replicate (length parts) false
+  flags_of_failing fails =
+      let sized = length-map parts test in
+      ext_get_or false (map test parts) (replicate (length parts) false) (sized ∙ sym (length-replicate (length parts) false)) (λ p below.
+      let within : p < length parts = omega arith in
+      elim ((slice_get_cases parts p).1) as (λ _. get_or (map test parts) p false ≡ get_or (replicate (length parts) false) p false) [
+        | inl here ↦ get_or-map test parts p here.0 false within ∙ fails p here.0 within ∙ sym (get_or-replicate (length parts) p false false within)
+        | inr past ↦ absurd (omega (arith, past.0))
+      ])

@@ -246,15 +246,15 @@ impl<T: Translator, V: Drop, X: OrderedPart<T, V> + Drop> Parts<T, V, X> {
         requires { slot.0 < length self.now }
         ensures { result ≡ next_list (pair_cmp T.Key.cmp) (gathered self.now) slot }
     {
-        if let Some(values) = self.parts[slot.0].above(slot.1) {
-            return Some((values, false));
-        }
-        if let Some(values) = self.first_from(slot.0 + 1) {
-            return Some((values, false));
-        }
-        match self.first() {
-            Some(values) => Some((values, true)),
-            None => None,
+        match self.parts[slot.0].above(slot.1) {
+            Some(values) => Some((values, false)),
+            None => match self.first_from(slot.0 + 1) {
+                Some(values) => Some((values, false)),
+                None => match self.first() {
+                    Some(values) => Some((values, true)),
+                    None => None,
+                },
+            },
         }
     }
 
@@ -262,15 +262,15 @@ impl<T: Translator, V: Drop, X: OrderedPart<T, V> + Drop> Parts<T, V, X> {
         requires { slot.0 < length self.now }
         ensures { result ≡ prev_list (pair_cmp T.Key.cmp) (gathered self.now) slot }
     {
-        if let Some(values) = self.parts[slot.0].below(slot.1) {
-            return Some((values, false));
-        }
-        if let Some(values) = self.last_below(slot.0) {
-            return Some((values, false));
-        }
-        match self.last() {
-            Some(values) => Some((values, true)),
-            None => None,
+        match self.parts[slot.0].below(slot.1) {
+            Some(values) => Some((values, false)),
+            None => match self.last_below(slot.0) {
+                Some(values) => Some((values, false)),
+                None => match self.last() {
+                    Some(values) => Some((values, true)),
+                    None => None,
+                },
+            },
         }
     }
 }

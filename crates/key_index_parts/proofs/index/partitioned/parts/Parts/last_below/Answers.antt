@@ -1,9 +1,23 @@
+use Rattle.std.proofs.Common.{◌≡◌, ℕ, ◌<◌, map, false, refl, sym, ap, subst, ◌∙◌}
+use Rattle.key_index_flat.specs.Neighbours.{last_list}
+use Rattle.key_index_parts.specs.Filled.{IsLast, flag_at}
+use Rattle.key_index_parts.proofs.FamilyLemmas.{inside_parts, part_told}
+use Rattle.key_index_parts.proofs.FamilyNeighbours.{flag_within, last_of, last_none}
 use Rattle.key_index_parts.proofs.index.partitioned.parts.Parts.last_below.Goals as goal
 
 pub returns-in-Some : goal.returns-in-Some
 returns-in-Some g c =
-    ?
+    let f = g.X.Part.content in
+    let xs = c.self.inside.parts.items in
+    let n = c.in-Some.number in
+    let found = subst (λ flags. IsLast (flag_at flags) c.args.end n) c.self.invariant c.in-Some.ensures in
+    let inside = inside_parts f xs (map f xs) n refl (flag_within (map f xs) n found.here) in
+    rw (← c.self.view_is)
+    (c.last.ensures ∙ ap (λ d. last_list d) (part_told g.T.Key.Ord.cmp f xs n c.index.result.now inside c.index.ensures) ∙ sym (last_of (map f xs) c.args.end n found))
 
 pub returns-in-None : goal.returns-in-None
 returns-in-None g c =
-    ?
+    let f = g.X.Part.content in
+    let xs = c.self.inside.parts.items in
+    rw (← c.self.view_is)
+    (sym (last_none (map f xs) c.args.end (subst (λ flags. (p : ℕ) → p < c.args.end → flag_at flags p ≡ false) c.self.invariant c.in-None.ensures)))

@@ -1,13 +1,50 @@
+use Rattle.std.proofs.Common.{◌≡◌, sym, ap, ◌∙◌}
+use Rattle.key_index_flat.specs.Neighbours.{entries_above, first_list}
+use Rattle.key_index_parts.specs.Family.{part_at}
+use Rattle.key_index_parts.proofs.FamilyLemmas.{inside_parts, part_told}
+use Rattle.key_index_parts.proofs.FamilyNeighbours.{next_own, next_later, next_cycled}
 use Rattle.key_index_parts.proofs.index.partitioned.parts.Parts.next.Goals as goal
 
 pub returns-in-Some : goal.returns-in-Some
 returns-in-Some g c =
-    ?
+    let cmp = g.T.Key.Ord.cmp in
+    let f = g.X.Part.content in
+    let xs = c.self.inside.parts.items in
+    let n = c.args.slot.0 in
+    let inside = inside_parts f xs c.args.self.now n c.self.view_is c.requires in
+    let told : f c.index.result.now ≡ part_at c.args.self.now n = part_told cmp f xs n c.index.result.now inside c.index.ensures ∙ ap (λ p. part_at p n) c.self.view_is in
+    let own = ap (λ d. first_list (entries_above cmp d c.args.slot.1)) (sym told) in
+    sym (next_own cmp c.args.self.now c.args.slot _ (own ∙ sym c.in-Some.ensures))
 
 pub returns-in-Some-first_from : goal.returns-in-Some-first_from
 returns-in-Some-first_from g c =
-    ?
+    let cmp = g.T.Key.Ord.cmp in
+    let f = g.X.Part.content in
+    let xs = c.self.inside.parts.items in
+    let n = c.args.slot.0 in
+    let inside = inside_parts f xs c.args.self.now n c.self.view_is c.requires in
+    let told : f c.index.result.now ≡ part_at c.args.self.now n = part_told cmp f xs n c.index.result.now inside c.index.ensures ∙ ap (λ p. part_at p n) c.self.view_is in
+    let own = ap (λ d. first_list (entries_above cmp d c.args.slot.1)) (sym told) in
+    sym (next_later cmp c.args.self.now c.args.slot _ (own ∙ sym c.in-None.ensures) (sym c.in-Some-first_from.ensures))
 
 pub returns-in-Some-first : goal.returns-in-Some-first
 returns-in-Some-first g c =
-    ?
+    let cmp = g.T.Key.Ord.cmp in
+    let f = g.X.Part.content in
+    let xs = c.self.inside.parts.items in
+    let n = c.args.slot.0 in
+    let inside = inside_parts f xs c.args.self.now n c.self.view_is c.requires in
+    let told : f c.index.result.now ≡ part_at c.args.self.now n = part_told cmp f xs n c.index.result.now inside c.index.ensures ∙ ap (λ p. part_at p n) c.self.view_is in
+    let own = ap (λ d. first_list (entries_above cmp d c.args.slot.1)) (sym told) in
+    sym (next_cycled cmp c.args.self.now c.args.slot _ (own ∙ sym c.in-None.ensures) (sym c.in-None-first_from.ensures) (sym c.in-Some-first.ensures))
+
+pub returns-in-None-first : goal.returns-in-None-first
+returns-in-None-first g c =
+    let cmp = g.T.Key.Ord.cmp in
+    let f = g.X.Part.content in
+    let xs = c.self.inside.parts.items in
+    let n = c.args.slot.0 in
+    let inside = inside_parts f xs c.args.self.now n c.self.view_is c.requires in
+    let told : f c.index.result.now ≡ part_at c.args.self.now n = part_told cmp f xs n c.index.result.now inside c.index.ensures ∙ ap (λ p. part_at p n) c.self.view_is in
+    let own = ap (λ d. first_list (entries_above cmp d c.args.slot.1)) (sym told) in
+    sym (next_cycled cmp c.args.self.now c.args.slot _ (own ∙ sym c.in-None.ensures) (sym c.in-None-first_from.ensures) (sym c.in-None-first.ensures))
