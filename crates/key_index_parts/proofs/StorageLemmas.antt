@@ -57,6 +57,12 @@ pub all_entries : {V : Type 0} (l : List V) (had n : ℕ) → n ≡ bool_byte (n
 all_entries [] had n made e = made ∙ ap (λ m. bool_byte (nat_lt 0 m)) e
 all_entries (v ∷ vs) had n made e = made ∙ ap (λ m. bool_byte (nat_lt 0 m)) e ∙ ap (λ b. bool_byte b) (lt-ltb 0 (suc (length vs)) (omega arith))
 
+-- a list takes at most as many entries as one that is no shorter
+pub fewer_entries : {V : Type 0} (l m : List V) → length l ≤ length m → entries_for l ≤ entries_for m
+fewer_entries [] m h = omega arith
+fewer_entries (v ∷ vs) [] h = absurd (omega (arith, h))
+fewer_entries (v ∷ vs) (w ∷ ws) h = omega arith
+
 pub length-put_value : {V : Type 0} (first : Bool) (v : V) (l : List V) → length (put_value first v l) ≡ length l + 1
 length-put_value true v l = omega arith
 length-put_value false v l = let n = length-append l (v ∷ []) in omega (arith, n)

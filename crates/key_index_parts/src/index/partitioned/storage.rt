@@ -242,7 +242,10 @@ impl<T: Translator, V: Drop, X: Part<T, V> + Drop, const P: usize> Storage<T, V,
         let slot = self.slot_of(key);
         let (had, left) = self.parts.retain(slot, should_retain);
         let taken = had - left;
-        self.keys -= usize::from(left == 0 && had > 0);
+        let had_key = usize::from(had > 0);
+        let has_key = usize::from(left > 0);
+        let lost = had_key - has_key;
+        self.keys -= lost;
         self.items -= taken;
         self.pruned = self.pruned.saturating_add(taken as u64);
     }
