@@ -17,3 +17,4 @@ pub mod FilledLemmas
 pub mod StorageLemmas
 pub mod FamilyLemmas
 pub mod FamilyNeighbours
+pub mod EntriesLemmas
