@@ -13,6 +13,8 @@ pub enum Kind {
     Ordered,
     /// An index in 256 partitions, by the first byte of a key, that keeps its keys in no order.
     PartitionedUnordered,
+    /// The same, with the keys in order.
+    PartitionedOrdered,
 }
 
 /// The kind that the program's arguments name, and `None` where they are not those of the program.
@@ -23,6 +25,7 @@ pub fn kind_of(words: &[String]) -> Option<Kind>
         [kind] if kind.as_str() == "unordered" => Some(Kind::Unordered),
         [kind] if kind.as_str() == "ordered" => Some(Kind::Ordered),
         [kind] if kind.as_str() == "punordered" => Some(Kind::PartitionedUnordered),
+        [kind] if kind.as_str() == "pordered" => Some(Kind::PartitionedOrdered),
         _ => None,
     }
 }

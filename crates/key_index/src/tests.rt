@@ -119,15 +119,17 @@ fn arguments_are_read(rt: HostRuntime) -> Result<(), Fail> {
     let unordered = String::from_str(rt.alloc(), "unordered")?;
     let ordered = String::from_str(rt.alloc(), "ordered")?;
     let partitioned = String::from_str(rt.alloc(), "punordered")?;
+    let in_order = String::from_str(rt.alloc(), "pordered")?;
     let further = String::from_str(rt.alloc(), "512")?;
-    let words = vec![in rt.alloc(); unordered, ordered, partitioned, further]?;
-    assert_eq!(rt; words.len(), 4);
+    let words = vec![in rt.alloc(); unordered, ordered, partitioned, in_order, further]?;
+    assert_eq!(rt; words.len(), 5);
     assert_eq!(rt; kind_of(&words[..1]), Some(Kind::Unordered));
     assert_eq!(rt; kind_of(&words[1..2]), Some(Kind::Ordered));
     assert_eq!(rt; kind_of(&words[2..3]), Some(Kind::PartitionedUnordered));
+    assert_eq!(rt; kind_of(&words[3..4]), Some(Kind::PartitionedOrdered));
     assert_eq!(rt; kind_of(&words[..2]), None);
-    assert_eq!(rt; kind_of(&words[2..]), None);
     assert_eq!(rt; kind_of(&words[3..]), None);
+    assert_eq!(rt; kind_of(&words[4..]), None);
     assert_eq!(rt; kind_of(&words[..0]), None);
     Ok(())
 }
@@ -242,7 +244,7 @@ fn session<R: Read + Drop>(
 
 #[test]
 fn sessions_are_answered(rt: HostRuntime) -> Result<(), Fail> {
-    let sessions: [(&str, &[u8], &[u8], &[u8], u8); 20] = [
+    let sessions: [(&str, &[u8], &[u8], &[u8], u8); 22] = [
         (
             "unordered",
             b"insert 0b02 1\ninsert 0bff 2\nget 0b\nremove 0b77\ncounts\n",
@@ -334,6 +336,20 @@ fn sessions_are_answered(rt: HostRuntime) -> Result<(), Fail> {
             b"counts\nnext 01\n",
             b"keys 0 items 0 pruned 0\n",
             b"bad line 2\n",
+            1,
+        ),
+        (
+            "pordered",
+            b"insert 1001 1\ninsert 1002 2\ninsert 1002 22\nget 1002\nnext 1001\nprev 1001\ncounts\n",
+            b"ok\nok\nok\nvalues 2 22\nvalues 2 22\nvalues 2 22 wrapped\nkeys 2 items 3 pruned 0\n",
+            b"",
+            0,
+        ),
+        (
+            "pordered",
+            b"first\ninsert 05 1\ninsert f0 2\nnext 80\nprev 80\nlast\nremove 05\nprev 80\nprune 0\n",
+            b"none\nok\nok\nvalues 2\nvalues 1\nvalues 2\nok\nvalues 2 wrapped\n",
+            b"bad line 9\n",
             1,
         ),
     ];

@@ -103,6 +103,35 @@ pub(crate) fn next<I: Ordered<Value = u64>, C: Clock, W: Write>(
     Ok(())
 }
 
+/// The values of the next index key and of the one before, for each of the only keys.
+pub(crate) fn gap<I: Ordered<Value = u64>, C: Clock, W: Write>(
+    index: &mut I,
+    keys: &[[u8; 32]],
+    report: &mut Report<'_, C, W>,
+) -> Result<(), Failure> {
+    for key in keys {
+        if let Err(refused) = index.insert(key, 1) {
+            return Err(Failure::Refused(refused.fault));
+        }
+    }
+    let start = report.start()?;
+    let mut sum = 0u64;
+    for key in keys {
+        if let Some((values, _)) = index.next_translated_key(key) {
+            for value in values {
+                sum = sum.wrapping_add(*value);
+            }
+        }
+        if let Some((values, _)) = index.prev_translated_key(key) {
+            for value in values {
+                sum = sum.wrapping_add(*value);
+            }
+        }
+    }
+    report.line("gap", keys.len().saturating_mul(2), start, sum)?;
+    Ok(())
+}
+
 /// A second and a third value under each key, and then all of its values.
 pub(crate) fn collide<I: Unordered<Value = u64>, C: Clock, W: Write>(
     index: &mut I,

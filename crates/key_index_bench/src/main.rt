@@ -28,6 +28,9 @@ enum Kind {
     PartitionedUnordered1,
     PartitionedUnordered2,
     PartitionedUnordered3,
+    PartitionedOrdered1,
+    PartitionedOrdered2,
+    PartitionedOrdered3,
     StdHash,
     StdTree,
 }
@@ -40,6 +43,9 @@ impl Kind {
             Kind::PartitionedUnordered1 => "punordered1",
             Kind::PartitionedUnordered2 => "punordered2",
             Kind::PartitionedUnordered3 => "punordered3",
+            Kind::PartitionedOrdered1 => "pordered1",
+            Kind::PartitionedOrdered2 => "pordered2",
+            Kind::PartitionedOrdered3 => "pordered3",
             Kind::StdHash => "std_hash",
             Kind::StdTree => "std_tree",
         }
@@ -57,6 +63,9 @@ fn arguments(words: &[String]) -> Option<(Kind, usize)> {
         "punordered1" => Kind::PartitionedUnordered1,
         "punordered2" => Kind::PartitionedUnordered2,
         "punordered3" => Kind::PartitionedUnordered3,
+        "pordered1" => Kind::PartitionedOrdered1,
+        "pordered2" => Kind::PartitionedOrdered2,
+        "pordered3" => Kind::PartitionedOrdered3,
         "std_hash" => Kind::StdHash,
         "std_tree" => Kind::StdTree,
         _ => return None,
@@ -103,6 +112,21 @@ fn run_unordered<I: Factory<Translator = EightCap, Value = u64> + Drop, C: Clock
     flat::remove(&mut index, half, report)
 }
 
+/// Measures the neighbours of a thousand keys at most, in an index that has no others.
+fn run_gap<I: Factory<Translator = EightCap, Value = u64> + Ordered + Drop, C: Clock, W: Write>(
+    alloc: Global,
+    present: &[[u8; 32]],
+    report: &mut Report<'_, C, W>,
+) -> Result<(), Failure>
+    requires { I.makes }
+{
+    let few = &present[..present.len().min(1000)];
+    match I::new(alloc, EightCap) {
+        Ok(mut index) => flat::gap(&mut index, few, report),
+        Err(fault) => Err(Failure::Refused(fault)),
+    }
+}
+
 /// Measures an index whose keys are in order.
 fn run_ordered<I: Factory<Translator = EightCap, Value = u64> + Ordered + Drop, C: Clock, W: Write>(
     alloc: Global,
@@ -114,6 +138,7 @@ fn run_ordered<I: Factory<Translator = EightCap, Value = u64> + Ordered + Drop, 
 {
     let few = &present[..present.len() / 10];
     let half = &present[..present.len() / 2];
+    run_gap::<I, C, W>(alloc, present, report)?;
     let mut index = make::<I, C, W>(alloc, report)?;
     flat::insert(&mut index, present, report)?;
     flat::get(&index, "get", present, report)?;
@@ -213,6 +238,30 @@ fn measure<C: Clock, W: Write>(
                 &mut report,
             )
         }
+        Kind::PartitionedOrdered1 => {
+            run_ordered::<partitioned::ordered::Index<EightCap, u64, 1>, C, W>(
+                alloc,
+                &present,
+                &absent,
+                &mut report,
+            )
+        }
+        Kind::PartitionedOrdered2 => {
+            run_ordered::<partitioned::ordered::Index<EightCap, u64, 2>, C, W>(
+                alloc,
+                &present,
+                &absent,
+                &mut report,
+            )
+        }
+        Kind::PartitionedOrdered3 => {
+            run_ordered::<partitioned::ordered::Index<EightCap, u64, 3>, C, W>(
+                alloc,
+                &present,
+                &absent,
+                &mut report,
+            )
+        }
         Kind::StdHash => run_std_hash(alloc, &present, &absent, &mut report),
         Kind::StdTree => run_std_tree(alloc, &present, &absent, &mut report),
     }
@@ -231,7 +280,7 @@ fn main(rt: HostRuntime) -> ExitCode {
     let Some((kind, count)) = named else {
         let _ = writeln!(
             rt.stderr(),
-            "usage: key_index_bench unordered|ordered|punordered1|punordered2|punordered3|std_hash|std_tree COUNT"
+            "usage: key_index_bench unordered|ordered|punordered1|punordered2|punordered3|pordered1|pordered2|pordered3|std_hash|std_tree COUNT"
         );
         return ExitCode::from(2);
     };

@@ -13,3 +13,4 @@ pub mod LeastLemmas
 pub mod FullKeyLemmas
 pub mod KeptLemmas
 pub mod ViewLemmas
+pub mod TurnLemmas

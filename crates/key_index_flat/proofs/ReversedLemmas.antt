@@ -63,7 +63,7 @@ module _ {V : Type 0} where
       ap (λ l. v ∷ reverse l) (ap (λ l. insert l (length o + 1 - suc i) x) s.2 ∙ insert_there s.0 s.1 x (length o + 1 - suc i) (sym s.3))
       ∙ ap (λ l. v ∷ l) (turned s.0 s.1 x ∙ sym (ap (λ l. insert l i x) (ap (λ l. reverse l) s.2 ∙ reverse-append s.0 s.1) ∙ insert_there (reverse s.1) (reverse s.0) x i behind))
 
-  behind_last : (o : List V) (x : V) → insert o (length o) x ≡ o ++ x ∷ []
+  pub behind_last : (o : List V) (x : V) → insert o (length o) x ≡ o ++ x ∷ []
   behind_last [] x = refl
   behind_last (y ∷ o) x = ap (λ l. y ∷ l) (behind_last o x)
 

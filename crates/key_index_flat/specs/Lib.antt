@@ -13,3 +13,4 @@ pub mod Neighbours
 pub mod Held
 pub mod ByteOrder
 pub mod FullKeys
+pub mod Retention

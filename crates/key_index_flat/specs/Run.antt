@@ -15,7 +15,7 @@ use Rattle.key_index_flat.specs.declared.index.command.Outcome.TheVariants as ou
 use Rattle.key_index_flat.specs.declared.index.command.Step.{Step}
 use Rattle.key_index_flat.specs.declared.index.command.Step.TheVariants as step
 use Rattle.key_index_flat.specs.declared.index.Fault.{Fault}
-use Rattle.key_index_flat.specs.View.{View, growth_fault_in, items_in, run_at, run_of, with_run, with_edit, with_pruned, after_insert, after_remove, RetainsAt}
+use Rattle.key_index_flat.specs.View.{View, growth_fault_in, items_in, run_at, run_of, with_run, with_edit, with_pruned, after_insert, after_remove, InsertsAndRetainsAt, RetainsAt}
 use Rattle.key_index_flat.specs.Cursor.{Place, NeedNext, IsOnValue, AllowsInsert, after_next, list_after_insert, place_after_insert, list_after_update, list_after_delete, place_after_delete}
 
 -- whether no value has room, at so many
@@ -96,6 +96,10 @@ module _ {K V F : Type 0} (cmp : K → K → Ordering) (first : Bool) (ask : F �
   CommandGives (command.Insert key v) outcome.Done s t = Grows s (after_insert cmp first s key.items v) t
   CommandGives (command.Insert key v) (outcome.Refused f) s t = IsRefused (growth_fault_in s) f s t
   CommandGives (command.Insert key v) (outcome.Edited flags) s t = ⊥
+  CommandGives (command.InsertAndRetain key v test) outcome.Done s t =
+      IsTrue (not (is_full (items_in s))) × InsertsAndRetainsAt cmp ask test s key.items v t
+  CommandGives (command.InsertAndRetain key v test) (outcome.Refused f) s t = IsRefused (growth_fault_in s) f s t
+  CommandGives (command.InsertAndRetain key v test) (outcome.Edited flags) s t = ⊥
   CommandGives (command.Retain key test) outcome.Done s t = RetainsAt cmp ask test s key.items t
   CommandGives (command.Retain key test) (outcome.Refused f) s t = IsRefused Memory f s t
   CommandGives (command.Retain key test) (outcome.Edited flags) s t = ⊥
@@ -119,6 +123,7 @@ module _ {K V F : Type 0} (cmp : K → K → Ordering) (first : Bool) (ask : F �
 module _ {V F : Type 0} (P : F → Type 0) where
   abbrev pub HasTest : Command V F → Type 0
   HasTest (command.Insert key v) = Unit {0}
+  HasTest (command.InsertAndRetain key v test) = P test
   HasTest (command.Retain key test) = P test
   HasTest (command.Remove key) = Unit {0}
   HasTest (command.GetOrInsert key v) = Unit {0}
@@ -132,6 +137,7 @@ module _ {V F : Type 0} where
   -- a place for the outcome of a command: for an edit with a flag of each step
   abbrev pub HasRoom : Command V F → Outcome → Type 0
   HasRoom (command.Insert key v) o = Unit {0}
+  HasRoom (command.InsertAndRetain key v test) o = Unit {0}
   HasRoom (command.Retain key test) o = Unit {0}
   HasRoom (command.Remove key) o = Unit {0}
   HasRoom (command.GetOrInsert key v) o = Unit {0}

@@ -10,13 +10,16 @@
 --     with_pruned                 with n values more taken out
 --     after_insert, after_remove  after a call at a key
 --     RetainsAt                   after the values at a key of which f said false were taken out
+--     InsertsAndRetains           after a value was put behind those of an index key, f was asked on all of these, the new one last, and
+--                                 those that f said false of were taken out; InsertsAndRetainsAt: of those at a key
 --     Admits                      whether it can hold values under the index key of a key
 --     growth_fault_in             why it refuses one more value
 --     AlsoAt, IsWantAt            what else a call leaves, told by `also` of the index key of a key; want of memory, at a key where a
 --                                 call that inserts nothing may have it
 --     StaysBut, InsertsBut        the view stays, or gains a key with one value; what else is left is told by `also`
 use Rattle.std.specs.Prelude.{◌≡◌, ℕ, ◌<◌, ◌+◌, ◌-◌, ◌^◌, min, Bool, true, false, IsTrue, List, [], ◌∷◌, ◌++◌, length}
-use Rattle.std.specs.List.Retain.{IsFiltered}
+use Rattle.std.specs.List.{items_where_true}
+use Rattle.std.specs.List.Retain.{IsFiltered, ReturnsInTurn}
 use Rattle.std.specs.declared.cmp.Ordering.{Ordering}
 use Rattle.key_index_flat.specs.declared.index.Fault.{Fault}
 use Rattle.key_index_flat.specs.Content.{Content, list_at, with_list, item_count}
@@ -74,6 +77,19 @@ module _ {K V : Type 0} (cmp : K → K → Ordering) where
   RetainsAt ask f s b t =
       (kept : List V) × IsFiltered ask f (run_of s b) kept
       × (t ≡ with_pruned (with_run s (s.slot b) kept) (length (run_of s b) - length kept))
+
+  -- taken: how many of the held values were taken out; the last answer is on the new one
+  abbrev pub InsertsAndRetains : {F : Type 0} → (F → V → Bool → F → Type 0) → F → View K V → K → V → ℕ → View K V
+      → Type 0
+  InsertsAndRetains {F = F} ask f s k v taken t =
+      (answers : List Bool) × (last : F) × (length answers ≡ length (run_at s k) + 1)
+      × ReturnsInTurn ask f answers (run_at s k ++ v ∷ []) last
+      × (taken + length (items_where_true answers (run_at s k)) ≡ length (run_at s k))
+      × (t ≡ with_pruned (with_run s k (items_where_true answers (run_at s k ++ v ∷ []))) taken)
+
+  abbrev pub InsertsAndRetainsAt : {F : Type 0} → (F → V → Bool → F → Type 0) → F → View K V → List ℕ → V
+      → View K V → Type 0
+  InsertsAndRetainsAt ask f s b v t = (taken : ℕ) × InsertsAndRetains ask f s (s.slot b) v taken t
 
 module _ {I K V : Type 0} (view : I → View K V) where
   abbrev pub AlsoAt : (I → K → I → Type 0) → I → List ℕ → I → Type 0

@@ -1,8 +1,10 @@
 //! Entries in the order of their keys, and the scans over them.
-ghost use Rattle.std.specs.Prelude.{◌≡◌, ◌+◌, ◌<◌, ◌≤◌, ◌^◌, List, [], ◌∷◌, Some, length, slice_get, slice_set, IfErr, OnOk, OnErr};
+ghost use Rattle.std.specs.Prelude.{◌≡◌, ◌+◌, ◌<◌, ◌≤◌, ◌^◌, Bool, true, List, [], ◌∷◌, ◌++◌, Some, length, slice_get, slice_set, IfOk, IfErr, OnOk, OnErr};
 ghost use Rattle.std.specs.Fn.{CalledAt};
-ghost use Rattle.std.specs.List.{insert, remove};
-ghost use Rattle.std.specs.List.Retain.{IsFiltered};
+ghost use Rattle.std.specs.List.{insert, remove, items_where_true};
+ghost use Rattle.std.specs.List.Retain.{IsFiltered, ReturnsInTurn};
+ghost use Rattle.std.specs.declared.cmp.Ordering.TheVariants.{Equal};
+ghost use Rattle.key_index_flat.specs.Retention.{AsksInTurn};
 ghost use Rattle.key_index_flat.specs.Content.{IsLawful, list_at, with_list, item_count, with_list_by};
 ghost use Rattle.key_index_plain.specs.Entries.{listed, place_of};
 
@@ -204,4 +206,56 @@ pub(crate) fn retain<K: Ord + Drop, V: Drop, F: FnMut(&V) -> bool>(
         entries.remove(place);
     }
     before - after
+}
+
+/// What `retain` does, and the last answer too: true where the key has no value.
+fn retain_in_turn<K: Ord + Drop, V: Drop, F: FnMut(&V) -> bool>(
+    entries: &mut Vec<Entry<K, V>>,
+    key: &K,
+    should_retain: F,
+) -> (usize, bool)
+    requires lawful { IsLawful K.cmp (listed entries.old.items) }
+    requires callable { F.IsAlwaysCallable should_retain }
+    ensures { let old = listed entries.old.items in
+        (kept : List V)
+        × AsksInTurn (CalledAt F.FnMut) should_retain true (list_at K.cmp old key.now) kept result.1
+        × (listed entries.new.items ≡ with_list K.cmp old key.now kept)
+        × (result.0 + length kept ≡ length (list_at K.cmp old key.now)) }
+{
+    let Ok(place) = search(entries.as_slice(), key) else {
+        return (0, true);
+    };
+    let values = &mut entries[place].values;
+    let before = values.len();
+    let stays = key_index_flat::index::retain_in_turn(values, should_retain, true);
+    let after = values.len();
+    if after == 0 {
+        entries.remove(place);
+    }
+    (before - after, stays)
+}
+
+/// Puts a value in behind those of a key, then asks once on each of them, in list order, and takes out those that are answered false.
+/// Tells how many of those that were held are gone. A refusal hands the value back.
+pub(crate) fn insert_and_retain<K: Ord + Copy + Drop, V: Drop, F: FnMut(&V) -> bool>(
+    entries: &mut Vec<Entry<K, V>>,
+    key: K,
+    value: V,
+    should_retain: F,
+) -> Result<usize, V>
+    requires lawful { IsLawful K.cmp (listed entries.old.items) }
+    requires exact { (a b : K) → K.cmp a b ≡ Equal → a ≡ b }
+    requires callable { F.IsAlwaysCallable should_retain }
+    ensures accepted { IfOk result (λ taken. let old = listed entries.old.items in let held = list_at K.cmp old key in
+        (answers : List Bool) × (last : F) × (length answers ≡ length held + 1)
+        × ReturnsInTurn (CalledAt F.FnMut) should_retain answers (held ++ value ∷ []) last
+        × (listed entries.new.items ≡ with_list K.cmp old key (items_where_true answers (held ++ value ∷ [])))
+        × (taken + length (items_where_true answers held) ≡ length held)) }
+    ensures refused { OnErr result (listed entries.new.items ≡ listed entries.old.items) }
+    ensures returned { IfErr result (λ back. back ≡ value) }
+{
+    let end = values_of(entries.as_slice(), &key).len();
+    insert_at(entries, key, end, value)?;
+    let (taken, stays) = retain_in_turn(entries, &key, should_retain);
+    Ok(if stays { taken } else { taken - 1 })
 }

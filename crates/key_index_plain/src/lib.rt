@@ -179,6 +179,29 @@ impl<T: Translator, V: Drop> Unordered for Index<T, V> {
         Ok(())
     }
 
+    fn insert_and_retain<F: FnMut(&V) -> bool>(
+        &mut self,
+        key: &[u8],
+        value: V,
+        should_retain: F,
+    ) -> Result<(), Refused<V>> {
+        if self.items() == usize::MAX {
+            let fault = Fault::Full;
+            return Err(Refused { value, fault });
+        }
+        let slot = self.translator.transform(key);
+        match entries::insert_and_retain(&mut self.entries, slot, value, should_retain) {
+            Ok(taken) => {
+                self.pruned = self.pruned.saturating_add(taken as u64);
+                Ok(())
+            }
+            Err(value) => {
+                let fault = Fault::Memory;
+                Err(Refused { value, fault })
+            }
+        }
+    }
+
     fn remove(&mut self, key: &[u8]) -> Result<(), Fault> {
         let slot = self.translator.transform(key);
         let taken = entries::remove(&mut self.entries, &slot);

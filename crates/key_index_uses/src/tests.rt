@@ -12,6 +12,7 @@ mod lists;
 mod neighbours;
 mod numbers;
 mod partition;
+mod partitioned_ordered;
 mod partitions;
 mod parts;
 mod walk;

@@ -14,6 +14,7 @@ pub enum Step<V> {
 #[derive(Drop)]
 pub enum Command<V, F> {
     Insert(Vec<u8>, V),
+    InsertAndRetain(Vec<u8>, V, F),
     Retain(Vec<u8>, F),
     Remove(Vec<u8>),
     GetOrInsert(Vec<u8>, V),

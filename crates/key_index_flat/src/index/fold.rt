@@ -150,6 +150,12 @@ where
             Ok(()) => Outcome::Done,
             Err(refused) => Outcome::Refused(refused.fault),
         },
+        Command::InsertAndRetain(key, value, test) => {
+            match index.insert_and_retain(key.as_slice(), value, test) {
+                Ok(()) => Outcome::Done,
+                Err(refused) => Outcome::Refused(refused.fault),
+            }
+        }
         Command::Retain(key, test) => match index.retain(key.as_slice(), test) {
             Ok(()) => Outcome::Done,
             Err(fault) => Outcome::Refused(fault),
@@ -208,6 +214,7 @@ fn place_for<V, F>(alloc: Global, command: &Command<V, F>) -> Result<Outcome, Fa
     match command {
         Command::Edit(_, steps) => Ok(Outcome::Edited(unset(alloc, steps.as_slice())?)),
         Command::Insert(_, _) => Ok(Outcome::Done),
+        Command::InsertAndRetain(_, _, _) => Ok(Outcome::Done),
         Command::Retain(_, _) => Ok(Outcome::Done),
         Command::Remove(_) => Ok(Outcome::Done),
         Command::GetOrInsert(_, _) => Ok(Outcome::Done),

@@ -137,6 +137,19 @@ impl<T: Translator, V: Drop> Unordered for Index<T, V> {
         Ok(())
     }
 
+    fn insert_and_retain<F: FnMut(&V) -> bool>(
+        &mut self,
+        key: &[u8],
+        value: V,
+        should_retain: F,
+    ) -> Result<(), Refused<V>> {
+        let slot = self.slot_of(key);
+        match self.storage.insert_and_retain(slot, value, should_retain) {
+            Ok(_) => Ok(()),
+            Err(refused) => Err(refused),
+        }
+    }
+
     #[inline]
     fn remove(&mut self, key: &[u8]) -> Result<(), Fault> {
         self.storage.remove(key);

@@ -5,7 +5,7 @@ ghost use Rattle.key_index_flat.specs.Content.{item_count, key_count, list_at, I
 ghost use Rattle.key_index_flat.specs.Fault.{growth_fault};
 ghost use Rattle.key_index_flat.specs.Neighbours.{first_list, last_list, next_list, prev_list};
 ghost use Rattle.key_index_flat.specs.Storage.{Kept, IsCounted, view_of};
-ghost use Rattle.key_index_flat.specs.View.{with_run, with_edit, with_pruned, after_insert, after_remove, RetainsAt};
+ghost use Rattle.key_index_flat.specs.View.{with_run, with_edit, with_pruned, after_insert, after_remove, InsertsAndRetains, RetainsAt};
 
 mod chains;
 mod heads;
@@ -207,6 +207,41 @@ impl<T: Translator, V: Drop, M: Heads<T::Key, V>> Storage<T, V, M> {
         let taken = self.chains.retain(slot, should_retain);
         self.items -= taken;
         self.pruned = self.pruned.saturating_add(taken as u64);
+    }
+
+    /// Puts a value in behind those of an index key, asks once on each of them, in list order, and takes out those that are answered
+    /// false. Tells how many of those that were held are gone.
+    pub(crate) fn insert_and_retain<F: FnMut(&V) -> bool>(
+        &mut self,
+        slot: T::Key,
+        value: V,
+        should_retain: F,
+    ) -> Result<usize, Refused<V>>
+        requires callable { F.IsAlwaysCallable should_retain }
+        ensures accepted { IfOk result (λ taken. InsertsAndRetains T.Key.cmp (CalledAt F.FnMut) should_retain
+            (view_of T.translated self.old) slot value taken (view_of T.translated self.new)) }
+        ensures room { OnOk result (item_count self.old.content < usize.MAX) }
+        ensures refused { OnErr result (self.new ≡ self.old) }
+        ensures lawful { IsLawful T.Key.cmp self.new.content }
+        ensures returned { IfErr result (λ r. r.value ≡ value) }
+        ensures fault { IfErr result (λ r. r.fault ≡ growth_fault (item_count self.old.content)) }
+    {
+        if self.items == usize::MAX {
+            let fault = Fault::Full;
+            return Err(Refused { value, fault });
+        }
+        match self.chains.insert_and_retain(slot, value, should_retain) {
+            Ok((taken, stays)) => {
+                let added = if stays { 1 } else { 0 };
+                self.items = self.items - taken + added;
+                self.pruned = self.pruned.saturating_add(taken as u64);
+                Ok(taken)
+            }
+            Err(value) => {
+                let fault = Fault::Memory;
+                Err(Refused { value, fault })
+            }
+        }
     }
 
     /// Takes the key's index key out.

@@ -21,7 +21,8 @@ pub struct Index<T: Translator, V> {
 
 impl<T: Translator, V: Drop> Index<T, V> {
     ghost use Rattle.std.specs.Prelude.{◌≡◌, ◌<◌, [], ◌∷◌, length, IfOk, IfErr, OnOk, OnErr};
-    ghost use Rattle.key_index_flat.specs.View.{growth_fault_in, items_in, run_at, with_run};
+    ghost use Rattle.key_index_flat.specs.View.{growth_fault_in, items_in, run_at, with_run, InsertsAndRetains};
+    ghost use Rattle.std.specs.Fn.{CalledAt};
 
     /// What `reach_or_insert` does, at an index key: puts the value in where the index key has none, and tells how many values it
     /// had. It looks the index key up once.
@@ -43,6 +44,25 @@ impl<T: Translator, V: Drop> Index<T, V> {
             Ok(Some(len)) => Ok(len),
             Err(refused) => Err(refused),
         }
+    }
+
+    /// What `insert_and_retain` does, at an index key. Tells how many of the values that were held are gone.
+    pub fn insert_and_retain_at<F: FnMut(&V) -> bool>(
+        &mut self,
+        slot: T::Key,
+        value: V,
+        should_retain: F,
+    ) -> Result<usize, Refused<V>>
+        requires { F.IsAlwaysCallable should_retain }
+        ensures accepted { IfOk result (λ taken. InsertsAndRetains T.Key.cmp (CalledAt F.FnMut) should_retain
+            (⟦<Index<T, V> as Runs>⟧.view self.old) slot value taken (⟦<Index<T, V> as Runs>⟧.view self.new)) }
+        ensures refused { OnErr result
+            (⟦<Index<T, V> as Runs>⟧.view self.new ≡ ⟦<Index<T, V> as Runs>⟧.view self.old) }
+        ensures room { OnOk result (items_in (⟦<Index<T, V> as Runs>⟧.view self.old) < usize.MAX) }
+        ensures returned { IfErr result (λ r. r.value ≡ value) }
+        ensures fault { IfErr result (λ r. r.fault ≡ growth_fault_in (⟦<Index<T, V> as Runs>⟧.view self.old)) }
+    {
+        self.storage.insert_and_retain(slot, value, should_retain)
     }
 }
 
@@ -157,6 +177,19 @@ impl<T: Translator, V: Drop> Unordered for Index<T, V> {
     fn retain<F: FnMut(&V) -> bool>(&mut self, key: &[u8], should_retain: F) -> Result<(), Fault> {
         self.storage.retain(key, should_retain);
         Ok(())
+    }
+
+    fn insert_and_retain<F: FnMut(&V) -> bool>(
+        &mut self,
+        key: &[u8],
+        value: V,
+        should_retain: F,
+    ) -> Result<(), Refused<V>> {
+        let slot = self.slot_of(key);
+        match self.insert_and_retain_at(slot, value, should_retain) {
+            Ok(_) => Ok(()),
+            Err(refused) => Err(refused),
+        }
     }
 
     #[inline]

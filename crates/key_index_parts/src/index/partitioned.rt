@@ -8,10 +8,10 @@ ghost use Rattle.key_index_parts.specs.Grouping.{ComparesAs};
 ghost use Rattle.key_index_parts.specs.Prefix.{prefix_number, rest_of, slot_by};
 
 mod filled;
+pub mod ordered;
 mod part;
 mod parts;
 mod storage;
-pub mod ordered;
 pub mod unordered;
 
 /// The partition of a key, and the rest of the key: the big-endian number of the first `P` bytes, with zeros behind a shorter key, and

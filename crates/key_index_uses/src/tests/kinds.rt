@@ -150,6 +150,23 @@ fn on_partitioned_by_two(rt: &impl Abort, alloc: Global, group: Group) {
     on::<partitioned::unordered::Index<TwoCap, u64, 2>>(rt, alloc, TwoCap, (0x0b00, 0), 2, group)
 }
 
+/// The partitioned ordered index, by one byte and then one more.
+fn on_partitioned_ordered(rt: &impl Abort, alloc: Global, group: Group) {
+    in_order::<partitioned::ordered::Index<OneCap, u64, 1>>(rt, alloc, OneCap, (0x0b, 0), 2, group)
+}
+
+/// The partitioned ordered index, by two bytes and then two more.
+fn on_partitioned_ordered_by_two(rt: &impl Abort, alloc: Global, group: Group) {
+    in_order::<partitioned::ordered::Index<TwoCap, u64, 2>>(
+        rt,
+        alloc,
+        TwoCap,
+        (0x0b00, 0),
+        2,
+        group,
+    )
+}
+
 /// The plain index.
 fn on_plain(rt: &impl Abort, alloc: Global, group: Group) {
     in_order::<key_index_plain::Index<OneCap, u64>>(rt, alloc, OneCap, 0x0b, 1, group)
@@ -240,6 +257,35 @@ fn partitioned_keeps_lists(rt: HostRuntime) {
 }
 
 #[test]
+fn partitioned_ordered_answers_each_call(rt: HostRuntime) {
+    on_partitioned_ordered(&rt, rt.alloc(), Group::Calls);
+    on_partitioned_ordered_by_two(&rt, rt.alloc(), Group::Calls);
+}
+
+#[test]
+fn partitioned_ordered_is_edited_by_cursors(rt: HostRuntime) {
+    on_partitioned_ordered(&rt, rt.alloc(), Group::Cursors);
+    on_partitioned_ordered_by_two(&rt, rt.alloc(), Group::Cursors);
+}
+
+#[test]
+fn partitioned_ordered_runs_commands(rt: HostRuntime) {
+    on_partitioned_ordered(&rt, rt.alloc(), Group::Commands);
+    on_partitioned_ordered_by_two(&rt, rt.alloc(), Group::Commands);
+}
+
+#[test]
+fn partitioned_ordered_keeps_lists(rt: HostRuntime) {
+    on_partitioned_ordered(&rt, rt.alloc(), Group::Lists);
+    on_partitioned_ordered_by_two(&rt, rt.alloc(), Group::Lists);
+}
+
+#[test]
+fn partitioned_ordered_resolves(rt: HostRuntime) {
+    resolves::<partitioned::ordered::Index<OneCap, Record, 1>>(&rt, rt.alloc(), OneCap)
+}
+
+#[test]
 fn flat_keeps_lists_by_two_bytes(rt: HostRuntime) {
     on::<unordered::Index<TwoCap, u64>>(&rt, rt.alloc(), TwoCap, 0x0b00, 2, Group::Lists)
 }
@@ -307,6 +353,8 @@ fn insert_order_and_warmth(rt: HostRuntime) {
     assert!(&rt; !ordered::Index::<OneCap, u64>::LOOKUP_WARMS_UPDATE);
     assert!(&rt; partitioned::unordered::Index::<OneCap, u64, 1>::INSERT_FIRST);
     assert!(&rt; partitioned::unordered::Index::<OneCap, u64, 1>::LOOKUP_WARMS_UPDATE);
+    assert!(&rt; !partitioned::ordered::Index::<OneCap, u64, 1>::INSERT_FIRST);
+    assert!(&rt; partitioned::ordered::Index::<OneCap, u64, 1>::LOOKUP_WARMS_UPDATE);
 }
 
 #[test]

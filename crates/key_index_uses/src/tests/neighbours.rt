@@ -27,7 +27,7 @@ pub(super) fn same_end(given: Option<Values<'_, u64>>, wanted: Option<Values<'_,
 }
 
 /// The neighbour above a key has these values, and this flag.
-fn next_has<I: Ordered<Value = u64>>(
+pub(super) fn next_has<I: Ordered<Value = u64>>(
     rt: &impl Abort,
     index: &I,
     key: &[u8],
@@ -42,7 +42,7 @@ fn next_has<I: Ordered<Value = u64>>(
 }
 
 /// The neighbour below a key has these values, and this flag.
-fn prev_has<I: Ordered<Value = u64>>(
+pub(super) fn prev_has<I: Ordered<Value = u64>>(
     rt: &impl Abort,
     index: &I,
     key: &[u8],
@@ -89,7 +89,7 @@ pub(super) fn of_three<I: Ordered<Value = u64>>(rt: &impl Abort, index: &mut I) 
 }
 
 /// No key has a neighbour, and there are no ends.
-fn has_none<I: Ordered<Value = u64>>(rt: &impl Abort, index: &I, key: &[u8]) {
+pub(super) fn has_none<I: Ordered<Value = u64>>(rt: &impl Abort, index: &I, key: &[u8]) {
     assert!(rt; index.next_translated_key(key).is_none());
     assert!(rt; index.prev_translated_key(key).is_none());
     assert!(rt; index.first_translated_key().is_none());

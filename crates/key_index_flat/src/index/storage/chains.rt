@@ -1,17 +1,20 @@
 //! The lists of a flat index: the newest value of each key in one map, and in another the older values of the keys that have any. An
 //! entry whose key has one value then costs that key and that value alone.
-ghost use Rattle.std.specs.Prelude.{◌≡◌, ◌+◌, ◌<◌, ◌≤◌, List, [], ◌∷◌, length, reverse, slice_get, slice_set, insert, remove, Some, MatchOption, IfOk, IfErr, OnOk, OnErr};
+ghost use Rattle.std.specs.Prelude.{◌≡◌, ◌+◌, ◌<◌, ◌≤◌, Bool, true, List, [], ◌∷◌, ◌++◌, length, reverse, slice_get, slice_set, insert, remove, Some, MatchOption, IfOk, IfErr, OnOk, OnErr};
 ghost use Rattle.std.specs.Fn.{CalledAt};
-ghost use Rattle.std.specs.List.Retain.{IsFiltered};
+ghost use Rattle.std.specs.List.{items_where_true};
+ghost use Rattle.std.specs.List.Retain.{IsFiltered, ReturnsInTurn};
 ghost use Rattle.std.specs.Map.Iter.{deref_pair};
 ghost use Rattle.std.specs.Option.{option_map};
-ghost use Rattle.key_index_flat.specs.Content.{Content, key_count, list_at, with_list, with_list_by};
+ghost use Rattle.key_index_flat.specs.Content.{Content, IsLawful, key_count, list_at, with_list, with_list_by};
 ghost use Rattle.key_index_flat.specs.Neighbours.{first_list, last_list, next_list, prev_list};
+ghost use Rattle.key_index_flat.specs.Retention.{last_answer, AsksInTurn};
 ghost use Rattle.key_index_flat.specs.Storage.{older_at, stored, IsLinked};
 
 use super::heads::{Heads, OrderedHeads};
 use super::older::{
-    insert_older, older_of, pop_older, remove_older, retain_older, set_older, take_older,
+    insert_older, older_of, pop_older, remove_older, retain_older, retain_older_in_turn, set_older,
+    take_older,
 };
 use crate::index::Values;
 use crate::translator::Translator;
@@ -202,6 +205,61 @@ impl<T: Translator, V: Drop, M: Heads<T::Key, V>> Chains<T, V, M> {
         }
         self.remove_at(slot, 0);
         taken + 1
+    }
+
+    /// What `retain` does, and the last answer too: true where the index key has no value.
+    fn retain_in_turn<F: FnMut(&V) -> bool>(
+        &mut self,
+        slot: T::Key,
+        mut should_retain: F,
+    ) -> (usize, bool)
+        requires callable { F.IsAlwaysCallable should_retain }
+        ensures kept { (kept : List V)
+            × AsksInTurn (CalledAt F.FnMut) should_retain true (list_at T.Key.cmp self.old slot) kept result.1
+            × (self.new ≡ with_list T.Key.cmp self.old slot kept)
+            × (result.0 + length kept ≡ length (list_at T.Key.cmp self.old slot)) }
+    {
+        let Some(newest) = self.heads.get(&slot) else {
+            return (0, true);
+        };
+        let newest_stays = should_retain(newest);
+        let (taken, stays) = retain_older_in_turn(
+            &mut self.older,
+            slot,
+            should_retain,
+            newest_stays,
+        );
+        if newest_stays {
+            return (taken, stays);
+        }
+        self.remove_at(slot, 0);
+        (taken + 1, stays)
+    }
+
+    /// Puts a value in behind those of the index key, which takes all the memory that the call may need, then asks once on each of
+    /// them, in list order, and takes out those that are answered false. Tells how many of those that were held are gone, and whether
+    /// the new one stays.
+    pub(super) fn insert_and_retain<F: FnMut(&V) -> bool>(
+        &mut self,
+        slot: T::Key,
+        value: V,
+        should_retain: F,
+    ) -> Result<(usize, bool), V>
+        requires callable { F.IsAlwaysCallable should_retain }
+        requires lawful { IsLawful T.Key.cmp self.old }
+        ensures accepted { IfOk result (λ told. let held = list_at T.Key.cmp self.old slot in
+            (answers : List Bool) × (last : F) × (length answers ≡ length held + 1)
+            × ReturnsInTurn (CalledAt F.FnMut) should_retain answers (held ++ value ∷ []) last
+            × (self.new ≡ with_list T.Key.cmp self.old slot (items_where_true answers (held ++ value ∷ [])))
+            × (told.0 + length (items_where_true answers held) ≡ length held)
+            × (told.1 ≡ last_answer true answers)) }
+        ensures refused { OnErr result (self.new ≡ self.old) }
+        ensures returned { IfErr result (λ back. back ≡ value) }
+    {
+        let len = self.run_len(slot);
+        self.insert_at(slot, len, value)?;
+        let (taken, stays) = self.retain_in_turn(slot, should_retain);
+        Ok((if stays { taken } else { taken - 1 }, stays))
     }
 
     /// How many index keys have values.

@@ -3,8 +3,10 @@ ghost use Rattle.std.specs.Prelude.{◌≡◌, ◌+◌, ◌-◌, ◌<◌, ◌≤
 ghost use Rattle.std.specs.Fn.{CalledAt};
 ghost use Rattle.std.specs.List.Retain.{IsFiltered};
 ghost use Rattle.std.specs.Option.{option_to_list};
+ghost use Rattle.key_index_flat.specs.Retention.{AsksInTurn};
 ghost use Rattle.key_index_flat.specs.Storage.{older_at, SameBut};
 
+use crate::index::retain_in_turn;
 use std::alloc::Global;
 use std::collections::HashMap;
 use std::collections::hash_map::Entry;
@@ -182,4 +184,34 @@ pub(super) fn retain_older<K: Ord + Hash + Copy, V: Drop, F: FnMut(&V) -> bool>(
         older.remove(&key);
     }
     before - after
+}
+
+/// What `retain_older` does, and the last answer too: `before` where the key has no older values.
+pub(super) fn retain_older_in_turn<K: Ord + Hash + Copy, V: Drop, F: FnMut(&V) -> bool>(
+    older: &mut HashMap<K, Vec<V>>,
+    key: K,
+    should_retain: F,
+    before: bool,
+) -> (usize, bool)
+    requires { F.IsAlwaysCallable should_retain }
+    ensures at { AsksInTurn (CalledAt F.FnMut) should_retain before
+        (reverse (older_at K.eq older.old key)) (reverse (older_at K.eq older.new key)) result.1 }
+    ensures taken { result.0 + length (older_at K.eq older.new key) ≡ length (older_at K.eq older.old key) }
+    ensures others { SameBut K.cmp (older_at K.eq older.old) (older_at K.eq older.new) key }
+{
+    if older.is_empty() {
+        return (0, before);
+    }
+    let Some(values) = older.get_mut(&key) else {
+        return (0, before);
+    };
+    let held = values.len();
+    values.reverse();
+    let stays = retain_in_turn(values, should_retain, before);
+    values.reverse();
+    let after = values.len();
+    if after == 0 {
+        older.remove(&key);
+    }
+    (held - after, stays)
 }

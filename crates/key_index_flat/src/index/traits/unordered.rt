@@ -2,7 +2,7 @@
 ghost use Rattle.std.specs.Prelude.{◌≡◌, ℕ, ◌-◌, ◌<◌, List, [], Bool, All, IfErr, OnOk, OnErr, IfOk};
 ghost use Rattle.std.specs.Fn.{CalledAt};
 ghost use Rattle.key_index_flat.specs.Content.{key_count};
-ghost use Rattle.key_index_flat.specs.View.{items_in, run_of, after_insert, after_remove, growth_fault_in, Admits, AlsoAt, IsWantAt, RetainsAt, StaysBut};
+ghost use Rattle.key_index_flat.specs.View.{items_in, run_of, after_insert, after_remove, growth_fault_in, Admits, AlsoAt, InsertsAndRetainsAt, IsWantAt, RetainsAt, StaysBut};
 
 use crate::index::{Fault, Refused, Search, Values};
 use std::alloc::Global;
@@ -45,6 +45,25 @@ pub trait Unordered: Search {
         ensures settled { OnOk result (AlsoAt Self.view Self.settled self.old key.now self.new) }
         ensures refused { OnErr result (StaysBut Self.view Self.left_by_refusal self.old key.now self.new) }
         ensures want { IfErr result (IsWantAt Self.view Self.may_refuse self.old key.now) };
+
+    /// Puts a value behind those under the key's index key, then asks once on each of these, in list order and so on the new one
+    /// last, and takes out those that are answered false. The new one is put behind whatever `INSERT_FIRST` is, and it does not count
+    /// as pruned. All memory that the call may need is taken before anything is asked. A refusal changes nothing and hands
+    /// the value back: `Full` exactly where the index holds `usize::MAX` values, and else `Memory`.
+    fn insert_and_retain<F: FnMut(&Self::Value) -> bool>(
+        &mut self,
+        key: &[u8],
+        value: Self::Value,
+        should_retain: F,
+    ) -> Result<(), Refused<Self::Value>>
+        requires { F.IsAlwaysCallable should_retain }
+        ensures accepted { OnOk result (InsertsAndRetainsAt Self.Key.cmp (CalledAt F.FnMut) should_retain
+            (Self.view self.old) key.now value (Self.view self.new)) }
+        ensures settled { OnOk result (AlsoAt Self.view Self.settled self.old key.now self.new) }
+        ensures room { OnOk result (items_in (Self.view self.old) < usize.MAX) }
+        ensures refused { OnErr result (StaysBut Self.view Self.left_by_refusal self.old key.now self.new) }
+        ensures returned { IfErr result (λ r. r.value ≡ value) }
+        ensures fault { IfErr result (λ r. r.fault ≡ growth_fault_in (Self.view self.old)) };
 
     /// Takes the key's index key out, with all of its values.
     fn remove(&mut self, key: &[u8]) -> Result<(), Fault>

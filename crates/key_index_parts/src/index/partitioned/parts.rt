@@ -39,9 +39,10 @@ impl<T: Translator, V: Drop, X: Part<T, V> + Drop> Parts<T, V, X> {
         ensures parts { IfOk result (λ parts. parts ≡ replicate count []) }
         ensures fault { IfErr result (λ fault. fault ≡ Fault.Memory) }
     {
-        let (Ok(mut parts), Ok(filled)) =
-            (Vec::with_capacity(alloc, count), Filled::new(alloc, count))
-        else {
+        let (Ok(mut parts), Ok(filled)) = (
+            Vec::with_capacity(alloc, count),
+            Filled::new(alloc, count),
+        ) else {
             return Err(Fault::Memory);
         };
         for _ in 0..count {

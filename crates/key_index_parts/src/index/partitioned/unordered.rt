@@ -264,6 +264,32 @@ impl<T: Translator, V: Drop, const P: usize> Unordered for Index<T, V, P> {
         }
     }
 
+    fn insert_and_retain<F: FnMut(&V) -> bool>(
+        &mut self,
+        key: &[u8],
+        value: V,
+        should_retain: F,
+    ) -> Result<(), Refused<V>> {
+        if self.items == usize::MAX {
+            let fault = Fault::Full;
+            return Err(Refused { value, fault });
+        }
+        let (number, sub_key) = partition_index_and_sub_key::<P>(key);
+        let part = &mut self.parts[number];
+        let keys = part.keys();
+        let items = part.items();
+        let slot = part.slot_of(sub_key);
+        match part.insert_and_retain_at(slot, value, should_retain) {
+            Ok(taken) => {
+                self.keys = self.keys - keys + part.keys();
+                self.items = self.items - items + part.items();
+                self.pruned = self.pruned.saturating_add(taken as u64);
+                Ok(())
+            }
+            Err(refused) => Err(refused),
+        }
+    }
+
     fn remove(&mut self, key: &[u8]) -> Result<(), Fault> {
         let (number, sub_key) = partition_index_and_sub_key::<P>(key);
         let part = &mut self.parts[number];

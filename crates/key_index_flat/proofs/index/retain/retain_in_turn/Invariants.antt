@@ -1,0 +1,15 @@
+use Rattle.std.proofs.Common.{◌-◌, ◌≤◌, length}
+use Rattle.std.specs.Fn.{CalledAt}
+use denote.Param.Always.{always_mut}
+use Rattle.key_index_flat.proofs.TurnLemmas.{Turned}
+use Rattle.key_index_flat.proofs.index.retain.retain_in_turn.Given as goal
+
+abbrev pub invariant-values : goal.invariant-values
+invariant-values g l = record {
+  turned : Turned (CalledAt g.F.FnMut) l.fn.should_retain l.fn.before l.fn.values.items l.values.items l.should_retain l.kept l.at l.stays;
+  within : l.at ≤ length l.values.items;
+  again : always_mut g.F.FnMut l.should_retain;
+}
+
+abbrev pub decreases-values : goal.decreases-values
+decreases-values g l = length l.values.items - l.at

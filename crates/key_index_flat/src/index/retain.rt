@@ -1,0 +1,30 @@
+//! A closure that is asked on the values of a list, one after another.
+ghost use Rattle.std.specs.Prelude.{◌≤◌, length};
+ghost use Rattle.std.specs.Fn.{CalledAt};
+ghost use Rattle.key_index_flat.specs.Retention.{AsksInTurn};
+
+/// Asks once on each value, in order, and takes out those that are answered false, as `Vec::retain` does. Tells the last answer, and
+/// `before` where there is no value.
+pub fn retain_in_turn<V: Drop, F: FnMut(&V) -> bool>(
+    values: &mut Vec<V>,
+    mut should_retain: F,
+    before: bool,
+) -> bool
+    requires { F.IsAlwaysCallable should_retain }
+    ensures asked { AsksInTurn (CalledAt F.FnMut) should_retain before values.old.items values.new.items result }
+    ensures bound { length values.new.items ≤ length values.old.items }
+{
+    let mut stays = before;
+    let mut kept = 0;
+    let mut at = 0;
+    'values: while at < values.len() {
+        stays = should_retain(&values[at]);
+        if stays {
+            values.swap(kept, at);
+            kept += 1;
+        }
+        at += 1;
+    }
+    values.truncate(kept);
+    stays
+}
