@@ -15,5 +15,7 @@ pub mod DrainLemmas
 pub mod WordLemmas
 pub mod FilledLemmas
 pub mod KeptInTurn
+pub mod StorageLemmas
 pub mod FamilyLemmas
 pub mod FamilyNeighbours
+pub mod EntriesLemmas

@@ -48,13 +48,13 @@ one_at_least : {V : Type 0} (l : List V) (n : ℕ) → T (is_filled l) → 1 + n
 one_at_least [] n h = absurd h
 one_at_least (v ∷ vs) n h = omega arith
 
-keys_at_most : {K V : Type 0} (c : Content K V) → T (all_filled c) → key_count c ≤ item_count c
+pub keys_at_most : {K V : Type 0} (c : Content K V) → T (all_filled c) → key_count c ≤ item_count c
 keys_at_most [] h = omega arith
 keys_at_most (e ∷ es) h =
     let rest = keys_at_most es (second (is_filled e.1) _ h) in
     let one = one_at_least e.1 (item_count es) (first (is_filled e.1) _ h) in omega (arith, rest, one)
 
-as_many_entries : {V : Type 0} (l m : List V) → length l ≡ length m → entries_for l ≡ entries_for m
+pub as_many_entries : {V : Type 0} (l m : List V) → length l ≡ length m → entries_for l ≡ entries_for m
 as_many_entries [] [] e = refl
 as_many_entries [] (v ∷ vs) e = absurd (omega (arith, e))
 as_many_entries (v ∷ vs) [] e = absurd (omega (arith, e))

@@ -196,7 +196,8 @@ impl<T: Translator, V: Drop, const P: usize> Unordered for Index<T, V, P> {
 impl<T: OrderedTranslator, V: Drop, const P: usize> Ordered for Index<T, V, P> {
     ghost use Rattle.key_index_parts.specs.PrefixLaws.{slot_by-keeps_order};
 
-    ghost keeps_order = { λ index. slot_by-keeps_order P (T.keeps_order index.storage.translator) };
+    ghost keeps_order = { λ index. slot_by-keeps_order P T.Key.cmp (T.translated index.storage.translator)
+        (T.keeps_order index.storage.translator) };
 
     #[inline]
     fn prev_translated_key(&self, key: &[u8]) -> Option<(Values<'_, V>, bool)> {

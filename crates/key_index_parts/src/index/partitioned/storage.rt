@@ -74,14 +74,16 @@ impl<T: Translator, V: Drop, X: Part<T, V> + Drop, const P: usize> Storage<T, V,
         ensures slot { result ≡ slot_by P (T.translated self.now.translator) key.now }
         ensures within { result.0 < partition_count P }
     {
+        let translator = &self.translator;
         let (number, sub_key) = partition_index_and_sub_key::<P>(key);
-        (number, self.translator.transform(sub_key))
+        (number, translator.transform(sub_key))
     }
 
     #[inline]
     pub(super) fn admits(&self, slot: (usize, T::Key)) -> bool
         ensures { result ≡ (view_of P T.translated self.now).admitted slot }
     {
+        let _ = &self.parts;
         slot.0 < 1 << (8 * P)
     }
 
@@ -240,7 +242,10 @@ impl<T: Translator, V: Drop, X: Part<T, V> + Drop, const P: usize> Storage<T, V,
         let slot = self.slot_of(key);
         let (had, left) = self.parts.retain(slot, should_retain);
         let taken = had - left;
-        self.keys -= usize::from(left == 0 && had > 0);
+        let had_key = usize::from(had > 0);
+        let has_key = usize::from(left > 0);
+        let lost = had_key - has_key;
+        self.keys -= lost;
         self.items -= taken;
         self.pruned = self.pruned.saturating_add(taken as u64);
     }

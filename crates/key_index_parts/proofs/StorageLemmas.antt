@@ -1,0 +1,187 @@
+-- On what the storage of an index over parts keeps.
+--     at_most_three              how many partitions there can be
+--     none_held, none_counted    parts that hold nothing, together and with their counts
+--     list_at-slot               the list at a slot is that of its part
+--     lawful, list_is, held_inside, reach   what is kept: the whole is lawful, and a slot that has values is of a part
+--     items_within, entries_within          no list is longer than all of them, nor takes more entries than there are
+--     edited, view_edited        an edit of a slot's list is one of the whole
+--     counted_edit               and it is counted by so many more or fewer
+--     keys_fit                   and it has at most as many keys as values
+--     one_entry, .._entries      how many entries a list takes, by what a part tells of an edit
+use Rattle.std.proofs.Common.{◌≡◌, ℕ, zero, suc, ◌+◌, ◌^◌, ◌<◌, ◌≤◌, T, Bool, true, false, cond, not, nat_eq, nat_lt, List, [], ◌∷◌, ◌++◌, map, replicate, length, All, length-append, refl, sym, ap, subst, ◌∙◌, arith, lt_of_not-le}
+use Rattle.std.proofs.lemmas.Bool.{eqb-true, lt-ltb}
+use Rattle.std.proofs.lemmas.List.{length-set, length-replicate}
+use Rattle.std.proofs.lemmas.List.Elements.{All-get_or, All-set, All-nil, All-cons}
+use Rattle.std.specs.declared.cmp.Ordering.{Ordering}
+use Rattle.std.specs.declared.cmp.Ordering.TheVariants.{Equal}
+use Rattle.std.specs.Cmp.{IsTotalOrder}
+use Rattle.key_index_flat.specs.Content.{Content, is_filled, IsLawful, list_at, with_list, with_list_by, item_count, key_count}
+use Rattle.key_index_flat.specs.Laws.{IsLawful-with_list}
+use Rattle.key_index_flat.specs.View.{View, put_value, with_edit, with_pruned, pruned_after}
+use Rattle.key_index_flat.proofs.ContentLemmas.{item_count-with_list, key_count-with_list, entries_for}
+use Rattle.key_index_parts.specs.Family.{Kept, IsCounted, view_of, part_at, list_in, with_list_in}
+use Rattle.key_index_parts.specs.Gathered.{pair_cmp, gathered_from, gathered}
+use Rattle.key_index_parts.specs.GatheredLaws.{pair_total, IsLawful-gathered}
+use Rattle.key_index_parts.specs.Prefix.{partition_count}
+use Rattle.key_index_parts.proofs.GatheredLemmas.{list_at-gathered, list_at-past, with_list-gathered}
+use Rattle.key_index_parts.proofs.PartLemmas.{keys_at_most}
+use mir.Val.{bool_byte}
+
+pub one_entry : {V : Type 0} (l : List V) → 0 < length l → entries_for l ≡ 1
+one_entry [] h = absurd (omega (arith, h))
+one_entry (v ∷ vs) h = refl
+
+pub no_entry : {V : Type 0} (l : List V) → length l ≡ 0 → entries_for l ≡ 0
+no_entry [] h = refl
+no_entry (v ∷ vs) h = absurd (omega (arith, h))
+
+-- of a list that a value is about to be put into
+pub new_entries : {V : Type 0} (l : List V) (absent : Bool) (n : ℕ) → n ≡ bool_byte absent → absent ≡ not (is_filled l) → n + entries_for l ≡ 1
+new_entries [] absent n made e = let one = made ∙ ap (λ b. bool_byte b) e in omega (arith, one)
+new_entries (v ∷ vs) absent n made e = let none = made ∙ ap (λ b. bool_byte b) e in omega (arith, none)
+
+not_zero : (m : ℕ) → nat_eq (suc m) 0 ≡ false
+not_zero m =
+    elim (nat_eq (suc m) 0) as (λ b. nat_eq (suc m) 0 ≡ b → b ≡ false) [
+      | true ↦ λ e. absurd (let same = eqb-true (suc m) 0 e in omega (arith, same))
+      | false ↦ λ e. refl
+    ] refl
+
+-- of a list that has so many values left
+pub lost_entries : {V : Type 0} (l : List V) (left n : ℕ) → n ≡ bool_byte (nat_eq left 0) → length l ≡ left → n + entries_for l ≡ 1
+lost_entries [] left n made e = let one = made ∙ ap (λ m. bool_byte (nat_eq m 0)) (sym e) in omega (arith, one)
+lost_entries (v ∷ vs) left n made e = let none = made ∙ ap (λ m. bool_byte (nat_eq m 0)) (sym e) ∙ ap (λ b. bool_byte b) (not_zero (length vs)) in omega (arith, none)
+
+-- of a list of so many values
+pub all_entries : {V : Type 0} (l : List V) (had n : ℕ) → n ≡ bool_byte (nat_lt 0 had) → had ≡ length l → n ≡ entries_for l
+all_entries [] had n made e = made ∙ ap (λ m. bool_byte (nat_lt 0 m)) e
+all_entries (v ∷ vs) had n made e = made ∙ ap (λ m. bool_byte (nat_lt 0 m)) e ∙ ap (λ b. bool_byte b) (lt-ltb 0 (suc (length vs)) (omega arith))
+
+-- a list takes at most as many entries as one that is no shorter
+pub fewer_entries : {V : Type 0} (l m : List V) → length l ≤ length m → entries_for l ≤ entries_for m
+fewer_entries [] m h = omega arith
+fewer_entries (v ∷ vs) [] h = absurd (omega (arith, h))
+fewer_entries (v ∷ vs) (w ∷ ws) h = omega arith
+
+pub length-put_value : {V : Type 0} (first : Bool) (v : V) (l : List V) → length (put_value first v l) ≡ length l + 1
+length-put_value true v l = omega arith
+length-put_value false v l = let n = length-append l (v ∷ []) in omega (arith, n)
+
+pub at_most_three : (p : ℕ) → p ≤ 3 → partition_count p ≤ 16777216
+at_most_three zero h = omega arith
+at_most_three (suc zero) h = omega arith
+at_most_three (suc (suc zero)) h = omega arith
+at_most_three (suc (suc (suc zero))) h = omega arith
+at_most_three (suc (suc (suc (suc p)))) h = absurd (omega (arith, h))
+
+module _ {K V : Type 0} where
+  gathered_from-replicate : (p n : ℕ) → gathered_from p (replicate {A = Content K V} n []) ≡ []
+  gathered_from-replicate p zero = refl
+  gathered_from-replicate p (suc n) = gathered_from-replicate (suc p) n
+
+  pub none_held : (parts : List (Content K V)) (n : ℕ) → parts ≡ replicate n [] → gathered parts ≡ []
+  none_held parts n e = ap (λ cs. gathered cs) e ∙ gathered_from-replicate 0 n
+
+  none_lawful : (cmp : K → K → Ordering) (n : ℕ) → All (IsLawful cmp) (replicate {A = Content K V} n [])
+  none_lawful cmp zero = All-nil (IsLawful cmp)
+  none_lawful cmp (suc n) = All-cons (IsLawful cmp) [] (replicate n []) (tt, tt) (none_lawful cmp n)
+
+  pub none_counted : (cmp : K → K → Ordering) (p : ℕ) (parts : List (Content K V)) (n : ℕ) → 1 ≤ p → p ≤ 3 → parts ≡ replicate n [] → n ≡ partition_count p → IsCounted cmp p parts 0 0
+  none_counted cmp p parts n least greatest e is =
+      let none = none_held parts n e in
+      record {
+        least = least;
+        greatest = greatest;
+        sized = ap (λ cs. length cs) e ∙ length-replicate n [] ∙ is;
+        each = subst (λ cs. All (IsLawful cmp) cs) (sym e) (none_lawful cmp n);
+        counted = ap (λ c. item_count c) (sym none);
+        keyed = ap (λ c. key_count c) (sym none);
+      }
+
+module _ {K V : Type 0} {cmp : K → K → Ordering} {p : ℕ} {parts : List (Content K V)} {items keys : ℕ} (h : IsCounted cmp p parts items keys) where
+  pub lawful : IsLawful (pair_cmp cmp) (gathered parts)
+  lawful = IsLawful-gathered cmp parts h.each
+
+  pub list_is : (slot : ℕ × K) → list_at (pair_cmp cmp) (gathered parts) slot ≡ list_in cmp parts slot
+  list_is slot = list_at-gathered cmp parts slot.0 slot.1
+
+  pub reach : (n : ℕ) → n < partition_count p → n < length parts
+  reach n below = let sized = h.sized in omega (arith, sized, below)
+
+  pub held_inside : (slot : ℕ × K) (n : ℕ) → n < length (list_at (pair_cmp cmp) (gathered parts) slot) → slot.0 < length parts
+  held_inside slot n held = lt_of_not-le (λ past.
+      let none : length (list_at (pair_cmp cmp) (gathered parts) slot) ≡ 0 = ap (λ l. length l) (list_at-past cmp parts slot.0 slot.1 past) in
+      omega (arith, held, none))
+
+  module _ (o : IsTotalOrder cmp) where
+    pub items_within : (slot : ℕ × K) → length (list_in cmp parts slot) ≤ items
+    items_within slot =
+        let sum = item_count-with_list (pair_total o) (gathered parts) slot [] lawful in
+        let was = h.counted in
+        let same : length (list_at (pair_cmp cmp) (gathered parts) slot) ≡ length (list_in cmp parts slot) = ap (λ l. length l) (list_is slot) in omega (arith, sum, was, same)
+
+    pub entries_within : (slot : ℕ × K) → entries_for (list_in cmp parts slot) ≤ keys
+    entries_within slot =
+        let sum = key_count-with_list (pair_total o) (gathered parts) slot [] lawful in
+        let was = h.keyed in
+        let same : entries_for (list_at (pair_cmp cmp) (gathered parts) slot) ≡ entries_for (list_in cmp parts slot) = ap (λ l. entries_for l) (list_is slot) in omega (arith, sum, was, same)
+
+    module _ (exact : (x y : K) → cmp x y ≡ Equal → x ≡ y) (slot : ℕ × K) (l : List V) (new : List (Content K V)) (inside : slot.0 < length parts)
+        (is : new ≡ with_list_in cmp parts slot l) where
+      pub edited : gathered new ≡ with_list (pair_cmp cmp) (gathered parts) slot l
+      edited = ap (λ cs. gathered cs) is ∙ with_list-gathered cmp o exact parts slot.0 slot.1 l inside h.each
+
+      each_after : All (IsLawful cmp) new
+      each_after =
+          let part = part_at parts slot.0 in
+          subst (λ cs. All (IsLawful cmp) cs) (sym is)
+          (All-set (IsLawful cmp) parts slot.0 (with_list cmp part slot.1 l) (IsLawful-with_list o part slot.1 l (All-get_or (IsLawful cmp) parts slot.0 [] inside h.each)) h.each)
+
+      pub edited_lawful : IsLawful (pair_cmp cmp) (gathered new)
+      edited_lawful = IsLawful-gathered cmp new each_after
+
+      item_sum : item_count (gathered new) + length (list_in cmp parts slot) ≡ items + length l
+      item_sum =
+          let sum = item_count-with_list (pair_total o) (gathered parts) slot l lawful in
+          let was = h.counted in
+          let now = ap (λ c. item_count c) edited in
+          let same : length (list_at (pair_cmp cmp) (gathered parts) slot) ≡ length (list_in cmp parts slot) = ap (λ m. length m) (list_is slot) in omega (arith, sum, was, now, same)
+
+      key_sum : key_count (gathered new) + entries_for (list_in cmp parts slot) ≡ keys + entries_for l
+      key_sum =
+          let sum = key_count-with_list (pair_total o) (gathered parts) slot l lawful in
+          let was = h.keyed in
+          let now = ap (λ c. key_count c) edited in
+          let same : entries_for (list_at (pair_cmp cmp) (gathered parts) slot) ≡ entries_for (list_in cmp parts slot) = ap (λ m. entries_for m) (list_is slot) in omega (arith, sum, was, now, same)
+
+      pub keys_fit : (a b : ℕ) → a + length (list_in cmp parts slot) ≡ items + length l → b + entries_for (list_in cmp parts slot) ≡ keys + entries_for l → b ≤ a
+      keys_fit a b items_told keys_told =
+          let of_items = item_sum in let of_keys = key_sum in let at_most = keys_at_most (gathered new) edited_lawful.1 in
+          omega (arith, of_items, of_keys, at_most, items_told, keys_told)
+
+      pub counted_edit : (a b : ℕ) → a + length (list_in cmp parts slot) ≡ items + length l → b + entries_for (list_in cmp parts slot) ≡ keys + entries_for l → IsCounted cmp p new a b
+      counted_edit a b items_told keys_told =
+          let of_items = item_sum in let of_keys = key_sum in let size = ap (λ cs. length cs) is in
+          let same = length-set parts slot.0 (with_list cmp (part_at parts slot.0) slot.1 l) in let sized = h.sized in
+          record {
+            least = h.least;
+            greatest = h.greatest;
+            sized = omega (arith, size, same, sized);
+            each = each_after;
+            counted = omega (arith, of_items, items_told);
+            keyed = omega (arith, of_keys, keys_told);
+          }
+
+      pub edited_by : (f : List V → List V) → l ≡ f (list_in cmp parts slot) → gathered new ≡ with_list_by (pair_cmp cmp) (gathered parts) slot f
+      edited_by f told = edited ∙ ap (λ m. with_list (pair_cmp cmp) (gathered parts) slot m) (told ∙ ap f (sym (list_is slot)))
+
+      -- of the index as it is seen
+      pub view_edited : {T : Type 0} (translated : T → List ℕ → K) (t : T) (pruned : ℕ) (f : List V → List V) → l ≡ f (list_in cmp parts slot)
+          → view_of p translated (record { translator = t; parts = new; pruned = pruned }) ≡ with_edit (pair_cmp cmp) (view_of p translated (record { translator = t; parts = parts; pruned = pruned })) slot f
+      view_edited translated t pruned f told =
+          ap (λ w. record (view_of p translated (record { translator = t; parts = parts; pruned = pruned })) { content = w }) (edited_by f told)
+
+      pub view_pruned : {T : Type 0} (translated : T → List ℕ → K) (t : T) (pruned n more : ℕ) (f : List V → List V) → l ≡ f (list_in cmp parts slot) → more ≡ pruned_after pruned n
+          → view_of p translated (record { translator = t; parts = new; pruned = more }) ≡ with_pruned (with_edit (pair_cmp cmp) (view_of p translated (record { translator = t; parts = parts; pruned = pruned })) slot f) n
+      view_pruned translated t pruned n more f told sum =
+          λ i. record (view_of p translated (record { translator = t; parts = parts; pruned = pruned })) { content = edited_by f told i; pruned = sum i }
