@@ -1,7 +1,7 @@
-use Rattle.std.proofs.Common.{◌≡◌, map, set, ap, subst, ◌∙◌}
+use Rattle.std.proofs.Common.{◌≡◌, [], ◌∷◌, ◌++◌, map, set, ap, subst, ◌∙◌}
 use Rattle.std.specs.Fn.{CalledAt}
 use Rattle.std.specs.List.{items_where_true}
-use Rattle.key_index_flat.specs.Content.{is_filled}
+use Rattle.key_index_flat.specs.Content.{is_filled, list_at}
 use Rattle.key_index_parts.specs.Family.{RetainsWith, with_list_in}
 use Rattle.key_index_parts.proofs.FamilyLemmas.{inside_parts, not_not, list_told, part_edited, part_stays, flags_edited, flags_stay}
 use Rattle.key_index_parts.proofs.index.partitioned.parts.Parts.insert_and_retain.Goals as goal
@@ -45,7 +45,7 @@ returns-in-Ok-clause-accepted g c =
     rw (← c.self.view_is)
     (subst (λ l. RetainsWith (CalledAt g.F.FnMut) c.args.should_retain l c.args.value c.in-Ok.retained.had c.in-Ok.retained.left c.in-Ok.retained.taken
     (λ m. map f (set xs n c.insert_and_retain.new.self) ≡ with_list_in cmp (map f xs) c.args.slot m)) list
-    (said.0, said.1, said.2, said.3, part_edited cmp f xs n x inside at c.insert_and_retain.new.self k (λ _. items_where_true said.0 _) said.4, said.5, said.6, said.7))
+    (said.0, said.1, said.2, said.3, part_edited cmp f xs n x inside at c.insert_and_retain.new.self k (λ l. items_where_true said.0 (list_at cmp (f x) k ++ c.args.value ∷ [])) said.4, said.5, said.6, said.7))
 
 pub returns-in-Err-clause-refused : goal.returns-in-Err-clause-refused
 returns-in-Err-clause-refused g c =
