@@ -5,15 +5,20 @@
 --     Rises, rises, sorted    that keys never fall, by recursion
 --     IsSorted-remove_range, IsSorted-slice_range     it stays so without some of them
 --     first_lowest, last_highest     no key is below the first, nor above the last
-use Rattle.std.proofs.Common.{◌≡◌, ℕ, suc, ◌+◌, ◌≤◌, Bool, true, false, cond, T, List, [], ◌∷◌, length, ◌⊎◌, All, take, drop, inl, inr, refl, sym, ap, subst, ◌∙◌, arith, zero, get_or, ◌-◌, slice_get, Some}
+--     counted, uncounted      whether a place is below the count of those that pass
+--     count_behind, count_before     that count by those from a place on, and by those up to one
+--     count_within            it is no more than all
+--     below_upto, first_counted, last_uncounted     the counts of a key, of the first and of the last
+use Rattle.std.proofs.Common.{◌≡◌, ℕ, suc, ◌+◌, ◌<◌, ◌≤◌, Bool, true, false, cond, T, List, [], ◌∷◌, length, ◌⊎◌, All, take, drop, inl, inr, refl, sym, ap, subst, ◌∙◌, arith, zero, get_or, ◌-◌, slice_get, Some}
 use Rattle.std.specs.declared.cmp.Ordering.{Ordering}
 use Rattle.std.specs.declared.cmp.Ordering.TheVariants.{Less, Equal, Greater}
 use Rattle.std.specs.Ordering.{is_lt, is_le, ordering_reverse}
-use Rattle.std.specs.Cmp.{IsTotalOrder, alike_right}
+use Rattle.std.specs.Cmp.{IsTotalOrder, alike_right, tied_itself}
 use Rattle.std.specs.List.{filter, slice_range, remove_range}
 use Rattle.std.specs.List.Sorted.{IsSorted, IsPartitionedBy, IsPartitionPoint}
 use Rattle.std.proofs.lemmas.List.Sorted.{ranks_by, sorted_far}
-use Rattle.std.proofs.lemmas.Option.{get_or_from_slice_get}
+use Rattle.std.proofs.lemmas.Option.{get_or_from_slice_get, slice_get_within}
+use Rattle.key_index_parts.specs.Pairs.{count_below, count_upto}
 use Rattle.std.proofs.lemmas.List.Elements.{All-nil, All-cons, All-head, All-append, All-take, All-drop, All-weaker}
 
 -- a partition point is how many pass the test
@@ -134,3 +139,110 @@ module _ {K : Type 0} {cmp : K → K → Ordering} (o : IsTotalOrder cmp) where
   last_highest ks k h at j d b =
       subst (λ y. is_lt (cmp y (get_or ks j d)) ≡ false) (get_or_from_slice_get ks (length ks - 1) k d at)
       (sorted_far (λ x y. is_lt (cmp x y)) (ranks_by o (λ x. x)) ks h j (length ks - 1) d (omega arith) (omega arith))
+
+-- ---- a test that the first elements pass, and no others
+
+module _ {X : Type 0} (p : X → Bool) where
+  abbrev Parted : List X → Type 0
+  Parted xs = IsPartitionedBy p xs
+
+  later : (x : X) (xs : List X) → Parted (x ∷ xs) → Parted xs
+  later x xs h i j d le l = h (suc i) (suc j) d (omega arith) (omega arith)
+
+  one_more : (x : X) (xs : List X) → p x ≡ true → length (filter p (x ∷ xs)) ≡ suc (length (filter p xs))
+  one_more x xs e = ap (λ b. length (cond b (x ∷ filter p xs) (filter p xs))) e
+
+  none_more : (x : X) (xs : List X) → p x ≡ false → length (filter p (x ∷ xs)) ≡ length (filter p xs)
+  none_more x xs e = ap (λ b. length (cond b (x ∷ filter p xs) (filter p xs))) e
+
+  -- an element that passes is counted, with all before it
+  pub counted : (xs : List X) (i : ℕ) (d : X) → Parted xs → i < length xs → p (get_or xs i d) ≡ true → i < length (filter p xs)
+  counted [] i d h l e = absurd (omega arith)
+  counted (x ∷ xs) zero d h l e = let more = one_more x xs e in omega (arith, more)
+  counted (x ∷ xs) (suc i) d h l e =
+      let more = one_more x xs (h 0 (suc i) d (omega arith) (omega arith) e) in
+      let rest = counted xs i d (later x xs h) (omega arith) e in
+      omega (arith, more, rest)
+
+  -- where the first fails, none passes
+  none_passes : (xs : List X) → Parted xs → ((d : X) → 0 < length xs → p (get_or xs 0 d) ≡ false) → length (filter p xs) ≡ 0
+  none_passes [] h e = refl
+  none_passes (x ∷ xs) h e =
+      let fails : p x ≡ false = e x (omega arith) in
+      none_more x xs fails ∙ none_passes xs (later x xs h) (λ d l. elim (p (get_or xs 0 d)) as (λ b. p (get_or xs 0 d) ≡ b → b ≡ false) [
+        | true ↦ λ q. sym (h 0 1 d (omega arith) (omega arith) q) ∙ fails
+        | false ↦ λ _. refl
+      ] refl)
+
+  -- one that fails is not, nor any behind it
+  pub uncounted : (xs : List X) (i : ℕ) (d : X) → Parted xs → i < length xs → p (get_or xs i d) ≡ false → length (filter p xs) ≤ i
+  uncounted [] i d h l e = absurd (omega arith)
+  uncounted (x ∷ xs) zero d h l e = let none = none_passes (x ∷ xs) h (λ _ _. e) in omega (arith, none)
+  uncounted (x ∷ xs) (suc i) d h l e =
+      let rest = uncounted xs i d (later x xs h) (omega arith) e in
+      elim (p x) as (λ b. p x ≡ b → length (filter p (x ∷ xs)) ≤ suc i) [
+        | true ↦ λ q. let more = one_more x xs q in omega (arith, more, rest)
+        | false ↦ λ q. let more = none_more x xs q in omega (arith, more, rest)
+      ] refl
+
+  -- the count from a place on, and up to a place
+  pub count_behind : (xs : List X) (i : ℕ) → Parted xs → i ≤ length (filter p xs) → i + length (filter p (drop i xs)) ≡ length (filter p xs)
+  count_behind xs zero h l = let whole : 0 + length (filter p xs) ≡ length (filter p xs) = omega arith in whole
+  count_behind [] (suc i) h l = absurd (omega arith)
+  count_behind (x ∷ xs) (suc i) h l =
+      elim (p x) as (λ b. p x ≡ b → suc i + length (filter p (drop i xs)) ≡ length (filter p (x ∷ xs))) [
+        | true ↦ λ q.
+            let more = one_more x xs q in
+            let rest = count_behind xs i (later x xs h) (omega (arith, more, l)) in
+            omega (arith, more, rest)
+        | false ↦ λ q. let none = none_passes (x ∷ xs) h (λ _ _. q) in absurd (omega (arith, none, l))
+      ] refl
+
+  pub count_before : (xs : List X) (i : ℕ) → Parted xs → length (filter p xs) ≤ i → length (filter p (take i xs)) ≡ length (filter p xs)
+  count_before xs zero h l = omega (arith, l)
+  count_before [] (suc i) h l = refl
+  count_before (x ∷ xs) (suc i) h l =
+      elim (p x) as (λ b. p x ≡ b → length (cond b (x ∷ filter p (take i xs)) (filter p (take i xs))) ≡ length (filter p (x ∷ xs))) [
+        | true ↦ λ q.
+            let more = one_more x xs q in
+            let rest = count_before xs i (later x xs h) (omega (arith, more, l)) in
+            omega (arith, more, rest)
+        | false ↦ λ q.
+            let more = none_more x xs q in
+            let none = none_passes (x ∷ xs) h (λ _ _. q) in
+            count_before xs i (later x xs h) (omega (arith, more, none)) ∙ sym more
+      ] refl
+
+  pub count_within : (xs : List X) → length (filter p xs) ≤ length xs
+  count_within [] = omega arith
+  count_within (x ∷ xs) =
+      let rest = count_within xs in
+      elim (p x) as (λ b. length (cond b (x ∷ filter p xs) (filter p xs)) ≤ suc (length xs)) [
+        | true ↦ omega (arith, rest)
+        | false ↦ omega (arith, rest)
+      ]
+
+module _ {K : Type 0} {cmp : K → K → Ordering} (o : IsTotalOrder cmp) where
+  pub below_upto : (ks : List K) (k : K) → count_below cmp ks k ≤ count_upto cmp ks k
+  below_upto [] k = omega arith
+  below_upto (x ∷ xs) k =
+      let rest = below_upto xs k in
+      let below = filter (λ y. is_lt (cmp y k)) xs in
+      let upto = filter (λ y. is_le (cmp y k)) xs in
+      elim (cmp x k) as (λ r. length (cond (is_lt r) (x ∷ below) below) ≤ length (cond (is_le r) (x ∷ upto) upto)) [
+        | Less ↦ omega (arith, rest)
+        | Equal ↦ omega (arith, rest)
+        | Greater ↦ omega (arith, rest)
+      ]
+
+  -- the first key is not above itself, and the last not below
+  pub first_counted : (ks : List K) (k d : K) → IsSorted cmp ks → 0 < length ks → get_or ks 0 d ≡ k → 0 < count_upto cmp ks k
+  first_counted ks k d h l at =
+      counted (λ x. is_le (cmp x k)) ks 0 d (upper_partitions o ks k h) l (ap (λ x. is_le (cmp x k)) at ∙ ap is_le (tied_itself o k))
+
+  pub last_uncounted : (ks : List K) (k : K) → IsSorted cmp ks → slice_get ks (length ks - 1) ≡ Some k → count_below cmp ks k < length ks
+  last_uncounted ks k h at =
+      let within = slice_get_within ks (length ks - 1) k at in
+      let test = ap (λ x. is_lt (cmp x k)) (get_or_from_slice_get ks (length ks - 1) k k at) ∙ ap is_lt (tied_itself o k) in
+      let most = uncounted (λ x. is_lt (cmp x k)) ks (length ks - 1) k (lower_partitions o ks k h) within test in
+      omega (arith, within, most)

@@ -1,6 +1,7 @@
 -- What sorted keys with a value beside each hold, and what they stand for. `cmp` is the order of the keys, `k` a key.
 --     Pairs                     the pairs of a key and a value, and how many more it takes without asking for memory
 --     with_value                the pairs with another value at a place
+--     count_below, count_upto   how many of some keys are below a key, and how many are not above it
 --     run_of                    the values at a key, in their order
 --     IsRun                     where the pairs of a key stand: those below it come before them
 --     grouped                   the content that pairs stand for: under each key its values, in their order
@@ -12,7 +13,7 @@ use Rattle.std.specs.List.{filter, zip}
 use Rattle.std.specs.List.Sorted.{IsSorted}
 use Rattle.std.specs.Map.{keys_of, values_of}
 use Rattle.std.specs.declared.cmp.Ordering.{Ordering}
-use Rattle.std.specs.Ordering.{eq_by_cmp}
+use Rattle.std.specs.Ordering.{eq_by_cmp, is_lt, is_le}
 use Rattle.std.specs.declared.vec.Vec.{Vec}
 use Rattle.std.specs.Vec.{vec_capacity}
 use Rattle.key_index_flat.specs.Content.{Content, with_list_by}
@@ -24,6 +25,13 @@ pub record Pairs (K V : Type 0) : Type 0 where
 
 abbrev pub with_value : {K V : Type 0} → List (K × V) → ℕ → V → List (K × V)
 with_value es i v = zip (keys_of es) (slice_set (values_of es) i v)
+
+module _ {K : Type 0} (cmp : K → K → Ordering) where
+  abbrev pub count_below : List K → K → ℕ
+  count_below ks k = length (filter (λ x. is_lt (cmp x k)) ks)
+
+  abbrev pub count_upto : List K → K → ℕ
+  count_upto ks k = length (filter (λ x. is_le (cmp x k)) ks)
 
 module _ {K V : Type 0} (cmp : K → K → Ordering) where
   abbrev pub run_of : List (K × V) → K → List V

@@ -1,17 +1,16 @@
 //! One partition: its keys in order, and beside each key a value.
-ghost use Rattle.std.specs.Prelude.{◌≡◌, ◌+◌, ◌-◌, ◌<◌, ◌≤◌, List, [], ◌∷◌, length, min, slice_get, insert, remove, Some, IsOk, IfOk, IfErr, OnOk, OnErr, map, take, drop, vec_len};
-ghost use Rattle.std.specs.Bool.{◌==◌};
-ghost use Rattle.std.specs.List.{filter, flat_map, zip, slice_range, remove_range};
+ghost use Rattle.std.specs.Prelude.{◌≡◌, ◌+◌, ◌-◌, ◌<◌, ◌≤◌, List, [], length, min, slice_get, insert, remove, Some, IsOk, IfOk, IfErr, OnOk, OnErr, map, take, drop, vec_len};
+ghost use Rattle.std.specs.Bool.{◌==◌, Decides};
+ghost use Rattle.std.specs.List.{flat_map, zip, slice_range, remove_range};
 ghost use Rattle.std.specs.List.Sorted.{IsSorted};
 ghost use Rattle.std.specs.Map.{keys_of, values_of};
 ghost use Rattle.std.specs.Option.{option_copied};
-ghost use Rattle.std.specs.Ordering.{is_lt, is_le};
 ghost use Rattle.std.specs.Slice.Iter.{iter_rest};
 ghost use Rattle.std.specs.Vec.{vec_capacity};
 ghost use Rattle.std.specs.Vec.Iter.{into_iter_items};
 ghost use Rattle.key_index_flat.specs.Content.{Content};
 ghost use Rattle.key_index_flat.specs.Neighbours.{entries_above, entries_below, first_list, last_list};
-ghost use Rattle.key_index_parts.specs.Pairs.{Pairs, Paired, IsRun, with_value, run_of, grouped, list_of, room_of, room_for};
+ghost use Rattle.key_index_parts.specs.Pairs.{Pairs, Paired, IsRun, count_below, count_upto, with_value, run_of, grouped, list_of, room_of, room_for};
 
 use key_index_flat::index::{Fault, Refused};
 use std::alloc::{AllocError, Global};
@@ -25,7 +24,7 @@ use std::vec::IntoIter;
 fn lower_bound<K: Ord>(keys: &[K], key: &K) -> usize
     requires { IsSorted K.cmp keys.now }
     ensures within { result ≤ length keys.now }
-    ensures count { result ≡ length (filter (λ k. is_lt (K.cmp k key.now)) keys.now) }
+    ensures count { result ≡ count_below K.cmp keys.now key.now }
 {
     keys.partition_point(|k| k.cmp(key).is_lt())
 }
@@ -34,7 +33,7 @@ fn lower_bound<K: Ord>(keys: &[K], key: &K) -> usize
 fn upper_bound<K: Ord>(keys: &[K], key: &K) -> usize
     requires { IsSorted K.cmp keys.now }
     ensures within { result ≤ length keys.now }
-    ensures count { result ≡ length (filter (λ k. is_le (K.cmp k key.now)) keys.now) }
+    ensures count { result ≡ count_upto K.cmp keys.now key.now }
 {
     keys.partition_point(|k| k.cmp(key).is_le())
 }
@@ -48,13 +47,52 @@ fn part<T>(items: &[T], range: Range<usize>) -> &[T]
     &items[range]
 }
 
+/// Whether a place of some sorted keys has one, and it isn't above a key.
+fn reaches<K: Ord>(keys: &[K], place: usize, key: &K) -> bool
+    requires { IsSorted K.cmp keys.now }
+    ensures { Decides result (place < count_upto K.cmp keys.now key.now) }
+{
+    place < keys.len() && keys[place].cmp(key).is_le()
+}
+
+/// Where the run of a key ends in some sorted keys, from a place no farther: two compares where it is that place or the
+/// next.
+fn run_end<K: Ord>(keys: &[K], from: usize, key: &K) -> usize
+    requires sorted { IsSorted K.cmp keys.now }
+    requires from { from ≤ count_upto K.cmp keys.now key.now }
+    ensures within { result ≤ length keys.now }
+    ensures count { result ≡ count_upto K.cmp keys.now key.now }
+{
+    if !reaches(keys, from, key) {
+        return from;
+    }
+    if !reaches(keys, from + 1, key) {
+        return from + 1;
+    }
+    from + 2 + upper_bound(part(keys, from + 2..keys.len()), key)
+}
+
+/// Where the run of the last of some sorted keys begins: one compare where it has one pair.
+fn last_start<K: Ord>(keys: &[K], last: &K) -> usize
+    requires sorted { IsSorted K.cmp keys.now }
+    requires last { slice_get keys.now (length keys.now - 1) ≡ Some last.now }
+    ensures within { result ≤ length keys.now }
+    ensures count { result ≡ count_below K.cmp keys.now last.now }
+{
+    let end = keys.len() - 1;
+    if end == 0 || keys[end - 1].cmp(last).is_lt() {
+        return end;
+    }
+    lower_bound(part(keys, 0..end - 1), last)
+}
+
 /// The values of the first of some sorted keys.
 fn first_run<'a, K: Ord, V>(keys: &[K], values: &'a [V]) -> Option<&'a [V]>
     requires sized { length keys.now ≡ length values.now }
     requires sorted { IsSorted K.cmp keys.now }
     ensures { option_copied result ≡ first_list (grouped K.cmp (zip keys.now values.now)) }
 {
-    let end = upper_bound(keys, keys.first()?);
+    let end = run_end(keys, 1, keys.first()?);
     Some(part(values, 0..end))
 }
 
@@ -64,7 +102,7 @@ fn last_run<'a, K: Ord, V>(keys: &[K], values: &'a [V]) -> Option<&'a [V]>
     requires sorted { IsSorted K.cmp keys.now }
     ensures { option_copied result ≡ last_list (grouped K.cmp (zip keys.now values.now)) }
 {
-    let start = lower_bound(keys, keys.last()?);
+    let start = last_start(keys, keys.last()?);
     Some(part(values, start..values.len()))
 }
 
@@ -80,7 +118,7 @@ fn empty_runs<K: Ord + Copy, V: Drop>(
     let mut runs = Vec::new(alloc);
     let mut start = 0;
     while start < keys.len() {
-        let count = upper_bound(part(keys, start..keys.len()), &keys[start]);
+        let count = run_end(part(keys, start..keys.len()), 1, &keys[start]);
         let values = Vec::with_capacity(alloc, count)?;
         runs.push((keys[start + (count - 1)], values))?;
         start += count;
@@ -276,7 +314,8 @@ impl<K: Ord + Copy, V: Drop> Partition<K, V> {
         ensures sorted { IsSorted K.cmp (keys_of self.now.pairs) }
     {
         let keys = self.keys.as_slice();
-        lower_bound(keys, key)..upper_bound(keys, key)
+        let start = lower_bound(keys, key);
+        start..run_end(keys, start, key)
     }
 
     /// The values of a key, in their order.

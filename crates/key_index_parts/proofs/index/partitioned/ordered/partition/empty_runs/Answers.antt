@@ -12,18 +12,18 @@ loop-start-preserved g c =
     let cmp = g.K.Ord.cmp in
     let keys = c.args.keys.now in
     let start = c.loop-start.start in
-    let count = c.upper_bound-count.result in
+    let count = c.run_end-count.result in
     let key = c.index-keys-start.result in
     let last = c.index-keys-start-in-loop-start.result in
     let rest = c.part.ensures ∙ take_rest keys start in
     let left = ap length rest ∙ length-drop start keys in
-    let most = c.upper_bound-count.ensures.within in
+    let most = c.run_end-count.ensures.within in
     let test = c.loop-start-test.true in
     record {
       within = omega (arith, left, most, test);
       made = λ vs sized.
           let next = next_room g.met.K.Ord.total keys vs sized c.requires start count key last test (get_or_read keys start key test c.index-keys-start.is last)
-          (c.upper_bound-count.ensures.count ∙ ap (λ l. length (filter (λ x. is_le (cmp x key)) l)) rest) in
+          (c.run_end-count.ensures.count ∙ ap (λ l. length (filter (λ x. is_le (cmp x key)) l)) rest) in
           let behind = map room_for (grouped cmp (drop (start + count) (zip keys vs))) in
           c.loop-start.invariant.made vs sized
           ∙ ap (λ l. map room_of c.loop-start.runs.items ++ l) (next ∙ (λ i. ((sym c.index-keys-start-in-loop-start.is i, sym c.in_ok-values.ensures.items i), sym c.in_ok-values.ensures.exact i) ∷ behind))

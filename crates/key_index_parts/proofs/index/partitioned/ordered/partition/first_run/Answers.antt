@@ -5,6 +5,6 @@ use Rattle.key_index_parts.proofs.index.partitioned.ordered.partition.first_run.
 pub returns : goal.returns
 returns g c =
     let run = first_run_is g.met.K.Ord.total c.args.keys.now c.args.values.now c.requires.sized c.requires.sorted
-    c.in_ok-first.field-0.now c.upper_bound-end.result (sym c.in_ok-first.ensures.value) c.upper_bound-end.ensures.count in
-    let whole : c.upper_bound-end.result - 0 ≡ c.upper_bound-end.result = omega arith in
+    c.in_ok-first.field-0.now c.run_end-end.result (sym c.in_ok-first.ensures.value) c.run_end-end.ensures.count in
+    let whole : c.run_end-end.result - 0 ≡ c.run_end-end.result = omega arith in
     ap Some (c.part.ensures ∙ ap (λ n. take n c.args.values.now) whole) ∙ sym run

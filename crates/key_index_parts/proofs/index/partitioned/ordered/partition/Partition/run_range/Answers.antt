@@ -1,19 +1,26 @@
-use Rattle.std.proofs.Common.{length, sym, ap, subst, ◌∙◌}
+use Rattle.std.proofs.Common.{length, sym, ap, subst, ◌∙◌, arith}
 use Rattle.std.specs.List.{filter}
 use Rattle.std.specs.List.Sorted.{IsSorted}
 use Rattle.std.specs.Map.{keys_of}
 use Rattle.std.specs.Ordering.{is_lt, is_le}
 use Rattle.std.proofs.lemmas.Map.Made.{keys_of-zip}
+use Rattle.key_index_parts.proofs.SearchLemmas.{below_upto}
 use Rattle.key_index_parts.proofs.RunLemmas.{run_found, IsRun-within}
 use Rattle.key_index_parts.proofs.index.partitioned.ordered.partition.Partition.run_range.Goals as goal
+
+pub run_end-requires-clause-from : goal.run_end-requires-clause-from
+run_end-requires-clause-from g c =
+    let upto = below_upto g.met.K.Ord.total c.as_slice-keys.result.now c.args.key.now in
+    let start = c.lower_bound-start.ensures.count in
+    omega (arith, upto, start)
 
 pub returns-clause-run : goal.returns-clause-run
 returns-clause-run g c =
     let keys = c.as_slice-keys.ensures.value in
     rw (← c.self.view_is) (run_found g.met.K.Ord.total c.self.inside.keys.items c.self.inside.values.items c.self.invariant.sized c.args.key.now
-    c.lower_bound.result c.upper_bound.result
-    (c.lower_bound.ensures.count ∙ ap (λ l. length (filter (λ x. is_lt (g.K.Ord.cmp x c.args.key.now)) l)) keys)
-    (c.upper_bound.ensures.count ∙ ap (λ l. length (filter (λ x. is_le (g.K.Ord.cmp x c.args.key.now)) l)) keys))
+    c.lower_bound-start.result c.run_end.result
+    (c.lower_bound-start.ensures.count ∙ ap (λ l. length (filter (λ x. is_lt (g.K.Ord.cmp x c.args.key.now)) l)) keys)
+    (c.run_end.ensures.count ∙ ap (λ l. length (filter (λ x. is_le (g.K.Ord.cmp x c.args.key.now)) l)) keys))
 
 pub returns-clause-sorted : goal.returns-clause-sorted
 returns-clause-sorted g c =
@@ -22,4 +29,4 @@ returns-clause-sorted g c =
 
 pub returns-clause-within : goal.returns-clause-within
 returns-clause-within g c =
-    IsRun-within g.met.K.Ord.total c.args.self.now.pairs c.args.key.now c.lower_bound.result c.upper_bound.result (returns-clause-sorted g c) (returns-clause-run g c)
+    IsRun-within g.met.K.Ord.total c.args.self.now.pairs c.args.key.now c.lower_bound-start.result c.run_end.result (returns-clause-sorted g c) (returns-clause-run g c)
