@@ -6,7 +6,8 @@
 --     may_insert, inserted, inserted_last, inserted_sole, set_in, removed, removed_all     edits at a place of the list, and of the whole run
 --     may_append                   behind the last of the run
 --     run_after, sorted_after      where the run stands after one of its pairs is taken out
-use Rattle.std.proofs.Common.{◌≡◌, ℕ, suc, ◌+◌, ◌-◌, ◌<◌, ◌≤◌, cond, true, false, not, nat_eq, List, [], ◌∷◌, ◌++◌, length, insert, remove, slice_set, slice_get, Some, refl, sym, ap, subst, ◌∙◌, arith}
+--     appended, run_appended, ..   the content, the list, and where the run stands after a pair was put behind it
+use Rattle.std.proofs.Common.{◌≡◌, ℕ, suc, ◌+◌, ◌-◌, ◌<◌, ◌≤◌, cond, true, false, not, nat_eq, List, [], ◌∷◌, ◌++◌, length, insert, remove, slice_set, slice_get, Some, length-append, refl, sym, ap, subst, ◌∙◌, arith}
 use Rattle.std.proofs.lemmas.Bool.{eq-eqb, ne_eqb}
 use Rattle.std.proofs.lemmas.List.Edits.{length-remove, insert_end}
 use Rattle.std.proofs.lemmas.Option.{slice_get-map}
@@ -25,10 +26,10 @@ use Rattle.key_index_flat.proofs.ContentLemmas.{list_at-with_list}
 use Rattle.key_index_parts.specs.Pairs.{run_of, grouped, with_value, IsRun}
 use Rattle.key_index_parts.specs.PairLaws.{IsLawful-grouped}
 use Rattle.key_index_parts.proofs.SearchLemmas.{Rises, rises, IsSorted-remove_range}
-use Rattle.key_index_parts.proofs.PairLemmas.{place_among, filter-remove}
+use Rattle.key_index_parts.proofs.PairLemmas.{place_among, filter-insert, filter-remove}
 use Rattle.key_index_parts.proofs.RunLemmas.{run_within}
 use Rattle.key_index_parts.proofs.GroupLemmas.{list_at-grouped}
-use Rattle.key_index_parts.proofs.PairEdits.{map-remove, run_at, IsSorted-insert, grouped-insert, grouped-set, grouped-remove, grouped-remove_run}
+use Rattle.key_index_parts.proofs.PairEdits.{map-insert, map-remove, run_at, IsSorted-insert, grouped-insert, grouped-set, grouped-remove, grouped-remove_run}
 
 module _ {K V : Type 0} {cmp : K → K → Ordering} (o : IsTotalOrder cmp) (exact : (x y : K) → cmp x y ≡ Equal → x ≡ y) (es : List (K × V)) (k : K)
     (h : IsSorted cmp (keys_of es)) (start end : ℕ) (run : IsRun cmp es k start end) where
@@ -122,3 +123,28 @@ module _ {K V : Type 0} {cmp : K → K → Ordering} (o : IsTotalOrder cmp) (exa
       let left = ap (λ m. length m) (sym (list_at-grouped o (remove es (start + i)) k) ∙ list_after i l) in
       let whole = run_count in
       record { from = run.from ∙ ap (λ m. length m) (sym below); upto = omega (arith, fewer, left, whole, l) }
+
+  module _ (v : V) where
+    abbrev more : List (K × V)
+    more = insert es end (k, v)
+
+    pub appended : grouped cmp more ≡ with_list cmp (grouped cmp es) k (insert list (length list) v)
+    appended = let whole : length list ≤ length list = omega arith in ap (λ n. grouped cmp (insert es n (k, v))) run_count ∙ inserted (length list) v whole
+
+    pub list_appended : list_at cmp (grouped cmp more) k ≡ list ++ v ∷ []
+    list_appended =
+        ap (λ c. list_at cmp c k) (inserted_last v) ∙ list_at-with_list o (grouped cmp es) k (list ++ v ∷ []) k
+        ∙ ap (λ r. cond (is_eq r) (list ++ v ∷ []) list) (tied_itself o k)
+
+    pub sorted_appended : IsSorted cmp (keys_of more)
+    sorted_appended = subst (λ l. IsSorted cmp l) (sym (map-insert (λ e. e.0) es end (k, v))) may_append
+
+    pub run_appended : IsRun cmp more k start (end + 1)
+    run_appended =
+        let below : entries_below cmp more k ≡ entries_below cmp es k =
+        filter-insert (λ f. is_lt (cmp f.0 k)) es end (k, v)
+        ∙ ap (λ r. cond (is_lt r) (insert (entries_below cmp es k) (place_among (λ f. is_lt (cmp f.0 k)) es end) (k, v)) (entries_below cmp es k)) (tied_itself o k) in
+        let left = ap (λ m. length m) (sym (list_at-grouped o more k) ∙ list_appended) in
+        let one = length-append list (v ∷ []) in
+        let whole = run_count in
+        record { from = run.from ∙ ap (λ m. length m) (sym below); upto = omega (arith, left, one, whole) }

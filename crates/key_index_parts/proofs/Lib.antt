@@ -15,6 +15,7 @@ pub mod DrainLemmas
 pub mod WordLemmas
 pub mod FilledLemmas
 pub mod StorageLemmas
+pub mod KeptInTurn
 pub mod FamilyLemmas
 pub mod FamilyNeighbours
 pub mod EntriesLemmas

@@ -4,8 +4,11 @@
 --     with_list_in, with_edit_in  with this list at a slot, and with what f makes of the list there
 --     filled_parts                of each part, whether it holds anything
 --     Kept, IsCounted             what the storage of an index keeps, and its counts
+--     RetainsWith                 what an insertion with retention makes of a list
 --     view_of                     the view of it, by what its translator makes of a key
-use Rattle.std.specs.Prelude.{◌≡◌, ℕ, ◌≤◌, Bool, nat_lt, List, [], length, map, All, slice_index_or, slice_set}
+use Rattle.std.specs.Prelude.{◌≡◌, ℕ, ◌+◌, ◌≤◌, Bool, nat_lt, List, [], ◌∷◌, ◌++◌, length, map, All, slice_index_or, slice_set}
+use Rattle.std.specs.List.{items_where_true}
+use Rattle.std.specs.List.Retain.{ReturnsInTurn}
 use Rattle.std.specs.declared.cmp.Ordering.{Ordering}
 use Rattle.key_index_flat.specs.Content.{Content, is_filled, IsLawful, list_at, with_list, item_count, key_count}
 use Rattle.key_index_flat.specs.View.{View}
@@ -51,3 +54,13 @@ view_of p translated s = record {
   slot = slot_by p (translated s.translator);
   admitted = λ slot. nat_lt slot.0 (partition_count p);
 }
+
+-- f was asked on each of `held` and on v last, the list is now what it said true of, and the counts tell how many values it had, how
+-- many it has, and how many of those that were held are gone
+abbrev pub RetainsWith : {F V : Type 0} → (F → V → Bool → F → Type 0) → F → List V → V → ℕ → ℕ → ℕ → (List V → Type 0)
+    → Type 0
+RetainsWith {F = F} ask f held v had left taken Becomes =
+    (answers : List Bool) × (last : F) × (length answers ≡ length held + 1)
+    × ReturnsInTurn ask f answers (held ++ v ∷ []) last × Becomes (items_where_true answers (held ++ v ∷ []))
+    × (had ≡ length held) × (left ≡ length (items_where_true answers (held ++ v ∷ [])))
+    × (taken + length (items_where_true answers held) ≡ length held)

@@ -156,6 +156,16 @@ impl<T: Translator, V: Drop, const P: usize> Unordered for Index<T, V, P> {
     }
 
     #[inline]
+    fn insert_and_retain<F: FnMut(&V) -> bool>(
+        &mut self,
+        key: &[u8],
+        value: V,
+        should_retain: F,
+    ) -> Result<(), Refused<V>> {
+        self.storage.insert_and_retain(key, value, should_retain)
+    }
+
+    #[inline]
     fn retain<F: FnMut(&V) -> bool>(&mut self, key: &[u8], should_retain: F) -> Result<(), Fault> {
         self.storage.retain(key, should_retain);
         Ok(())

@@ -5,10 +5,20 @@ ghost use Rattle.std.specs.List.Retain.{IsFiltered};
 ghost use Rattle.key_index_flat.specs.Content.{Content, IsLawful, is_filled, list_at, with_list, with_list_by};
 ghost use Rattle.key_index_flat.specs.Neighbours.{first_list, last_list, entries_above, entries_below};
 ghost use Rattle.key_index_flat.specs.View.{put_value};
+ghost use Rattle.key_index_parts.specs.Family.{RetainsWith};
 
 use key_index_flat::index::Values;
 use key_index_flat::translator::Translator;
 use std::alloc::Global;
+
+/// What `insert_and_retain` found and left: how many values the key had, how many it has now, and how many of those that it had are
+/// gone.
+#[derive(Clone, Copy)]
+pub(super) struct Retained {
+    pub(super) had: usize,
+    pub(super) left: usize,
+    pub(super) taken: usize,
+}
 
 /// A part of an index, as a map from the part's keys to lists. A refusal is want of memory, and leaves what it holds.
 pub(super) trait Part<T: Translator, V> {
@@ -79,6 +89,21 @@ pub(super) trait Part<T: Translator, V> {
             × (content self.new ≡ with_list T.Key.cmp (content self.old) key kept)
             × (result.1 ≡ length kept) }
         ensures had { result.0 ≡ length (list_at T.Key.cmp (content self.old) key) };
+
+    /// Puts a value in behind those of the key, which takes all the memory that the call may need, then asks once on each of them, in
+    /// list order, and takes out those that are answered false.
+    fn insert_and_retain<F: FnMut(&V) -> bool>(
+        &mut self,
+        key: T::Key,
+        value: V,
+        should_retain: F,
+    ) -> Result<Retained, V>
+        requires { F.IsAlwaysCallable should_retain }
+        ensures accepted { IfOk result (λ told. RetainsWith (CalledAt F.FnMut) should_retain
+            (list_at T.Key.cmp (content self.old) key) value told.had told.left told.taken
+            (λ l. content self.new ≡ with_list T.Key.cmp (content self.old) key l)) }
+        ensures refused { OnErr result (content self.new ≡ content self.old) }
+        ensures returned { IfErr result (λ back. back ≡ value) };
 
     /// Takes the key out, and tells how many values it had.
     fn remove(&mut self, key: T::Key) -> usize

@@ -5,12 +5,12 @@ ghost use Rattle.std.specs.List.Retain.{IsFiltered};
 ghost use Rattle.key_index_flat.specs.Content.{Content, is_filled};
 ghost use Rattle.key_index_flat.specs.Neighbours.{first_list, last_list, next_list, prev_list};
 ghost use Rattle.key_index_flat.specs.View.{put_value};
-ghost use Rattle.key_index_parts.specs.Family.{part_at, list_in, with_list_in, with_edit_in, filled_parts};
+ghost use Rattle.key_index_parts.specs.Family.{RetainsWith, part_at, list_in, with_list_in, with_edit_in, filled_parts};
 ghost use Rattle.key_index_parts.specs.Gathered.{gathered, gathered_from, pair_cmp};
 ghost use Rattle.key_index_parts.specs.Prefix.{partition_count};
 
 use super::filled::Filled;
-use super::part::{OrderedPart, Part};
+use super::part::{OrderedPart, Part, Retained};
 use key_index_flat::index::{Fault, Values};
 use key_index_flat::translator::Translator;
 use std::alloc::Global;
@@ -194,6 +194,33 @@ impl<T: Translator, V: Drop, X: Part<T, V> + Drop> Parts<T, V, X> {
         let holds = !part.is_empty();
         self.filled.set(slot.0, holds);
         counts
+    }
+
+    /// Puts a value in behind those of a slot, which takes all the memory that the call may need, then asks once on each of them, in
+    /// list order, and takes out those that are answered false.
+    pub(super) fn insert_and_retain<F: FnMut(&V) -> bool>(
+        &mut self,
+        slot: (usize, T::Key),
+        value: V,
+        should_retain: F,
+    ) -> Result<Retained, V>
+        requires within { slot.0 < length self.old }
+        requires callable { F.IsAlwaysCallable should_retain }
+        ensures accepted { IfOk result (λ told. RetainsWith (CalledAt F.FnMut) should_retain
+            (list_in T.Key.cmp self.old slot) value told.had told.left told.taken
+            (λ l. self.new ≡ with_list_in T.Key.cmp self.old slot l)) }
+        ensures refused { OnErr result (self.new ≡ self.old) }
+        ensures returned { IfErr result (λ back. back ≡ value) }
+    {
+        let part = &mut self.parts[slot.0];
+        match part.insert_and_retain(slot.1, value, should_retain) {
+            Ok(retained) => {
+                let holds = !part.is_empty();
+                self.filled.set(slot.0, holds);
+                Ok(retained)
+            }
+            Err(value) => Err(value),
+        }
     }
 
     /// Takes a slot out, and tells how many values it had.

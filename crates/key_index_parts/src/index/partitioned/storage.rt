@@ -5,7 +5,7 @@ ghost use Rattle.key_index_flat.specs.Content.{IsLawful, item_count, key_count};
 ghost use Rattle.key_index_flat.specs.Fault.{growth_fault};
 ghost use Rattle.key_index_flat.specs.FullKeys.{IsBytes};
 ghost use Rattle.key_index_flat.specs.Neighbours.{first_list, last_list, next_list, prev_list};
-ghost use Rattle.key_index_flat.specs.View.{put_value, run_at, run_of, with_run, with_edit, with_pruned, after_insert, after_remove, RetainsAt};
+ghost use Rattle.key_index_flat.specs.View.{put_value, run_at, run_of, with_run, with_edit, with_pruned, after_insert, after_remove, InsertsAndRetainsAt, RetainsAt};
 ghost use Rattle.key_index_parts.specs.Family.{Kept, IsCounted, view_of, part_at};
 ghost use Rattle.key_index_parts.specs.Gathered.{gathered, pair_cmp};
 ghost use Rattle.key_index_parts.specs.Prefix.{partition_count, slot_by};
@@ -248,6 +248,42 @@ impl<T: Translator, V: Drop, X: Part<T, V> + Drop, const P: usize> Storage<T, V,
         self.keys -= lost;
         self.items -= taken;
         self.pruned = self.pruned.saturating_add(taken as u64);
+    }
+
+    /// Puts a value in behind those of the key's index key, asks once on each of them, in list order, and takes out those that are
+    /// answered false.
+    pub(super) fn insert_and_retain<F: FnMut(&V) -> bool>(
+        &mut self,
+        key: &[u8],
+        value: V,
+        should_retain: F,
+    ) -> Result<(), Refused<V>>
+        requires callable { F.IsAlwaysCallable should_retain }
+        ensures accepted { OnOk result (InsertsAndRetainsAt (pair_cmp T.Key.cmp) (CalledAt F.FnMut) should_retain
+            (view_of P T.translated self.old) key.now value (view_of P T.translated self.new)) }
+        ensures room { OnOk result (item_count (gathered self.old.parts) < usize.MAX) }
+        ensures refused { OnErr result (self.new ≡ self.old) }
+        ensures lawful { IsLawful (pair_cmp T.Key.cmp) (gathered self.new.parts) }
+        ensures returned { IfErr result (λ r. r.value ≡ value) }
+        ensures fault { IfErr result (λ r. r.fault ≡ growth_fault (item_count (gathered self.old.parts))) }
+    {
+        if self.items == usize::MAX {
+            let fault = Fault::Full;
+            return Err(Refused { value, fault });
+        }
+        let slot = self.slot_of(key);
+        match self.parts.insert_and_retain(slot, value, should_retain) {
+            Ok(retained) => {
+                self.keys = self.keys + usize::from(retained.left > 0) - usize::from(retained.had > 0);
+                self.items = self.items - retained.had + retained.left;
+                self.pruned = self.pruned.saturating_add(retained.taken as u64);
+                Ok(())
+            }
+            Err(value) => {
+                let fault = Fault::Memory;
+                Err(Refused { value, fault })
+            }
+        }
     }
 
     /// Takes the key's index key out.

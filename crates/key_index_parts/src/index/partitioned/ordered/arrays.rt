@@ -1,15 +1,15 @@
 //! A part as sorted arrays.
-ghost use Rattle.std.specs.Prelude.{◌≡◌, ◌+◌, ◌≤◌, List, false, length};
+ghost use Rattle.std.specs.Prelude.{◌≡◌, List, true, false, length};
 ghost use Rattle.std.specs.Fn.{CalledAt};
-ghost use Rattle.std.specs.List.Retain.{IsFiltered};
 ghost use Rattle.std.specs.List.Sorted.{IsSorted};
 ghost use Rattle.std.specs.Map.{keys_of};
 ghost use Rattle.key_index_flat.specs.Content.{item_count, list_at, with_list};
+ghost use Rattle.key_index_flat.specs.Retention.{AsksInTurn};
 ghost use Rattle.key_index_flat.specs.Neighbours.{first_list, last_list, entries_above, entries_below};
 ghost use Rattle.key_index_parts.specs.Pairs.{IsRun, grouped};
 
 use super::partition::Partition;
-use crate::index::partitioned::part::{OrderedPart, Part};
+use crate::index::partitioned::part::{OrderedPart, Part, Retained};
 use key_index_flat::index::{Refused, Values};
 use key_index_flat::translator::Translator;
 use std::alloc::Global;
@@ -21,33 +21,37 @@ pub(super) struct Arrays<T: Translator, V> {
     pairs: Partition<T::Key, V>,
 }
 
-/// Asks once on each value of a key's run, takes out those that are answered false, and tells how many are left.
+/// Asks once on each value of a key's run, takes out those that are answered false, and tells how many are left, and the last answer:
+/// true where the run is empty.
 fn retain_run<T: Translator, V: Drop, F: FnMut(&V) -> bool>(
     pairs: &mut Partition<T::Key, V>,
     key: T::Key,
     run: Range<usize>,
     mut should_retain: F,
-) -> usize
+) -> (usize, bool)
     requires callable { F.IsAlwaysCallable should_retain }
     requires sorted { IsSorted T.Key.cmp (keys_of pairs.old.pairs) }
     requires run { IsRun T.Key.cmp pairs.old.pairs key run.start run.end }
     ensures kept { (kept : List V)
-        × IsFiltered (CalledAt F.FnMut) should_retain (list_at T.Key.cmp (grouped T.Key.cmp pairs.old.pairs) key) kept
+        × AsksInTurn (CalledAt F.FnMut) should_retain true (list_at T.Key.cmp (grouped T.Key.cmp pairs.old.pairs) key)
+            kept result.1
         × (grouped T.Key.cmp pairs.new.pairs ≡ with_list T.Key.cmp (grouped T.Key.cmp pairs.old.pairs) key kept)
-        × (result ≡ length kept) }
+        × (result.0 ≡ length kept) }
 {
     let start = run.start;
     let mut end = run.end;
     let mut place = start;
+    let mut stays = true;
     while place < end {
-        if should_retain(pairs.value_at(place)) {
+        stays = should_retain(pairs.value_at(place));
+        if stays {
             place += 1;
         } else {
             pairs.remove(place);
             end -= 1;
         }
     }
-    end - start
+    (end - start, stays)
 }
 
 impl<T: Translator, V: Drop> Arrays<T, V> {
@@ -137,8 +141,32 @@ impl<T: Translator, V: Drop> Part<T, V> for Arrays<T, V> {
     fn retain<F: FnMut(&V) -> bool>(&mut self, key: T::Key, should_retain: F) -> (usize, usize) {
         let run = self.pairs.run_range(&key);
         let had = run.end - run.start;
-        let left = retain_run::<T, V, F>(&mut self.pairs, key, run, should_retain);
+        let (left, _) = retain_run::<T, V, F>(&mut self.pairs, key, run, should_retain);
         (had, left)
+    }
+
+    fn insert_and_retain<F: FnMut(&V) -> bool>(
+        &mut self,
+        key: T::Key,
+        value: V,
+        should_retain: F,
+    ) -> Result<Retained, V> {
+        let run = self.pairs.run_range(&key);
+        let (start, had) = (run.start, run.end - run.start);
+        let behind = self.pairs.len() - run.end;
+        match self.pairs.insert_at(run.end, key, value) {
+            Ok(()) => {
+                let run = start..self.pairs.len() - behind;
+                let (left, stays) = retain_run::<T, V, F>(&mut self.pairs, key, run, should_retain);
+                let taken = if stays {
+                    had - (left - 1)
+                } else {
+                    had - left
+                };
+                Ok(Retained { had, left, taken })
+            }
+            Err(refused) => Err(refused.value),
+        }
     }
 
     fn remove(&mut self, key: T::Key) -> usize {

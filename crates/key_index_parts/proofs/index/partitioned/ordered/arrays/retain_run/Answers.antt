@@ -1,17 +1,17 @@
-use Rattle.std.proofs.Common.{◌≡◌, ◌+◌, ◌-◌, ◌<◌, ◌≤◌, List, [], length, take, drop, remove, Some, slice_get, refl, sym, ap, subst, ◌∙◌, arith, append-nil}
+use Rattle.std.proofs.Common.{◌≡◌, ◌+◌, ◌-◌, ◌<◌, ◌≤◌, true, false, [], length, take, drop, remove, Some, slice_get, refl, sym, ap, subst, ◌∙◌, arith}
 use Rattle.std.proofs.lemmas.List.{take_all, drop_all}
 use Rattle.std.proofs.lemmas.List.Edits.{length-remove}
 use Rattle.std.proofs.lemmas.Fn.{called_at}
 use Rattle.std.specs.Fn.{CalledAt}
-use Rattle.std.specs.List.{items_where_true}
 use Rattle.std.specs.List.Sorted.{IsSorted}
 use Rattle.std.specs.Map.{keys_of, values_of}
 use borrow.Author.Rules.{of_calls}
 use Rattle.key_index_flat.specs.Content.{list_at, with_list}
-use Rattle.key_index_flat.proofs.Asked.{drop-value, take-value, drop-remove, take-remove, kept_first, kept_more, kept_less, kept_parts}
+use Rattle.key_index_flat.proofs.Asked.{drop-value, take-value, drop-remove, take-remove}
 use Rattle.key_index_flat.proofs.ContentLemmas.{with_list-same, with_list-twice}
 use Rattle.key_index_parts.specs.Pairs.{IsRun, grouped}
 use Rattle.key_index_parts.specs.PairLaws.{IsLawful-grouped}
+use Rattle.key_index_parts.proofs.KeptInTurn.{turn_first, turn_more, turn_less, turn_parts, turn_stays, turn_last}
 use Rattle.key_index_parts.proofs.FoundRun.{run_count, place_within, value_in, removed, list_after, sorted_after, run_after}
 use Rattle.key_index_parts.proofs.index.partitioned.ordered.arrays.retain_run.Goals as goal
 
@@ -31,7 +31,7 @@ loop-place-init g c =
       sorted = c.requires.sorted;
       run = c.requires.run;
       content = sym (with_list-same o g.met.T.Translator.exact (grouped cmp es) k (IsLawful-grouped o es));
-      kept = kept_parts R c.args.should_retain c.args.should_retain xs (take 0 xs) _ (drop 0 xs) _ 0 (ap (λ n. take n xs) none) (ap (λ n. drop n xs) none) (kept_first R c.args.should_retain xs 0);
+      kept = turn_parts R c.args.should_retain c.args.should_retain true true xs (take 0 xs) _ (drop 0 xs) _ (ap (λ n. take n xs) none) (ap (λ n. drop n xs) none) (turn_first R c.args.should_retain true xs);
       again = c.requires.callable;
     }
 
@@ -46,8 +46,8 @@ value_at-requires g c =
     let within = place_within g.met.T.Key.Ord.total g.met.T.Translator.exact at.pairs.pairs c.args.key held.sorted c.args.run.start at.end held.run i (omega (arith, count, here, from)) in
     omega (arith, within, from)
 
-pub loop-place-preserved-then-should_retain : goal.loop-place-preserved-then-should_retain
-loop-place-preserved-then-should_retain g c =
+pub loop-place-preserved-then-stays : goal.loop-place-preserved-then-stays
+loop-place-preserved-then-stays g c =
     let cmp = g.T.Key.Ord.cmp in
     let o = g.met.T.Key.Ord.total in
     let exact = g.met.T.Translator.exact in
@@ -72,9 +72,10 @@ loop-place-preserved-then-should_retain g c =
       sorted = held.sorted;
       run = held.run;
       content = held.content;
-      kept = kept_parts R c.args.should_retain c.should_retain.new.self xs _ _ _ _ 0 (take-value ys i x found ∙ ap (λ n. take n ys) next) (ap (λ n. drop n ys) next)
-          (kept_more R c.args.should_retain at.should_retain c.should_retain.new.self xs (take i ys) (drop (i + 1) ys) 0 x (called_at g.F.FnMut c.should_retain.ensures c.if-should_retain.true)
-          (kept_parts R c.args.should_retain at.should_retain xs _ _ _ _ 0 refl (drop-value ys i x found) held.kept));
+      kept = turn_stays R c.args.should_retain c.should_retain-stays.new.self true true c.should_retain-stays.result xs _ _ (sym c.if-stays.true)
+          (turn_parts R c.args.should_retain c.should_retain-stays.new.self true true xs _ _ _ _ (take-value ys i x found ∙ ap (λ n. take n ys) next) (ap (λ n. drop n ys) next)
+          (turn_more R c.args.should_retain at.should_retain c.should_retain-stays.new.self true at.stays xs (take i ys) (drop (i + 1) ys) x (called_at g.F.FnMut c.should_retain-stays.ensures c.if-stays.true)
+          (turn_parts R c.args.should_retain at.should_retain true at.stays xs _ _ _ _ refl (drop-value ys i x found) held.kept)));
       again = search of_calls;
     }
 
@@ -120,9 +121,10 @@ loop-place-preserved g c =
       run = subst (λ fs. IsRun cmp fs k start (at.end - 1)) (sym new) (run_after o exact es k held.sorted start at.end held.run i below);
       content = ap (grouped cmp) new ∙ removed o exact es k held.sorted start at.end held.run i below ∙ ap (λ c. with_list cmp c k (remove ys i)) held.content
           ∙ with_list-twice o exact first k ys (remove ys i) (IsLawful-grouped o c.args.pairs.now.pairs) ∙ ap (λ l. with_list cmp first k l) (sym list);
-      kept = kept_parts R c.args.should_retain c.should_retain.new.self xs _ _ _ _ 0 (sym (take-remove ys i below) ∙ ap (λ l. take i l) (sym list)) (sym (drop-remove ys i below) ∙ ap (λ l. drop i l) (sym list))
-          (kept_less R c.args.should_retain at.should_retain c.should_retain.new.self xs (take i ys) (drop (i + 1) ys) 0 x (called_at g.F.FnMut c.should_retain.ensures c.if-should_retain.false)
-          (kept_parts R c.args.should_retain at.should_retain xs _ _ _ _ 0 refl (drop-value ys i x found) held.kept));
+      kept = turn_stays R c.args.should_retain c.should_retain-stays.new.self true false c.should_retain-stays.result xs _ _ (sym c.if-stays.false)
+          (turn_parts R c.args.should_retain c.should_retain-stays.new.self true false xs _ _ _ _ (sym (take-remove ys i below) ∙ ap (λ l. take i l) (sym list)) (sym (drop-remove ys i below) ∙ ap (λ l. drop i l) (sym list))
+          (turn_less R c.args.should_retain at.should_retain c.should_retain-stays.new.self true at.stays xs (take i ys) (drop (i + 1) ys) x (called_at g.F.FnMut c.should_retain-stays.ensures c.if-stays.false)
+          (turn_parts R c.args.should_retain at.should_retain true at.stays xs _ _ _ _ refl (drop-value ys i x found) held.kept)));
       again = search of_calls;
     }
 
@@ -139,7 +141,6 @@ returns g c =
     let i = at.place - start in
     let whole : length ys ≤ i = omega (arith, count, past) in
     let R = CalledAt g.F.FnMut in
-    let all = kept_parts R c.args.should_retain at.should_retain xs _ ys _ [] 0 (take_all i ys whole) (drop_all i ys whole) held.kept [] at.should_retain refl refl in
-    record {
-      kept = (ys, (all.0, at.should_retain, all.1, all.2, sym (all.3 ∙ append-nil ys)), held.content, omega (arith, count));
-    }
+    let asked = turn_last R c.args.should_retain at.should_retain true at.stays xs ys
+    (turn_parts R c.args.should_retain at.should_retain true at.stays xs _ ys _ [] (take_all i ys whole) (drop_all i ys whole) held.kept) in
+    record { kept = (ys, asked, held.content, omega (arith, count)) }

@@ -1,11 +1,11 @@
-use Rattle.std.proofs.Common.{◌-◌, ◌≡◌, ◌≤◌, take, drop}
+use Rattle.std.proofs.Common.{◌-◌, ◌≡◌, ◌≤◌, true, take, drop}
 use Rattle.std.specs.Fn.{CalledAt}
 use Rattle.std.specs.List.Sorted.{IsSorted}
 use Rattle.std.specs.Map.{keys_of}
 use denote.Param.Always.{always_mut}
 use Rattle.key_index_flat.specs.Content.{list_at, with_list}
-use Rattle.key_index_flat.proofs.Asked.{KeptTo}
 use Rattle.key_index_parts.specs.Pairs.{IsRun, grouped}
+use Rattle.key_index_parts.proofs.KeptInTurn.{KeptInTurn}
 use Rattle.key_index_parts.proofs.index.partitioned.ordered.arrays.retain_run.Given as goal
 
 abbrev pub invariant-loop-place : goal.invariant-loop-place
@@ -16,7 +16,7 @@ invariant-loop-place g l = record {
   run : IsRun g.T.Key.Ord.cmp l.pairs.pairs l.fn.key l.fn.run.start l.end;
   content : grouped g.T.Key.Ord.cmp l.pairs.pairs
       ≡ with_list g.T.Key.Ord.cmp (grouped g.T.Key.Ord.cmp l.fn.pairs.pairs) l.fn.key (list_at g.T.Key.Ord.cmp (grouped g.T.Key.Ord.cmp l.pairs.pairs) l.fn.key);
-  kept : KeptTo (CalledAt g.F.FnMut) l.fn.should_retain (list_at g.T.Key.Ord.cmp (grouped g.T.Key.Ord.cmp l.fn.pairs.pairs) l.fn.key) 0 l.should_retain
+  kept : KeptInTurn (CalledAt g.F.FnMut) l.fn.should_retain true (list_at g.T.Key.Ord.cmp (grouped g.T.Key.Ord.cmp l.fn.pairs.pairs) l.fn.key) l.should_retain l.stays
       (take (l.place - l.fn.run.start) (list_at g.T.Key.Ord.cmp (grouped g.T.Key.Ord.cmp l.pairs.pairs) l.fn.key))
       (drop (l.place - l.fn.run.start) (list_at g.T.Key.Ord.cmp (grouped g.T.Key.Ord.cmp l.pairs.pairs) l.fn.key));
   again : always_mut g.F.FnMut l.should_retain;
