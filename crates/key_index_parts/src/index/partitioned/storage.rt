@@ -274,7 +274,9 @@ impl<T: Translator, V: Drop, X: Part<T, V> + Drop, const P: usize> Storage<T, V,
         let slot = self.slot_of(key);
         match self.parts.insert_and_retain(slot, value, should_retain) {
             Ok(retained) => {
-                self.keys = self.keys + usize::from(retained.left > 0) - usize::from(retained.had > 0);
+                let had_key = usize::from(retained.had > 0);
+                let has_key = usize::from(retained.left > 0);
+                self.keys = self.keys - had_key + has_key;
                 self.items = self.items - retained.had + retained.left;
                 self.pruned = self.pruned.saturating_add(retained.taken as u64);
                 Ok(())
