@@ -72,7 +72,7 @@ one_more {cmp = cmp} o c k v h e =
     let count = key_count-with_list o c k (v ∷ []) h in
     let entries = as_many_entries (list_at cmp c k) [] e in omega (arith, count, entries)
 
-where_true_at_most : {V : Type 0} (bs : List Bool) (l : List V) → length (items_where_true bs l) ≤ length l
+pub where_true_at_most : {V : Type 0} (bs : List Bool) (l : List V) → length (items_where_true bs l) ≤ length l
 where_true_at_most [] l = omega arith
 where_true_at_most (b ∷ bs) [] = omega arith
 where_true_at_most (true ∷ bs) (v ∷ vs) = let rest = where_true_at_most bs vs in omega (arith, rest)
