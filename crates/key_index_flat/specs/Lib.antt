@@ -1,4 +1,5 @@
 pub mod Padding
+pub mod Hashing
 pub mod Content
 pub mod Fault
 pub mod Storage
