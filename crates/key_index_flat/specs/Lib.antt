@@ -13,4 +13,5 @@ pub mod CursorRun
 pub mod Neighbours
 pub mod Held
 pub mod ByteOrder
+pub mod CapOrder
 pub mod FullKeys

@@ -5,7 +5,12 @@ ghost use Rattle.key_index_flat.specs.Hashing.{hash_product};
 ghost use Rattle.key_index_flat.specs.Neighbours.{KeepsOrder};
 ghost use Rattle.key_index_flat.specs.Padding.{padded, cap_number};
 
+mod array;
+mod uint_identity;
+
+pub use array::{Cap, UnhashedArray};
 use std::hash::Hash;
+pub use uint_identity::UintIdentity;
 
 /// Shortens keys. An implementation says what it makes of a key and of a translated key, and proves that translated keys which
 /// compare equal are one value, so that an ordered and a hashed map find the same entries.
