@@ -6,9 +6,11 @@ ghost use Rattle.key_index_flat.specs.Neighbours.{KeepsOrder};
 ghost use Rattle.key_index_flat.specs.Padding.{padded, cap_number};
 
 mod array;
+mod hashed;
 mod uint_identity;
 
 pub use array::{Cap, UnhashedArray};
+pub use hashed::{Hashed, KeyHash, SeededSha256};
 use std::hash::Hash;
 pub use uint_identity::UintIdentity;
 
