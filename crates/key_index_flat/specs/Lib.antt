@@ -14,4 +14,6 @@ pub mod Neighbours
 pub mod Held
 pub mod ByteOrder
 pub mod CapOrder
+pub mod Arrays
+pub mod ArrayLaws
 pub mod FullKeys

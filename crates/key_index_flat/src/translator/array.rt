@@ -1,6 +1,6 @@
 ghost use Rattle.std.specs.Prelude.{◌≡◌, ◌≤◌, length};
 ghost use Rattle.key_index_flat.specs.FullKeys.{byte_cmp};
-ghost use Rattle.key_index_flat.specs.Padding.{padded, cap_number};
+ghost use Rattle.key_index_flat.specs.Padding.{cap_number};
 
 use super::uint_identity::UintIdentity;
 use super::{OrderedTranslator, Translator, capped};
@@ -37,12 +37,13 @@ pub struct UnhashedArray<const N: usize> {
 
 impl<const N: usize> Ord for UnhashedArray<N> {
     ghost use Rattle.std.specs.Prelude.{refl};
-    ghost use Rattle.std.specs.Cmp.Lexicographic.{on_texts, texts_ties};
-    ghost use Rattle.std.specs.Ordering.{on};
+    ghost use Rattle.std.specs.Cmp.Lexicographic.{texts_ties};
+    ghost use Rattle.key_index_flat.specs.ArrayLaws.{array_cmp-total};
+    ghost use Rattle.key_index_flat.specs.Arrays.{array_cmp};
 
-    ghost cmp = { on (λ array. array.inner) byte_cmp };
+    ghost cmp = { array_cmp };
 
-    ghost total = { on_texts (λ array. array.inner) };
+    ghost total = { array_cmp-total N };
 
     ghost matches_partial_cmp = { λ a b. refl };
 
@@ -60,9 +61,10 @@ impl<const N: usize> Ord for UnhashedArray<N> {
 impl<const N: usize> PartialOrd for UnhashedArray<N> {
     ghost use Rattle.std.specs.Cmp.{on_po};
     ghost use Rattle.std.specs.Cmp.Lexicographic.{texts_po};
-    ghost use Rattle.std.specs.Ordering.{on, as_partial_cmp};
+    ghost use Rattle.std.specs.Ordering.{as_partial_cmp};
+    ghost use Rattle.key_index_flat.specs.Arrays.{array_cmp};
 
-    ghost partial_cmp = { as_partial_cmp (on (λ array. array.inner) byte_cmp) };
+    ghost partial_cmp = { as_partial_cmp array_cmp };
 
     ghost laws = { on_po (λ array. array.inner) texts_po };
 
@@ -109,16 +111,17 @@ impl<const N: usize> Default for Cap<N> {
 }
 
 impl<const N: usize> Translator for Cap<N> {
-    ghost use Rattle.std.proofs.lemmas.Map.Lookups.{exact_bytes};
+    ghost use Rattle.key_index_flat.specs.ArrayLaws.{array_cmp-exact};
+    ghost use Rattle.key_index_flat.specs.Arrays.{array_of};
     ghost use Rattle.key_index_flat.specs.Hashing.{little_endian, hash_product};
 
     type Key = UnhashedArray<N>;
 
-    ghost translated = { λ _ b. record { inner = padded N b } };
+    ghost translated = { λ _. array_of N };
 
     ghost hashed = { λ _ key. hash_product (little_endian key.inner) };
 
-    ghost exact = { λ a b e i. record { inner = exact_bytes a.inner b.inner e i } };
+    ghost exact = { array_cmp-exact N };
 
     #[inline]
     fn transform(&self, key: &[u8]) -> UnhashedArray<N> {
@@ -137,7 +140,7 @@ impl<const N: usize> Translator for Cap<N> {
 }
 
 impl<const N: usize> OrderedTranslator for Cap<N> {
-    ghost use Rattle.key_index_flat.specs.CapOrder.{padded-keeps_order};
+    ghost use Rattle.key_index_flat.specs.ArrayLaws.{array-keeps_order};
 
-    ghost keeps_order = { λ _. padded-keeps_order N };
+    ghost keeps_order = { λ _. array-keeps_order N };
 }
