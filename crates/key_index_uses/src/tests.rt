@@ -14,4 +14,5 @@ mod numbers;
 mod partition;
 mod partitions;
 mod parts;
+mod translators;
 mod walk;

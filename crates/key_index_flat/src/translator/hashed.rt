@@ -20,7 +20,7 @@ pub trait KeyHash: Copy {
 }
 
 /// The first eight bytes, read little-endian, of the SHA-256 digest of the seed's eight little-endian bytes and the key behind them.
-/// Who doesn't know the seed can't pick keys that share a number, but by trying some `2^32` for two. It reads a key once.
+/// Who doesn't know the seed can't tell which keys share a number. It reads a key once.
 #[derive(Clone, Copy)]
 pub struct SeededSha256 {
     seed: u64,
