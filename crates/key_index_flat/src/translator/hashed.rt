@@ -56,7 +56,7 @@ impl KeyHash for SeededSha256 {
 
 /// Hashes a key by a secret seed, and translates the eight little-endian bytes of the hash by `inner`. So who picks keys can't pick
 /// which of them share a translated key. The order of keys is lost: it is no `OrderedTranslator`. A look-up costs one hash of the
-/// whole key more than by `inner` alone.
+/// whole key more than over `inner` alone.
 #[derive(Clone, Copy)]
 pub struct Hashed<T, H> {
     hash: H,
