@@ -8,7 +8,7 @@ mod report;
 
 use flat::Failure;
 use key_index_flat::index::{Factory, Fault, Ordered, ordered, unordered};
-use key_index_flat::translator::EightCap;
+use key_index_flat::translator::{EightCap, Hashed, SeededSha256};
 use key_index_parts::index::partitioned;
 use keys::{ABSENT, PRESENT, keys};
 use report::Report;
@@ -20,10 +20,17 @@ use std::process::ExitCode;
 use std::rt::Env;
 use std::time::Clock;
 
+/// The unordered index for keys that an attacker picks.
+type HashedIndex = unordered::Index<Hashed<EightCap, SeededSha256>, u64>;
+
+/// A seed for it, fixed so that each run measures the same.
+const SEED: u64 = 0x6564_6362_6463_6261;
+
 /// What is measured.
 #[derive(Clone, Copy)]
 enum Kind {
     Unordered,
+    Hashed,
     Ordered,
     PartitionedUnordered1,
     PartitionedUnordered2,
@@ -39,6 +46,7 @@ impl Kind {
     fn name(self) -> &'static str {
         match self {
             Kind::Unordered => "unordered",
+            Kind::Hashed => "hashed",
             Kind::Ordered => "ordered",
             Kind::PartitionedUnordered1 => "punordered1",
             Kind::PartitionedUnordered2 => "punordered2",
@@ -59,6 +67,7 @@ fn arguments(words: &[String]) -> Option<(Kind, usize)> {
     };
     let kind = match kind.as_str() {
         "unordered" => Kind::Unordered,
+        "hashed" => Kind::Hashed,
         "ordered" => Kind::Ordered,
         "punordered1" => Kind::PartitionedUnordered1,
         "punordered2" => Kind::PartitionedUnordered2,
@@ -77,14 +86,17 @@ fn arguments(words: &[String]) -> Option<(Kind, usize)> {
 }
 
 /// Makes an index, and measures that.
-fn make<I: Factory<Translator = EightCap> + Drop, C: Clock, W: Write>(
+fn make<I: Factory + Drop, C: Clock, W: Write>(
     alloc: Global,
+    translator: I::Translator,
     report: &mut Report<'_, C, W>,
 ) -> Result<I, Failure>
+where
+    I::Translator: Copy,
     requires { I.makes }
 {
     let start = report.start()?;
-    let index = match I::new(alloc, EightCap) {
+    let index = match I::new(alloc, translator) {
         Ok(index) => index,
         Err(fault) => return Err(Failure::Refused(fault)),
     };
@@ -93,17 +105,20 @@ fn make<I: Factory<Translator = EightCap> + Drop, C: Clock, W: Write>(
 }
 
 /// Measures an index whose keys are in no order.
-fn run_unordered<I: Factory<Translator = EightCap, Value = u64> + Drop, C: Clock, W: Write>(
+fn run_unordered<I: Factory<Value = u64> + Drop, C: Clock, W: Write>(
     alloc: Global,
+    translator: I::Translator,
     present: &[[u8; 32]],
     absent: &[[u8; 32]],
     report: &mut Report<'_, C, W>,
 ) -> Result<(), Failure>
+where
+    I::Translator: Copy,
     requires { I.makes }
 {
     let few = &present[..present.len() / 10];
     let half = &present[..present.len() / 2];
-    let mut index = make::<I, C, W>(alloc, report)?;
+    let mut index = make::<I, C, W>(alloc, translator, report)?;
     flat::insert(&mut index, present, report)?;
     flat::get(&index, "get", present, report)?;
     flat::get(&index, "miss", absent, report)?;
@@ -139,7 +154,7 @@ fn run_ordered<I: Factory<Translator = EightCap, Value = u64> + Ordered + Drop, 
     let few = &present[..present.len() / 10];
     let half = &present[..present.len() / 2];
     run_gap::<I, C, W>(alloc, present, report)?;
-    let mut index = make::<I, C, W>(alloc, report)?;
+    let mut index = make::<I, C, W>(alloc, EightCap, report)?;
     flat::insert(&mut index, present, report)?;
     flat::get(&index, "get", present, report)?;
     flat::get(&index, "miss", absent, report)?;
@@ -204,6 +219,14 @@ fn measure<C: Clock, W: Write>(
     match kind {
         Kind::Unordered => run_unordered::<unordered::Index<EightCap, u64>, C, W>(
             alloc,
+            EightCap,
+            &present,
+            &absent,
+            &mut report,
+        ),
+        Kind::Hashed => run_unordered::<HashedIndex, C, W>(
+            alloc,
+            Hashed::from_seed(SEED, EightCap),
             &present,
             &absent,
             &mut report,
@@ -217,6 +240,7 @@ fn measure<C: Clock, W: Write>(
         Kind::PartitionedUnordered1 => {
             run_unordered::<partitioned::unordered::Index<EightCap, u64, 1>, C, W>(
                 alloc,
+                EightCap,
                 &present,
                 &absent,
                 &mut report,
@@ -225,6 +249,7 @@ fn measure<C: Clock, W: Write>(
         Kind::PartitionedUnordered2 => {
             run_unordered::<partitioned::unordered::Index<EightCap, u64, 2>, C, W>(
                 alloc,
+                EightCap,
                 &present,
                 &absent,
                 &mut report,
@@ -233,6 +258,7 @@ fn measure<C: Clock, W: Write>(
         Kind::PartitionedUnordered3 => {
             run_unordered::<partitioned::unordered::Index<EightCap, u64, 3>, C, W>(
                 alloc,
+                EightCap,
                 &present,
                 &absent,
                 &mut report,
@@ -280,7 +306,7 @@ fn main(rt: HostRuntime) -> ExitCode {
     let Some((kind, count)) = named else {
         let _ = writeln!(
             rt.stderr(),
-            "usage: key_index_bench unordered|ordered|punordered1|punordered2|punordered3|pordered1|pordered2|pordered3|std_hash|std_tree COUNT"
+            "usage: key_index_bench unordered|hashed|ordered|punordered1|punordered2|punordered3|pordered1|pordered2|pordered3|std_hash|std_tree COUNT"
         );
         return ExitCode::from(2);
     };

@@ -16,8 +16,6 @@ pub mod WordLemmas
 pub mod FilledLemmas
 pub mod KeptInTurn
 pub mod StorageLemmas
-pub mod StorageLemmas
-pub mod KeptInTurn
 pub mod FamilyLemmas
 pub mod FamilyNeighbours
 pub mod EntriesLemmas

@@ -15,4 +15,5 @@ mod partition;
 mod partitioned_ordered;
 mod partitions;
 mod parts;
+mod translators;
 mod walk;

@@ -2,10 +2,11 @@
 //! index, so each is named once for all groups.
 use super::checks::fresh;
 use super::full_keys::{Record, next_to};
+use super::translators::FirstByte;
 use super::{callers, calls, command_lists, commands, cursors, lists, neighbours};
 use crate::callers::newest;
 use key_index_flat::index::{Factory, Ordered, Unordered, ordered, unordered};
-use key_index_flat::translator::{EightCap, FourCap, OneCap, TwoCap};
+use key_index_flat::translator::{Cap, EightCap, FourCap, Hashed, OneCap, TwoCap, UnhashedArray};
 use key_index_parts::index::partitioned;
 use std::alloc::Global;
 use std::process::Abort;
@@ -172,6 +173,20 @@ fn on_plain(rt: &impl Abort, alloc: Global, group: Group) {
     in_order::<key_index_plain::Index<OneCap, u64>>(rt, alloc, OneCap, 0x0b, 1, group)
 }
 
+/// The flat unordered index over a hashed translator.
+fn on_hashed(rt: &impl Abort, alloc: Global, group: Group) {
+    let translator: Hashed<OneCap, FirstByte> = Hashed::from_seed(0, OneCap);
+    on::<unordered::Index<Hashed<OneCap, FirstByte>, u64>>(rt, alloc, translator, 0x0b, 1, group)
+}
+
+/// The flat ordered index over arrays of three bytes.
+fn on_arrays(rt: &impl Abort, alloc: Global, group: Group) {
+    let slot = UnhashedArray {
+        inner: [0x0b, 0, 0],
+    };
+    in_order::<ordered::Index<Cap<3>, u64>>(rt, alloc, Cap::new(), slot, 2, group)
+}
+
 #[test]
 fn flat_answers_each_call(rt: HostRuntime) {
     on_flat(&rt, rt.alloc(), Group::Calls)
@@ -324,6 +339,39 @@ fn ordered_keeps_lists_by_eight_bytes(rt: HostRuntime) {
         rt.alloc(),
         EightCap,
         0x0b00_0000_0000_0000,
+        2,
+        Group::Lists,
+    )
+}
+
+#[test]
+fn hashed_answers_each_call(rt: HostRuntime) {
+    on_hashed(&rt, rt.alloc(), Group::Calls)
+}
+
+#[test]
+fn hashed_keeps_lists(rt: HostRuntime) {
+    on_hashed(&rt, rt.alloc(), Group::Lists)
+}
+
+#[test]
+fn arrays_answer_each_call(rt: HostRuntime) {
+    on_arrays(&rt, rt.alloc(), Group::Calls)
+}
+
+#[test]
+fn arrays_keep_lists(rt: HostRuntime) {
+    on_arrays(&rt, rt.alloc(), Group::Lists)
+}
+
+#[test]
+fn partitioned_hashed_keeps_lists(rt: HostRuntime) {
+    let translator: Hashed<OneCap, FirstByte> = Hashed::from_seed(0, OneCap);
+    on::<partitioned::unordered::Index<Hashed<OneCap, FirstByte>, u64, 1>>(
+        &rt,
+        rt.alloc(),
+        translator,
+        (0x0b, 0),
         2,
         Group::Lists,
     )
