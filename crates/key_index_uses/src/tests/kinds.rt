@@ -40,6 +40,7 @@ where
     callers::added(rt, &mut fresh::<I>(rt, alloc, translator));
     callers::replaced(rt, &mut fresh::<I>(rt, alloc, translator));
     callers::first_replaced(rt, &mut fresh::<I>(rt, alloc, translator));
+    callers::updated(rt, &mut fresh::<I>(rt, alloc, translator));
 }
 
 /// Edits by a cursor.
