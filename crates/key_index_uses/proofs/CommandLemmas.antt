@@ -5,6 +5,7 @@ use Rattle.key_index_flat.specs.declared.index.command.Command.TheVariants as co
 
 has-test : {V F : Type 0} (P : F → Type 0) → ((f : F) → P f) → (c : Command V F) → HasTest P c
 has-test P all (command.Insert key v) = tt
+has-test P all (command.InsertAndRetain key v test) = all test
 has-test P all (command.Retain key test) = all test
 has-test P all (command.Remove key) = tt
 has-test P all (command.GetOrInsert key v) = tt

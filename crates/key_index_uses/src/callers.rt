@@ -1,8 +1,8 @@
 //! Callers as a user writes them: over any index, by its content alone.
-ghost use Rattle.std.specs.Prelude.{◌≡◌, ◌+◌, ◌<◌, ◌↔◌, ◌⊎◌, [], ◌∷◌, true, IfOk, IfErr, OnOk, OnErr, IsTrue, slice_set};
+ghost use Rattle.std.specs.Prelude.{◌≡◌, ◌+◌, ◌-◌, ◌<◌, ◌↔◌, ◌⊎◌, ◌==◌, [], ◌∷◌, ◌++◌, length, filter, true, not, IfOk, IfErr, OnOk, OnErr, IsTrue, slice_set};
 ghost use Rattle.std.specs.Ordering.{nat_cmp};
 ghost use Rattle.std.specs.Option.{MatchOption, option_copied};
-ghost use Rattle.key_index_flat.specs.View.{items_in, run_of, with_edit, after_insert, after_remove, IsHeld};
+ghost use Rattle.key_index_flat.specs.View.{items_in, run_of, with_edit, with_pruned, with_run, after_insert, after_remove, IsHeld};
 ghost use Rattle.key_index_flat.specs.FullKeys.{IsFiledIn, values_of};
 ghost use Rattle.key_index_flat.specs.Padding.{padded};
 ghost use Rattle.key_index_parts.specs.Gathered.{pair_cmp};
@@ -83,6 +83,27 @@ where
     cursor.update(value);
     cursor.close();
     Ok(true)
+}
+
+/// Puts the position of a record's new version in place of that of its old one: where `old` stands under the key it goes, and `new`
+/// stands behind the other positions, which stay in their order. A refusal leaves the index as it was.
+pub fn update<I: Unordered<Value = u64>>(
+    index: &mut I,
+    key: &[u8],
+    old: u64,
+    new: u64,
+) -> Result<(), Fault>
+    requires { ¬ (new ≡ old) }
+    ensures updated { let was = run_of I.Key.cmp (I.view index.old) key.now in
+        let others = filter (λ position. not (position == old)) was in
+        OnOk result (I.view index.new ≡ with_pruned (with_run I.Key.cmp (I.view index.old)
+        ((I.view index.old).slot key.now) (others ++ new ∷ [])) (length was - length others)) }
+    ensures refused { OnErr result (I.view index.new ≡ I.view index.old) }
+{
+    match index.insert_and_retain(key, new, |position: &u64| *position != old) {
+        Ok(()) => Ok(()),
+        Err(refused) => Err(refused.fault),
+    }
 }
 
 /// The values of a key, by the first `P` bytes of it and the two behind them, with zeros behind a shorter one: all that an index in

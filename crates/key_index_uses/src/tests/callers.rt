@@ -1,6 +1,6 @@
 //! The proved callers, over any index.
 use super::checks::{counts, fill, holds};
-use crate::callers::{add, replace, replace_first};
+use crate::callers::{add, replace, replace_first, update};
 use key_index_flat::index::Unordered;
 use std::process::Abort;
 
@@ -65,4 +65,15 @@ pub(super) fn first_replaced<I: Unordered<Value = u64>>(rt: &impl Abort, index: 
     holds(rt, index, b"three", &[7, 2, 1]);
     holds(rt, index, b"one", &[6]);
     counts(rt, index, (2, 4, 0));
+}
+
+/// The values of a key after `update`: of one that stands there, and of one that does not.
+pub(super) fn updated<I: Unordered<Value = u64>>(rt: &impl Abort, index: &mut I) {
+    fill(rt, index, b"key", &[3, 1, 2]);
+    assert!(rt; update(index, b"key", 1, 4).is_ok());
+    holds(rt, index, b"key", &[3, 2, 4]);
+    counts(rt, index, (1, 3, 1));
+    assert!(rt; update(index, b"key", 9, 5).is_ok());
+    holds(rt, index, b"key", &[3, 2, 4, 5]);
+    counts(rt, index, (1, 4, 1));
 }

@@ -1,7 +1,7 @@
 //! Each call of each trait once, with its answer, on any index.
 use super::checks::{
-    counts, cursor_at, fill, gets_or_inserts, has_no_cursor, holds, inserts, removes, retains,
-    stands,
+    counts, cursor_at, fill, gets_or_inserts, has_no_cursor, holds, inserts, inserts_and_retains,
+    removes, retains, stands,
 };
 use key_index_flat::index::{CursorState, Unordered};
 use std::alloc::Global;
@@ -117,4 +117,63 @@ pub(super) fn by_cursor<I: Unordered<Value = u64>>(rt: &impl Abort, index: &mut 
     holds(rt, index, b"\x0b", &[2, 1]);
     holds(rt, index, b"\x0e", &[4]);
     counts(rt, index, (4, 5, 0));
+}
+
+/// The list 3, 1, 2 of a key, and 4 behind it, answered by the bits of a number, the lowest first. The key then has these values, and
+/// so many were taken out.
+fn retained_with_four<I: Unordered<Value = u64>>(
+    rt: &impl Abort,
+    alloc: Global,
+    index: &mut I,
+    key: &[u8],
+    answers: u64,
+    left: &[u64],
+    pruned: u64,
+) {
+    fill(rt, index, key, &[3, 1, 2]);
+    inserts_and_retains(rt, alloc, index, key, 4, answers, &[3, 1, 2, 4]);
+    holds(rt, index, key, left);
+    counts(
+        rt,
+        index,
+        (usize::from(!left.is_empty()), left.len(), pruned),
+    );
+    removes(rt, index, key);
+}
+
+/// `insert_and_retain` of a key with values: those of at least 2 stay, none does, each other one, all but the newest, the new one
+/// alone.
+pub(super) fn inserted_and_retained<I: Unordered<Value = u64>>(
+    rt: &impl Abort,
+    alloc: Global,
+    index: &mut I,
+) {
+    retained_with_four(rt, alloc, index, b"\x0b", 0b1101, &[3, 2, 4], 1);
+    retained_with_four(rt, alloc, index, b"\x0b", 0, &[], 7);
+    retained_with_four(rt, alloc, index, b"\x0b", 0b0101, &[3, 2], 8);
+    retained_with_four(rt, alloc, index, b"\x0b", 0b1110, &[1, 2, 4], 11);
+    retained_with_four(rt, alloc, index, b"\x0b", 0b1000, &[4], 17);
+}
+
+/// `insert_and_retain` puts its value behind the held ones, in each index; of an absent key it asks on the new value alone.
+pub(super) fn inserted_behind<I: Unordered<Value = u64>>(
+    rt: &impl Abort,
+    alloc: Global,
+    index: &mut I,
+) {
+    inserts_and_retains(rt, alloc, index, b"\x0b", 4, 0, &[4]);
+    holds(rt, index, b"\x0b", &[]);
+    counts(rt, index, (0, 0, 0));
+    inserts_and_retains(rt, alloc, index, b"\x0c", 4, 0b1, &[4]);
+    holds(rt, index, b"\x0c", &[4]);
+    inserts(rt, index, b"\x0b", 1);
+    inserts_and_retains(rt, alloc, index, b"\x0b", 2, 0b11, &[1, 2]);
+    inserts(rt, index, b"\x0b", 3);
+    if I::INSERT_FIRST {
+        holds(rt, index, b"\x0b", &[3, 1, 2]);
+    } else {
+        holds(rt, index, b"\x0b", &[1, 2, 3]);
+    }
+    holds(rt, index, b"\x0c", &[4]);
+    counts(rt, index, (2, 4, 0));
 }

@@ -89,6 +89,23 @@ pub(super) fn retains<I: Unordered<Value = u64>>(
     asks.are(rt, asked);
 }
 
+/// `insert_and_retain` asks on these values, in this order, and on no others. It is answered by the bits of a number, the lowest
+/// first.
+pub(super) fn inserts_and_retains<I: Unordered<Value = u64>>(
+    rt: &impl Abort,
+    alloc: Global,
+    index: &mut I,
+    key: &[u8],
+    value: u64,
+    answers: u64,
+    asked: &[u64],
+) {
+    let mut asks = Asks::new(alloc, answers);
+    let kept = index.insert_and_retain(key, value, |value: &u64| asks.ask(rt, *value));
+    assert!(rt; kept.is_ok());
+    asks.are(rt, asked);
+}
+
 /// `get_mut` is accepted.
 pub(super) fn gets<'a, I: Unordered<Value = u64>>(
     rt: &impl Abort,

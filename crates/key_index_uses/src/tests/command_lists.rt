@@ -107,7 +107,7 @@ fn came_to_all(rt: &impl Abort, outcomes: &[Outcome], wanted: &[Option<Vec<bool>
     }
 }
 
-/// Runs a list of up to eight commands of all five kinds, does the same to the lists, and compares the outcomes.
+/// Runs a list of up to eight commands of all six kinds, does the same to the lists, and compares the outcomes.
 fn run_list<I: Unordered<Value = u64>>(
     rt: &impl Abort,
     alloc: Global,
@@ -125,6 +125,7 @@ fn run_list<I: Unordered<Value = u64>>(
         let limit = number / 64 % 5;
         let mut flags = None;
         let mut taken = 0;
+        let test = move |value: &u64| is_kept(*value, limit);
         let command = match number / 512 % 12 {
             0 => {
                 taken = cleared(list);
@@ -132,7 +133,7 @@ fn run_list<I: Unordered<Value = u64>>(
             }
             1 => {
                 taken = retain(list, limit);
-                Command::Retain(key, move |value: &u64| is_kept(*value, limit))
+                Command::Retain(key, test)
             }
             2 => {
                 if list.is_empty() {
@@ -146,6 +147,13 @@ fn run_list<I: Unordered<Value = u64>>(
                 flags = Some(given);
                 taken = out;
                 Command::Edit(key, steps)
+            }
+            7 | 8 => {
+                taken = retain(list, limit);
+                if is_kept(number, limit) {
+                    push(rt, list, number);
+                }
+                Command::InsertAndRetain(key, number, test)
             }
             _ => {
                 put(rt, list, number, I::INSERT_FIRST);

@@ -166,3 +166,24 @@ pub(super) fn each_command<I: Unordered<Value = u64>>(
     holds(rt, index, b"k", &[8]);
     counts(rt, index, (1, 1, 2));
 }
+
+/// A value, and one behind it where all stay.
+pub(super) fn inserted_and_retained<I: Unordered<Value = u64>>(
+    rt: &impl Abort,
+    alloc: Global,
+    index: &mut I,
+) {
+    let mut commands = Vec::new(alloc);
+    push(rt, &mut commands, Command::Insert(key(rt, alloc, b'k'), 1));
+    push(
+        rt,
+        &mut commands,
+        Command::InsertAndRetain(key(rt, alloc, b'k'), 2, |value: &u64| *value < 3),
+    );
+    let outcomes = runs(rt, alloc, index, commands);
+    assert_eq!(rt; outcomes.len(), 2);
+    assert!(rt; is_done(outcomes.get(0)));
+    assert!(rt; is_done(outcomes.get(1)));
+    holds(rt, index, b"k", &[1, 2]);
+    counts(rt, index, (1, 2, 0));
+}

@@ -36,9 +36,12 @@ where
 {
     calls::by_place_and_key(rt, alloc, &mut fresh::<I>(rt, alloc, translator), slot);
     calls::by_cursor(rt, &mut fresh::<I>(rt, alloc, translator));
+    calls::inserted_and_retained(rt, alloc, &mut fresh::<I>(rt, alloc, translator));
+    calls::inserted_behind(rt, alloc, &mut fresh::<I>(rt, alloc, translator));
     callers::added(rt, &mut fresh::<I>(rt, alloc, translator));
     callers::replaced(rt, &mut fresh::<I>(rt, alloc, translator));
     callers::first_replaced(rt, &mut fresh::<I>(rt, alloc, translator));
+    callers::updated(rt, &mut fresh::<I>(rt, alloc, translator));
 }
 
 /// Edits by a cursor.
@@ -74,6 +77,7 @@ where
     commands::edited(rt, alloc, &mut fresh::<I>(rt, alloc, translator));
     commands::emptied(rt, alloc, &mut fresh::<I>(rt, alloc, translator));
     commands::each_command(rt, alloc, &mut fresh::<I>(rt, alloc, translator));
+    commands::inserted_and_retained(rt, alloc, &mut fresh::<I>(rt, alloc, translator));
     command_lists::run_beside(rt, alloc, &mut fresh::<I>(rt, alloc, translator), width);
 }
 

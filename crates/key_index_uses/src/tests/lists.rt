@@ -218,6 +218,31 @@ fn retain<I: Unordered<Value = u64>>(
     taken
 }
 
+/// `insert_and_retain` of a value under a key, with the asks.
+fn insert_and_retain<I: Unordered<Value = u64>>(
+    rt: &impl Abort,
+    alloc: Global,
+    index: &mut I,
+    list: &mut Vec<u64>,
+    key: &[u8],
+    value: u64,
+    answers: u64,
+) -> u64 {
+    let mut asks = Asks::new(alloc, answers);
+    let kept = index.insert_and_retain(key, value, |value: &u64| asks.ask(rt, *value));
+    assert!(rt; kept.is_ok());
+    let mut wanted = Asks::new(alloc, answers);
+    let mut walk = Walk::new(alloc, mem::replace(list, Vec::new(alloc)));
+    walk.retain(rt, &mut wanted);
+    let taken = walk.taken;
+    *list = walk.into_list(rt);
+    if wanted.ask(rt, value) {
+        push(rt, list, value);
+    }
+    asks.are_as(rt, &wanted);
+    taken
+}
+
 /// `remove` of a key.
 fn remove<I: Unordered<Value = u64>>(
     rt: &impl Abort,
@@ -257,6 +282,10 @@ fn call<I: Unordered<Value = u64>>(
         2 | 3 | 4 => edit(rt, alloc, index, list, key, numbers),
         5 => retain(rt, alloc, index, list, key, numbers.next()),
         6 => remove(rt, index, list, key),
+        7 | 8 => {
+            let value = numbers.next();
+            insert_and_retain(rt, alloc, index, list, key, value, numbers.next())
+        }
         _ => insert(rt, index, list, key, numbers.next()),
     }
 }
