@@ -1,5 +1,6 @@
 pub mod NeighbourLemmas
 pub mod PaddingLemmas
+pub mod HashingLemmas
 pub mod ContentLemmas
 pub mod ChainLemmas
 pub mod KeyLemmas

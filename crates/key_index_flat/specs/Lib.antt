@@ -1,4 +1,5 @@
 pub mod Padding
+pub mod Hashing
 pub mod Content
 pub mod Fault
 pub mod Storage
@@ -12,4 +13,7 @@ pub mod CursorRun
 pub mod Neighbours
 pub mod Held
 pub mod ByteOrder
+pub mod CapOrder
+pub mod Arrays
+pub mod ArrayLaws
 pub mod FullKeys

@@ -1,13 +1,21 @@
 //! Translators: they shorten the bytes of a key to a translated key of a fixed size. Different keys may share one.
 ghost use Rattle.std.specs.Prelude.{◌≡◌, ℕ, List};
 ghost use Rattle.std.specs.declared.cmp.Ordering.TheVariants.{Equal};
+ghost use Rattle.key_index_flat.specs.Hashing.{hash_product};
 ghost use Rattle.key_index_flat.specs.Neighbours.{KeepsOrder};
 ghost use Rattle.key_index_flat.specs.Padding.{padded, cap_number};
 
-use std::hash::Hash;
+mod array;
+mod hashed;
+mod uint_identity;
 
-/// Shortens keys. An implementation says what it makes of a key, and proves that translated keys which compare equal are one
-/// value, so that an ordered and a hashed map find the same entries.
+pub use array::{Cap, UnhashedArray};
+pub use hashed::{Hashed, KeyHash, SeededSha256};
+use std::hash::Hash;
+pub use uint_identity::UintIdentity;
+
+/// Shortens keys. An implementation says what it makes of a key and of a translated key, and proves that translated keys which
+/// compare equal are one value, so that an ordered and a hashed map find the same entries.
 pub trait Translator: Copy {
     type Key: Ord + Hash + Copy;
 
@@ -16,6 +24,12 @@ pub trait Translator: Copy {
     /// The translated key of a key. Takes no memory.
     fn transform(&self, key: &[u8]) -> Self::Key
         ensures { result ≡ translated self.now key.now };
+
+    ghost hashed: { Self → Self.Key → ℕ };
+
+    /// The hash of a translated key. Different ones may share one. Takes no memory.
+    fn hash_of(&self, key: Self::Key) -> u64
+        ensures { result ≡ hashed self.now key };
 
     ghost exact: { (a b : Self.Key) → Self.Key.cmp a b ≡ Equal → a ≡ b };
 }
@@ -38,6 +52,14 @@ fn capped<const N: usize>(key: &[u8]) -> [u8; N]
     bytes
 }
 
+/// The hash of a number: its product with a fixed odd number, modulo `2^64`.
+#[inline]
+fn hash_product(number: u64) -> u64
+    ensures { result ≡ hash_product number }
+{
+    number.wrapping_mul(0x9E37_79B9_7F4A_7C15)
+}
+
 /// Translated keys are the first byte of a key, and 0 for the empty key.
 #[derive(Debug, Default, Clone, Copy)]
 pub struct OneCap;
@@ -55,6 +77,13 @@ impl Translator for OneCap {
     #[tactic(auto, using(crate::proofs::PaddingLemmas::one_byte))]
     fn transform(&self, key: &[u8]) -> u8 {
         u8::from_be_bytes(capped::<1>(key))
+    }
+
+    ghost hashed = { λ _. hash_product };
+
+    #[inline]
+    fn hash_of(&self, key: u8) -> u64 {
+        hash_product(u64::from(key))
     }
 }
 
@@ -82,6 +111,13 @@ impl Translator for TwoCap {
     fn transform(&self, key: &[u8]) -> u16 {
         u16::from_be_bytes(capped::<2>(key))
     }
+
+    ghost hashed = { λ _. hash_product };
+
+    #[inline]
+    fn hash_of(&self, key: u16) -> u64 {
+        hash_product(u64::from(key))
+    }
 }
 
 impl OrderedTranslator for TwoCap {
@@ -108,6 +144,13 @@ impl Translator for FourCap {
     fn transform(&self, key: &[u8]) -> u32 {
         u32::from_be_bytes(capped::<4>(key))
     }
+
+    ghost hashed = { λ _. hash_product };
+
+    #[inline]
+    fn hash_of(&self, key: u32) -> u64 {
+        hash_product(u64::from(key))
+    }
 }
 
 impl OrderedTranslator for FourCap {
@@ -133,6 +176,13 @@ impl Translator for EightCap {
     #[tactic(auto, using(crate::proofs::PaddingLemmas::eight_bytes))]
     fn transform(&self, key: &[u8]) -> u64 {
         u64::from_be_bytes(capped::<8>(key))
+    }
+
+    ghost hashed = { λ _. hash_product };
+
+    #[inline]
+    fn hash_of(&self, key: u64) -> u64 {
+        hash_product(key)
     }
 }
 

@@ -1,60 +1,26 @@
 -- Index keys over a cap stand to each other as the first bytes of the keys do.
 --     flat_compares           index keys that are a cap's numbers
 --     partitioned_compares    index keys that are a partition and a cap's number of the rest
+--     arrays_compare          index keys that are a cap's bytes
+--     partitioned_arrays_compare    index keys that are a partition and a cap's bytes of the rest
 use Rattle.std.proofs.Common.{◌≡◌, ℕ, zero, suc, ◌+◌, ◌*◌, ◌^◌, ◌<◌, ◌≤◌, List, [], ◌∷◌, ◌++◌, length, drop, get_or, refl, sym, ap, ◌∙◌, arith}
-use Rattle.std.proofs.Math.Nat.{mul-le-mul_right}
 use Rattle.std.proofs.lemmas.List.Elements.{All-drop}
 use Rattle.std.proofs.lemmas.Cmp.{nat_list_cmp_total}
 use Rattle.std.proofs.lemmas.Map.Lookups.{CmpEqualImpliesEq, exact_pairs, exact_unsigned, exact_bytes}
 use Rattle.std.specs.declared.cmp.Ordering.{Ordering}
 use Rattle.std.specs.declared.cmp.Ordering.TheVariants.{Less, Equal, Greater}
 use Rattle.std.specs.Ordering.{nat_cmp, ordering_then}
-use Rattle.std.specs.Cmp.{IsTotalOrder, nat_cmp_total, ranked, tied_itself}
-use Rattle.key_index_flat.specs.ByteOrder.{length-padded, cap_number-below}
+use Rattle.std.specs.Cmp.{IsTotalOrder, nat_cmp_total, tied_itself}
+use Rattle.key_index_flat.specs.ArrayLaws.{array_cmp-total, array_cmp-exact}
+use Rattle.key_index_flat.specs.Arrays.{array_of, array_cmp}
+use Rattle.key_index_flat.specs.ByteOrder.{length-padded}
+use Rattle.key_index_flat.specs.CapOrder.{padded-first, cap_cmp}
 use Rattle.key_index_flat.specs.FullKeys.{IsBytes, byte_cmp}
-use Rattle.key_index_flat.specs.Padding.{padded, big_endian, cap_number}
+use Rattle.key_index_flat.specs.Padding.{padded, cap_number}
 use Rattle.key_index_parts.specs.Gathered.{pair_cmp}
-use Rattle.key_index_parts.specs.GatheredLaws.{nat_self, nat_below, nat_above, pair_total}
+use Rattle.key_index_parts.specs.GatheredLaws.{pair_total}
 use Rattle.key_index_parts.specs.Grouping.{ComparesAs}
 use Rattle.key_index_parts.specs.Prefix.{rest_of, slot_by}
-
--- one byte in front of the others
-padded-first : (n : ℕ) (b : List ℕ) → padded (suc n) b ≡ get_or b 0 0 ∷ padded n (drop 1 b)
-padded-first n [] = refl
-padded-first n (x ∷ xs) = refl
-
-cap_number-first : (n : ℕ) (b : List ℕ) → cap_number (suc n) b ≡ get_or b 0 0 * 256 ^ n + cap_number n (drop 1 b)
-cap_number-first n b =
-    ap (λ l. big_endian l) (padded-first n b) ∙ ap (λ m. get_or b 0 0 * 256 ^ m + cap_number n (drop 1 b)) (length-padded n (drop 1 b))
-
-smaller_digit : (x y r s p : ℕ) → x < y → r < p → x * p + r < y * p + s
-smaller_digit x y r s p h k = let e : suc x * p ≤ y * p = mul-le-mul_right p h in omega (arith, e, k)
-
-nat_cmp-add : (q r s : ℕ) → nat_cmp (q + r) (q + s) ≡ nat_cmp r s
-nat_cmp-add q r s =
-    elim (nat_cmp r s) as (λ o. o ≡ nat_cmp r s → nat_cmp (q + r) (q + s) ≡ o) [
-      | Less ↦ λ e. let below = ranked r s Less e in nat_below (q + r) (q + s) (omega (arith, below))
-      | Equal ↦ λ e. ap (λ m. nat_cmp (q + r) (q + m)) (sym (ranked r s Equal e)) ∙ nat_self (q + r)
-      | Greater ↦ λ e. let above = ranked r s Greater e in nat_above (q + r) (q + s) (omega (arith, above))
-    ] refl
-
-nat_cmp-digits : (x y r s p : ℕ) → r < p → s < p → nat_cmp (x * p + r) (y * p + s) ≡ ordering_then (nat_cmp x y) (nat_cmp r s)
-nat_cmp-digits x y r s p h k =
-    elim (nat_cmp x y) as (λ o. o ≡ nat_cmp x y → nat_cmp (x * p + r) (y * p + s) ≡ ordering_then o (nat_cmp r s)) [
-      | Less ↦ λ e. nat_below _ _ (smaller_digit x y r s p (ranked x y Less e) h)
-      | Equal ↦ λ e. ap (λ d. nat_cmp (x * p + r) (d * p + s)) (sym (ranked x y Equal e)) ∙ nat_cmp-add (x * p) r s
-      | Greater ↦ λ e. nat_above _ _ (smaller_digit y x s r p (ranked x y Greater e) k)
-    ] refl
-
-cap_cmp : (n : ℕ) (a b : List ℕ) → IsBytes a → IsBytes b → nat_cmp (cap_number n a) (cap_number n b) ≡ byte_cmp (padded n a) (padded n b)
-cap_cmp zero a b h k = refl
-cap_cmp (suc n) a b h k =
-    let later_a : IsBytes (drop 1 a) = All-drop (λ m. m < 256) 1 a h in
-    let later_b : IsBytes (drop 1 b) = All-drop (λ m. m < 256) 1 b k in
-    (λ i. nat_cmp (cap_number-first n a i) (cap_number-first n b i))
-    ∙ nat_cmp-digits (get_or a 0 0) (get_or b 0 0) (cap_number n (drop 1 a)) (cap_number n (drop 1 b)) (256 ^ n) (cap_number-below n (drop 1 a) later_a) (cap_number-below n (drop 1 b) later_b)
-    ∙ ap (λ r. ordering_then (nat_cmp (get_or a 0 0) (get_or b 0 0)) r) (cap_cmp n (drop 1 a) (drop 1 b) later_a later_b)
-    ∙ sym (λ i. byte_cmp (padded-first n a i) (padded-first n b i))
 
 -- the first bytes, and those behind them
 padded-rest_of : (p n : ℕ) (b : List ℕ) → padded (p + n) b ≡ padded p b ++ padded n (rest_of p b)
@@ -83,9 +49,11 @@ byte_cmp-append (x ∷ xs) [] us vs e = absurd (omega (arith, e))
 byte_cmp-append (x ∷ xs) (y ∷ ys) us vs e =
     ap (λ r. ordering_then (nat_cmp x y) r) (byte_cmp-append xs ys us vs (omega (arith, e))) ∙ sym (then_then (nat_cmp x y) (byte_cmp xs ys) (byte_cmp us vs))
 
-pair_cmp-padded : (p n : ℕ) (a b : List ℕ) → IsBytes a → IsBytes b → pair_cmp nat_cmp (slot_by p (cap_number n) a) (slot_by p (cap_number n) b) ≡ byte_cmp (padded (p + n) a) (padded (p + n) b)
-pair_cmp-padded p n a b h k =
-    (λ i. ordering_then (cap_cmp p a b h k i) (cap_cmp n (rest_of p a) (rest_of p b) (All-drop (λ m. m < 256) p a h) (All-drop (λ m. m < 256) p b k) i))
+-- index keys of any cap, which compare as its n bytes
+pair_cmp-padded : {K : Type 0} (cmp : K → K → Ordering) (f : List ℕ → K) (p n : ℕ) → ((a b : List ℕ) → IsBytes a → IsBytes b → cmp (f a) (f b) ≡ byte_cmp (padded n a) (padded n b))
+    → (a b : List ℕ) → IsBytes a → IsBytes b → pair_cmp cmp (slot_by p f a) (slot_by p f b) ≡ byte_cmp (padded (p + n) a) (padded (p + n) b)
+pair_cmp-padded cmp f p n rests a b h k =
+    (λ i. ordering_then (cap_cmp p a b h k i) (rests (rest_of p a) (rest_of p b) (All-drop (λ m. m < 256) p a h) (All-drop (λ m. m < 256) p b k) i))
     ∙ sym (byte_cmp-append (padded p a) (padded p b) (padded n (rest_of p a)) (padded n (rest_of p b)) (length-padded p a ∙ sym (length-padded p b)))
     ∙ sym (λ i. byte_cmp (padded-rest_of p n a i) (padded-rest_of p n b i))
 
@@ -105,4 +73,11 @@ flat_compares n = alike nat_cmp_total exact_unsigned (cap_number n) (padded n) (
 
 pub partitioned_compares : (p n : ℕ) → ComparesAs (pair_cmp nat_cmp) (slot_by p (cap_number n)) (padded (p + n))
 partitioned_compares p n =
-    alike (pair_total nat_cmp_total) (exact_pairs nat_cmp nat_cmp exact_unsigned exact_unsigned) (slot_by p (cap_number n)) (padded (p + n)) (pair_cmp-padded p n)
+    alike (pair_total nat_cmp_total) (exact_pairs nat_cmp nat_cmp exact_unsigned exact_unsigned) (slot_by p (cap_number n)) (padded (p + n)) (pair_cmp-padded nat_cmp (cap_number n) p n (cap_cmp n))
+
+pub arrays_compare : (n : ℕ) → ComparesAs array_cmp (array_of n) (padded n)
+arrays_compare n = alike (array_cmp-total n) (array_cmp-exact n) (array_of n) (padded n) (λ a b h k. refl)
+
+pub partitioned_arrays_compare : (p n : ℕ) → ComparesAs (pair_cmp array_cmp) (slot_by p (array_of n)) (padded (p + n))
+partitioned_arrays_compare p n =
+    alike (pair_total (array_cmp-total n)) (exact_pairs nat_cmp array_cmp exact_unsigned (array_cmp-exact n)) (slot_by p (array_of n)) (padded (p + n)) (pair_cmp-padded array_cmp (array_of n) p n (λ a b h k. refl))

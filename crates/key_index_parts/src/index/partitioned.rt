@@ -2,6 +2,7 @@
 //! So `P` should be small: each partition takes its slot when the index is made.
 ghost use Rattle.std.specs.Prelude.{◌≡◌, ℕ, ◌+◌, ◌≤◌};
 ghost use Rattle.std.specs.Ordering.{nat_cmp};
+ghost use Rattle.key_index_flat.specs.Arrays.{array_of, array_cmp};
 ghost use Rattle.key_index_flat.specs.Padding.{padded, cap_number};
 ghost use Rattle.key_index_parts.specs.Gathered.{pair_cmp};
 ghost use Rattle.key_index_parts.specs.Grouping.{ComparesAs};
@@ -28,10 +29,12 @@ pub fn partition_index_and_sub_key<const P: usize>(key: &[u8]) -> (usize, &[u8])
     (index, sub_key)
 }
 
-/// The law of grouping and order, for index keys over a cap of any `n` bytes: of a flat index they stand to each other as the first
-/// `n` bytes of the keys do, with zeros behind a shorter one, and over partitions of any `p` bytes as the first `p + n` do. So keys
-/// with the same such bytes, and no others, share an index key. It does nothing.
+/// The law of grouping and order, for index keys over a cap of any `n` bytes, as a number or as an array: of a flat index they stand
+/// to each other as the first `n` bytes of the keys do, with zeros behind a shorter one, and over partitions of any `p` bytes as the
+/// first `p + n` do. So keys with the same such bytes, and no others, share an index key. It does nothing.
 pub fn grouping_and_order()
     ensures flat { (n : ℕ) → ComparesAs nat_cmp (cap_number n) (padded n) }
     ensures partitioned { (p n : ℕ) → ComparesAs (pair_cmp nat_cmp) (slot_by p (cap_number n)) (padded (p + n)) }
+    ensures flat_arrays { (n : ℕ) → ComparesAs array_cmp (array_of n) (padded n) }
+    ensures partitioned_arrays { (p n : ℕ) → ComparesAs (pair_cmp array_cmp) (slot_by p (array_of n)) (padded (p + n)) }
 {}
