@@ -448,3 +448,28 @@ module _ (cs ps : List ℕ) (slot : ℕ) (full : 2 ≤ slice_index cs slot) wher
               (has.0, (let e = left has.0 ne in let f = has.1 in omega (arith, e, f)), has.2)
         ] refl;
       }
+
+-- a map is filed if it is the same as one that is
+pub files_same : {cs ps : List ℕ} (m n : ℕ → Option ℕ) → ((q : ℕ) → m q ≡ n q) → Files cs ps m → Files cs ps n
+files_same m n same s = record {
+  held = λ i f. let has = s.held i f in (has.0, sym (same _) ∙ has.1, has.2);
+  found = λ p is. s.found p (subst IsSome (sym (same p)) is);
+  apart = s.apart;
+}
+
+-- the map of a list of hashes, by position, with one more
+pub with_hash-listed : (hs : List (Option ℕ)) (p h : ℕ) → p < length hs → (q : ℕ) → with_hash (λ r. get_or hs r None) p h q ≡ get_or (slice_set hs p (Some h)) q None
+with_hash-listed hs p h b q =
+    elim (nat_eq q p) as (λ t. nat_eq q p ≡ t → cond t (Some h) (get_or hs q None) ≡ get_or (slice_set hs p (Some h)) q None) [
+      | true ↦ λ t. sym (ap (λ r. get_or (slice_set hs p (Some h)) r None) (eqb-true _ _ t) ∙ get_or-set_same hs p (Some h) None b)
+      | false ↦ λ t. sym (get_or-set_other hs p q (Some h) None (eqb-false _ _ t))
+    ] refl
+
+pub none_if_not_some : {X : Type 0} (o : Option X) → false ≡ is_some o → o ≡ None
+none_if_not_some None e = refl
+none_if_not_some (Some x) e = absurd (cc)
+
+pub listed_within : {X : Type 0} (os : List (Option X)) (i : ℕ) (x : X) → get_or os i None ≡ Some x → i < length os
+listed_within [] i x e = absurd (cc)
+listed_within (o ∷ os) zero x e = omega arith
+listed_within (o ∷ os) (suc i) x e = let r = listed_within os i x e in omega (arith, r)
