@@ -5,5 +5,6 @@ pub mod fault;
 pub mod kind;
 pub mod line;
 pub mod serve;
+pub mod table;
 #[cfg(test)]
 mod tests;

@@ -10,6 +10,7 @@ use std::io::{self, Error, ErrorKind, Read, Write};
 use std::test::Fail;
 
 mod rust_answers;
+mod table;
 
 #[test]
 fn lines_are_read(rt: HostRuntime) -> Result<(), Fail> {

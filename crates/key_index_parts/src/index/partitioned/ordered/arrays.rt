@@ -34,7 +34,7 @@ fn retain_run<T: Translator, V: Drop, F: FnMut(&V) -> bool>(
     requires run { IsRun T.Key.cmp pairs.old.pairs key run.start run.end }
     ensures kept { (kept : List V)
         × AsksInTurn (CalledAt F.FnMut) should_retain true (list_at T.Key.cmp (grouped T.Key.cmp pairs.old.pairs) key)
-            kept result.1
+        kept result.1
         × (grouped T.Key.cmp pairs.new.pairs ≡ with_list T.Key.cmp (grouped T.Key.cmp pairs.old.pairs) key kept)
         × (result.0 ≡ length kept) }
 {
@@ -158,11 +158,7 @@ impl<T: Translator, V: Drop> Part<T, V> for Arrays<T, V> {
             Ok(()) => {
                 let run = start..self.pairs.len() - behind;
                 let (left, stays) = retain_run::<T, V, F>(&mut self.pairs, key, run, should_retain);
-                let taken = if stays {
-                    had - (left - 1)
-                } else {
-                    had - left
-                };
+                let taken = if stays { had - (left - 1) } else { had - left };
                 Ok(Retained { had, left, taken })
             }
             Err(refused) => Err(refused.value),

@@ -120,14 +120,16 @@ returns-in-Ok-clause-accepted g c =
     let pruned : c.self.inside.pruned < 2 ^ 64 = search rules in
     rw (← c.self.view_is) (
       taken,
-      (said.0,
-      said.1,
-      subst (λ m. length said.0 ≡ length m + 1) run said.2,
-      subst (λ m. ReturnsInTurn (CalledAt g.F.FnMut) c.args.should_retain said.0 (m ++ c.args.value ∷ []) said.1) run said.3,
-      subst (λ m. taken + length (items_where_true said.0 m) ≡ length m) run said.7,
-      view_pruned c.self.invariant g.met.T.Key.Ord.total g.met.T.Translator.exact slot l c.insert_and_retain.new.self inside said.4 g.T.Translator.translated c.self.inside.translator c.self.inside.pruned taken c.saturating_add-self-inside.result (λ _. l) refl (omega (arith, c.saturating_add-self-inside.ensures, pruned, said.7, items, small))
-      ∙ ap (λ t. with_pruned (with_run (pair_cmp g.T.Key.Ord.cmp) seen t l) taken) of_key
-      ∙ ap (λ m. with_pruned (with_run (pair_cmp g.T.Key.Ord.cmp) seen (slot_by g.row.P (g.T.Translator.translated c.self.inside.translator) c.args.key.now) (items_where_true said.0 (m ++ c.args.value ∷ []))) taken) run),
+      (
+        said.0,
+        said.1,
+        subst (λ m. length said.0 ≡ length m + 1) run said.2,
+        subst (λ m. ReturnsInTurn (CalledAt g.F.FnMut) c.args.should_retain said.0 (m ++ c.args.value ∷ []) said.1) run said.3,
+        subst (λ m. taken + length (items_where_true said.0 m) ≡ length m) run said.7,
+        view_pruned c.self.invariant g.met.T.Key.Ord.total g.met.T.Translator.exact slot l c.insert_and_retain.new.self inside said.4 g.T.Translator.translated c.self.inside.translator c.self.inside.pruned taken c.saturating_add-self-inside.result (λ _. l) refl (omega (arith, c.saturating_add-self-inside.ensures, pruned, said.7, items, small))
+            ∙ ap (λ t. with_pruned (with_run (pair_cmp g.T.Key.Ord.cmp) seen t l) taken) of_key
+            ∙ ap (λ m. with_pruned (with_run (pair_cmp g.T.Key.Ord.cmp) seen (slot_by g.row.P (g.T.Translator.translated c.self.inside.translator) c.args.key.now) (items_where_true said.0 (m ++ c.args.value ∷ []))) taken) run,
+      ),
     )
 
 pub returns-in-Ok-clause-lawful : goal.returns-in-Ok-clause-lawful

@@ -175,15 +175,14 @@ returns-after-stays-clause-accepted g c =
     let taken : c.if-stays.taken + length (items_where_true kept.1.0 list) ≡ length list = elim c.if-stays.branch [
       | then-stays w ↦ let s = split ∙ ap (λ b. length (items_where_true kept.1.0 list) + cond b 1 0) w.if-stays.true in omega (arith, s, size, kept.3, few, count, w.taken-is)
       | else-stays w ↦ let s = split ∙ ap (λ b. length (items_where_true kept.1.0 list) + cond b 1 0) w.if-stays.false in omega (arith, s, size, kept.3, few, count, w.taken-is)
-    ] in
-    (
+    ] in (
       kept.1.0,
       kept.1.1,
       answered,
       subst (λ l. ReturnsInTurn (CalledAt g.F.FnMut) c.args.should_retain kept.1.0 l kept.1.1) mid kept.1.3,
       kept.2 ∙ ap (λ fs. with_list g.T.Key.Ord.cmp (grouped g.T.Key.Ord.cmp fs) k kept.0) new
-      ∙ ap (λ c. with_list g.T.Key.Ord.cmp c k kept.0) (appended o exact es k sorted start end run v)
-      ∙ with_list-twice o exact (grouped g.T.Key.Ord.cmp es) k (insert list (length list) v) kept.0 (IsLawful-grouped o es) ∙ ap (λ l. with_list g.T.Key.Ord.cmp (grouped g.T.Key.Ord.cmp es) k l) asked,
+          ∙ ap (λ c. with_list g.T.Key.Ord.cmp c k kept.0) (appended o exact es k sorted start end run v)
+          ∙ with_list-twice o exact (grouped g.T.Key.Ord.cmp es) k (insert list (length list) v) kept.0 (IsLawful-grouped o es) ∙ ap (λ l. with_list g.T.Key.Ord.cmp (grouped g.T.Key.Ord.cmp es) k l) asked,
       omega (arith, count),
       kept.3 ∙ size,
       taken,

@@ -1,0 +1,13 @@
+use Rattle.std.proofs.Common.{◌≡◌, ℕ, Option, length}
+use Rattle.key_index.specs.Table.{Files, Resolves}
+use Rattle.key_index.proofs.TableMaps.{Keeps}
+use Rattle.key_index.proofs.TableCopies.{Copied}
+use Rattle.key_index.proofs.table.put_all.Given as goal
+
+abbrev pub invariant-loop-slot : goal.invariant-loop-slot
+invariant-loop-slot g l = record {
+  long : length l.new_controls.items ≡ length l.fn.new_controls.items;
+  copied : Copied l.controls l.positions l.new_controls.items l.new_positions.items l.slot;
+  kept : (m : ℕ → Option ℕ) → Files l.controls l.positions m
+      → Resolves (goal.F-pre g l.resolver) (goal.F-post g l.resolver) m → Keeps l.new_controls.items l.new_positions.items m;
+}

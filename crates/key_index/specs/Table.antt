@@ -1,0 +1,101 @@
+-- The slots of a table of positions, and the maps from positions to hashes that they store. `cs` are the controls of the
+-- slots, `ps` their positions, `s` a slot, `h` a hash, `p` a position, `m` a map.
+--     Slots                     what a table holds, and how often a position was to be removed
+--     fingerprint               the top eight bits of a hash
+--     control_of                what marks a slot with a position: 0 is an empty slot, 1 one whose position was removed
+--     home                      the slot at which a search for a hash begins
+--     from_slot                 all slots, in the order in which a search from a slot meets them
+--     marked                    of some slots in a row, those with a control, in front of the first empty one
+--     places                    the slots that a search for a hash finds
+--     candidates                their positions
+--     position_count            how many positions there are
+--     with_hash, without        a map with one position more, or without one
+--     Files                     the slots file a map: each position under its hash, and no other
+--     Stored                    a table stores a map
+--     HasSize                   how many positions a map has
+--     AreCandidates             what a search for a hash may give: each position under it, once, and none of another fingerprint
+--     Resolves                  a closure answers the hash of each position of a map
+--     IsPut, AreSlots           what putting a position in changes; how the slots are counted
+use Rattle.std.specs.Prelude.{◌≡◌, ◌↔◌, ℕ, Bool, ◌+◌, ◌-◌, ◌/◌, ◌^◌, ◌<◌, ◌≤◌, ◌==◌, nat_eq, nat_le, nat_lt, List, ◌++◌, length, map, slice_index, slice_set, Option, Some, None, IsSome, if◌then◌else◌, bit_and}
+use Rattle.std.specs.List.{Contains, IsDistinct, filter, find, range_with_len, take_while, count_by}
+
+pub record Slots : Type 0 where
+  pub controls : List ℕ
+  pub positions : List ℕ
+  pub removals : ℕ
+
+abbrev pub fingerprint : ℕ → ℕ
+fingerprint h = h / 2 ^ 56
+
+abbrev pub control_of : ℕ → ℕ
+control_of h = fingerprint h + 2
+
+abbrev pub is_full : ℕ → Bool
+is_full c = nat_le 2 c
+
+abbrev pub is_used : ℕ → Bool
+is_used c = nat_le 1 c
+
+abbrev pub home : ℕ → ℕ → ℕ
+home count h = bit_and h (count - 1)
+
+abbrev pub from_slot : ℕ → ℕ → List ℕ
+from_slot count s = range_with_len s (count - s) ++ range_with_len 0 s
+
+abbrev pub marked : List ℕ → ℕ → List ℕ → List ℕ
+marked cs c slots = filter (λ i. slice_index cs i == c) (take_while (λ i. is_used (slice_index cs i)) slots)
+
+abbrev pub places : List ℕ → ℕ → List ℕ
+places cs h = marked cs (control_of h) (from_slot (length cs) (home (length cs) h))
+
+abbrev pub candidates : Slots → ℕ → List ℕ
+candidates t h = map (slice_index t.positions) (places t.controls h)
+
+abbrev pub position_count : Slots → ℕ
+position_count t = count_by is_full t.controls
+
+abbrev pub with_hash : (ℕ → Option ℕ) → ℕ → ℕ → ℕ → Option ℕ
+with_hash m p h q = if q == p then Some h else m q
+
+abbrev pub without : (ℕ → Option ℕ) → ℕ → ℕ → Option ℕ
+without m p q = if q == p then None else m q
+
+pub record Files (cs ps : List ℕ) (m : ℕ → Option ℕ) : Type 0 where
+  -- a full slot has a position of the map, and a search for its hash finds it
+  pub held : (i : ℕ) → 2 ≤ slice_index cs i → (h : ℕ) × (m (slice_index ps i) ≡ Some h) × Contains (places cs h) i
+  -- a position of the map has a full slot
+  pub found : (p : ℕ) → IsSome (m p) → (i : ℕ) × (2 ≤ slice_index cs i) × (slice_index ps i ≡ p)
+  -- and only one
+  pub apart : (i j : ℕ) → 2 ≤ slice_index cs i → 2 ≤ slice_index cs j → slice_index ps i ≡ slice_index ps j → i ≡ j
+
+abbrev pub Stored : Slots → (ℕ → Option ℕ) → Type 0
+Stored t m = Files t.controls t.positions m
+
+-- a map has so many positions
+abbrev pub HasSize : (ℕ → Option ℕ) → ℕ → Type 0
+HasSize m n = (ps : List ℕ) × IsDistinct nat_eq ps × (length ps ≡ n) × ((p : ℕ) → Contains ps p ↔ IsSome (m p))
+
+pub record AreCandidates (m : ℕ → Option ℕ) (h : ℕ) (ps : List ℕ) : Type 0 where
+  pub once : IsDistinct nat_eq ps
+  pub all : (p : ℕ) → m p ≡ Some h → Contains ps p
+  pub only : (p : ℕ) → Contains ps p → (other : ℕ) × (m p ≡ Some other) × (fingerprint other ≡ fingerprint h)
+
+-- `asks p` says that the closure may be asked, and `answers p h` that it may answer h
+abbrev pub Resolves : (ℕ → Type 0) → (ℕ → ℕ → Type 0) → (ℕ → Option ℕ) → Type 0
+Resolves asks answers m = (p h : ℕ) → m p ≡ Some h → asks p × ((g : ℕ) → answers p g → g ≡ h)
+
+-- a position was put into the first slot that is free as a search for its hash meets them, which may have been empty
+pub record IsPut (cs ps : List ℕ) (h p : ℕ) (new_cs new_ps : List ℕ) (empty : Bool) : Type 0 where
+  pub slot : ℕ
+  pub first : find (λ i. nat_lt (slice_index cs i) 2) (from_slot (length cs) (home (length cs) h)) ≡ Some slot
+  pub within : slot < length cs
+  pub controls : new_cs ≡ slice_set cs slot (control_of h)
+  pub positions : new_ps ≡ slice_set ps slot p
+  pub was_empty : empty ≡ (slice_index cs slot == 0)
+
+-- what a table keeps: as many positions as slots, of which one is empty, and how many are full or used
+pub record AreSlots (cs ps : List ℕ) (len used : ℕ) : Type 0 where
+  pub sized : length ps ≡ length cs
+  pub counted : len ≡ count_by is_full cs
+  pub marked : used ≡ count_by is_used cs
+  pub room : used < length cs

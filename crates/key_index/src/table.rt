@@ -1,0 +1,433 @@
+//! A table of positions, found by the hashes that they are stored under.
+ghost use Rattle.std.specs.Prelude.{◌≡◌, ◌≢◌, ◌⊎◌, ℕ, ◌+◌, ◌-◌, ◌*◌, ◌^◌, ◌<◌, ◌≤◌, ◌==◌, ◌↔◌, Option, Some, None, IsSome, IsNone, IsTrue, OnOk, OnErr, IfOk, IfErr, IfSome, MatchOption, List, [], ◌∷◌, ◌++◌, length, map, min, slice_index, slice_set, count_by, replicate, nat_lt};
+ghost use Rattle.std.specs.Bool.{OnTrue, OnFalse};
+ghost use Rattle.std.specs.Iterator.{YieldsFirst, item_count};
+ghost use Rattle.std.specs.List.{All, Contains, filter, find, range_with_len, take_while};
+ghost use Rattle.key_index.specs.Table.{Slots, control_of, is_full, is_used, home, from_slot, marked, places, candidates, position_count, with_hash, without, Files, Stored, HasSize, AreCandidates, Resolves, IsPut};
+
+use key_index_flat::index::Fault;
+use std::alloc::{AllocError, Global};
+use std::marker::Model;
+
+/// Marks a slot that never held a position since its table was made.
+const EMPTY: u16 = 0;
+/// Marks a slot whose position was removed.
+const REMOVED: u16 = 1;
+/// Slots with a position are marked by this number and more.
+const FULL: u16 = 2;
+/// How many slots a table has at the least.
+const LEAST_SLOTS: usize = 8;
+
+/// What marks a slot whose position is stored under a hash.
+#[inline]
+fn control_of(hash: u64) -> u16
+    ensures { result ≡ control_of hash }
+{
+    (hash >> 56) as u16 + FULL
+}
+
+/// The slot at which a search for a hash begins, of so many.
+#[inline]
+fn home_of(hash: u64, slots: usize) -> usize
+    requires { 0 < slots }
+    ensures home { result ≡ home slots hash }
+    ensures within { result < slots }
+{
+    hash as usize & (slots - 1)
+}
+
+/// How many slots may be used before the table is made anew.
+#[inline]
+fn limit(slots: usize) -> usize
+    requires { 0 < slots }
+    ensures { result + 1 ≤ slots }
+{
+    slots / 8 * 7
+}
+
+/// The first slot in a range that holds no position.
+#[inline]
+fn free_between(controls: &[u16], from: usize, to: usize) -> Option<usize>
+    requires { to ≤ length controls.now }
+    ensures first { result ≡ find (λ i. nat_lt (slice_index controls.now i) 2) (range_with_len from (to - from)) }
+    ensures within { IfSome result (λ slot. slot < to) }
+{
+    for slot in from..to {
+        if controls[slot] < FULL {
+            return Some(slot);
+        }
+    }
+    None
+}
+
+/// The first slot that holds no position, from one on and round to it.
+#[inline]
+fn free_from(controls: &[u16], start: usize) -> usize
+    requires start { start < length controls.now }
+    requires free { count_by is_used controls.now < length controls.now }
+    ensures first { find (λ i. nat_lt (slice_index controls.now i) 2) (from_slot (length controls.now) start) ≡ Some result }
+    ensures within { result < length controls.now }
+{
+    if let Some(slot) = free_between(controls, start, controls.len()) {
+        return slot;
+    }
+    let Some(slot) = free_between(controls, 0, start) else {
+        unreachable!()
+    };
+    slot
+}
+
+/// The slots that a search for a hash finds.
+#[derive(Drop)]
+struct Places<'a> {
+    controls: &'a [u16],
+    wanted: u16,
+    next: usize,
+    end: usize,
+    rest: usize,
+}
+
+impl<'a> Model for Places<'a> {
+    ghost use Rattle.std.specs.Prelude.{◌≤◌, ◌-◌, ◌++◌, List, ℕ, length};
+    ghost use Rattle.std.specs.List.{range_with_len};
+    ghost use Rattle.key_index.specs.Table.{marked};
+
+    ghost Value = { List ℕ };
+
+    ghost view = { λ s. marked s.controls.now s.wanted
+        (range_with_len s.next (s.end - s.next) ++ range_with_len 0 s.rest) };
+
+    ghost invariant = { λ s. (s.next ≤ s.end) × (s.end ≤ length s.controls.now) × (s.rest ≤ length s.controls.now) };
+}
+
+impl<'a> Places<'a> {
+    #[inline]
+    fn new(controls: &'a [u16], hash: u64) -> Places<'a>
+        requires { 0 < length controls.now }
+        ensures { result ≡ places controls.now hash }
+    {
+        let start = home_of(hash, controls.len());
+        Places {
+            controls,
+            wanted: control_of(hash),
+            next: start,
+            end: controls.len(),
+            rest: start,
+        }
+    }
+
+    /// The next of them.
+    #[inline]
+    fn next(&mut self) -> Option<usize>
+        ensures { MatchOption result ((self.old ≡ []) × (self.new ≡ [])) (λ slot. self.old ≡ slot ∷ self.new) }
+    {
+        while self.next < self.end || 0 < self.rest {
+            if self.next == self.end {
+                self.next = 0;
+                self.end = self.rest;
+                self.rest = 0;
+                continue;
+            }
+            let slot = self.next;
+            let control = self.controls[slot];
+            if control == EMPTY {
+                self.end = slot;
+                self.rest = 0;
+                return None;
+            }
+            self.next += 1;
+            if control == self.wanted {
+                return Some(slot);
+            }
+        }
+        None
+    }
+}
+
+/// The slot of a position among those that a search for a hash finds.
+#[inline]
+fn slot_of(controls: &[u16], positions: &[u64], hash: u64, position: u64) -> Option<usize>
+    requires slots { 0 < length controls.now }
+    requires sized { length positions.now ≡ length controls.now }
+    ensures { result ≡ find (λ i. slice_index positions.now i == position) (places controls.now hash) }
+{
+    let mut places = Places::new(controls, hash);
+    while let Some(slot) = places.next() {
+        if positions[slot] == position {
+            return Some(slot);
+        }
+    }
+    None
+}
+
+/// Puts a position into the first slot without one. Answers whether that slot was empty.
+#[inline]
+fn put(controls: &mut Vec<u16>, positions: &mut Vec<u64>, hash: u64, position: u64) -> bool
+    requires free { count_by is_used controls.old.items < length controls.old.items }
+    requires sized { length positions.old.items ≡ length controls.old.items }
+    ensures { IsPut controls.old.items positions.old.items hash position controls.new.items positions.new.items result }
+{
+    let slot = free_from(controls, home_of(hash, controls.len()));
+    let empty = controls[slot] == EMPTY;
+    controls[slot] = control_of(hash);
+    positions[slot] = position;
+    empty
+}
+
+/// Puts all positions of some slots into empty ones, by the hashes that the resolver answers.
+fn put_all<F: Fn(u64) -> u64>(
+    controls: &[u16],
+    positions: &[u64],
+    new_controls: &mut Vec<u16>,
+    new_positions: &mut Vec<u64>,
+    resolver: &F,
+)
+    requires sized { length positions.now ≡ length controls.now }
+    requires new_sized { length new_positions.old.items ≡ length new_controls.old.items }
+    requires empty { new_controls.old.items ≡ replicate (length new_controls.old.items) 0 }
+    requires room { count_by is_full controls.now < length new_controls.old.items }
+    requires resolver { (m : ℕ → Option ℕ) × Files controls.now positions.now m
+        × Resolves (F.pre resolver.now) (F.post resolver.now) m }
+    ensures files { (m : ℕ → Option ℕ) → Files controls.now positions.now m
+        → Resolves (F.pre resolver.now) (F.post resolver.now) m → Files new_controls.new.items new_positions.new.items m }
+    ensures full { count_by is_full new_controls.new.items ≡ count_by is_full controls.now }
+    ensures used { count_by is_used new_controls.new.items ≡ count_by is_full controls.now }
+    ensures sized { length new_positions.new.items ≡ length new_controls.new.items }
+    ensures long { length new_controls.new.items ≡ length new_controls.old.items }
+{
+    for slot in 0..controls.len() {
+        if controls[slot] < FULL {
+            continue;
+        }
+        let position = positions[slot];
+        let hash = resolver(position);
+        put(new_controls, new_positions, hash, position);
+    }
+}
+
+/// Empty slots for some positions, so many that they need not be made anew for them.
+fn slots_for(capacity: usize) -> Option<usize>
+    ensures { IfSome result (λ slots. 0 < slots) }
+{
+    let slots = capacity.checked_add(capacity / 7 + 1)?;
+    Some(slots.checked_next_power_of_two()?.max(LEAST_SLOTS))
+}
+
+/// So many empty slots.
+fn empty_slots(alloc: Global, slots: usize) -> Result<(Vec<u16>, Vec<u64>), AllocError>
+    ensures { IfOk result (λ s. (s.0.items ≡ replicate slots 0) × (s.1.items ≡ replicate slots 0)) }
+{
+    Ok((vec![in alloc; EMPTY; slots]?, vec![in alloc; 0; slots]?))
+}
+
+/// The positions under one hash, and some under others that have its fingerprint.
+#[derive(Drop)]
+pub struct Candidates<'a> {
+    places: Places<'a>,
+    positions: &'a [u64],
+}
+
+impl<'a> Model for Candidates<'a> {
+    ghost use Rattle.std.specs.Prelude.{◌<◌, List, ℕ, length, map, slice_index};
+    ghost use Rattle.std.specs.List.{All};
+
+    ghost Value = { List ℕ };
+
+    ghost view = { λ s. map (slice_index s.positions.now) s.places };
+
+    ghost invariant = { λ s. All (λ i. i < length s.positions.now) s.places };
+}
+
+impl<'a> Iterator for Candidates<'a> {
+    type Item = u64;
+
+    ghost next_gives = { YieldsFirst (λ positions. positions) };
+
+    ghost remaining = { item_count (λ positions. positions) };
+
+    #[inline]
+    fn next(&mut self) -> Option<u64> {
+        match self.places.next() {
+            Some(slot) => Some(self.positions[slot]),
+            None => None,
+        }
+    }
+}
+
+/// Positions, each under a hash. It keeps of a hash the top eight bits alone: who asks by a hash is given each position
+/// under it, and perhaps others whose hashes have the same top eight bits.
+#[derive(Drop)]
+pub struct Table {
+    controls: Vec<u16>,
+    positions: Vec<u64>,
+    len: usize,
+    used: usize,
+    removals: u64,
+}
+
+impl Model for Table {
+    ghost use Rattle.key_index.specs.Table.{Slots, AreSlots};
+
+    ghost Value = { Slots };
+
+    ghost view = { λ t. record { controls = t.controls.items; positions = t.positions.items; removals = t.removals } };
+
+    ghost invariant = { λ t. AreSlots t.controls.items t.positions.items t.len t.used };
+}
+
+impl Table {
+    /// No positions, with room for so many.
+    pub fn with_capacity(alloc: Global, capacity: usize) -> Result<Table, Fault>
+        ensures empty { IfOk result (λ t. Stored t (λ _. None)) }
+        ensures removals { IfOk result (λ t. t.removals ≡ 0) }
+        ensures fault { IfErr result (λ fault. fault ≡ Fault.Memory) }
+    {
+        let Some(slots) = slots_for(capacity) else {
+            return Err(Fault::Memory);
+        };
+        let Ok((controls, positions)) = empty_slots(alloc, slots) else {
+            return Err(Fault::Memory);
+        };
+        Ok(Table {
+            controls,
+            positions,
+            len: 0,
+            used: 0,
+            removals: 0,
+        })
+    }
+
+    /// How many positions are stored.
+    pub fn len(&self) -> usize
+        ensures count { result ≡ position_count self.now }
+        ensures size { (m : ℕ → Option ℕ) → Stored self.now m → HasSize m result }
+    {
+        self.len
+    }
+
+    pub fn is_empty(&self) -> bool
+        ensures { result ≡ (position_count self.now == 0) }
+    {
+        self.len == 0
+    }
+
+    /// How often a position was to be removed, also where it wasn't there. It stops at `u64::MAX`.
+    pub fn removals(&self) -> u64
+        ensures { result ≡ self.now.removals }
+    {
+        self.removals
+    }
+
+    /// The positions under a hash, each once, and perhaps others whose hashes have the same top eight bits. Takes no memory.
+    #[inline]
+    pub fn candidates(&self, hash: u64) -> Candidates<'_>
+        ensures positions { result ≡ candidates self.now hash }
+        ensures stored { (m : ℕ → Option ℕ) → Stored self.now m → AreCandidates m hash result }
+    {
+        Candidates {
+            places: Places::new(self.controls.as_slice(), hash),
+            positions: self.positions.as_slice(),
+        }
+    }
+
+    /// Whether a position is among the candidates of a hash: true where it is stored under it, and false where it isn't stored.
+    #[inline]
+    pub fn contains(&self, hash: u64, position: u64) -> bool
+        ensures { IsTrue result ↔ Contains (candidates self.now hash) position }
+    {
+        slot_of(&self.controls, &self.positions, hash, position).is_some()
+    }
+
+    /// Makes slots anew that have no marks of removed positions, and twice as many where half of them are full.
+    fn remake<F: Fn(u64) -> u64>(&mut self, resolver: &F) -> Result<(), Fault>
+        requires { (m : ℕ → Option ℕ) × Stored self.old m × Resolves (F.pre resolver.now) (F.post resolver.now) m }
+        ensures stored { OnOk result ((m : ℕ → Option ℕ) → Stored self.old m
+            → Resolves (F.pre resolver.now) (F.post resolver.now) m → Stored self.new m) }
+        ensures removals { OnOk result (self.new.removals ≡ self.old.removals) }
+        ensures count { OnOk result (position_count self.new ≡ position_count self.old) }
+        ensures room { OnOk result (count_by is_used self.new.controls + 1 < length self.new.controls) }
+        ensures refused { OnErr result (self.new ≡ self.old) }
+        ensures fault { IfErr result (λ fault. fault ≡ Fault.Memory) }
+    {
+        let mut slots = self.controls.len();
+        if slots / 2 <= self.len {
+            let Some(more) = slots.checked_mul(2) else {
+                return Err(Fault::Memory);
+            };
+            slots = more;
+        }
+        let Ok((mut controls, mut positions)) = empty_slots(*self.controls.allocator(), slots)
+        else {
+            return Err(Fault::Memory);
+        };
+        put_all(
+            &self.controls,
+            &self.positions,
+            &mut controls,
+            &mut positions,
+            resolver,
+        );
+        self.controls = controls;
+        self.positions = positions;
+        self.used = self.len;
+        Ok(())
+    }
+
+    /// Stores a position that isn't stored yet under a hash. The resolver answers the hash of each stored position, which
+    /// is asked where the table is made anew. A refusal changes nothing.
+    #[inline]
+    pub fn insert<F: Fn(u64) -> u64>(
+        &mut self,
+        hash: u64,
+        position: u64,
+        resolver: F,
+    ) -> Result<(), Fault>
+        requires { (m : ℕ → Option ℕ) × Stored self.old m × (m position ≡ None)
+            × Resolves (F.pre resolver) (F.post resolver) m }
+        ensures stored { OnOk result ((m : ℕ → Option ℕ) → Stored self.old m → m position ≡ None
+            → Resolves (F.pre resolver) (F.post resolver) m → Stored self.new (with_hash m position hash)) }
+        ensures removals { OnOk result (self.new.removals ≡ self.old.removals) }
+        ensures count { OnOk result (position_count self.new ≡ position_count self.old + 1) }
+        ensures refused { OnErr result (self.new ≡ self.old) }
+        ensures fault { IfErr result (λ fault. fault ≡ Fault.Memory) }
+    {
+        if limit(self.controls.len()) <= self.used {
+            self.remake(&resolver)?;
+        }
+        self.place(hash, position);
+        Ok(())
+    }
+
+    /// Stores a position where the slots need not be made anew.
+    #[inline]
+    fn place(&mut self, hash: u64, position: u64)
+        requires { count_by is_used self.old.controls + 1 < length self.old.controls }
+        ensures stored { (m : ℕ → Option ℕ) → Stored self.old m → m position ≡ None → Stored self.new (with_hash m position hash) }
+        ensures removals { self.new.removals ≡ self.old.removals }
+        ensures count { position_count self.new ≡ position_count self.old + 1 }
+    {
+        let empty = put(&mut self.controls, &mut self.positions, hash, position);
+        self.len += 1;
+        if empty {
+            self.used += 1;
+        }
+    }
+
+    /// Takes a position out that is among the candidates of a hash, and answers whether it was. Takes no memory.
+    #[inline]
+    pub fn remove(&mut self, hash: u64, position: u64) -> bool
+        ensures removed { IsTrue result ↔ Contains (candidates self.old hash) position }
+        ensures stored { OnTrue result ((m : ℕ → Option ℕ) → Stored self.old m → Stored self.new (without m position)) }
+        ensures count { OnTrue result (position_count self.new + 1 ≡ position_count self.old) }
+        ensures rest { OnFalse result ((self.new.controls ≡ self.old.controls) × (self.new.positions ≡ self.old.positions)) }
+        ensures removals { self.new.removals ≡ min (self.old.removals + 1) (2 ^ 64 - 1) }
+    {
+        self.removals = self.removals.saturating_add(1);
+        let Some(slot) = slot_of(&self.controls, &self.positions, hash, position) else {
+            return false;
+        };
+        self.controls[slot] = REMOVED;
+        self.len -= 1;
+        true
+    }
+}
