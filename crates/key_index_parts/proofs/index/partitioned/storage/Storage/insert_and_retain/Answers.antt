@@ -98,8 +98,7 @@ returns-in-Ok-clause-accepted g c =
     let seen = view_of g.row.P g.T.Translator.translated (record { translator = c.self.inside.translator; parts = c.self.inside.parts; pruned = c.self.inside.pruned }) in
     let taken = c.in-Ok.retained.taken in
     let small : c.self.inside.pruned < 2 ^ 64 = search rules in
-    rw (← c.self.view_is) (
-    (
+    rw (← c.self.view_is) ((
       taken,
       (
         said.0,
@@ -108,7 +107,7 @@ returns-in-Ok-clause-accepted g c =
         subst (λ m. ReturnsInTurn (CalledAt g.F.FnMut) c.args.should_retain said.0 (m ++ c.args.value ∷ []) said.1) same said.3,
         subst (λ m. taken + length (items_where_true said.0 m) ≡ length m) same said.7,
         view_pruned c.self.invariant g.met.T.Key.Ord.total g.met.T.Translator.exact slot l c.insert_and_retain.new.self inside said.4 g.T.Translator.translated c.self.inside.translator c.self.inside.pruned taken c.saturating_add-self-inside.result (λ m. items_where_true said.0 (m ++ c.args.value ∷ [])) refl (omega (arith, c.saturating_add-self-inside.ensures, small))
-        ∙ ap (λ t. with_pruned (with_run (pair_cmp g.T.Key.Ord.cmp) seen t (items_where_true said.0 (run_at (pair_cmp g.T.Key.Ord.cmp) seen t ++ c.args.value ∷ []))) taken) of_key,
+            ∙ ap (λ t. with_pruned (with_run (pair_cmp g.T.Key.Ord.cmp) seen t (items_where_true said.0 (run_at (pair_cmp g.T.Key.Ord.cmp) seen t ++ c.args.value ∷ []))) taken) of_key,
       ),
     )
     )

@@ -97,12 +97,11 @@ returns-clause-kept g c =
     let same : whole ≡ length list = ap (λ l. length l) told in
     let seen = view_of g.row.P g.T.Translator.translated (record { translator = c.self.inside.translator; parts = c.self.inside.parts; pruned = c.self.inside.pruned }) in
     let small : c.self.inside.pruned < 2 ^ 64 = search rules in
-    rw (← c.self.view_is) (
-    (
+    rw (← c.self.view_is) ((
       kept.0,
       subst (λ m. IsFiltered (CalledAt g.F.FnMut) c.args.should_retain m kept.0) (sym told ∙ ap (λ t. list_at (pair_cmp g.T.Key.Ord.cmp) (gathered c.self.inside.parts) t) of_key) kept.1,
       view_pruned c.self.invariant g.met.T.Key.Ord.total g.met.T.Translator.exact slot kept.0 c.retain-had.new.self inside kept.2 g.T.Translator.translated c.self.inside.translator c.self.inside.pruned (whole - length kept.0) c.saturating_add-self-inside.result (λ _. kept.0) refl (omega (arith, c.saturating_add-self-inside.ensures, small, same, had, kept.3))
-      ∙ ap (λ t. with_pruned (with_run (pair_cmp g.T.Key.Ord.cmp) seen t kept.0) (length (run_at (pair_cmp g.T.Key.Ord.cmp) seen t) - length kept.0)) of_key,
+          ∙ ap (λ t. with_pruned (with_run (pair_cmp g.T.Key.Ord.cmp) seen t kept.0) (length (run_at (pair_cmp g.T.Key.Ord.cmp) seen t) - length kept.0)) of_key,
     )
     )
 
