@@ -1,14 +1,15 @@
 -- On what the storage of an index over parts keeps.
---     at_most_three              how many partitions there can be
---     none_held, none_counted    parts that hold nothing, together and with their counts
---     list_at-slot               the list at a slot is that of its part
---     lawful, list_is, held_inside, reach   what is kept: the whole is lawful, and a slot that has values is of a part
---     items_within, entries_within          no list is longer than all of them, nor takes more entries than there are
---     edited, view_edited        an edit of a slot's list is one of the whole
---     counted_edit               and it is counted by so many more or fewer
---     keys_fit                   and it has at most as many keys as values
---     one_entry, .._entries      how many entries a list takes, by what a part tells of an edit
-use Rattle.std.proofs.Common.{◌≡◌, ℕ, zero, suc, ◌+◌, ◌^◌, ◌<◌, ◌≤◌, T, Bool, true, false, cond, not, nat_eq, nat_lt, List, [], ◌∷◌, ◌++◌, map, replicate, length, All, length-append, refl, sym, ap, subst, ◌∙◌, arith, lt_of_not-le}
+--     one_entry, no_entry, new_entries, lost_entries, all_entries, fewer_entries    how many entries a list takes, by what a part tells
+--     length-put_value                   a list with one value more
+--     at_most_three                      how many partitions there can be
+--     none_held, none_counted            parts that hold nothing, together and with their counts
+--     lawful, list_is                    the whole is lawful, and the list at a slot is that of its part
+--     reach, held_inside                 a slot of a partition is of some part, and so is one that has values
+--     items_within, entries_within       no list is longer than all of them, nor takes more entries than there are
+--     edited, edited_by, edited_lawful   an edit of a slot's list is one of the whole, which stays lawful
+--     keys_fit, counted_edit             it is counted by so many more or fewer, and there are no more keys than values
+--     view_edited, view_pruned           and the index as it is seen
+use Rattle.std.proofs.Common.{◌≡◌, ℕ, zero, suc, ◌+◌, ◌<◌, ◌≤◌, T, Bool, true, false, not, nat_eq, nat_lt, List, [], ◌∷◌, replicate, length, All, length-append, refl, sym, ap, subst, ◌∙◌, arith, lt_of_not-le}
 use Rattle.std.proofs.lemmas.Bool.{eqb-true, lt-ltb}
 use Rattle.std.proofs.lemmas.List.{length-set, length-replicate}
 use Rattle.std.proofs.lemmas.List.Elements.{All-get_or, All-set, All-nil, All-cons}
@@ -17,9 +18,9 @@ use Rattle.std.specs.declared.cmp.Ordering.TheVariants.{Equal}
 use Rattle.std.specs.Cmp.{IsTotalOrder}
 use Rattle.key_index_flat.specs.Content.{Content, is_filled, IsLawful, list_at, with_list, with_list_by, item_count, key_count}
 use Rattle.key_index_flat.specs.Laws.{IsLawful-with_list}
-use Rattle.key_index_flat.specs.View.{View, put_value, with_edit, with_pruned, pruned_after}
+use Rattle.key_index_flat.specs.View.{put_value, with_edit, with_pruned, pruned_after}
 use Rattle.key_index_flat.proofs.ContentLemmas.{item_count-with_list, key_count-with_list, entries_for}
-use Rattle.key_index_parts.specs.Family.{Kept, IsCounted, view_of, part_at, list_in, with_list_in}
+use Rattle.key_index_parts.specs.Family.{IsCounted, view_of, part_at, list_in, with_list_in}
 use Rattle.key_index_parts.specs.Gathered.{pair_cmp, gathered_from, gathered}
 use Rattle.key_index_parts.specs.GatheredLaws.{pair_total, IsLawful-gathered}
 use Rattle.key_index_parts.specs.Prefix.{partition_count}

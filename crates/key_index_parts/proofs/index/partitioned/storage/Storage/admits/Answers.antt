@@ -1,4 +1,4 @@
-use Rattle.std.proofs.Common.{nat_lt, ap, arith}
+use Rattle.std.proofs.Common.{nat_lt, ap}
 use Rattle.key_index_parts.proofs.PrefixLemmas.{shifted}
 use Rattle.key_index_parts.proofs.index.partitioned.storage.Storage.admits.Goals as goal
 

@@ -1,5 +1,5 @@
 use Rattle.std.proofs.Common.{rules, ◌≡◌, ◌+◌, ◌^◌, ◌<◌, ap, refl, subst, sym, ◌∙◌, arith}
-use Rattle.key_index_flat.specs.View.{View, put_value, with_edit}
+use Rattle.key_index_flat.specs.View.{put_value, with_edit}
 use Rattle.key_index_flat.proofs.ContentLemmas.{entries_for}
 use Rattle.key_index_parts.specs.Family.{list_in, view_of}
 use Rattle.key_index_parts.specs.Gathered.{pair_cmp}

@@ -1,6 +1,5 @@
 use Rattle.std.proofs.Common.{rules, ◌≡◌, ◌+◌, ◌^◌, ◌<◌, [], ◌∷◌, length, refl, subst, sym, ap, ◌∙◌, arith}
 use Rattle.key_index_flat.specs.Content.{IsLawful}
-use Rattle.key_index_flat.proofs.ContentLemmas.{entries_for}
 use Rattle.key_index_parts.specs.Family.{list_in}
 use Rattle.key_index_parts.specs.Gathered.{pair_cmp, gathered}
 use Rattle.key_index_parts.proofs.StorageLemmas.{lawful, list_is, reach, no_entry, keys_fit, counted_edit, edited_lawful, view_edited}

@@ -1,5 +1,5 @@
-use Rattle.std.proofs.Common.{◌≤◌, ◌^◌, ap, sym, subst, ◌∙◌, arith}
-use Rattle.key_index_flat.specs.Content.{item_count, key_count, IsLawful}
+use Rattle.std.proofs.Common.{◌≤◌, sym, subst}
+use Rattle.key_index_flat.specs.Content.{IsLawful}
 use Rattle.key_index_parts.specs.Gathered.{pair_cmp}
 use Rattle.key_index_parts.proofs.PrefixLemmas.{shifted}
 use Rattle.key_index_parts.proofs.StorageLemmas.{at_most_three, none_held, none_counted}

@@ -1,4 +1,4 @@
-use Rattle.std.proofs.Common.{ap, sym, ◌∙◌}
+use Rattle.std.proofs.Common.{ap, ◌∙◌}
 use Rattle.key_index_flat.specs.Neighbours.{next_list}
 use Rattle.key_index_parts.specs.Gathered.{pair_cmp, gathered}
 use Rattle.key_index_parts.proofs.StorageLemmas.{reach}

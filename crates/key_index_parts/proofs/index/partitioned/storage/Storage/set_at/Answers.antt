@@ -1,4 +1,4 @@
-use Rattle.std.proofs.Common.{◌<◌, length, slice_set, refl, ap, subst, sym, ◌∙◌, arith}
+use Rattle.std.proofs.Common.{◌<◌, length, slice_set, refl, subst, sym, arith}
 use Rattle.std.proofs.lemmas.List.{length-set}
 use Rattle.key_index_flat.specs.Content.{list_at}
 use Rattle.key_index_parts.specs.Family.{list_in}
