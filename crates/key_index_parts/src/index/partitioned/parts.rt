@@ -231,8 +231,8 @@ impl<T: Translator, V: Drop, X: Part<T, V> + Drop> Parts<T, V, X> {
     {
         let part = &mut self.parts[slot.0];
         let taken = part.remove(slot.1);
-        let holds = !part.is_empty();
-        self.filled.set(slot.0, holds);
+        let some_left = !part.is_empty();
+        self.filled.set(slot.0, some_left);
         taken
     }
 }

@@ -115,7 +115,8 @@ impl<T: Translator, V: Drop> Part<T, V> for Arrays<T, V> {
 
     fn insert(&mut self, key: T::Key, value: V) -> Result<bool, V> {
         let run = self.pairs.run_range(&key);
-        match self.pairs.insert_at(run.end, key, value) {
+        let behind = run.end;
+        match self.pairs.insert_at(behind, key, value) {
             Ok(()) => Ok(run.start == run.end),
             Err(refused) => Err(refused.value),
         }

@@ -12,7 +12,7 @@ invariant_of-self g c =
     let inside = inside_parts f xs c.args.self.now n c.self.view_is (c.requires) in
     let x = c.index_mut-part.result.now in
     let at = c.index_mut-part.ensures.value in
-    c.set.ensures ∙ flags_edited cmp f xs n x inside at c.self.inside.filled c.remove-taken.new.self _ c.self.invariant (not_not _ _ c.is_empty-holds.ensures)
+    c.set.ensures ∙ flags_edited cmp f xs n x inside at c.self.inside.filled c.remove-taken.new.self _ c.self.invariant (not_not _ _ c.is_empty-some_left.ensures)
 
 pub returns-clause-parts : goal.returns-clause-parts
 returns-clause-parts g c =
