@@ -65,7 +65,8 @@ fn free_between(controls: &[u16], from: usize, to: usize) -> Option<usize>
 fn free_from(controls: &[u16], start: usize) -> usize
     requires start { start < length controls.now }
     requires free { count_by is_used controls.now < length controls.now }
-    ensures first { find (λ i. nat_lt (slice_index controls.now i) 2) (from_slot (length controls.now) start) ≡ Some result }
+    ensures first { find (λ i. nat_lt (slice_index controls.now i) 2) (from_slot (length controls.now) start)
+        ≡ Some result }
     ensures within { result < length controls.now }
 {
     if let Some(slot) = free_between(controls, start, controls.len()) {
@@ -189,7 +190,8 @@ fn put_all<F: Fn(u64) -> u64>(
     requires resolver { (m : ℕ → Option ℕ) × Files controls.now positions.now m
         × Resolves (F.pre resolver.now) (F.post resolver.now) m }
     ensures files { (m : ℕ → Option ℕ) → Files controls.now positions.now m
-        → Resolves (F.pre resolver.now) (F.post resolver.now) m → Files new_controls.new.items new_positions.new.items m }
+        → Resolves (F.pre resolver.now) (F.post resolver.now) m
+        → Files new_controls.new.items new_positions.new.items m }
     ensures full { count_by is_full new_controls.new.items ≡ count_by is_full controls.now }
     ensures used { count_by is_used new_controls.new.items ≡ count_by is_full controls.now }
     ensures sized { length new_positions.new.items ≡ length new_controls.new.items }
@@ -402,7 +404,8 @@ impl Table {
     #[inline]
     fn place(&mut self, hash: u64, position: u64)
         requires { count_by is_used self.old.controls + 1 < length self.old.controls }
-        ensures stored { (m : ℕ → Option ℕ) → Stored self.old m → m position ≡ None → Stored self.new (with_hash m position hash) }
+        ensures stored { (m : ℕ → Option ℕ) → Stored self.old m → m position ≡ None
+            → Stored self.new (with_hash m position hash) }
         ensures removals { self.new.removals ≡ self.old.removals }
         ensures count { position_count self.new ≡ position_count self.old + 1 }
     {
@@ -419,7 +422,8 @@ impl Table {
         ensures removed { IsTrue result ↔ Contains (candidates self.old hash) position }
         ensures stored { OnTrue result ((m : ℕ → Option ℕ) → Stored self.old m → Stored self.new (without m position)) }
         ensures count { OnTrue result (position_count self.new + 1 ≡ position_count self.old) }
-        ensures rest { OnFalse result ((self.new.controls ≡ self.old.controls) × (self.new.positions ≡ self.old.positions)) }
+        ensures rest { OnFalse result ((self.new.controls ≡ self.old.controls)
+            × (self.new.positions ≡ self.old.positions)) }
         ensures removals { self.new.removals ≡ min (self.old.removals + 1) (2 ^ 64 - 1) }
     {
         self.removals = self.removals.saturating_add(1);

@@ -25,7 +25,8 @@ impl Model for Filed {
 
     ghost view = { λ f. f.hashes.items };
 
-    ghost invariant = { λ f. (length f.hashes.items ≡ 200) × Stored f.table (λ p. slice_index_or f.hashes.items p None) };
+    ghost invariant = { λ f. (length f.hashes.items ≡ 200)
+        × Stored f.table (λ p. slice_index_or f.hashes.items p None) };
 }
 
 impl Filed {

@@ -300,6 +300,19 @@ fn partitioned_ordered_keeps_lists(rt: HostRuntime) {
 }
 
 #[test]
+fn partitioned_ordered_keeps_lists_by_arrays(rt: HostRuntime) {
+    let inner = UnhashedArray { inner: [0, 0, 0] };
+    in_order::<partitioned::ordered::Index<Cap<3>, u64, 1>>(
+        &rt,
+        rt.alloc(),
+        Cap::new(),
+        (0x0b, inner),
+        2,
+        Group::Lists,
+    )
+}
+
+#[test]
 fn partitioned_ordered_resolves(rt: HostRuntime) {
     resolves::<partitioned::ordered::Index<OneCap, Record, 1>>(&rt, rt.alloc(), OneCap)
 }
