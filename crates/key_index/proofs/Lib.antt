@@ -3,3 +3,7 @@ pub mod LineLemmas
 pub mod TableLemmas
 pub mod TableMaps
 pub mod TableCopies
+pub mod ImmutableLemmas
+pub mod PositionLemmas
+pub mod PruneLemmas
+pub mod MarkLemmas

@@ -14,7 +14,7 @@ use Rattle.std.proofs.lemmas.Str.Ascii.{IsAscii-from_all}
 use Rattle.std.proofs.lemmas.List.Elements.{All-from_get_or}
 use Rattle.std.proofs.lemmas.Str.Parse.{IsNumeralModel, numerals_by_value, parse_digits}
 use Rattle.std.proofs.lemmas.Bool.Decides.{nat_tests}
-use Rattle.key_index.specs.Line.{command_of_words, hex_bytes, is_hex, number_of, ordered_command_of_words, words_in}
+use Rattle.key_index.specs.Line.{command_of_words, hex_bytes, immutable_command_of_words, is_hex, number_of, ordered_command_of_words, words_in}
 
 -- what four calls gave are the first four words: one, and up to three more
 pub words_in-yielded : {S : Type 0} {steps : S → Option (Bor (List ℕ)) → S → Type 0} {s : S} {words : List (List ℕ)}
@@ -45,6 +45,13 @@ ordered_command_of_four (a ∷ []) = refl
 ordered_command_of_four (a ∷ b ∷ []) = refl
 ordered_command_of_four (a ∷ b ∷ c ∷ []) = refl
 ordered_command_of_four (a ∷ b ∷ c ∷ d ∷ words) = refl
+
+pub immutable_command_of_four : (words : List (List ℕ)) → immutable_command_of_words words ≡ immutable_command_of_words (take 4 words)
+immutable_command_of_four [] = refl
+immutable_command_of_four (a ∷ []) = refl
+immutable_command_of_four (a ∷ b ∷ []) = refl
+immutable_command_of_four (a ∷ b ∷ c ∷ []) = refl
+immutable_command_of_four (a ∷ b ∷ c ∷ d ∷ words) = refl
 
 -- a word with a byte that is no digit is no number
 pub number_of-no_digits : (word : List ℕ) → list_all is_ascii_digit word ≡ false → number_of word ≡ None

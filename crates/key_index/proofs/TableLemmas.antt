@@ -64,7 +64,7 @@ pub found_second : (q : ℕ → Bool) (xs ys : List ℕ) → find q xs ≡ None 
 found_second q xs ys e = find-append q xs ys ∙ ap (λ o. option_or o (find q ys)) e
 
 -- where none is found, none passes
-find_none : (q : ℕ → Bool) (a n i : ℕ) → find q (range_with_len a n) ≡ None → a ≤ i → i < a + n → q i ≡ false
+pub find_none : (q : ℕ → Bool) (a n i : ℕ) → find q (range_with_len a n) ≡ None → a ≤ i → i < a + n → q i ≡ false
 find_none q a zero i e le lt = absurd (omega arith)
 find_none q a (suc n) i e le lt =
     elim (q a) as (λ b. q a ≡ b → cond b (Some a) (find q (range_with_len (a + 1) n)) ≡ None → q i ≡ false) [

@@ -7,6 +7,8 @@ use Rattle.std.specs.Str.{bytes_eq}
 use Rattle.std.specs.Str.Parse.{digits_value}
 use Rattle.key_index.specs.declared.line.Command.{Command}
 use Rattle.key_index.specs.declared.line.Command.TheVariants.{Insert, Remove, Get, Counts}
+use Rattle.key_index.specs.declared.line.ImmutableCommand.{ImmutableCommand}
+use Rattle.key_index.specs.declared.line.ImmutableCommand.TheVariants as immutable
 use Rattle.key_index.specs.declared.line.OrderedCommand.{OrderedCommand}
 use Rattle.key_index.specs.declared.line.OrderedCommand.TheVariants.{Common, Next, Prev, First, Last}
 
@@ -49,13 +51,28 @@ infixl 10 ◌>>=◌
 abbrev pub ◌>>=◌ : {A B : Type 0} → Option A → (A → Option B) → Option B
 o >>= f = option_and_then f o
 
--- a command whose words after the first are a key and a number
-abbrev pub with_key_and_number : (ℕ → Command) → List (List ℕ) → Option (Command × List ℕ)
-with_key_and_number command (hex ∷ number ∷ []) = do
+-- the number and the key of some words, a key and a number
+abbrev pub number_and_key : List (List ℕ) → Option (ℕ × List ℕ)
+number_and_key (hex ∷ number ∷ []) = do
   key ← key_of hex
   n ← number_of number
-  Some (command n, key)
-with_key_and_number command _ = None
+  Some (n, key)
+number_and_key _ = None
+
+-- a command whose words after the first are a key and a number
+abbrev pub with_key_and_number : {C : Type 0} → (ℕ → C) → List (List ℕ) → Option (C × List ℕ)
+with_key_and_number command words = option_map (λ said. (command said.0, said.1)) (number_and_key words)
+
+-- the number of some words, which is all of them, and no key
+abbrev pub number_alone : List (List ℕ) → Option (ℕ × List ℕ)
+number_alone (number ∷ []) = do
+  n ← number_of number
+  Some (n, [])
+number_alone _ = None
+
+-- a command whose one word after the first is a number
+abbrev pub with_number : {C : Type 0} → (ℕ → C) → List (List ℕ) → Option (C × List ℕ)
+with_number command words = option_map (λ said. (command said.0, said.1)) (number_alone words)
 
 -- a command whose one word after the first is a key
 abbrev pub with_key : {C : Type 0} → C → List (List ℕ) → Option (C × List ℕ)
@@ -95,3 +112,16 @@ ordered_command_of_words (name ∷ words) =
 
 abbrev pub ordered_command_of : List ℕ → Option (OrderedCommand × List ℕ)
 ordered_command_of line = ordered_command_of_words (words_of line)
+
+-- the same of an immutable index, which is told to prune and not to remove
+abbrev pub immutable_command_of_words : List (List ℕ) → Option (ImmutableCommand × List ℕ)
+immutable_command_of_words [] = None
+immutable_command_of_words (name ∷ words) =
+    if bytes_eq name (codes "prune") then with_number immutable.Prune words
+    else (if bytes_eq name (codes "insert") then with_key_and_number immutable.Insert words
+    else (if bytes_eq name (codes "get") then with_key immutable.Get words
+    else (if bytes_eq name (codes "counts") then alone immutable.Counts words
+    else None)))
+
+abbrev pub immutable_command_of : List ℕ → Option (ImmutableCommand × List ℕ)
+immutable_command_of line = immutable_command_of_words (words_of line)

@@ -9,6 +9,7 @@
 --     places                    the slots that a search for a hash finds
 --     candidates                their positions
 --     position_count            how many positions there are
+--     stored_at                 whether a position stands in a slot
 --     with_hash, without        a map with one position more, or without one
 --     Files                     the slots file a map: each position under its hash, and no other
 --     Stored                    a table stores a map
@@ -16,7 +17,7 @@
 --     AreCandidates             what a search for a hash may give: each position under it, once, and none of another fingerprint
 --     Resolves                  a closure answers the hash of each position of a map
 --     IsPut, AreSlots           what putting a position in changes; how the slots are counted
-use Rattle.std.specs.Prelude.{◌≡◌, ◌↔◌, ℕ, Bool, ◌+◌, ◌-◌, ◌/◌, ◌^◌, ◌<◌, ◌≤◌, ◌==◌, nat_eq, nat_le, nat_lt, List, ◌++◌, length, map, slice_index, slice_set, Option, Some, None, IsSome, if◌then◌else◌, bit_and}
+use Rattle.std.specs.Prelude.{◌≡◌, ◌↔◌, ℕ, Bool, ◌+◌, ◌-◌, ◌/◌, ◌^◌, ◌<◌, ◌≤◌, ◌==◌, ◌&&◌, is_some, nat_eq, nat_le, nat_lt, List, ◌++◌, length, map, slice_index, slice_set, Option, Some, None, IsSome, if◌then◌else◌, bit_and}
 use Rattle.std.specs.List.{Contains, IsDistinct, filter, find, range_with_len, take_while, count_by}
 
 pub record Slots : Type 0 where
@@ -54,6 +55,9 @@ candidates t h = map (slice_index t.positions) (places t.controls h)
 abbrev pub position_count : Slots → ℕ
 position_count t = count_by is_full t.controls
 
+abbrev pub stored_at : Slots → ℕ → Bool
+stored_at t p = is_some (find (λ i. is_full (slice_index t.controls i) && (slice_index t.positions i == p)) (range_with_len 0 (length t.controls)))
+
 abbrev pub with_hash : (ℕ → Option ℕ) → ℕ → ℕ → ℕ → Option ℕ
 with_hash m p h q = if q == p then Some h else m q
 
@@ -72,7 +76,7 @@ abbrev pub Stored : Slots → (ℕ → Option ℕ) → Type 0
 Stored t m = Files t.controls t.positions m
 
 -- a map has so many positions
-abbrev pub HasSize : (ℕ → Option ℕ) → ℕ → Type 0
+abbrev pub HasSize : {X : Type 0} → (ℕ → Option X) → ℕ → Type 0
 HasSize m n = (ps : List ℕ) × IsDistinct nat_eq ps × (length ps ≡ n) × ((p : ℕ) → Contains ps p ↔ IsSome (m p))
 
 pub record AreCandidates (m : ℕ → Option ℕ) (h : ℕ) (ps : List ℕ) : Type 0 where

@@ -15,6 +15,8 @@ pub enum Kind {
     PartitionedUnordered,
     /// The same, with the keys in order.
     PartitionedOrdered,
+    /// An index of keys at positions, which are pruned from the front.
+    Immutable,
 }
 
 /// The kind that the program's arguments name, and `None` where they are not those of the program.
@@ -26,6 +28,7 @@ pub fn kind_of(words: &[String]) -> Option<Kind>
         [kind] if kind.as_str() == "ordered" => Some(Kind::Ordered),
         [kind] if kind.as_str() == "punordered" => Some(Kind::PartitionedUnordered),
         [kind] if kind.as_str() == "pordered" => Some(Kind::PartitionedOrdered),
+        [kind] if kind.as_str() == "immutable" => Some(Kind::Immutable),
         _ => None,
     }
 }

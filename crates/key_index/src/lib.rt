@@ -2,6 +2,7 @@
 #![tactic(auto)]
 
 pub mod fault;
+pub mod index;
 pub mod kind;
 pub mod line;
 pub mod serve;

@@ -3,7 +3,7 @@
 ghost use Rattle.std.specs.Prelude.{◌≡◌, ◌==◌, ◌/◌, ◌<◌, ◌↔◌, [], ◌∷◌, length, take, IsTrue, IsNone, IfSome, IfOk, IfErr, OnOk, OnErr, IsErrOf, vec_capacity};
 ghost use Rattle.std.specs.Char.{digit_value, is_ascii_hexdigit};
 ghost use Rattle.std.specs.List.{list_all};
-ghost use Rattle.key_index.specs.Line.{alone, command_of, hex_bytes, is_hex, key_of, number_of, ordered_command_of, command_of_words, with_key, with_key_and_number, words_in, words_of};
+ghost use Rattle.key_index.specs.Line.{alone, command_of, hex_bytes, is_hex, key_of, number_of, ordered_command_of, command_of_words, immutable_command_of, number_alone, number_and_key, with_key, words_in, words_of};
 
 use std::alloc::AllocError;
 
@@ -33,6 +33,19 @@ pub enum OrderedCommand {
     First,
     /// Shows the values of the greatest index key.
     Last,
+}
+
+/// What a line says to an immutable index.
+#[derive(Clone, Copy, Debug, PartialEq, Eq)]
+pub enum ImmutableCommand {
+    /// Indexes the key at this position.
+    Insert(u64),
+    /// Shows the positions of the key.
+    Get,
+    /// Takes out every position below this one.
+    Prune(u64),
+    /// Shows the counts.
+    Counts,
 }
 
 /// Why a line gave no command.
@@ -115,22 +128,19 @@ fn number_of(word: &[u8]) -> Option<u64>
 }
 
 // Reads the two words of `insert`: a key and a number.
-fn insert(words: Words<'_>, key: &mut Vec<u8>) -> Result<Command, LineFault>
+fn number_and_key(words: Words<'_>, key: &mut Vec<u8>) -> Result<u64, LineFault>
     requires { key.old.items ≡ [] }
-    ensures accepted { IfOk result
-        (λ command. with_key_and_number Command.Insert (words_in words.entry) ≡ Some (command, key.new.items)) }
-    ensures refused { IsErrOf result LineFault.BadLine
-        ↔ IsNone (with_key_and_number Command.Insert (words_in words.entry)) }
+    ensures accepted { IfOk result (λ n. number_and_key (words_in words.entry) ≡ Some (n, key.new.items)) }
+    ensures refused { IsErrOf result LineFault.BadLine ↔ IsNone (number_and_key (words_in words.entry)) }
     ensures memory { IsErrOf result LineFault.Memory
-        → IfSome (with_key_and_number Command.Insert (words_in words.entry))
-        (λ said. vec_capacity key.old < length said.1) }
+        → IfSome (number_and_key (words_in words.entry)) (λ said. vec_capacity key.old < length said.1) }
 {
     let (Some(hex), Some(number), None) = words else {
         return Err(LineFault::BadLine);
     };
     let number = number_of(number).ok_or(LineFault::BadLine)?;
     decode_key(hex, key)?;
-    Ok(Command::Insert(number))
+    Ok(number)
 }
 
 // Reads the one word, a key, of a command.
@@ -146,6 +156,18 @@ fn with_key<C: Drop>(command: C, words: Words<'_>, key: &mut Vec<u8>) -> Result<
     };
     decode_key(hex, key)?;
     Ok(command)
+}
+
+// Reads the one word, a number, of `prune`.
+fn number_alone(words: Words<'_>) -> Result<u64, LineFault>
+    ensures accepted { IfOk result (λ n. number_alone (words_in words.entry) ≡ Some (n, [])) }
+    ensures refused { IsErrOf result LineFault.BadLine ↔ IsNone (number_alone (words_in words.entry)) }
+    ensures only { IfErr result (λ fault. fault ≡ LineFault.BadLine) }
+{
+    let (Some(number), None, _) = words else {
+        return Err(LineFault::BadLine);
+    };
+    number_of(number).ok_or(LineFault::BadLine)
 }
 
 // Sees that no word follows a command.
@@ -174,7 +196,7 @@ pub fn parse(line: &[u8], key: &mut Vec<u8>) -> Result<Command, LineFault>
     key.clear();
     let (name, words) = words_of(line);
     if name == b"insert".as_slice() {
-        insert(words, key)
+        number_and_key(words, key).map(Command::Insert)
     } else if name == b"remove".as_slice() {
         with_key(Command::Remove, words, key)
     } else if name == b"get".as_slice() {
@@ -208,5 +230,30 @@ pub fn parse_ordered(line: &[u8], key: &mut Vec<u8>) -> Result<OrderedCommand, L
         alone(OrderedCommand::Last, words)
     } else {
         parse(line, key).map(OrderedCommand::Common)
+    }
+}
+
+/// The same of an immutable index, which is told to prune and not to remove.
+#[tactic(auto, using(crate::proofs::LineLemmas::immutable_command_of_four))]
+pub fn parse_immutable(line: &[u8], key: &mut Vec<u8>) -> Result<ImmutableCommand, LineFault>
+    ensures accepted { IfOk result (λ command. immutable_command_of line.now ≡ Some (command, key.new.items)) }
+    ensures refused { IsErrOf result LineFault.BadLine ↔ IsNone (immutable_command_of line.now) }
+
+    // Memory is wanted only where the buffer has no room for the key.
+    ensures memory { IsErrOf result LineFault.Memory
+        → IfSome (immutable_command_of line.now) (λ said. vec_capacity key.old < length said.1) }
+{
+    key.clear();
+    let (name, words) = words_of(line);
+    if name == b"prune".as_slice() {
+        number_alone(words).map(ImmutableCommand::Prune)
+    } else if name == b"insert".as_slice() {
+        number_and_key(words, key).map(ImmutableCommand::Insert)
+    } else if name == b"get".as_slice() {
+        with_key(ImmutableCommand::Get, words, key)
+    } else if name == b"counts".as_slice() {
+        alone(ImmutableCommand::Counts, words)
+    } else {
+        Err(LineFault::BadLine)
     }
 }

@@ -9,6 +9,8 @@ use std::alloc::{AllocError, Global};
 use std::io::{self, Error, ErrorKind, Read, Write};
 use std::test::Fail;
 
+mod immutable;
+mod marks;
 mod rust_answers;
 mod table;
 
@@ -121,16 +123,26 @@ fn arguments_are_read(rt: HostRuntime) -> Result<(), Fail> {
     let ordered = String::from_str(rt.alloc(), "ordered")?;
     let partitioned = String::from_str(rt.alloc(), "punordered")?;
     let in_order = String::from_str(rt.alloc(), "pordered")?;
+    let at_positions = String::from_str(rt.alloc(), "immutable")?;
     let further = String::from_str(rt.alloc(), "512")?;
-    let words = vec![in rt.alloc(); unordered, ordered, partitioned, in_order, further]?;
-    assert_eq!(rt; words.len(), 5);
+    let words = vec![in rt.alloc();
+        unordered,
+        ordered,
+        partitioned,
+        in_order,
+        at_positions,
+        further,
+    ]?;
+    assert_eq!(rt; words.len(), 6);
     assert_eq!(rt; kind_of(&words[..1]), Some(Kind::Unordered));
     assert_eq!(rt; kind_of(&words[1..2]), Some(Kind::Ordered));
     assert_eq!(rt; kind_of(&words[2..3]), Some(Kind::PartitionedUnordered));
     assert_eq!(rt; kind_of(&words[3..4]), Some(Kind::PartitionedOrdered));
     assert_eq!(rt; kind_of(&words[..2]), None);
     assert_eq!(rt; kind_of(&words[3..]), None);
+    assert_eq!(rt; kind_of(&words[4..5]), Some(Kind::Immutable));
     assert_eq!(rt; kind_of(&words[4..]), None);
+    assert_eq!(rt; kind_of(&words[5..]), None);
     assert_eq!(rt; kind_of(&words[..0]), None);
     Ok(())
 }
@@ -245,7 +257,7 @@ fn session<R: Read + Drop>(
 
 #[test]
 fn sessions_are_answered(rt: HostRuntime) -> Result<(), Fail> {
-    let sessions: [(&str, &[u8], &[u8], &[u8], u8); 22] = [
+    let sessions: [(&str, &[u8], &[u8], &[u8], u8); 26] = [
         (
             "unordered",
             b"insert 0b02 1\ninsert 0bff 2\nget 0b\nremove 0b77\ncounts\n",
@@ -353,6 +365,29 @@ fn sessions_are_answered(rt: HostRuntime) -> Result<(), Fail> {
             b"bad line 9\n",
             1,
         ),
+        (
+            "immutable",
+            b"insert 616131 1\ninsert 616132 3\ninsert 626231 4\nget 616139\nget 636331\n\
+              prune 3\nget 616139\ninsert 6161 2\ncounts\n",
+            b"ok\nok\nok\nvalues 1 3\nnone\nok\nvalues 3\nrefused position\nitems 2 pruned 1\n",
+            b"",
+            0,
+        ),
+        (
+            "immutable",
+            b"insert 61 18446744073709551615\ninsert 61 7\ninsert 62 7\ncounts\nremove 61\n",
+            b"refused far\nok\nrefused position\nitems 1 pruned 0\n",
+            b"bad line 5\n",
+            1,
+        ),
+        (
+            "immutable",
+            b"insert 61 9\ninsert 61 2\ninsert 61 5\nget 61\nprune 5\nprune 0\nget 6100\nprune 61 1\n",
+            b"ok\nok\nok\nvalues 2 5 9\nok\nok\nvalues 5 9\n",
+            b"bad line 8\n",
+            1,
+        ),
+        ("immutable", b"prune -1\n", b"", b"bad line 1\n", 1),
     ];
     for (kind, input, output, faults, status) in sessions {
         let ended = session(rt.alloc(), &[kind], input)?;

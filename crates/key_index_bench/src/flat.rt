@@ -55,6 +55,30 @@ pub(crate) fn get<I: Unordered<Value = u64>, C: Clock, W: Write>(
     Ok(())
 }
 
+/// How many keys a batch has.
+const BATCH: usize = 1024;
+
+/// The values of each key, by batches.
+pub(crate) fn many<I: Unordered<Value = u64>, C: Clock, W: Write>(
+    index: &I,
+    keys: &[[u8; 32]],
+    report: &mut Report<'_, C, W>,
+) -> Result<(), Failure> {
+    let start = report.start()?;
+    let mut sum = 0u64;
+    for batch in keys.chunks(BATCH) {
+        let visited = index.get_many(
+            batch.iter(),
+            |_, value: &u64| sum = sum.wrapping_add(*value),
+        );
+        if let Err(fault) = visited {
+            return Err(Failure::Refused(fault));
+        }
+    }
+    report.line("many", keys.len(), start, sum)?;
+    Ok(())
+}
+
 /// Adds one to the first value of a key, by a cursor, and answers the value before.
 fn add_one<I: Unordered<Value = u64>>(index: &mut I, key: &[u8]) -> Result<u64, Failure> {
     let mut cursor = match index.get_mut(key) {
@@ -153,6 +177,22 @@ pub(crate) fn collide<I: Unordered<Value = u64>, C: Clock, W: Write>(
         }
     }
     report.line("collide", keys.len().saturating_mul(3), start, sum)?;
+    Ok(())
+}
+
+/// Puts a fourth value under each key, and keeps the newest of the three that it had.
+pub(crate) fn retain<I: Unordered<Value = u64>, C: Clock, W: Write>(
+    index: &mut I,
+    keys: &[[u8; 32]],
+    report: &mut Report<'_, C, W>,
+) -> Result<(), Failure> {
+    let start = report.start()?;
+    for key in keys {
+        if let Err(refused) = index.insert_and_retain(key, 4, |value: &u64| *value == 3) {
+            return Err(Failure::Refused(refused.fault));
+        }
+    }
+    report.line("retain", keys.len(), start, 0)?;
     Ok(())
 }
 

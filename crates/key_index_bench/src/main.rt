@@ -4,9 +4,11 @@
 mod flat;
 mod keys;
 mod maps;
+mod positions;
 mod report;
 
 use flat::Failure;
+use key_index::index::immutable;
 use key_index_flat::index::{Factory, Fault, Ordered, ordered, unordered};
 use key_index_flat::translator::{EightCap, Hashed, SeededSha256};
 use key_index_parts::index::partitioned;
@@ -38,6 +40,7 @@ enum Kind {
     PartitionedOrdered1,
     PartitionedOrdered2,
     PartitionedOrdered3,
+    Immutable,
     StdHash,
     StdTree,
 }
@@ -54,6 +57,7 @@ impl Kind {
             Kind::PartitionedOrdered1 => "pordered1",
             Kind::PartitionedOrdered2 => "pordered2",
             Kind::PartitionedOrdered3 => "pordered3",
+            Kind::Immutable => "immutable",
             Kind::StdHash => "std_hash",
             Kind::StdTree => "std_tree",
         }
@@ -75,6 +79,7 @@ fn arguments(words: &[String]) -> Option<(Kind, usize)> {
         "pordered1" => Kind::PartitionedOrdered1,
         "pordered2" => Kind::PartitionedOrdered2,
         "pordered3" => Kind::PartitionedOrdered3,
+        "immutable" => Kind::Immutable,
         "std_hash" => Kind::StdHash,
         "std_tree" => Kind::StdTree,
         _ => return None,
@@ -121,9 +126,11 @@ where
     let mut index = make::<I, C, W>(alloc, translator, report)?;
     flat::insert(&mut index, present, report)?;
     flat::get(&index, "get", present, report)?;
+    flat::many(&index, present, report)?;
     flat::get(&index, "miss", absent, report)?;
     flat::update(&mut index, present, report)?;
     flat::collide(&mut index, few, report)?;
+    flat::retain(&mut index, few, report)?;
     flat::remove(&mut index, half, report)
 }
 
@@ -157,11 +164,32 @@ fn run_ordered<I: Factory<Translator = EightCap, Value = u64> + Ordered + Drop, 
     let mut index = make::<I, C, W>(alloc, EightCap, report)?;
     flat::insert(&mut index, present, report)?;
     flat::get(&index, "get", present, report)?;
+    flat::many(&index, present, report)?;
     flat::get(&index, "miss", absent, report)?;
     flat::update(&mut index, present, report)?;
     flat::next(&index, few, report)?;
     flat::collide(&mut index, few, report)?;
+    flat::retain(&mut index, few, report)?;
     flat::remove(&mut index, half, report)
+}
+
+/// Measures the immutable index.
+fn run_immutable<C: Clock, W: Write>(
+    alloc: Global,
+    present: &[[u8; 32]],
+    absent: &[[u8; 32]],
+    report: &mut Report<'_, C, W>,
+) -> Result<(), Failure> {
+    let start = report.start()?;
+    let mut index = match immutable::Index::new(alloc, EightCap, 0, 0) {
+        Ok(index) => index,
+        Err(fault) => return Err(Failure::Refused(fault)),
+    };
+    report.line("new", 1, start, 0)?;
+    positions::insert(&mut index, present, report)?;
+    positions::get(&index, "get", present, report)?;
+    positions::get(&index, "miss", absent, report)?;
+    positions::prune(&mut index, present.len() / 2, report)
 }
 
 /// Measures the hashed map.
@@ -288,6 +316,7 @@ fn measure<C: Clock, W: Write>(
                 &mut report,
             )
         }
+        Kind::Immutable => run_immutable(alloc, &present, &absent, &mut report),
         Kind::StdHash => run_std_hash(alloc, &present, &absent, &mut report),
         Kind::StdTree => run_std_tree(alloc, &present, &absent, &mut report),
     }
@@ -306,7 +335,7 @@ fn main(rt: HostRuntime) -> ExitCode {
     let Some((kind, count)) = named else {
         let _ = writeln!(
             rt.stderr(),
-            "usage: key_index_bench unordered|hashed|ordered|punordered1|punordered2|punordered3|pordered1|pordered2|pordered3|std_hash|std_tree COUNT"
+            "usage: key_index_bench unordered|hashed|ordered|punordered1|punordered2|punordered3|pordered1|pordered2|pordered3|immutable|std_hash|std_tree COUNT"
         );
         return ExitCode::from(2);
     };

@@ -14,7 +14,8 @@ use Rattle.std.specs.Option.{option_map}
 use Rattle.std.specs.FinMap.{find, is_sorted}
 use Rattle.std.specs.FinMap.Entries.{below_all, is_sorted-where_key}
 use Rattle.key_index_flat.specs.Content.{Content, is_filled, list_at, IsLawful}
-use Rattle.key_index_flat.specs.FullKeys.{IsBytes, byte_cmp, IsLeast, values_of, or_list, unflagged, cmp_keys, above, below, IsFiled, IsFullNext, IsFullPrev, IsNextCandidate, IsPrevCandidate}
+use Rattle.key_index_flat.specs.FullKeys.{IsBytes, byte_cmp, IsLeast, or_list, unflagged, cmp_keys, above, below, IsFiled, IsFullNext, IsFullPrev, IsNextCandidate, IsPrevCandidate}
+use Rattle.key_index_flat.specs.Values.{values_of}
 use Rattle.key_index_flat.specs.Laws.{first, second, all_filled-where_key}
 use Rattle.key_index_flat.specs.Neighbours.{entries_above, entries_below, first_entry, last_entry, or_cycled, KeepsOrder}
 use Rattle.key_index_flat.proofs.ContentLemmas.{absent, less}

@@ -15,3 +15,5 @@ pub mod FullKeyLemmas
 pub mod KeptLemmas
 pub mod ViewLemmas
 pub mod TurnLemmas
+pub mod VisitLemmas
+pub mod ValueLemmas

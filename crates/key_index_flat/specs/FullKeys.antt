@@ -1,13 +1,12 @@
 -- Full keys. An index files its values under index keys, which are shorter than keys, and each value knows its own key in full.
 --     IsFiled              each value stands under the index key of its full key, which is a list of bytes
---     values_of            all values that are held, in the order of the index keys and, under one of them, in list order
 --     IsLeast              the least value of a list, the first of those that tie; none exactly where the list is empty
 --     IsFullNext           the value with the least full key strictly above a key, of all that are held. Among equal full keys the first.
 --                          None exactly where no full key is above. IsFullPrev: the same with the greatest strictly below
 --     IsNextCandidate      the value with the least full key of those above the key under its own index key. Where none is above, of all those under the next
 --                          index key, which a flagged neighbour isn't. IsPrevCandidate: the same with greatest, below and previous
 use Rattle.std.specs.Prelude.{◌≡◌, ◌<◌, ℕ, Bool, true, false, List, [], ◌∷◌, ◌++◌, Option, Some, None, All}
-use Rattle.std.specs.List.{filter, flat_map}
+use Rattle.std.specs.List.{filter}
 use Rattle.std.specs.declared.cmp.Ordering.{Ordering}
 use Rattle.std.specs.declared.cmp.Ordering.TheVariants.{Less}
 use Rattle.std.specs.Ordering.{is_lt, nat_cmp, on, flip_args}
@@ -16,6 +15,7 @@ use Rattle.std.specs.BTreeMap.Range.{IsLeBy}
 use Rattle.key_index_flat.specs.View.{View}
 use Rattle.key_index_flat.specs.Content.{Content, list_at}
 use Rattle.key_index_flat.specs.Neighbours.{next_list, prev_list}
+use Rattle.key_index_flat.specs.Values.{values_of}
 
 abbrev pub IsBytes : List ℕ → Type 0
 IsBytes b = All (λ n. n < 256) b
@@ -28,9 +28,6 @@ IsLeast cmp l None = l ≡ []
 IsLeast {V = V} cmp l (Some v) =
     (before : List V) × (after : List V) × (l ≡ before ++ v ∷ after)
     × All (λ w. cmp v w ≡ Less) before × All (λ w. IsLeBy cmp v w) after
-
-abbrev pub values_of : {K V : Type 0} → Content K V → List V
-values_of c = flat_map (λ e. e.1) c
 
 -- the first list, or where it is empty the second
 abbrev pub or_list : {V : Type 0} → List V → List V → List V

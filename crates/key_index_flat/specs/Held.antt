@@ -1,9 +1,7 @@
 -- What a flat unordered index holds, by its value: for the ghost fields of an index that is made of such indices. A ghost field can't name
 -- the members of the impl itself.
 --     held            its content: that of its view
---     slots           its index keys: those of its view
 --     IsLawful-held   the law `lawful`
-use Rattle.std.specs.Prelude.{ℕ, List}
 use Rattle.std.specs.declared.cmp.Ord as ord
 use Rattle.std.specs.declared.cmp.PartialEq as eq
 use Rattle.std.specs.declared.cmp.PartialOrd as partial
@@ -16,9 +14,6 @@ module _ {T V K : Type 0} {t : translator.Ghosts T K} {o : ord.Ghosts K} {e : eq
     {h : hash.Ghosts K} where
   abbrev pub held : Index T V K t o e p h → Content K V
   held index = index.storage.content
-
-  abbrev pub slots : Index T V K t o e p h → List ℕ → K
-  slots index = t.translated index.storage.translator
 
   pub IsLawful-held : (index : Index T V K t o e p h) → IsLawful o.cmp (held index)
   IsLawful-held index = index.lawful

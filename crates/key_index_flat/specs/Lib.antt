@@ -13,8 +13,11 @@ pub mod CursorRun
 pub mod Neighbours
 pub mod Held
 pub mod ByteOrder
+pub mod NumberOrder
 pub mod CapOrder
 pub mod Arrays
 pub mod ArrayLaws
+pub mod Values
 pub mod FullKeys
 pub mod Retention
+pub mod Visits

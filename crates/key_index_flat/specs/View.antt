@@ -8,8 +8,9 @@
 --     IsHeld                      whether a key has a value
 --     with_run, with_edit         with this list at an index key, and with what f makes of the list there
 --     with_pruned                 with n values more taken out
+--     with_slot                   with other index keys of keys' bytes
 --     after_insert, after_remove  after a call at a key
---     RetainsAt                   after the values at a key of which f said false were taken out
+--     Retains                     after the values at an index key of which f said false were taken out; RetainsAt: of those at a key
 --     InsertsAndRetains           after a value was put behind those of an index key, f was asked on all of these, the new one last, and
 --                                 those that f said false of were taken out; InsertsAndRetainsAt: of those at a key
 --     Admits                      whether it can hold values under the index key of a key
@@ -51,6 +52,9 @@ module _ {K V : Type 0} where
   abbrev pub with_pruned : View K V → ℕ → View K V
   with_pruned s n = record s { pruned = pruned_after s.pruned n }
 
+  abbrev pub with_slot : View K V → (List ℕ → K) → View K V
+  with_slot s slot = record s { slot = slot }
+
 module _ {K V : Type 0} (cmp : K → K → Ordering) where
   abbrev pub run_at : View K V → K → List V
   run_at s k = list_at cmp s.content k
@@ -73,10 +77,13 @@ module _ {K V : Type 0} (cmp : K → K → Ordering) where
   abbrev pub after_remove : View K V → List ℕ → View K V
   after_remove s b = with_pruned (with_run s (s.slot b) []) (length (run_of s b))
 
+  abbrev pub Retains : {F : Type 0} → (F → V → Bool → F → Type 0) → F → View K V → K → View K V → Type 0
+  Retains ask f s k t =
+      (kept : List V) × IsFiltered ask f (run_at s k) kept
+      × (t ≡ with_pruned (with_run s k kept) (length (run_at s k) - length kept))
+
   abbrev pub RetainsAt : {F : Type 0} → (F → V → Bool → F → Type 0) → F → View K V → List ℕ → View K V → Type 0
-  RetainsAt ask f s b t =
-      (kept : List V) × IsFiltered ask f (run_of s b) kept
-      × (t ≡ with_pruned (with_run s (s.slot b) kept) (length (run_of s b) - length kept))
+  RetainsAt ask f s b t = Retains ask f s (s.slot b) t
 
   -- taken: how many of the held values were taken out; the last answer is on the new one
   abbrev pub InsertsAndRetains : {F : Type 0} → (F → V → Bool → F → Type 0) → F → View K V → K → V → ℕ → View K V

@@ -3,6 +3,7 @@ ghost use Rattle.std.specs.Prelude.{Some};
 
 use std::fmt;
 
+mod batch;
 mod command;
 mod fold;
 mod index_cursor;
@@ -14,11 +15,12 @@ mod traits;
 pub mod unordered;
 mod values;
 
+pub use batch::{Lists, show_by_key, show_by_place, visit_by_key, visit_by_place};
 pub use command::{Command, Outcome, Step};
 pub use fold::run;
 pub use index_cursor::IndexCursor;
 pub use resolve::{Keyed, resolve_next, resolve_prev};
-pub use retain::retain_in_turn;
+pub use retain::{Retained, retain_in_turn};
 pub use traits::cursor::{Cursor, CursorState};
 pub use traits::ordered::Ordered;
 pub use traits::runs::Runs;

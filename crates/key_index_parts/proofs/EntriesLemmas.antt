@@ -1,6 +1,7 @@
 -- On the entries of one part in the content of them all.
+--     counts                   there are as many values as the part holds, of parts that are numbered from n
 --     item_count-entries_of    there are as many values as the part holds
-use Rattle.std.proofs.Common.{◌≡◌, ℕ, zero, suc, ◌+◌, ◌<◌, cond, List, [], ◌∷◌, ◌++◌, get_or, length, true, false, add-zero, zero-add, refl, sym, ap, subst, ◌∙◌, arith}
+use Rattle.std.proofs.Common.{◌≡◌, ℕ, zero, suc, ◌+◌, ◌<◌, cond, List, [], ◌∷◌, ◌++◌, get_or, length, add-zero, zero-add, refl, sym, ap, ◌∙◌, arith}
 use Rattle.std.proofs.lemmas.Bool.{eq-eqb, ne_eqb}
 use Rattle.key_index_flat.specs.Content.{Content, item_count}
 use Rattle.key_index_parts.specs.Family.{part_at}
@@ -24,7 +25,7 @@ module _ {K V : Type 0} where
   none_later q n [] h = refl
   none_later q n (c ∷ cs) h = none_other q n c (gathered_from (suc q) cs) (λ e. omega (arith, e, h)) ∙ none_later (suc q) n cs (omega (arith, h))
 
-  counts : (n : ℕ) (cs : List (Content K V)) (p : ℕ) → item_count (entries_of (gathered_from n cs) (n + p)) ≡ item_count (get_or cs p [])
+  pub counts : (n : ℕ) (cs : List (Content K V)) (p : ℕ) → item_count (entries_of (gathered_from n cs) (n + p)) ≡ item_count (get_or cs p [])
   counts n [] p = refl
   counts n (c ∷ cs) zero =
       let own = count_own n c (gathered_from (suc n) cs) in

@@ -6,7 +6,7 @@
 --     part_edited, part_stays    the family after one list of a part was edited, and after none was
 --     none_family, none_filled   parts that hold nothing
 --     flags_edited, flags_stay   which parts are filled after such a call
-use Rattle.std.proofs.Common.{◌≡◌, ℕ, zero, suc, ◌<◌, ◌≤◌, Bool, true, false, not, T, List, [], ◌∷◌, ◌++◌, map, insert, take, drop, replicate, All, get_or, set, length, refl, sym, ap, subst, ◌∙◌, arith, lt_of_not-le, slice_index_or}
+use Rattle.std.proofs.Common.{◌≡◌, ℕ, zero, suc, ◌<◌, Bool, true, false, not, List, [], ◌∷◌, ◌++◌, map, insert, take, drop, replicate, All, set, length, refl, sym, ap, ◌∙◌, arith, lt_of_not-le, slice_index_or}
 use Rattle.std.proofs.lemmas.List.{get_or-map, map-set, get_or_past, length-map}
 use Rattle.std.proofs.lemmas.List.Elements.{All-head, All-tail}
 use Rattle.std.proofs.Math.Seq.{map-set_same}

@@ -4,9 +4,9 @@
 --     last_of, last_none           the last list of the parts below a number, by the last of them that is filled, and where none is
 --     next_own, next_later, ..     the next list of a slot: in its own part, in a later one, and past the end
 --     prev_own, prev_earlier, ..   the same before it
-use Rattle.std.proofs.Common.{◌≡◌, ℕ, zero, suc, ◌+◌, ◌-◌, ◌<◌, ◌≤◌, nat_lt, Bool, true, false, T, List, [], ◌∷◌, ◌++◌, get_or, take, drop, length, Option, Some, None, append-nil, zero-add, refl, sym, ap, subst, ◌∙◌, arith}
+use Rattle.std.proofs.Common.{◌≡◌, ℕ, zero, suc, ◌+◌, ◌-◌, ◌<◌, ◌≤◌, nat_lt, true, false, T, List, [], ◌∷◌, ◌++◌, get_or, take, drop, length, Option, Some, None, append-nil, refl, sym, ap, subst, ◌∙◌, arith}
 use Rattle.std.proofs.lemmas.Bool.{ltb-true, ltb-false}
-use Rattle.std.proofs.lemmas.List.{get_or-drop, get_or-take, get_or_past, length-take-le}
+use Rattle.std.proofs.lemmas.List.{get_or-drop, get_or-take, get_or_past}
 use Rattle.std.specs.List.{last_or}
 use Rattle.std.specs.Option.{option_map}
 use Rattle.std.specs.declared.cmp.Ordering.{Ordering}
@@ -33,7 +33,7 @@ module _ {K V : Type 0} where
   flag_within (c ∷ cs) zero h = omega arith
   flag_within (c ∷ cs) (suc n) h = let l = flag_within cs n h in omega (arith, l)
 
-  unfilled : (c : Content K V) → is_filled c ≡ false → c ≡ []
+  pub unfilled : (c : Content K V) → is_filled c ≡ false → c ≡ []
   unfilled [] h = refl
   unfilled (e ∷ es) h = absurd (subst T h tt)
 

@@ -130,6 +130,10 @@ module _ (words : List ℕ) (place word : ℕ) (inside : place / 64 < length wor
       in_word (slice_set words (place / 64) word) place (place / 64) refl
       ∙ ap (λ w. word_has w (place % 64)) (get_or-set_same words (place / 64) word 0 inside) ∙ here
 
+  -- a word that stands there already
+  pub set_already : (fills : Bool) → word ≡ slice_index words (place / 64) → word_has word (place % 64) ≡ fills → words_have words place ≡ fills
+  set_already fills same here = in_word words place (place / 64) refl ∙ ap (λ w. word_has w (place % 64)) (sym same) ∙ here
+
   pub set_elsewhere : ((p : ℕ) → p ≢ place % 64 → word_has word p ≡ word_has (slice_index words (place / 64)) p)
       → (p : ℕ) → p ≢ place → words_have (slice_set words (place / 64) word) p ≡ words_have words p
   set_elsewhere kept p apart =

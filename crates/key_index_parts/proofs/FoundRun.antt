@@ -7,7 +7,7 @@
 --     may_append                   behind the last of the run
 --     run_after, sorted_after      where the run stands after one of its pairs is taken out
 --     appended, run_appended, ..   the content, the list, and where the run stands after a pair was put behind it
-use Rattle.std.proofs.Common.{◌≡◌, ℕ, suc, ◌+◌, ◌-◌, ◌<◌, ◌≤◌, cond, true, false, not, nat_eq, List, [], ◌∷◌, ◌++◌, length, insert, remove, slice_set, slice_get, Some, length-append, refl, sym, ap, subst, ◌∙◌, arith}
+use Rattle.std.proofs.Common.{◌≡◌, ℕ, suc, ◌+◌, ◌-◌, ◌<◌, ◌≤◌, cond, false, not, nat_eq, List, [], ◌∷◌, ◌++◌, length, insert, remove, slice_set, slice_get, Some, length-append, refl, sym, ap, subst, ◌∙◌, arith}
 use Rattle.std.proofs.lemmas.Bool.{eq-eqb, ne_eqb}
 use Rattle.std.proofs.lemmas.List.Edits.{length-remove, insert_end}
 use Rattle.std.proofs.lemmas.Option.{slice_get-map}
@@ -24,7 +24,6 @@ use Rattle.key_index_flat.specs.View.{put_value}
 use Rattle.key_index_flat.specs.Neighbours.{entries_below}
 use Rattle.key_index_flat.proofs.ContentLemmas.{list_at-with_list}
 use Rattle.key_index_parts.specs.Pairs.{run_of, grouped, with_value, IsRun}
-use Rattle.key_index_parts.specs.PairLaws.{IsLawful-grouped}
 use Rattle.key_index_parts.proofs.SearchLemmas.{Rises, rises, IsSorted-remove_range}
 use Rattle.key_index_parts.proofs.PairLemmas.{place_among, filter-insert, filter-remove}
 use Rattle.key_index_parts.proofs.RunLemmas.{run_within}

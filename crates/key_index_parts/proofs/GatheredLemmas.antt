@@ -19,7 +19,8 @@ use Rattle.key_index_flat.specs.Content.{Content, IsLawful, list_at, with_list, 
 use Rattle.key_index_flat.specs.Laws.{first, second, IsLawful-with_list}
 use Rattle.key_index_flat.proofs.ContentLemmas.{less, same_content, list_at-with_list}
 use Rattle.key_index_parts.specs.Gathered.{pair_cmp, tagged, gathered_from, gathered}
-use Rattle.key_index_parts.specs.GatheredLaws.{nat_self, nat_above, pair_total, below_later, IsLawful-gathered}
+use Rattle.key_index_flat.specs.NumberOrder.{nat_self, nat_above}
+use Rattle.key_index_parts.specs.GatheredLaws.{pair_total, below_later, IsLawful-gathered}
 
 module _ {K V : Type 0} (cmp : K → K → Ordering) where
   none_below : (q : ℕ × K) (es : Content (ℕ × K) V) → T (below_all (pair_cmp cmp) q es) → find (pair_cmp cmp) q es ≡ None
@@ -82,14 +83,14 @@ module _ {K V : Type 0} where
   key_count-before p [] d = omega arith
   key_count-before p (e ∷ es) d = let rest = key_count-before p es d in omega (arith, rest)
 
-  item_count-gathered_from : (p : ℕ) (cs : List (Content K V)) → item_count (gathered_from p cs) ≡ sum_by item_count cs
+  pub item_count-gathered_from : (p : ℕ) (cs : List (Content K V)) → item_count (gathered_from p cs) ≡ sum_by item_count cs
   item_count-gathered_from p [] = refl
   item_count-gathered_from p (c ∷ cs) =
       let one = item_count-before p c (gathered_from (suc p) cs) in
       let rest = item_count-gathered_from (suc p) cs in
       let sum = sum_by-cons item_count c cs in omega (arith, one, rest, sum)
 
-  key_count-gathered_from : (p : ℕ) (cs : List (Content K V)) → key_count (gathered_from p cs) ≡ sum_by key_count cs
+  pub key_count-gathered_from : (p : ℕ) (cs : List (Content K V)) → key_count (gathered_from p cs) ≡ sum_by key_count cs
   key_count-gathered_from p [] = refl
   key_count-gathered_from p (c ∷ cs) =
       let one = key_count-before p c (gathered_from (suc p) cs) in

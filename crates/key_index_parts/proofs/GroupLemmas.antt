@@ -3,7 +3,7 @@
 --     none_grouped                   it is empty exactly where there is no pair
 --     filter-grouped                 the entries that pass a test of keys are those of the pairs that do
 --     entries_above-grouped, ..      so are those above a key, and below
-use Rattle.std.proofs.Common.{◌≡◌, ℕ, ◌≤◌, Bool, true, false, not, nat_eq, cond, T, List, [], ◌∷◌, length, refl, sym, ap, subst, ◌∙◌, arith}
+use Rattle.std.proofs.Common.{◌≡◌, ◌≤◌, Bool, true, false, not, nat_eq, cond, T, List, [], ◌∷◌, length, refl, sym, ap, subst, ◌∙◌, arith}
 use Rattle.std.proofs.lemmas.Bool.{eq-eqb, ne_eqb}
 use Rattle.std.proofs.lemmas.List.Elements.{filter_agree}
 use Rattle.std.specs.List.{filter}
@@ -14,8 +14,8 @@ use Rattle.std.specs.FinMap.Entries.{below_all, by_order}
 use Rattle.std.specs.declared.cmp.Ordering.{Ordering}
 use Rattle.std.specs.declared.cmp.Ordering.TheVariants.{Less, Equal, Greater}
 use Rattle.std.specs.Ordering.{is_lt, is_eq, eq_by_cmp}
-use Rattle.key_index_flat.specs.Content.{Content, IsLawful, is_filled, all_filled, list_at, item_count}
-use Rattle.key_index_flat.specs.Laws.{IsLawful-with_list, both, first, second}
+use Rattle.key_index_flat.specs.Content.{Content, is_filled, all_filled, list_at, item_count}
+use Rattle.key_index_flat.specs.Laws.{both, first, second}
 use Rattle.key_index_flat.specs.Neighbours.{entries_above, entries_below}
 use Rattle.key_index_flat.proofs.ContentLemmas.{list_at-with_list, item_count-with_list, tied, less}
 use Rattle.key_index_parts.specs.Pairs.{run_of, grouped}

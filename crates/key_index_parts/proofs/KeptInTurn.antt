@@ -2,7 +2,7 @@
 --     KeptInTurn            what it said of the values before stands in `front`, `back` is still to be asked on, and `stays` is its last answer
 --     turn_first, ..        at the start, after a value that stays, after one that goes, of the same lists, and at the end
 --     filtered              without the last answer
-use Rattle.std.proofs.Common.{◌≡◌, ℕ, suc, Bool, true, false, List, [], ◌∷◌, ◌++◌, length, append-nil, append_assoc, refl, sym, ap, subst, ◌∙◌}
+use Rattle.std.proofs.Common.{◌≡◌, suc, Bool, true, false, List, [], ◌∷◌, ◌++◌, length, append-nil, append_assoc, refl, sym, ap, subst, ◌∙◌}
 use Rattle.std.specs.List.{items_where_true}
 use Rattle.std.specs.List.Retain.{IsFiltered, ReturnsInTurn}
 use Rattle.key_index_flat.specs.Retention.{last_answer, AsksInTurn}

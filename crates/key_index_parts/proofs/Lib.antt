@@ -19,3 +19,13 @@ pub mod StorageLemmas
 pub mod FamilyLemmas
 pub mod FamilyNeighbours
 pub mod EntriesLemmas
+pub mod BoxedLemmas
+pub mod JoinedLemmas
+pub mod OpLemmas
+pub mod DoneLemmas
+pub mod FillLemmas
+pub mod RangeLemmas
+pub mod ShiftedLemmas
+pub mod VisitLemmas
+pub mod InstallLemmas
+pub mod AcceptedLemmas

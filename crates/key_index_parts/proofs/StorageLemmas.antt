@@ -4,12 +4,14 @@
 --     at_most_three                      how many partitions there can be
 --     none_held, none_counted            parts that hold nothing, together and with their counts
 --     lawful, list_is                    the whole is lawful, and the list at a slot is that of its part
---     reach, held_inside                 a slot of a partition is of some part, and so is one that has values
+--     within, reach                      a slot of some part, and one of a partition where there is a part for each
+--     resized                            an edit leaves as many parts
+--     held_inside                        a slot that has values is of some part
 --     items_within, entries_within       no list is longer than all of them, nor takes more entries than there are
 --     edited, edited_by, edited_lawful   an edit of a slot's list is one of the whole, which stays lawful
 --     keys_fit, counted_edit             it is counted by so many more or fewer, and there are no more keys than values
 --     view_edited, view_pruned           and the index as it is seen
-use Rattle.std.proofs.Common.{◌≡◌, ℕ, zero, suc, ◌+◌, ◌<◌, ◌≤◌, T, Bool, true, false, not, nat_eq, nat_lt, List, [], ◌∷◌, replicate, length, All, length-append, refl, sym, ap, subst, ◌∙◌, arith, lt_of_not-le}
+use Rattle.std.proofs.Common.{◌≡◌, ℕ, zero, suc, ◌+◌, ◌<◌, ◌≤◌, Bool, true, false, not, nat_eq, nat_lt, List, [], ◌∷◌, replicate, length, All, length-append, refl, sym, ap, subst, ◌∙◌, arith, lt_of_not-le}
 use Rattle.std.proofs.lemmas.Bool.{eqb-true, lt-ltb}
 use Rattle.std.proofs.lemmas.List.{length-set, length-replicate}
 use Rattle.std.proofs.lemmas.List.Elements.{All-get_or, All-set, All-nil, All-cons}
@@ -20,7 +22,7 @@ use Rattle.key_index_flat.specs.Content.{Content, is_filled, IsLawful, list_at, 
 use Rattle.key_index_flat.specs.Laws.{IsLawful-with_list}
 use Rattle.key_index_flat.specs.View.{put_value, with_edit, with_pruned, pruned_after}
 use Rattle.key_index_flat.proofs.ContentLemmas.{item_count-with_list, key_count-with_list, entries_for}
-use Rattle.key_index_parts.specs.Family.{IsCounted, view_of, part_at, list_in, with_list_in}
+use Rattle.key_index_parts.specs.Family.{Kept, IsCounted, view_of, part_at, list_in, with_list_in}
 use Rattle.key_index_parts.specs.Gathered.{pair_cmp, gathered_from, gathered}
 use Rattle.key_index_parts.specs.GatheredLaws.{pair_total, IsLawful-gathered}
 use Rattle.key_index_parts.specs.Prefix.{partition_count}
@@ -87,17 +89,30 @@ module _ {K V : Type 0} where
   none_lawful cmp zero = All-nil (IsLawful cmp)
   none_lawful cmp (suc n) = All-cons (IsLawful cmp) [] (replicate n []) (tt, tt) (none_lawful cmp n)
 
-  pub none_counted : (cmp : K → K → Ordering) (p : ℕ) (parts : List (Content K V)) (n : ℕ) → 1 ≤ p → p ≤ 3 → parts ≡ replicate n [] → n ≡ partition_count p → IsCounted cmp p parts 0 0
-  none_counted cmp p parts n least greatest e is =
+  pub none_counted : (cmp : K → K → Ordering) (p : ℕ) (parts : List (Content K V)) (n : ℕ) → 1 ≤ p → p ≤ 3 → parts ≡ replicate n [] → n ≤ partition_count p → IsCounted cmp p parts 0 0
+  none_counted cmp p parts n least greatest e most =
       let none = none_held parts n e in
+      let size = ap (λ cs. length cs) e in
+      let same = length-replicate {A = Content K V} n [] in
       record {
         least = least;
         greatest = greatest;
-        sized = ap (λ cs. length cs) e ∙ length-replicate n [] ∙ is;
+        sized = omega (arith, size, same, most);
         each = subst (λ cs. All (IsLawful cmp) cs) (sym e) (none_lawful cmp n);
         counted = ap (λ c. item_count c) (sym none);
         keyed = ap (λ c. key_count c) (sym none);
       }
+
+module _ {T K V : Type 0} {s t : Kept T K V} (is : s ≡ t) where
+  pub within : (n : ℕ) → n < length t.parts → n < length s.parts
+  within n inside = let same = ap (λ k. length k.parts) is in omega (arith, same, inside)
+
+  pub reach : (p : ℕ) → length t.parts ≡ partition_count p → (n : ℕ) → n < partition_count p → n < length s.parts
+  reach p whole n below = within n (omega (arith, whole, below))
+
+pub resized : {K V : Type 0} (cmp : K → K → Ordering) (parts : List (Content K V)) (slot : ℕ × K) (l : List V) (new : List (Content K V))
+    → new ≡ with_list_in cmp parts slot l → length new ≡ length parts
+resized cmp parts slot l new is = ap (λ cs. length cs) is ∙ length-set parts slot.0 (with_list cmp (part_at parts slot.0) slot.1 l)
 
 module _ {K V : Type 0} {cmp : K → K → Ordering} {p : ℕ} {parts : List (Content K V)} {items keys : ℕ} (h : IsCounted cmp p parts items keys) where
   pub lawful : IsLawful (pair_cmp cmp) (gathered parts)
@@ -105,9 +120,6 @@ module _ {K V : Type 0} {cmp : K → K → Ordering} {p : ℕ} {parts : List (Co
 
   pub list_is : (slot : ℕ × K) → list_at (pair_cmp cmp) (gathered parts) slot ≡ list_in cmp parts slot
   list_is slot = list_at-gathered cmp parts slot.0 slot.1
-
-  pub reach : (n : ℕ) → n < partition_count p → n < length parts
-  reach n below = let sized = h.sized in omega (arith, sized, below)
 
   pub held_inside : (slot : ℕ × K) (n : ℕ) → n < length (list_at (pair_cmp cmp) (gathered parts) slot) → slot.0 < length parts
   held_inside slot n held = lt_of_not-le (λ past.

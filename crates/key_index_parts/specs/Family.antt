@@ -6,18 +6,27 @@
 --     Kept, IsCounted             what the storage of an index keeps, and its counts
 --     RetainsWith                 what an insertion with retention makes of a list
 --     view_of                     the view of it, by what its translator makes of a key
-use Rattle.std.specs.Prelude.{◌≡◌, ℕ, ◌+◌, ◌≤◌, Bool, nat_lt, List, [], ◌∷◌, ◌++◌, length, map, All, slice_index_or, slice_set}
+--     range_view                  the same of a range's storage, whose parts are numbered from `first`
+--     with_parts_from, AreFree    with other parts in the place of those from a number on; so many from there hold nothing
+use Rattle.std.specs.Prelude.{◌≡◌, ℕ, ◌+◌, ◌<◌, ◌≤◌, Bool, nat_lt, List, [], ◌∷◌, ◌++◌, length, map, take, drop, All, slice_index_or, slice_set}
 use Rattle.std.specs.List.{items_where_true}
 use Rattle.std.specs.List.Retain.{ReturnsInTurn}
 use Rattle.std.specs.declared.cmp.Ordering.{Ordering}
 use Rattle.key_index_flat.specs.Content.{Content, is_filled, IsLawful, list_at, with_list, item_count, key_count}
 use Rattle.key_index_flat.specs.View.{View}
-use Rattle.key_index_parts.specs.Gathered.{gathered}
+use Rattle.key_index_parts.specs.Gathered.{gathered, gathered_from}
+use Rattle.key_index_parts.specs.Joined.{is_between}
 use Rattle.key_index_parts.specs.Prefix.{partition_count, slot_by}
 
 module _ {K V : Type 0} where
   abbrev pub part_at : List (Content K V) → ℕ → Content K V
   part_at parts n = slice_index_or parts n []
+
+  abbrev pub with_parts_from : List (Content K V) → ℕ → List (Content K V) → List (Content K V)
+  with_parts_from parts n others = take n parts ++ (others ++ drop (n + length others) parts)
+
+  abbrev pub AreFree : List (Content K V) → ℕ → ℕ → Type 0
+  AreFree parts first count = (n : ℕ) → first ≤ n → n < first + count → part_at parts n ≡ []
 
   abbrev pub filled_parts : List (Content K V) → List Bool
   filled_parts parts = map is_filled parts
@@ -38,11 +47,11 @@ pub record Kept (T K V : Type 0) : Type 0 where
   pub parts : List (Content K V)
   pub pruned : ℕ
 
--- as many parts as there are partitions of p bytes, each a map of lists that are not empty, and so many values and keys in all of them
+-- no more parts than partitions of p bytes, each a map of lists that are not empty, and so many values and keys in all of them
 pub record IsCounted {K V : Type 0} (cmp : K → K → Ordering) (p : ℕ) (parts : List (Content K V)) (items keys : ℕ) : Type 0 where
   pub least : 1 ≤ p
   pub greatest : p ≤ 3
-  pub sized : length parts ≡ partition_count p
+  pub sized : length parts ≤ partition_count p
   pub each : All (IsLawful cmp) parts
   pub counted : items ≡ item_count (gathered parts)
   pub keyed : keys ≡ key_count (gathered parts)
@@ -53,6 +62,12 @@ view_of p translated s = record {
   pruned = s.pruned;
   slot = slot_by p (translated s.translator);
   admitted = λ slot. nat_lt slot.0 (partition_count p);
+}
+
+abbrev pub range_view : {T K V : Type 0} → ℕ → (T → List ℕ → K) → ℕ → Kept T K V → View (ℕ × K) V
+range_view p translated first s = record (view_of p translated s) {
+  content = gathered_from first s.parts;
+  admitted = λ slot. is_between first (first + length s.parts) slot.0;
 }
 
 -- f was asked on each of `held` and on v last, the list is now what it said true of, and the counts tell how many values it had, how

@@ -3,14 +3,12 @@
 --     tagged        the entries of the part of number p, at such pairs
 --     gathered      the content of the whole: the entries of each part in turn
 --     entries_of    the entries of one part
---     IsGathered    f is what a part holds, and s the index keys of a part: there are so many parts, `items` and `keys` count the
---                   values and the keys of all, and each part has the index keys `slot`
-use Rattle.std.specs.Prelude.{◌≡◌, ℕ, suc, List, [], ◌∷◌, ◌++◌, length, map, All}
+use Rattle.std.specs.Prelude.{ℕ, suc, List, [], ◌∷◌, ◌++◌}
 use Rattle.std.specs.Bool.{◌==◌}
 use Rattle.std.specs.List.{filter}
 use Rattle.std.specs.declared.cmp.Ordering.{Ordering}
 use Rattle.std.specs.Ordering.{nat_cmp, ordering_then}
-use Rattle.key_index_flat.specs.Content.{Content, key_count, item_count}
+use Rattle.key_index_flat.specs.Content.{Content}
 
 abbrev pub pair_cmp : {K : Type 0} → (K → K → Ordering) → ℕ × K → ℕ × K → Ordering
 pair_cmp cmp x y = ordering_then (nat_cmp x.0 y.0) (cmp x.1 y.1)
@@ -29,10 +27,3 @@ module _ {K V : Type 0} where
 
   abbrev pub entries_of : Content (ℕ × K) V → ℕ → Content (ℕ × K) V
   entries_of c n = filter (λ e. e.0.0 == n) c
-
-  pub record IsGathered {X : Type 0} (f : X → Content K V) (s : X → List ℕ → K) (slot : List ℕ → K) (parts : List X)
-      (count items keys : ℕ) : Type 0 where
-    pub sized : length parts ≡ count
-    pub counted : items ≡ item_count (gathered (map f parts))
-    pub keyed : keys ≡ key_count (gathered (map f parts))
-    pub served : ∥ All (λ part. s part ≡ slot) parts ∥₁

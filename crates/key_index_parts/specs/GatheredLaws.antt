@@ -1,26 +1,16 @@
 -- The laws that an index over parts gives.
 --     pair_total                 the order of pairs is total
---     IsLawful-gathered            the whole is lawful where each part is
---     IsLawful-gathered_map        the same for what each of a list of parts holds
-use Rattle.std.proofs.Common.{◌≡◌, ℕ, suc, ◌<◌, T, List, [], ◌∷◌, ◌++◌, map, All, refl, sym, subst, arith}
-use Rattle.std.proofs.lemmas.List.Elements.{All-head, All-tail, All-nil, All-cons}
+--     IsLawful-gathered          the whole is lawful where each part is
+use Rattle.std.proofs.Common.{◌≡◌, ℕ, suc, ◌<◌, T, List, [], ◌∷◌, ◌++◌, All, refl, sym, subst, arith}
+use Rattle.std.proofs.lemmas.List.Elements.{All-head, All-tail}
 use Rattle.std.specs.declared.cmp.Ordering.{Ordering}
-use Rattle.std.specs.declared.cmp.Ordering.TheVariants.{Less, Equal, Greater}
 use Rattle.std.specs.Ordering.{nat_cmp, ordering_then, is_lt}
-use Rattle.std.specs.Cmp.{IsTotalOrder, nat_cmp_is, nat_cmp_total, then_total, on_total}
+use Rattle.std.specs.Cmp.{IsTotalOrder, nat_cmp_total, then_total, on_total}
 use Rattle.std.specs.FinMap.Entries.{below_all, is_sorted}
 use Rattle.key_index_flat.specs.Content.{Content, is_filled, all_filled, IsLawful}
 use Rattle.key_index_flat.specs.Laws.{both, first, second}
+use Rattle.key_index_flat.specs.NumberOrder.{nat_self, nat_below}
 use Rattle.key_index_parts.specs.Gathered.{pair_cmp, tagged, gathered_from, gathered}
-
-pub nat_self : (p : ℕ) → nat_cmp p p ≡ Equal
-nat_self p = sym (nat_cmp_is p p Equal refl)
-
-pub nat_below : (p q : ℕ) → p < q → nat_cmp p q ≡ Less
-nat_below p q h = sym (nat_cmp_is p q Less h)
-
-pub nat_above : (p q : ℕ) → q < p → nat_cmp p q ≡ Greater
-nat_above p q h = sym (nat_cmp_is p q Greater h)
 
 pub pair_total : {K : Type 0} {cmp : K → K → Ordering} → IsTotalOrder cmp → IsTotalOrder (pair_cmp cmp)
 pair_total o = then_total (on_total (λ t. t.0) nat_cmp_total) (on_total (λ t. t.1) o)
@@ -63,11 +53,3 @@ module _ {K V : Type 0} (cmp : K → K → Ordering) where
 
   pub IsLawful-gathered : (cs : List (Content K V)) → All (IsLawful cmp) cs → IsLawful (pair_cmp cmp) (gathered cs)
   IsLawful-gathered cs h = IsLawful-gathered_from 0 cs h
-
-  module _ {X : Type 0} (f : X → Content K V) (each : (x : X) → IsLawful cmp (f x)) where
-    pub all_lawful : (xs : List X) → All (IsLawful cmp) (map f xs)
-    all_lawful [] = All-nil (IsLawful cmp)
-    all_lawful (x ∷ xs) = All-cons (IsLawful cmp) (f x) (map f xs) (each x) (all_lawful xs)
-
-    pub IsLawful-gathered_map : (xs : List X) → IsLawful (pair_cmp cmp) (gathered (map f xs))
-    IsLawful-gathered_map xs = IsLawful-gathered (map f xs) (all_lawful xs)

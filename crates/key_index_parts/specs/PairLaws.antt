@@ -1,5 +1,5 @@
 -- The law of contents holds of what pairs stand for, whatever they are: IsLawful-grouped.
-use Rattle.std.specs.Prelude.{T, List, [], ◌∷◌}
+use Rattle.std.specs.Prelude.{List, [], ◌∷◌}
 use Rattle.std.specs.Cmp.{IsTotalOrder}
 use Rattle.std.specs.declared.cmp.Ordering.{Ordering}
 use Rattle.key_index_flat.specs.Content.{IsLawful, list_at}

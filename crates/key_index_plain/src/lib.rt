@@ -11,10 +11,12 @@ mod entries;
 
 use entries::Entry;
 use key_index_flat::index::{
-    Factory, Fault, IndexCursor, Ordered, Refused, Runs, Search, Unordered, Values,
+    Factory, Fault, IndexCursor, Lists, Ordered, Refused, Runs, Search, Unordered, Values,
+    show_by_place,
 };
 use key_index_flat::translator::{OrderedTranslator, Translator};
 use std::alloc::Global;
+use std::convert::AsSlice;
 
 /// An index over a list of entries, sorted by translated key. Each entry has a translated key and its values, the newest first.
 ///
@@ -97,6 +99,12 @@ impl<T: Translator, V: Drop> Runs for Index<T, V> {
     }
 }
 
+impl<T: Translator, V: Drop> Lists for Index<T, V> {
+    fn list_at(&self, slot: T::Key) -> Values<'_, V> {
+        Values::of_slice(self.values_of(slot))
+    }
+}
+
 impl<T: Translator, V: Drop> Search for Index<T, V> {
     ghost settled = { λ _ _ _. Unit {0} };
 
@@ -155,6 +163,18 @@ impl<T: Translator, V: Drop> Unordered for Index<T, V> {
 
     fn get(&self, key: &[u8]) -> Values<'_, V> {
         Values::of_slice(self.values_of(self.translator.transform(key)))
+    }
+
+    fn get_many<B: Iterator + Drop, F: FnMut(usize, &V)>(
+        &self,
+        keys: B,
+        visit: F,
+    ) -> Result<(), Fault>
+    where
+        B::Item: AsSlice<u8> + Drop,
+    {
+        show_by_place(self, keys, visit);
+        Ok(())
     }
 
     fn insert(&mut self, key: &[u8], value: V) -> Result<(), Refused<V>> {

@@ -17,7 +17,8 @@ use Rattle.std.specs.Option.{MatchOption}
 use Rattle.std.specs.Str.{bytes_eq}
 use Rattle.std.specs.FinMap.{find, is_sorted}
 use Rattle.key_index_flat.specs.Content.{Content, list_at}
-use Rattle.key_index_flat.specs.FullKeys.{IsBytes, byte_cmp, IsLeast, values_of, cmp_keys, above, below, IsFiled}
+use Rattle.key_index_flat.specs.FullKeys.{IsBytes, byte_cmp, IsLeast, cmp_keys, above, below, IsFiled}
+use Rattle.key_index_flat.specs.Values.{values_of}
 use Rattle.key_index_flat.specs.Laws.{first, second}
 use Rattle.key_index_flat.proofs.ContentLemmas.{absent}
 use Rattle.key_index_flat.proofs.FullKeyLemmas.{filed_first, filed_rest}

@@ -2,3 +2,4 @@ pub mod CallerLemmas
 pub mod CommandLemmas
 pub mod ExclusionLemmas
 pub mod FiledLemmas
+pub mod SnapshotLemmas

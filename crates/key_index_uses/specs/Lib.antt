@@ -1,1 +1,2 @@
 pub mod Exclusion
+pub mod Snapshot

@@ -3,7 +3,8 @@ ghost use Rattle.std.specs.Prelude.{◌≡◌, ◌+◌, ◌-◌, ◌<◌, ◌↔
 ghost use Rattle.std.specs.Ordering.{nat_cmp};
 ghost use Rattle.std.specs.Option.{MatchOption, option_copied};
 ghost use Rattle.key_index_flat.specs.View.{items_in, run_of, with_edit, with_pruned, with_run, after_insert, after_remove, IsHeld};
-ghost use Rattle.key_index_flat.specs.FullKeys.{IsFiledIn, values_of};
+ghost use Rattle.key_index_flat.specs.FullKeys.{IsFiledIn};
+ghost use Rattle.key_index_flat.specs.Values.{values_of};
 ghost use Rattle.key_index_flat.specs.Padding.{padded};
 ghost use Rattle.key_index_parts.specs.Gathered.{pair_cmp};
 ghost use Rattle.key_index_uses.specs.Exclusion.{has_key, Excludes};

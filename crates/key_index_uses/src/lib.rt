@@ -3,5 +3,7 @@
 #![tactic(auto)]
 
 pub mod callers;
+pub mod segments;
+pub mod snapshots;
 #[cfg(test)]
 mod tests;

@@ -1,5 +1,6 @@
 //! An index that is called some thousand times answers as lists kept beside it do, and each call answers once as it should.
 mod asks;
+mod batches;
 mod callers;
 mod calls;
 mod checks;
@@ -15,5 +16,6 @@ mod partition;
 mod partitioned_ordered;
 mod partitions;
 mod parts;
+mod segments;
 mod translators;
 mod walk;

@@ -4,10 +4,14 @@ ghost use Rattle.key_index_flat.specs.Content.{IsLawful};
 ghost use Rattle.key_index_flat.specs.Storage.{view_of};
 
 use super::storage::Storage;
-use super::{Factory, Fault, IndexCursor, Ordered, Refused, Runs, Search, Unordered, Values};
+use super::{
+    Factory, Fault, IndexCursor, Lists, Ordered, Refused, Runs, Search, Unordered, Values,
+    show_by_key, visit_by_key,
+};
 use crate::translator::{OrderedTranslator, Translator};
 use std::alloc::Global;
 use std::collections::BTreeMap;
+use std::convert::AsSlice;
 
 /// An index over an ordered map from translated key to newest value, and a hashed one from translated key to the older values of the
 /// keys that have any. An entry without collisions costs its translated key and its value alone.
@@ -18,6 +22,33 @@ use std::collections::BTreeMap;
 pub struct Index<T: Translator, V> {
     storage: Storage<T, V, BTreeMap<T::Key, V>>,
     ghost lawful: { IsLawful T.Key.cmp storage.content },
+}
+
+impl<T: Translator, V: Drop> Index<T, V> {
+    ghost use Rattle.std.specs.Prelude.{◌≡◌, IfErr, OnOk};
+    ghost use Rattle.std.specs.Iterator.{UpTo};
+    ghost use Rattle.key_index_flat.specs.Visits.{IsBatch, VisitsAt, VisitsByKey};
+
+    /// Visits the values of each key of a batch with the key's place in it, from 0, by translated key and, of one translated key, by
+    /// place. What it visits may be kept as long as the index is borrowed. Takes memory for the places first, and answers `Memory`
+    /// where that is refused, before any visit.
+    pub fn get_many<'a, B: Iterator + Drop, F: FnMut(usize, &'a V)>(
+        &'a self,
+        keys: B,
+        visit: F,
+    ) -> Result<(), Fault>
+    where
+        B::Item: AsSlice<u8> + Drop,
+        requires can { B.can_next keys }
+        requires ends { UpTo (B.remaining keys) usize.MAX }
+        requires callable { F.IsAlwaysCallable visit }
+        ensures visited { OnOk result ((last : F) × VisitsByKey (IsBatch B.next_gives B.Item.items keys)
+            (VisitsAt F.FnMut) visit T.Key.cmp (⟦<Index<T, V> as Runs>⟧.view self.now) last) }
+        ensures fault { IfErr result (λ f. f ≡ Fault.Memory) }
+    {
+        visit_by_key(self.storage.alloc(), self, keys, visit)?;
+        Ok(())
+    }
 }
 
 impl<T: Translator, V: Drop> Runs for Index<T, V> {
@@ -65,7 +96,14 @@ impl<T: Translator, V: Drop> Runs for Index<T, V> {
 
     #[inline]
     fn remove_at(&mut self, slot: T::Key, place: usize) -> V {
-        self.storage.remove_at(slot, place)
+        self.storage.remove_at(slot, place).0
+    }
+}
+
+impl<T: Translator, V: Drop> Lists for Index<T, V> {
+    #[inline]
+    fn list_at(&self, slot: T::Key) -> Values<'_, V> {
+        self.storage.list_at(slot)
     }
 }
 
@@ -91,11 +129,11 @@ impl<T: Translator, V: Drop> Search for Index<T, V> {
 
     fn search(&mut self, key: &[u8]) -> Result<IndexCursor<'_, Index<T, V>>, Option<Fault>> {
         let slot = self.slot_of(key);
-        match self.reach(key) {
-            Ok(0) => Err(None),
-            Ok(len) => Ok(IndexCursor::with_len(self, slot, len)),
-            Err(fault) => Err(Some(fault)),
+        let len = self.run_len(slot);
+        if len == 0 {
+            return Err(None);
         }
+        Ok(IndexCursor::with_len(self, slot, len))
     }
 
     fn search_or_insert(
@@ -104,9 +142,9 @@ impl<T: Translator, V: Drop> Search for Index<T, V> {
         value: V,
     ) -> Result<IndexCursor<'_, Index<T, V>>, Option<Refused<V>>> {
         let slot = self.slot_of(key);
-        match self.reach_or_insert(key, value) {
-            Ok(0) => Err(None),
-            Ok(len) => Ok(IndexCursor::with_len(self, slot, len)),
+        match self.storage.insert_absent(slot, value) {
+            Ok(None) => Err(None),
+            Ok(Some(len)) => Ok(IndexCursor::with_len(self, slot, len)),
             Err(refused) => Err(Some(refused)),
         }
     }
@@ -124,6 +162,18 @@ impl<T: Translator, V: Drop> Unordered for Index<T, V> {
     #[inline]
     fn get(&self, key: &[u8]) -> Values<'_, V> {
         self.storage.get(key)
+    }
+
+    #[inline]
+    fn get_many<B: Iterator + Drop, F: FnMut(usize, &V)>(
+        &self,
+        keys: B,
+        visit: F,
+    ) -> Result<(), Fault>
+    where
+        B::Item: AsSlice<u8> + Drop,
+    {
+        show_by_key(self.storage.alloc(), self, keys, visit)
     }
 
     #[inline]

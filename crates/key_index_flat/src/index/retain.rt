@@ -3,6 +3,15 @@ ghost use Rattle.std.specs.Prelude.{◌≤◌, length};
 ghost use Rattle.std.specs.Fn.{CalledAt};
 ghost use Rattle.key_index_flat.specs.Retention.{AsksInTurn};
 
+/// What an insertion with retention found and left under an index key: how many values it had, how many it has now, and how many of
+/// those that it had are gone.
+#[derive(Debug, Clone, Copy, PartialEq, Eq)]
+pub struct Retained {
+    pub had: usize,
+    pub left: usize,
+    pub taken: usize,
+}
+
 /// Asks once on each value, in order, and takes out those that are answered false, as `Vec::retain` does. Tells the last answer, and
 /// `before` where there is no value.
 pub fn retain_in_turn<V: Drop, F: FnMut(&V) -> bool>(

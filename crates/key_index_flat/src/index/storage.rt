@@ -1,21 +1,23 @@
 //! What a flat index keeps, over any map of newest values.
-ghost use Rattle.std.specs.Prelude.{◌≡◌, ◌<◌, ◌≤◌, [], ◌∷◌, length, true, slice_get, slice_set, insert, remove, Some, MatchOption, IfOk, IfErr, OnOk, OnErr};
+ghost use Rattle.std.specs.Prelude.{◌≡◌, ◌+◌, ◌<◌, ◌≤◌, [], ◌∷◌, length, true, slice_get, slice_set, insert, remove, Some, MatchOption, IfOk, IfErr, OnOk, OnErr};
 ghost use Rattle.std.specs.Fn.{CalledAt};
 ghost use Rattle.key_index_flat.specs.Content.{item_count, key_count, list_at, IsLawful};
 ghost use Rattle.key_index_flat.specs.Fault.{growth_fault};
 ghost use Rattle.key_index_flat.specs.Neighbours.{first_list, last_list, next_list, prev_list};
 ghost use Rattle.key_index_flat.specs.Storage.{Kept, IsCounted, view_of};
-ghost use Rattle.key_index_flat.specs.View.{with_run, with_edit, with_pruned, after_insert, after_remove, InsertsAndRetains, RetainsAt};
+ghost use Rattle.key_index_flat.specs.View.{run_at, with_run, with_edit, with_pruned, with_slot, after_insert, after_remove, InsertsAndRetains, Retains, RetainsAt};
+ghost use Rattle.key_index_flat.specs.Values.{values_of, VisitsEach};
 
 mod chains;
 mod heads;
 mod older;
 
-use super::{Fault, Refused, Values};
+use super::{Fault, Refused, Retained, Values};
 use crate::translator::Translator;
 use chains::Chains;
 use heads::{Heads, OrderedHeads};
 use std::alloc::Global;
+use std::collections::HashMap;
 use std::marker::Model;
 
 /// A flat index over any map of newest values: a translator, the chains, and the counts. Contracts see all of it but the count of
@@ -76,10 +78,23 @@ impl<T: Translator, V: Drop, M: Heads<T::Key, V>> Storage<T, V, M> {
     }
 
     #[inline]
+    pub(crate) fn list_at(&self, slot: T::Key) -> Values<'_, V>
+        ensures { result ≡ list_at T.Key.cmp self.now.content slot }
+    {
+        self.chains.get(slot)
+    }
+
+    #[inline]
     pub(crate) fn get(&self, key: &[u8]) -> Values<'_, V>
         ensures { result ≡ list_at T.Key.cmp self.now.content (T.translated self.now.translator key.now) }
     {
-        self.chains.get(self.translator.transform(key))
+        self.list_at(self.slot_of(key))
+    }
+
+    /// Where the lists take their memory.
+    #[inline]
+    pub(crate) fn alloc(&self) -> Global {
+        self.chains.alloc()
     }
 
     /// Puts a value in front of the list of its index key.
@@ -183,43 +198,68 @@ impl<T: Translator, V: Drop, M: Heads<T::Key, V>> Storage<T, V, M> {
         }
     }
 
-    pub(crate) fn remove_at(&mut self, slot: T::Key, place: usize) -> V
+    /// Takes the value at a place out, and tells how many values the index key has left.
+    pub(crate) fn remove_at(&mut self, slot: T::Key, place: usize) -> (V, usize)
         requires place { place < length (list_at T.Key.cmp self.old.content slot) }
-        ensures value { slice_get (list_at T.Key.cmp self.old.content slot) place ≡ Some result }
+        ensures value { slice_get (list_at T.Key.cmp self.old.content slot) place ≡ Some result.0 }
         ensures edited { view_of T.translated self.new
             ≡ with_pruned (with_edit T.Key.cmp (view_of T.translated self.old) slot (λ l. remove l place)) 1 }
+        ensures left { result.1 + 1 ≡ length (list_at T.Key.cmp self.old.content slot) }
         ensures lawful { IsLawful T.Key.cmp self.new.content }
     {
-        let value = self.chains.remove_at(slot, place);
+        let (value, left) = self.chains.remove_at(slot, place);
         self.items -= 1;
         self.pruned = self.pruned.saturating_add(1);
-        value
+        (value, left)
+    }
+
+    /// Asks once on each value of an index key, in list order, takes out those that are answered false, and tells how many values the
+    /// index key had, and how many it has left.
+    pub(crate) fn retain_at<F: FnMut(&V) -> bool>(
+        &mut self,
+        slot: T::Key,
+        should_retain: F,
+    ) -> (usize, usize)
+        requires callable { F.IsAlwaysCallable should_retain }
+        ensures kept { Retains T.Key.cmp (CalledAt F.FnMut) should_retain
+            (view_of T.translated self.old) slot (view_of T.translated self.new) }
+        ensures had { result.0 ≡ length (run_at T.Key.cmp (view_of T.translated self.old) slot) }
+        ensures left { result.1 ≡ length (run_at T.Key.cmp (view_of T.translated self.new) slot) }
+        ensures lawful { IsLawful T.Key.cmp self.new.content }
+    {
+        let (had, left) = self.chains.retain(slot, should_retain);
+        let taken = had - left;
+        self.items -= taken;
+        self.pruned = self.pruned.saturating_add(taken as u64);
+        (had, left)
     }
 
     /// Asks once on each value of the key's index key, in list order, and takes out those that are answered false.
+    #[inline]
     pub(crate) fn retain<F: FnMut(&V) -> bool>(&mut self, key: &[u8], should_retain: F)
         requires callable { F.IsAlwaysCallable should_retain }
         ensures kept { RetainsAt T.Key.cmp (CalledAt F.FnMut) should_retain
             (view_of T.translated self.old) key.now (view_of T.translated self.new) }
         ensures lawful { IsLawful T.Key.cmp self.new.content }
     {
-        let slot = self.translator.transform(key);
-        let taken = self.chains.retain(slot, should_retain);
-        self.items -= taken;
-        self.pruned = self.pruned.saturating_add(taken as u64);
+        self.retain_at(self.slot_of(key), should_retain);
     }
 
     /// Puts a value in behind those of an index key, asks once on each of them, in list order, and takes out those that are answered
-    /// false. Tells how many of those that were held are gone.
+    /// false.
     pub(crate) fn insert_and_retain<F: FnMut(&V) -> bool>(
         &mut self,
         slot: T::Key,
         value: V,
         should_retain: F,
-    ) -> Result<usize, Refused<V>>
+    ) -> Result<Retained, Refused<V>>
         requires callable { F.IsAlwaysCallable should_retain }
-        ensures accepted { IfOk result (λ taken. InsertsAndRetains T.Key.cmp (CalledAt F.FnMut) should_retain
-            (view_of T.translated self.old) slot value taken (view_of T.translated self.new)) }
+        ensures accepted { IfOk result (λ told. InsertsAndRetains T.Key.cmp (CalledAt F.FnMut) should_retain
+            (view_of T.translated self.old) slot value told.taken (view_of T.translated self.new)) }
+        ensures had { IfOk result (λ told. told.had
+            ≡ length (run_at T.Key.cmp (view_of T.translated self.old) slot)) }
+        ensures left { IfOk result (λ told. told.left
+            ≡ length (run_at T.Key.cmp (view_of T.translated self.new) slot)) }
         ensures room { OnOk result (item_count self.old.content < usize.MAX) }
         ensures refused { OnErr result (self.new ≡ self.old) }
         ensures lawful { IsLawful T.Key.cmp self.new.content }
@@ -231,11 +271,12 @@ impl<T: Translator, V: Drop, M: Heads<T::Key, V>> Storage<T, V, M> {
             return Err(Refused { value, fault });
         }
         match self.chains.insert_and_retain(slot, value, should_retain) {
-            Ok((taken, stays)) => {
+            Ok((had, taken, stays)) => {
                 let added = if stays { 1 } else { 0 };
-                self.items = self.items - taken + added;
+                let left = had - taken + added;
+                self.items = self.items - had + left;
                 self.pruned = self.pruned.saturating_add(taken as u64);
-                Ok(taken)
+                Ok(Retained { had, left, taken })
             }
             Err(value) => {
                 let fault = Fault::Memory;
@@ -244,16 +285,37 @@ impl<T: Translator, V: Drop, M: Heads<T::Key, V>> Storage<T, V, M> {
         }
     }
 
+    /// Takes an index key out, and tells how many values it had.
+    pub(crate) fn remove_all_at(&mut self, slot: T::Key) -> usize
+        ensures removed { view_of T.translated self.new ≡ with_pruned
+            (with_run T.Key.cmp (view_of T.translated self.old) slot [])
+            (length (run_at T.Key.cmp (view_of T.translated self.old) slot)) }
+        ensures taken { result ≡ length (run_at T.Key.cmp (view_of T.translated self.old) slot) }
+        ensures lawful { IsLawful T.Key.cmp self.new.content }
+    {
+        let taken = self.chains.remove(slot);
+        self.items -= taken;
+        self.pruned = self.pruned.saturating_add(taken as u64);
+        taken
+    }
+
     /// Takes the key's index key out.
+    #[inline]
     pub(crate) fn remove(&mut self, key: &[u8])
         ensures removed { view_of T.translated self.new
             ≡ after_remove T.Key.cmp (view_of T.translated self.old) key.now }
         ensures lawful { IsLawful T.Key.cmp self.new.content }
     {
-        let slot = self.translator.transform(key);
-        let taken = self.chains.remove(slot);
-        self.items -= taken;
-        self.pruned = self.pruned.saturating_add(taken as u64);
+        self.remove_all_at(self.slot_of(key));
+    }
+
+    /// Takes another translator, which leaves what is held under the index keys that it is held under.
+    pub(crate) fn set_translator(&mut self, translator: T)
+        ensures set { view_of T.translated self.new
+            ≡ with_slot (view_of T.translated self.old) (T.translated translator) }
+        ensures lawful { IsLawful T.Key.cmp self.new.content }
+    {
+        self.translator = translator;
     }
 
     #[inline]
@@ -305,5 +367,17 @@ impl<T: Translator, V: Drop, M: OrderedHeads<T::Key, V>> Storage<T, V, M> {
         ensures { result ≡ prev_list T.Key.cmp self.now.content (T.translated self.now.translator key.now) }
     {
         self.chains.prev(self.translator.transform(key))
+    }
+}
+
+impl<T: Translator, V: Drop> Storage<T, V, HashMap<T::Key, V>> {
+    /// Calls a closure once on each value.
+    #[inline]
+    pub(crate) fn for_each_value<F: FnMut(&V)>(&self, visit: &mut F)
+        requires { F.IsAlwaysCallable visit.old }
+        ensures visits { VisitsEach (CalledAt F.FnMut) visit.old (values_of self.now.content) visit.new }
+        ensures callable { F.IsAlwaysCallable visit.new }
+    {
+        self.chains.for_each_value(visit);
     }
 }

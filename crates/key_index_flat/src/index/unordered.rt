@@ -4,10 +4,14 @@ ghost use Rattle.key_index_flat.specs.Content.{IsLawful};
 ghost use Rattle.key_index_flat.specs.Storage.{view_of};
 
 use super::storage::Storage;
-use super::{Factory, Fault, IndexCursor, Refused, Runs, Search, Unordered, Values};
+use super::{
+    Factory, Fault, IndexCursor, Lists, Refused, Retained, Runs, Search, Unordered, Values,
+    show_by_place, visit_by_place,
+};
 use crate::translator::Translator;
 use std::alloc::Global;
 use std::collections::HashMap;
+use std::convert::AsSlice;
 
 /// An index over a hashed map from translated key to newest value, and another from translated key to the older values of the keys
 /// that have any. An entry without collisions costs its translated key and its value alone.
@@ -20,8 +24,11 @@ pub struct Index<T: Translator, V> {
 }
 
 impl<T: Translator, V: Drop> Index<T, V> {
-    ghost use Rattle.std.specs.Prelude.{◌≡◌, ◌<◌, [], ◌∷◌, length, IfOk, IfErr, OnOk, OnErr};
-    ghost use Rattle.key_index_flat.specs.View.{growth_fault_in, items_in, run_at, with_run, InsertsAndRetains};
+    ghost use Rattle.std.specs.Prelude.{◌≡◌, ◌+◌, ◌<◌, [], ◌∷◌, length, slice_get, remove, Some, IsOk, IfOk, IfErr, OnOk, OnErr};
+    ghost use Rattle.std.specs.Iterator.{UpTo};
+    ghost use Rattle.key_index_flat.specs.View.{growth_fault_in, items_in, run_at, with_run, with_edit, with_pruned, with_slot, Retains, InsertsAndRetains};
+    ghost use Rattle.key_index_flat.specs.Values.{values_of, VisitsEach};
+    ghost use Rattle.key_index_flat.specs.Visits.{IsBatch, VisitsAt, VisitsByPlace};
     ghost use Rattle.std.specs.Fn.{CalledAt};
 
     /// What `reach_or_insert` does, at an index key: puts the value in where the index key has none, and tells how many values it
@@ -46,16 +53,57 @@ impl<T: Translator, V: Drop> Index<T, V> {
         }
     }
 
-    /// What `insert_and_retain` does, at an index key. Tells how many of the values that were held are gone.
+    /// What `remove_at` does. Tells how many values the index key has left, too.
+    pub fn take_at(&mut self, slot: T::Key, place: usize) -> (V, usize)
+        requires { place < length (run_at T.Key.cmp (⟦<Index<T, V> as Runs>⟧.view self.old) slot) }
+        ensures value { slice_get (run_at T.Key.cmp (⟦<Index<T, V> as Runs>⟧.view self.old) slot) place
+            ≡ Some result.0 }
+        ensures edited { ⟦<Index<T, V> as Runs>⟧.view self.new ≡ with_pruned (with_edit T.Key.cmp
+            (⟦<Index<T, V> as Runs>⟧.view self.old) slot (λ l. remove l place)) 1 }
+        ensures left { result.1 + 1 ≡ length (run_at T.Key.cmp (⟦<Index<T, V> as Runs>⟧.view self.old) slot) }
+    {
+        self.storage.remove_at(slot, place)
+    }
+
+    /// What `remove` does, at an index key. Tells how many values it had.
+    pub fn remove_all_at(&mut self, slot: T::Key) -> usize
+        ensures removed { ⟦<Index<T, V> as Runs>⟧.view self.new
+            ≡ with_pruned (with_run T.Key.cmp (⟦<Index<T, V> as Runs>⟧.view self.old) slot [])
+            (length (run_at T.Key.cmp (⟦<Index<T, V> as Runs>⟧.view self.old) slot)) }
+        ensures taken { result ≡ length (run_at T.Key.cmp (⟦<Index<T, V> as Runs>⟧.view self.old) slot) }
+    {
+        self.storage.remove_all_at(slot)
+    }
+
+    /// What `retain` does, at an index key. Tells how many values it had, and how many it has left.
+    pub fn retain_at<F: FnMut(&V) -> bool>(
+        &mut self,
+        slot: T::Key,
+        should_retain: F,
+    ) -> (usize, usize)
+        requires { F.IsAlwaysCallable should_retain }
+        ensures kept { Retains T.Key.cmp (CalledAt F.FnMut) should_retain
+            (⟦<Index<T, V> as Runs>⟧.view self.old) slot (⟦<Index<T, V> as Runs>⟧.view self.new) }
+        ensures had { result.0 ≡ length (run_at T.Key.cmp (⟦<Index<T, V> as Runs>⟧.view self.old) slot) }
+        ensures left { result.1 ≡ length (run_at T.Key.cmp (⟦<Index<T, V> as Runs>⟧.view self.new) slot) }
+    {
+        self.storage.retain_at(slot, should_retain)
+    }
+
+    /// What `insert_and_retain` does, at an index key. Tells what it found and left there.
     pub fn insert_and_retain_at<F: FnMut(&V) -> bool>(
         &mut self,
         slot: T::Key,
         value: V,
         should_retain: F,
-    ) -> Result<usize, Refused<V>>
+    ) -> Result<Retained, Refused<V>>
         requires { F.IsAlwaysCallable should_retain }
-        ensures accepted { IfOk result (λ taken. InsertsAndRetains T.Key.cmp (CalledAt F.FnMut) should_retain
-            (⟦<Index<T, V> as Runs>⟧.view self.old) slot value taken (⟦<Index<T, V> as Runs>⟧.view self.new)) }
+        ensures accepted { IfOk result (λ told. InsertsAndRetains T.Key.cmp (CalledAt F.FnMut) should_retain
+            (⟦<Index<T, V> as Runs>⟧.view self.old) slot value told.taken (⟦<Index<T, V> as Runs>⟧.view self.new)) }
+        ensures had { IfOk result (λ told. told.had
+            ≡ length (run_at T.Key.cmp (⟦<Index<T, V> as Runs>⟧.view self.old) slot)) }
+        ensures left { IfOk result (λ told. told.left
+            ≡ length (run_at T.Key.cmp (⟦<Index<T, V> as Runs>⟧.view self.new) slot)) }
         ensures refused { OnErr result
             (⟦<Index<T, V> as Runs>⟧.view self.new ≡ ⟦<Index<T, V> as Runs>⟧.view self.old) }
         ensures room { OnOk result (items_in (⟦<Index<T, V> as Runs>⟧.view self.old) < usize.MAX) }
@@ -63,6 +111,53 @@ impl<T: Translator, V: Drop> Index<T, V> {
         ensures fault { IfErr result (λ r. r.fault ≡ growth_fault_in (⟦<Index<T, V> as Runs>⟧.view self.old)) }
     {
         self.storage.insert_and_retain(slot, value, should_retain)
+    }
+
+    /// Visits the values of each key of a batch with the key's place in it, from 0, by place. What it visits may be kept as long as the
+    /// index is borrowed. Takes no memory, and never refuses.
+    pub fn get_many<'a, B: Iterator + Drop, F: FnMut(usize, &'a V)>(
+        &'a self,
+        keys: B,
+        visit: F,
+    ) -> Result<(), Fault>
+    where
+        B::Item: AsSlice<u8> + Drop,
+        requires can { B.can_next keys }
+        requires ends { UpTo (B.remaining keys) usize.MAX }
+        requires callable { F.IsAlwaysCallable visit }
+        ensures made { IsOk result }
+        ensures visited { (last : F) × VisitsByPlace (IsBatch B.next_gives B.Item.items keys) (VisitsAt F.FnMut) visit
+            T.Key.cmp (⟦<Index<T, V> as Runs>⟧.view self.now) last }
+    {
+        visit_by_place(self, keys, visit);
+        Ok(())
+    }
+
+    /// Calls a closure once on each value that is held, in any order.
+    pub fn for_each_value<F: FnMut(&V)>(&self, mut visit: F)
+        requires { F.IsAlwaysCallable visit }
+        ensures { (last : F) × VisitsEach (CalledAt F.FnMut) visit
+            (values_of (⟦<Index<T, V> as Runs>⟧.view self.now).content) last }
+    {
+        self.visit_values(&mut visit);
+    }
+
+    /// What `for_each_value` does, with a closure that the caller keeps.
+    pub fn visit_values<F: FnMut(&V)>(&self, visit: &mut F)
+        requires { F.IsAlwaysCallable visit.old }
+        ensures visits { VisitsEach (CalledAt F.FnMut) visit.old
+            (values_of (⟦<Index<T, V> as Runs>⟧.view self.now).content) visit.new }
+        ensures callable { F.IsAlwaysCallable visit.new }
+    {
+        self.storage.for_each_value(visit);
+    }
+
+    /// Takes another translator, which the calls by key use from then on. The values that are held stay under their index keys.
+    pub fn set_translator(&mut self, translator: T)
+        ensures { ⟦<Index<T, V> as Runs>⟧.view self.new
+            ≡ with_slot (⟦<Index<T, V> as Runs>⟧.view self.old) (T.translated translator) }
+    {
+        self.storage.set_translator(translator);
     }
 }
 
@@ -111,7 +206,14 @@ impl<T: Translator, V: Drop> Runs for Index<T, V> {
 
     #[inline]
     fn remove_at(&mut self, slot: T::Key, place: usize) -> V {
-        self.storage.remove_at(slot, place)
+        self.storage.remove_at(slot, place).0
+    }
+}
+
+impl<T: Translator, V: Drop> Lists for Index<T, V> {
+    #[inline]
+    fn list_at(&self, slot: T::Key) -> Values<'_, V> {
+        self.storage.list_at(slot)
     }
 }
 
@@ -133,11 +235,11 @@ impl<T: Translator, V: Drop> Search for Index<T, V> {
 
     fn search(&mut self, key: &[u8]) -> Result<IndexCursor<'_, Index<T, V>>, Option<Fault>> {
         let slot = self.slot_of(key);
-        match self.reach(key) {
-            Ok(0) => Err(None),
-            Ok(len) => Ok(IndexCursor::with_len(self, slot, len)),
-            Err(fault) => Err(Some(fault)),
+        let len = self.run_len(slot);
+        if len == 0 {
+            return Err(None);
         }
+        Ok(IndexCursor::with_len(self, slot, len))
     }
 
     fn search_or_insert(
@@ -146,7 +248,7 @@ impl<T: Translator, V: Drop> Search for Index<T, V> {
         value: V,
     ) -> Result<IndexCursor<'_, Index<T, V>>, Option<Refused<V>>> {
         let slot = self.slot_of(key);
-        match self.reach_or_insert(key, value) {
+        match self.reach_or_insert_at(slot, value) {
             Ok(0) => Err(None),
             Ok(len) => Ok(IndexCursor::with_len(self, slot, len)),
             Err(refused) => Err(Some(refused)),
@@ -166,6 +268,19 @@ impl<T: Translator, V: Drop> Unordered for Index<T, V> {
     #[inline]
     fn get(&self, key: &[u8]) -> Values<'_, V> {
         self.storage.get(key)
+    }
+
+    #[inline]
+    fn get_many<B: Iterator + Drop, F: FnMut(usize, &V)>(
+        &self,
+        keys: B,
+        visit: F,
+    ) -> Result<(), Fault>
+    where
+        B::Item: AsSlice<u8> + Drop,
+    {
+        show_by_place(self, keys, visit);
+        Ok(())
     }
 
     #[inline]

@@ -1,6 +1,8 @@
 //! The values of one key, in list order.
 ghost use Rattle.std.specs.Prelude.{◌≡◌, ◌∷◌, reverse};
+ghost use Rattle.std.specs.Fn.{CalledAt};
 ghost use Rattle.std.specs.Iterator.{YieldsFirstRef, item_count};
+ghost use Rattle.key_index_flat.specs.Values.{VisitsInTurn};
 
 use std::marker::Model;
 
@@ -67,5 +69,16 @@ impl<'a, V> Iterator for Values<'a, V> {
         };
         self.rest = rest;
         Some(value)
+    }
+}
+
+/// Calls a closure once on each value, in list order.
+pub(crate) fn visit_in_turn<V, F: FnMut(&V)>(values: Values<'_, V>, visit: &mut F)
+    requires { F.IsAlwaysCallable visit.old }
+    ensures visited { VisitsInTurn (CalledAt F.FnMut) visit.old values.entry visit.new }
+    ensures callable { F.IsAlwaysCallable visit.new }
+{
+    for value in values {
+        visit(value);
     }
 }

@@ -1,5 +1,6 @@
 //! An index that is called some thousand times answers as lists do that the test keeps.
 use super::asks::Asks;
+use super::batches::visits_lists;
 use super::checks::{counts, gets, gets_or_inserts, holds, inserts, push, puts, removes, stands};
 use super::neighbours::{same_end, same_neighbour};
 use super::numbers::{Numbers, two_bytes};
@@ -335,13 +336,15 @@ impl KeptLists {
         counts_as(rt, index, self.lists.as_slice(), self.pruned);
     }
 
-    /// An index has the list of any key.
-    fn any_list<I: Unordered<Value = u64>>(&mut self, rt: &impl Abort, index: &I) {
+    /// An index has the list of any key, by itself and in a batch behind the empty key.
+    fn any_list<I: Unordered<Value = u64>>(&mut self, rt: &impl Abort, alloc: Global, index: &I) {
         let number = self.numbers.next();
         let bytes = two_bytes(number);
         let key = &bytes[..(number / 16 % 3) as usize];
-        let list = list_at(rt, self.lists.as_slice(), place(number, self.width));
+        let lists = self.lists.as_slice();
+        let list = list_at(rt, lists, place(number, self.width));
         holds(rt, index, key, list);
+        visits_lists(rt, alloc, index, &[b"", key], [list_at(rt, lists, 0), list]);
     }
 
     /// An index gives the lists next to that of any key, and the first and the last one.
@@ -422,7 +425,7 @@ pub(super) fn kept<I: Unordered<Value = u64>>(
     let mut kept = KeptLists::new(rt, alloc, width);
     for round in 0..CALLS {
         kept.round(rt, alloc, index, round / 64 % 2 == 1);
-        kept.any_list(rt, index);
+        kept.any_list(rt, alloc, index);
     }
 }
 
@@ -436,7 +439,7 @@ pub(super) fn kept_in_order<I: Ordered<Value = u64>>(
     let mut kept = KeptLists::new(rt, alloc, width);
     for round in 0..CALLS {
         kept.round(rt, alloc, index, round / 64 % 2 == 1);
-        kept.any_list(rt, index);
+        kept.any_list(rt, alloc, index);
         kept.any_neighbours(rt, index);
     }
 }

@@ -10,6 +10,7 @@ ghost use Rattle.key_index_flat.specs.Content.{Content, IsLawful, key_count, lis
 ghost use Rattle.key_index_flat.specs.Neighbours.{first_list, last_list, next_list, prev_list};
 ghost use Rattle.key_index_flat.specs.Retention.{last_answer, AsksInTurn};
 ghost use Rattle.key_index_flat.specs.Storage.{older_at, stored, IsLinked};
+ghost use Rattle.key_index_flat.specs.Values.{values_of, VisitsEach};
 
 use super::heads::{Heads, OrderedHeads};
 use super::older::{
@@ -17,6 +18,7 @@ use super::older::{
     take_older,
 };
 use crate::index::Values;
+use crate::index::values::visit_in_turn;
 use crate::translator::Translator;
 use std::alloc::Global;
 use std::collections::HashMap;
@@ -51,6 +53,12 @@ impl<T: Translator, V: Drop, M: Heads<T::Key, V>> Chains<T, V, M> {
             older: HashMap::new(alloc),
             alloc,
         }
+    }
+
+    /// Where the lists take their memory.
+    #[inline]
+    pub(super) fn alloc(&self) -> Global {
+        self.alloc
     }
 
     #[inline]
@@ -164,47 +172,51 @@ impl<T: Translator, V: Drop, M: Heads<T::Key, V>> Chains<T, V, M> {
         insert_older(self.alloc, &mut self.older, slot, place, value)
     }
 
-    /// Takes the value at a place of the index key's list out.
+    /// Takes the value at a place of the index key's list out, and tells how many are left.
     #[inline]
-    pub(super) fn remove_at(&mut self, slot: T::Key, place: usize) -> V
+    pub(super) fn remove_at(&mut self, slot: T::Key, place: usize) -> (V, usize)
         requires place { place < length (list_at T.Key.cmp self.old slot) }
-        ensures value { slice_get (list_at T.Key.cmp self.old slot) place ≡ Some result }
+        ensures value { slice_get (list_at T.Key.cmp self.old slot) place ≡ Some result.0 }
         ensures content { self.new ≡ with_list_by T.Key.cmp self.old slot (λ l. remove l place) }
+        ensures left { result.1 + 1 ≡ length (list_at T.Key.cmp self.old slot) }
     {
         if place != 0 {
-            return remove_older(&mut self.older, slot, place);
+            let (value, left) = remove_older(&mut self.older, slot, place);
+            return (value, left + 1);
         }
-        let Some(next) = pop_older(&mut self.older, slot) else {
-            return self.heads.remove(&slot).unwrap();
+        let Some((next, left)) = pop_older(&mut self.older, slot) else {
+            return (self.heads.remove(&slot).unwrap(), 0);
         };
         let Ok(Some(newest)) = self.heads.insert(slot, next) else {
             unreachable!()
         };
-        newest
+        (newest, left + 1)
     }
 
-    /// Asks once on each value of the index key, in list order, takes out those that are answered false, and tells how many.
+    /// Asks once on each value of the index key, in list order, takes out those that are answered false, and tells how many there were,
+    /// and how many are left.
     pub(super) fn retain<F: FnMut(&V) -> bool>(
         &mut self,
         slot: T::Key,
         mut should_retain: F,
-    ) -> usize
+    ) -> (usize, usize)
         requires callable { F.IsAlwaysCallable should_retain }
         ensures kept { (kept : List V)
             × IsFiltered (CalledAt F.FnMut) should_retain (list_at T.Key.cmp self.old slot) kept
             × (self.new ≡ with_list T.Key.cmp self.old slot kept)
-            × (result + length kept ≡ length (list_at T.Key.cmp self.old slot)) }
+            × (result.1 ≡ length kept)
+            × (result.0 ≡ length (list_at T.Key.cmp self.old slot)) × (result.1 ≤ result.0) }
     {
         let Some(newest) = self.heads.get(&slot) else {
-            return 0;
+            return (0, 0);
         };
         let keeps_newest = should_retain(newest);
-        let taken = retain_older(&mut self.older, slot, should_retain);
+        let (had, left) = retain_older(&mut self.older, slot, should_retain);
         if keeps_newest {
-            return taken;
+            return (had + 1, left + 1);
         }
         self.remove_at(slot, 0);
-        taken + 1
+        (had + 1, left)
     }
 
     /// What `retain` does, and the last answer too: true where the index key has no value.
@@ -237,29 +249,31 @@ impl<T: Translator, V: Drop, M: Heads<T::Key, V>> Chains<T, V, M> {
     }
 
     /// Puts a value in behind those of the index key, which takes all the memory that the call may need, then asks once on each of
-    /// them, in list order, and takes out those that are answered false. Tells how many of those that were held are gone, and whether
-    /// the new one stays.
+    /// them, in list order, and takes out those that are answered false. Tells how many were held, how many of these are gone, and
+    /// whether the new one stays.
     pub(super) fn insert_and_retain<F: FnMut(&V) -> bool>(
         &mut self,
         slot: T::Key,
         value: V,
         should_retain: F,
-    ) -> Result<(usize, bool), V>
+    ) -> Result<(usize, usize, bool), V>
         requires callable { F.IsAlwaysCallable should_retain }
         requires lawful { IsLawful T.Key.cmp self.old }
         ensures accepted { IfOk result (λ told. let held = list_at T.Key.cmp self.old slot in
             (answers : List Bool) × (last : F) × (length answers ≡ length held + 1)
             × ReturnsInTurn (CalledAt F.FnMut) should_retain answers (held ++ value ∷ []) last
             × (self.new ≡ with_list T.Key.cmp self.old slot (items_where_true answers (held ++ value ∷ [])))
-            × (told.0 + length (items_where_true answers held) ≡ length held)
-            × (told.1 ≡ last_answer true answers)) }
+            × (told.1 + length (items_where_true answers held) ≡ length held)
+            × (told.2 ≡ last_answer true answers)) }
+        ensures had { IfOk result (λ told. told.0 ≡ length (list_at T.Key.cmp self.old slot)) }
         ensures refused { OnErr result (self.new ≡ self.old) }
         ensures returned { IfErr result (λ back. back ≡ value) }
     {
         let len = self.run_len(slot);
         self.insert_at(slot, len, value)?;
         let (taken, stays) = self.retain_in_turn(slot, should_retain);
-        Ok((if stays { taken } else { taken - 1 }, stays))
+        let gone = if stays { taken } else { taken - 1 };
+        Ok((len, gone, stays))
     }
 
     /// How many index keys have values.
@@ -325,5 +339,34 @@ impl<T: Translator, V: Drop, M: OrderedHeads<T::Key, V>> Chains<T, V, M> {
                 None => None,
             },
         }
+    }
+}
+
+/// Calls a closure once on each value, those of an index key one after another.
+fn visit_all<K: Ord + Hash + Copy, V, F: FnMut(&V)>(
+    heads: &HashMap<K, V>,
+    older: &HashMap<K, Vec<V>>,
+    visit: &mut F,
+)
+    requires callable { F.IsAlwaysCallable visit.old }
+    requires linked { IsLinked K.cmp heads.now.entries (older_at K.eq older.now) }
+    ensures visits { VisitsEach (CalledAt F.FnMut) visit.old
+        (values_of (stored K.cmp K.eq heads.now.entries older.now)) visit.new }
+    ensures callable { F.IsAlwaysCallable visit.new }
+{
+    for (key, newest) in heads.iter() {
+        visit_in_turn(Values::newest_first(newest, older_of(older, *key)), visit);
+    }
+}
+
+impl<T: Translator, V: Drop> Chains<T, V, HashMap<T::Key, V>> {
+    /// Calls a closure once on each value.
+    #[inline]
+    pub(super) fn for_each_value<F: FnMut(&V)>(&self, visit: &mut F)
+        requires { F.IsAlwaysCallable visit.old }
+        ensures visits { VisitsEach (CalledAt F.FnMut) visit.old (values_of self.now) visit.new }
+        ensures callable { F.IsAlwaysCallable visit.new }
+    {
+        visit_all(&self.heads, &self.older, visit);
     }
 }

@@ -1,8 +1,8 @@
 //! The older values of the keys that have any, the oldest first.
-ghost use Rattle.std.specs.Prelude.{◌≡◌, ◌+◌, ◌-◌, ◌<◌, ◌≤◌, [], ◌++◌, length, reverse, slice_get, slice_set, insert, remove, Some, IfErr, IfNone, OnOk, OnErr};
+ghost use Rattle.std.specs.Prelude.{◌≡◌, ◌+◌, ◌-◌, ◌<◌, ◌≤◌, [], ◌++◌, length, reverse, slice_get, slice_set, insert, remove, Some, IfErr, IfNone, IfSome, OnOk, OnErr};
 ghost use Rattle.std.specs.Fn.{CalledAt};
 ghost use Rattle.std.specs.List.Retain.{IsFiltered};
-ghost use Rattle.std.specs.Option.{option_to_list};
+ghost use Rattle.std.specs.Option.{option_map, option_to_list};
 ghost use Rattle.key_index_flat.specs.Retention.{AsksInTurn};
 ghost use Rattle.key_index_flat.specs.Storage.{older_at, SameBut};
 
@@ -115,75 +115,86 @@ pub(super) fn set_older<K: Ord + Hash + Copy, V>(
     replace(&mut values[index], value)
 }
 
-/// Takes an older value of a key out, where 1 is the newest of them, and with the last one the key.
+/// Takes an older value of a key out, where 1 is the newest of them, and with the last one the key. Tells how many are left.
 pub(super) fn remove_older<K: Ord + Hash + Copy, V: Drop>(
     older: &mut HashMap<K, Vec<V>>,
     key: K,
     place: usize,
-) -> V
+) -> (V, usize)
     requires first { 0 < place }
     requires within { place ≤ length (older_at K.eq older.old key) }
-    ensures value { let old = older_at K.eq older.old key in slice_get old (length old - place) ≡ Some result }
+    ensures value { let old = older_at K.eq older.old key in slice_get old (length old - place) ≡ Some result.0 }
     ensures at { let old = older_at K.eq older.old key in
         older_at K.eq older.new key ≡ remove old (length old - place) }
+    ensures left { result.1 + 1 ≡ length (older_at K.eq older.old key) }
+    ensures fits { result.1 < usize.MAX }
     ensures others { SameBut K.cmp (older_at K.eq older.old) (older_at K.eq older.new) key }
 {
     let values = older.get_mut(&key).unwrap();
     let index = values.len() - place;
     let value = values.remove(index);
-    if values.is_empty() {
+    let left = values.len();
+    if left == 0 {
         older.remove(&key);
     }
-    value
+    (value, left)
 }
 
-/// Takes the newest of the older values of a key out, if there is one, and with the last one the key.
+/// Takes the newest of the older values of a key out, if there is one, and with the last one the key. Tells how many are left.
 pub(super) fn pop_older<K: Ord + Hash + Copy, V: Drop>(
     older: &mut HashMap<K, Vec<V>>,
     key: K,
-) -> Option<V>
-    ensures at { older_at K.eq older.old key ≡ older_at K.eq older.new key ++ option_to_list result }
+) -> Option<(V, usize)>
+    ensures at { older_at K.eq older.old key
+        ≡ older_at K.eq older.new key ++ option_to_list (option_map (λ popped. popped.0) result) }
     ensures none { IfNone result (older_at K.eq older.new key ≡ []) }
+    ensures left { IfSome result (λ popped. popped.1 ≡ length (older_at K.eq older.new key)) }
+    ensures fits { IfSome result (λ popped. popped.1 < usize.MAX) }
     ensures others { SameBut K.cmp (older_at K.eq older.old) (older_at K.eq older.new) key }
 {
     if older.is_empty() {
         return None;
     }
     let values = older.get_mut(&key)?;
-    let value = values.pop();
-    if values.is_empty() {
+    let value = values.pop()?;
+    let left = values.len();
+    if left == 0 {
         older.remove(&key);
     }
-    value
+    Some((value, left))
 }
 
-/// Asks once on each of the older values of a key, the newest first, takes out those that are answered false, and tells how many.
+/// Asks once on each of the older values of a key, the newest first, takes out those that are answered false, and tells how many the
+/// key had, and how many it has left.
 pub(super) fn retain_older<K: Ord + Hash + Copy, V: Drop, F: FnMut(&V) -> bool>(
     older: &mut HashMap<K, Vec<V>>,
     key: K,
     should_retain: F,
-) -> usize
+) -> (usize, usize)
     requires { F.IsAlwaysCallable should_retain }
     ensures at { IsFiltered (CalledAt F.FnMut) should_retain
         (reverse (older_at K.eq older.old key)) (reverse (older_at K.eq older.new key)) }
-    ensures taken { result + length (older_at K.eq older.new key) ≡ length (older_at K.eq older.old key) }
+    ensures had { result.0 ≡ length (older_at K.eq older.old key) }
+    ensures left { result.1 ≡ length (older_at K.eq older.new key) }
+    ensures fits { result.0 < usize.MAX }
+    ensures fewer { result.1 ≤ result.0 }
     ensures others { SameBut K.cmp (older_at K.eq older.old) (older_at K.eq older.new) key }
 {
     if older.is_empty() {
-        return 0;
+        return (0, 0);
     }
     let Some(values) = older.get_mut(&key) else {
-        return 0;
+        return (0, 0);
     };
-    let before = values.len();
+    let had = values.len();
     values.reverse();
     values.retain(should_retain);
     values.reverse();
-    let after = values.len();
-    if after == 0 {
+    let left = values.len();
+    if left == 0 {
         older.remove(&key);
     }
-    before - after
+    (had, left)
 }
 
 /// What `retain_older` does, and the last answer too: `before` where the key has no older values.

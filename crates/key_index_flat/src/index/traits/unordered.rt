@@ -1,11 +1,14 @@
 //! What the indices have in common: generic code is proved over these traits, by the content of an index alone.
 ghost use Rattle.std.specs.Prelude.{◌≡◌, ℕ, ◌-◌, ◌<◌, List, [], Bool, All, IfErr, OnOk, OnErr, IfOk};
 ghost use Rattle.std.specs.Fn.{CalledAt};
+ghost use Rattle.std.specs.Iterator.{UpTo};
 ghost use Rattle.key_index_flat.specs.Content.{key_count};
 ghost use Rattle.key_index_flat.specs.View.{items_in, run_of, after_insert, after_remove, growth_fault_in, Admits, AlsoAt, InsertsAndRetainsAt, IsWantAt, RetainsAt, StaysBut};
+ghost use Rattle.key_index_flat.specs.Visits.{IsBatch, VisitsAt, VisitsInAnyOrder};
 
 use crate::index::{Fault, Refused, Search, Values};
 use std::alloc::Global;
+use std::convert::AsSlice;
 
 /// An index that answers by key, with no order over the keys. Its contracts speak of its content alone, so code that is generic
 /// over it is right for each index.
@@ -21,6 +24,22 @@ pub trait Unordered: Search {
     /// The values under the key's index key, in list order. Takes no memory.
     fn get(&self, key: &[u8]) -> Values<'_, Self::Value>
         ensures { result ≡ run_of Self.Key.cmp (Self.view self.now) key.now };
+
+    /// Visits the values of each key of a batch with the key's place in it, from 0: of each place the whole list of its key, in list
+    /// order. In which order the places come is said by each index. A refusal, which is `Memory`, comes before any visit.
+    fn get_many<B: Iterator + Drop, F: FnMut(usize, &Self::Value)>(
+        &self,
+        keys: B,
+        visit: F,
+    ) -> Result<(), Fault>
+    where
+        B::Item: AsSlice<u8> + Drop,
+        requires can { B.can_next keys }
+        requires ends { UpTo (B.remaining keys) usize.MAX }
+        requires callable { F.IsAlwaysCallable visit }
+        ensures visited { OnOk result ((last : F) × VisitsInAnyOrder (IsBatch B.next_gives B.Item.items keys)
+            (VisitsAt F.FnMut) visit Self.Key.cmp (Self.view self.now) last) }
+        ensures fault { IfErr result (λ f. f ≡ Fault.Memory) };
 
     /// Adds a value under the key's index key: in front of those that stand there if `INSERT_FIRST`, and else behind them. A refusal
     /// hands the value back: `Full` exactly where the index holds `usize::MAX` values, and else `Memory`.

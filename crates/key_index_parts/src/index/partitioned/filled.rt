@@ -142,8 +142,12 @@ impl<S: Places> Places for Layer<S> {
     }
 
     fn set(&mut self, place: usize, fills: bool) {
-        let mut word = self.words[place / 64];
+        let before = self.words[place / 64];
+        let mut word = before;
         word.set(place % 64, fills);
+        if word == before {
+            return;
+        }
         self.words[place / 64] = word;
         self.summary.set(place / 64, word != 0);
     }

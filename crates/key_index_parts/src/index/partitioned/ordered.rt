@@ -1,20 +1,24 @@
 //! The partitioned ordered index.
-ghost use Rattle.std.specs.Prelude.{◌≡◌, ◌<◌, ◌≤◌, false, IfOk, IfErr};
+ghost use Rattle.std.specs.Prelude.{◌≡◌, ◌<◌, ◌≤◌, false, length, IfOk, IfErr};
 ghost use Rattle.key_index_flat.specs.Content.{IsLawful, item_count};
 ghost use Rattle.key_index_parts.specs.Family.{view_of};
 ghost use Rattle.key_index_parts.specs.Gathered.{gathered, pair_cmp, entries_of};
-ghost use Rattle.key_index_parts.specs.Prefix.{partition_count, slot_by};
+ghost use Rattle.key_index_parts.specs.Prefix.{partition_count, partition_by, slot_by};
 
 mod arrays;
 pub mod partition;
 
+use super::range::Range;
 use super::storage::Storage;
+use super::{PartitionRange, Partitioned, partition_index_and_sub_key};
 use arrays::Arrays;
 use key_index_flat::index::{
-    Factory, Fault, IndexCursor, Ordered, Refused, Runs, Search, Unordered, Values,
+    Factory, Fault, IndexCursor, Lists, Ordered, Refused, Runs, Search, Unordered, Values,
+    show_by_key, visit_by_key,
 };
 use key_index_flat::translator::{OrderedTranslator, Translator};
 use std::alloc::Global;
+use std::convert::AsSlice;
 
 /// Sorted arrays for each of `256^P` partitions: the keys of a partition in order, and beside each key a value. The translator shortens
 /// what follows the first `P` bytes of a key.
@@ -25,16 +29,62 @@ use std::alloc::Global;
 #[derive(Drop)]
 pub struct Index<T: Translator, V: Drop, const P: usize> {
     storage: Storage<T, V, Arrays<T, V>, P>,
+    ghost least: { 1 ≤ P },
+    ghost greatest: { P ≤ 3 },
     ghost lawful: { IsLawful (pair_cmp T.Key.cmp) (gathered storage.parts) },
+    ghost whole: { length storage.parts ≡ partition_count P },
 }
 
 impl<T: Translator, V: Drop, const P: usize> Index<T, V, P> {
+    ghost use Rattle.std.specs.Prelude.{◌≡◌, ◌<◌, IfErr, OnOk};
+    ghost use Rattle.std.specs.Iterator.{UpTo};
+    ghost use Rattle.key_index_flat.specs.Visits.{IsBatch, VisitsAt, VisitsByKey};
+
     /// How many values stand in the arrays of a partition.
     pub fn inline_len(&self, partition: usize) -> usize
         requires { partition < partition_count P }
         ensures { result ≡ item_count (entries_of (⟦<Index<T, V, P> as Runs>⟧.view self.now).content partition) }
     {
         self.storage.part(partition).len()
+    }
+
+    /// Visits the values of each key of a batch with the key's place in it, from 0, by partition, then by translated key and, of one
+    /// translated key, by place. What it visits may be kept as long as the index is borrowed. Takes memory for the places first, and
+    /// answers `Memory` where that is refused, before any visit.
+    pub fn get_many<'a, B: Iterator + Drop, F: FnMut(usize, &'a V)>(
+        &'a self,
+        keys: B,
+        visit: F,
+    ) -> Result<(), Fault>
+    where
+        B::Item: AsSlice<u8> + Drop,
+        requires can { B.can_next keys }
+        requires ends { UpTo (B.remaining keys) usize.MAX }
+        requires callable { F.IsAlwaysCallable visit }
+        ensures visited { OnOk result ((last : F) × VisitsByKey (IsBatch B.next_gives B.Item.items keys)
+            (VisitsAt F.FnMut) visit (pair_cmp T.Key.cmp) (⟦<Index<T, V, P> as Runs>⟧.view self.now) last) }
+        ensures fault { IfErr result (λ f. f ≡ Fault.Memory) }
+    {
+        visit_by_key(self.storage.alloc(), self, keys, visit)?;
+        Ok(())
+    }
+}
+
+/// Some neighbouring partitions of a partitioned ordered index, apart from it.
+pub type RangeIndex<T, V, const P: usize> = Range<T, V, Arrays<T, V>, P>;
+
+impl<T: Translator, V: Drop, const P: usize> RangeIndex<T, V, P> {
+    ghost use Rattle.std.specs.Prelude.{◌≡◌, ◌+◌, IsTrue};
+    ghost use Rattle.key_index_parts.specs.Joined.{is_between};
+
+    /// How many values stand in the arrays of a partition that the range covers.
+    pub fn inline_len(&self, partition: usize) -> usize
+        requires { IsTrue (is_between (⟦<RangeIndex<T, V, P> as PartitionRange>⟧.offset self.now)
+            (⟦<RangeIndex<T, V, P> as PartitionRange>⟧.offset self.now
+            + ⟦<RangeIndex<T, V, P> as PartitionRange>⟧.count self.now) partition) }
+        ensures { result ≡ item_count (entries_of (⟦<RangeIndex<T, V, P> as Runs>⟧.view self.now).content partition) }
+    {
+        self.storage.part(partition - self.offset).len()
     }
 }
 
@@ -95,6 +145,13 @@ impl<T: Translator, V: Drop, const P: usize> Runs for Index<T, V, P> {
     }
 }
 
+impl<T: Translator, V: Drop, const P: usize> Lists for Index<T, V, P> {
+    #[inline]
+    fn list_at(&self, slot: (usize, T::Key)) -> Values<'_, V> {
+        self.storage.list_at(slot)
+    }
+}
+
 impl<T: Translator, V: Drop, const P: usize> Search for Index<T, V, P> {
     ghost settled = { λ _ _ _. Unit {0} };
 
@@ -148,6 +205,18 @@ impl<T: Translator, V: Drop, const P: usize> Unordered for Index<T, V, P> {
     #[inline]
     fn get(&self, key: &[u8]) -> Values<'_, V> {
         self.storage.get(key)
+    }
+
+    #[inline]
+    fn get_many<B: Iterator + Drop, F: FnMut(usize, &V)>(
+        &self,
+        keys: B,
+        visit: F,
+    ) -> Result<(), Fault>
+    where
+        B::Item: AsSlice<u8> + Drop,
+    {
+        show_by_key(self.storage.alloc(), self, keys, visit)
     }
 
     #[inline]
@@ -229,9 +298,69 @@ impl<T: Translator, V: Drop, const P: usize> Factory for Index<T, V, P> {
 
     /// Takes the slots of all partitions at once, and answers `Memory` where that is refused.
     fn new(alloc: Global, translator: T) -> Result<Index<T, V, P>, Fault> {
-        match Storage::new(alloc, translator) {
+        match Storage::new(alloc, translator, 1 << (8 * P)) {
             Ok(storage) => Ok(Index { storage }),
             Err(fault) => Err(fault),
         }
+    }
+}
+
+impl<T: Translator, V: Drop, const P: usize> Partitioned for Index<T, V, P> {
+    ghost use Rattle.std.proofs.Common.{refl};
+    ghost use Rattle.key_index_parts.specs.PrefixLaws.{partition_by-made, partition_by-below};
+
+    type Range = RangeIndex<T, V, P>;
+
+    ghost partitions = { partition_count P };
+
+    ghost partition = { λ slot. slot.0 };
+
+    ghost prefix = { partition_by P };
+
+    ghost files = { λ index b _. partition_by-made P b index.least index.greatest };
+
+    ghost within = { λ b h. partition_by-below P b h };
+
+    ghost covered = { λ _ _. refl };
+
+    #[inline]
+    fn partition_count(&self) -> usize {
+        self.storage.len()
+    }
+
+    #[inline]
+    fn partition_of(key: &[u8]) -> usize {
+        if P < 1 || P > 3 {
+            return 0;
+        }
+        let (partition, _) = partition_index_and_sub_key::<P>(key);
+        partition
+    }
+
+    fn partition_is_empty(&self, number: usize) -> bool {
+        self.storage.is_free(number, 1)
+    }
+
+    fn new_range(&self, offset: usize, count: usize) -> Result<RangeIndex<T, V, P>, Fault> {
+        match self.storage.new_range(count) {
+            Ok(storage) => Ok(Range { offset, storage }),
+            Err(fault) => Err(fault),
+        }
+    }
+
+    fn can_install(&self, range: &RangeIndex<T, V, P>) -> bool {
+        self.storage.is_free(range.offset, range.storage.len())
+    }
+
+    /// It takes no memory.
+    fn install_range(
+        &mut self,
+        range: RangeIndex<T, V, P>,
+    ) -> Result<(), (RangeIndex<T, V, P>, Fault)> {
+        if !self.storage.has_room(&range.storage) {
+            return Err((range, Fault::Full));
+        }
+        self.storage.install(range.offset, range.storage);
+        Ok(())
     }
 }

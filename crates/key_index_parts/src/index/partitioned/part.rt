@@ -5,20 +5,12 @@ ghost use Rattle.std.specs.List.Retain.{IsFiltered};
 ghost use Rattle.key_index_flat.specs.Content.{Content, IsLawful, is_filled, list_at, with_list, with_list_by};
 ghost use Rattle.key_index_flat.specs.Neighbours.{first_list, last_list, entries_above, entries_below};
 ghost use Rattle.key_index_flat.specs.View.{put_value};
+ghost use Rattle.key_index_flat.specs.Values.{VisitsEach, values_of};
 ghost use Rattle.key_index_parts.specs.Family.{RetainsWith};
 
-use key_index_flat::index::Values;
+use key_index_flat::index::{Retained, Values};
 use key_index_flat::translator::Translator;
 use std::alloc::Global;
-
-/// What `insert_and_retain` found and left: how many values the key had, how many it has now, and how many of those that it had are
-/// gone.
-#[derive(Clone, Copy)]
-pub(super) struct Retained {
-    pub(super) had: usize,
-    pub(super) left: usize,
-    pub(super) taken: usize,
-}
 
 /// A part of an index, as a map from the part's keys to lists. A refusal is want of memory, and leaves what it holds.
 pub(super) trait Part<T: Translator, V> {
@@ -26,8 +18,8 @@ pub(super) trait Part<T: Translator, V> {
 
     ghost FIRST: { Bool };
 
-    /// A part that holds nothing. Takes no memory.
-    fn new(alloc: Global) -> Self
+    /// A part that holds nothing, of an index with a translator. Takes no memory.
+    fn new(alloc: Global, translator: T) -> Self
         ensures { content result ≡ [] };
 
     fn is_empty(&self) -> bool
@@ -109,6 +101,12 @@ pub(super) trait Part<T: Translator, V> {
     fn remove(&mut self, key: T::Key) -> usize
         ensures content { content self.new ≡ with_list T.Key.cmp (content self.old) key [] }
         ensures taken { result ≡ length (list_at T.Key.cmp (content self.old) key) };
+
+    /// Visits each value once, in no certain order.
+    fn for_each_value<F: FnMut(&V)>(&self, visit: &mut F)
+        requires { F.IsAlwaysCallable visit.old }
+        ensures callable { F.IsAlwaysCallable visit.new }
+        ensures visits { VisitsEach (CalledAt F.FnMut) visit.old (values_of (content self.now)) visit.new };
 
     ghost lawful: { (x : Self) → IsLawful T.Key.cmp (content x) };
 }

@@ -1,17 +1,19 @@
 //! The parts of an index, listed by their numbers.
 ghost use Rattle.std.specs.Prelude.{◌≡◌, ◌+◌, ◌<◌, ◌≤◌, List, [], ◌∷◌, length, map, take, drop, not, replicate, slice_get, slice_set, insert, remove, Some, IfOk, IfErr, OnErr};
+ghost use Rattle.std.specs.Bool.{Decides};
 ghost use Rattle.std.specs.Fn.{CalledAt};
 ghost use Rattle.std.specs.List.Retain.{IsFiltered};
 ghost use Rattle.key_index_flat.specs.Content.{Content, is_filled};
 ghost use Rattle.key_index_flat.specs.Neighbours.{first_list, last_list, next_list, prev_list};
 ghost use Rattle.key_index_flat.specs.View.{put_value};
-ghost use Rattle.key_index_parts.specs.Family.{RetainsWith, part_at, list_in, with_list_in, with_edit_in, filled_parts};
+ghost use Rattle.key_index_flat.specs.Values.{VisitsEach, values_of};
+ghost use Rattle.key_index_parts.specs.Family.{RetainsWith, part_at, list_in, with_list_in, with_edit_in, with_parts_from, filled_parts, AreFree};
 ghost use Rattle.key_index_parts.specs.Gathered.{gathered, gathered_from, pair_cmp};
 ghost use Rattle.key_index_parts.specs.Prefix.{partition_count};
 
 use super::filled::Filled;
-use super::part::{OrderedPart, Part, Retained};
-use key_index_flat::index::{Fault, Values};
+use super::part::{OrderedPart, Part};
+use key_index_flat::index::{Fault, Retained, Values};
 use key_index_flat::translator::Translator;
 use std::alloc::Global;
 use std::marker::{Model, PhantomData};
@@ -34,7 +36,7 @@ impl<T: Translator, V, X: Part<T, V>> Model for Parts<T, V, X> {
 
 impl<T: Translator, V: Drop, X: Part<T, V> + Drop> Parts<T, V, X> {
     /// So many parts that hold nothing. Takes the memory of their slots at once.
-    pub(super) fn new(alloc: Global, count: usize) -> Result<Parts<T, V, X>, Fault>
+    pub(super) fn new(alloc: Global, translator: T, count: usize) -> Result<Parts<T, V, X>, Fault>
         requires { count ≤ partition_count 3 }
         ensures parts { IfOk result (λ parts. parts ≡ replicate count []) }
         ensures fault { IfErr result (λ fault. fault ≡ Fault.Memory) }
@@ -46,13 +48,21 @@ impl<T: Translator, V: Drop, X: Part<T, V> + Drop> Parts<T, V, X> {
             return Err(Fault::Memory);
         };
         for _ in 0..count {
-            parts.push_reserved(X::new(alloc));
+            parts.push_reserved(X::new(alloc, translator));
         }
         Ok(Parts {
             parts,
             filled,
             lists: PhantomData,
         })
+    }
+
+    /// How many parts there are.
+    #[inline]
+    pub(super) fn len(&self) -> usize
+        ensures { result ≡ length self.now }
+    {
+        self.parts.len()
     }
 
     /// The part of a number.
@@ -70,6 +80,23 @@ impl<T: Translator, V: Drop, X: Part<T, V> + Drop> Parts<T, V, X> {
         ensures { result ≡ list_in T.Key.cmp self.now slot }
     {
         self.parts[slot.0].get(slot.1)
+    }
+
+    /// The list at a slot, empty where there is no such part.
+    #[inline]
+    pub(super) fn list_at(&self, slot: (usize, T::Key)) -> Values<'_, V>
+        ensures { result ≡ list_in T.Key.cmp self.now slot }
+    {
+        match self.parts.get(slot.0) {
+            Some(part) => part.get(slot.1),
+            None => Values::of_slice(&[]),
+        }
+    }
+
+    /// Where the slots took their memory.
+    #[inline]
+    pub(super) fn alloc(&self) -> Global {
+        *self.parts.allocator()
     }
 
     #[inline]
@@ -220,6 +247,53 @@ impl<T: Translator, V: Drop, X: Part<T, V> + Drop> Parts<T, V, X> {
                 Ok(retained)
             }
             Err(value) => Err(value),
+        }
+    }
+
+    /// Puts a part in the place of another.
+    fn put(&mut self, number: usize, part: X)
+        requires { number < length self.old }
+        ensures { self.new ≡ slice_set self.old number (X.content part) }
+    {
+        let holds = !part.is_empty();
+        self.parts[number] = part;
+        self.filled.set(number, holds);
+    }
+
+    /// Puts other parts, as they stand, in the place of those from a number on.
+    pub(super) fn install(&mut self, first: usize, others: Parts<T, V, X>)
+        requires fits { first + length others ≤ length self.old }
+        requires most { length self.old ≤ partition_count 3 }
+        ensures { self.new ≡ with_parts_from self.old first others }
+    {
+        let mut rest = others.parts.into_iter();
+        let mut number = first;
+        while let Some(part) = rest.next() {
+            self.put(number, part);
+            number += 1;
+        }
+    }
+
+    /// Whether none of so many parts from a number on holds anything.
+    pub(super) fn is_free(&self, first: usize, count: usize) -> bool
+        ensures { Decides result (AreFree self.now first count) }
+    {
+        match self.filled.first_from(first) {
+            Some(number) => number - first >= count,
+            None => true,
+        }
+    }
+
+    /// Visits each value once, in no certain order.
+    pub(super) fn for_each_value<F: FnMut(&V)>(&self, visit: &mut F)
+        requires { F.IsAlwaysCallable visit.old }
+        ensures callable { F.IsAlwaysCallable visit.new }
+        ensures visits { VisitsEach (CalledAt F.FnMut) visit.old (values_of (gathered self.now)) visit.new }
+    {
+        let mut rest = self.parts.as_slice();
+        while let Some((part, behind)) = rest.split_first() {
+            part.for_each_value(visit);
+            rest = behind;
         }
     }
 

@@ -1,6 +1,6 @@
 use Rattle.std.proofs.Common.{sym, ap, ◌∙◌}
 use Rattle.std.specs.Option.{option_copied}
-use Rattle.key_index_flat.specs.FullKeys.{values_of}
+use Rattle.key_index_flat.specs.Values.{values_of}
 use Rattle.key_index_uses.specs.Exclusion.{has_key}
 use Rattle.key_index_uses.proofs.ExclusionLemmas.{excludes, has_key_anywhere}
 use Rattle.key_index_uses.proofs.callers.exclude.Goals as goal

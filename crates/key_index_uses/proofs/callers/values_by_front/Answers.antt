@@ -1,8 +1,7 @@
-use Rattle.std.proofs.Common.{◌≡◌, ◌<◌, map, ap, ◌∙◌, arith}
+use Rattle.std.proofs.Common.{◌≡◌, ◌<◌, ap, ◌∙◌, arith}
 use Rattle.std.proofs.lemmas.List.Elements.{All-from_get_or}
 use Rattle.std.specs.Ordering.{nat_cmp}
 use Rattle.key_index_flat.specs.Content.{list_at}
-use Rattle.key_index_flat.specs.Held.{held}
 use Rattle.key_index_flat.specs.Padding.{cap_number}
 use Rattle.key_index_parts.specs.Gathered.{pair_cmp, gathered}
 use Rattle.key_index_parts.specs.Prefix.{slot_by}
@@ -16,4 +15,4 @@ returns g c =
     let of_front = All-from_get_or (λ n. n < 256) front 0 (λ i within. omega (arith, c.type_inv.front i)) in
     let one : slot_by g.row.P (cap_number 2) front ≡ slot_by g.row.P (cap_number 2) key =
     (c.grouping_and_order.ensures.partitioned g.row.P 2 front key of_front of_key).1.1 c.requires in
-    c.get.ensures ∙ ap (λ k. list_at (pair_cmp nat_cmp) (gathered (map (λ part. held part) c.args.index.now.parts.items)) k) one
+    c.get.ensures ∙ ap (λ k. list_at (pair_cmp nat_cmp) (gathered c.args.index.now.storage.parts) k) one

@@ -9,15 +9,15 @@ ghost use Rattle.key_index_flat.specs.Neighbours.{first_list, last_list, entries
 ghost use Rattle.key_index_parts.specs.Pairs.{IsRun, grouped};
 
 use super::partition::Partition;
-use crate::index::partitioned::part::{OrderedPart, Part, Retained};
-use key_index_flat::index::{Refused, Values};
+use crate::index::partitioned::part::{OrderedPart, Part};
+use key_index_flat::index::{Refused, Retained, Values};
 use key_index_flat::translator::Translator;
 use std::alloc::Global;
 use std::ops::Range;
 
 /// A part as sorted arrays: each key once for each of its values.
 #[derive(Drop)]
-pub(super) struct Arrays<T: Translator, V> {
+pub struct Arrays<T: Translator, V> {
     pairs: Partition<T::Key, V>,
 }
 
@@ -72,7 +72,7 @@ impl<T: Translator, V: Drop> Part<T, V> for Arrays<T, V> {
 
     ghost lawful = { λ part. IsLawful-grouped T.Key.total part.pairs.pairs };
 
-    fn new(alloc: Global) -> Arrays<T, V> {
+    fn new(alloc: Global, _translator: T) -> Arrays<T, V> {
         Arrays {
             pairs: Partition::new(alloc),
         }
@@ -171,6 +171,14 @@ impl<T: Translator, V: Drop> Part<T, V> for Arrays<T, V> {
         let taken = run.end - run.start;
         self.pairs.remove_run(run);
         taken
+    }
+
+    fn for_each_value<F: FnMut(&V)>(&self, visit: &mut F) {
+        let mut rest = self.pairs.values_iter().as_slice();
+        while let Some((value, behind)) = rest.split_first() {
+            visit(value);
+            rest = behind;
+        }
     }
 }
 

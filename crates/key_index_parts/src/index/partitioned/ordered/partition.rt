@@ -327,7 +327,8 @@ impl<K: Ord + Copy, V: Drop> Partition<K, V> {
 
     /// All values, in the order of their keys.
     pub fn values_iter(&self) -> slice::Iter<'_, V>
-        ensures { iter_rest result ≡ values_of self.now.pairs }
+        ensures values { iter_rest result ≡ values_of self.now.pairs }
+        ensures sorted { IsSorted K.cmp (keys_of self.now.pairs) }
     {
         self.values.iter()
     }

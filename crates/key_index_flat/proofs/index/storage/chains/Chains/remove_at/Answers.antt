@@ -1,31 +1,32 @@
-use Rattle.std.proofs.Common.{rules, ◌+◌, ◌<◌, [], ◌++◌, length, slice_get, cond, is_some, sym, ap, ◌∙◌, arith, subst}
+use Rattle.std.proofs.Common.{rules, ◌+◌, ◌<◌, [], ◌∷◌, ◌++◌, length, length-append, slice_get, cond, is_some, sym, ap, ◌∙◌, arith, subst}
+use Rattle.std.proofs.lemmas.List.{length-reverse}
 use Rattle.key_index_flat.specs.Storage.{older_at, content_of}
 use Rattle.key_index_flat.specs.Content.{list_at}
-use Rattle.key_index_flat.proofs.EditLemmas.{place_within, remove_among_older, value_among_older, value_newest, newest, newest_removed, only_removed}
+use Rattle.key_index_flat.proofs.EditLemmas.{list_is, place_within, remove_among_older, value_among_older, value_newest, newest, newest_removed, only_removed}
 use Rattle.key_index_flat.proofs.index.storage.chains.Chains.remove_at.Goals as goal
 
-pub remove_older-requires-clause-within : goal.remove_older-requires-clause-within
-remove_older-requires-clause-within g c =
+pub remove_older-value-requires-clause-within : goal.remove_older-value-requires-clause-within
+remove_older-value-requires-clause-within g c =
     let place = subst (λ now. c.args.place < length (list_at g.T.Key.Ord.cmp now c.args.slot)) (sym c.self.view_is) c.requires.place in
     place_within g.met.T.Key.Ord.total g.met.T.Translator.exact (g.M.Heads.entries c.self.inside.heads) (older_at g.T.Key.PartialEq.eq c.self.inside.older) (older_at g.T.Key.PartialEq.eq c.self.inside.older) c.args.slot c.self.invariant c.args.place place
 
 pub invariant_of-self : goal.invariant_of-self
 invariant_of-self g c =
     let place = subst (λ now. c.args.place < length (list_at g.T.Key.Ord.cmp now c.args.slot)) (sym c.self.view_is) c.requires.place in
-    (remove_among_older g.met.T.Key.Ord.total g.met.T.Translator.exact (g.M.Heads.entries c.self.inside.heads) (older_at g.T.Key.PartialEq.eq c.self.inside.older) (older_at g.T.Key.PartialEq.eq c.remove_older.new.older) c.args.slot c.self.invariant c.args.place c.if-place-ne0.true place c.remove_older.ensures.at c.remove_older.ensures.others).linked
+    (remove_among_older g.met.T.Key.Ord.total g.met.T.Translator.exact (g.M.Heads.entries c.self.inside.heads) (older_at g.T.Key.PartialEq.eq c.self.inside.older) (older_at g.T.Key.PartialEq.eq c.remove_older-value.new.older) c.args.slot c.self.invariant c.args.place c.if-place-ne0.true place c.remove_older-value.ensures.at c.remove_older-value.ensures.others).linked
 
 pub returns-then-place-ne0-clause-value : goal.returns-then-place-ne0-clause-value
 returns-then-place-ne0-clause-value g c =
     let place = subst (λ now. c.args.place < length (list_at g.T.Key.Ord.cmp now c.args.slot)) (sym c.self.view_is) c.requires.place in
     rw (← c.self.view_is) (
-    value_among_older g.met.T.Key.Ord.total g.met.T.Translator.exact (g.M.Heads.entries c.self.inside.heads) (older_at g.T.Key.PartialEq.eq c.self.inside.older) (older_at g.T.Key.PartialEq.eq c.remove_older.new.older) c.args.slot c.self.invariant c.args.place c.remove_older.result c.if-place-ne0.true place c.remove_older.ensures.value
+    value_among_older g.met.T.Key.Ord.total g.met.T.Translator.exact (g.M.Heads.entries c.self.inside.heads) (older_at g.T.Key.PartialEq.eq c.self.inside.older) (older_at g.T.Key.PartialEq.eq c.remove_older-value.new.older) c.args.slot c.self.invariant c.args.place c.remove_older-value.result.0 c.if-place-ne0.true place c.remove_older-value.ensures.value
     )
 
 pub returns-then-place-ne0-clause-content : goal.returns-then-place-ne0-clause-content
 returns-then-place-ne0-clause-content g c =
     let place = subst (λ now. c.args.place < length (list_at g.T.Key.Ord.cmp now c.args.slot)) (sym c.self.view_is) c.requires.place in
     rw (← c.self.view_is) (
-    (remove_among_older g.met.T.Key.Ord.total g.met.T.Translator.exact (g.M.Heads.entries c.self.inside.heads) (older_at g.T.Key.PartialEq.eq c.self.inside.older) (older_at g.T.Key.PartialEq.eq c.remove_older.new.older) c.args.slot c.self.invariant c.args.place c.if-place-ne0.true place c.remove_older.ensures.at c.remove_older.ensures.others).content
+    (remove_among_older g.met.T.Key.Ord.total g.met.T.Translator.exact (g.M.Heads.entries c.self.inside.heads) (older_at g.T.Key.PartialEq.eq c.self.inside.older) (older_at g.T.Key.PartialEq.eq c.remove_older-value.new.older) c.args.slot c.self.invariant c.args.place c.if-place-ne0.true place c.remove_older-value.ensures.at c.remove_older-value.ensures.others).content
     )
 
 pub unwrap-requires : goal.unwrap-requires
@@ -77,4 +78,40 @@ returns-clause-content g c =
     let h : 0 < length (list_at g.T.Key.Ord.cmp (content_of g.T.Key.Ord.cmp (g.M.Heads.entries c.self.inside.heads) (older_at g.T.Key.PartialEq.eq c.self.inside.older)) c.args.slot) = omega (arith, place) in
     let n = newest g.met.T.Key.Ord.total g.met.T.Translator.exact (g.M.Heads.entries c.self.inside.heads) (older_at g.T.Key.PartialEq.eq c.self.inside.older) (older_at g.T.Key.PartialEq.eq c.self.inside.older) c.args.slot c.self.invariant h in
     (newest_removed g.met.T.Key.Ord.total g.met.T.Translator.exact (g.M.Heads.entries c.self.inside.heads) (older_at g.T.Key.PartialEq.eq c.self.inside.older) (older_at g.T.Key.PartialEq.eq c.pop_older.new.older) c.args.slot c.self.invariant (g.M.Heads.entries c.insert.new.self) c.args.place n.0 c.in-Some.next c.if-place-ne0.false n.1 c.in-Ok-Some.ensures.sets (c.in-Ok-Some.ensures.len ∙ ap (λ o. length (g.M.Heads.entries c.self.inside.heads) + cond (is_some o) 0 1) (c.in-Ok-Some.ensures.old ∙ n.1)) c.in-Some.ensures.at c.pop_older.ensures.others).content
+    )
+
+pub returns-then-place-ne0-clause-left : goal.returns-then-place-ne0-clause-left
+returns-then-place-ne0-clause-left g c =
+    let place = subst (λ now. c.args.place < length (list_at g.T.Key.Ord.cmp now c.args.slot)) (sym c.self.view_is) c.requires.place in
+    rw (← c.self.view_is) (
+    let h : 0 < length (list_at g.T.Key.Ord.cmp (content_of g.T.Key.Ord.cmp (g.M.Heads.entries c.self.inside.heads) (older_at g.T.Key.PartialEq.eq c.self.inside.older)) c.args.slot) = omega (arith, place) in
+    let n = newest g.met.T.Key.Ord.total g.met.T.Translator.exact (g.M.Heads.entries c.self.inside.heads) (older_at g.T.Key.PartialEq.eq c.self.inside.older) (older_at g.T.Key.PartialEq.eq c.self.inside.older) c.args.slot c.self.invariant h in
+    let long = ap (λ l. length l) (list_is g.met.T.Key.Ord.total g.met.T.Translator.exact (g.M.Heads.entries c.self.inside.heads) (older_at g.T.Key.PartialEq.eq c.self.inside.older) (older_at g.T.Key.PartialEq.eq c.self.inside.older) c.args.slot c.self.invariant n.0 n.1) in
+    let back = length-reverse (older_at g.T.Key.PartialEq.eq c.self.inside.older c.args.slot) in
+    omega (arith, long, back, c.remove_older-value.ensures.left)
+    )
+
+pub returns-in_default-clause-left : goal.returns-in_default-clause-left
+returns-in_default-clause-left g c =
+    let place = subst (λ now. c.args.place < length (list_at g.T.Key.Ord.cmp now c.args.slot)) (sym c.self.view_is) c.requires.place in
+    rw (← c.self.view_is) (
+    let h : 0 < length (list_at g.T.Key.Ord.cmp (content_of g.T.Key.Ord.cmp (g.M.Heads.entries c.self.inside.heads) (older_at g.T.Key.PartialEq.eq c.self.inside.older)) c.args.slot) = omega (arith, place) in
+    let n = newest g.met.T.Key.Ord.total g.met.T.Translator.exact (g.M.Heads.entries c.self.inside.heads) (older_at g.T.Key.PartialEq.eq c.self.inside.older) (older_at g.T.Key.PartialEq.eq c.self.inside.older) c.args.slot c.self.invariant h in
+    let long = ap (λ l. length l) (list_is g.met.T.Key.Ord.total g.met.T.Translator.exact (g.M.Heads.entries c.self.inside.heads) (older_at g.T.Key.PartialEq.eq c.self.inside.older) (older_at g.T.Key.PartialEq.eq c.self.inside.older) c.args.slot c.self.invariant n.0 n.1) in
+    let back = length-reverse (older_at g.T.Key.PartialEq.eq c.self.inside.older c.args.slot) in
+    let none = ap (λ l. length l) (c.in_default.ensures.at ∙ ap (λ l. l ++ []) c.in_default.ensures.none) in
+    omega (arith, long, back, none)
+    )
+
+pub returns-clause-left : goal.returns-clause-left
+returns-clause-left g c =
+    let place = subst (λ now. c.args.place < length (list_at g.T.Key.Ord.cmp now c.args.slot)) (sym c.self.view_is) c.requires.place in
+    rw (← c.self.view_is) (
+    let h : 0 < length (list_at g.T.Key.Ord.cmp (content_of g.T.Key.Ord.cmp (g.M.Heads.entries c.self.inside.heads) (older_at g.T.Key.PartialEq.eq c.self.inside.older)) c.args.slot) = omega (arith, place) in
+    let n = newest g.met.T.Key.Ord.total g.met.T.Translator.exact (g.M.Heads.entries c.self.inside.heads) (older_at g.T.Key.PartialEq.eq c.self.inside.older) (older_at g.T.Key.PartialEq.eq c.self.inside.older) c.args.slot c.self.invariant h in
+    let long = ap (λ l. length l) (list_is g.met.T.Key.Ord.total g.met.T.Translator.exact (g.M.Heads.entries c.self.inside.heads) (older_at g.T.Key.PartialEq.eq c.self.inside.older) (older_at g.T.Key.PartialEq.eq c.self.inside.older) c.args.slot c.self.invariant n.0 n.1) in
+    let back = length-reverse (older_at g.T.Key.PartialEq.eq c.self.inside.older c.args.slot) in
+    let more = ap (λ l. length l) c.in-Some.ensures.at in
+    let one = length-append (older_at g.T.Key.PartialEq.eq c.pop_older.new.older c.args.slot) (c.in-Some.next ∷ []) in
+    omega (arith, long, back, more, one, c.in-Some.ensures.left)
     )

@@ -5,7 +5,7 @@ use Rattle.key_index_parts.proofs.StorageLemmas.{list_is, reach}
 use Rattle.key_index_parts.proofs.index.partitioned.storage.Storage.get.Goals as goal
 
 pub get-requires : goal.get-requires
-get-requires g c = reach c.self.invariant c.slot_of.result.0 c.slot_of.ensures.within
+get-requires g c = reach c.self.view_is g.row.P c.requires c.slot_of.result.0 c.slot_of.ensures.within
 
 pub returns : goal.returns
 returns g c =

@@ -4,21 +4,21 @@ use Rattle.key_index_flat.proofs.ContentLemmas.{entries_for}
 use Rattle.key_index_parts.specs.Family.{list_in, view_of}
 use Rattle.key_index_parts.specs.Gathered.{pair_cmp}
 use Rattle.key_index_parts.specs.Prefix.{slot_by}
-use Rattle.key_index_parts.proofs.StorageLemmas.{lawful, reach, one_entry, new_entries, length-put_value, keys_fit, counted_edit, edited_lawful, view_edited}
+use Rattle.key_index_parts.proofs.StorageLemmas.{lawful, reach, resized, one_entry, new_entries, length-put_value, keys_fit, counted_edit, edited_lawful, view_edited}
 use Rattle.key_index_parts.proofs.index.partitioned.storage.Storage.insert.Goals as goal
 
 pub returns-then-self-clause-lawful : goal.returns-then-self-clause-lawful
 returns-then-self-clause-lawful g c = rw (← c.self.view_is) (lawful c.self.invariant)
 
 pub insert-requires : goal.insert-requires
-insert-requires g c = reach c.self.invariant c.slot_of-slot.result.0 c.slot_of-slot.ensures.within
+insert-requires g c = reach c.self.view_is g.row.P c.requires c.slot_of-slot.result.0 c.slot_of-slot.ensures.within
 
 pub overflow_add-self : goal.overflow_add-self
 overflow_add-self g c =
     let slot = c.slot_of-slot.result in
     let list = list_in g.T.Key.Ord.cmp c.self.inside.parts slot in
     let l = put_value g.X.Part.FIRST c.args.value list in
-    let inside = reach c.self.invariant slot.0 c.slot_of-slot.ensures.within in
+    let inside = reach c.self.view_is g.row.P c.requires slot.0 c.slot_of-slot.ensures.within in
     let more = length-put_value g.X.Part.FIRST c.args.value list in
     let now = one_entry l (omega (arith, more)) in
     let told : c.from.result + entries_for list ≡ 1 = new_entries list c.in-Ok.absent c.from.result c.from.ensures c.in-Ok.ensures.accepted.1 in
@@ -31,7 +31,7 @@ invariant_of-self g c =
     let slot = c.slot_of-slot.result in
     let list = list_in g.T.Key.Ord.cmp c.self.inside.parts slot in
     let l = put_value g.X.Part.FIRST c.args.value list in
-    let inside = reach c.self.invariant slot.0 c.slot_of-slot.ensures.within in
+    let inside = reach c.self.view_is g.row.P c.requires slot.0 c.slot_of-slot.ensures.within in
     let more = length-put_value g.X.Part.FIRST c.args.value list in
     let now = one_entry l (omega (arith, more)) in
     let told : c.from.result + entries_for list ≡ 1 = new_entries list c.in-Ok.absent c.from.result c.from.ensures c.in-Ok.ensures.accepted.1 in
@@ -42,7 +42,7 @@ returns-in-Ok-clause-accepted g c =
     let slot = c.slot_of-slot.result in
     let list = list_in g.T.Key.Ord.cmp c.self.inside.parts slot in
     let l = put_value g.X.Part.FIRST c.args.value list in
-    let inside = reach c.self.invariant slot.0 c.slot_of-slot.ensures.within in
+    let inside = reach c.self.view_is g.row.P c.requires slot.0 c.slot_of-slot.ensures.within in
     let of_key = subst (λ s. slot ≡ slot_by g.row.P (g.T.Translator.translated s.translator) c.args.key.now) (sym c.self.view_is) c.slot_of-slot.ensures.slot in
     rw (← c.self.view_is) (
     view_edited c.self.invariant g.met.T.Key.Ord.total g.met.T.Translator.exact slot l c.insert.new.self inside c.in-Ok.ensures.accepted.0 g.T.Translator.translated c.self.inside.translator c.self.inside.pruned (put_value g.X.Part.FIRST c.args.value) refl
@@ -53,7 +53,10 @@ pub returns-in-Ok-clause-lawful : goal.returns-in-Ok-clause-lawful
 returns-in-Ok-clause-lawful g c =
     let slot = c.slot_of-slot.result in
     let l = put_value g.X.Part.FIRST c.args.value (list_in g.T.Key.Ord.cmp c.self.inside.parts slot) in
-    edited_lawful c.self.invariant g.met.T.Key.Ord.total g.met.T.Translator.exact slot l c.insert.new.self (reach c.self.invariant slot.0 c.slot_of-slot.ensures.within) c.in-Ok.ensures.accepted.0
+    edited_lawful c.self.invariant g.met.T.Key.Ord.total g.met.T.Translator.exact slot l c.insert.new.self (reach c.self.view_is g.row.P c.requires slot.0 c.slot_of-slot.ensures.within) c.in-Ok.ensures.accepted.0
 
 pub returns-in-Err-clause-lawful : goal.returns-in-Err-clause-lawful
 returns-in-Err-clause-lawful g c = rw c.in-Err.ensures.refused (lawful c.self.invariant)
+
+pub returns-in-Ok-clause-sized : goal.returns-in-Ok-clause-sized
+returns-in-Ok-clause-sized g c = rw (← c.self.view_is) (resized g.T.Key.Ord.cmp c.self.inside.parts c.slot_of-slot.result _ c.insert.new.self c.in-Ok.ensures.accepted.0)

@@ -2,20 +2,20 @@ use Rattle.std.proofs.Common.{rules, ◌≡◌, ◌+◌, ◌^◌, ◌<◌, [], �
 use Rattle.key_index_flat.specs.Content.{IsLawful}
 use Rattle.key_index_parts.specs.Family.{list_in}
 use Rattle.key_index_parts.specs.Gathered.{pair_cmp, gathered}
-use Rattle.key_index_parts.proofs.StorageLemmas.{lawful, list_is, reach, no_entry, keys_fit, counted_edit, edited_lawful, view_edited}
+use Rattle.key_index_parts.proofs.StorageLemmas.{lawful, list_is, within, resized, no_entry, keys_fit, counted_edit, edited_lawful, view_edited}
 use Rattle.key_index_parts.proofs.index.partitioned.storage.Storage.insert_absent.Goals as goal
 
 pub returns-then-self-clause-lawful : goal.returns-then-self-clause-lawful
 returns-then-self-clause-lawful g c = rw (← c.self.view_is) (lawful c.self.invariant)
 
 pub insert_absent-requires : goal.insert_absent-requires
-insert_absent-requires g c = reach c.self.invariant c.args.slot.0 c.requires
+insert_absent-requires g c = within c.self.view_is c.args.slot.0 c.requires
 
 pub overflow_add-self : goal.overflow_add-self
 overflow_add-self g c =
     let slot = c.args.slot in
     let l = c.args.value ∷ [] in
-    let inside = reach c.self.invariant slot.0 c.requires in
+    let inside = within c.self.view_is slot.0 c.requires in
     let made = c.in-Ok-eq0.ensures.inserted c.in-Ok-eq0.field-0-test in
     let list = list_in g.T.Key.Ord.cmp c.self.inside.parts slot in
     let none : length list ≡ 0 = sym c.in-Ok-eq0.ensures.len ∙ c.in-Ok-eq0.field-0-test in
@@ -28,7 +28,7 @@ pub invariant_of-self : goal.invariant_of-self
 invariant_of-self g c =
     let slot = c.args.slot in
     let l = c.args.value ∷ [] in
-    let inside = reach c.self.invariant slot.0 c.requires in
+    let inside = within c.self.view_is slot.0 c.requires in
     let made = c.in-Ok-eq0.ensures.inserted c.in-Ok-eq0.field-0-test in
     let list = list_in g.T.Key.Ord.cmp c.self.inside.parts slot in
     let none : length list ≡ 0 = sym c.in-Ok-eq0.ensures.len ∙ c.in-Ok-eq0.field-0-test in
@@ -39,7 +39,7 @@ pub returns-in-Ok-eq0-clause-inserted : goal.returns-in-Ok-eq0-clause-inserted
 returns-in-Ok-eq0-clause-inserted g c =
     let slot = c.args.slot in
     let l = c.args.value ∷ [] in
-    let inside = reach c.self.invariant slot.0 c.requires in
+    let inside = within c.self.view_is slot.0 c.requires in
     let made = c.in-Ok-eq0.ensures.inserted c.in-Ok-eq0.field-0-test in
     rw (← c.self.view_is) (λ _.
     view_edited c.self.invariant g.met.T.Key.Ord.total g.met.T.Translator.exact slot l c.insert_absent.new.self inside made g.T.Translator.translated c.self.inside.translator c.self.inside.pruned (λ _. l) refl
@@ -55,7 +55,7 @@ pub returns-in-Ok-eq0-clause-lawful : goal.returns-in-Ok-eq0-clause-lawful
 returns-in-Ok-eq0-clause-lawful g c =
     let slot = c.args.slot in
     let l = c.args.value ∷ [] in
-    let inside = reach c.self.invariant slot.0 c.requires in
+    let inside = within c.self.view_is slot.0 c.requires in
     let made = c.in-Ok-eq0.ensures.inserted c.in-Ok-eq0.field-0-test in
     edited_lawful c.self.invariant g.met.T.Key.Ord.total g.met.T.Translator.exact slot l c.insert_absent.new.self inside made
 
@@ -72,3 +72,6 @@ returns-in-Ok-clause-lawful g c =
 
 pub returns-in-Err-clause-lawful : goal.returns-in-Err-clause-lawful
 returns-in-Err-clause-lawful g c = rw c.in-Err.ensures.refused (lawful c.self.invariant)
+
+pub returns-in-Ok-eq0-clause-sized : goal.returns-in-Ok-eq0-clause-sized
+returns-in-Ok-eq0-clause-sized g c = rw (← c.self.view_is) (resized g.T.Key.Ord.cmp c.self.inside.parts c.args.slot (c.args.value ∷ []) c.insert_absent.new.self (c.in-Ok-eq0.ensures.inserted c.in-Ok-eq0.field-0-test))

@@ -8,7 +8,7 @@ use Rattle.key_index_parts.specs.Family.{list_in, view_of}
 use Rattle.key_index_parts.specs.Gathered.{pair_cmp, gathered}
 use Rattle.key_index_parts.specs.Prefix.{slot_by}
 use Rattle.key_index_parts.proofs.PartLemmas.{where_true_at_most}
-use Rattle.key_index_parts.proofs.StorageLemmas.{lawful, list_is, reach, all_entries, items_within, entries_within, keys_fit, counted_edit, edited_lawful, view_pruned}
+use Rattle.key_index_parts.proofs.StorageLemmas.{lawful, list_is, reach, resized, all_entries, items_within, entries_within, keys_fit, counted_edit, edited_lawful, view_pruned}
 use Rattle.key_index_parts.proofs.index.partitioned.storage.Storage.insert_and_retain.Goals as goal
 
 pub returns-then-self-clause-lawful : goal.returns-then-self-clause-lawful
@@ -18,7 +18,7 @@ pub overflow_sub-self : goal.overflow_sub-self
 overflow_sub-self g c =
     let slot = c.slot_of-slot.result in
     let list = list_in g.T.Key.Ord.cmp c.self.inside.parts slot in
-    let inside = reach c.self.invariant slot.0 c.slot_of-slot.ensures.within in
+    let inside = reach c.self.view_is g.row.P c.requires.whole slot.0 c.slot_of-slot.ensures.within in
     let said = c.in-Ok.ensures.accepted in
     let l = items_where_true said.0 (list ++ c.args.value ∷ []) in
     let before = all_entries list c.in-Ok.retained.had c.from-had_key.result c.from-had_key.ensures said.5 in
@@ -31,7 +31,7 @@ pub overflow_add-self : goal.overflow_add-self
 overflow_add-self g c =
     let slot = c.slot_of-slot.result in
     let list = list_in g.T.Key.Ord.cmp c.self.inside.parts slot in
-    let inside = reach c.self.invariant slot.0 c.slot_of-slot.ensures.within in
+    let inside = reach c.self.view_is g.row.P c.requires.whole slot.0 c.slot_of-slot.ensures.within in
     let said = c.in-Ok.ensures.accepted in
     let l = items_where_true said.0 (list ++ c.args.value ∷ []) in
     let before = all_entries list c.in-Ok.retained.had c.from-had_key.result c.from-had_key.ensures said.5 in
@@ -48,7 +48,7 @@ pub overflow_sub-self-in-Ok : goal.overflow_sub-self-in-Ok
 overflow_sub-self-in-Ok g c =
     let slot = c.slot_of-slot.result in
     let list = list_in g.T.Key.Ord.cmp c.self.inside.parts slot in
-    let inside = reach c.self.invariant slot.0 c.slot_of-slot.ensures.within in
+    let inside = reach c.self.view_is g.row.P c.requires.whole slot.0 c.slot_of-slot.ensures.within in
     let said = c.in-Ok.ensures.accepted in
     let l = items_where_true said.0 (list ++ c.args.value ∷ []) in
     let before = all_entries list c.in-Ok.retained.had c.from-had_key.result c.from-had_key.ensures said.5 in
@@ -61,7 +61,7 @@ pub overflow_add-self-in-Ok : goal.overflow_add-self-in-Ok
 overflow_add-self-in-Ok g c =
     let slot = c.slot_of-slot.result in
     let list = list_in g.T.Key.Ord.cmp c.self.inside.parts slot in
-    let inside = reach c.self.invariant slot.0 c.slot_of-slot.ensures.within in
+    let inside = reach c.self.view_is g.row.P c.requires.whole slot.0 c.slot_of-slot.ensures.within in
     let said = c.in-Ok.ensures.accepted in
     let l = items_where_true said.0 (list ++ c.args.value ∷ []) in
     let before = all_entries list c.in-Ok.retained.had c.from-had_key.result c.from-had_key.ensures said.5 in
@@ -77,7 +77,7 @@ pub invariant_of-self : goal.invariant_of-self
 invariant_of-self g c =
     let slot = c.slot_of-slot.result in
     let list = list_in g.T.Key.Ord.cmp c.self.inside.parts slot in
-    let inside = reach c.self.invariant slot.0 c.slot_of-slot.ensures.within in
+    let inside = reach c.self.view_is g.row.P c.requires.whole slot.0 c.slot_of-slot.ensures.within in
     let said = c.in-Ok.ensures.accepted in
     let l = items_where_true said.0 (list ++ c.args.value ∷ []) in
     let before = all_entries list c.in-Ok.retained.had c.from-had_key.result c.from-had_key.ensures said.5 in
@@ -90,7 +90,7 @@ pub returns-in-Ok-clause-accepted : goal.returns-in-Ok-clause-accepted
 returns-in-Ok-clause-accepted g c =
     let slot = c.slot_of-slot.result in
     let list = list_in g.T.Key.Ord.cmp c.self.inside.parts slot in
-    let inside = reach c.self.invariant slot.0 c.slot_of-slot.ensures.within in
+    let inside = reach c.self.view_is g.row.P c.requires.whole slot.0 c.slot_of-slot.ensures.within in
     let said = c.in-Ok.ensures.accepted in
     let l = items_where_true said.0 (list ++ c.args.value ∷ []) in
     let of_key = subst (λ s. slot ≡ slot_by g.row.P (g.T.Translator.translated s.translator) c.args.key.now) (sym c.self.view_is) c.slot_of-slot.ensures.slot in
@@ -116,10 +116,13 @@ pub returns-in-Ok-clause-lawful : goal.returns-in-Ok-clause-lawful
 returns-in-Ok-clause-lawful g c =
     let slot = c.slot_of-slot.result in
     let list = list_in g.T.Key.Ord.cmp c.self.inside.parts slot in
-    let inside = reach c.self.invariant slot.0 c.slot_of-slot.ensures.within in
+    let inside = reach c.self.view_is g.row.P c.requires.whole slot.0 c.slot_of-slot.ensures.within in
     let said = c.in-Ok.ensures.accepted in
     let l = items_where_true said.0 (list ++ c.args.value ∷ []) in
     edited_lawful c.self.invariant g.met.T.Key.Ord.total g.met.T.Translator.exact slot l c.insert_and_retain.new.self inside said.4
 
 pub returns-in-Err-clause-lawful : goal.returns-in-Err-clause-lawful
 returns-in-Err-clause-lawful g c = rw c.in-Err.ensures.refused (lawful c.self.invariant)
+
+pub returns-in-Ok-clause-sized : goal.returns-in-Ok-clause-sized
+returns-in-Ok-clause-sized g c = rw (← c.self.view_is) (resized g.T.Key.Ord.cmp c.self.inside.parts c.slot_of-slot.result _ c.insert_and_retain.new.self c.in-Ok.ensures.accepted.4)

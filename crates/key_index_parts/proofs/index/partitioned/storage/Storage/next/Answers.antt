@@ -5,7 +5,7 @@ use Rattle.key_index_parts.proofs.StorageLemmas.{reach}
 use Rattle.key_index_parts.proofs.index.partitioned.storage.Storage.next.Goals as goal
 
 pub next-requires : goal.next-requires
-next-requires g c = reach c.self.invariant c.slot_of.result.0 c.slot_of.ensures.within
+next-requires g c = reach c.self.view_is g.row.P c.requires c.slot_of.result.0 c.slot_of.ensures.within
 
 pub returns : goal.returns
 returns g c =

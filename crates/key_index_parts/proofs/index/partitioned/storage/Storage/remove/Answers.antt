@@ -4,17 +4,17 @@ use Rattle.key_index_flat.specs.View.{run_at, with_run, with_pruned}
 use Rattle.key_index_parts.specs.Family.{list_in, view_of}
 use Rattle.key_index_parts.specs.Gathered.{pair_cmp, gathered}
 use Rattle.key_index_parts.specs.Prefix.{slot_by}
-use Rattle.key_index_parts.proofs.StorageLemmas.{list_is, reach, all_entries, items_within, entries_within, counted_edit, edited_lawful, view_pruned}
+use Rattle.key_index_parts.proofs.StorageLemmas.{list_is, reach, resized, all_entries, items_within, entries_within, counted_edit, edited_lawful, view_pruned}
 use Rattle.key_index_parts.proofs.index.partitioned.storage.Storage.remove.Goals as goal
 
 pub remove-taken-requires : goal.remove-taken-requires
-remove-taken-requires g c = reach c.self.invariant c.slot_of-slot.result.0 c.slot_of-slot.ensures.within
+remove-taken-requires g c = reach c.self.view_is g.row.P c.requires c.slot_of-slot.result.0 c.slot_of-slot.ensures.within
 
 pub overflow_sub-self : goal.overflow_sub-self
 overflow_sub-self g c =
     let slot = c.slot_of-slot.result in
     let list = list_in g.T.Key.Ord.cmp c.self.inside.parts slot in
-    let inside = reach c.self.invariant slot.0 c.slot_of-slot.ensures.within in
+    let inside = reach c.self.view_is g.row.P c.requires slot.0 c.slot_of-slot.ensures.within in
     let taken = c.remove-taken.ensures.taken in
     let had = all_entries list c.remove-taken.result c.from.result c.from.ensures taken in
     let keys = entries_within c.self.invariant g.met.T.Key.Ord.total slot in
@@ -25,7 +25,7 @@ pub overflow_sub-self-2 : goal.overflow_sub-self-2
 overflow_sub-self-2 g c =
     let slot = c.slot_of-slot.result in
     let list = list_in g.T.Key.Ord.cmp c.self.inside.parts slot in
-    let inside = reach c.self.invariant slot.0 c.slot_of-slot.ensures.within in
+    let inside = reach c.self.view_is g.row.P c.requires slot.0 c.slot_of-slot.ensures.within in
     let taken = c.remove-taken.ensures.taken in
     let had = all_entries list c.remove-taken.result c.from.result c.from.ensures taken in
     let keys = entries_within c.self.invariant g.met.T.Key.Ord.total slot in
@@ -36,7 +36,7 @@ pub invariant_of-self : goal.invariant_of-self
 invariant_of-self g c =
     let slot = c.slot_of-slot.result in
     let list = list_in g.T.Key.Ord.cmp c.self.inside.parts slot in
-    let inside = reach c.self.invariant slot.0 c.slot_of-slot.ensures.within in
+    let inside = reach c.self.view_is g.row.P c.requires slot.0 c.slot_of-slot.ensures.within in
     let taken = c.remove-taken.ensures.taken in
     let had = all_entries list c.remove-taken.result c.from.result c.from.ensures taken in
     let keys = entries_within c.self.invariant g.met.T.Key.Ord.total slot in
@@ -47,7 +47,7 @@ pub returns-clause-removed : goal.returns-clause-removed
 returns-clause-removed g c =
     let slot = c.slot_of-slot.result in
     let list = list_in g.T.Key.Ord.cmp c.self.inside.parts slot in
-    let inside = reach c.self.invariant slot.0 c.slot_of-slot.ensures.within in
+    let inside = reach c.self.view_is g.row.P c.requires slot.0 c.slot_of-slot.ensures.within in
     let taken = c.remove-taken.ensures.taken in
     let of_key = subst (λ s. slot ≡ slot_by g.row.P (g.T.Translator.translated s.translator) c.args.key.now) (sym c.self.view_is) c.slot_of-slot.ensures.slot in
     let whole = length (list_at (pair_cmp g.T.Key.Ord.cmp) (gathered c.self.inside.parts) slot) in
@@ -63,6 +63,9 @@ pub returns-clause-lawful : goal.returns-clause-lawful
 returns-clause-lawful g c =
     let slot = c.slot_of-slot.result in
     let list = list_in g.T.Key.Ord.cmp c.self.inside.parts slot in
-    let inside = reach c.self.invariant slot.0 c.slot_of-slot.ensures.within in
+    let inside = reach c.self.view_is g.row.P c.requires slot.0 c.slot_of-slot.ensures.within in
     let taken = c.remove-taken.ensures.taken in
     edited_lawful c.self.invariant g.met.T.Key.Ord.total g.met.T.Translator.exact slot [] c.remove-taken.new.self inside c.remove-taken.ensures.parts
+
+pub returns-clause-sized : goal.returns-clause-sized
+returns-clause-sized g c = rw (← c.self.view_is) (resized g.T.Key.Ord.cmp c.self.inside.parts c.slot_of-slot.result [] c.remove-taken.new.self c.remove-taken.ensures.parts)

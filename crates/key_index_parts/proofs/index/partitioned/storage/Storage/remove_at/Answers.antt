@@ -3,7 +3,7 @@ use Rattle.std.proofs.lemmas.List.Edits.{length-remove}
 use Rattle.key_index_flat.specs.Content.{list_at}
 use Rattle.key_index_parts.specs.Family.{list_in}
 use Rattle.key_index_parts.specs.Gathered.{pair_cmp, gathered}
-use Rattle.key_index_parts.proofs.StorageLemmas.{list_is, held_inside, one_entry, lost_entries, items_within, entries_within, counted_edit, edited_lawful, view_pruned}
+use Rattle.key_index_parts.proofs.StorageLemmas.{list_is, held_inside, resized, one_entry, lost_entries, items_within, entries_within, counted_edit, edited_lawful, view_pruned}
 use Rattle.key_index_parts.proofs.index.partitioned.storage.Storage.remove_at.Goals as goal
 
 pub remove_at-value-requires : goal.remove_at-value-requires
@@ -85,3 +85,6 @@ returns-clause-lawful g c =
     let l = remove list c.args.place in
     let inside = held_inside c.self.invariant slot c.args.place seen in
     edited_lawful c.self.invariant g.met.T.Key.Ord.total g.met.T.Translator.exact slot l c.remove_at-value.new.self inside c.remove_at-value.ensures.parts
+
+pub returns-clause-sized : goal.returns-clause-sized
+returns-clause-sized g c = rw (← c.self.view_is) (resized g.T.Key.Ord.cmp c.self.inside.parts c.args.slot _ c.remove_at-value.new.self c.remove_at-value.ensures.parts)

@@ -7,17 +7,17 @@ use Rattle.key_index_parts.specs.Family.{list_in, view_of}
 use Rattle.key_index_parts.specs.Gathered.{pair_cmp, gathered}
 use Rattle.key_index_parts.specs.Prefix.{slot_by}
 use Rattle.key_index_parts.proofs.PartLemmas.{kept_at_most}
-use Rattle.key_index_parts.proofs.StorageLemmas.{list_is, reach, all_entries, fewer_entries, items_within, entries_within, counted_edit, edited_lawful, view_pruned}
+use Rattle.key_index_parts.proofs.StorageLemmas.{list_is, reach, resized, all_entries, fewer_entries, items_within, entries_within, counted_edit, edited_lawful, view_pruned}
 use Rattle.key_index_parts.proofs.index.partitioned.storage.Storage.retain.Goals as goal
 
 pub retain-had-requires-clause-within : goal.retain-had-requires-clause-within
-retain-had-requires-clause-within g c = reach c.self.invariant c.slot_of-slot.result.0 c.slot_of-slot.ensures.within
+retain-had-requires-clause-within g c = reach c.self.view_is g.row.P c.requires.whole c.slot_of-slot.result.0 c.slot_of-slot.ensures.within
 
 pub overflow_sub-taken : goal.overflow_sub-taken
 overflow_sub-taken g c =
     let slot = c.slot_of-slot.result in
     let list = list_in g.T.Key.Ord.cmp c.self.inside.parts slot in
-    let inside = reach c.self.invariant slot.0 c.slot_of-slot.ensures.within in
+    let inside = reach c.self.view_is g.row.P c.requires.whole slot.0 c.slot_of-slot.ensures.within in
     let kept = c.retain-had.ensures.kept in
     let had = c.retain-had.ensures.had in
     let fewer = kept_at_most (CalledAt g.F.FnMut) c.args.should_retain list kept.0 kept.1 in
@@ -27,7 +27,7 @@ pub overflow_sub-lost : goal.overflow_sub-lost
 overflow_sub-lost g c =
     let slot = c.slot_of-slot.result in
     let list = list_in g.T.Key.Ord.cmp c.self.inside.parts slot in
-    let inside = reach c.self.invariant slot.0 c.slot_of-slot.ensures.within in
+    let inside = reach c.self.view_is g.row.P c.requires.whole slot.0 c.slot_of-slot.ensures.within in
     let kept = c.retain-had.ensures.kept in
     let had = c.retain-had.ensures.had in
     let fewer = kept_at_most (CalledAt g.F.FnMut) c.args.should_retain list kept.0 kept.1 in
@@ -42,7 +42,7 @@ pub overflow_sub-self : goal.overflow_sub-self
 overflow_sub-self g c =
     let slot = c.slot_of-slot.result in
     let list = list_in g.T.Key.Ord.cmp c.self.inside.parts slot in
-    let inside = reach c.self.invariant slot.0 c.slot_of-slot.ensures.within in
+    let inside = reach c.self.view_is g.row.P c.requires.whole slot.0 c.slot_of-slot.ensures.within in
     let kept = c.retain-had.ensures.kept in
     let had = c.retain-had.ensures.had in
     let fewer = kept_at_most (CalledAt g.F.FnMut) c.args.should_retain list kept.0 kept.1 in
@@ -57,7 +57,7 @@ pub overflow_sub-self-2 : goal.overflow_sub-self-2
 overflow_sub-self-2 g c =
     let slot = c.slot_of-slot.result in
     let list = list_in g.T.Key.Ord.cmp c.self.inside.parts slot in
-    let inside = reach c.self.invariant slot.0 c.slot_of-slot.ensures.within in
+    let inside = reach c.self.view_is g.row.P c.requires.whole slot.0 c.slot_of-slot.ensures.within in
     let kept = c.retain-had.ensures.kept in
     let had = c.retain-had.ensures.had in
     let fewer = kept_at_most (CalledAt g.F.FnMut) c.args.should_retain list kept.0 kept.1 in
@@ -72,7 +72,7 @@ pub invariant_of-self : goal.invariant_of-self
 invariant_of-self g c =
     let slot = c.slot_of-slot.result in
     let list = list_in g.T.Key.Ord.cmp c.self.inside.parts slot in
-    let inside = reach c.self.invariant slot.0 c.slot_of-slot.ensures.within in
+    let inside = reach c.self.view_is g.row.P c.requires.whole slot.0 c.slot_of-slot.ensures.within in
     let kept = c.retain-had.ensures.kept in
     let had = c.retain-had.ensures.had in
     let fewer = kept_at_most (CalledAt g.F.FnMut) c.args.should_retain list kept.0 kept.1 in
@@ -87,7 +87,7 @@ pub returns-clause-kept : goal.returns-clause-kept
 returns-clause-kept g c =
     let slot = c.slot_of-slot.result in
     let list = list_in g.T.Key.Ord.cmp c.self.inside.parts slot in
-    let inside = reach c.self.invariant slot.0 c.slot_of-slot.ensures.within in
+    let inside = reach c.self.view_is g.row.P c.requires.whole slot.0 c.slot_of-slot.ensures.within in
     let kept = c.retain-had.ensures.kept in
     let had = c.retain-had.ensures.had in
     let fewer = kept_at_most (CalledAt g.F.FnMut) c.args.should_retain list kept.0 kept.1 in
@@ -109,8 +109,11 @@ pub returns-clause-lawful : goal.returns-clause-lawful
 returns-clause-lawful g c =
     let slot = c.slot_of-slot.result in
     let list = list_in g.T.Key.Ord.cmp c.self.inside.parts slot in
-    let inside = reach c.self.invariant slot.0 c.slot_of-slot.ensures.within in
+    let inside = reach c.self.view_is g.row.P c.requires.whole slot.0 c.slot_of-slot.ensures.within in
     let kept = c.retain-had.ensures.kept in
     let had = c.retain-had.ensures.had in
     let fewer = kept_at_most (CalledAt g.F.FnMut) c.args.should_retain list kept.0 kept.1 in
     edited_lawful c.self.invariant g.met.T.Key.Ord.total g.met.T.Translator.exact slot kept.0 c.retain-had.new.self inside kept.2
+
+pub returns-clause-sized : goal.returns-clause-sized
+returns-clause-sized g c = rw (← c.self.view_is) (resized g.T.Key.Ord.cmp c.self.inside.parts c.slot_of-slot.result _ c.retain-had.new.self c.retain-had.ensures.kept.2)

@@ -4,7 +4,7 @@ use Rattle.key_index_flat.specs.Content.{list_at}
 use Rattle.key_index_parts.specs.Family.{list_in}
 use Rattle.key_index_parts.specs.Gathered.{pair_cmp, gathered}
 use Rattle.key_index_parts.proofs.PartLemmas.{as_many_entries}
-use Rattle.key_index_parts.proofs.StorageLemmas.{list_is, held_inside, counted_edit, edited_lawful, view_edited}
+use Rattle.key_index_parts.proofs.StorageLemmas.{list_is, held_inside, resized, counted_edit, edited_lawful, view_edited}
 use Rattle.key_index_parts.proofs.index.partitioned.storage.Storage.set_at.Goals as goal
 
 pub set_at-requires : goal.set_at-requires
@@ -36,3 +36,6 @@ returns-clause-lawful g c =
     let inside = held_inside c.self.invariant c.args.slot c.args.place held in
     let list = list_in g.T.Key.Ord.cmp c.self.inside.parts c.args.slot in
     edited_lawful c.self.invariant g.met.T.Key.Ord.total g.met.T.Translator.exact c.args.slot (slice_set list c.args.place c.args.value) c.set_at.new.self inside c.set_at.ensures
+
+pub returns-clause-sized : goal.returns-clause-sized
+returns-clause-sized g c = rw (← c.self.view_is) (resized g.T.Key.Ord.cmp c.self.inside.parts c.args.slot _ c.set_at.new.self c.set_at.ensures)

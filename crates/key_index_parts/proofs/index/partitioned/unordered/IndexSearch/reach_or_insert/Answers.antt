@@ -1,7 +1,7 @@
-use Rattle.std.proofs.Common.{◌∷◌, [], Result, Ok, Err, IfOk, length, map, ap, ◌∙◌}
-use Rattle.key_index_flat.specs.Content.{list_at, with_list}
-use Rattle.key_index_flat.specs.Held.{held}
-use Rattle.key_index_flat.proofs.ViewLemmas.{same_content, same_pruned, same_slot, same_admitted, same_view}
+use Rattle.std.proofs.Common.{◌∷◌, [], Result, Ok, Err, IfOk, length, ap, ◌∙◌}
+use Rattle.key_index_flat.specs.Content.{list_at}
+use Rattle.key_index_flat.specs.View.{with_run}
+use Rattle.key_index_parts.specs.Family.{view_of}
 use Rattle.key_index_parts.specs.Gathered.{pair_cmp, gathered}
 use Rattle.key_index_parts.proofs.index.partitioned.unordered.IndexSearch.reach_or_insert.Goals as goal
 
@@ -11,17 +11,13 @@ also (Err e) P Q f h = tt
 
 pub returns-clause-inserted : goal.returns-clause-inserted
 returns-clause-inserted g c =
-    let cmp = g.T.Key.Ord.cmp in
-    let whole = gathered (map held c.args.self.now.parts.items) in
-    also c.reach_or_insert_at.result _ _ (λ n says none.
-    let said = says none in (
-      same_view (same_content said ∙ ap (λ s. with_list (pair_cmp cmp) whole s (c.args.value ∷ [])) c.slot_of-slot.ensures) (same_pruned said) (same_slot said) (same_admitted said),
+    let storage = c.args.self.now.storage in
+    also c.insert_absent.result _ _ (λ n says none. (
+      says none ∙ ap (λ s. with_run (pair_cmp g.T.Key.Ord.cmp) (view_of g.row.P g.T.Translator.translated storage) s (c.args.value ∷ [])) c.slot_of-slot.ensures,
       tt,
-    )) c.reach_or_insert_at.ensures.inserted
+    )) c.insert_absent.ensures.inserted
 
 pub returns-clause-len : goal.returns-clause-len
 returns-clause-len g c =
-    let cmp = g.T.Key.Ord.cmp in
-    let whole = gathered (map held c.args.self.now.parts.items) in
-    let at = ap (λ s. length (list_at (pair_cmp cmp) whole s)) c.slot_of-slot.ensures in
-    also c.reach_or_insert_at.result _ _ (λ n e. e ∙ at) c.reach_or_insert_at.ensures.len
+    let at = ap (λ s. length (list_at (pair_cmp g.T.Key.Ord.cmp) (gathered c.args.self.now.storage.parts) s)) c.slot_of-slot.ensures in
+    also c.insert_absent.result _ _ (λ n e. e ∙ at) c.insert_absent.ensures.len

@@ -1,4 +1,4 @@
-use Rattle.std.proofs.Common.{ap, ◌∙◌}
+use Rattle.std.proofs.Common.{◌∙◌}
 use Rattle.key_index_parts.proofs.GroupLemmas.{none_grouped}
 use Rattle.key_index_parts.proofs.index.partitioned.ordered.arrays.ArraysPart.is_empty.Goals as goal
 

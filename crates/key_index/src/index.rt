@@ -1,0 +1,3 @@
+//! Indices that stand on the table of positions.
+
+pub mod immutable;

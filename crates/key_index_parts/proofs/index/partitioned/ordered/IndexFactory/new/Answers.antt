@@ -1,0 +1,9 @@
+use Rattle.std.proofs.Common.{rules, ◌∙◌, arith}
+use Rattle.key_index_parts.proofs.PrefixLemmas.{shifted}
+use Rattle.key_index_parts.proofs.index.partitioned.ordered.IndexFactory.new.Goals as goal
+
+pub new-requires : goal.new-requires
+new-requires g c = let is = shifted g.row.P c.requires.1 in (search rules, (c.requires.0, (c.requires.1, omega (arith, is))))
+
+pub invariant_of-result-clause-whole : goal.invariant_of-result-clause-whole
+invariant_of-result-clause-whole g c = c.in-Ok.ensures.sized ∙ shifted g.row.P c.requires.1

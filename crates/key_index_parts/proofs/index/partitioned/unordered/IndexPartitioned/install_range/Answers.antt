@@ -1,0 +1,23 @@
+use Rattle.std.proofs.Common.{rules, ◌≡◌, ◌+◌, ◌-◌, ◌^◌, ◌≤◌, true, false, ap, sym, subst, ◌∙◌, arith, true≢false}
+use Rattle.key_index_flat.specs.Content.{item_count}
+use Rattle.key_index_parts.specs.Gathered.{gathered, gathered_from}
+use Rattle.key_index_parts.specs.Joined.{install_fault}
+use Rattle.key_index_parts.proofs.InstallLemmas.{refused_fault}
+use Rattle.key_index_parts.proofs.ShiftedLemmas.{items_from}
+use Rattle.key_index_parts.proofs.index.partitioned.unordered.IndexPartitioned.install_range.Goals as goal
+
+pub returns-then-not-has_room-clause-fault : goal.returns-then-not-has_room-clause-fault
+returns-then-not-has_room-clause-fault g c =
+    let own = item_count (gathered c.args.self.now.storage.parts) in
+    let range = c.args.range in
+    refused_fault own (item_count (gathered range.storage.parts)) (λ h. true≢false (sym (c.has_room.ensures.1 h) ∙ c.if-not-has_room.true))
+    ∙ ap (λ n. install_fault own n) (items_from range.offset range.storage.parts)
+
+pub install-requires : goal.install-requires
+install-requires g c =
+    (search rules, (omega (arith, c.args.range.within, c.args.self.now.whole), (c.requires, c.has_room.ensures.0 c.if-not-has_room.false)))
+
+pub returns-clause-room : goal.returns-clause-room
+returns-clause-room g c =
+    let own = item_count (gathered c.args.self.now.storage.parts) in
+    subst (λ n. own + n ≤ 2 ^ 64 - 1) (items_from c.args.range.offset c.args.range.storage.parts) (c.has_room.ensures.0 c.if-not-has_room.false)

@@ -1,0 +1,222 @@
+//! Ranges of an index in partitions, over any kind of part.
+ghost use Rattle.std.specs.Prelude.{◌≡◌, ◌+◌, ◌<◌, ◌≤◌, [], ◌∷◌, false, length, IsTrue, IfOk, IfErr, OnOk, OnErr};
+ghost use Rattle.key_index_flat.specs.Content.{IsLawful, item_count};
+ghost use Rattle.key_index_flat.specs.View.{growth_fault_in, items_in, run_at, with_run};
+ghost use Rattle.key_index_parts.specs.Family.{range_view};
+ghost use Rattle.key_index_parts.specs.Gathered.{gathered, pair_cmp, entries_of};
+ghost use Rattle.key_index_parts.specs.Joined.{IsSpanKept, is_between};
+ghost use Rattle.key_index_parts.specs.Prefix.{partition_count};
+ghost use Rattle.key_index_parts.specs.RangeLaws.{shift};
+
+use super::part::Part;
+use super::storage::Storage;
+use super::{PartitionRange, partition_index_and_sub_key};
+use key_index_flat::index::{Fault, IndexCursor, Refused, Runs, Search};
+use key_index_flat::translator::Translator;
+
+/// Some neighbouring partitions of an index, apart from it, with slots for these alone. Its parts are numbered from
+/// 0, and its index keys are those of the index.
+#[derive(Drop)]
+pub struct Range<T: Translator, V: Drop, X: Part<T, V> + Drop, const P: usize> {
+    pub(super) offset: usize,
+    pub(super) storage: Storage<T, V, X, P>,
+    ghost least: { 1 ≤ P },
+    ghost greatest: { P ≤ 3 },
+    ghost lawful: { IsLawful (pair_cmp T.Key.cmp) (gathered storage.parts) },
+    ghost within: { offset + length storage.parts ≤ partition_count P },
+}
+
+impl<T: Translator, V: Drop, X: Part<T, V> + Drop, const P: usize> Range<T, V, X, P> {
+    /// Whether the range covers a partition.
+    #[inline]
+    fn covers(&self, partition: usize) -> bool
+        ensures { result ≡ is_between self.now.offset (self.now.offset + length self.now.storage.parts) partition }
+    {
+        partition >= self.offset && partition - self.offset < self.storage.len()
+    }
+
+    /// An index key by the numbers of the range's own parts.
+    #[inline]
+    fn own(&self, slot: (usize, T::Key)) -> (usize, T::Key)
+        requires { self.now.offset ≤ slot.0 }
+        ensures { shift self.now.offset result ≡ slot }
+    {
+        (slot.0 - self.offset, slot.1)
+    }
+
+    /// Puts a value under an index key that has none, and tells how many values the index key had.
+    fn insert_absent(&mut self, slot: (usize, T::Key), value: V) -> Result<usize, Refused<V>>
+        requires { IsTrue ((⟦<Range<T, V, X, P> as Runs>⟧.view self.old).admitted slot) }
+        ensures found { IfOk result (λ n. 0 < n
+            → ⟦<Range<T, V, X, P> as Runs>⟧.view self.new ≡ ⟦<Range<T, V, X, P> as Runs>⟧.view self.old) }
+        ensures inserted { IfOk result (λ n. n ≡ 0 → ⟦<Range<T, V, X, P> as Runs>⟧.view self.new
+            ≡ with_run (pair_cmp T.Key.cmp) (⟦<Range<T, V, X, P> as Runs>⟧.view self.old) slot (value ∷ [])) }
+        ensures refused { OnErr result
+            (⟦<Range<T, V, X, P> as Runs>⟧.view self.new ≡ ⟦<Range<T, V, X, P> as Runs>⟧.view self.old) }
+        ensures span { ⟦<Range<T, V, X, P> as Runs>⟧.edited self.old self.new }
+        ensures len { IfOk result (λ n. n
+            ≡ length (run_at (pair_cmp T.Key.cmp) (⟦<Range<T, V, X, P> as Runs>⟧.view self.old) slot)) }
+        ensures room { OnOk result (items_in (⟦<Range<T, V, X, P> as Runs>⟧.view self.old) < usize.MAX) }
+        ensures returned { IfErr result (λ r. r.value ≡ value) }
+        ensures fault { IfErr result (λ r. r.fault
+            ≡ growth_fault_in (⟦<Range<T, V, X, P> as Runs>⟧.view self.old)) }
+    {
+        let own = self.own(slot);
+        self.storage.insert_absent(own, value)
+    }
+}
+
+impl<T: Translator, V: Drop, X: Part<T, V> + Drop, const P: usize> Runs for Range<T, V, X, P> {
+    ghost use Rattle.std.proofs.lemmas.Map.Lookups.{exact_pairs, exact_unsigned};
+    ghost use Rattle.std.specs.Ordering.{nat_cmp};
+    ghost use Rattle.key_index_parts.specs.RangeLaws.{IsLawful-gathered_from};
+
+    type Value = V;
+
+    type Key = (usize, T::Key);
+
+    ghost view = { λ range. range_view P T.translated range.offset range.storage };
+
+    ghost edited = { IsSpanKept (λ range. range.offset) (λ range. length range.storage.parts) };
+
+    ghost lawful = { λ range. IsLawful-gathered_from T.Key.cmp range.offset range.storage.parts range.lawful };
+
+    ghost exact = { exact_pairs nat_cmp T.Key.cmp exact_unsigned T.exact };
+
+    #[inline]
+    fn slot_of(&self, key: &[u8]) -> (usize, T::Key) {
+        self.storage.slot_of(key)
+    }
+
+    #[inline]
+    fn admits(&self, slot: (usize, T::Key)) -> bool {
+        self.covers(slot.0)
+    }
+
+    #[inline]
+    fn run_len(&self, slot: (usize, T::Key)) -> usize {
+        if slot.0 < self.offset {
+            return 0;
+        }
+        self.storage.run_len(self.own(slot))
+    }
+
+    #[inline]
+    fn value_at(&self, slot: (usize, T::Key), place: usize) -> &V {
+        self.storage.value_at(self.own(slot), place)
+    }
+
+    #[inline]
+    fn set_at(&mut self, slot: (usize, T::Key), place: usize, value: V) {
+        let own = self.own(slot);
+        self.storage.set_at(own, place, value);
+    }
+
+    #[inline]
+    fn insert_at(
+        &mut self,
+        slot: (usize, T::Key),
+        place: usize,
+        value: V,
+    ) -> Result<(), Refused<V>> {
+        let own = self.own(slot);
+        self.storage.insert_at(own, place, value)
+    }
+
+    #[inline]
+    fn remove_at(&mut self, slot: (usize, T::Key), place: usize) -> V {
+        let own = self.own(slot);
+        self.storage.remove_at(own, place)
+    }
+}
+
+impl<T: Translator, V: Drop, X: Part<T, V> + Drop, const P: usize> Search for Range<T, V, X, P> {
+    ghost settled = { λ x _ y. ⟦<Range<T, V, X, P> as Runs>⟧.edited x y };
+
+    ghost left_by_refusal = { λ x _ y. ⟦<Range<T, V, X, P> as Runs>⟧.edited x y };
+
+    ghost may_refuse = { λ _ _. false };
+
+    fn reach(&mut self, key: &[u8]) -> Result<usize, Fault> {
+        Ok(self.run_len(self.slot_of(key)))
+    }
+
+    fn reach_or_insert(&mut self, key: &[u8], value: V) -> Result<usize, Refused<V>> {
+        let slot = self.slot_of(key);
+        self.insert_absent(slot, value)
+    }
+
+    fn search(&mut self, key: &[u8]) -> Result<IndexCursor<'_, Range<T, V, X, P>>, Option<Fault>> {
+        let slot = self.slot_of(key);
+        let len = self.run_len(slot);
+        if len == 0 {
+            return Err(None);
+        }
+        Ok(IndexCursor::with_len(self, slot, len))
+    }
+
+    fn search_or_insert(
+        &mut self,
+        key: &[u8],
+        value: V,
+    ) -> Result<IndexCursor<'_, Range<T, V, X, P>>, Option<Refused<V>>> {
+        let slot = self.slot_of(key);
+        match self.insert_absent(slot, value) {
+            Ok(0) => Err(None),
+            Ok(len) => Ok(IndexCursor::with_len(self, slot, len)),
+            Err(refused) => Err(Some(refused)),
+        }
+    }
+}
+
+impl<T: Translator, V: Drop, X: Part<T, V> + Drop, const P: usize> PartitionRange
+    for Range<T, V, X, P> {
+    ghost use Rattle.key_index_parts.specs.RangeLaws.{gathered_from-covers};
+
+    ghost offset = { λ range. range.offset };
+
+    ghost count = { λ range. length range.storage.parts };
+
+    ghost edits_within = { λ _ _ h. h };
+
+    ghost settles_within = { λ _ _ _ h. h };
+
+    ghost refuses_within = { λ _ _ _ h. h };
+
+    ghost covers = { λ range. gathered_from-covers T.Key.cmp range.offset range.storage.parts };
+
+    #[inline]
+    fn holds(&self, key: &[u8]) -> bool {
+        let (partition, _) = partition_index_and_sub_key::<P>(key);
+        self.covers(partition)
+    }
+
+    #[inline]
+    fn offset(&self) -> usize {
+        self.offset
+    }
+
+    #[inline]
+    fn count(&self) -> usize {
+        self.storage.len()
+    }
+
+    #[inline]
+    fn keys(&self) -> usize {
+        self.storage.keys()
+    }
+
+    #[inline]
+    fn items(&self) -> usize {
+        self.storage.items()
+    }
+
+    #[inline]
+    fn pruned(&self) -> u64 {
+        self.storage.pruned()
+    }
+
+    fn for_each_value<F: FnMut(&V)>(&self, mut visit: F) {
+        self.storage.for_each_value(&mut visit);
+    }
+}

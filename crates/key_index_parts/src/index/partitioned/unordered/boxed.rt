@@ -1,0 +1,181 @@
+//! A part as a flat unordered index in a box.
+ghost use Rattle.std.specs.Prelude.{◌≡◌, ◌≤◌, true, not, length, insert, IfOk, IfErr, OnErr};
+ghost use Rattle.key_index_flat.specs.Content.{is_filled, list_at, with_list_by};
+ghost use Rattle.key_index_flat.specs.Held.{held};
+ghost use Rattle.key_index_parts.specs.Boxed.{held_in, IsLawful-held_in};
+
+use crate::index::partitioned::part::Part;
+use key_index_flat::index::{Factory, Lists, Retained, Runs, Unordered, Values, unordered};
+use key_index_flat::translator::Translator;
+use std::alloc::Global;
+
+/// A part as a flat unordered index, which is made when the first value is put in, and stays when the last one is taken out.
+#[derive(Drop)]
+pub struct Boxed<T: Translator, V> {
+    alloc: Global,
+    translator: T,
+    index: Option<Box<unordered::Index<T, V>>>,
+}
+
+impl<T: Translator, V: Drop> Boxed<T, V> {
+    /// Makes the flat index where there is none yet and its memory isn't refused.
+    fn make(&mut self)
+        ensures { held_in self.new.index ≡ held_in self.old.index }
+    {
+        if self.index.is_some() {
+            return;
+        }
+        let Ok(empty) = unordered::Index::new(self.alloc, self.translator) else {
+            return;
+        };
+        if let Ok(index) = Box::new(self.alloc, empty) {
+            self.index = Some(index);
+        }
+    }
+}
+
+/// Puts a value in at a place of a slot's list, or behind its last one, and tells whether the slot had none.
+#[inline]
+fn put_at<T: Translator, V: Drop>(
+    index: &mut unordered::Index<T, V>,
+    slot: T::Key,
+    place: usize,
+    value: V,
+) -> Result<bool, V>
+    requires { place ≤ length (list_at T.Key.cmp (held index.old) slot) }
+    ensures accepted { IfOk result (λ absent.
+        (held index.new ≡ with_list_by T.Key.cmp (held index.old) slot (λ l. insert l place value))
+        × (absent ≡ not (is_filled (list_at T.Key.cmp (held index.old) slot)))) }
+    ensures refused { OnErr result (held index.new ≡ held index.old) }
+    ensures returned { IfErr result (λ back. back ≡ value) }
+{
+    let keys = index.keys();
+    match index.insert_at(slot, place, value) {
+        Ok(()) => Ok(keys < index.keys()),
+        Err(refused) => Err(refused.value),
+    }
+}
+
+impl<T: Translator, V: Drop> Part<T, V> for Boxed<T, V> {
+    ghost content = { λ part. held_in part.index };
+
+    ghost FIRST = { true };
+
+    ghost lawful = { λ part. IsLawful-held_in part.index };
+
+    fn new(alloc: Global, translator: T) -> Boxed<T, V> {
+        Boxed {
+            alloc,
+            translator,
+            index: None,
+        }
+    }
+
+    #[inline]
+    fn is_empty(&self) -> bool {
+        match &self.index {
+            Some(index) => index.keys() == 0,
+            None => true,
+        }
+    }
+
+    #[inline]
+    fn get(&self, key: T::Key) -> Values<'_, V> {
+        match &self.index {
+            Some(index) => index.list_at(key),
+            None => Values::of_slice(&[]),
+        }
+    }
+
+    #[inline]
+    fn run_len(&self, key: T::Key) -> usize {
+        match &self.index {
+            Some(index) => index.run_len(key),
+            None => 0,
+        }
+    }
+
+    #[inline]
+    fn value_at(&self, key: T::Key, place: usize) -> &V {
+        match &self.index {
+            Some(index) => index.value_at(key, place),
+            None => unreachable!(),
+        }
+    }
+
+    #[inline]
+    fn set_at(&mut self, key: T::Key, place: usize, value: V) {
+        match &mut self.index {
+            Some(index) => index.set_at(key, place, value),
+            None => unreachable!(),
+        }
+    }
+
+    fn insert_at(&mut self, key: T::Key, place: usize, value: V) -> Result<bool, V> {
+        self.make();
+        let Some(index) = &mut self.index else {
+            return Err(value);
+        };
+        put_at(index, key, place, value)
+    }
+
+    #[inline]
+    fn insert(&mut self, key: T::Key, value: V) -> Result<bool, V> {
+        self.insert_at(key, 0, value)
+    }
+
+    fn insert_absent(&mut self, key: T::Key, value: V) -> Result<usize, V> {
+        self.make();
+        let Some(index) = &mut self.index else {
+            return Err(value);
+        };
+        match index.reach_or_insert_at(key, value) {
+            Ok(len) => Ok(len),
+            Err(refused) => Err(refused.value),
+        }
+    }
+
+    #[inline]
+    fn remove_at(&mut self, key: T::Key, place: usize) -> (V, usize) {
+        match &mut self.index {
+            Some(index) => index.take_at(key, place),
+            None => unreachable!(),
+        }
+    }
+
+    fn retain<F: FnMut(&V) -> bool>(&mut self, key: T::Key, should_retain: F) -> (usize, usize) {
+        match &mut self.index {
+            Some(index) => index.retain_at(key, should_retain),
+            None => (0, 0),
+        }
+    }
+
+    fn insert_and_retain<F: FnMut(&V) -> bool>(
+        &mut self,
+        key: T::Key,
+        value: V,
+        should_retain: F,
+    ) -> Result<Retained, V> {
+        self.make();
+        let Some(index) = &mut self.index else {
+            return Err(value);
+        };
+        match index.insert_and_retain_at(key, value, should_retain) {
+            Ok(retained) => Ok(retained),
+            Err(refused) => Err(refused.value),
+        }
+    }
+
+    fn remove(&mut self, key: T::Key) -> usize {
+        match &mut self.index {
+            Some(index) => index.remove_all_at(key),
+            None => 0,
+        }
+    }
+
+    fn for_each_value<F: FnMut(&V)>(&self, visit: &mut F) {
+        if let Some(index) = &self.index {
+            index.visit_values(visit);
+        }
+    }
+}

@@ -1,0 +1,76 @@
+-- A snapshot that ops make of records.
+--     answers_newest     the list of each key
+--     build_fault        why a build is refused
+use Rattle.std.proofs.Common.{◌≡◌, ◌⊎◌, ℕ, true, false, cond, if◌then◌else◌, nat_lt, List, [], ◌∷◌, map, Vec, refl, sym, ap, ◌∙◌, inl, inr, ◌+◌, ◌-◌, ◌^◌}
+use Rattle.std.specs.declared.alloc.Global.{Global}
+use Rattle.std.specs.declared.cmp.Ordering.{Ordering}
+use Rattle.std.specs.declared.cmp.Ordering.TheVariants.{Equal}
+use Rattle.std.specs.Cmp.{IsTotalOrder}
+use Rattle.std.specs.Ordering.{eq_by_cmp}
+use Rattle.key_index_flat.specs.declared.index.Fault.{Fault}
+use Rattle.key_index_flat.specs.declared.index.Fault.TheVariants.{Memory, Full}
+use Rattle.key_index_flat.specs.Content.{list_at}
+use Rattle.key_index_flat.specs.Run.{one_if_absent}
+use Rattle.key_index_flat.specs.View.{View, items_in, run_at}
+use Rattle.key_index_flat.proofs.ContentLemmas.{list_at-with_list, tied}
+use Rattle.key_index_parts.specs.Joined.{install_fault}
+use Rattle.key_index_parts.specs.Ops.{after_op, after_ops}
+use Rattle.key_index_parts.specs.Ranges.{built_upto, filled_by, RefusesBuild}
+use Rattle.key_index_parts.proofs.RangeLemmas.{slot-after_ops}
+use Rattle.key_index_parts.specs.declared.index.partitioned.op.Op.{Op}
+use Rattle.key_index_uses.specs.Snapshot.{newest, op_of}
+
+-- the one list, or the other where it has no value
+abbrev or_else : {V : Type 0} → List V → List V → List V
+or_else [] m = m
+or_else (v ∷ vs) m = v ∷ vs
+
+module _ {K V : Type 0} {cmp : K → K → Ordering} (o : IsTotalOrder cmp) (exact : (x y : K) → cmp x y ≡ Equal → x ≡ y) where
+  put : (l m : List V) (v : V) → or_else (one_if_absent v l) m ≡ or_else l (v ∷ [])
+  put [] m v = refl
+  put (x ∷ xs) m v = refl
+
+  none : (l : List V) → l ≡ or_else l []
+  none [] = refl
+  none (x ∷ xs) = refl
+
+  reads : (records : List (Vec ℕ Global × V)) (s : View K V) (key : List ℕ)
+      → run_at cmp (after_ops cmp (map op_of records) s) (s.slot key) ≡ or_else (run_at cmp s (s.slot key)) (newest cmp s.slot key records)
+  reads [] s key = none (run_at cmp s (s.slot key))
+  reads (r ∷ rs) s key =
+      let k = s.slot key in
+      let j = s.slot r.0.items in
+      let l = list_at cmp s.content j in
+      reads rs (after_op cmp (op_of r) s) key
+      ∙ ap (λ m. or_else m (newest cmp s.slot key rs)) (list_at-with_list o s.content j (one_if_absent r.1 l) k)
+      ∙ elim (eq_by_cmp cmp k j) as (λ b. eq_by_cmp cmp k j ≡ b → or_else (cond b (one_if_absent r.1 l) (list_at cmp s.content k)) (newest cmp s.slot key rs)
+      ≡ or_else (list_at cmp s.content k) (if b then r.1 ∷ [] else newest cmp s.slot key rs)) [
+        | true ↦ λ p. put l (newest cmp s.slot key rs) r.1 ∙ ap (λ x. or_else (list_at cmp s.content x) (r.1 ∷ [])) (sym (exact k j (tied _ p)))
+        | false ↦ λ p. refl
+      ] refl
+
+  pub answers_newest : (records : List (Vec ℕ Global × V)) (ops : List (Op V)) (s t : View K V) → s.content ≡ [] → ops ≡ map op_of records → t ≡ after_ops cmp ops s
+      → (key : List ℕ) → run_at cmp t (t.slot key) ≡ newest cmp s.slot key records
+  answers_newest records ops s t empty are is key =
+      let all : t ≡ after_ops cmp (map op_of records) s = is ∙ ap (λ l. after_ops cmp l s) are in
+      (λ i. list_at cmp (all i).content ((all i).slot key))
+      ∙ ap (λ f. run_at cmp (after_ops cmp (map op_of records) s) (f key)) (slot-after_ops cmp (map op_of records) s)
+      ∙ reads records s key
+      ∙ ap (λ c. or_else (list_at cmp c (s.slot key)) (newest cmp s.slot key records)) empty
+
+install_either : (m n : ℕ) → (install_fault m n ≡ Memory) ⊎ (install_fault m n ≡ Full)
+install_either m n =
+    elim (nat_lt (2 ^ 64 - 1) (m + n)) as (λ b. ((if b then Full else Memory) ≡ Memory) ⊎ ((if b then Full else Memory) ≡ Full)) [
+      | true ↦ inr refl
+      | false ↦ inl refl
+    ]
+
+pub build_fault : {K V : Type 0} (cmp : K → K → Ordering) (partition : K → ℕ) (cuts : List ℕ) (ops : List (Op V)) (before after : View K V) (fault : Fault)
+    → RefusesBuild cmp partition cuts ops before after fault → (fault ≡ Memory) ⊎ (fault ≡ Full)
+build_fault cmp partition cuts ops before after fault (inl (same, inl want)) = inl want
+build_fault cmp partition cuts ops before after fault (inl (same, inr full)) = inr full.0
+build_fault cmp partition cuts ops before after fault (inr (n, among, left, why)) =
+    elim (install_either (items_in (built_upto cmp partition cuts ops before n)) (items_in (filled_by cmp partition cuts ops before n ops))) [
+      | inl e ↦ inl (why ∙ e)
+      | inr e ↦ inr (why ∙ e)
+    ]

@@ -1,0 +1,7 @@
+use Rattle.key_index_uses.proofs.SnapshotLemmas.{answers_newest}
+use Rattle.key_index_uses.proofs.snapshots.snapshot.Goals as goal
+
+pub returns-clause-answers : goal.returns-clause-answers
+returns-clause-answers g c =
+    answers_newest g.met.I.Key.Ord.total g.met.I.Runs.exact c.args.records.items c.in_ok-ops.ops.items (g.I.Runs.view c.args.index) (g.I.Runs.view c.build_in_ranges.new.index)
+    c.requires.empty c.in_ok-ops.ensures.ops c.in_ok-build_in_ranges.ensures.built

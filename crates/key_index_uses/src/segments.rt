@@ -1,0 +1,77 @@
+//! A log of records in segments of equal length, whose oldest segments are dropped.
+ghost use Rattle.std.specs.Prelude.{◌≡◌, ◌*◌, ◌^◌, ◌<◌, None, IfOk, OnErr};
+ghost use Rattle.key_index.specs.Immutable.{end_of, key_at, ArePositions};
+ghost use Rattle.key_index.specs.Marks.{IsInserted, IsPruned};
+
+use key_index::index::immutable::{Index, Positions};
+use key_index_flat::index::Fault;
+use key_index_flat::translator::Translator;
+use std::alloc::Global;
+use std::marker::Model;
+
+/// How many records a segment has.
+const SEGMENT: u64 = 4096;
+
+/// The positions of records by their keys, which are numbered from 0 as they are appended. A shortened key may stand for
+/// others too, so a reader compares the records that it finds.
+#[derive(Drop)]
+pub struct SegmentedLog<T: Translator> {
+    index: Index<T>,
+    next: u64,
+}
+
+impl<T: Translator> Model for SegmentedLog<T> {
+    ghost use Rattle.std.specs.Prelude.{◌≡◌};
+    ghost use Rattle.key_index.specs.Immutable.{Log, end_of};
+
+    ghost Value = { Log T T.Key };
+
+    ghost view = { λ s. s.index };
+
+    ghost invariant = { λ s. s.next ≡ end_of s.index };
+}
+
+impl<T: Translator> SegmentedLog<T> {
+    /// A log without records, with room for those of one segment.
+    pub fn new(alloc: Global, translator: T) -> Result<SegmentedLog<T>, Fault>
+        ensures empty { IfOk result (λ s. (p : _) → key_at s p ≡ None) }
+        ensures end { IfOk result (λ s. end_of s ≡ 0) }
+        ensures translator { IfOk result (λ s. s.translator ≡ translator) }
+    {
+        let index = Index::new(alloc, translator, 0, SEGMENT as usize)?;
+        Ok(SegmentedLog { index, next: 0 })
+    }
+
+    /// Appends a record with a key, and tells its position. A refusal changes nothing.
+    pub fn append(&mut self, key: &[u8]) -> Result<u64, Fault>
+        ensures position { IfOk result (λ p. p ≡ end_of self.old) }
+        ensures appended { IfOk result (λ p. IsInserted p (T.translated self.old.translator key.now)
+            self.old self.new) }
+        ensures refused { OnErr result (self.new ≡ self.old) }
+    {
+        let Some(next) = self.next.checked_add(1) else {
+            return Err(Fault::TooFar);
+        };
+        let position = self.next;
+        self.index.insert(key, position)?;
+        self.next = next;
+        Ok(position)
+    }
+
+    /// Drops all segments in front of one: no record of theirs is found any more, and every other as before. Takes no memory.
+    pub fn drop_front(&mut self, segment: u64)
+        requires { segment * 4096 < 2 ^ 64 }
+        ensures { IsPruned (segment * 4096) self.old self.new }
+    {
+        let start = segment * SEGMENT;
+        self.index.prune(start);
+        self.next = self.next.max(start);
+    }
+
+    /// The positions of the records whose keys are shortened to that of a key, each once, in no order.
+    pub fn records(&self, key: &[u8]) -> Positions<'_, T>
+        ensures { ArePositions self.now (T.translated self.now.translator key.now) result }
+    {
+        self.index.get(key)
+    }
+}
