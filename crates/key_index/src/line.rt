@@ -2,8 +2,7 @@
 
 ghost use Rattle.std.specs.Prelude.{◌≡◌, ◌==◌, ◌/◌, ◌<◌, ◌↔◌, [], ◌∷◌, length, take, IsTrue, IsNone, IfSome, IfOk, IfErr, OnOk, OnErr, IsErrOf, vec_capacity};
 ghost use Rattle.std.specs.Char.{digit_value, is_ascii_hexdigit};
-ghost use Rattle.std.specs.List.{list_all};
-ghost use Rattle.key_index.specs.Line.{alone, command_of, hex_bytes, is_hex, key_of, number_of, ordered_command_of, command_of_words, immutable_command_of, number_alone, number_and_key, with_key, words_in, words_of};
+ghost use Rattle.key_index.specs.Line.{alone, command_of, hex_bytes, is_hex, key_of, number_of, ordered_command_of, immutable_command_of, number_alone, number_and_key, with_key, words_in, words_of};
 
 use std::alloc::AllocError;
 

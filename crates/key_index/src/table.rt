@@ -1,8 +1,8 @@
 //! A table of positions, found by the hashes that they are stored under.
-ghost use Rattle.std.specs.Prelude.{◌≡◌, ◌≢◌, ◌⊎◌, ℕ, ◌+◌, ◌-◌, ◌*◌, ◌^◌, ◌<◌, ◌≤◌, ◌==◌, ◌↔◌, Option, Some, None, IsSome, IsNone, IsTrue, OnOk, OnErr, IfOk, IfErr, IfSome, MatchOption, List, [], ◌∷◌, ◌++◌, length, map, min, slice_index, slice_set, count_by, replicate, nat_lt};
+ghost use Rattle.std.specs.Prelude.{◌≡◌, ◌≢◌, ◌⊎◌, ℕ, ◌+◌, ◌-◌, ◌*◌, ◌^◌, ◌<◌, ◌≤◌, ◌==◌, ◌↔◌, Option, Some, None, IsTrue, OnOk, OnErr, IfOk, IfErr, IfSome, MatchOption, List, [], ◌∷◌, ◌++◌, length, map, min, slice_index, count_by, replicate, nat_lt};
 ghost use Rattle.std.specs.Bool.{OnTrue, OnFalse};
 ghost use Rattle.std.specs.Iterator.{YieldsFirst, item_count};
-ghost use Rattle.std.specs.List.{All, Contains, filter, find, range_with_len, take_while};
+ghost use Rattle.std.specs.List.{All, Contains, find, range_with_len};
 ghost use Rattle.key_index.specs.Table.{Slots, control_of, is_full, is_used, home, from_slot, marked, places, candidates, position_count, with_hash, without, Files, Stored, HasSize, AreCandidates, Resolves, IsPut};
 
 use key_index_flat::index::Fault;

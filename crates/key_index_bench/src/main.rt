@@ -1,6 +1,7 @@
 //! The program `key_index_bench`: what each operation of an index costs, beside the maps of the standard library.
 #![tactic(auto)]
 
+mod build;
 mod flat;
 mod keys;
 mod maps;
@@ -11,7 +12,7 @@ use flat::Failure;
 use key_index::index::immutable;
 use key_index_flat::index::{Factory, Fault, Ordered, ordered, unordered};
 use key_index_flat::translator::{EightCap, Hashed, SeededSha256};
-use key_index_parts::index::partitioned;
+use key_index_parts::index::partitioned::{self, Partitioned};
 use keys::{ABSENT, PRESENT, keys};
 use report::Report;
 use std::alloc::Global;
@@ -64,10 +65,22 @@ impl Kind {
     }
 }
 
-/// The kind and the number of keys that the arguments name.
-fn arguments(words: &[String]) -> Option<(Kind, usize)> {
-    let [kind, count] = words else {
-        return None;
+/// Which operations of a kind are measured.
+#[derive(Clone, Copy)]
+enum Measured {
+    Calls,
+    Build,
+}
+
+/// The kind, the number of keys and the operations that the arguments name.
+fn arguments(words: &[String]) -> Option<(Kind, usize, Measured)> {
+    let (kind, count, measured) = match words {
+        [kind, count] => (kind, count, Measured::Calls),
+        [kind, count, last] => match last.as_str() {
+            "build" => (kind, count, Measured::Build),
+            _ => return None,
+        },
+        _ => return None,
     };
     let kind = match kind.as_str() {
         "unordered" => Kind::Unordered,
@@ -85,7 +98,7 @@ fn arguments(words: &[String]) -> Option<(Kind, usize)> {
         _ => return None,
     };
     match count.as_str().parse::<usize>() {
-        Ok(count) => Some((kind, count)),
+        Ok(count) => Some((kind, count, measured)),
         Err(_) => None,
     }
 }
@@ -226,6 +239,114 @@ fn run_std_tree<C: Clock, W: Write>(
     maps::remove(&mut map, half, report)
 }
 
+/// Measures the build of an index in partitions.
+fn run_build<
+    I: Factory<Translator = EightCap, Value = u64> + Partitioned + Drop,
+    C: Clock,
+    W: Write,
+>(alloc: Global, present: &[[u8; 32]], report: &mut Report<'_, C, W>) -> Result<(), Failure>
+    requires { I.makes }
+{
+    build::one_by_one::<I, C, W>(alloc, present, report)?;
+    build::in_ranges::<I, C, W>(alloc, "build1", 1, present, report)?;
+    build::in_ranges::<I, C, W>(alloc, "build4", 4, present, report)?;
+    build::in_ranges::<I, C, W>(alloc, "build16", 16, present, report)
+}
+
+/// Measures the calls of a kind.
+fn measure_calls<C: Clock, W: Write>(
+    alloc: Global,
+    kind: Kind,
+    present: &[[u8; 32]],
+    absent: &[[u8; 32]],
+    report: &mut Report<'_, C, W>,
+) -> Result<(), Failure> {
+    match kind {
+        Kind::Unordered => run_unordered::<unordered::Index<EightCap, u64>, C, W>(
+            alloc, EightCap, present, absent, report,
+        ),
+        Kind::Hashed => run_unordered::<HashedIndex, C, W>(
+            alloc,
+            Hashed::from_seed(SEED, EightCap),
+            present,
+            absent,
+            report,
+        ),
+        Kind::Ordered => run_ordered::<ordered::Index<EightCap, u64>, C, W>(
+            alloc, present, absent, report,
+        ),
+        Kind::PartitionedUnordered1 => {
+            run_unordered::<partitioned::unordered::Index<EightCap, u64, 1>, C, W>(
+                alloc, EightCap, present, absent, report,
+            )
+        }
+        Kind::PartitionedUnordered2 => {
+            run_unordered::<partitioned::unordered::Index<EightCap, u64, 2>, C, W>(
+                alloc, EightCap, present, absent, report,
+            )
+        }
+        Kind::PartitionedUnordered3 => {
+            run_unordered::<partitioned::unordered::Index<EightCap, u64, 3>, C, W>(
+                alloc, EightCap, present, absent, report,
+            )
+        }
+        Kind::PartitionedOrdered1 => {
+            run_ordered::<partitioned::ordered::Index<EightCap, u64, 1>, C, W>(
+                alloc, present, absent, report,
+            )
+        }
+        Kind::PartitionedOrdered2 => {
+            run_ordered::<partitioned::ordered::Index<EightCap, u64, 2>, C, W>(
+                alloc, present, absent, report,
+            )
+        }
+        Kind::PartitionedOrdered3 => {
+            run_ordered::<partitioned::ordered::Index<EightCap, u64, 3>, C, W>(
+                alloc, present, absent, report,
+            )
+        }
+        Kind::Immutable => run_immutable(alloc, present, absent, report),
+        Kind::StdHash => run_std_hash(alloc, present, absent, report),
+        Kind::StdTree => run_std_tree(alloc, present, absent, report),
+    }
+}
+
+/// Measures the build of a kind. One without partitions has none.
+fn measure_build<C: Clock, W: Write>(
+    alloc: Global,
+    kind: Kind,
+    present: &[[u8; 32]],
+    report: &mut Report<'_, C, W>,
+) -> Result<(), Failure> {
+    match kind {
+        Kind::PartitionedUnordered1 => {
+            run_build::<partitioned::unordered::Index<EightCap, u64, 1>, C, W>(
+                alloc, present, report,
+            )
+        }
+        Kind::PartitionedUnordered2 => {
+            run_build::<partitioned::unordered::Index<EightCap, u64, 2>, C, W>(
+                alloc, present, report,
+            )
+        }
+        Kind::PartitionedUnordered3 => {
+            run_build::<partitioned::unordered::Index<EightCap, u64, 3>, C, W>(
+                alloc, present, report,
+            )
+        }
+        Kind::PartitionedOrdered1 => {
+            run_build::<partitioned::ordered::Index<EightCap, u64, 1>, C, W>(alloc, present, report)
+        }
+        Kind::PartitionedOrdered2 => {
+            run_build::<partitioned::ordered::Index<EightCap, u64, 2>, C, W>(alloc, present, report)
+        }
+        Kind::PartitionedOrdered3 => {
+            run_build::<partitioned::ordered::Index<EightCap, u64, 3>, C, W>(alloc, present, report)
+        }
+        _ => Ok(()),
+    }
+}
+
 /// Measures a kind over so many keys.
 fn measure<C: Clock, W: Write>(
     alloc: Global,
@@ -233,6 +354,7 @@ fn measure<C: Clock, W: Write>(
     output: &mut W,
     kind: Kind,
     count: usize,
+    measured: Measured,
 ) -> Result<(), Failure> {
     let (Some(present), Some(absent)) = (keys(alloc, count, PRESENT), keys(alloc, count, ABSENT))
     else {
@@ -244,81 +366,9 @@ fn measure<C: Clock, W: Write>(
         kind: kind.name(),
         count,
     };
-    match kind {
-        Kind::Unordered => run_unordered::<unordered::Index<EightCap, u64>, C, W>(
-            alloc,
-            EightCap,
-            &present,
-            &absent,
-            &mut report,
-        ),
-        Kind::Hashed => run_unordered::<HashedIndex, C, W>(
-            alloc,
-            Hashed::from_seed(SEED, EightCap),
-            &present,
-            &absent,
-            &mut report,
-        ),
-        Kind::Ordered => run_ordered::<ordered::Index<EightCap, u64>, C, W>(
-            alloc,
-            &present,
-            &absent,
-            &mut report,
-        ),
-        Kind::PartitionedUnordered1 => {
-            run_unordered::<partitioned::unordered::Index<EightCap, u64, 1>, C, W>(
-                alloc,
-                EightCap,
-                &present,
-                &absent,
-                &mut report,
-            )
-        }
-        Kind::PartitionedUnordered2 => {
-            run_unordered::<partitioned::unordered::Index<EightCap, u64, 2>, C, W>(
-                alloc,
-                EightCap,
-                &present,
-                &absent,
-                &mut report,
-            )
-        }
-        Kind::PartitionedUnordered3 => {
-            run_unordered::<partitioned::unordered::Index<EightCap, u64, 3>, C, W>(
-                alloc,
-                EightCap,
-                &present,
-                &absent,
-                &mut report,
-            )
-        }
-        Kind::PartitionedOrdered1 => {
-            run_ordered::<partitioned::ordered::Index<EightCap, u64, 1>, C, W>(
-                alloc,
-                &present,
-                &absent,
-                &mut report,
-            )
-        }
-        Kind::PartitionedOrdered2 => {
-            run_ordered::<partitioned::ordered::Index<EightCap, u64, 2>, C, W>(
-                alloc,
-                &present,
-                &absent,
-                &mut report,
-            )
-        }
-        Kind::PartitionedOrdered3 => {
-            run_ordered::<partitioned::ordered::Index<EightCap, u64, 3>, C, W>(
-                alloc,
-                &present,
-                &absent,
-                &mut report,
-            )
-        }
-        Kind::Immutable => run_immutable(alloc, &present, &absent, &mut report),
-        Kind::StdHash => run_std_hash(alloc, &present, &absent, &mut report),
-        Kind::StdTree => run_std_tree(alloc, &present, &absent, &mut report),
+    match measured {
+        Measured::Calls => measure_calls(alloc, kind, &present, &absent, &mut report),
+        Measured::Build => measure_build(alloc, kind, &present, &mut report),
     }
 }
 
@@ -332,15 +382,15 @@ fn main(rt: HostRuntime) -> ExitCode {
         Some(words) => arguments(&words),
         None => None,
     };
-    let Some((kind, count)) = named else {
+    let Some((kind, count, measured)) = named else {
         let _ = writeln!(
             rt.stderr(),
-            "usage: key_index_bench unordered|hashed|ordered|punordered1|punordered2|punordered3|pordered1|pordered2|pordered3|immutable|std_hash|std_tree COUNT"
+            "usage: key_index_bench unordered|hashed|ordered|punordered1|punordered2|punordered3|pordered1|pordered2|pordered3|immutable|std_hash|std_tree COUNT [build]"
         );
         return ExitCode::from(2);
     };
     let mut output = rt.stdout();
-    match measure(rt.alloc(), &rt, &mut output, kind, count) {
+    match measure(rt.alloc(), &rt, &mut output, kind, count, measured) {
         Ok(()) => ExitCode::from(0),
         Err(_) => {
             let _ = writeln!(rt.stderr(), "failed");

@@ -4,22 +4,18 @@
 --     Turned                            what a loop has done up to a place
 --     turned_first, ..                  at the start, after a value that stays, after one that goes, of the same, and at the end
 --     asked_first, asked_none           a list with one value more in front, and an empty one
---     put_and_asked, some_taken         a value that was put behind those of a key, where all of these were asked on then
-use Rattle.std.proofs.Common.{◌≡◌, ℕ, suc, ◌+◌, ◌<◌, ◌≤◌, Bool, true, false, nat_lt, cond, List, [], ◌∷◌, ◌++◌, length, insert, take, refl, sym, ap, subst, ◌∙◌, arith, append-nil, length-append}
+--     asked_newest, asked_same          where the answer and the lists are known by other names
+--     asked_alone                       a value that was put where there was none
+--     put_and_asked, some_taken         a value that was put behind others, where all of these were asked on then
+use Rattle.std.proofs.Common.{◌≡◌, ℕ, suc, ◌+◌, ◌<◌, ◌≤◌, Bool, true, false, nat_lt, cond, List, [], ◌∷◌, Option, Some, None, ◌++◌, length, take, refl, sym, ap, subst, ◌∙◌, arith, append-nil, length-append}
 use Rattle.std.proofs.Math.ListN.{set, get_or}
 use Rattle.std.proofs.lemmas.Bool.{ltb-true, ltb-false}
 use Rattle.std.proofs.lemmas.Grind.{take-set_at}
 use Rattle.std.proofs.lemmas.List.{length-set, take-set-le, take_more_set}
 use Rattle.std.specs.List.{items_where_true, SwappedAt}
 use Rattle.std.specs.List.Retain.{ReturnsInTurn}
-use Rattle.std.specs.declared.cmp.Ordering.{Ordering}
-use Rattle.std.specs.declared.cmp.Ordering.TheVariants.{Equal}
-use Rattle.std.specs.Cmp.{IsTotalOrder}
-use Rattle.key_index_flat.specs.Content.{Content, IsLawful, list_at, with_list}
 use Rattle.key_index_flat.specs.Retention.{last_answer, AsksInTurn}
-use Rattle.key_index_flat.proofs.ContentLemmas.{with_list-twice}
-use Rattle.key_index_flat.proofs.CursorLemmas.{list_at_edit}
-use Rattle.key_index_flat.proofs.ReversedLemmas.{behind_last}
+use Rattle.key_index_flat.specs.Storage.{list_of}
 
 pub last_push : (b : Bool) (bs : List Bool) (x : Bool) → last_answer b (bs ++ x ∷ []) ≡ x
 last_push b [] x = refl
@@ -139,9 +135,29 @@ module _ {F V : Type 0} (step : F → V → Bool → F → Type 0) where
   asked_first f g before v true vs ws stays s h = (true ∷ h.0, h.1, ap (λ n. suc n) h.2, (g, s, h.3), ap (λ l. v ∷ l) h.4, h.5)
   asked_first f g before v false vs ws stays s h = (false ∷ h.0, h.1, ap (λ n. suc n) h.2, (g, s, h.3), h.4, h.5)
 
+  -- where the answer on it, and then the values behind it, are known by other names
+  pub asked_newest : (f g : F) (v : V) (b a : Bool) (vs held ws zs : List V) (stays : Bool) → step f v b g → AsksInTurn step g a held ws stays → held ≡ vs → a ≡ b
+      → cond b (v ∷ ws) ws ≡ zs → AsksInTurn step f true (v ∷ vs) zs stays
+  asked_newest f g v b a vs held ws zs stays s h same said e =
+      subst (λ (l : List V). AsksInTurn step f true (v ∷ vs) l stays) e
+      (asked_first f g true v b vs ws stays s (subst (λ (l : List V). AsksInTurn step g b l ws stays) same (subst (λ (x : Bool). AsksInTurn step g x held ws stays) said h)))
+
+  -- and on other names of the lists
+  pub asked_same : (f : F) (before : Bool) (xs ys xs' ys' : List V) (stays : Bool) → AsksInTurn step f before xs ys stays → xs ≡ xs' → ys ≡ ys' → AsksInTurn step f before xs' ys' stays
+  asked_same f before xs ys xs' ys' stays h e d =
+      subst (λ (l : List V). AsksInTurn step f before xs' l stays) d (subst (λ (l : List V). AsksInTurn step f before l ys stays) e h)
+
   -- and of no value
   pub asked_none : (f : F) (before : Bool) → AsksInTurn step f before [] [] before
   asked_none f before = ([], f, refl, refl, refl, refl)
+
+  -- a value put where there was none
+  pub asked_alone : (f g : F) (v : V) (b : Bool) (newest now : Option V) (older : List V) → newest ≡ None → older ≡ [] → now ≡ cond b (Some v) None → step f v b g
+      → AsksInTurn step f true (list_of newest older ++ v ∷ []) (list_of now older) b
+  asked_alone f g v b newest now older none empty is s =
+      let alone : list_of (cond b (Some v) None) [] ≡ cond b (v ∷ []) [] = elim b as (λ a. list_of (cond a (Some v) None) [] ≡ cond a (v ∷ []) []) [ true ↦ refl | false ↦ refl ] in
+      asked_same f true (v ∷ []) (cond b (v ∷ []) []) _ _ b (asked_first f g true v b [] [] b s (asked_none g b)) (ap (λ w. list_of w older ++ v ∷ []) (sym none))
+      (sym (ap (λ w. list_of w older) is ∙ ap (λ l. list_of (cond b (Some v) None) l) empty ∙ alone))
 
 -- of answers on a list and one value more, those on the list alone
 module _ {V : Type 0} where
@@ -172,39 +188,29 @@ module _ {V : Type 0} where
       let n = held_answers true bs l v e ∙ ap (λ b. length (items_where_true bs l) + cond b 1 0) last in
       let few = kept_few bs l in omega (arith, n, few, counts)
 
--- a value that was put behind those of a key, where all of these were asked on then
-module _ {K V F : Type 0} {cmp : K → K → Ordering} (o : IsTotalOrder cmp) (exact : (x y : K) → cmp x y ≡ Equal → x ≡ y) (R : F → V → Bool → F → Type 0)
-    (f : F) (c mid : Content K V) (k : K) (v : V) (at : ℕ) (lawful : IsLawful cmp c) (end : at ≡ length (list_at cmp c k))
-    (put : mid ≡ with_list cmp c k (insert (list_at cmp c k) at v)) where
-  list_put : list_at cmp mid k ≡ list_at cmp c k ++ v ∷ []
-  list_put = list_at_edit o _ _ _ _ put ∙ ap (λ n. insert (list_at cmp c k) n v) end ∙ behind_last (list_at cmp c k) v
+-- a value that was put behind others, where all of these were asked on then; taken: of the others and the value
+module _ {V F : Type 0} (R : F → V → Bool → F → Type 0) (f : F) (held : List V) (v : V) (kept : List V) (stays : Bool) (taken : ℕ)
+    (asked : AsksInTurn R f true (held ++ v ∷ []) kept stays) (counts : length held + 1 ≡ taken + length kept) where
+  long : length asked.0 ≡ length held + 1
+  long = asked.2 ∙ length-append held (v ∷ [])
 
-  module _ (kept : List V) (stays : Bool) (taken : ℕ) (asked : AsksInTurn R f true (list_at cmp mid k) kept stays) (counts : taken + length kept ≡ length (list_at cmp mid k)) where
-    many : length (list_at cmp c k ++ v ∷ []) ≡ length (list_at cmp c k) + 1
-    many = length-append (list_at cmp c k) (v ∷ [])
+  counted_of : taken + length (items_where_true asked.0 (held ++ v ∷ [])) ≡ length held + 1
+  counted_of = ap (λ l. taken + length l) (sym asked.4) ∙ sym counts
 
-    long : length asked.0 ≡ length (list_at cmp c k) + 1
-    long = asked.2 ∙ ap (λ l. length l) list_put ∙ many
+  pub some_taken : stays ≡ false → 1 ≤ taken
+  some_taken goes = one_taken asked.0 held v taken long (sym asked.5 ∙ goes) counted_of
 
-    left_of : kept ≡ items_where_true asked.0 (list_at cmp c k ++ v ∷ [])
-    left_of = asked.4 ∙ ap (λ l. items_where_true asked.0 l) list_put
-
-    counted_of : taken + length (items_where_true asked.0 (list_at cmp c k ++ v ∷ [])) ≡ length (list_at cmp c k) + 1
-    counted_of = ap (λ l. taken + length l) (sym left_of) ∙ counts ∙ ap (λ l. length l) list_put ∙ many
-
-    pub some_taken : stays ≡ false → 1 ≤ taken
-    some_taken goes = one_taken asked.0 (list_at cmp c k) v taken long (sym asked.5 ∙ goes) counted_of
-
-    pub put_and_asked : (new : Content K V) (left : ℕ) → new ≡ with_list cmp mid k kept → taken ≡ left + cond stays 0 1
-        → (bs : List Bool) × (last : F) × (length bs ≡ length (list_at cmp c k) + 1) × ReturnsInTurn R f bs (list_at cmp c k ++ v ∷ []) last
-        × (new ≡ with_list cmp c k (items_where_true bs (list_at cmp c k ++ v ∷ []))) × (left + length (items_where_true bs (list_at cmp c k)) ≡ length (list_at cmp c k))
-        × (stays ≡ last_answer true bs)
-    put_and_asked new left is most = (
-      asked.0,
-      asked.1,
-      long,
-      subst (λ (l : List V). ReturnsInTurn R f asked.0 l asked.1) list_put asked.3,
-      is ∙ ap (λ d. with_list cmp d k kept) put ∙ with_list-twice o exact c k (insert (list_at cmp c k) at v) kept lawful ∙ ap (λ l. with_list cmp c k l) left_of,
-      held_taken asked.0 (list_at cmp c k) v stays taken left long asked.5 counted_of most,
-      asked.5,
-    )
+  -- left: how many of the others are gone; put: what a list makes of a content
+  pub put_and_asked : {C : Type 0} (put : List V → C) (new : C) (left : ℕ) → new ≡ put kept → taken ≡ left + cond stays 0 1
+      → (bs : List Bool) × (last : F) × (length bs ≡ length held + 1) × ReturnsInTurn R f bs (held ++ v ∷ []) last
+      × (new ≡ put (items_where_true bs (held ++ v ∷ []))) × (left + length (items_where_true bs held) ≡ length held)
+      × (stays ≡ last_answer true bs)
+  put_and_asked put new left is most = (
+    asked.0,
+    asked.1,
+    long,
+    asked.3,
+    is ∙ ap (λ l. put l) asked.4,
+    held_taken asked.0 held v stays taken left long asked.5 counted_of most,
+    asked.5,
+  )

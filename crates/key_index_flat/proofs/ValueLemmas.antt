@@ -1,5 +1,5 @@
 -- On all values of a content, and on a closure that is called on them.
---     visits_more, visits_append    one call more, and the calls on two lists
+--     visits_append                 the calls on two lists
 --     in_turn, in_turn-more         the values of entries, each newest one with its older ones; and of one entry more
 --     all_values                    these are those of the content that the entries stand for
 use Rattle.std.proofs.Common.{◌≡◌, ◌≤◌, cond, List, [], ◌∷◌, ◌++◌, length, reverse, unwrap_or, Some, T, append_assoc, append-nil, refl, sym, ap, subst, ◌∙◌, arith}
@@ -21,9 +21,6 @@ module _ {F V : Type 0} (visit : F → V → Unit {0} → F → Type 0) where
   pub visits_append : (f g h : F) (xs ys : List V) → VisitsInTurn visit f xs g → VisitsInTurn visit g ys h → VisitsInTurn visit f (xs ++ ys) h
   visits_append f g h [] ys e more = subst (λ x. VisitsInTurn visit x ys h) (sym e) more
   visits_append f g h (x ∷ xs) ys said more = (said.0, said.1, visits_append said.0 g h xs ys said.2 more)
-
-  pub visits_more : (f g h : F) (xs : List V) (x : V) → VisitsInTurn visit f xs g → visit g x tt h → VisitsInTurn visit f (xs ++ x ∷ []) h
-  visits_more f g h xs x said more = visits_append f g h xs (x ∷ []) said (h, more, refl)
 
 module _ {K V : Type 0} (older : K → List V) where
   abbrev pub in_turn : List (K × V) → List V

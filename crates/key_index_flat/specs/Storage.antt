@@ -3,6 +3,7 @@
 --     list_of, content_of   the list that a newest value and older ones make; the content that all of them stand for
 --     older_at, stored      the older values that a map has at a key; the content that the two maps stand for
 --     value_of              the value that entries have at a key
+--     held_at               the list that the two maps have at a key
 --     SameBut, Sets         at each key but k new has what old has; so it is, and it has w at k (None: nothing)
 --     IsLinked              each key with older values has a newest one, and there are as many newest values as keys in the content
 --     Kept                  a flat index as its storage's contracts see it: its translator, what it holds, and how many held values were
@@ -36,6 +37,10 @@ stored cmp eq heads older = content_of cmp heads (older_at eq older)
 
 abbrev pub value_of : {K V : Type 0} → (K → K → Ordering) → List (K × V) → K → Option V
 value_of cmp entries k = lookup (eq_by_cmp cmp k) entries
+
+abbrev pub held_at : {K V A S : Type 0} → (K → K → Ordering) → (K → K → Bool)
+    → List (K × V) → HashMap K (Vec V A) S → K → List V
+held_at cmp eq heads older k = list_of (value_of cmp heads k) (older_at eq older k)
 
 abbrev pub SameBut : {K X : Type 0} → (K → K → Ordering) → (K → X) → (K → X) → K → Type 0
 SameBut {K} cmp old new k = (q : K) → eq_by_cmp cmp q k ≡ false → new q ≡ old q

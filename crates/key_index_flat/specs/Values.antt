@@ -2,8 +2,8 @@
 --     values_of       all values that are held, in the order of the index keys and, under one of them, in list order
 --     VisitsInTurn    visit was called on each value in order, and ended as `last`
 --     VisitsEach      it was called once on each of some values, in some order
-use Rattle.std.specs.Prelude.{◌≡◌, List, [], ◌∷◌}
-use Rattle.std.specs.List.{flat_map}
+use Rattle.std.specs.Prelude.{List}
+use Rattle.std.specs.List.{flat_map, FoldsTo}
 use Rattle.std.specs.List.Sorted.{IsPermutation}
 use Rattle.key_index_flat.specs.Content.{Content}
 
@@ -11,8 +11,7 @@ abbrev pub values_of : {K V : Type 0} → Content K V → List V
 values_of c = flat_map (λ e. e.1) c
 
 abbrev pub VisitsInTurn : {F V : Type 0} → (F → V → Unit {0} → F → Type 0) → F → List V → F → Type 0
-VisitsInTurn visit f [] last = f ≡ last
-VisitsInTurn {F = F} visit f (v ∷ vs) last = (g : F) × visit f v tt g × VisitsInTurn visit g vs last
+VisitsInTurn visit f vs last = FoldsTo (λ g v h. visit g v tt h) f vs last
 
 abbrev pub VisitsEach : {F V : Type 0} → (F → V → Unit {0} → F → Type 0) → F → List V → F → Type 0
 VisitsEach {V = V} visit f vs last = (values : List V) × IsPermutation vs values × VisitsInTurn visit f values last

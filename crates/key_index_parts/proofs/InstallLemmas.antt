@@ -7,7 +7,7 @@
 --     keys_fit                   there are no more keys than values
 --     refused_fault              why a range is refused
 --     fits_inside, room_inside, free_inside    the same of what two storages keep
-use Rattle.std.proofs.Common.{◌≡◌, ℕ, zero, suc, ◌+◌, ◌-◌, ◌^◌, ◌<◌, ◌≤◌, Bool, true, false, not, ◌&&◌, nat_lt, nat_eq, T, if◌then◌else◌, List, [], ◌∷◌, ◌++◌, get_or, set, take, drop, length, All, unwrap_or, length-append, append_assoc, append-nil, add-zero, refl, sym, ap, subst, ◌∙◌, arith, lt_of_not-le, ◌⊎◌, inl, inr}
+use Rattle.std.proofs.Common.{◌≡◌, ℕ, suc, ◌+◌, ◌-◌, ◌^◌, ◌<◌, ◌≤◌, true, false, not, ◌&&◌, nat_lt, nat_eq, T, if◌then◌else◌, List, [], ◌∷◌, ◌++◌, get_or, set, take, drop, length, All, length-append, append_assoc, append-nil, add-zero, refl, sym, ap, subst, ◌∙◌, arith, lt_of_not-le, ◌⊎◌, inl, inr}
 use Rattle.std.proofs.lemmas.Bool.{lt-ltb, ltb-true, ltb-false, eq-eqb, ne_eqb}
 use Rattle.std.proofs.lemmas.List.{get_or_append_left, get_or-append-add, get_or-take, get_or-drop, get_or_past, length-take-le, length-drop, take_more_set, drop-set-lt, take-append-drop}
 use Rattle.std.proofs.lemmas.List.Elements.{All-append, All-take, All-drop, All-get_or}
@@ -17,8 +17,7 @@ use Rattle.std.specs.declared.cmp.Ordering.TheVariants.{Equal}
 use Rattle.std.specs.Ordering.{nat_cmp}
 use Rattle.std.specs.Cmp.{IsTotalOrder}
 use Rattle.key_index_flat.specs.declared.index.Fault.TheVariants.{Memory, Full}
-use Rattle.key_index_flat.specs.Content.{Content, is_filled, all_filled, IsLawful, list_at, item_count, key_count}
-use Rattle.key_index_flat.specs.Laws.{first}
+use Rattle.key_index_flat.specs.Content.{Content, is_filled, IsLawful, list_at, item_count, key_count}
 use Rattle.key_index_flat.proofs.ContentLemmas.{same_content}
 use Rattle.key_index_flat.specs.View.{pruned_after}
 use Rattle.key_index_parts.specs.Family.{Kept, IsCounted, AreFree, part_at, with_parts_from, filled_parts, view_of, range_view}
@@ -26,7 +25,7 @@ use Rattle.key_index_parts.specs.Filled.{IsFirst, flag_at}
 use Rattle.key_index_parts.specs.Gathered.{pair_cmp, gathered_from, gathered}
 use Rattle.key_index_parts.specs.GatheredLaws.{pair_total, IsLawful-gathered}
 use Rattle.key_index_parts.specs.Joined.{joined, joined_view, IsFree, is_between, install_fault}
-use Rattle.key_index_parts.specs.RangeLaws.{gathered_from-shifted, IsLawful-gathered_from, gathered_from-covers, between}
+use Rattle.key_index_parts.specs.RangeLaws.{IsLawful-gathered_from, gathered_from-covers, between}
 use Rattle.key_index_parts.proofs.FamilyNeighbours.{flag_told, unfilled}
 use Rattle.key_index_parts.proofs.GatheredLemmas.{list_at-gathered, item_count-gathered_from, key_count-gathered_from, item_count-gathered, key_count-gathered}
 use Rattle.key_index_parts.proofs.JoinedLemmas.{IsApart, apart_by, list_at-joined, IsLawful-joined, item_count-joined, key_count-joined}

@@ -5,10 +5,9 @@
 --     ended                        at the end
 --     values_flat                  all values of a content, as one list
 --     values-gathered, none_left   and of a family of parts, which has none where there is no part
-use Rattle.std.proofs.Common.{◌≡◌, ℕ, suc, length, map, List, [], ◌∷◌, ◌++◌, append_assoc, append-nil, refl, sym, ap, subst, ◌∙◌, arith}
-use Rattle.std.proofs.lemmas.List.Sorted.{IsPermutation-refl, IsPermutation-append, IsPermutation-append_right}
+use Rattle.std.proofs.Common.{◌≡◌, ℕ, suc, length, map, List, [], ◌∷◌, ◌++◌, append_assoc, refl, sym, ap, subst, ◌∙◌, arith}
+use Rattle.std.proofs.lemmas.List.Sorted.{IsPermutation-refl, IsPermutation-append}
 use Rattle.std.specs.List.{flat_map}
-use Rattle.std.specs.List.Sorted.{IsPermutation}
 use Rattle.key_index_flat.specs.Content.{Content}
 use Rattle.key_index_flat.specs.Values.{VisitsEach, VisitsInTurn, values_of}
 use Rattle.key_index_parts.specs.Gathered.{tagged, gathered_from}

@@ -1,10 +1,10 @@
 -- The laws that an index over parts gives.
 --     pair_total                 the order of pairs is total
 --     IsLawful-gathered          the whole is lawful where each part is
-use Rattle.std.proofs.Common.{◌≡◌, ℕ, suc, ◌<◌, T, List, [], ◌∷◌, ◌++◌, All, refl, sym, subst, arith}
+use Rattle.std.proofs.Common.{ℕ, suc, ◌<◌, T, List, [], ◌∷◌, ◌++◌, All, sym, subst, arith}
 use Rattle.std.proofs.lemmas.List.Elements.{All-head, All-tail}
 use Rattle.std.specs.declared.cmp.Ordering.{Ordering}
-use Rattle.std.specs.Ordering.{nat_cmp, ordering_then, is_lt}
+use Rattle.std.specs.Ordering.{ordering_then, is_lt}
 use Rattle.std.specs.Cmp.{IsTotalOrder, nat_cmp_total, then_total, on_total}
 use Rattle.std.specs.FinMap.Entries.{below_all, is_sorted}
 use Rattle.key_index_flat.specs.Content.{Content, is_filled, all_filled, IsLawful}

@@ -5,7 +5,7 @@
 --     joined_view              the view of an index after a range is installed in it
 --     install_fault            why an index of m values refuses n more
 --     IsSpanKept               two ranges cover the same partitions
-use Rattle.std.specs.Prelude.{◌≡◌, ℕ, ◌+◌, ◌-◌, ◌^◌, if◌then◌else◌, Bool, ◌&&◌, not, nat_lt, IsTrue, List, [], ◌∷◌, ◌++◌}
+use Rattle.std.specs.Prelude.{◌≡◌, ℕ, ◌+◌, ◌-◌, ◌^◌, if◌then◌else◌, Bool, ◌&&◌, not, nat_lt, IsTrue, [], ◌∷◌, ◌++◌}
 use Rattle.std.specs.declared.cmp.Ordering.{Ordering}
 use Rattle.key_index_flat.specs.declared.index.Fault.{Fault}
 use Rattle.key_index_flat.specs.declared.index.Fault.TheVariants.{Memory, Full}

@@ -4,7 +4,7 @@
 --     prefix_reaches         as the test of an index
 --     partition_by-made, partition_by-below    the partition of a key, where an index is made, and anywhere
 --     slot_by-keeps_order    keys in the order of bytes have such index keys in order
-use Rattle.std.proofs.Common.{◌≡◌, ℕ, zero, suc, ◌+◌, ◌*◌, ◌^◌, ◌<◌, ◌≤◌, true, false, if◌then◌else◌, ◌&&◌, T, List, [], ◌∷◌, All, IsTrue, nat_lt, drop, refl, sym, ap, subst, ◌∙◌, arith}
+use Rattle.std.proofs.Common.{◌≡◌, ℕ, zero, suc, ◌+◌, ◌*◌, ◌^◌, ◌<◌, ◌≤◌, true, false, if◌then◌else◌, ◌&&◌, T, List, [], ◌∷◌, IsTrue, nat_lt, refl, sym, ap, subst, ◌∙◌, arith}
 use Rattle.std.proofs.Math.Nat.{one-le-pow}
 use Rattle.std.proofs.lemmas.Bool.{lt-ltb}
 use Rattle.std.proofs.lemmas.Cmp.{ranked}

@@ -3,7 +3,7 @@
 --     gathered_from-shifted       what the parts hold together is that of parts numbered from 0, shifted
 --     IsLawful-gathered_from      it is lawful where that is
 --     gathered_from-covers        and has no list outside their numbers
-use Rattle.std.proofs.Common.{◌≡◌, ℕ, zero, suc, ◌+◌, ◌<◌, ◌≤◌, Bool, true, false, cond, not, nat_lt, ◌&&◌, T, IsTrue, List, [], ◌∷◌, ◌++◌, length, Some, None, unwrap_or, add-zero, refl, sym, ap, subst, ◌∙◌, arith}
+use Rattle.std.proofs.Common.{◌≡◌, ℕ, suc, ◌+◌, ◌<◌, ◌≤◌, true, false, cond, not, ◌&&◌, T, List, [], ◌∷◌, ◌++◌, length, Some, None, unwrap_or, add-zero, refl, sym, ap, subst, ◌∙◌, arith}
 use Rattle.std.proofs.lemmas.Bool.{lt-ltb, le-ltb}
 use Rattle.std.specs.declared.cmp.Ordering.{Ordering}
 use Rattle.std.specs.declared.cmp.Ordering.TheVariants.{Less, Equal, Greater}
@@ -11,8 +11,7 @@ use Rattle.std.specs.Ordering.{nat_cmp, ordering_then, is_eq, is_lt}
 use Rattle.std.specs.Cmp.{ranked}
 use Rattle.std.specs.FinMap.{find}
 use Rattle.std.specs.FinMap.Entries.{below_all, is_sorted}
-use Rattle.key_index_flat.specs.Content.{Content, is_filled, all_filled, IsLawful, list_at}
-use Rattle.key_index_flat.specs.Laws.{both, first, second}
+use Rattle.key_index_flat.specs.Content.{Content, is_filled, all_filled, IsLawful}
 use Rattle.key_index_flat.specs.NumberOrder.{nat_cmp-add}
 use Rattle.key_index_parts.specs.Gathered.{pair_cmp, tagged, gathered_from, gathered}
 use Rattle.key_index_parts.specs.Joined.{IsFree, is_between}

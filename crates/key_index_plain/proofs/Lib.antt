@@ -1,3 +1,4 @@
 pub mod EntryLemmas
 pub mod ScanLemmas
 pub mod IndexLemmas
+pub mod PutLemmas

@@ -3,3 +3,4 @@ pub mod CommandLemmas
 pub mod ExclusionLemmas
 pub mod FiledLemmas
 pub mod SnapshotLemmas
+pub mod VisitLemmas

@@ -1,18 +1,20 @@
 //! Callers as a user writes them: over any index, by its content alone.
-ghost use Rattle.std.specs.Prelude.{◌≡◌, ◌+◌, ◌-◌, ◌<◌, ◌↔◌, ◌⊎◌, ◌==◌, [], ◌∷◌, ◌++◌, length, filter, true, not, IfOk, IfErr, OnOk, OnErr, IsTrue, slice_set};
+ghost use Rattle.std.specs.Prelude.{◌≡◌, ◌+◌, ◌-◌, ◌<◌, ◌↔◌, ◌⊎◌, ◌==◌, [], ◌∷◌, ◌++◌, length, filter, map, zip, Some, true, not, IfOk, IfErr, OnOk, OnErr, IsTrue, slice_set};
 ghost use Rattle.std.specs.Ordering.{nat_cmp};
+ghost use Rattle.std.specs.List.{FoldsTo, last_or};
 ghost use Rattle.std.specs.Option.{MatchOption, option_copied};
-ghost use Rattle.key_index_flat.specs.View.{items_in, run_of, with_edit, with_pruned, with_run, after_insert, after_remove, IsHeld};
+ghost use Rattle.key_index_flat.specs.View.{items_in, run_at, run_of, with_edit, with_pruned, with_run, after_insert, after_remove, IsHeld};
 ghost use Rattle.key_index_flat.specs.FullKeys.{IsFiledIn};
 ghost use Rattle.key_index_flat.specs.Values.{values_of};
+ghost use Rattle.key_index_flat.specs.Visits.{VisitsAt, probes_from, visits_of};
 ghost use Rattle.key_index_flat.specs.Padding.{padded};
 ghost use Rattle.key_index_parts.specs.Gathered.{pair_cmp};
 ghost use Rattle.key_index_uses.specs.Exclusion.{has_key, Excludes};
 
 use key_index_flat::index::unordered::Index;
 use key_index_flat::index::{
-    Cursor, Factory, Fault, IndexCursor, Keyed, Ordered, Refused, Runs, Unordered, Values,
-    resolve_next, resolve_prev,
+    Cursor, Factory, Fault, IndexCursor, Keyed, Lists, Ordered, Refused, Runs, Unordered, Values,
+    resolve_next, resolve_prev, visit_by_place,
 };
 use key_index_flat::translator::{OneCap, TwoCap};
 use key_index_parts::index::partitioned::{self, grouping_and_order};
@@ -105,6 +107,33 @@ pub fn update<I: Unordered<Value = u64>>(
         Ok(()) => Ok(()),
         Err(refused) => Err(refused.fault),
     }
+}
+
+/// Visits the values of each key of a batch, in the order of the keys, by a closure that the caller keeps.
+fn visit_with<I: Lists, F: FnMut(usize, &I::Value)>(index: &I, keys: &[&[u8]], visit: &mut F)
+    requires { F.IsAlwaysCallable visit.old }
+    ensures { let view = I.view index.now in
+        FoldsTo (VisitsAt F.FnMut) visit.old (visits_of (run_at I.Key.cmp view)
+        (probes_from view.slot 0 (map (λ key. key.now) keys.now))) visit.new }
+{
+    visit_by_place(index, keys.iter(), |place, value| visit(place, value));
+}
+
+/// Sets the answer at the place of each key of a batch to the last of the key's values, in list order. The answer of a key without
+/// values stays. Takes no memory.
+pub fn last_values<I: Lists<Value = u64>>(index: &I, keys: &[&[u8]], answers: &mut [Option<u64>])
+    requires { length answers.old ≡ length keys.now }
+    ensures { answers.new ≡ map (λ p. last_or p.0 (run_of I.Key.cmp (I.view index.now) p.1.now))
+        (zip answers.old keys.now) }
+{
+    let mut fill = |place: usize, value: &u64|
+        ensures { answers.exit.now ≡ slice_set answers.entry.now place (Some value.now) }
+    {
+        if place < answers.len() {
+            answers[place] = Some(*value);
+        }
+    };
+    visit_with(index, keys, &mut fill);
 }
 
 /// The values of a key, by the first `P` bytes of it and the two behind them, with zeros behind a shorter one: all that an index in

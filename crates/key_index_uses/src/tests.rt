@@ -1,6 +1,7 @@
 //! An index that is called some thousand times answers as lists kept beside it do, and each call answers once as it should.
 mod asks;
 mod batches;
+mod builds;
 mod callers;
 mod calls;
 mod checks;
@@ -16,6 +17,7 @@ mod partition;
 mod partitioned_ordered;
 mod partitions;
 mod parts;
+mod ranges;
 mod segments;
 mod translators;
 mod walk;

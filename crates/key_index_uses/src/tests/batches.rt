@@ -2,6 +2,7 @@
 ghost use Rattle.std.specs.Prelude.{◌≡◌};
 
 use super::checks::{fill, fresh, push};
+use crate::callers::last_values;
 use key_index_flat::index::{Unordered, ordered, unordered};
 use key_index_flat::translator::OneCap;
 use key_index_parts::index::partitioned;
@@ -146,4 +147,14 @@ fn visited_values_may_be_kept(rt: HostRuntime) {
     let visited = index.get_many(keys.iter().copied(), |_, value| kept = Some(value));
     assert!(&rt; visited.is_ok());
     assert_eq!(&rt; kept.copied(), Some(3));
+}
+
+#[test]
+fn last_values_fill_a_slice(rt: HostRuntime) {
+    let mut index: ordered::Index<OneCap, u64> = fresh(&rt, rt.alloc(), OneCap);
+    three(&rt, &mut index);
+    let keys: [&[u8]; 3] = [b"\x1c", b"\x55", b"\x0b"];
+    let mut answers = [None, Some(9), None];
+    last_values(&index, &keys, &mut answers);
+    assert_eq!(&rt; answers, [Some(21), Some(9), Some(1)]);
 }

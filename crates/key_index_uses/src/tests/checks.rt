@@ -1,5 +1,6 @@
 //! Calls of an index and of a cursor that have to be accepted, and what the tests assert of them: each in one function, so that a
 //! test is proved by its calls alone.
+ghost use Rattle.std.specs.Prelude.{◌≡◌, []};
 ghost use Rattle.key_index_flat.specs.Cursor.{IsOnValue, AllowsInsert};
 
 use super::asks::Asks;
@@ -10,6 +11,7 @@ use std::process::Abort;
 /// An index with no values.
 pub(super) fn fresh<I: Factory>(rt: &impl Abort, alloc: Global, translator: I::Translator) -> I
     requires { I.makes }
+    ensures { (I.view result).content ≡ [] }
 {
     I::new(alloc, translator).expect(rt, "an index")
 }

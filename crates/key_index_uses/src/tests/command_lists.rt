@@ -13,7 +13,7 @@ use std::process::Abort;
 const RUNS: u32 = 1000;
 
 /// A key of up to two bytes, of four that occur.
-fn key(rt: &impl Abort, alloc: Global, number: u64) -> Vec<u8> {
+pub(super) fn key(rt: &impl Abort, alloc: Global, number: u64) -> Vec<u8> {
     let bytes = two_bytes(number);
     let mut key = Vec::new(alloc);
     for byte in &bytes[..(number / 16 % 3) as usize] {
@@ -56,7 +56,7 @@ fn step(rt: &impl Abort, walk: &mut Walk, number: u64) -> (Step<u64>, bool) {
 
 /// Up to seven steps of an edit, in any order, with the flag that each comes to. They are done to the list if it has values. Tells
 /// how many values were taken out.
-fn edit(
+pub(super) fn edit(
     rt: &impl Abort,
     alloc: Global,
     list: &mut Vec<u64>,
@@ -169,7 +169,12 @@ fn run_list<I: Unordered<Value = u64>>(
 }
 
 /// An index has the list of each key that occurs, and the counts of all.
-fn has_all<I: Unordered<Value = u64>>(rt: &impl Abort, alloc: Global, index: &I, kept: &KeptLists) {
+pub(super) fn has_all<I: Unordered<Value = u64>>(
+    rt: &impl Abort,
+    alloc: Global,
+    index: &I,
+    kept: &KeptLists,
+) {
     let lists = kept.lists.as_slice();
     for number in 0..48 {
         let key = key(rt, alloc, number);

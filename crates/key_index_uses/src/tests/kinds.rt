@@ -3,11 +3,11 @@
 use super::checks::fresh;
 use super::full_keys::{Record, next_to};
 use super::translators::FirstByte;
-use super::{callers, calls, command_lists, commands, cursors, lists, neighbours};
+use super::{builds, callers, calls, command_lists, commands, cursors, lists, neighbours, ranges};
 use crate::callers::newest;
 use key_index_flat::index::{Factory, Ordered, Unordered, ordered, unordered};
 use key_index_flat::translator::{Cap, EightCap, FourCap, Hashed, OneCap, TwoCap, UnhashedArray};
-use key_index_parts::index::partitioned;
+use key_index_parts::index::partitioned::{self, Partitioned};
 use std::alloc::Global;
 use std::process::Abort;
 
@@ -122,6 +122,42 @@ where
         }
         _ => on::<I>(rt, alloc, translator, slot, width, group),
     }
+}
+
+/// Ranges, and so many builds in ranges, in a kind in partitions.
+fn in_ranges<I: Partitioned<Value = u64> + Factory + Drop>(
+    rt: &impl Abort,
+    alloc: Global,
+    translator: I::Translator,
+    count: u32,
+)
+where
+    I::Translator: Copy,
+    requires { I.makes }
+{
+    ranges::called_beside(rt, alloc, &mut fresh::<I>(rt, alloc, translator), 2);
+    let mut kept = lists::KeptLists::new(rt, alloc, 2);
+    for _ in 0..count {
+        builds::built_beside(rt, alloc, &mut fresh::<I>(rt, alloc, translator), &mut kept);
+    }
+}
+
+/// The worked ranges and builds, in a kind whose partitions are by one byte, and then the others.
+fn in_ranges_by_one<I: Partitioned<Value = u64> + Factory + Drop>(
+    rt: &impl Abort,
+    alloc: Global,
+    translator: I::Translator,
+)
+where
+    I::Translator: Copy,
+    requires { I.makes }
+{
+    ranges::installed(rt, alloc, &mut fresh::<I>(rt, alloc, translator));
+    ranges::installed_after_edits(rt, alloc, &mut fresh::<I>(rt, alloc, translator));
+    ranges::found_empty(rt, &mut fresh::<I>(rt, alloc, translator));
+    builds::built(rt, alloc, &mut fresh::<I>(rt, alloc, translator));
+    builds::newest_stand(rt, alloc, fresh::<I>(rt, alloc, translator));
+    in_ranges::<I>(rt, alloc, translator, 2000);
 }
 
 /// The records next to full keys, in a kind that has an order.
@@ -315,6 +351,26 @@ fn partitioned_ordered_keeps_lists_by_arrays(rt: HostRuntime) {
 #[test]
 fn partitioned_ordered_resolves(rt: HostRuntime) {
     resolves::<partitioned::ordered::Index<OneCap, Record, 1>>(&rt, rt.alloc(), OneCap)
+}
+
+#[test]
+fn partitioned_is_built_in_ranges(rt: HostRuntime) {
+    in_ranges_by_one::<partitioned::unordered::Index<OneCap, u64, 1>>(&rt, rt.alloc(), OneCap)
+}
+
+#[test]
+fn partitioned_by_two_is_built_in_ranges(rt: HostRuntime) {
+    in_ranges::<partitioned::unordered::Index<TwoCap, u64, 2>>(&rt, rt.alloc(), TwoCap, 100)
+}
+
+#[test]
+fn partitioned_ordered_is_built_in_ranges(rt: HostRuntime) {
+    in_ranges_by_one::<partitioned::ordered::Index<OneCap, u64, 1>>(&rt, rt.alloc(), OneCap)
+}
+
+#[test]
+fn partitioned_ordered_by_two_is_built_in_ranges(rt: HostRuntime) {
+    in_ranges::<partitioned::ordered::Index<TwoCap, u64, 2>>(&rt, rt.alloc(), TwoCap, 100)
 }
 
 #[test]

@@ -143,7 +143,7 @@ fn step_beside<C: Cursor<Value = u64>>(
 }
 
 /// Up to seven calls of a cursor that is new, and the same on the list. Tells how many values were taken out.
-fn edit_beside<C: Cursor<Value = u64>>(
+pub(super) fn edit_beside<C: Cursor<Value = u64>>(
     rt: &impl Abort,
     alloc: Global,
     cursor: &mut C,
@@ -312,6 +312,14 @@ impl KeptLists {
             pruned: 0,
             numbers: Numbers::new(),
         }
+    }
+
+    /// No list has a value, and none was taken out.
+    pub(super) fn clear(&mut self) {
+        for list in self.lists.iter_mut() {
+            list.clear();
+        }
+        self.pruned = 0;
     }
 
     /// One call by key of an index, which then has the key's list, and the counts of all.

@@ -6,16 +6,15 @@ ghost use Rattle.std.specs.List.{items_where_true};
 ghost use Rattle.std.specs.List.Retain.{IsFiltered, ReturnsInTurn};
 ghost use Rattle.std.specs.Map.Iter.{deref_pair};
 ghost use Rattle.std.specs.Option.{option_map};
-ghost use Rattle.key_index_flat.specs.Content.{Content, IsLawful, key_count, list_at, with_list, with_list_by};
+ghost use Rattle.key_index_flat.specs.Content.{Content, key_count, list_at, with_list, with_list_by};
 ghost use Rattle.key_index_flat.specs.Neighbours.{first_list, last_list, next_list, prev_list};
-ghost use Rattle.key_index_flat.specs.Retention.{last_answer, AsksInTurn};
+ghost use Rattle.key_index_flat.specs.Retention.{last_answer};
 ghost use Rattle.key_index_flat.specs.Storage.{older_at, stored, IsLinked};
 ghost use Rattle.key_index_flat.specs.Values.{values_of, VisitsEach};
 
 use super::heads::{Heads, OrderedHeads};
 use super::older::{
-    insert_older, older_of, pop_older, remove_older, retain_older, retain_older_in_turn, set_older,
-    take_older,
+    insert_older, older_of, pop_older, remove_older, retain_older, set_older, take_older,
 };
 use crate::index::Values;
 use crate::index::values::visit_in_turn;
@@ -219,35 +218,6 @@ impl<T: Translator, V: Drop, M: Heads<T::Key, V>> Chains<T, V, M> {
         (had + 1, left)
     }
 
-    /// What `retain` does, and the last answer too: true where the index key has no value.
-    fn retain_in_turn<F: FnMut(&V) -> bool>(
-        &mut self,
-        slot: T::Key,
-        mut should_retain: F,
-    ) -> (usize, bool)
-        requires callable { F.IsAlwaysCallable should_retain }
-        ensures kept { (kept : List V)
-            × AsksInTurn (CalledAt F.FnMut) should_retain true (list_at T.Key.cmp self.old slot) kept result.1
-            × (self.new ≡ with_list T.Key.cmp self.old slot kept)
-            × (result.0 + length kept ≡ length (list_at T.Key.cmp self.old slot)) }
-    {
-        let Some(newest) = self.heads.get(&slot) else {
-            return (0, true);
-        };
-        let newest_stays = should_retain(newest);
-        let (taken, stays) = retain_older_in_turn(
-            &mut self.older,
-            slot,
-            should_retain,
-            newest_stays,
-        );
-        if newest_stays {
-            return (taken, stays);
-        }
-        self.remove_at(slot, 0);
-        (taken + 1, stays)
-    }
-
     /// Puts a value in behind those of the index key, which takes all the memory that the call may need, then asks once on each of
     /// them, in list order, and takes out those that are answered false. Tells how many were held, how many of these are gone, and
     /// whether the new one stays.
@@ -257,8 +227,7 @@ impl<T: Translator, V: Drop, M: Heads<T::Key, V>> Chains<T, V, M> {
         value: V,
         should_retain: F,
     ) -> Result<(usize, usize, bool), V>
-        requires callable { F.IsAlwaysCallable should_retain }
-        requires lawful { IsLawful T.Key.cmp self.old }
+        requires { F.IsAlwaysCallable should_retain }
         ensures accepted { IfOk result (λ told. let held = list_at T.Key.cmp self.old slot in
             (answers : List Bool) × (last : F) × (length answers ≡ length held + 1)
             × ReturnsInTurn (CalledAt F.FnMut) should_retain answers (held ++ value ∷ []) last
@@ -269,11 +238,11 @@ impl<T: Translator, V: Drop, M: Heads<T::Key, V>> Chains<T, V, M> {
         ensures refused { OnErr result (self.new ≡ self.old) }
         ensures returned { IfErr result (λ back. back ≡ value) }
     {
-        let len = self.run_len(slot);
-        self.insert_at(slot, len, value)?;
-        let (taken, stays) = self.retain_in_turn(slot, should_retain);
+        let (had, taken, stays) = self
+            .heads
+            .insert_and_retain(self.alloc, &mut self.older, slot, value, should_retain)?;
         let gone = if stays { taken } else { taken - 1 };
-        Ok((len, gone, stays))
+        Ok((had, gone, stays))
     }
 
     /// How many index keys have values.

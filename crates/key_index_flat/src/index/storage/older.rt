@@ -1,10 +1,10 @@
 //! The older values of the keys that have any, the oldest first.
-ghost use Rattle.std.specs.Prelude.{◌≡◌, ◌+◌, ◌-◌, ◌<◌, ◌≤◌, [], ◌++◌, length, reverse, slice_get, slice_set, insert, remove, Some, IfErr, IfNone, IfSome, OnOk, OnErr};
+ghost use Rattle.std.specs.Prelude.{◌≡◌, ◌+◌, ◌-◌, ◌<◌, ◌≤◌, true, false, [], ◌∷◌, ◌++◌, length, reverse, slice_get, slice_set, insert, remove, Some, None, if◌then◌else◌, IfErr, IfNone, IfOk, IfSome, OnOk, OnErr};
 ghost use Rattle.std.specs.Fn.{CalledAt};
 ghost use Rattle.std.specs.List.Retain.{IsFiltered};
 ghost use Rattle.std.specs.Option.{option_map, option_to_list};
 ghost use Rattle.key_index_flat.specs.Retention.{AsksInTurn};
-ghost use Rattle.key_index_flat.specs.Storage.{older_at, SameBut};
+ghost use Rattle.key_index_flat.specs.Storage.{list_of, older_at, SameBut};
 
 use crate::index::retain_in_turn;
 use std::alloc::Global;
@@ -197,32 +197,117 @@ pub(super) fn retain_older<K: Ord + Hash + Copy, V: Drop, F: FnMut(&V) -> bool>(
     (had, left)
 }
 
-/// What `retain_older` does, and the last answer too: `before` where the key has no older values.
-pub(super) fn retain_older_in_turn<K: Ord + Hash + Copy, V: Drop, F: FnMut(&V) -> bool>(
+/// What a closure that was asked on the values of a key in turn left of them.
+#[derive(Drop)]
+pub(super) struct Turn {
+    /// How many are gone.
+    pub(super) gone: usize,
+    /// The last answer.
+    pub(super) stays: bool,
+    /// Whether any value is left.
+    pub(super) left: bool,
+}
+
+/// Asks once on the newest value of a key and on its older ones, in list order, takes out those that are answered false, and moves
+/// the first of the others to the newest one's place.
+fn retain_both<V: Drop, F: FnMut(&V) -> bool>(
+    newest: &mut V,
+    older: &mut Vec<V>,
+    mut should_retain: F,
+) -> Turn
+    requires { F.IsAlwaysCallable should_retain }
+    ensures asked { AsksInTurn (CalledAt F.FnMut) should_retain true (list_of (Some newest.old) older.old.items)
+        (list_of (if result.left then Some newest.new else None) older.new.items) result.stays }
+    ensures gone { result.gone + length (list_of (if result.left then Some newest.new else None) older.new.items)
+        ≡ 1 + length older.old.items }
+    ensures emptied { result.left ≡ false → older.new.items ≡ [] }
+{
+    let held = older.len();
+    let newest_stays = should_retain(newest);
+    older.reverse();
+    let stays = retain_in_turn(older, should_retain, newest_stays);
+    older.reverse();
+    if newest_stays {
+        let gone = held - older.len();
+        return Turn {
+            gone,
+            stays,
+            left: true,
+        };
+    }
+    match older.pop() {
+        Some(next) => {
+            *newest = next;
+            let gone = held - older.len();
+            Turn {
+                gone,
+                stays,
+                left: true,
+            }
+        }
+        None => {
+            let gone = held + 1;
+            Turn {
+                gone,
+                stays,
+                left: false,
+            }
+        }
+    }
+}
+
+/// Puts a value in behind the newest value of a key and its older ones, which takes all the memory that the call may need, asks once
+/// on each of them, in list order, takes out those that are answered false, and moves the first of the others to the newest one's
+/// place. Tells how many were held. A refusal hands the value back and changes nothing.
+pub(super) fn insert_and_retain_both<K: Ord + Hash + Copy, V: Drop, F: FnMut(&V) -> bool>(
+    alloc: Global,
     older: &mut HashMap<K, Vec<V>>,
     key: K,
+    newest: &mut V,
+    value: V,
     should_retain: F,
-    before: bool,
-) -> (usize, bool)
+) -> Result<(usize, Turn), V>
     requires { F.IsAlwaysCallable should_retain }
-    ensures at { AsksInTurn (CalledAt F.FnMut) should_retain before
-        (reverse (older_at K.eq older.old key)) (reverse (older_at K.eq older.new key)) result.1 }
-    ensures taken { result.0 + length (older_at K.eq older.new key) ≡ length (older_at K.eq older.old key) }
+    ensures asked { IfOk result (λ told. AsksInTurn (CalledAt F.FnMut) should_retain true
+        (list_of (Some newest.old) (older_at K.eq older.old key) ++ value ∷ [])
+        (list_of (if told.1.left then Some newest.new else None) (older_at K.eq older.new key)) told.1.stays) }
+    ensures had { IfOk result (λ told. told.0 ≡ 1 + length (older_at K.eq older.old key)) }
+    ensures gone { IfOk result (λ told. told.0 + 1 ≡ told.1.gone
+        + length (list_of (if told.1.left then Some newest.new else None) (older_at K.eq older.new key))) }
+    ensures emptied { IfOk result (λ told. told.1.left ≡ false → older_at K.eq older.new key ≡ []) }
     ensures others { SameBut K.cmp (older_at K.eq older.old) (older_at K.eq older.new) key }
+    ensures refused { OnErr result (older_at K.eq older.new key ≡ older_at K.eq older.old key) }
+    ensures same { OnErr result (newest.new ≡ newest.old) }
+    ensures returned { IfErr result (λ back. back ≡ value) }
 {
-    if older.is_empty() {
-        return (0, before);
+    match older.entry(key) {
+        Err(_) => Err(value),
+        Ok(Entry::Occupied(mut entry)) => {
+            let values = entry.get_mut();
+            if let Err(failed) = values.insert(0, value) {
+                return Err(failed.value);
+            }
+            let had = values.len();
+            let turn = retain_both(newest, values, should_retain);
+            if values.is_empty() {
+                entry.remove();
+                return Ok((had, turn));
+            }
+            Ok((had, turn))
+        }
+        Ok(Entry::Vacant(entry)) => {
+            let mut values = Vec::new(alloc);
+            if let Err(failed) = values.push(value) {
+                entry.into_key();
+                return Err(failed.value);
+            }
+            let turn = retain_both(newest, &mut values, should_retain);
+            if values.is_empty() {
+                entry.into_key();
+                return Ok((1, turn));
+            }
+            entry.insert(values);
+            Ok((1, turn))
+        }
     }
-    let Some(values) = older.get_mut(&key) else {
-        return (0, before);
-    };
-    let held = values.len();
-    values.reverse();
-    let stays = retain_in_turn(values, should_retain, before);
-    values.reverse();
-    let after = values.len();
-    if after == 0 {
-        older.remove(&key);
-    }
-    (held - after, stays)
 }

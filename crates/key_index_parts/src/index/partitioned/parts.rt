@@ -12,7 +12,7 @@ ghost use Rattle.key_index_parts.specs.Gathered.{gathered, gathered_from, pair_c
 ghost use Rattle.key_index_parts.specs.Prefix.{partition_count};
 
 use super::filled::Filled;
-use super::part::{OrderedPart, Part};
+use super::part::{Held, OrderedPart, Part};
 use key_index_flat::index::{Fault, Retained, Values};
 use key_index_flat::translator::Translator;
 use std::alloc::Global;
@@ -20,13 +20,13 @@ use std::marker::{Model, PhantomData};
 
 /// The parts, and which of them hold anything. Contracts see what each part holds.
 #[derive(Drop)]
-pub(super) struct Parts<T: Translator, V, X: Part<T, V>> {
+pub(super) struct Parts<T: Translator, V, X: Held<T, V>> {
     parts: Vec<X>,
     filled: Filled,
     lists: PhantomData<(T, V)>,
 }
 
-impl<T: Translator, V, X: Part<T, V>> Model for Parts<T, V, X> {
+impl<T: Translator, V, X: Held<T, V>> Model for Parts<T, V, X> {
     ghost Value = { List (Content T.Key V) };
 
     ghost view = { λ p. map X.content p.parts.items };

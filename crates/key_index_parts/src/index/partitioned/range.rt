@@ -1,14 +1,14 @@
 //! Ranges of an index in partitions, over any kind of part.
 ghost use Rattle.std.specs.Prelude.{◌≡◌, ◌+◌, ◌<◌, ◌≤◌, [], ◌∷◌, false, length, IsTrue, IfOk, IfErr, OnOk, OnErr};
-ghost use Rattle.key_index_flat.specs.Content.{IsLawful, item_count};
+ghost use Rattle.key_index_flat.specs.Content.{IsLawful};
 ghost use Rattle.key_index_flat.specs.View.{growth_fault_in, items_in, run_at, with_run};
 ghost use Rattle.key_index_parts.specs.Family.{range_view};
-ghost use Rattle.key_index_parts.specs.Gathered.{gathered, pair_cmp, entries_of};
+ghost use Rattle.key_index_parts.specs.Gathered.{gathered, pair_cmp};
 ghost use Rattle.key_index_parts.specs.Joined.{IsSpanKept, is_between};
 ghost use Rattle.key_index_parts.specs.Prefix.{partition_count};
 ghost use Rattle.key_index_parts.specs.RangeLaws.{shift};
 
-use super::part::Part;
+use super::part::{Held, Part};
 use super::storage::Storage;
 use super::{PartitionRange, partition_index_and_sub_key};
 use key_index_flat::index::{Fault, IndexCursor, Refused, Runs, Search};
@@ -17,7 +17,7 @@ use key_index_flat::translator::Translator;
 /// Some neighbouring partitions of an index, apart from it, with slots for these alone. Its parts are numbered from
 /// 0, and its index keys are those of the index.
 #[derive(Drop)]
-pub struct Range<T: Translator, V: Drop, X: Part<T, V> + Drop, const P: usize> {
+pub struct Range<T: Translator, V: Drop, X: Held<T, V> + Drop, const P: usize> {
     pub(super) offset: usize,
     pub(super) storage: Storage<T, V, X, P>,
     ghost least: { 1 ≤ P },

@@ -4,16 +4,15 @@ ghost use Rattle.std.specs.Bool.{Decides};
 ghost use Rattle.std.specs.Fn.{CalledAt};
 ghost use Rattle.key_index_flat.specs.Content.{IsLawful, item_count, key_count};
 ghost use Rattle.key_index_flat.specs.Fault.{growth_fault};
-ghost use Rattle.key_index_flat.specs.FullKeys.{IsBytes};
 ghost use Rattle.key_index_flat.specs.Neighbours.{first_list, last_list, next_list, prev_list};
-ghost use Rattle.key_index_flat.specs.View.{put_value, run_at, run_of, with_run, with_edit, with_pruned, after_insert, after_remove, InsertsAndRetainsAt, RetainsAt};
+ghost use Rattle.key_index_flat.specs.View.{run_at, run_of, with_run, with_edit, with_pruned, after_insert, after_remove, InsertsAndRetainsAt, RetainsAt};
 ghost use Rattle.key_index_flat.specs.Values.{VisitsEach, values_of};
 ghost use Rattle.key_index_parts.specs.Family.{Kept, IsCounted, view_of, range_view, part_at};
 ghost use Rattle.key_index_parts.specs.Gathered.{gathered, pair_cmp};
 ghost use Rattle.key_index_parts.specs.Joined.{IsFree, is_between, joined_view};
 ghost use Rattle.key_index_parts.specs.Prefix.{partition_count, slot_by};
 
-use super::part::{OrderedPart, Part};
+use super::part::{Held, OrderedPart, Part};
 use super::partition_index_and_sub_key;
 use super::parts::Parts;
 use key_index_flat::index::{Fault, Refused, Values};
@@ -24,7 +23,7 @@ use std::marker::Model;
 /// An index over `256^P` parts: a translator, the parts, and the counts of them all. Contracts see all of it but the counts, which
 /// are those of what the parts hold.
 #[derive(Drop)]
-pub(super) struct Storage<T: Translator, V, X: Part<T, V>, const P: usize> {
+pub(super) struct Storage<T: Translator, V, X: Held<T, V>, const P: usize> {
     translator: T,
     parts: Parts<T, V, X>,
     items: usize,
@@ -32,7 +31,7 @@ pub(super) struct Storage<T: Translator, V, X: Part<T, V>, const P: usize> {
     pruned: u64,
 }
 
-impl<T: Translator, V, X: Part<T, V>, const P: usize> Model for Storage<T, V, X, P> {
+impl<T: Translator, V, X: Held<T, V>, const P: usize> Model for Storage<T, V, X, P> {
     ghost Value = { Kept T T.Key V };
 
     ghost view = { λ s. record { translator = s.translator; parts = s.parts; pruned = s.pruned } };

@@ -1,5 +1,5 @@
 //! What the indices in partitions have in common, and their ranges.
-ghost use Rattle.std.specs.Prelude.{◌≡◌, ◌↔◌, ℕ, ◌+◌, ◌<◌, ◌≤◌, List, [], Bool, not, nat_eq, IsTrue, IfErr, OnOk, OnErr, IfOk};
+ghost use Rattle.std.specs.Prelude.{◌≡◌, ◌↔◌, ℕ, ◌+◌, ◌<◌, ◌≤◌, List, [], not, nat_eq, IsTrue, IfErr, OnOk, OnErr, IfOk};
 ghost use Rattle.std.specs.Fn.{CalledAt};
 ghost use Rattle.key_index_flat.specs.Content.{key_count};
 ghost use Rattle.key_index_flat.specs.FullKeys.{IsBytes};

@@ -1,5 +1,5 @@
 //! The partitioned unordered index.
-ghost use Rattle.std.specs.Prelude.{◌≡◌, ◌≤◌, true, false, length, IfOk, IfErr};
+ghost use Rattle.std.specs.Prelude.{◌≡◌, ◌≤◌, true, false, length};
 ghost use Rattle.key_index_flat.specs.Content.{IsLawful};
 ghost use Rattle.key_index_parts.specs.Family.{view_of};
 ghost use Rattle.key_index_parts.specs.Gathered.{gathered, pair_cmp};

@@ -5,11 +5,10 @@ ghost use Rattle.std.specs.List.Sorted.{IsSorted};
 ghost use Rattle.std.specs.Map.{keys_of};
 ghost use Rattle.key_index_flat.specs.Content.{item_count, list_at, with_list};
 ghost use Rattle.key_index_flat.specs.Retention.{AsksInTurn};
-ghost use Rattle.key_index_flat.specs.Neighbours.{first_list, last_list, entries_above, entries_below};
 ghost use Rattle.key_index_parts.specs.Pairs.{IsRun, grouped};
 
 use super::partition::Partition;
-use crate::index::partitioned::part::{OrderedPart, Part};
+use crate::index::partitioned::part::{Held, OrderedPart, Part};
 use key_index_flat::index::{Refused, Retained, Values};
 use key_index_flat::translator::Translator;
 use std::alloc::Global;
@@ -63,14 +62,16 @@ impl<T: Translator, V: Drop> Arrays<T, V> {
     }
 }
 
-impl<T: Translator, V: Drop> Part<T, V> for Arrays<T, V> {
+impl<T: Translator, V> Held<T, V> for Arrays<T, V> {
     ghost use Rattle.key_index_parts.specs.PairLaws.{IsLawful-grouped};
 
     ghost content = { λ part. grouped T.Key.cmp part.pairs.pairs };
 
-    ghost FIRST = { false };
-
     ghost lawful = { λ part. IsLawful-grouped T.Key.total part.pairs.pairs };
+}
+
+impl<T: Translator, V: Drop> Part<T, V> for Arrays<T, V> {
+    ghost FIRST = { false };
 
     fn new(alloc: Global, _translator: T) -> Arrays<T, V> {
         Arrays {

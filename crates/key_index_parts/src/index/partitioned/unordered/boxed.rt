@@ -1,11 +1,11 @@
 //! A part as a flat unordered index in a box.
-ghost use Rattle.std.specs.Prelude.{◌≡◌, ◌≤◌, true, not, length, insert, IfOk, IfErr, OnErr};
+ghost use Rattle.std.specs.Prelude.{◌≡◌, ◌≤◌, None, true, not, length, insert, IsSome, IfOk, IfErr, OnOk, OnErr};
 ghost use Rattle.key_index_flat.specs.Content.{is_filled, list_at, with_list_by};
 ghost use Rattle.key_index_flat.specs.Held.{held};
 ghost use Rattle.key_index_parts.specs.Boxed.{held_in, IsLawful-held_in};
 
-use crate::index::partitioned::part::Part;
-use key_index_flat::index::{Factory, Lists, Retained, Runs, Unordered, Values, unordered};
+use crate::index::partitioned::part::{Held, Part};
+use key_index_flat::index::{Factory, Fault, Lists, Retained, Runs, Unordered, Values, unordered};
 use key_index_flat::translator::Translator;
 use std::alloc::Global;
 
@@ -18,19 +18,22 @@ pub struct Boxed<T: Translator, V> {
 }
 
 impl<T: Translator, V: Drop> Boxed<T, V> {
-    /// Makes the flat index where there is none yet and its memory isn't refused.
-    fn make(&mut self)
-        ensures { held_in self.new.index ≡ held_in self.old.index }
+    /// Makes the flat index where there is none yet.
+    fn make(&mut self) -> Result<(), Fault>
+        ensures content { held_in self.new.index ≡ held_in self.old.index }
+        ensures made { OnOk result (IsSome self.new.index) }
+        ensures refused { OnErr result (self.old.index ≡ None) }
+        ensures fault { IfErr result (λ fault. fault ≡ Fault.Memory) }
     {
         if self.index.is_some() {
-            return;
+            return Ok(());
         }
-        let Ok(empty) = unordered::Index::new(self.alloc, self.translator) else {
-            return;
+        let empty = unordered::Index::new(self.alloc, self.translator)?;
+        let Ok(index) = Box::new(self.alloc, empty) else {
+            return Err(Fault::Memory);
         };
-        if let Ok(index) = Box::new(self.alloc, empty) {
-            self.index = Some(index);
-        }
+        self.index = Some(index);
+        Ok(())
     }
 }
 
@@ -56,12 +59,14 @@ fn put_at<T: Translator, V: Drop>(
     }
 }
 
-impl<T: Translator, V: Drop> Part<T, V> for Boxed<T, V> {
+impl<T: Translator, V> Held<T, V> for Boxed<T, V> {
     ghost content = { λ part. held_in part.index };
 
-    ghost FIRST = { true };
-
     ghost lawful = { λ part. IsLawful-held_in part.index };
+}
+
+impl<T: Translator, V: Drop> Part<T, V> for Boxed<T, V> {
+    ghost FIRST = { true };
 
     fn new(alloc: Global, translator: T) -> Boxed<T, V> {
         Boxed {
@@ -112,9 +117,11 @@ impl<T: Translator, V: Drop> Part<T, V> for Boxed<T, V> {
     }
 
     fn insert_at(&mut self, key: T::Key, place: usize, value: V) -> Result<bool, V> {
-        self.make();
-        let Some(index) = &mut self.index else {
+        if self.make().is_err() {
             return Err(value);
+        }
+        let Some(index) = &mut self.index else {
+            unreachable!()
         };
         put_at(index, key, place, value)
     }
@@ -125,9 +132,11 @@ impl<T: Translator, V: Drop> Part<T, V> for Boxed<T, V> {
     }
 
     fn insert_absent(&mut self, key: T::Key, value: V) -> Result<usize, V> {
-        self.make();
-        let Some(index) = &mut self.index else {
+        if self.make().is_err() {
             return Err(value);
+        }
+        let Some(index) = &mut self.index else {
+            unreachable!()
         };
         match index.reach_or_insert_at(key, value) {
             Ok(len) => Ok(len),
@@ -156,9 +165,11 @@ impl<T: Translator, V: Drop> Part<T, V> for Boxed<T, V> {
         value: V,
         should_retain: F,
     ) -> Result<Retained, V> {
-        self.make();
-        let Some(index) = &mut self.index else {
+        if self.make().is_err() {
             return Err(value);
+        }
+        let Some(index) = &mut self.index else {
+            unreachable!()
         };
         match index.insert_and_retain_at(key, value, should_retain) {
             Ok(retained) => Ok(retained),

@@ -1,6 +1,6 @@
-use Rattle.std.proofs.Common.{rules, ◌≡◌, ◌+◌, ◌-◌, ◌^◌, ◌≤◌, true, false, ap, sym, subst, ◌∙◌, arith, true≢false}
+use Rattle.std.proofs.Common.{rules, ◌+◌, ◌-◌, ◌^◌, ◌≤◌, ap, sym, subst, ◌∙◌, arith, true≢false}
 use Rattle.key_index_flat.specs.Content.{item_count}
-use Rattle.key_index_parts.specs.Gathered.{gathered, gathered_from}
+use Rattle.key_index_parts.specs.Gathered.{gathered}
 use Rattle.key_index_parts.specs.Joined.{install_fault}
 use Rattle.key_index_parts.proofs.InstallLemmas.{refused_fault}
 use Rattle.key_index_parts.proofs.ShiftedLemmas.{items_from}

@@ -7,7 +7,7 @@ use Rattle.key_index_parts.proofs.index.partitioned.parts.Parts.first_from.Goals
 
 pub returns-in-Some : goal.returns-in-Some
 returns-in-Some g c =
-    let f = g.X.Part.content in
+    let f = g.X.Held.content in
     let xs = c.self.inside.parts.items in
     let n = c.in-Some.number in
     let found = subst (λ flags. IsFirst (flag_at flags) c.args.start n) c.self.invariant c.in-Some.ensures in
@@ -17,7 +17,7 @@ returns-in-Some g c =
 
 pub returns-in-None : goal.returns-in-None
 returns-in-None g c =
-    let f = g.X.Part.content in
+    let f = g.X.Held.content in
     let xs = c.self.inside.parts.items in
     rw (← c.self.view_is)
     (sym (first_none (map f xs) c.args.start (subst (λ flags. (p : ℕ) → c.args.start ≤ p → flag_at flags p ≡ false) c.self.invariant c.in-None.ensures)))

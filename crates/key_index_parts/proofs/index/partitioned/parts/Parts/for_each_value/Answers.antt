@@ -1,5 +1,4 @@
 use Rattle.std.proofs.Common.{◌≡◌, length, map, ap, subst, sym, ◌∙◌, arith}
-use Rattle.std.proofs.lemmas.List.{length-map}
 use Rattle.std.specs.Fn.{CalledAt}
 use Rattle.std.specs.List.{flat_map}
 use Rattle.key_index_flat.specs.Values.{values_of}
@@ -10,8 +9,8 @@ use Rattle.key_index_parts.proofs.index.partitioned.parts.Parts.for_each_value.G
 pub loop-part-init : goal.loop-part-init
 loop-part-init g c =
     let values = values_of (gathered c.args.self.now) in
-    let all : values ≡ flat_map values_of (map g.X.Part.content c.as_slice-rest.result.now) =
-    values-gathered 0 c.args.self.now ∙ sym (ap (λ xs. flat_map values_of (map g.X.Part.content xs)) c.as_slice-rest.ensures.value ∙ ap (λ cs. flat_map values_of cs) c.self.view_is) in (
+    let all : values ≡ flat_map values_of (map g.X.Held.content c.as_slice-rest.result.now) =
+    values-gathered 0 c.args.self.now ∙ sym (ap (λ xs. flat_map values_of (map g.X.Held.content xs)) c.as_slice-rest.ensures.value ∙ ap (λ cs. flat_map values_of cs) c.self.view_is) in (
       c.requires,
       subst (λ l. Continues (CalledAt g.F.FnMut) c.args.visit.now values c.args.visit.now l) all (continues (CalledAt g.F.FnMut) c.args.visit.now values),
     )
@@ -24,15 +23,15 @@ loop-part-preserved g c =
     let values = values_of (gathered c.args.self.now) in
     let ask = CalledAt g.F.FnMut in
     let at = c.loop-part.visit in
-    let behind = flat_map values_of (map g.X.Part.content c.in-Some.behind.now) in (
+    let behind = flat_map values_of (map g.X.Held.content c.in-Some.behind.now) in (
       c.for_each_value.ensures.callable,
-      some_more ask c.args.visit.now at c.for_each_value.new.visit values (values_of (g.X.Part.content c.in-Some.part.now)) behind
-          (subst (λ xs. Continues ask c.args.visit.now values at (flat_map values_of (map g.X.Part.content xs))) c.in-Some.ensures.cases.0 c.loop-part.invariant.1)
+      some_more ask c.args.visit.now at c.for_each_value.new.visit values (values_of (g.X.Held.content c.in-Some.part.now)) behind
+          (subst (λ xs. Continues ask c.args.visit.now values at (flat_map values_of (map g.X.Held.content xs))) c.in-Some.ensures.cases.0 c.loop-part.invariant.1)
           c.for_each_value.ensures.visits,
     )
 
 pub returns-clause-visits : goal.returns-clause-visits
 returns-clause-visits g c =
     let values = values_of (gathered c.args.self.now) in
-    ended (CalledAt g.F.FnMut) c.args.visit.now c.loop-part.visit values (flat_map values_of (map g.X.Part.content c.loop-part.rest.now))
-    (none_left g.X.Part.content c.loop-part.rest.now c.in_default.ensures.cases) c.loop-part.invariant.1
+    ended (CalledAt g.F.FnMut) c.args.visit.now c.loop-part.visit values (flat_map values_of (map g.X.Held.content c.loop-part.rest.now))
+    (none_left g.X.Held.content c.loop-part.rest.now c.in_default.ensures.cases) c.loop-part.invariant.1

@@ -6,7 +6,7 @@ use Rattle.key_index_parts.proofs.index.partitioned.parts.Parts.insert_absent.Go
 pub invariant_of-self : goal.invariant_of-self
 invariant_of-self g c =
     let cmp = g.T.Key.Ord.cmp in
-    let f = g.X.Part.content in
+    let f = g.X.Held.content in
     let xs = c.self.inside.parts.items in
     let n = c.args.slot.0 in
     let k = c.args.slot.1 in
@@ -20,7 +20,7 @@ invariant_of-self g c =
 pub invariant_of-self-in-Ok : goal.invariant_of-self-in-Ok
 invariant_of-self-in-Ok g c =
     let cmp = g.T.Key.Ord.cmp in
-    let f = g.X.Part.content in
+    let f = g.X.Held.content in
     let xs = c.self.inside.parts.items in
     let n = c.args.slot.0 in
     let k = c.args.slot.1 in
@@ -32,7 +32,7 @@ invariant_of-self-in-Ok g c =
 pub invariant_of-self-in-Err : goal.invariant_of-self-in-Err
 invariant_of-self-in-Err g c =
     let cmp = g.T.Key.Ord.cmp in
-    let f = g.X.Part.content in
+    let f = g.X.Held.content in
     let xs = c.self.inside.parts.items in
     let n = c.args.slot.0 in
     let k = c.args.slot.1 in
@@ -44,7 +44,7 @@ invariant_of-self-in-Err g c =
 pub returns-in-Ok-eq0-clause-inserted : goal.returns-in-Ok-eq0-clause-inserted
 returns-in-Ok-eq0-clause-inserted g c =
     let cmp = g.T.Key.Ord.cmp in
-    let f = g.X.Part.content in
+    let f = g.X.Held.content in
     let xs = c.self.inside.parts.items in
     let n = c.args.slot.0 in
     let k = c.args.slot.1 in
@@ -57,7 +57,7 @@ returns-in-Ok-eq0-clause-inserted g c =
 pub returns-in-Ok-clause-found : goal.returns-in-Ok-clause-found
 returns-in-Ok-clause-found g c =
     let cmp = g.T.Key.Ord.cmp in
-    let f = g.X.Part.content in
+    let f = g.X.Held.content in
     let xs = c.self.inside.parts.items in
     let n = c.args.slot.0 in
     let k = c.args.slot.1 in
@@ -69,7 +69,7 @@ returns-in-Ok-clause-found g c =
 pub returns-in-Err-clause-refused : goal.returns-in-Err-clause-refused
 returns-in-Err-clause-refused g c =
     let cmp = g.T.Key.Ord.cmp in
-    let f = g.X.Part.content in
+    let f = g.X.Held.content in
     let xs = c.self.inside.parts.items in
     let n = c.args.slot.0 in
     let k = c.args.slot.1 in

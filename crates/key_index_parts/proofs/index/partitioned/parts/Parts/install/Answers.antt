@@ -1,4 +1,4 @@
-use Rattle.std.proofs.Common.{◌≡◌, ◌+◌, ◌≤◌, [], ◌∷◌, length, map, refl, sym, ap, subst, ◌∙◌, arith}
+use Rattle.std.proofs.Common.{◌≡◌, ◌+◌, [], length, map, refl, sym, ap, ◌∙◌, arith}
 use Rattle.std.proofs.lemmas.List.{length-map, length-set}
 use Rattle.std.specs.Vec.Iter.{into_iter_items}
 use Rattle.key_index_parts.specs.Family.{with_parts_from}
@@ -8,9 +8,9 @@ use Rattle.key_index_parts.proofs.index.partitioned.parts.Parts.install.Goals as
 pub loop-part-init : goal.loop-part-init
 loop-part-init g c =
     let items = c.into_iter-rest.ensures.rest in
-    let all = ap (λ xs. map g.X.Part.content xs) items ∙ c.others.view_is in
+    let all = ap (λ xs. map g.X.Held.content xs) items ∙ c.others.view_is in
     let size = ap (λ cs. length cs) all in
-    let same = length-map (into_iter_items c.into_iter-rest.result) g.X.Part.content in
+    let same = length-map (into_iter_items c.into_iter-rest.result) g.X.Held.content in
     (refl, omega (arith, c.requires.fits, size, same), ap (λ cs. with_parts_from c.args.self.now c.args.first cs) all)
 
 pub loop-part-smaller : goal.loop-part-smaller
@@ -26,7 +26,7 @@ overflow_add-number g c =
 
 pub loop-part-preserved : goal.loop-part-preserved
 loop-part-preserved g c =
-    let f = g.X.Part.content in
+    let f = g.X.Held.content in
     let parts = c.loop-part.self in
     let n = c.loop-part.number in
     let behind = into_iter_items c.next.new.self in
@@ -43,6 +43,6 @@ loop-part-preserved g c =
 
 pub returns : goal.returns
 returns g c =
-    let f = g.X.Part.content in
+    let f = g.X.Held.content in
     let none : into_iter_items c.loop-part.rest ≡ [] = no_items (into_iter_items c.loop-part.rest) (sym c.loop-part.rest.rest.ok.0 ∙ c.in_default.ensures.cases.0) in
     sym (put_none c.loop-part.self c.loop-part.number) ∙ ap (λ xs. with_parts_from c.loop-part.self c.loop-part.number (map f xs)) (sym none) ∙ c.loop-part.invariant.2

@@ -3,4 +3,4 @@ use Rattle.key_index_parts.proofs.index.partitioned.parts.Parts.new.Given as goa
 
 abbrev pub invariant-loop : goal.invariant-loop
 invariant-loop g l =
-    (length l.parts.items ≡ l.counter) × (l.count ≤ vec_capacity l.parts) × All (λ part. g.X.Part.content part ≡ []) l.parts.items
+    (length l.parts.items ≡ l.counter) × (l.count ≤ vec_capacity l.parts) × All (λ part. g.X.Held.content part ≡ []) l.parts.items

@@ -8,7 +8,7 @@ use Rattle.key_index_parts.proofs.index.partitioned.parts.Parts.next.Goals as go
 pub returns-in-Some : goal.returns-in-Some
 returns-in-Some g c =
     let cmp = g.T.Key.Ord.cmp in
-    let f = g.X.Part.content in
+    let f = g.X.Held.content in
     let xs = c.self.inside.parts.items in
     let n = c.args.slot.0 in
     let inside = inside_parts f xs c.args.self.now n c.self.view_is c.requires in
@@ -19,7 +19,7 @@ returns-in-Some g c =
 pub returns-in-Some-first_from : goal.returns-in-Some-first_from
 returns-in-Some-first_from g c =
     let cmp = g.T.Key.Ord.cmp in
-    let f = g.X.Part.content in
+    let f = g.X.Held.content in
     let xs = c.self.inside.parts.items in
     let n = c.args.slot.0 in
     let inside = inside_parts f xs c.args.self.now n c.self.view_is c.requires in
@@ -30,7 +30,7 @@ returns-in-Some-first_from g c =
 pub returns-in-Some-first : goal.returns-in-Some-first
 returns-in-Some-first g c =
     let cmp = g.T.Key.Ord.cmp in
-    let f = g.X.Part.content in
+    let f = g.X.Held.content in
     let xs = c.self.inside.parts.items in
     let n = c.args.slot.0 in
     let inside = inside_parts f xs c.args.self.now n c.self.view_is c.requires in
@@ -41,7 +41,7 @@ returns-in-Some-first g c =
 pub returns-in-None-first : goal.returns-in-None-first
 returns-in-None-first g c =
     let cmp = g.T.Key.Ord.cmp in
-    let f = g.X.Part.content in
+    let f = g.X.Held.content in
     let xs = c.self.inside.parts.items in
     let n = c.args.slot.0 in
     let inside = inside_parts f xs c.args.self.now n c.self.view_is c.requires in

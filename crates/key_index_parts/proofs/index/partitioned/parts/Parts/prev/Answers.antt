@@ -8,7 +8,7 @@ use Rattle.key_index_parts.proofs.index.partitioned.parts.Parts.prev.Goals as go
 pub returns-in-Some : goal.returns-in-Some
 returns-in-Some g c =
     let cmp = g.T.Key.Ord.cmp in
-    let f = g.X.Part.content in
+    let f = g.X.Held.content in
     let xs = c.self.inside.parts.items in
     let n = c.args.slot.0 in
     let inside = inside_parts f xs c.args.self.now n c.self.view_is c.requires in
@@ -19,7 +19,7 @@ returns-in-Some g c =
 pub returns-in-Some-last_below : goal.returns-in-Some-last_below
 returns-in-Some-last_below g c =
     let cmp = g.T.Key.Ord.cmp in
-    let f = g.X.Part.content in
+    let f = g.X.Held.content in
     let xs = c.self.inside.parts.items in
     let n = c.args.slot.0 in
     let inside = inside_parts f xs c.args.self.now n c.self.view_is c.requires in
@@ -30,7 +30,7 @@ returns-in-Some-last_below g c =
 pub returns-in-Some-last : goal.returns-in-Some-last
 returns-in-Some-last g c =
     let cmp = g.T.Key.Ord.cmp in
-    let f = g.X.Part.content in
+    let f = g.X.Held.content in
     let xs = c.self.inside.parts.items in
     let n = c.args.slot.0 in
     let inside = inside_parts f xs c.args.self.now n c.self.view_is c.requires in
@@ -41,7 +41,7 @@ returns-in-Some-last g c =
 pub returns-in-None-last : goal.returns-in-None-last
 returns-in-None-last g c =
     let cmp = g.T.Key.Ord.cmp in
-    let f = g.X.Part.content in
+    let f = g.X.Held.content in
     let xs = c.self.inside.parts.items in
     let n = c.args.slot.0 in
     let inside = inside_parts f xs c.args.self.now n c.self.view_is c.requires in

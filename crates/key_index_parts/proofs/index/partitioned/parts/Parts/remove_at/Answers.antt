@@ -5,7 +5,7 @@ use Rattle.key_index_parts.proofs.index.partitioned.parts.Parts.remove_at.Goals 
 pub invariant_of-self : goal.invariant_of-self
 invariant_of-self g c =
     let cmp = g.T.Key.Ord.cmp in
-    let f = g.X.Part.content in
+    let f = g.X.Held.content in
     let xs = c.self.inside.parts.items in
     let n = c.args.slot.0 in
     let k = c.args.slot.1 in
@@ -17,7 +17,7 @@ invariant_of-self g c =
 pub returns-clause-parts : goal.returns-clause-parts
 returns-clause-parts g c =
     let cmp = g.T.Key.Ord.cmp in
-    let f = g.X.Part.content in
+    let f = g.X.Held.content in
     let xs = c.self.inside.parts.items in
     let n = c.args.slot.0 in
     let k = c.args.slot.1 in

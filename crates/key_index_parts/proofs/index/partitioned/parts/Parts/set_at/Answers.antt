@@ -8,7 +8,7 @@ use Rattle.key_index_parts.proofs.index.partitioned.parts.Parts.set_at.Goals as 
 pub invariant_of-self : goal.invariant_of-self
 invariant_of-self g c =
     let cmp = g.T.Key.Ord.cmp in
-    let f = g.X.Part.content in
+    let f = g.X.Held.content in
     let xs = c.self.inside.parts.items in
     let n = c.args.slot.0 in
     let k = c.args.slot.1 in
@@ -24,7 +24,7 @@ invariant_of-self g c =
 pub returns : goal.returns
 returns g c =
     let cmp = g.T.Key.Ord.cmp in
-    let f = g.X.Part.content in
+    let f = g.X.Held.content in
     let xs = c.self.inside.parts.items in
     let n = c.args.slot.0 in
     let k = c.args.slot.1 in

@@ -1,5 +1,4 @@
-use Rattle.std.proofs.Common.{rules, ◌≡◌, ◌+◌, ◌<◌, ◌≤◌, ◌^◌, length, refl, sym, ap, subst, ◌∙◌, arith}
-use Rattle.key_index_parts.specs.Family.{with_parts_from}
+use Rattle.std.proofs.Common.{rules, ◌<◌, ◌^◌, arith}
 use Rattle.key_index_parts.proofs.InstallLemmas as put
 use Rattle.key_index_parts.proofs.StorageLemmas as of_storage
 use Rattle.key_index_parts.proofs.index.partitioned.storage.Storage.install.Goals as goal

@@ -1,4 +1,4 @@
-use Rattle.std.proofs.Common.{◌≤◌, [], sym, subst, ap, length, ◌∙◌, arith}
+use Rattle.std.proofs.Common.{[], sym, subst, ap, length, ◌∙◌, arith}
 use Rattle.std.proofs.lemmas.List.{length-replicate}
 use Rattle.key_index_flat.specs.Content.{IsLawful}
 use Rattle.key_index_parts.specs.Gathered.{pair_cmp}

@@ -7,7 +7,7 @@ use Rattle.key_index_parts.proofs.index.partitioned.unordered.boxed.BoxedPart.in
 pub returns-in-Ok-clause-accepted : goal.returns-in-Ok-clause-accepted
 returns-in-Ok-clause-accepted g c =
     let here : held_in c.args.self.now.index ≡ held c.deref_mut.result.now =
-    sym c.make.ensures ∙ ap (λ part. held_in part) c.in-Some.is ∙ ap (λ index. held index) (sym c.deref_mut.ensures.value) in
+    sym c.make.ensures.content ∙ ap (λ part. held_in part) c.in-Some.is ∙ ap (λ index. held index) (sym c.deref_mut.ensures.value) in
     let said = c.in-Ok.ensures.accepted in
     let content = ap (λ s. s.content) said.5 in
     rw here (

@@ -1,0 +1,19 @@
+use Rattle.std.proofs.Common.{rules, ◌≡◌, true, false, None}
+use Rattle.std.proofs.lemmas.Fn.{called_at}
+use Rattle.std.specs.Fn.{CalledAt}
+use Rattle.std.specs.HashMap.{get}
+use Rattle.key_index_flat.specs.Storage.{older_at}
+use Rattle.key_index_flat.proofs.TurnLemmas.{asked_alone}
+use Rattle.key_index_flat.proofs.index.storage.heads.put_and_retain.Goals as goal
+
+pub returns-then-should_retain-clause-asked : goal.returns-then-should_retain-clause-asked
+returns-then-should_retain-clause-asked g c =
+    let none : get g.K.PartialEq.eq c.args.map.now c.args.key ≡ None = search rules in
+    asked_alone (CalledAt g.F.FnMut) c.args.should_retain c.should_retain.new.self c.args.value true (get g.K.PartialEq.eq c.args.map.now c.args.key) _
+    (older_at g.K.PartialEq.eq c.args.older.now c.args.key) none (c.requires.headed none) (search rules) (called_at g.F.FnMut c.should_retain.ensures c.if-should_retain.true)
+
+pub returns-else-should_retain-clause-asked : goal.returns-else-should_retain-clause-asked
+returns-else-should_retain-clause-asked g c =
+    let none : get g.K.PartialEq.eq c.args.map.now c.args.key ≡ None = search rules in
+    asked_alone (CalledAt g.F.FnMut) c.args.should_retain c.should_retain.new.self c.args.value false (get g.K.PartialEq.eq c.args.map.now c.args.key) _
+    (older_at g.K.PartialEq.eq c.args.older.now c.args.key) none (c.requires.headed none) (search rules) (called_at g.F.FnMut c.should_retain.ensures c.if-should_retain.false)
