@@ -1,16 +1,13 @@
 -- The law of contents holds whatever is put in: the proofs that an index gives of it.
 --     IsLawful-with_list      a lawful content stays so with any list at any key
---     IsLawful-stored         what the two maps of a flat index stand for is lawful, whatever they hold
 use Rattle.std.specs.Prelude.{Bool, true, false, cond, ◌&&◌, T, List, [], ◌∷◌, reverse}
 use Rattle.std.specs.declared.cmp.Ordering.{Ordering}
 use Rattle.std.specs.declared.cmp.Ordering.TheVariants.{Less, Equal, Greater}
-use Rattle.std.specs.declared.vec.Vec.{Vec}
-use Rattle.std.specs.HashMap.{HashMap}
 use Rattle.std.specs.Cmp.{IsTotalOrder}
 use Rattle.std.specs.FinMap.{put}
 use Rattle.std.specs.FinMap.Entries.{by_order, where_key, is_sorted-put, is_sorted-where_key}
 use Rattle.key_index_flat.specs.Content.{Content, is_filled, all_filled, with_list, IsLawful}
-use Rattle.key_index_flat.specs.Storage.{content_of, older_at, stored}
+use Rattle.key_index_flat.specs.Storage.{content_of}
 
 pub both : (a b : Bool) → T a → T b → T (a && b)
 both true b p q = q
@@ -50,6 +47,3 @@ module _ {K V : Type 0} {cmp : K → K → Ordering} (o : IsTotalOrder cmp) wher
   pub IsLawful-content_of : (heads : List (K × V)) (older : K → List V) → IsLawful cmp (content_of cmp heads older)
   IsLawful-content_of [] older = (tt, tt)
   IsLawful-content_of (e ∷ es) older = IsLawful-with_list (content_of cmp es older) e.0 (e.1 ∷ reverse (older e.0)) (IsLawful-content_of es older)
-
-  pub IsLawful-stored : {A S : Type 0} (eq : K → K → Bool) (heads : List (K × V)) (older : HashMap K (Vec V A) S) → IsLawful cmp (stored cmp eq heads older)
-  IsLawful-stored eq heads older = IsLawful-content_of heads (older_at eq older)

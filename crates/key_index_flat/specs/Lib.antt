@@ -11,7 +11,8 @@ pub mod Lent
 pub mod Run
 pub mod CursorRun
 pub mod Neighbours
-pub mod Held
+pub mod Unordered
+pub mod Ordered
 pub mod ByteOrder
 pub mod NumberOrder
 pub mod CapOrder

@@ -1,7 +1,8 @@
 -- What a flat index keeps: the newest value of each key in one map, and in another the older values of the keys that have any, the
 -- oldest first.
 --     list_of, content_of   the list that a newest value and older ones make; the content that all of them stand for
---     older_at, stored      the older values that a map has at a key; the content that the two maps stand for
+--     at_key, older_at      the values that a map has at a key; those of the map of older values, if there is one
+--     stored                the content that the newest and the older values stand for
 --     value_of              the value that entries have at a key
 --     held_at               the list that the two maps have at a key
 --     SameBut, Sets         at each key but k new has what old has; so it is, and it has w at k (None: nothing)
@@ -10,7 +11,7 @@
 --                           ever taken out
 --     view_of               the view of it, by what its translator makes of a key
 --     IsCounted             the content is a map of lists that are not empty, and `items` is how many values it has
-use Rattle.std.specs.Prelude.{◌≡◌, ℕ, Bool, true, false, List, [], ◌∷◌, length, reverse, Option, Some, None, is_some, unwrap_or}
+use Rattle.std.specs.Prelude.{Box, ◌≡◌, ℕ, Bool, true, false, List, [], ◌∷◌, length, reverse, Option, Some, None, is_some, unwrap_or}
 use Rattle.std.specs.Option.{option_map}
 use Rattle.std.specs.declared.cmp.Ordering.{Ordering}
 use Rattle.std.specs.Ordering.{eq_by_cmp}
@@ -28,18 +29,22 @@ abbrev pub content_of : {K V : Type 0} → (K → K → Ordering) → List (K ×
 content_of cmp [] older = []
 content_of cmp (e ∷ es) older = with_list cmp (content_of cmp es older) e.0 (e.1 ∷ reverse (older e.0))
 
-abbrev pub older_at : {K V A S : Type 0} → (K → K → Bool) → HashMap K (Vec V A) S → K → List V
-older_at eq m k = unwrap_or (option_map (λ v. v.items) (get eq m k)) []
+abbrev pub at_key : {K V A S : Type 0} → (K → K → Bool) → HashMap K (Vec V A) S → K → List V
+at_key eq m k = unwrap_or (option_map (λ v. v.items) (get eq m k)) []
 
-abbrev pub stored : {K V A S : Type 0} → (K → K → Ordering) → (K → K → Bool)
-    → List (K × V) → HashMap K (Vec V A) S → Content K V
+abbrev pub older_at : {K V A S B : Type 0} → (K → K → Bool) → Option (Box (HashMap K (Vec V A) S) B) → K → List V
+older_at eq None k = []
+older_at eq (Some m) k = at_key eq m.value k
+
+abbrev pub stored : {K V A S B : Type 0} → (K → K → Ordering) → (K → K → Bool)
+    → List (K × V) → Option (Box (HashMap K (Vec V A) S) B) → Content K V
 stored cmp eq heads older = content_of cmp heads (older_at eq older)
 
 abbrev pub value_of : {K V : Type 0} → (K → K → Ordering) → List (K × V) → K → Option V
 value_of cmp entries k = lookup (eq_by_cmp cmp k) entries
 
-abbrev pub held_at : {K V A S : Type 0} → (K → K → Ordering) → (K → K → Bool)
-    → List (K × V) → HashMap K (Vec V A) S → K → List V
+abbrev pub held_at : {K V A S B : Type 0} → (K → K → Ordering) → (K → K → Bool)
+    → List (K × V) → Option (Box (HashMap K (Vec V A) S) B) → K → List V
 held_at cmp eq heads older k = list_of (value_of cmp heads k) (older_at eq older k)
 
 abbrev pub SameBut : {K X : Type 0} → (K → K → Ordering) → (K → X) → (K → X) → K → Type 0

@@ -6,6 +6,7 @@
 --     items_in                    how many values it holds
 --     run_at, run_of              the list at an index key, and at that of a key
 --     IsHeld                      whether a key has a value
+--     Reaches                     an index key and a number: those of a key, and of the values that it has
 --     with_run, with_edit         with this list at an index key, and with what f makes of the list there
 --     with_pruned                 with n values more taken out
 --     with_slot                   with other index keys of keys' bytes
@@ -64,6 +65,9 @@ module _ {K V : Type 0} (cmp : K → K → Ordering) where
 
   abbrev pub IsHeld : View K V → List ℕ → Type 0
   IsHeld s b = 0 < length (run_of s b)
+
+  abbrev pub Reaches : View K V → List ℕ → K × ℕ → Type 0
+  Reaches s b told = (told.0 ≡ s.slot b) × (told.1 ≡ length (run_of s b))
 
   abbrev pub with_run : View K V → K → List V → View K V
   with_run s k l = record s { content = with_list cmp s.content k l }

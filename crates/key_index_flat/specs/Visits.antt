@@ -4,6 +4,7 @@
 --     VisitsAt           one call of a closure, at a place and a value
 --     IsBatch            the probes of the keys that an iterator gives, up to its end
 --     probe_cmp          by index key, and then by place
+--     IsSortedBatch      the probes of a batch in that order
 --     VisitsByPlace      a closure is called once on each visit of a batch, by place, which leaves it so
 --     VisitsByKey        by index key, and then by place
 --     VisitsInAnyOrder   in some order of the places
@@ -36,6 +37,9 @@ IsBatch {A = A} steps bytes keys slot probes = (items : List A) × Drains steps 
 abbrev pub probe_cmp : {K : Type 0} → (K → K → Ordering) → K × ℕ → K × ℕ → Ordering
 probe_cmp cmp p q = ordering_then (cmp p.0 q.0) (nat_cmp p.1 q.1)
 
+abbrev pub IsSortedBatch : {K V : Type 0} → ((List ℕ → K) → List (K × ℕ) → Type 0) → (K → K → Ordering) → View K V → List (K × ℕ) → Type 0
+IsSortedBatch {K = K} batch cmp s sorted = (probes : List (K × ℕ)) × batch s.slot probes × IsPermutation probes sorted × IsSorted (probe_cmp cmp) sorted
+
 module _ {F K V : Type 0} (batch : (List ℕ → K) → List (K × ℕ) → Type 0) (visit : F → ℕ × V → F → Type 0) (f : F)
     (cmp : K → K → Ordering) (s : View K V) (last : F) where
   abbrev pub VisitsByPlace : Type 0
@@ -43,8 +47,7 @@ module _ {F K V : Type 0} (batch : (List ℕ → K) → List (K × ℕ) → Type
 
   abbrev pub VisitsByKey : Type 0
   VisitsByKey =
-      (probes : List (K × ℕ)) × (sorted : List (K × ℕ)) × batch s.slot probes × IsPermutation probes sorted
-      × IsSorted (probe_cmp cmp) sorted × FoldsTo visit f (visits_of (run_at cmp s) sorted) last
+      (sorted : List (K × ℕ)) × IsSortedBatch batch cmp s sorted × FoldsTo visit f (visits_of (run_at cmp s) sorted) last
 
   abbrev pub VisitsInAnyOrder : Type 0
   VisitsInAnyOrder =

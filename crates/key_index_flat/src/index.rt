@@ -1,11 +1,13 @@
 //! Indices: maps from translated keys to lists of values, and what they have in common.
-ghost use Rattle.std.specs.Prelude.{Some};
+ghost use Rattle.std.specs.Prelude.{◌≡◌, Some};
 
+use std::alloc::{AllocError, AllocFailed};
 use std::fmt;
 
 mod batch;
 mod command;
 mod fold;
+pub mod implement;
 mod index_cursor;
 pub mod ordered;
 mod resolve;
@@ -15,12 +17,10 @@ mod traits;
 pub mod unordered;
 mod values;
 
-pub use batch::{Lists, show_by_key, show_by_place, visit_by_key, visit_by_place};
 pub use command::{Command, Outcome, Step};
 pub use fold::run;
 pub use index_cursor::IndexCursor;
 pub use resolve::{Keyed, resolve_next, resolve_prev};
-pub use retain::{Retained, retain_in_turn};
 pub use traits::cursor::{Cursor, CursorState};
 pub use traits::ordered::Ordered;
 pub use traits::runs::Runs;
@@ -55,9 +55,60 @@ impl fmt::Display for Fault {
 
 impl std::error::Error for Fault {}
 
+/// A growth that found no memory.
+impl From<AllocError> for Fault {
+    ghost use Rattle.key_index_flat.specs.declared.index.Fault.TheVariants.{Memory};
+
+    ghost from_gives = { λ _ fault. fault ≡ Memory };
+
+    fn from(_failed: AllocError) -> Fault {
+        Fault::Memory
+    }
+}
+
+/// A growth that found no memory for a value, which is dropped.
+impl<V: Drop> From<AllocFailed<V>> for Fault {
+    ghost use Rattle.key_index_flat.specs.declared.index.Fault.TheVariants.{Memory};
+
+    ghost from_gives = { λ _ fault. fault ≡ Memory };
+
+    fn from(_failed: AllocFailed<V>) -> Fault {
+        Fault::Memory
+    }
+}
+
 /// A refusal that hands back the value that it was called with.
 #[derive(Debug, Drop)]
 pub struct Refused<V> {
     pub value: V,
     pub fault: Fault,
+}
+
+impl<V> Refused<V> {
+    /// A refusal by a full index.
+    pub fn full(value: V) -> Refused<V>
+        ensures value { result.value ≡ value }
+        ensures fault { result.fault ≡ Fault.Full }
+    {
+        let fault = Fault::Full;
+        Refused { value, fault }
+    }
+
+    /// A refusal for want of memory.
+    pub fn memory(value: V) -> Refused<V>
+        ensures value { result.value ≡ value }
+        ensures fault { result.fault ≡ Fault.Memory }
+    {
+        let fault = Fault::Memory;
+        Refused { value, fault }
+    }
+}
+
+/// Why it was refused. The value is dropped.
+impl<V: Drop> From<Refused<V>> for Fault {
+    ghost from_gives = { λ refused fault. fault ≡ refused.fault };
+
+    fn from(refused: Refused<V>) -> Fault {
+        refused.fault
+    }
 }

@@ -1,7 +1,7 @@
 -- On a family of parts, by what each holds.
 --     held_within                a slot that has a value is of some part
 --     filled_by, filled_held     what holds a value is filled
---     inside_parts               a part's number is below their count
+--     IsPart, part_taken         a part that was taken from its place
 --     part_told, list_told       what a part holds is what the family tells of it
 --     part_edited, part_stays    the family after one list of a part was edited, and after none was
 --     none_family, none_filled   parts that hold nothing
@@ -60,12 +60,18 @@ module _ {K V : Type 0} (cmp : K → K → Ordering) where
   filled_held [] k h = absurd (omega (arith, h))
   filled_held (e ∷ es) k h = refl
 
-pub inside_parts : {X K V : Type 0} (f : X → Content K V) (xs : List X) (parts : List (Content K V)) (p : ℕ) → map f xs ≡ parts → p < length parts → p < length xs
-inside_parts f xs parts p e h = let len = ap (λ l. length l) e in let same = length-map xs f in omega (arith, len, same, h)
+-- x stands at the place p; f tells what a part holds
+pub record IsPart {X K V : Type 0} (f : X → Content K V) (xs : List X) (p : ℕ) (x : X) : Type 0 where
+  pub inside : p < length xs
+  pub at : x ≡ slice_index_or xs p x
 
-module _ {X K V : Type 0} (cmp : K → K → Ordering) (f : X → Content K V) (xs : List X) (p : ℕ) (x : X) (inside : p < length xs) (at : x ≡ slice_index_or xs p x) where
+pub part_taken : {X K V : Type 0} (f : X → Content K V) (xs : List X) {parts : List (Content K V)} {p : ℕ} {x : X} → map f xs ≡ parts → p < length parts → x ≡ slice_index_or xs p x
+    → IsPart f xs p x
+part_taken f xs e h at = record { inside = (let len = ap (λ l. length l) e in let same = length-map xs f in omega (arith, len, same, h)); at = at }
+
+module _ {X K V : Type 0} (cmp : K → K → Ordering) {f : X → Content K V} {xs : List X} {p : ℕ} {x : X} (part : IsPart f xs p x) where
   pub part_told : f x ≡ part_at (map f xs) p
-  part_told = ap f at ∙ sym (get_or-map f xs p x [] inside)
+  part_told = ap f part.at ∙ sym (get_or-map f xs p x [] part.inside)
 
   pub list_told : (k : K) → list_at cmp (f x) k ≡ list_in cmp (map f xs) (p, k)
   list_told k = ap (λ c. list_at cmp c k) part_told
@@ -76,7 +82,7 @@ module _ {X K V : Type 0} (cmp : K → K → Ordering) (f : X → Content K V) (
       map-set f xs p y ∙ ap (λ c. set (map f xs) p c) (e ∙ ap (λ c. with_list cmp c k (L (list_at cmp c k))) part_told)
 
   pub part_stays : (y : X) → f y ≡ f x → map f (set xs p y) ≡ map f xs
-  part_stays y e = map-set_same f xs p y x (e ∙ ap f at)
+  part_stays y e = map-set_same f xs p y x (e ∙ ap f part.at)
 
   pub flags_edited : (flags : List Bool) (y : X) (b : Bool) → flags ≡ filled_parts (map f xs) → b ≡ is_filled (f y) → set flags p b ≡ filled_parts (map f (set xs p y))
   flags_edited flags y b told e =
@@ -84,7 +90,7 @@ module _ {X K V : Type 0} (cmp : K → K → Ordering) (f : X → Content K V) (
 
   pub flags_stay : (flags : List Bool) (y : X) → flags ≡ filled_parts (map f xs) → is_filled (f y) ≡ is_filled (f x) → flags ≡ filled_parts (map f (set xs p y))
   flags_stay flags y told e =
-      told ∙ sym (ap (λ cs. filled_parts cs) (map-set f xs p y) ∙ map-set_same is_filled (map f xs) p (f y) (f x) (e ∙ ap is_filled (ap f at ∙ sym (get_or-map f xs p x (f x) inside))))
+      told ∙ sym (ap (λ cs. filled_parts cs) (map-set f xs p y) ∙ map-set_same is_filled (map f xs) p (f y) (f x) (e ∙ ap is_filled (ap f part.at ∙ sym (get_or-map f xs p x (f x) part.inside))))
 
 pub none_family : {X K V : Type 0} (f : X → Content K V) (xs : List X) → All (λ x. f x ≡ []) xs → map f xs ≡ replicate (length xs) []
 none_family f [] h = refl

@@ -2,9 +2,7 @@
 --     put_more, put_none         one part more, and none left; no_items: of an empty list
 --     free_none, free_far, free_near    whether so many parts hold nothing, by the first that is filled
 --     free_in, free_parts        that they do, and that the whole is free of their keys
---     sized, lawful, joined_by   as many parts as before; what they hold together, where the places held nothing
---     counted, seen_joined       its counts, and the index as it is seen
---     keys_fit                   there are no more keys than values
+--     keeps, counted, seen_joined    the parts after it, where the places held nothing, their counts, and the index as it is seen
 --     refused_fault              why a range is refused
 --     fits_inside, room_inside, free_inside    the same of what two storages keep
 use Rattle.std.proofs.Common.{◌≡◌, ℕ, suc, ◌+◌, ◌-◌, ◌^◌, ◌<◌, ◌≤◌, true, false, not, ◌&&◌, nat_lt, nat_eq, T, if◌then◌else◌, List, [], ◌∷◌, ◌++◌, get_or, set, take, drop, length, All, length-append, append_assoc, append-nil, add-zero, refl, sym, ap, subst, ◌∙◌, arith, lt_of_not-le, ◌⊎◌, inl, inr}
@@ -20,7 +18,7 @@ use Rattle.key_index_flat.specs.declared.index.Fault.TheVariants.{Memory, Full}
 use Rattle.key_index_flat.specs.Content.{Content, is_filled, IsLawful, list_at, item_count, key_count}
 use Rattle.key_index_flat.proofs.ContentLemmas.{same_content}
 use Rattle.key_index_flat.specs.View.{pruned_after}
-use Rattle.key_index_parts.specs.Family.{Kept, IsCounted, AreFree, part_at, with_parts_from, filled_parts, view_of, range_view}
+use Rattle.key_index_parts.specs.Family.{Kept, IsCounted, KeepsParts, AreFree, part_at, with_parts_from, filled_parts, view_of, view_from}
 use Rattle.key_index_parts.specs.Filled.{IsFirst, flag_at}
 use Rattle.key_index_parts.specs.Gathered.{pair_cmp, gathered_from, gathered}
 use Rattle.key_index_parts.specs.GatheredLaws.{pair_total, IsLawful-gathered}
@@ -29,7 +27,6 @@ use Rattle.key_index_parts.specs.RangeLaws.{IsLawful-gathered_from, gathered_fro
 use Rattle.key_index_parts.proofs.FamilyNeighbours.{flag_told, unfilled}
 use Rattle.key_index_parts.proofs.GatheredLemmas.{list_at-gathered, item_count-gathered_from, key_count-gathered_from, item_count-gathered, key_count-gathered}
 use Rattle.key_index_parts.proofs.JoinedLemmas.{IsApart, apart_by, list_at-joined, IsLawful-joined, item_count-joined, key_count-joined}
-use Rattle.key_index_parts.proofs.PartLemmas.{keys_at_most}
 use Rattle.key_index_parts.proofs.ShiftedLemmas.{list_from}
 
 module _ {K V : Type 0} where
@@ -121,7 +118,7 @@ module _ {K V : Type 0} {cmp : K → K → Ordering} (o : IsTotalOrder cmp) (exa
     front_size : length (take start own) ≡ start
     front_size = length-take-le start own (omega (arith, fits))
 
-    pub sized : length (with_parts_from own start other) ≡ length own
+    sized : length (with_parts_from own start other) ≡ length own
     sized =
         let front = front_size in
         let all = length-append (take start own) (other ++ behind) in
@@ -133,7 +130,7 @@ module _ {K V : Type 0} {cmp : K → K → Ordering} (o : IsTotalOrder cmp) (exa
         All-append (IsLawful cmp) (take start own) (other ++ behind) (All-take (IsLawful cmp) start own h.each)
         (All-append (IsLawful cmp) other behind k.each (All-drop (IsLawful cmp) (start + length other) own h.each))
 
-    pub lawful : IsLawful (pair_cmp cmp) (gathered (with_parts_from own start other))
+    lawful : IsLawful (pair_cmp cmp) (gathered (with_parts_from own start other))
     lawful = IsLawful-gathered cmp new each_new
 
     lawful_own : IsLawful (pair_cmp cmp) (gathered own)
@@ -182,7 +179,7 @@ module _ {K V : Type 0} {cmp : K → K → Ordering} (o : IsTotalOrder cmp) (exa
     apart : IsApart (pair_cmp cmp) (gathered own) (gathered_from start other)
     apart = apart_by (pair_cmp cmp) (λ slot. is_between start (start + length other) slot.0) (gathered own) (gathered_from start other) free (gathered_from-covers cmp start other)
 
-    pub joined_by : gathered (with_parts_from own start other) ≡ joined (pair_cmp cmp) (gathered own) (gathered_from start other)
+    joined_by : gathered (with_parts_from own start other) ≡ joined (pair_cmp cmp) (gathered own) (gathered_from start other)
     joined_by =
         same_content (pair_total o) pair_exact _ _ lawful (IsLawful-joined (pair_total o) (gathered own) (gathered_from start other) lawful_other) (λ slot.
         list_at-gathered cmp new slot.0 slot.1
@@ -195,36 +192,35 @@ module _ {K V : Type 0} {cmp : K → K → Ordering} (o : IsTotalOrder cmp) (exa
         ] refl
         ∙ sym (list_at-joined (pair_total o) pair_exact (gathered own) (gathered_from start other) slot lawful_own))
 
-    pub counted : IsCounted cmp p (with_parts_from own start other) (items + more_items) (keys + more_keys)
-    counted =
-        let size = sized in
-        let most = h.sized in
-        let of_items = ap (λ c. item_count c) joined_by ∙ item_count-joined (pair_total o) (gathered own) (gathered_from start other) lawful_other in
-        let of_keys = ap (λ c. key_count c) joined_by ∙ key_count-joined (pair_total o) pair_exact (gathered own) (gathered_from start other) lawful_own lawful_other apart in
-        let other_items = item_count-gathered_from start other ∙ sym (item_count-gathered other) in
-        let other_keys = key_count-gathered_from start other ∙ sym (key_count-gathered other) in
-        let was = h.counted in let had = h.keyed in let was_other = k.counted in let had_other = k.keyed in
-        record {
-          least = h.least;
-          greatest = h.greatest;
-          sized = omega (arith, size, most);
-          each = each_new;
-          counted = omega (arith, of_items, other_items, was, was_other);
-          keyed = omega (arith, of_keys, other_keys, had, had_other);
-        }
+    module _ (parts : List (Content K V)) (is : parts ≡ with_parts_from own start other) where
+      pub keeps : KeepsParts cmp own parts
+      keeps = record { lawful = subst (λ cs. IsLawful (pair_cmp cmp) (gathered cs)) (sym is) lawful; sized = ap (λ cs. length cs) is ∙ sized }
 
-    -- of the index as it is seen
-    pub seen_joined : {T : Type 0} (translated : T → List ℕ → K) (t u : T) (pruned others more : ℕ) (parts : List (Content K V))
-        → parts ≡ with_parts_from own start other → more ≡ pruned_after pruned others
-        → view_of p translated (record { translator = t; parts = parts; pruned = more })
-        ≡ joined_view (pair_cmp cmp) (view_of p translated (record { translator = t; parts = own; pruned = pruned })) (range_view p translated start (record { translator = u; parts = other; pruned = others }))
-    seen_joined translated t u pruned others more parts is sum =
-        let content = ap (λ cs. gathered cs) is ∙ joined_by in
-        λ i. record (view_of p translated (record { translator = t; parts = own; pruned = pruned })) { content = content i; pruned = sum i }
+      pub counted : (a b : ℕ) → a ≡ items + more_items → b ≡ keys + more_keys → IsCounted cmp p parts a b
+      counted a b items_told keys_told =
+          let size = ap (λ cs. length cs) is ∙ sized in
+          let most = h.sized in
+          let of_items = ap (λ cs. item_count (gathered cs)) is ∙ ap (λ c. item_count c) joined_by ∙ item_count-joined (pair_total o) (gathered own) (gathered_from start other) lawful_other in
+          let of_keys = ap (λ cs. key_count (gathered cs)) is ∙ ap (λ c. key_count c) joined_by ∙ key_count-joined (pair_total o) pair_exact (gathered own) (gathered_from start other) lawful_own lawful_other apart in
+          let other_items = item_count-gathered_from start other ∙ sym (item_count-gathered other) in
+          let other_keys = key_count-gathered_from start other ∙ sym (key_count-gathered other) in
+          let was = h.counted in let had = h.keyed in let was_other = k.counted in let had_other = k.keyed in
+          record {
+            least = h.least;
+            greatest = h.greatest;
+            sized = omega (arith, size, most);
+            each = subst (λ cs. All (IsLawful cmp) cs) (sym is) each_new;
+            counted = omega (arith, of_items, other_items, was, was_other, items_told);
+            keyed = omega (arith, of_keys, other_keys, had, had_other, keys_told);
+          }
 
-pub keys_fit : {K V : Type 0} {cmp : K → K → Ordering} {p : ℕ} {parts : List (Content K V)} {items keys : ℕ} → IsCounted cmp p parts items keys → keys ≤ items
-keys_fit {cmp = cmp} {parts = parts} h =
-    let was = h.counted in let had = h.keyed in let fewer = keys_at_most (gathered parts) (IsLawful-gathered cmp parts h.each).1 in omega (arith, was, had, fewer)
+      -- of the index as it is seen
+      pub seen_joined : {T : Type 0} (translated : T → List ℕ → K) (t u : T) (pruned others more : ℕ) → more ≡ pruned_after pruned others
+          → view_of p translated (record { translator = t; parts = parts; pruned = more })
+          ≡ joined_view (pair_cmp cmp) (view_of p translated (record { translator = t; parts = own; pruned = pruned })) (view_from p translated start (record { translator = u; parts = other; pruned = others }))
+      seen_joined translated t u pruned others more sum =
+          let content = ap (λ cs. gathered cs) is ∙ joined_by in
+          λ i. record (view_of p translated (record { translator = t; parts = own; pruned = pruned })) { content = content i; pruned = sum i }
 
 pub refused_fault : (m n : ℕ) → (m + n ≤ 2 ^ 64 - 1 → ⊥) → Full ≡ install_fault m n
 refused_fault m n full =

@@ -6,6 +6,7 @@ pub mod PrefixLemmas
 pub mod SearchLemmas
 pub mod ZipLemmas
 pub mod PairLemmas
+pub mod ReachLemmas
 pub mod RunLemmas
 pub mod GroupLemmas
 pub mod EndLemmas

@@ -15,7 +15,7 @@ use Rattle.std.specs.FinMap.Entries.{by_order}
 use Rattle.key_index_flat.specs.Content.{Content, item_count, key_count, list_at, with_list, with_list_by}
 use Rattle.key_index_flat.specs.View.{with_edit, with_pruned}
 use Rattle.key_index_flat.proofs.ViewLemmas.{same_content, same_pruned, same_slot, same_view}
-use Rattle.key_index_parts.specs.Family.{Kept, view_of, range_view}
+use Rattle.key_index_parts.specs.Family.{Kept, view_of, view_from}
 use Rattle.key_index_parts.specs.Gathered.{pair_cmp, gathered_from, gathered}
 use Rattle.key_index_parts.specs.Joined.{is_between}
 use Rattle.key_index_parts.proofs.GatheredLemmas.{item_count-gathered, item_count-gathered_from, key_count-gathered, key_count-gathered_from}
@@ -108,9 +108,9 @@ module _ {T K V : Type 0} (cmp : K → K → Ordering) (p : ℕ) (translated : T
   content_edited is = edited_from cmp n old.parts new.parts k f is ∙ ap (λ s. with_list_by (pair_cmp cmp) (gathered_from n old.parts) s f) at
 
   pub seen_edited : view_of p translated new ≡ with_edit (pair_cmp cmp) (view_of p translated old) k f
-      → range_view p translated n new ≡ with_edit (pair_cmp cmp) (range_view p translated n old) slot f
+      → view_from p translated n new ≡ with_edit (pair_cmp cmp) (view_from p translated n old) slot f
   seen_edited is = same_view (content_edited (same_content is)) (same_pruned is) (same_slot is) (λ i s. is_between n (n + sized i) s.0)
 
   pub seen_pruned : (more : ℕ) → view_of p translated new ≡ with_pruned (with_edit (pair_cmp cmp) (view_of p translated old) k f) more
-      → range_view p translated n new ≡ with_pruned (with_edit (pair_cmp cmp) (range_view p translated n old) slot f) more
+      → view_from p translated n new ≡ with_pruned (with_edit (pair_cmp cmp) (view_from p translated n old) slot f) more
   seen_pruned more is = same_view (content_edited (same_content is)) (same_pruned is) (same_slot is) (λ i s. is_between n (n + sized i) s.0)

@@ -1,18 +1,21 @@
 -- On what the storage of an index over parts keeps.
---     one_entry, no_entry, new_entries, lost_entries, all_entries, fewer_entries    how many entries a list takes, by what a part tells
+--     one_entry, keys_for-length             how many entries a list takes, by how many values it has
 --     length-put_value                   a list with one value more
 --     at_most_three                      how many partitions there can be
 --     none_held, none_counted            parts that hold nothing, together and with their counts
 --     lawful, list_is                    the whole is lawful, and the list at a slot is that of its part
---     within, reach                      a slot of some part, and one of a partition where there is a part for each
+--     within                             a slot of some part
 --     resized                            an edit leaves as many parts
+--     keys_below                         there are no more keys than values
 --     held_inside                        a slot that has values is of some part
 --     items_within, entries_within       no list is longer than all of them, nor takes more entries than there are
 --     edited, edited_by, edited_lawful   an edit of a slot's list is one of the whole, which stays lawful
---     keys_fit, counted_edit             it is counted by so many more or fewer, and there are no more keys than values
+--     counted_edit, can_change, counted_change    it is counted by what was found and left under the slot
+--     counted_gain                       and by one value more
+--     keeps, keeps_all                   it is a map of lists that are not empty, as it is where nothing was edited
 --     view_edited, view_pruned           and the index as it is seen
-use Rattle.std.proofs.Common.{◌≡◌, ℕ, zero, suc, ◌+◌, ◌<◌, ◌≤◌, Bool, true, false, not, nat_eq, nat_lt, List, [], ◌∷◌, replicate, length, All, length-append, refl, sym, ap, subst, ◌∙◌, arith, lt_of_not-le}
-use Rattle.std.proofs.lemmas.Bool.{eqb-true, lt-ltb}
+use Rattle.std.proofs.Common.{◌≡◌, ℕ, zero, suc, ◌+◌, ◌-◌, ◌^◌, ◌<◌, ◌≤◌, Bool, true, false, not, List, [], ◌∷◌, replicate, length, All, length-append, refl, sym, ap, subst, ◌∙◌, arith, lt_of_not-le}
+use Rattle.std.proofs.lemmas.Bool.{lt-ltb}
 use Rattle.std.proofs.lemmas.List.{length-set, length-replicate}
 use Rattle.std.proofs.lemmas.List.Elements.{All-get_or, All-set, All-nil, All-cons}
 use Rattle.std.specs.declared.cmp.Ordering.{Ordering}
@@ -20,51 +23,28 @@ use Rattle.std.specs.declared.cmp.Ordering.TheVariants.{Equal}
 use Rattle.std.specs.Cmp.{IsTotalOrder}
 use Rattle.key_index_flat.specs.Content.{Content, is_filled, IsLawful, list_at, with_list, with_list_by, item_count, key_count}
 use Rattle.key_index_flat.specs.Laws.{IsLawful-with_list}
-use Rattle.key_index_flat.specs.View.{put_value, with_edit, with_pruned, pruned_after}
+use Rattle.key_index_flat.specs.View.{put_value, pruned_after}
 use Rattle.key_index_flat.proofs.ContentLemmas.{item_count-with_list, key_count-with_list, entries_for}
-use Rattle.key_index_parts.specs.Family.{Kept, IsCounted, view_of, part_at, list_in, with_list_in}
+use Rattle.key_index_parts.specs.Counts.{one_if, keys_for, CanChange}
+use Rattle.key_index_parts.specs.Family.{Kept, IsCounted, KeepsParts, Edits, Prunes, view_of, part_at, list_in, with_list_in}
 use Rattle.key_index_parts.specs.Gathered.{pair_cmp, gathered_from, gathered}
 use Rattle.key_index_parts.specs.GatheredLaws.{pair_total, IsLawful-gathered}
 use Rattle.key_index_parts.specs.Prefix.{partition_count}
 use Rattle.key_index_parts.proofs.GatheredLemmas.{list_at-gathered, list_at-past, with_list-gathered}
 use Rattle.key_index_parts.proofs.PartLemmas.{keys_at_most}
-use mir.Val.{bool_byte}
+
+pub keys_for-length : {V : Type 0} (l : List V) → keys_for (length l) ≡ entries_for l
+keys_for-length [] = refl
+keys_for-length (v ∷ vs) = ap one_if (lt-ltb 0 (suc (length vs)) (omega arith))
 
 pub one_entry : {V : Type 0} (l : List V) → 0 < length l → entries_for l ≡ 1
 one_entry [] h = absurd (omega (arith, h))
 one_entry (v ∷ vs) h = refl
 
-pub no_entry : {V : Type 0} (l : List V) → length l ≡ 0 → entries_for l ≡ 0
-no_entry [] h = refl
-no_entry (v ∷ vs) h = absurd (omega (arith, h))
-
 -- of a list that a value is about to be put into
-pub new_entries : {V : Type 0} (l : List V) (absent : Bool) (n : ℕ) → n ≡ bool_byte absent → absent ≡ not (is_filled l) → n + entries_for l ≡ 1
-new_entries [] absent n made e = let one = made ∙ ap (λ b. bool_byte b) e in omega (arith, one)
-new_entries (v ∷ vs) absent n made e = let none = made ∙ ap (λ b. bool_byte b) e in omega (arith, none)
-
-not_zero : (m : ℕ) → nat_eq (suc m) 0 ≡ false
-not_zero m =
-    elim (nat_eq (suc m) 0) as (λ b. nat_eq (suc m) 0 ≡ b → b ≡ false) [
-      | true ↦ λ e. absurd (let same = eqb-true (suc m) 0 e in omega (arith, same))
-      | false ↦ λ e. refl
-    ] refl
-
--- of a list that has so many values left
-pub lost_entries : {V : Type 0} (l : List V) (left n : ℕ) → n ≡ bool_byte (nat_eq left 0) → length l ≡ left → n + entries_for l ≡ 1
-lost_entries [] left n made e = let one = made ∙ ap (λ m. bool_byte (nat_eq m 0)) (sym e) in omega (arith, one)
-lost_entries (v ∷ vs) left n made e = let none = made ∙ ap (λ m. bool_byte (nat_eq m 0)) (sym e) ∙ ap (λ b. bool_byte b) (not_zero (length vs)) in omega (arith, none)
-
--- of a list of so many values
-pub all_entries : {V : Type 0} (l : List V) (had n : ℕ) → n ≡ bool_byte (nat_lt 0 had) → had ≡ length l → n ≡ entries_for l
-all_entries [] had n made e = made ∙ ap (λ m. bool_byte (nat_lt 0 m)) e
-all_entries (v ∷ vs) had n made e = made ∙ ap (λ m. bool_byte (nat_lt 0 m)) e ∙ ap (λ b. bool_byte b) (lt-ltb 0 (suc (length vs)) (omega arith))
-
--- a list takes at most as many entries as one that is no shorter
-pub fewer_entries : {V : Type 0} (l m : List V) → length l ≤ length m → entries_for l ≤ entries_for m
-fewer_entries [] m h = omega arith
-fewer_entries (v ∷ vs) [] h = absurd (omega (arith, h))
-fewer_entries (v ∷ vs) (w ∷ ws) h = omega arith
+gained : {V : Type 0} (l : List V) (absent : Bool) → absent ≡ not (is_filled l) → one_if absent + entries_for l ≡ 1
+gained [] absent e = let one : one_if absent ≡ 1 = ap one_if e in omega (arith, one)
+gained (v ∷ vs) absent e = let none : one_if absent ≡ 0 = ap one_if e in omega (arith, none)
 
 pub length-put_value : {V : Type 0} (first : Bool) (v : V) (l : List V) → length (put_value first v l) ≡ length l + 1
 length-put_value true v l = omega arith
@@ -107,9 +87,6 @@ module _ {T K V : Type 0} {s t : Kept T K V} (is : s ≡ t) where
   pub within : (n : ℕ) → n < length t.parts → n < length s.parts
   within n inside = let same = ap (λ k. length k.parts) is in omega (arith, same, inside)
 
-  pub reach : (p : ℕ) → length t.parts ≡ partition_count p → (n : ℕ) → n < partition_count p → n < length s.parts
-  reach p whole n below = within n (omega (arith, whole, below))
-
 pub resized : {K V : Type 0} (cmp : K → K → Ordering) (parts : List (Content K V)) (slot : ℕ × K) (l : List V) (new : List (Content K V))
     → new ≡ with_list_in cmp parts slot l → length new ≡ length parts
 resized cmp parts slot l new is = ap (λ cs. length cs) is ∙ length-set parts slot.0 (with_list cmp (part_at parts slot.0) slot.1 l)
@@ -117,6 +94,12 @@ resized cmp parts slot l new is = ap (λ cs. length cs) is ∙ length-set parts 
 module _ {K V : Type 0} {cmp : K → K → Ordering} {p : ℕ} {parts : List (Content K V)} {items keys : ℕ} (h : IsCounted cmp p parts items keys) where
   pub lawful : IsLawful (pair_cmp cmp) (gathered parts)
   lawful = IsLawful-gathered cmp parts h.each
+
+  pub keeps_all : (new : List (Content K V)) → new ≡ parts → KeepsParts cmp parts new
+  keeps_all new same = record { lawful = subst (λ cs. IsLawful (pair_cmp cmp) (gathered cs)) (sym same) lawful; sized = ap (λ cs. length cs) same }
+
+  pub keys_below : keys ≤ items
+  keys_below = let at_most = keys_at_most (gathered parts) lawful.1 in let was = h.counted in let keyed = h.keyed in omega (arith, at_most, was, keyed)
 
   pub list_is : (slot : ℕ × K) → list_at (pair_cmp cmp) (gathered parts) slot ≡ list_in cmp parts slot
   list_is slot = list_at-gathered cmp parts slot.0 slot.1
@@ -167,34 +150,68 @@ module _ {K V : Type 0} {cmp : K → K → Ordering} {p : ℕ} {parts : List (Co
           let now = ap (λ c. key_count c) edited in
           let same : entries_for (list_at (pair_cmp cmp) (gathered parts) slot) ≡ entries_for (list_in cmp parts slot) = ap (λ m. entries_for m) (list_is slot) in omega (arith, sum, was, now, same)
 
-      pub keys_fit : (a b : ℕ) → a + length (list_in cmp parts slot) ≡ items + length l → b + entries_for (list_in cmp parts slot) ≡ keys + entries_for l → b ≤ a
+      keys_fit : (a b : ℕ) → a + length (list_in cmp parts slot) ≡ items + length l → b + entries_for (list_in cmp parts slot) ≡ keys + entries_for l → b ≤ a
       keys_fit a b items_told keys_told =
           let of_items = item_sum in let of_keys = key_sum in let at_most = keys_at_most (gathered new) edited_lawful.1 in
           omega (arith, of_items, of_keys, at_most, items_told, keys_told)
 
       pub counted_edit : (a b : ℕ) → a + length (list_in cmp parts slot) ≡ items + length l → b + entries_for (list_in cmp parts slot) ≡ keys + entries_for l → IsCounted cmp p new a b
       counted_edit a b items_told keys_told =
-          let of_items = item_sum in let of_keys = key_sum in let size = ap (λ cs. length cs) is in
-          let same = length-set parts slot.0 (with_list cmp (part_at parts slot.0) slot.1 l) in let sized = h.sized in
+          let of_items = item_sum in let of_keys = key_sum in let size = resized cmp parts slot l new is in let sized = h.sized in
           record {
             least = h.least;
             greatest = h.greatest;
-            sized = omega (arith, size, same, sized);
+            sized = omega (arith, size, sized);
             each = each_after;
             counted = omega (arith, of_items, items_told);
             keyed = omega (arith, of_keys, keys_told);
           }
 
+      pub keeps : KeepsParts cmp parts new
+      keeps = record { lawful = edited_lawful; sized = resized cmp parts slot l new is }
+
+      module _ (had left : ℕ) (had_told : had ≡ length (list_in cmp parts slot)) (left_told : left ≡ length l) where
+        had_keys : keys_for had ≡ entries_for (list_in cmp parts slot)
+        had_keys = ap (λ n. keys_for n) had_told ∙ keys_for-length (list_in cmp parts slot)
+
+        left_keys : keys_for left ≡ entries_for l
+        left_keys = ap (λ n. keys_for n) left_told ∙ keys_for-length l
+
+        pub can_change : items + left ≤ had + (2 ^ 64 - 1) → CanChange items keys had left
+        can_change fits =
+            let held = items_within slot in let keyed = entries_within slot in let more = had_keys in let fewer = left_keys in
+            let fit = keys_fit (items + left - had) (keys + keys_for left - keys_for had) (omega (arith, held, had_told, left_told)) (omega (arith, keyed, more, fewer)) in
+            record {
+              held = omega (arith, held, had_told);
+              keyed = omega (arith, keyed, more);
+              items_fit = fits;
+              keys_fit = omega (arith, fit, fits, held, had_told, keyed, more);
+            }
+
+        pub counted_change : (a b : ℕ) → a + had ≡ items + left → b + keys_for had ≡ keys + keys_for left → IsCounted cmp p new a b
+        counted_change a b items_told keys_told =
+            let more = had_keys in let fewer = left_keys in
+            counted_edit a b (omega (arith, items_told, had_told, left_told)) (omega (arith, keys_told, more, fewer))
+
+      pub counted_gain : (a b : ℕ) (absent : Bool) → absent ≡ not (is_filled (list_in cmp parts slot)) → length l ≡ length (list_in cmp parts slot) + 1
+          → a ≡ items + 1 → b ≡ keys + one_if absent → IsCounted cmp p new a b
+      counted_gain a b absent told more items_told keys_told =
+          let list = list_in cmp parts slot in let one = one_entry l (omega (arith, more)) in let new_key = gained list absent told in
+          counted_edit a b (omega (arith, items_told, more)) (omega (arith, keys_told, one, new_key))
+
       pub edited_by : (f : List V → List V) → l ≡ f (list_in cmp parts slot) → gathered new ≡ with_list_by (pair_cmp cmp) (gathered parts) slot f
       edited_by f told = edited ∙ ap (λ m. with_list (pair_cmp cmp) (gathered parts) slot m) (told ∙ ap f (sym (list_is slot)))
 
       -- of the index as it is seen
-      pub view_edited : {T : Type 0} (translated : T → List ℕ → K) (t : T) (pruned : ℕ) (f : List V → List V) → l ≡ f (list_in cmp parts slot)
-          → view_of p translated (record { translator = t; parts = new; pruned = pruned }) ≡ with_edit (pair_cmp cmp) (view_of p translated (record { translator = t; parts = parts; pruned = pruned })) slot f
-      view_edited translated t pruned f told =
-          ap (λ w. record (view_of p translated (record { translator = t; parts = parts; pruned = pruned })) { content = w }) (edited_by f told)
+      module _ {T : Type 0} (translated : T → List ℕ → K) (t : T) (pruned more : ℕ) (f : List V → List V) (told : l ≡ f (list_in cmp parts slot)) where
+        abbrev pub old_kept : Kept T K V
+        old_kept = record { translator = t; parts = parts; pruned = pruned }
 
-      pub view_pruned : {T : Type 0} (translated : T → List ℕ → K) (t : T) (pruned n more : ℕ) (f : List V → List V) → l ≡ f (list_in cmp parts slot) → more ≡ pruned_after pruned n
-          → view_of p translated (record { translator = t; parts = new; pruned = more }) ≡ with_pruned (with_edit (pair_cmp cmp) (view_of p translated (record { translator = t; parts = parts; pruned = pruned })) slot f) n
-      view_pruned translated t pruned n more f told sum =
-          λ i. record (view_of p translated (record { translator = t; parts = parts; pruned = pruned })) { content = edited_by f told i; pruned = sum i }
+        abbrev pub new_kept : Kept T K V
+        new_kept = record { translator = t; parts = new; pruned = more }
+
+        pub view_edited : more ≡ pruned → Edits cmp p translated old_kept slot f new_kept
+        view_edited same = λ i. record (view_of p translated old_kept) { content = edited_by f told i; pruned = same i }
+
+        pub view_pruned : (n : ℕ) → more ≡ pruned_after pruned n → Prunes cmp p translated old_kept slot f n new_kept
+        view_pruned n sum = λ i. record (view_of p translated old_kept) { content = edited_by f told i; pruned = sum i }

@@ -9,7 +9,7 @@ use Rattle.std.specs.declared.hash.Hash as hash
 use Rattle.key_index_flat.specs.declared.index.unordered.Index.{Index}
 use Rattle.key_index_flat.specs.declared.translator.Translator as translator
 use Rattle.key_index_flat.specs.Content.{Content, IsLawful}
-use Rattle.key_index_flat.specs.Held.{held, IsLawful-held}
+use Rattle.key_index_flat.specs.Unordered.{held, IsLawful-held}
 
 module _ {T V K A : Type 0} {t : translator.Ghosts T K} {o : ord.Ghosts K} {e : eq.Ghosts K} {p : partial.Ghosts K}
     {h : hash.Ghosts K} where

@@ -4,11 +4,12 @@
 --     count_below, count_upto   how many of some keys are below a key, and how many are not above it
 --     run_of                    the values at a key, in their order
 --     IsRun                     where the pairs of a key stand: those below it come before them
+--     IsFound                   that they stand there, among keys that never fall
 --     grouped                   the content that pairs stand for: under each key its values, in their order
 --     list_of, room_of          the key and the values of a run that was taken out, and beside them its room
 --     room_for                  the same of a run with room for the values of an entry, and none of them yet
 --     Paired                    as many values as keys, and the keys never fall
-use Rattle.std.specs.Prelude.{ℕ, List, [], ◌∷◌, slice_set, length, ◌≡◌, ◌+◌}
+use Rattle.std.specs.Prelude.{ℕ, List, [], ◌∷◌, slice_set, length, ◌≡◌, ◌+◌, ◌≤◌}
 use Rattle.std.specs.List.{filter, zip}
 use Rattle.std.specs.List.Sorted.{IsSorted}
 use Rattle.std.specs.Map.{keys_of, values_of}
@@ -45,6 +46,11 @@ module _ {K V : Type 0} (cmp : K → K → Ordering) where
 pub record IsRun {K V : Type 0} (cmp : K → K → Ordering) (es : List (K × V)) (k : K) (start end : ℕ) : Type 0 where
   pub from : start ≡ length (entries_below cmp es k)
   pub upto : end ≡ start + length (run_of cmp es k)
+
+pub record IsFound {K V : Type 0} (cmp : K → K → Ordering) (es : List (K × V)) (k : K) (start end : ℕ) : Type 0 where
+  pub run : IsRun cmp es k start end
+  pub within : end ≤ length es
+  pub sorted : IsSorted cmp (keys_of es)
 
 -- as many values as keys, and the keys never fall
 pub record Paired {K V : Type 0} (cmp : K → K → Ordering) (ks : List K) (vs : List V) : Type 0 where

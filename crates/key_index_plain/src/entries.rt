@@ -227,7 +227,7 @@ fn retain_in_turn<K: Ord + Drop, V: Drop, F: FnMut(&V) -> bool>(
     };
     let values = &mut entries[place].values;
     let before = values.len();
-    let stays = key_index_flat::index::retain_in_turn(values, should_retain, true);
+    let stays = key_index_flat::index::implement::retain_in_turn(values, should_retain, true);
     let after = values.len();
     if after == 0 {
         entries.remove(place);

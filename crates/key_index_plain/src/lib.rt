@@ -10,9 +10,9 @@ ghost use Rattle.key_index_plain.specs.Laws.{IsLawful-content_of};
 mod entries;
 
 use entries::Entry;
+use key_index_flat::index::implement::{Lists, show_by_place};
 use key_index_flat::index::{
-    Factory, Fault, IndexCursor, Lists, Ordered, Refused, Runs, Search, Unordered, Values,
-    show_by_place,
+    Factory, Fault, IndexCursor, Ordered, Refused, Runs, Search, Unordered, Values,
 };
 use key_index_flat::translator::{OrderedTranslator, Translator};
 use std::alloc::Global;
@@ -52,8 +52,6 @@ impl<T: Translator, V: Drop> Runs for Index<T, V> {
       admitted = λ _. true;
     } };
 
-    ghost edited = { λ _ _. Unit {0} };
-
     ghost lawful = { λ index. IsLawful-content_of T.Key.total index.entries.items };
 
     ghost exact = { T.exact };
@@ -80,15 +78,11 @@ impl<T: Translator, V: Drop> Runs for Index<T, V> {
 
     fn insert_at(&mut self, slot: T::Key, place: usize, value: V) -> Result<(), Refused<V>> {
         if self.items() == usize::MAX {
-            let fault = Fault::Full;
-            return Err(Refused { value, fault });
+            return Err(Refused::full(value));
         }
         match entries::insert_at(&mut self.entries, slot, place, value) {
             Ok(()) => Ok(()),
-            Err(value) => {
-                let fault = Fault::Memory;
-                Err(Refused { value, fault })
-            }
+            Err(value) => Err(Refused::memory(value)),
         }
     }
 
@@ -106,34 +100,27 @@ impl<T: Translator, V: Drop> Lists for Index<T, V> {
 }
 
 impl<T: Translator, V: Drop> Search for Index<T, V> {
-    ghost settled = { λ _ _ _. Unit {0} };
-
-    ghost left_by_refusal = { λ _ _ _. Unit {0} };
-
-    ghost may_refuse = { λ _ _. false };
-
-    fn reach(&mut self, key: &[u8]) -> Result<usize, Fault> {
-        Ok(self.run_len(self.slot_of(key)))
+    fn reach(&mut self, key: &[u8]) -> Result<(T::Key, usize), Fault> {
+        let slot = self.slot_of(key);
+        Ok((slot, self.run_len(slot)))
     }
 
-    fn reach_or_insert(&mut self, key: &[u8], value: V) -> Result<usize, Refused<V>> {
+    fn reach_or_insert(&mut self, key: &[u8], value: V) -> Result<(T::Key, usize), Refused<V>> {
         if self.items() == usize::MAX {
-            let fault = Fault::Full;
-            return Err(Refused { value, fault });
+            return Err(Refused::full(value));
         }
         let slot = self.slot_of(key);
         let len = self.run_len(slot);
         if len == 0 {
             self.insert_at(slot, 0, value)?;
         }
-        Ok(len)
+        Ok((slot, len))
     }
 
     fn search(&mut self, key: &[u8]) -> Result<IndexCursor<'_, Index<T, V>>, Option<Fault>> {
-        let slot = self.slot_of(key);
         match self.reach(key) {
-            Ok(0) => Err(None),
-            Ok(len) => Ok(IndexCursor::with_len(self, slot, len)),
+            Ok((_, 0)) => Err(None),
+            Ok((slot, len)) => Ok(IndexCursor::with_len(self, slot, len)),
             Err(fault) => Err(Some(fault)),
         }
     }
@@ -143,10 +130,9 @@ impl<T: Translator, V: Drop> Search for Index<T, V> {
         key: &[u8],
         value: V,
     ) -> Result<IndexCursor<'_, Index<T, V>>, Option<Refused<V>>> {
-        let slot = self.slot_of(key);
         match self.reach_or_insert(key, value) {
-            Ok(0) => Err(None),
-            Ok(len) => Ok(IndexCursor::with_len(self, slot, len)),
+            Ok((_, 0)) => Err(None),
+            Ok((slot, len)) => Ok(IndexCursor::with_len(self, slot, len)),
             Err(refused) => Err(Some(refused)),
         }
     }
@@ -179,16 +165,12 @@ impl<T: Translator, V: Drop> Unordered for Index<T, V> {
 
     fn insert(&mut self, key: &[u8], value: V) -> Result<(), Refused<V>> {
         if self.items() == usize::MAX {
-            let fault = Fault::Full;
-            return Err(Refused { value, fault });
+            return Err(Refused::full(value));
         }
         let slot = self.translator.transform(key);
         match entries::insert_first(&mut self.entries, slot, value) {
             Ok(()) => Ok(()),
-            Err(value) => {
-                let fault = Fault::Memory;
-                Err(Refused { value, fault })
-            }
+            Err(value) => Err(Refused::memory(value)),
         }
     }
 
@@ -206,8 +188,7 @@ impl<T: Translator, V: Drop> Unordered for Index<T, V> {
         should_retain: F,
     ) -> Result<(), Refused<V>> {
         if self.items() == usize::MAX {
-            let fault = Fault::Full;
-            return Err(Refused { value, fault });
+            return Err(Refused::full(value));
         }
         let slot = self.translator.transform(key);
         match entries::insert_and_retain(&mut self.entries, slot, value, should_retain) {
@@ -215,10 +196,7 @@ impl<T: Translator, V: Drop> Unordered for Index<T, V> {
                 self.pruned = self.pruned.saturating_add(taken as u64);
                 Ok(())
             }
-            Err(value) => {
-                let fault = Fault::Memory;
-                Err(Refused { value, fault })
-            }
+            Err(value) => Err(Refused::memory(value)),
         }
     }
 
@@ -263,6 +241,8 @@ impl<T: OrderedTranslator, V: Drop> Ordered for Index<T, V> {
 }
 
 impl<T: Translator, V: Drop> Factory for Index<T, V> {
+    ghost use Rattle.key_index_plain.specs.Plain.{view};
+
     type Translator = T;
 
     ghost slot_by = { T.translated };
@@ -272,9 +252,9 @@ impl<T: Translator, V: Drop> Factory for Index<T, V> {
     /// Takes no memory, and never refuses.
     fn new(alloc: Global, translator: T) -> Result<Index<T, V>, Fault>
         ensures made { IsOk result }
-        ensures empty { IfOk result (λ index. (⟦<Index<T, V> as Runs>⟧.view index).content ≡ []) }
-        ensures pruned { IfOk result (λ index. (⟦<Index<T, V> as Runs>⟧.view index).pruned ≡ 0) }
-        ensures slots { IfOk result (λ index. (⟦<Index<T, V> as Runs>⟧.view index).slot ≡ T.translated translator) }
+        ensures empty { IfOk result (λ index. (view index).content ≡ []) }
+        ensures pruned { IfOk result (λ index. (view index).pruned ≡ 0) }
+        ensures slots { IfOk result (λ index. (view index).slot ≡ T.translated translator) }
         ensures fault { IfErr result (λ f. f ≡ Fault.Memory) }
     {
         Ok(Index {

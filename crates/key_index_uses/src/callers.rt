@@ -11,10 +11,11 @@ ghost use Rattle.key_index_flat.specs.Padding.{padded};
 ghost use Rattle.key_index_parts.specs.Gathered.{pair_cmp};
 ghost use Rattle.key_index_uses.specs.Exclusion.{has_key, Excludes};
 
+use key_index_flat::index::implement::{Lists, visit_by_place};
 use key_index_flat::index::unordered::Index;
 use key_index_flat::index::{
-    Cursor, Factory, Fault, IndexCursor, Keyed, Lists, Ordered, Refused, Runs, Unordered, Values,
-    resolve_next, resolve_prev, visit_by_place,
+    Cursor, Factory, Fault, IndexCursor, Keyed, Ordered, Refused, Runs, Unordered, Values,
+    resolve_next, resolve_prev,
 };
 use key_index_flat::translator::{OneCap, TwoCap};
 use key_index_parts::index::partitioned::{self, grouping_and_order};
@@ -24,9 +25,7 @@ use std::alloc::Global;
 pub fn newest(alloc: Global) -> Result<Option<u64>, Fault> {
     let mut index = Index::<OneCap, u64>::new(alloc, OneCap)?;
     for (key, position) in [(b"\x0b\x02", 1), (b"\x0b\xff", 2)] {
-        if let Err(refused) = index.insert(key, position) {
-            return Err(refused.fault);
-        }
+        index.insert(key, position)?;
     }
     Ok(index.get(b"\x0b").next().copied())
 }
@@ -58,10 +57,8 @@ where
         ⊎ (I.view index.new ≡ after_remove I.Key.cmp (I.view index.old) key.now)) }
 {
     index.remove(key)?;
-    match index.insert(key, value) {
-        Ok(()) => Ok(()),
-        Err(refused) => Err(refused.fault),
-    }
+    index.insert(key, value)?;
+    Ok(())
 }
 
 /// Puts a value in place of the first one of a key, and tells whether the key had one. Nothing else changes.
@@ -77,11 +74,11 @@ where
         ≡ with_edit I.Key.cmp (I.view index.old) ((I.view index.old).slot key.now) (λ l. slice_set l 0 value)) }
     ensures refused { OnErr result (I.view index.new ≡ I.view index.old) }
 {
-    if index.reach(key)? == 0 {
+    let (slot, len) = index.reach(key)?;
+    if len == 0 {
         return Ok(false);
     }
-    let slot = index.slot_of(key);
-    let mut cursor = IndexCursor::new(index, slot);
+    let mut cursor = IndexCursor::with_len(index, slot, len);
     cursor.next();
     cursor.update(value);
     cursor.close();
@@ -103,10 +100,8 @@ pub fn update<I: Unordered<Value = u64>>(
         ((I.view index.old).slot key.now) (others ++ new ∷ [])) (length was - length others)) }
     ensures refused { OnErr result (I.view index.new ≡ I.view index.old) }
 {
-    match index.insert_and_retain(key, new, |position: &u64| *position != old) {
-        Ok(()) => Ok(()),
-        Err(refused) => Err(refused.fault),
-    }
+    index.insert_and_retain(key, new, |position: &u64| *position != old)?;
+    Ok(())
 }
 
 /// Visits the values of each key of a batch, in the order of the keys, by a closure that the caller keeps.

@@ -3,6 +3,7 @@
 #![tactic(auto)]
 
 pub mod callers;
+pub mod named;
 pub mod segments;
 pub mod snapshots;
 #[cfg(test)]

@@ -175,7 +175,7 @@ fn many_keys_are_pruned_at_once(rt: HostRuntime) {
     );
 }
 
-/// An index takes as many positions in order as it was made for, also where no memory is to be had then.
+/// An index that was made for four positions takes four in order.
 #[test]
 fn an_index_has_the_room_that_it_was_made_with(rt: HostRuntime) {
     let mut index = Index::new(rt.alloc(), EightCap, 0, 4).expect(&rt, "an index");

@@ -3,7 +3,7 @@ ghost use Rattle.std.specs.Prelude.{◌≡◌, map, IfErr, IfOk, OnOk};
 ghost use Rattle.std.specs.Iterator.{UpTo};
 ghost use Rattle.std.specs.List.{FoldsTo};
 ghost use Rattle.key_index_flat.specs.View.{run_at};
-ghost use Rattle.key_index_flat.specs.Visits.{IsBatch, VisitsAt, VisitsByKey, VisitsByPlace, visits_of};
+ghost use Rattle.key_index_flat.specs.Visits.{IsBatch, IsSortedBatch, VisitsAt, VisitsByKey, VisitsByPlace, visits_of};
 
 use super::{Fault, Runs, Values};
 use std::alloc::Global;
@@ -85,11 +85,28 @@ where
     let mut probes = Vec::new(alloc);
     let mut place = 0;
     for key in keys {
-        let Ok(()) = probes.push((index.slot_of(key.as_slice()), place)) else {
-            return Err(Fault::Memory);
-        };
+        probes.push((index.slot_of(key.as_slice()), place))?;
         place += 1;
     }
+    Ok(probes)
+}
+
+/// The index keys of a batch of keys, each with its place, in the order of the index keys and, of one index key, in that of the places.
+pub fn probes_by_key<I: Runs, B: Iterator + Drop>(
+    alloc: Global,
+    index: &I,
+    keys: B,
+) -> Result<Vec<(I::Key, usize)>, Fault>
+where
+    B::Item: AsSlice<u8> + Drop,
+    requires can { B.can_next keys }
+    requires ends { UpTo (B.remaining keys) usize.MAX }
+    ensures probes { IfOk result (λ sorted.
+        IsSortedBatch (IsBatch B.next_gives B.Item.items keys) I.Key.cmp (I.view index.now) sorted.items) }
+    ensures fault { IfErr result (λ f. f ≡ Fault.Memory) }
+{
+    let mut probes = take_probes(alloc, index, keys)?;
+    probes.sort_unstable();
     Ok(probes)
 }
 
@@ -109,13 +126,14 @@ fn visit_probes<'a, I: Lists, F: FnMut(usize, &'a I::Value)>(
 }
 
 /// Visits the values of each key of a batch, in the order of the index keys and, of one index key, in that of the places, and gives
-/// the closure back with what it gathered. Takes memory for the places first, so a refusal comes before any visit.
+/// the closure back with what it gathered. Takes memory for the places first: a refusal comes before any visit, and gives the closure
+/// back as it was.
 pub fn visit_by_key<'a, I: Lists, B: Iterator + Drop, F: FnMut(usize, &'a I::Value)>(
     alloc: Global,
     index: &'a I,
     keys: B,
     visit: F,
-) -> Result<F, Fault>
+) -> Result<F, (F, Fault)>
 where
     B::Item: AsSlice<u8> + Drop,
     requires can { B.can_next keys }
@@ -123,11 +141,13 @@ where
     requires callable { F.IsAlwaysCallable visit }
     ensures visited { IfOk result (VisitsByKey (IsBatch B.next_gives B.Item.items keys) (VisitsAt F.FnMut) visit
         I.Key.cmp (I.view index.now)) }
-    ensures fault { IfErr result (λ f. f ≡ Fault.Memory) }
+    ensures unvisited { IfErr result (λ back. back.0 ≡ visit) }
+    ensures fault { IfErr result (λ back. back.1 ≡ Fault.Memory) }
 {
-    let mut probes = take_probes(alloc, index, keys)?;
-    probes.sort_unstable();
-    Ok(visit_probes(index, probes, visit))
+    match probes_by_key(alloc, index, keys) {
+        Ok(probes) => Ok(visit_probes(index, probes, visit)),
+        Err(fault) => Err((visit, fault)),
+    }
 }
 
 /// `visit_by_key` for a closure that keeps no reference, which is what a trait's call takes.
@@ -146,6 +166,7 @@ where
         (VisitsAt F.FnMut) visit I.Key.cmp (I.view index.now) last) }
     ensures fault { IfErr result (λ f. f ≡ Fault.Memory) }
 {
-    visit_by_key(alloc, index, keys, move |place, value| visit(place, value))?;
+    let probes = probes_by_key(alloc, index, keys)?;
+    visit_probes(index, probes, move |place, value| visit(place, value));
     Ok(())
 }

@@ -2,7 +2,7 @@
 use super::Fault;
 
 /// One step of an edit: a call of the key's cursor.
-#[derive(Drop)]
+#[derive(Debug, PartialEq, Eq, Drop)]
 pub enum Step<V> {
     Next,
     Insert(V),
@@ -22,7 +22,7 @@ pub enum Command<V, F> {
 }
 
 /// What a command came to.
-#[derive(Debug, Drop)]
+#[derive(Debug, PartialEq, Eq, Drop)]
 pub enum Outcome {
     /// It was accepted.
     Done,

@@ -15,9 +15,7 @@ fn unset<V>(alloc: Global, steps: &[Step<V>]) -> Result<Vec<bool>, Fault>
     ensures fault { IfErr result (λ f. f ≡ Fault.Memory) }
 {
     let mut flags = Vec::new(alloc);
-    if flags.resize(steps.len(), false).is_err() {
-        return Err(Fault::Memory);
-    }
+    flags.resize(steps.len(), false)?;
     Ok(flags)
 }
 
@@ -74,21 +72,23 @@ where
     }
 }
 
-/// The steps of an edit in turn, from before the first value of an index key.
+/// The steps of an edit in turn, from before the first value of an index key that has so many.
 fn edit_list<I: Unordered>(
     index: &mut I,
     slot: I::Key,
+    len: usize,
     steps: Vec<Step<I::Value>>,
     flags: &mut [bool],
 )
 where
     I::Value: Drop,
     requires admits { IsTrue ((I.view index.old).admitted slot) }
-    requires held { 0 < length (run_at I.Key.cmp (I.view index.old) slot) }
+    requires known { len ≡ length (run_at I.Key.cmp (I.view index.old) slot) }
+    requires held { 0 < len }
     requires room { length flags.old ≡ length steps.items }
     ensures { EditAt I.Key.cmp slot steps.items flags.new (I.view index.old) (I.view index.new) }
 {
-    let mut cursor = IndexCursor::new(index, slot);
+    let mut cursor = IndexCursor::with_len(index, slot, len);
     apply_steps(&mut cursor, steps, flags);
     cursor.close();
 }
@@ -108,11 +108,11 @@ where
     ensures refused { OnErr result (I.view index.new ≡ I.view index.old) }
     ensures fault { IfErr result (λ f. f ≡ Fault.Memory) }
 {
-    if index.reach(key)? == 0 {
+    let (slot, len) = index.reach(key)?;
+    if len == 0 {
         return Ok(());
     }
-    let slot = index.slot_of(key);
-    edit_list(index, slot, steps, flags);
+    edit_list(index, slot, len, steps, flags);
     Ok(())
 }
 
@@ -126,10 +126,8 @@ where
     ensures refused { OnErr result (I.view index.new ≡ I.view index.old) }
     ensures fault { IfErr result (λ f. f ≡ growth_fault_in (I.view index.old)) }
 {
-    match index.reach_or_insert(key, value) {
-        Ok(_) => Ok(()),
-        Err(refused) => Err(refused.fault),
-    }
+    index.reach_or_insert(key, value)?;
+    Ok(())
 }
 
 /// One command, and what it came to.
@@ -226,14 +224,9 @@ fn room_for<V, F>(alloc: Global, commands: &[Command<V, F>]) -> Result<Vec<Outco
     ensures room { IfOk result (λ outcomes. HaveRoom commands.now outcomes.items) }
     ensures fault { IfErr result (λ f. f ≡ Fault.Memory) }
 {
-    let Ok(mut outcomes) = Vec::with_capacity(alloc, commands.len()) else {
-        return Err(Fault::Memory);
-    };
+    let mut outcomes = Vec::with_capacity(alloc, commands.len())?;
     'commands: for command in commands {
-        let outcome = place_for(alloc, command)?;
-        if outcomes.push(outcome).is_err() {
-            return Err(Fault::Memory);
-        }
+        outcomes.push(place_for(alloc, command)?)?;
     }
     Ok(outcomes)
 }

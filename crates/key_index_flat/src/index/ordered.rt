@@ -3,11 +3,9 @@ ghost use Rattle.std.specs.Prelude.{◌≡◌, [], true, false, refl, IsOk, IfOk
 ghost use Rattle.key_index_flat.specs.Content.{IsLawful};
 ghost use Rattle.key_index_flat.specs.Storage.{view_of};
 
+use super::implement::{Lists, show_by_key, visit_by_key};
 use super::storage::Storage;
-use super::{
-    Factory, Fault, IndexCursor, Lists, Ordered, Refused, Runs, Search, Unordered, Values,
-    show_by_key, visit_by_key,
-};
+use super::{Factory, Fault, IndexCursor, Ordered, Refused, Runs, Search, Unordered, Values};
 use crate::translator::{OrderedTranslator, Translator};
 use std::alloc::Global;
 use std::collections::BTreeMap;
@@ -25,6 +23,7 @@ pub struct Index<T: Translator, V> {
 }
 
 impl<T: Translator, V: Drop> Index<T, V> {
+    ghost use Rattle.key_index_flat.specs.Ordered.{view};
     ghost use Rattle.std.specs.Prelude.{◌≡◌, IfErr, OnOk};
     ghost use Rattle.std.specs.Iterator.{UpTo};
     ghost use Rattle.key_index_flat.specs.Visits.{IsBatch, VisitsAt, VisitsByKey};
@@ -43,11 +42,13 @@ impl<T: Translator, V: Drop> Index<T, V> {
         requires ends { UpTo (B.remaining keys) usize.MAX }
         requires callable { F.IsAlwaysCallable visit }
         ensures visited { OnOk result ((last : F) × VisitsByKey (IsBatch B.next_gives B.Item.items keys)
-            (VisitsAt F.FnMut) visit T.Key.cmp (⟦<Index<T, V> as Runs>⟧.view self.now) last) }
+            (VisitsAt F.FnMut) visit T.Key.cmp (view self.now) last) }
         ensures fault { IfErr result (λ f. f ≡ Fault.Memory) }
     {
-        visit_by_key(self.storage.alloc(), self, keys, visit)?;
-        Ok(())
+        match visit_by_key(self.storage.alloc(), self, keys, visit) {
+            Ok(_) => Ok(()),
+            Err((_, fault)) => Err(fault),
+        }
     }
 }
 
@@ -57,8 +58,6 @@ impl<T: Translator, V: Drop> Runs for Index<T, V> {
     type Key = T::Key;
 
     ghost view = { λ index. view_of T.translated index.storage };
-
-    ghost edited = { λ _ _. Unit {0} };
 
     ghost lawful = { λ index. index.lawful };
 
@@ -108,32 +107,23 @@ impl<T: Translator, V: Drop> Lists for Index<T, V> {
 }
 
 impl<T: Translator, V: Drop> Search for Index<T, V> {
-    ghost settled = { λ _ _ _. Unit {0} };
-
-    ghost left_by_refusal = { λ _ _ _. Unit {0} };
-
-    ghost may_refuse = { λ _ _. false };
-
-    fn reach(&mut self, key: &[u8]) -> Result<usize, Fault> {
-        Ok(self.run_len(self.slot_of(key)))
+    fn reach(&mut self, key: &[u8]) -> Result<(T::Key, usize), Fault> {
+        let slot = self.slot_of(key);
+        Ok((slot, self.run_len(slot)))
     }
 
-    fn reach_or_insert(&mut self, key: &[u8], value: V) -> Result<usize, Refused<V>> {
+    fn reach_or_insert(&mut self, key: &[u8], value: V) -> Result<(T::Key, usize), Refused<V>> {
         let slot = self.slot_of(key);
-        match self.storage.insert_absent(slot, value) {
-            Ok(None) => Ok(0),
-            Ok(Some(len)) => Ok(len),
-            Err(refused) => Err(refused),
-        }
+        let len = self.storage.insert_absent(slot, value)?;
+        Ok((slot, len))
     }
 
     fn search(&mut self, key: &[u8]) -> Result<IndexCursor<'_, Index<T, V>>, Option<Fault>> {
-        let slot = self.slot_of(key);
-        let len = self.run_len(slot);
-        if len == 0 {
-            return Err(None);
+        match self.reach(key) {
+            Ok((_, 0)) => Err(None),
+            Ok((slot, len)) => Ok(IndexCursor::with_len(self, slot, len)),
+            Err(fault) => Err(Some(fault)),
         }
-        Ok(IndexCursor::with_len(self, slot, len))
     }
 
     fn search_or_insert(
@@ -141,16 +131,20 @@ impl<T: Translator, V: Drop> Search for Index<T, V> {
         key: &[u8],
         value: V,
     ) -> Result<IndexCursor<'_, Index<T, V>>, Option<Refused<V>>> {
-        let slot = self.slot_of(key);
-        match self.storage.insert_absent(slot, value) {
-            Ok(None) => Err(None),
-            Ok(Some(len)) => Ok(IndexCursor::with_len(self, slot, len)),
+        match self.reach_or_insert(key, value) {
+            Ok((_, 0)) => Err(None),
+            Ok((slot, len)) => Ok(IndexCursor::with_len(self, slot, len)),
             Err(refused) => Err(Some(refused)),
         }
     }
 }
 
 impl<T: Translator, V: Drop> Unordered for Index<T, V> {
+    ghost use Rattle.std.specs.Prelude.{OnOk};
+    ghost use Rattle.std.specs.Iterator.{UpTo};
+    ghost use Rattle.key_index_flat.specs.Ordered.{view};
+    ghost use Rattle.key_index_flat.specs.Visits.{IsBatch, VisitsAt, VisitsByKey, VisitsInAnyOrder};
+
     ghost INSERT_FIRST = { true };
 
     const INSERT_FIRST: bool = true;
@@ -161,9 +155,10 @@ impl<T: Translator, V: Drop> Unordered for Index<T, V> {
 
     #[inline]
     fn get(&self, key: &[u8]) -> Values<'_, V> {
-        self.storage.get(key)
+        self.storage.list_at(self.slot_of(key))
     }
 
+    /// By index key and, of one index key, by place.
     #[inline]
     fn get_many<B: Iterator + Drop, F: FnMut(usize, &V)>(
         &self,
@@ -172,18 +167,28 @@ impl<T: Translator, V: Drop> Unordered for Index<T, V> {
     ) -> Result<(), Fault>
     where
         B::Item: AsSlice<u8> + Drop,
+        requires can { B.can_next keys }
+        requires ends { UpTo (B.remaining keys) usize.MAX }
+        requires callable { F.IsAlwaysCallable visit }
+        ensures by_key { OnOk result ((last : F) × VisitsByKey (IsBatch B.next_gives B.Item.items keys)
+            (VisitsAt F.FnMut) visit T.Key.cmp (view self.now) last) }
+        ensures visited { OnOk result ((last : F) × VisitsInAnyOrder (IsBatch B.next_gives B.Item.items keys)
+            (VisitsAt F.FnMut) visit T.Key.cmp (view self.now) last) }
+        ensures fault { IfErr result (λ f. f ≡ Fault.Memory) }
     {
         show_by_key(self.storage.alloc(), self, keys, visit)
     }
 
     #[inline]
     fn insert(&mut self, key: &[u8], value: V) -> Result<(), Refused<V>> {
-        self.storage.insert(key, value)
+        let slot = self.slot_of(key);
+        self.storage.insert(slot, value)
     }
 
     #[inline]
     fn retain<F: FnMut(&V) -> bool>(&mut self, key: &[u8], should_retain: F) -> Result<(), Fault> {
-        self.storage.retain(key, should_retain);
+        let slot = self.slot_of(key);
+        self.storage.retain(slot, should_retain);
         Ok(())
     }
 
@@ -194,15 +199,14 @@ impl<T: Translator, V: Drop> Unordered for Index<T, V> {
         should_retain: F,
     ) -> Result<(), Refused<V>> {
         let slot = self.slot_of(key);
-        match self.storage.insert_and_retain(slot, value, should_retain) {
-            Ok(_) => Ok(()),
-            Err(refused) => Err(refused),
-        }
+        self.storage.insert_and_retain(slot, value, should_retain)?;
+        Ok(())
     }
 
     #[inline]
     fn remove(&mut self, key: &[u8]) -> Result<(), Fault> {
-        self.storage.remove(key);
+        let slot = self.slot_of(key);
+        self.storage.remove(slot);
         Ok(())
     }
 
@@ -227,12 +231,12 @@ impl<T: OrderedTranslator, V: Drop> Ordered for Index<T, V> {
 
     #[inline]
     fn prev_translated_key(&self, key: &[u8]) -> Option<(Values<'_, V>, bool)> {
-        self.storage.prev(key)
+        self.storage.prev(self.slot_of(key))
     }
 
     #[inline]
     fn next_translated_key(&self, key: &[u8]) -> Option<(Values<'_, V>, bool)> {
-        self.storage.next(key)
+        self.storage.next(self.slot_of(key))
     }
 
     #[inline]
@@ -247,6 +251,8 @@ impl<T: OrderedTranslator, V: Drop> Ordered for Index<T, V> {
 }
 
 impl<T: Translator, V: Drop> Factory for Index<T, V> {
+    ghost use Rattle.key_index_flat.specs.Ordered.{view};
+
     type Translator = T;
 
     ghost slot_by = { T.translated };
@@ -256,9 +262,9 @@ impl<T: Translator, V: Drop> Factory for Index<T, V> {
     /// Takes no memory, and never refuses.
     fn new(alloc: Global, translator: T) -> Result<Index<T, V>, Fault>
         ensures made { IsOk result }
-        ensures empty { IfOk result (λ index. (⟦<Index<T, V> as Runs>⟧.view index).content ≡ []) }
-        ensures pruned { IfOk result (λ index. (⟦<Index<T, V> as Runs>⟧.view index).pruned ≡ 0) }
-        ensures slots { IfOk result (λ index. (⟦<Index<T, V> as Runs>⟧.view index).slot ≡ T.translated translator) }
+        ensures empty { IfOk result (λ index. (view index).content ≡ []) }
+        ensures pruned { IfOk result (λ index. (view index).pruned ≡ 0) }
+        ensures slots { IfOk result (λ index. (view index).slot ≡ T.translated translator) }
         ensures fault { IfErr result (λ f. f ≡ Fault.Memory) }
     {
         Ok(Index {

@@ -12,7 +12,8 @@ mod chains;
 mod heads;
 mod older;
 
-use super::{Fault, Refused, Retained, Values};
+use super::implement::Retained;
+use super::{Refused, Values};
 use crate::translator::Translator;
 use chains::Chains;
 use heads::{Heads, OrderedHeads};
@@ -84,23 +85,16 @@ impl<T: Translator, V: Drop, M: Heads<T::Key, V>> Storage<T, V, M> {
         self.chains.get(slot)
     }
 
-    #[inline]
-    pub(crate) fn get(&self, key: &[u8]) -> Values<'_, V>
-        ensures { result ≡ list_at T.Key.cmp self.now.content (T.translated self.now.translator key.now) }
-    {
-        self.list_at(self.slot_of(key))
-    }
-
     /// Where the lists take their memory.
     #[inline]
     pub(crate) fn alloc(&self) -> Global {
         self.chains.alloc()
     }
 
-    /// Puts a value in front of the list of its index key.
-    pub(crate) fn insert(&mut self, key: &[u8], value: V) -> Result<(), Refused<V>>
+    /// Puts a value in front of the list at an index key.
+    pub(crate) fn insert(&mut self, slot: T::Key, value: V) -> Result<(), Refused<V>>
         ensures accepted { OnOk result (view_of T.translated self.new
-            ≡ after_insert T.Key.cmp true (view_of T.translated self.old) key.now value) }
+            ≡ with_edit T.Key.cmp (view_of T.translated self.old) slot (λ l. value ∷ l)) }
         ensures room { OnOk result (item_count self.old.content < usize.MAX) }
         ensures refused { OnErr result (self.new ≡ self.old) }
         ensures lawful { IsLawful T.Key.cmp self.new.content }
@@ -108,19 +102,14 @@ impl<T: Translator, V: Drop, M: Heads<T::Key, V>> Storage<T, V, M> {
         ensures fault { IfErr result (λ r. r.fault ≡ growth_fault (item_count self.old.content)) }
     {
         if self.items == usize::MAX {
-            let fault = Fault::Full;
-            return Err(Refused { value, fault });
+            return Err(Refused::full(value));
         }
-        let slot = self.translator.transform(key);
         match self.chains.insert(slot, value) {
             Ok(()) => {
                 self.items += 1;
                 Ok(())
             }
-            Err(value) => {
-                let fault = Fault::Memory;
-                Err(Refused { value, fault })
-            }
+            Err(value) => Err(Refused::memory(value)),
         }
     }
 
@@ -150,31 +139,23 @@ impl<T: Translator, V: Drop, M: Heads<T::Key, V>> Storage<T, V, M> {
         ensures fault { IfErr result (λ r. r.fault ≡ growth_fault (item_count self.old.content)) }
     {
         if self.items == usize::MAX {
-            let fault = Fault::Full;
-            return Err(Refused { value, fault });
+            return Err(Refused::full(value));
         }
         match self.chains.insert_at(slot, place, value) {
             Ok(()) => {
                 self.items += 1;
                 Ok(())
             }
-            Err(value) => {
-                let fault = Fault::Memory;
-                Err(Refused { value, fault })
-            }
+            Err(value) => Err(Refused::memory(value)),
         }
     }
 
-    /// Puts a value under an index key that has none, and answers how many values the index key has otherwise.
-    pub(crate) fn insert_absent(
-        &mut self,
-        slot: T::Key,
-        value: V,
-    ) -> Result<Option<usize>, Refused<V>>
-        ensures accepted { IfOk result (λ found. let old = list_at T.Key.cmp self.old.content slot in MatchOption found
-            ((old ≡ []) × (view_of T.translated self.new
-            ≡ with_run T.Key.cmp (view_of T.translated self.old) slot (value ∷ [])))
-            (λ len. (len ≡ length old) × (0 < len) × (self.new ≡ self.old))) }
+    /// Puts a value under an index key that has none, and tells how many values the index key had.
+    pub(crate) fn insert_absent(&mut self, slot: T::Key, value: V) -> Result<usize, Refused<V>>
+        ensures found { IfOk result (λ n. 0 < n → self.new ≡ self.old) }
+        ensures inserted { IfOk result (λ n. n ≡ 0 → view_of T.translated self.new
+            ≡ with_run T.Key.cmp (view_of T.translated self.old) slot (value ∷ [])) }
+        ensures len { IfOk result (λ n. n ≡ length (list_at T.Key.cmp self.old.content slot)) }
         ensures room { OnOk result (item_count self.old.content < usize.MAX) }
         ensures refused { OnErr result (self.new ≡ self.old) }
         ensures lawful { IsLawful T.Key.cmp self.new.content }
@@ -182,19 +163,15 @@ impl<T: Translator, V: Drop, M: Heads<T::Key, V>> Storage<T, V, M> {
         ensures fault { IfErr result (λ r. r.fault ≡ growth_fault (item_count self.old.content)) }
     {
         if self.items == usize::MAX {
-            let fault = Fault::Full;
-            return Err(Refused { value, fault });
+            return Err(Refused::full(value));
         }
         match self.chains.insert_absent(slot, value) {
-            Ok(None) => {
+            Ok(0) => {
                 self.items += 1;
-                Ok(None)
+                Ok(0)
             }
-            Ok(Some(len)) => Ok(Some(len)),
-            Err(value) => {
-                let fault = Fault::Memory;
-                Err(Refused { value, fault })
-            }
+            Ok(len) => Ok(len),
+            Err(value) => Err(Refused::memory(value)),
         }
     }
 
@@ -215,7 +192,7 @@ impl<T: Translator, V: Drop, M: Heads<T::Key, V>> Storage<T, V, M> {
 
     /// Asks once on each value of an index key, in list order, takes out those that are answered false, and tells how many values the
     /// index key had, and how many it has left.
-    pub(crate) fn retain_at<F: FnMut(&V) -> bool>(
+    pub(crate) fn retain<F: FnMut(&V) -> bool>(
         &mut self,
         slot: T::Key,
         should_retain: F,
@@ -232,17 +209,6 @@ impl<T: Translator, V: Drop, M: Heads<T::Key, V>> Storage<T, V, M> {
         self.items -= taken;
         self.pruned = self.pruned.saturating_add(taken as u64);
         (had, left)
-    }
-
-    /// Asks once on each value of the key's index key, in list order, and takes out those that are answered false.
-    #[inline]
-    pub(crate) fn retain<F: FnMut(&V) -> bool>(&mut self, key: &[u8], should_retain: F)
-        requires callable { F.IsAlwaysCallable should_retain }
-        ensures kept { RetainsAt T.Key.cmp (CalledAt F.FnMut) should_retain
-            (view_of T.translated self.old) key.now (view_of T.translated self.new) }
-        ensures lawful { IsLawful T.Key.cmp self.new.content }
-    {
-        self.retain_at(self.slot_of(key), should_retain);
     }
 
     /// Puts a value in behind those of an index key, asks once on each of them, in list order, and takes out those that are answered
@@ -267,8 +233,7 @@ impl<T: Translator, V: Drop, M: Heads<T::Key, V>> Storage<T, V, M> {
         ensures fault { IfErr result (λ r. r.fault ≡ growth_fault (item_count self.old.content)) }
     {
         if self.items == usize::MAX {
-            let fault = Fault::Full;
-            return Err(Refused { value, fault });
+            return Err(Refused::full(value));
         }
         match self.chains.insert_and_retain(slot, value, should_retain) {
             Ok((had, taken, stays)) => {
@@ -278,15 +243,12 @@ impl<T: Translator, V: Drop, M: Heads<T::Key, V>> Storage<T, V, M> {
                 self.pruned = self.pruned.saturating_add(taken as u64);
                 Ok(Retained { had, left, taken })
             }
-            Err(value) => {
-                let fault = Fault::Memory;
-                Err(Refused { value, fault })
-            }
+            Err(value) => Err(Refused::memory(value)),
         }
     }
 
     /// Takes an index key out, and tells how many values it had.
-    pub(crate) fn remove_all_at(&mut self, slot: T::Key) -> usize
+    pub(crate) fn remove(&mut self, slot: T::Key) -> usize
         ensures removed { view_of T.translated self.new ≡ with_pruned
             (with_run T.Key.cmp (view_of T.translated self.old) slot [])
             (length (run_at T.Key.cmp (view_of T.translated self.old) slot)) }
@@ -297,16 +259,6 @@ impl<T: Translator, V: Drop, M: Heads<T::Key, V>> Storage<T, V, M> {
         self.items -= taken;
         self.pruned = self.pruned.saturating_add(taken as u64);
         taken
-    }
-
-    /// Takes the key's index key out.
-    #[inline]
-    pub(crate) fn remove(&mut self, key: &[u8])
-        ensures removed { view_of T.translated self.new
-            ≡ after_remove T.Key.cmp (view_of T.translated self.old) key.now }
-        ensures lawful { IsLawful T.Key.cmp self.new.content }
-    {
-        self.remove_all_at(self.slot_of(key));
     }
 
     /// Takes another translator, which leaves what is held under the index keys that it is held under.
@@ -356,17 +308,17 @@ impl<T: Translator, V: Drop, M: OrderedHeads<T::Key, V>> Storage<T, V, M> {
     }
 
     #[inline]
-    pub(crate) fn next(&self, key: &[u8]) -> Option<(Values<'_, V>, bool)>
-        ensures { result ≡ next_list T.Key.cmp self.now.content (T.translated self.now.translator key.now) }
+    pub(crate) fn next(&self, slot: T::Key) -> Option<(Values<'_, V>, bool)>
+        ensures { result ≡ next_list T.Key.cmp self.now.content slot }
     {
-        self.chains.next(self.translator.transform(key))
+        self.chains.next(slot)
     }
 
     #[inline]
-    pub(crate) fn prev(&self, key: &[u8]) -> Option<(Values<'_, V>, bool)>
-        ensures { result ≡ prev_list T.Key.cmp self.now.content (T.translated self.now.translator key.now) }
+    pub(crate) fn prev(&self, slot: T::Key) -> Option<(Values<'_, V>, bool)>
+        ensures { result ≡ prev_list T.Key.cmp self.now.content slot }
     {
-        self.chains.prev(self.translator.transform(key))
+        self.chains.prev(slot)
     }
 }
 

@@ -3,11 +3,9 @@ ghost use Rattle.std.specs.Prelude.{◌≡◌, [], true, false, refl, IsOk, IfOk
 ghost use Rattle.key_index_flat.specs.Content.{IsLawful};
 ghost use Rattle.key_index_flat.specs.Storage.{view_of};
 
+use super::implement::{Lists, Retained, show_by_place, visit_by_place};
 use super::storage::Storage;
-use super::{
-    Factory, Fault, IndexCursor, Lists, Refused, Retained, Runs, Search, Unordered, Values,
-    show_by_place, visit_by_place,
-};
+use super::{Factory, Fault, IndexCursor, Refused, Runs, Search, Unordered, Values};
 use crate::translator::Translator;
 use std::alloc::Global;
 use std::collections::HashMap;
@@ -24,6 +22,7 @@ pub struct Index<T: Translator, V> {
 }
 
 impl<T: Translator, V: Drop> Index<T, V> {
+    ghost use Rattle.key_index_flat.specs.Unordered.{view};
     ghost use Rattle.std.specs.Prelude.{◌≡◌, ◌+◌, ◌<◌, [], ◌∷◌, length, slice_get, remove, Some, IsOk, IfOk, IfErr, OnOk, OnErr};
     ghost use Rattle.std.specs.Iterator.{UpTo};
     ghost use Rattle.key_index_flat.specs.View.{growth_fault_in, items_in, run_at, with_run, with_edit, with_pruned, with_slot, Retains, InsertsAndRetains};
@@ -34,45 +33,36 @@ impl<T: Translator, V: Drop> Index<T, V> {
     /// What `reach_or_insert` does, at an index key: puts the value in where the index key has none, and tells how many values it
     /// had. It looks the index key up once.
     pub fn reach_or_insert_at(&mut self, slot: T::Key, value: V) -> Result<usize, Refused<V>>
-        ensures found { IfOk result (λ n. 0 < n
-            → ⟦<Index<T, V> as Runs>⟧.view self.new ≡ ⟦<Index<T, V> as Runs>⟧.view self.old) }
-        ensures inserted { IfOk result (λ n. n ≡ 0 → ⟦<Index<T, V> as Runs>⟧.view self.new
-            ≡ with_run T.Key.cmp (⟦<Index<T, V> as Runs>⟧.view self.old) slot (value ∷ [])) }
-        ensures refused { OnErr result
-            (⟦<Index<T, V> as Runs>⟧.view self.new ≡ ⟦<Index<T, V> as Runs>⟧.view self.old) }
-        ensures len { IfOk result (λ n. n
-            ≡ length (run_at T.Key.cmp (⟦<Index<T, V> as Runs>⟧.view self.old) slot)) }
-        ensures room { OnOk result (items_in (⟦<Index<T, V> as Runs>⟧.view self.old) < usize.MAX) }
+        ensures found { IfOk result (λ n. 0 < n → view self.new ≡ view self.old) }
+        ensures inserted { IfOk result (λ n. n ≡ 0 →
+            view self.new ≡ with_run T.Key.cmp (view self.old) slot (value ∷ [])) }
+        ensures len { IfOk result (λ n. n ≡ length (run_at T.Key.cmp (view self.old) slot)) }
+        ensures refused { OnErr result (view self.new ≡ view self.old) }
+        ensures room { OnOk result (items_in (view self.old) < usize.MAX) }
         ensures returned { IfErr result (λ r. r.value ≡ value) }
-        ensures fault { IfErr result (λ r. r.fault ≡ growth_fault_in (⟦<Index<T, V> as Runs>⟧.view self.old)) }
+        ensures fault { IfErr result (λ r. r.fault ≡ growth_fault_in (view self.old)) }
     {
-        match self.storage.insert_absent(slot, value) {
-            Ok(None) => Ok(0),
-            Ok(Some(len)) => Ok(len),
-            Err(refused) => Err(refused),
-        }
+        self.storage.insert_absent(slot, value)
     }
 
     /// What `remove_at` does. Tells how many values the index key has left, too.
     pub fn take_at(&mut self, slot: T::Key, place: usize) -> (V, usize)
-        requires { place < length (run_at T.Key.cmp (⟦<Index<T, V> as Runs>⟧.view self.old) slot) }
-        ensures value { slice_get (run_at T.Key.cmp (⟦<Index<T, V> as Runs>⟧.view self.old) slot) place
-            ≡ Some result.0 }
-        ensures edited { ⟦<Index<T, V> as Runs>⟧.view self.new ≡ with_pruned (with_edit T.Key.cmp
-            (⟦<Index<T, V> as Runs>⟧.view self.old) slot (λ l. remove l place)) 1 }
-        ensures left { result.1 + 1 ≡ length (run_at T.Key.cmp (⟦<Index<T, V> as Runs>⟧.view self.old) slot) }
+        requires { place < length (run_at T.Key.cmp (view self.old) slot) }
+        ensures value { slice_get (run_at T.Key.cmp (view self.old) slot) place ≡ Some result.0 }
+        ensures edited { view self.new
+            ≡ with_pruned (with_edit T.Key.cmp (view self.old) slot (λ l. remove l place)) 1 }
+        ensures left { result.1 + 1 ≡ length (run_at T.Key.cmp (view self.old) slot) }
     {
         self.storage.remove_at(slot, place)
     }
 
     /// What `remove` does, at an index key. Tells how many values it had.
     pub fn remove_all_at(&mut self, slot: T::Key) -> usize
-        ensures removed { ⟦<Index<T, V> as Runs>⟧.view self.new
-            ≡ with_pruned (with_run T.Key.cmp (⟦<Index<T, V> as Runs>⟧.view self.old) slot [])
-            (length (run_at T.Key.cmp (⟦<Index<T, V> as Runs>⟧.view self.old) slot)) }
-        ensures taken { result ≡ length (run_at T.Key.cmp (⟦<Index<T, V> as Runs>⟧.view self.old) slot) }
+        ensures removed { view self.new ≡ with_pruned (with_run T.Key.cmp (view self.old) slot [])
+            (length (run_at T.Key.cmp (view self.old) slot)) }
+        ensures taken { result ≡ length (run_at T.Key.cmp (view self.old) slot) }
     {
-        self.storage.remove_all_at(slot)
+        self.storage.remove(slot)
     }
 
     /// What `retain` does, at an index key. Tells how many values it had, and how many it has left.
@@ -82,12 +72,11 @@ impl<T: Translator, V: Drop> Index<T, V> {
         should_retain: F,
     ) -> (usize, usize)
         requires { F.IsAlwaysCallable should_retain }
-        ensures kept { Retains T.Key.cmp (CalledAt F.FnMut) should_retain
-            (⟦<Index<T, V> as Runs>⟧.view self.old) slot (⟦<Index<T, V> as Runs>⟧.view self.new) }
-        ensures had { result.0 ≡ length (run_at T.Key.cmp (⟦<Index<T, V> as Runs>⟧.view self.old) slot) }
-        ensures left { result.1 ≡ length (run_at T.Key.cmp (⟦<Index<T, V> as Runs>⟧.view self.new) slot) }
+        ensures kept { Retains T.Key.cmp (CalledAt F.FnMut) should_retain (view self.old) slot (view self.new) }
+        ensures had { result.0 ≡ length (run_at T.Key.cmp (view self.old) slot) }
+        ensures left { result.1 ≡ length (run_at T.Key.cmp (view self.new) slot) }
     {
-        self.storage.retain_at(slot, should_retain)
+        self.storage.retain(slot, should_retain)
     }
 
     /// What `insert_and_retain` does, at an index key. Tells what it found and left there.
@@ -99,16 +88,13 @@ impl<T: Translator, V: Drop> Index<T, V> {
     ) -> Result<Retained, Refused<V>>
         requires { F.IsAlwaysCallable should_retain }
         ensures accepted { IfOk result (λ told. InsertsAndRetains T.Key.cmp (CalledAt F.FnMut) should_retain
-            (⟦<Index<T, V> as Runs>⟧.view self.old) slot value told.taken (⟦<Index<T, V> as Runs>⟧.view self.new)) }
-        ensures had { IfOk result (λ told. told.had
-            ≡ length (run_at T.Key.cmp (⟦<Index<T, V> as Runs>⟧.view self.old) slot)) }
-        ensures left { IfOk result (λ told. told.left
-            ≡ length (run_at T.Key.cmp (⟦<Index<T, V> as Runs>⟧.view self.new) slot)) }
-        ensures refused { OnErr result
-            (⟦<Index<T, V> as Runs>⟧.view self.new ≡ ⟦<Index<T, V> as Runs>⟧.view self.old) }
-        ensures room { OnOk result (items_in (⟦<Index<T, V> as Runs>⟧.view self.old) < usize.MAX) }
+            (view self.old) slot value told.taken (view self.new)) }
+        ensures had { IfOk result (λ told. told.had ≡ length (run_at T.Key.cmp (view self.old) slot)) }
+        ensures left { IfOk result (λ told. told.left ≡ length (run_at T.Key.cmp (view self.new) slot)) }
+        ensures refused { OnErr result (view self.new ≡ view self.old) }
+        ensures room { OnOk result (items_in (view self.old) < usize.MAX) }
         ensures returned { IfErr result (λ r. r.value ≡ value) }
-        ensures fault { IfErr result (λ r. r.fault ≡ growth_fault_in (⟦<Index<T, V> as Runs>⟧.view self.old)) }
+        ensures fault { IfErr result (λ r. r.fault ≡ growth_fault_in (view self.old)) }
     {
         self.storage.insert_and_retain(slot, value, should_retain)
     }
@@ -127,7 +113,7 @@ impl<T: Translator, V: Drop> Index<T, V> {
         requires callable { F.IsAlwaysCallable visit }
         ensures made { IsOk result }
         ensures visited { (last : F) × VisitsByPlace (IsBatch B.next_gives B.Item.items keys) (VisitsAt F.FnMut) visit
-            T.Key.cmp (⟦<Index<T, V> as Runs>⟧.view self.now) last }
+            T.Key.cmp (view self.now) last }
     {
         visit_by_place(self, keys, visit);
         Ok(())
@@ -136,8 +122,7 @@ impl<T: Translator, V: Drop> Index<T, V> {
     /// Calls a closure once on each value that is held, in any order.
     pub fn for_each_value<F: FnMut(&V)>(&self, mut visit: F)
         requires { F.IsAlwaysCallable visit }
-        ensures { (last : F) × VisitsEach (CalledAt F.FnMut) visit
-            (values_of (⟦<Index<T, V> as Runs>⟧.view self.now).content) last }
+        ensures { (last : F) × VisitsEach (CalledAt F.FnMut) visit (values_of (view self.now).content) last }
     {
         self.visit_values(&mut visit);
     }
@@ -145,8 +130,7 @@ impl<T: Translator, V: Drop> Index<T, V> {
     /// What `for_each_value` does, with a closure that the caller keeps.
     pub fn visit_values<F: FnMut(&V)>(&self, visit: &mut F)
         requires { F.IsAlwaysCallable visit.old }
-        ensures visits { VisitsEach (CalledAt F.FnMut) visit.old
-            (values_of (⟦<Index<T, V> as Runs>⟧.view self.now).content) visit.new }
+        ensures visits { VisitsEach (CalledAt F.FnMut) visit.old (values_of (view self.now).content) visit.new }
         ensures callable { F.IsAlwaysCallable visit.new }
     {
         self.storage.for_each_value(visit);
@@ -154,8 +138,7 @@ impl<T: Translator, V: Drop> Index<T, V> {
 
     /// Takes another translator, which the calls by key use from then on. The values that are held stay under their index keys.
     pub fn set_translator(&mut self, translator: T)
-        ensures { ⟦<Index<T, V> as Runs>⟧.view self.new
-            ≡ with_slot (⟦<Index<T, V> as Runs>⟧.view self.old) (T.translated translator) }
+        ensures { view self.new ≡ with_slot (view self.old) (T.translated translator) }
     {
         self.storage.set_translator(translator);
     }
@@ -167,8 +150,6 @@ impl<T: Translator, V: Drop> Runs for Index<T, V> {
     type Key = T::Key;
 
     ghost view = { λ index. view_of T.translated index.storage };
-
-    ghost edited = { λ _ _. Unit {0} };
 
     ghost lawful = { λ index. index.lawful };
 
@@ -218,28 +199,23 @@ impl<T: Translator, V: Drop> Lists for Index<T, V> {
 }
 
 impl<T: Translator, V: Drop> Search for Index<T, V> {
-    ghost settled = { λ _ _ _. Unit {0} };
-
-    ghost left_by_refusal = { λ _ _ _. Unit {0} };
-
-    ghost may_refuse = { λ _ _. false };
-
-    fn reach(&mut self, key: &[u8]) -> Result<usize, Fault> {
-        Ok(self.run_len(self.slot_of(key)))
+    fn reach(&mut self, key: &[u8]) -> Result<(T::Key, usize), Fault> {
+        let slot = self.slot_of(key);
+        Ok((slot, self.run_len(slot)))
     }
 
-    fn reach_or_insert(&mut self, key: &[u8], value: V) -> Result<usize, Refused<V>> {
+    fn reach_or_insert(&mut self, key: &[u8], value: V) -> Result<(T::Key, usize), Refused<V>> {
         let slot = self.slot_of(key);
-        self.reach_or_insert_at(slot, value)
+        let len = self.reach_or_insert_at(slot, value)?;
+        Ok((slot, len))
     }
 
     fn search(&mut self, key: &[u8]) -> Result<IndexCursor<'_, Index<T, V>>, Option<Fault>> {
-        let slot = self.slot_of(key);
-        let len = self.run_len(slot);
-        if len == 0 {
-            return Err(None);
+        match self.reach(key) {
+            Ok((_, 0)) => Err(None),
+            Ok((slot, len)) => Ok(IndexCursor::with_len(self, slot, len)),
+            Err(fault) => Err(Some(fault)),
         }
-        Ok(IndexCursor::with_len(self, slot, len))
     }
 
     fn search_or_insert(
@@ -247,16 +223,20 @@ impl<T: Translator, V: Drop> Search for Index<T, V> {
         key: &[u8],
         value: V,
     ) -> Result<IndexCursor<'_, Index<T, V>>, Option<Refused<V>>> {
-        let slot = self.slot_of(key);
-        match self.reach_or_insert_at(slot, value) {
-            Ok(0) => Err(None),
-            Ok(len) => Ok(IndexCursor::with_len(self, slot, len)),
+        match self.reach_or_insert(key, value) {
+            Ok((_, 0)) => Err(None),
+            Ok((slot, len)) => Ok(IndexCursor::with_len(self, slot, len)),
             Err(refused) => Err(Some(refused)),
         }
     }
 }
 
 impl<T: Translator, V: Drop> Unordered for Index<T, V> {
+    ghost use Rattle.std.specs.Prelude.{OnOk};
+    ghost use Rattle.std.specs.Iterator.{UpTo};
+    ghost use Rattle.key_index_flat.specs.Unordered.{view};
+    ghost use Rattle.key_index_flat.specs.Visits.{IsBatch, VisitsAt, VisitsByPlace, VisitsInAnyOrder};
+
     ghost INSERT_FIRST = { true };
 
     const INSERT_FIRST: bool = true;
@@ -267,9 +247,10 @@ impl<T: Translator, V: Drop> Unordered for Index<T, V> {
 
     #[inline]
     fn get(&self, key: &[u8]) -> Values<'_, V> {
-        self.storage.get(key)
+        self.storage.list_at(self.slot_of(key))
     }
 
+    /// By place. Takes no memory, and never refuses.
     #[inline]
     fn get_many<B: Iterator + Drop, F: FnMut(usize, &V)>(
         &self,
@@ -278,6 +259,15 @@ impl<T: Translator, V: Drop> Unordered for Index<T, V> {
     ) -> Result<(), Fault>
     where
         B::Item: AsSlice<u8> + Drop,
+        requires can { B.can_next keys }
+        requires ends { UpTo (B.remaining keys) usize.MAX }
+        requires callable { F.IsAlwaysCallable visit }
+        ensures made { IsOk result }
+        ensures by_place { (last : F) × VisitsByPlace (IsBatch B.next_gives B.Item.items keys) (VisitsAt F.FnMut) visit
+            T.Key.cmp (view self.now) last }
+        ensures visited { OnOk result ((last : F) × VisitsInAnyOrder (IsBatch B.next_gives B.Item.items keys)
+            (VisitsAt F.FnMut) visit T.Key.cmp (view self.now) last) }
+        ensures fault { IfErr result (λ f. f ≡ Fault.Memory) }
     {
         show_by_place(self, keys, visit);
         Ok(())
@@ -285,12 +275,14 @@ impl<T: Translator, V: Drop> Unordered for Index<T, V> {
 
     #[inline]
     fn insert(&mut self, key: &[u8], value: V) -> Result<(), Refused<V>> {
-        self.storage.insert(key, value)
+        let slot = self.slot_of(key);
+        self.storage.insert(slot, value)
     }
 
     #[inline]
     fn retain<F: FnMut(&V) -> bool>(&mut self, key: &[u8], should_retain: F) -> Result<(), Fault> {
-        self.storage.retain(key, should_retain);
+        let slot = self.slot_of(key);
+        self.storage.retain(slot, should_retain);
         Ok(())
     }
 
@@ -301,15 +293,14 @@ impl<T: Translator, V: Drop> Unordered for Index<T, V> {
         should_retain: F,
     ) -> Result<(), Refused<V>> {
         let slot = self.slot_of(key);
-        match self.insert_and_retain_at(slot, value, should_retain) {
-            Ok(_) => Ok(()),
-            Err(refused) => Err(refused),
-        }
+        self.storage.insert_and_retain(slot, value, should_retain)?;
+        Ok(())
     }
 
     #[inline]
     fn remove(&mut self, key: &[u8]) -> Result<(), Fault> {
-        self.storage.remove(key);
+        let slot = self.slot_of(key);
+        self.storage.remove(slot);
         Ok(())
     }
 
@@ -330,6 +321,8 @@ impl<T: Translator, V: Drop> Unordered for Index<T, V> {
 }
 
 impl<T: Translator, V: Drop> Factory for Index<T, V> {
+    ghost use Rattle.key_index_flat.specs.Unordered.{view};
+
     type Translator = T;
 
     ghost slot_by = { T.translated };
@@ -339,9 +332,9 @@ impl<T: Translator, V: Drop> Factory for Index<T, V> {
     /// Takes no memory, and never refuses.
     fn new(alloc: Global, translator: T) -> Result<Index<T, V>, Fault>
         ensures made { IsOk result }
-        ensures empty { IfOk result (λ index. (⟦<Index<T, V> as Runs>⟧.view index).content ≡ []) }
-        ensures pruned { IfOk result (λ index. (⟦<Index<T, V> as Runs>⟧.view index).pruned ≡ 0) }
-        ensures slots { IfOk result (λ index. (⟦<Index<T, V> as Runs>⟧.view index).slot ≡ T.translated translator) }
+        ensures empty { IfOk result (λ index. (view index).content ≡ []) }
+        ensures pruned { IfOk result (λ index. (view index).pruned ≡ 0) }
+        ensures slots { IfOk result (λ index. (view index).slot ≡ T.translated translator) }
         ensures fault { IfErr result (λ f. f ≡ Fault.Memory) }
     {
         Ok(Index {

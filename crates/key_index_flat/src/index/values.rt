@@ -1,7 +1,8 @@
 //! The values of one key, in list order.
-ghost use Rattle.std.specs.Prelude.{◌≡◌, ◌∷◌, reverse};
+ghost use Rattle.std.specs.Prelude.{◌≡◌, ◌<◌, ◌∷◌, length, not, reverse};
 ghost use Rattle.std.specs.Fn.{CalledAt};
 ghost use Rattle.std.specs.Iterator.{YieldsFirstRef, item_count};
+ghost use Rattle.key_index_flat.specs.Content.{is_filled};
 ghost use Rattle.key_index_flat.specs.Values.{VisitsInTurn};
 
 use std::marker::Model;
@@ -15,13 +16,15 @@ pub struct Values<'a, V> {
 }
 
 impl<'a, V> Model for Values<'a, V> {
-    ghost use Rattle.std.specs.Prelude.{List, ◌++◌, reverse, if◌then◌else◌};
+    ghost use Rattle.std.specs.Prelude.{◌+◌, ◌^◌, ◌<◌, List, ◌++◌, length, reverse, if◌then◌else◌};
     ghost use Rattle.std.specs.Option.{option_to_list, option_copied};
 
     ghost Value = { List V };
 
     ghost view = { λ v. option_to_list (option_copied v.newest)
         ++ (if v.from_end then reverse v.rest.now else v.rest.now) };
+
+    ghost invariant = { λ v. length (option_to_list (option_copied v.newest)) + length v.rest.now < 2 ^ 64 };
 }
 
 impl<'a, V> Values<'a, V> {
@@ -40,6 +43,7 @@ impl<'a, V> Values<'a, V> {
     /// The newest value, and then the older ones, which stand oldest first, from their end.
     #[inline]
     pub(crate) fn newest_first(newest: &'a V, older: &'a [V]) -> Values<'a, V>
+        requires { length older.now < usize.MAX }
         ensures { result ≡ newest.now ∷ reverse older.now }
     {
         Values {
@@ -47,6 +51,25 @@ impl<'a, V> Values<'a, V> {
             rest: older,
             from_end: true,
         }
+    }
+
+    /// How many values are left. It walks none of them.
+    #[inline]
+    pub fn len(&self) -> usize
+        ensures { result ≡ length self.now }
+    {
+        match self.newest {
+            Some(_) => 1 + self.rest.len(),
+            None => self.rest.len(),
+        }
+    }
+
+    /// Whether no value is left.
+    #[inline]
+    pub fn is_empty(&self) -> bool
+        ensures { result ≡ not (is_filled self.now) }
+    {
+        self.newest.is_none() && self.rest.is_empty()
     }
 }
 
@@ -69,6 +92,19 @@ impl<'a, V> Iterator for Values<'a, V> {
         };
         self.rest = rest;
         Some(value)
+    }
+
+    #[inline]
+    fn size_hint(&self) -> (usize, Option<usize>) {
+        let len = Values::len(self);
+        (len, Some(len))
+    }
+}
+
+impl<'a, V> ExactSizeIterator for Values<'a, V> {
+    #[inline]
+    fn len(&self) -> usize {
+        Values::len(self)
     }
 }
 

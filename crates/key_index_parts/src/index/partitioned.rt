@@ -9,6 +9,7 @@ ghost use Rattle.key_index_parts.specs.Grouping.{ComparesAs};
 ghost use Rattle.key_index_parts.specs.Prefix.{prefix_number, rest_of, slot_by};
 
 mod build;
+mod counts;
 mod fill;
 mod filled;
 mod op;

@@ -65,6 +65,32 @@ fn three<I: Unordered<Value = u64>>(rt: &impl Abort, index: &mut I) {
     fill(rt, index, b"\x2d\x06\xee", &[3]);
 }
 
+/// A batch of an ordered index with partitions by one byte goes by partition, and in it by index key.
+pub(super) fn by_partition_and_key<I: Unordered<Value = u64>>(
+    rt: &impl Abort,
+    alloc: Global,
+    index: &mut I,
+) {
+    fill(rt, index, b"\x10\x02", &[2, 22]);
+    fill(rt, index, b"\x20\x01", &[5]);
+    visits(
+        rt,
+        alloc,
+        index,
+        &[b"\x20\x01", b"\x10\x02", b"\x10\x02\xff"],
+        &[(1, 2), (1, 22), (2, 2), (2, 22), (0, 5)],
+    );
+    fill(rt, index, b"\x10\x01", &[9]);
+    fill(rt, index, b"", &[7]);
+    visits(
+        rt,
+        alloc,
+        index,
+        &[b"\x20\x01", b"\x10\x02", b"\x10\x01", b""],
+        &[(3, 7), (2, 9), (1, 2), (1, 22), (0, 5)],
+    );
+}
+
 #[test]
 fn unordered_batch_goes_by_place(rt: HostRuntime) {
     let mut index: unordered::Index<OneCap, u64> = fresh(&rt, rt.alloc(), OneCap);
@@ -101,7 +127,7 @@ fn ordered_batch_goes_by_key(rt: HostRuntime) {
 }
 
 #[test]
-fn partitioned_batch_goes_by_place(rt: HostRuntime) {
+fn punordered_batch_goes_by_place(rt: HostRuntime) {
     let mut index: partitioned::unordered::Index<OneCap, u64, 1> = fresh(&rt, rt.alloc(), OneCap);
     fill(&rt, &mut index, b"\x10\x02", &[2, 22]);
     fill(&rt, &mut index, b"\x20\x01", &[5]);
@@ -112,29 +138,6 @@ fn partitioned_batch_goes_by_place(rt: HostRuntime) {
         &index,
         &[b"\x20\x01", b"\x10\x02", b"", b"\x10\x02\xff"],
         &[(0, 5), (1, 2), (1, 22), (2, 7), (3, 2), (3, 22)],
-    );
-}
-
-#[test]
-fn partitioned_ordered_batch_goes_by_partition_and_key(rt: HostRuntime) {
-    let mut index: partitioned::ordered::Index<OneCap, u64, 1> = fresh(&rt, rt.alloc(), OneCap);
-    fill(&rt, &mut index, b"\x10\x02", &[2, 22]);
-    fill(&rt, &mut index, b"\x20\x01", &[5]);
-    visits(
-        &rt,
-        rt.alloc(),
-        &index,
-        &[b"\x20\x01", b"\x10\x02", b"\x10\x02\xff"],
-        &[(1, 2), (1, 22), (2, 2), (2, 22), (0, 5)],
-    );
-    fill(&rt, &mut index, b"\x10\x01", &[9]);
-    fill(&rt, &mut index, b"", &[7]);
-    visits(
-        &rt,
-        rt.alloc(),
-        &index,
-        &[b"\x20\x01", b"\x10\x02", b"\x10\x01", b""],
-        &[(3, 7), (2, 9), (1, 2), (1, 22), (0, 5)],
     );
 }
 

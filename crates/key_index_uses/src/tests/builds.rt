@@ -1,5 +1,5 @@
 //! Indices that are built in ranges, over any index in partitions.
-ghost use Rattle.std.specs.Prelude.{◌≡◌, [], IsTrue};
+ghost use Rattle.std.specs.Prelude.{IsTrue};
 ghost use Rattle.key_index_parts.specs.Ops.{IsCuts};
 
 use super::checks::{counts, holds, push};
@@ -36,9 +36,8 @@ fn builds<I: Partitioned<Value = u64>>(
     index: &mut I,
     cuts: &[usize],
     ops: Vec<Op<u64>>,
-)
-    requires { (I.view index.old).content ≡ [] }
-{
+) {
+    assert_eq!(rt; index.keys(), 0);
     assert!(rt;
         are_cuts(cuts, index.partition_count()),
         "{cuts:?} are cuts"
@@ -54,9 +53,7 @@ fn bytes(rt: &impl Abort, alloc: Global, key: &[u8]) -> Vec<u8> {
 }
 
 /// Five ops in two ranges: two values come behind others, and a key loses both that it had.
-pub(super) fn built<I: Partitioned<Value = u64>>(rt: &impl Abort, alloc: Global, index: &mut I)
-    requires { (I.view index.old).content ≡ [] }
-{
+pub(super) fn built<I: Partitioned<Value = u64>>(rt: &impl Abort, alloc: Global, index: &mut I) {
     let mut insert = Vec::new(alloc);
     push(rt, &mut insert, Step::Next);
     push(rt, &mut insert, Step::Insert(3));
@@ -102,9 +99,8 @@ pub(super) fn newest_stand<I: Partitioned<Value = u64> + Drop>(
     rt: &impl Abort,
     alloc: Global,
     index: I,
-)
-    requires { (I.view index).content ≡ [] }
-{
+) {
+    assert_eq!(rt; index.keys(), 0);
     let cuts = [0, 1, 0x7f, 0x80, 0xff, 256];
     let mut records = Vec::new(alloc);
     push(rt, &mut records, (bytes(rt, alloc, b"\x10\x01"), 9));
@@ -170,9 +166,7 @@ pub(super) fn built_beside<I: Partitioned<Value = u64>>(
     alloc: Global,
     index: &mut I,
     kept: &mut KeptLists,
-)
-    requires { (I.view index.old).content ≡ [] }
-{
+) {
     kept.clear();
     let cuts = cuts(rt, alloc, index, &mut kept.numbers);
     let mut ops = Vec::new(alloc);

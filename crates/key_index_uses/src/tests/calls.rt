@@ -7,55 +7,91 @@ use key_index_flat::index::{CursorState, Unordered};
 use std::alloc::Global;
 use std::process::Abort;
 
-/// The list 2, 1 of an index key, read by place.
-fn read_by_place<I: Unordered<Value = u64>>(rt: &impl Abort, index: &I, slot: I::Key) {
-    assert!(rt; index.admits(slot));
-    assert_eq!(rt; index.run_len(slot), 2);
-    assert_eq!(rt; *index.value_at(slot, 0), 2);
-    assert_eq!(rt; *index.value_at(slot, 1), 1);
+/// A place of an index key's list has this value.
+fn has_at<I: Unordered<Value = u64>>(
+    rt: &impl Abort,
+    index: &I,
+    slot: I::Key,
+    place: usize,
+    value: u64,
+) {
+    assert!(rt; place < index.run_len(slot));
+    assert_eq!(rt; *index.value_at(slot, place), value);
 }
 
-/// The list 2, 1 of the index key of 0b, changed by place: 4 in the place of 1, 5 last, 6 between, and 2 taken out.
-fn change_by_place<I: Unordered<Value = u64>>(rt: &impl Abort, index: &mut I, slot: I::Key) {
-    assert_eq!(rt; index.run_len(slot), 2);
-    index.set_at(slot, 1, 4);
+/// `set_at` of a place that has a value.
+fn sets_at<I: Unordered<Value = u64>>(
+    rt: &impl Abort,
+    index: &mut I,
+    slot: I::Key,
+    place: usize,
+    value: u64,
+) {
+    assert!(rt; place < index.run_len(slot));
+    index.set_at(slot, place, value);
+}
+
+/// `insert_at` is accepted.
+fn inserts_at<I: Unordered<Value = u64>>(
+    rt: &impl Abort,
+    index: &mut I,
+    slot: I::Key,
+    place: usize,
+    value: u64,
+) {
     assert!(rt; index.admits(slot));
+    assert!(rt; place <= index.run_len(slot));
+    assert!(rt; index.insert_at(slot, place, value).is_ok());
+}
+
+/// `remove_at` gives this value.
+fn removes_at<I: Unordered<Value = u64>>(
+    rt: &impl Abort,
+    index: &mut I,
+    slot: I::Key,
+    place: usize,
+    value: u64,
+) {
+    assert!(rt; place < index.run_len(slot));
+    assert_eq!(rt; index.remove_at(slot, place), value);
+}
+
+/// The list 2, 1 of the index key of 0b, read by place, and changed so: 4 in the place of 1, 5 last, 6 between, and 2 taken out.
+fn changed_by_place<I: Unordered<Value = u64>>(rt: &impl Abort, index: &mut I, slot: I::Key) {
     assert_eq!(rt; index.run_len(slot), 2);
-    assert!(rt; index.insert_at(slot, 2, 5).is_ok());
-    assert!(rt; index.admits(slot));
-    assert_eq!(rt; index.run_len(slot), 3);
-    assert!(rt; index.insert_at(slot, 1, 6).is_ok());
-    holds(rt, index, b"\x0b", &[2, 6, 4, 5]);
+    has_at(rt, index, slot, 0, 2);
+    has_at(rt, index, slot, 1, 1);
+    sets_at(rt, index, slot, 1, 4);
+    inserts_at(rt, index, slot, 2, 5);
+    inserts_at(rt, index, slot, 1, 6);
     assert_eq!(rt; index.run_len(slot), 4);
-    assert_eq!(rt; index.remove_at(slot, 0), 2);
+    holds(rt, index, b"\x0b", &[2, 6, 4, 5]);
+    removes_at(rt, index, slot, 0, 2);
     holds(rt, index, b"\x0b", &[6, 4, 5]);
 }
 
 /// An absent index key, that of 0d, which gets a value by place and loses it so.
 fn only_by_place<I: Unordered<Value = u64>>(rt: &impl Abort, index: &mut I, slot: I::Key) {
     assert_eq!(rt; index.run_len(slot), 0);
-    assert!(rt; index.admits(slot));
-    assert!(rt; index.insert_at(slot, 0, 7).is_ok());
+    inserts_at(rt, index, slot, 0, 7);
     holds(rt, index, b"\x0d", &[7]);
     counts(rt, index, (3, 5, 1));
-    assert_eq!(rt; index.run_len(slot), 1);
-    assert_eq!(rt; index.remove_at(slot, 0), 7);
+    removes_at(rt, index, slot, 0, 7);
     counts(rt, index, (2, 4, 2));
 }
 
-/// The calls by place, and those by key that give no cursor. The slot is the index key of 0b.
+/// The calls by place, and those by key that give no cursor.
 pub(super) fn by_place_and_key<I: Unordered<Value = u64>>(
     rt: &impl Abort,
     alloc: Global,
     index: &mut I,
-    slot: I::Key,
 ) {
     counts(rt, index, (0, 0, 0));
+    assert!(rt; index.is_empty());
     fill(rt, index, b"\x0b", &[2, 1]);
     inserts(rt, index, b"\x0c", 3);
-    assert!(rt; index.slot_of(b"\x0b") == slot);
-    read_by_place(rt, index, slot);
-    change_by_place(rt, index, slot);
+    let slot = index.slot_of(b"\x0b");
+    changed_by_place(rt, index, slot);
     only_by_place(rt, index, index.slot_of(b"\x0d"));
     retains(rt, alloc, index, b"\x0b", 0b101, &[6, 4, 5]);
     holds(rt, index, b"\x0b", &[6, 5]);
@@ -65,16 +101,19 @@ pub(super) fn by_place_and_key<I: Unordered<Value = u64>>(
     holds(rt, index, b"\x0b", &[]);
     holds(rt, index, b"\x0c", &[3]);
     counts(rt, index, (1, 1, 5));
+    assert!(rt; !index.is_empty());
     retains(rt, alloc, index, b"\x0c", 0, &[3]);
     counts(rt, index, (0, 0, 6));
 }
 
-/// `reach` and `reach_or_insert` tell how many values a key had: 0b has two, and 0c none.
+/// `reach` and `reach_or_insert` tell the index key of a key and how many values it had: 0b has two, and 0c none.
 fn reached<I: Unordered<Value = u64>>(rt: &impl Abort, index: &mut I) {
-    assert!(rt; index.reach(b"\x0b") == Ok(2));
-    assert!(rt; index.reach(b"\x0c") == Ok(0));
-    assert_eq!(rt; index.reach_or_insert(b"\x0b", 8).expect(rt, "room"), 2);
-    assert_eq!(rt; index.reach_or_insert(b"\x0c", 8).expect(rt, "room"), 0);
+    let held = (index.slot_of(b"\x0b"), 2);
+    let absent = (index.slot_of(b"\x0c"), 0);
+    assert!(rt; index.reach(b"\x0b") == Ok(held));
+    assert!(rt; index.reach(b"\x0c") == Ok(absent));
+    assert!(rt; index.reach_or_insert(b"\x0b", 8).expect(rt, "room") == held);
+    assert!(rt; index.reach_or_insert(b"\x0c", 8).expect(rt, "room") == absent);
     holds(rt, index, b"\x0b", &[2, 1]);
     holds(rt, index, b"\x0c", &[8]);
 }
@@ -112,47 +151,65 @@ pub(super) fn by_cursor<I: Unordered<Value = u64>>(rt: &impl Abort, index: &mut 
     holds(rt, index, b"\x0d", &[9]);
     stands(rt, &cursor_at(rt, index, b"\x0b"), CursorState::NeedNext);
     has_no_cursor(rt, index, b"\x0e");
-    assert!(rt; gets_or_inserts(rt, index, b"\x0b", 4).is_some());
-    assert!(rt; gets_or_inserts(rt, index, b"\x0e", 4).is_none());
     holds(rt, index, b"\x0b", &[2, 1]);
-    holds(rt, index, b"\x0e", &[4]);
-    counts(rt, index, (4, 5, 0));
+    counts(rt, index, (3, 4, 0));
 }
 
-/// The list 3, 1, 2 of a key, and 4 behind it, answered by the bits of a number, the lowest first. The key then has these values, and
-/// so many were taken out.
-fn retained_with_four<I: Unordered<Value = u64>>(
+/// `get_mut_or_insert` of 8: under k, which has the list 3, 1, 2, and under j, which has none.
+pub(super) fn found_or_inserted<I: Unordered<Value = u64>>(rt: &impl Abort, index: &mut I) {
+    fill(rt, index, b"k", &[3, 1, 2]);
+    match gets_or_inserts(rt, index, b"k", 8) {
+        Some(cursor) => stands(rt, &cursor, CursorState::NeedNext),
+        None => panic!(rt; "k has values"),
+    }
+    holds(rt, index, b"k", &[3, 1, 2]);
+    counts(rt, index, (1, 3, 0));
+    assert!(rt; gets_or_inserts(rt, index, b"j", 8).is_none());
+    holds(rt, index, b"j", &[8]);
+    counts(rt, index, (2, 4, 0));
+}
+
+/// The keys 01 and 0100 have one index key. The slots are the index keys of 01 and of 1002ff.
+pub(super) fn filed_under<I: Unordered<Value = u64>>(
+    rt: &impl Abort,
+    index: &mut I,
+    slots: (I::Key, I::Key),
+) {
+    inserts(rt, index, b"\x01", 1);
+    inserts(rt, index, b"\x01\x00", 2);
+    counts(rt, index, (1, 2, 0));
+    assert!(rt; index.slot_of(b"\x01") == slots.0);
+    assert!(rt; index.slot_of(b"\x01\x00") == slots.0);
+    assert!(rt; index.slot_of(b"\x10\x02\xff") == slots.1);
+}
+
+/// How a closure answers on 3, 1, 2 and 4, by the bits of a number, the lowest first; what stays; and how many values were taken out:
+/// those of at least 2 stay, none does, each other one, all but the newest, the new one alone.
+pub(super) const RETAINED: [(u64, &[u64], u64); 5] = [
+    (0b1101, &[3, 2, 4], 1),
+    (0, &[], 3),
+    (0b0101, &[3, 2], 1),
+    (0b1110, &[1, 2, 4], 1),
+    (0b1000, &[4], 3),
+];
+
+/// `insert_and_retain` of 4 under a key that has the list 3, 1, 2, as a row of `RETAINED` says.
+pub(super) fn inserted_and_retained<I: Unordered<Value = u64>>(
     rt: &impl Abort,
     alloc: Global,
     index: &mut I,
-    key: &[u8],
     answers: u64,
     left: &[u64],
     pruned: u64,
 ) {
-    fill(rt, index, key, &[3, 1, 2]);
-    inserts_and_retains(rt, alloc, index, key, 4, answers, &[3, 1, 2, 4]);
-    holds(rt, index, key, left);
+    fill(rt, index, b"\x0b", &[3, 1, 2]);
+    inserts_and_retains(rt, alloc, index, b"\x0b", 4, answers, &[3, 1, 2, 4]);
+    holds(rt, index, b"\x0b", left);
     counts(
         rt,
         index,
         (usize::from(!left.is_empty()), left.len(), pruned),
     );
-    removes(rt, index, key);
-}
-
-/// `insert_and_retain` of a key with values: those of at least 2 stay, none does, each other one, all but the newest, the new one
-/// alone.
-pub(super) fn inserted_and_retained<I: Unordered<Value = u64>>(
-    rt: &impl Abort,
-    alloc: Global,
-    index: &mut I,
-) {
-    retained_with_four(rt, alloc, index, b"\x0b", 0b1101, &[3, 2, 4], 1);
-    retained_with_four(rt, alloc, index, b"\x0b", 0, &[], 7);
-    retained_with_four(rt, alloc, index, b"\x0b", 0b0101, &[3, 2], 8);
-    retained_with_four(rt, alloc, index, b"\x0b", 0b1110, &[1, 2, 4], 11);
-    retained_with_four(rt, alloc, index, b"\x0b", 0b1000, &[4], 17);
 }
 
 /// `insert_and_retain` puts its value behind the held ones, in each index; of an absent key it asks on the new value alone.

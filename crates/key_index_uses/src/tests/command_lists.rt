@@ -90,23 +90,6 @@ fn retain(list: &mut Vec<u64>, limit: u64) -> u64 {
     before.saturating_sub(list.len()) as u64
 }
 
-/// The command is done, or the edit came to these flags.
-fn came_to(outcome: &Outcome, wanted: &Option<Vec<bool>>) -> bool {
-    match (outcome, wanted) {
-        (Outcome::Done, None) => true,
-        (Outcome::Edited(flags), Some(others)) => flags.iter().copied().eq(others.iter().copied()),
-        _ => false,
-    }
-}
-
-/// The commands came to what is wanted.
-fn came_to_all(rt: &impl Abort, outcomes: &[Outcome], wanted: &[Option<Vec<bool>>]) {
-    assert_eq!(rt; outcomes.len(), wanted.len());
-    for (outcome, other) in outcomes.iter().zip(wanted.iter()) {
-        assert!(rt; came_to(outcome, other), "{outcome:?} and {other:?}");
-    }
-}
-
 /// Runs a list of up to eight commands of all six kinds, does the same to the lists, and compares the outcomes.
 fn run_list<I: Unordered<Value = u64>>(
     rt: &impl Abort,
@@ -123,7 +106,7 @@ fn run_list<I: Unordered<Value = u64>>(
             panic!(rt; "each key has a list")
         };
         let limit = number / 64 % 5;
-        let mut flags = None;
+        let mut outcome = Outcome::Done;
         let mut taken = 0;
         let test = move |value: &u64| is_kept(*value, limit);
         let command = match number / 512 % 12 {
@@ -144,7 +127,7 @@ fn run_list<I: Unordered<Value = u64>>(
             3 | 4 | 5 | 6 => {
                 let mut steps = Vec::new(alloc);
                 let (given, out) = edit(rt, alloc, list, &mut kept.numbers, &mut steps);
-                flags = Some(given);
+                outcome = Outcome::Edited(given);
                 taken = out;
                 Command::Edit(key, steps)
             }
@@ -161,11 +144,11 @@ fn run_list<I: Unordered<Value = u64>>(
             }
         };
         kept.pruned = kept.pruned.saturating_add(taken);
-        push(rt, &mut wanted, flags);
+        push(rt, &mut wanted, outcome);
         push(rt, &mut commands, command);
     }
     let outcomes = runs(rt, alloc, index, commands);
-    came_to_all(rt, outcomes.as_slice(), wanted.as_slice());
+    assert_eq!(rt; outcomes.as_slice(), wanted.as_slice());
 }
 
 /// An index has the list of each key that occurs, and the counts of all.

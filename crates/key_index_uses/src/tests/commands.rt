@@ -13,20 +13,12 @@ fn key(rt: &impl Abort, alloc: Global, byte: u8) -> Vec<u8> {
     key
 }
 
-/// Whether a command was done.
-fn is_done(outcome: Option<&Outcome>) -> bool {
-    match outcome {
-        Some(Outcome::Done) => true,
-        _ => false,
-    }
-}
-
-/// Whether an edit came to these flags.
-fn has_flags(outcome: Option<&Outcome>, flags: &[bool]) -> bool {
-    match outcome {
-        Some(Outcome::Edited(given)) => given.iter().copied().eq(flags.iter().copied()),
-        _ => false,
-    }
+/// An edit that came to these flags.
+fn edited_to<const N: usize>(rt: &impl Abort, alloc: Global, flags: [bool; N]) -> Outcome {
+    let Ok(flags) = Vec::from_array(alloc, flags) else {
+        panic!(rt; "there is memory for {N} flags")
+    };
+    Outcome::Edited(flags)
 }
 
 /// An edit of the list of a byte, behind the commands of a list.
@@ -64,7 +56,7 @@ fn edits<I: Unordered<Value = u64>, const N: usize>(
     alloc: Global,
     index: &mut I,
     steps: [Step<u64>; N],
-    flags: &[bool],
+    flags: [bool; N],
 )
     requires { N ≤ 8 }
 {
@@ -76,7 +68,7 @@ fn edits<I: Unordered<Value = u64>, const N: usize>(
         Command::Retain(key(rt, alloc, b'j'), |_value: &u64| false),
     );
     let outcomes = runs(rt, alloc, index, commands);
-    assert!(rt; has_flags(outcomes.get(0), flags));
+    assert_eq!(rt; outcomes.get(0), Some(&edited_to(rt, alloc, flags)));
 }
 
 /// The list 3, 1, 2: next 3, delete, next 1, insert 9, next 2, next none, insert 7.
@@ -91,13 +83,7 @@ pub(super) fn edited<I: Unordered<Value = u64>>(rt: &impl Abort, alloc: Global, 
         Step::Next,
         Step::Insert(7),
     ];
-    edits(
-        rt,
-        alloc,
-        index,
-        steps,
-        &[true, true, true, true, true, true, true],
-    );
+    edits(rt, alloc, index, steps, [true; 7]);
     holds(rt, index, b"k", &[1, 9, 2, 7]);
     counts(rt, index, (1, 4, 1));
 }
@@ -112,20 +98,22 @@ pub(super) fn emptied<I: Unordered<Value = u64>>(rt: &impl Abort, alloc: Global,
         Step::Next,
         Step::Insert(6),
     ];
-    edits(rt, alloc, index, steps, &[true, true, false, true, true]);
+    edits(rt, alloc, index, steps, [true, true, false, true, true]);
     holds(rt, index, b"k", &[6]);
     counts(rt, index, (1, 1, 1));
 }
 
 /// What the commands of `each_command` came to.
-fn each_outcome(rt: &impl Abort, outcomes: &[Outcome]) {
-    assert_eq!(rt; outcomes.len(), 6);
-    assert!(rt; is_done(outcomes.get(0)));
-    assert!(rt; is_done(outcomes.get(1)));
-    assert!(rt; has_flags(outcomes.get(2), &[false, true, true, true]));
-    assert!(rt; is_done(outcomes.get(3)));
-    assert!(rt; is_done(outcomes.get(4)));
-    assert!(rt; has_flags(outcomes.get(5), &[false]));
+fn each_outcome(rt: &impl Abort, alloc: Global, outcomes: &[Outcome]) {
+    let wanted = [
+        Outcome::Done,
+        Outcome::Done,
+        edited_to(rt, alloc, [false, true, true, true]),
+        Outcome::Done,
+        Outcome::Done,
+        edited_to(rt, alloc, [false]),
+    ];
+    assert_eq!(rt; outcomes, wanted.as_slice());
 }
 
 /// The first commands of `each_command`.
@@ -162,7 +150,7 @@ pub(super) fn each_command<I: Unordered<Value = u64>>(
     );
     push_edit(rt, alloc, &mut commands, b'j', [Step::Next]);
     let outcomes = runs(rt, alloc, index, commands);
-    each_outcome(rt, outcomes.as_slice());
+    each_outcome(rt, alloc, outcomes.as_slice());
     holds(rt, index, b"k", &[8]);
     counts(rt, index, (1, 1, 2));
 }
@@ -181,9 +169,10 @@ pub(super) fn inserted_and_retained<I: Unordered<Value = u64>>(
         Command::InsertAndRetain(key(rt, alloc, b'k'), 2, |value: &u64| *value < 3),
     );
     let outcomes = runs(rt, alloc, index, commands);
-    assert_eq!(rt; outcomes.len(), 2);
-    assert!(rt; is_done(outcomes.get(0)));
-    assert!(rt; is_done(outcomes.get(1)));
+    assert_eq!(rt;
+        outcomes.as_slice(),
+        [Outcome::Done, Outcome::Done].as_slice()
+    );
     holds(rt, index, b"k", &[1, 2]);
     counts(rt, index, (1, 2, 0));
 }

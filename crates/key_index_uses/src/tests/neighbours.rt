@@ -96,13 +96,30 @@ pub(super) fn has_none<I: Ordered<Value = u64>>(rt: &impl Abort, index: &I, key:
     assert!(rt; index.last_translated_key().is_none());
 }
 
-/// No key, and then one, with the values 2 and 1.
+/// No key, and then one, with the value 1 and with the values 2 and 1.
 pub(super) fn of_one<I: Ordered<Value = u64>>(rt: &impl Abort, index: &mut I) {
     has_none(rt, index, b"\x0b");
+    inserts(rt, index, b"\x0b", 1);
+    next_has(rt, index, b"\x0b", &[1], true);
+    prev_has(rt, index, b"\x0b", &[1], true);
+    removes(rt, index, b"\x0b");
     fill(rt, index, b"\x0b", &[2, 1]);
     next_has(rt, index, b"\x0b", &[2, 1], true);
     prev_has(rt, index, b"\x0b", &[2, 1], true);
     next_has(rt, index, b"\x0a", &[2, 1], false);
     prev_has(rt, index, b"\x0c", &[2, 1], false);
     ends_have(rt, index, &[2, 1], &[2, 1]);
+}
+
+/// Two keys with many partitions between them, the neighbours from there and round the ends, and once one or both are taken out.
+pub(super) fn across_gaps<I: Ordered<Value = u64>>(rt: &impl Abort, index: &mut I) {
+    inserts(rt, index, b"\x05\x01", 1);
+    inserts(rt, index, b"\xf0\x02", 2);
+    next_has(rt, index, b"\x80\x00", &[2], false);
+    prev_has(rt, index, b"\x80\x00", &[1], false);
+    prev_has(rt, index, b"\x05\x01", &[2], true);
+    removes(rt, index, b"\x05\x01");
+    prev_has(rt, index, b"\x80\x00", &[2], true);
+    removes(rt, index, b"\xf0\x02");
+    has_none(rt, index, b"\x80\x00");
 }

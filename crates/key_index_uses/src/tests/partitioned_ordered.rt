@@ -1,23 +1,10 @@
-//! The partitioned ordered index: which partition a key is in, the order of values, and neighbours across empty partitions.
+//! What the partitioned ordered index alone has: how much a partition holds, and neighbours across sixteen million partitions.
 ghost use Rattle.std.specs.Prelude.{◌≡◌};
 
 use super::checks::{counts, fill, fresh, holds, inserts, removes};
-use super::neighbours::{has_none, next_has, prev_has};
-use key_index_flat::index::Runs;
-use key_index_flat::translator::{EightCap, OneCap, TwoCap};
+use super::neighbours::{next_has, prev_has};
+use key_index_flat::translator::{OneCap, TwoCap};
 use key_index_parts::index::partitioned::ordered;
-
-#[test]
-fn ordered_index_keys_are_pairs(rt: HostRuntime) {
-    let mut two: ordered::Index<EightCap, u64, 2> = fresh(&rt, rt.alloc(), EightCap);
-    inserts(&rt, &mut two, b"\x01", 1);
-    inserts(&rt, &mut two, b"\x01\x00", 2);
-    assert_eq!(&rt; two.slot_of(b"\x01"), (0x0100, 0));
-    assert_eq!(&rt; two.slot_of(b"\x01\x00"), (0x0100, 0));
-    counts(&rt, &two, (1, 2, 0));
-    let one: ordered::Index<OneCap, u64, 1> = fresh(&rt, rt.alloc(), OneCap);
-    assert_eq!(&rt; one.slot_of(b"\x10\x02\xff"), (0x10, 0x02));
-}
 
 #[test]
 fn values_go_behind(rt: HostRuntime) {
@@ -30,20 +17,6 @@ fn values_go_behind(rt: HostRuntime) {
     removes(&rt, &mut index, b"\x10\x02");
     assert_eq!(&rt; index.inline_len(0x10), 1);
     counts(&rt, &index, (1, 1, 3));
-}
-
-#[test]
-fn neighbours_stand_across_gaps(rt: HostRuntime) {
-    let mut index: ordered::Index<OneCap, u64, 1> = fresh(&rt, rt.alloc(), OneCap);
-    inserts(&rt, &mut index, b"\x05\x01", 1);
-    inserts(&rt, &mut index, b"\xf0\x02", 2);
-    next_has(&rt, &index, b"\x80\x00", &[2], false);
-    prev_has(&rt, &index, b"\x80\x00", &[1], false);
-    prev_has(&rt, &index, b"\x05\x01", &[2], true);
-    removes(&rt, &mut index, b"\x05\x01");
-    prev_has(&rt, &index, b"\x80\x00", &[2], true);
-    removes(&rt, &mut index, b"\xf0\x02");
-    has_none(&rt, &index, b"\x80\x00");
 }
 
 #[test]

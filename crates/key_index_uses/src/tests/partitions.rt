@@ -1,10 +1,7 @@
-//! The partitions of keys, and the index keys that they make.
+//! The partitions of keys.
 ghost use Rattle.std.specs.Prelude.{◌≤◌};
 
-use super::checks::{counts, fresh, inserts};
-use key_index_flat::index::Runs;
-use key_index_flat::translator::{EightCap, OneCap};
-use key_index_parts::index::partitioned::{partition_index_and_sub_key, unordered};
+use key_index_parts::index::partitioned::partition_index_and_sub_key;
 use std::process::Abort;
 
 /// The partition of a key by `P` bytes is this, with this rest.
@@ -21,6 +18,7 @@ fn splits<const P: usize>(rt: &impl Abort, key: &[u8], number: usize, rest: &[u8
 fn keys_are_split(rt: HostRuntime) {
     splits::<1>(&rt, b"", 0, b"");
     splits::<1>(&rt, b"\x00\x00\x01", 0, b"\x00\x01");
+    splits::<1>(&rt, b"\x10\x02\xff", 0x10, b"\x02\xff");
     splits::<2>(&rt, b"\x01", 0x0100, b"");
     splits::<2>(&rt, b"\x00\xff\x01", 0x00ff, b"\x01");
     splits::<2>(&rt, b"\x01\xff\x02", 0x01ff, b"\x02");
@@ -53,16 +51,4 @@ fn partitions_never_fall(rt: HostRuntime) {
         last = number;
     }
     assert_eq!(&rt; last, 0xffff);
-}
-
-#[test]
-fn index_keys_are_pairs(rt: HostRuntime) {
-    let mut two: unordered::Index<EightCap, u64, 2> = fresh(&rt, rt.alloc(), EightCap);
-    inserts(&rt, &mut two, b"\x01", 1);
-    inserts(&rt, &mut two, b"\x01\x00", 2);
-    assert_eq!(&rt; two.slot_of(b"\x01"), (0x0100, 0));
-    assert_eq!(&rt; two.slot_of(b"\x01\x00"), (0x0100, 0));
-    counts(&rt, &two, (1, 2, 0));
-    let one: unordered::Index<OneCap, u64, 1> = fresh(&rt, rt.alloc(), OneCap);
-    assert_eq!(&rt; one.slot_of(b"\x10\x02\xff"), (0x10, 0x02));
 }

@@ -1,13 +1,13 @@
 //! What each translator makes of keys, and the hashes of translated keys.
 ghost use Rattle.std.specs.Prelude.{ℕ, List};
 
-use super::checks::{fresh, holds, inserts};
-use key_index_flat::index::{Factory, Unordered, unordered};
+use super::checks::{counts, fresh, holds, inserts};
+use key_index_flat::index::{Factory, Runs, Unordered, unordered};
 use key_index_flat::translator::{
     Cap, EightCap, FourCap, Hashed, KeyHash, OneCap, SeededSha256, Translator, TwoCap,
     UintIdentity, UnhashedArray,
 };
-use key_index_parts::index::partitioned;
+use key_index_parts::index::partitioned::{self, partition_index_and_sub_key};
 use std::alloc::Global;
 use std::process::Abort;
 
@@ -73,6 +73,9 @@ fn caps_of_integers(rt: HostRuntime) {
     gives(&rt, &TwoCap, b"abc", 0x6162);
     assert!(&rt; translated(&TwoCap, b"z") < translated(&TwoCap, b"zz"));
     gives(&rt, &TwoCap, b"zzabc", translated(&TwoCap, b"zz"));
+    gives(&rt, &TwoCap, b"\x10\x02\xff", 0x1002);
+    let (_, rest) = partition_index_and_sub_key::<1>(b"\x10\x02\xff");
+    gives(&rt, &TwoCap, rest, 0x02ff);
     gives(&rt, &FourCap, b"abcd", 0x6162_6364);
     gives(&rt, &FourCap, b"abcdef", 0x6162_6364);
     gives(&rt, &EightCap, b"a", 0x6100_0000_0000_0000);
@@ -201,4 +204,27 @@ fn hashed_indices(rt: HostRuntime) {
         rt.alloc(),
         translator,
     );
+}
+
+/// A seed by which the example's key has another hash.
+const OTHER: u64 = 0x6867_6665_6463_6261;
+
+/// Values stay under their index keys when an index takes another translator, and the calls by key then go by that one.
+#[test]
+fn another_translator_is_set(rt: HostRuntime) {
+    let first: Hashed<TwoCap, SeededSha256> = Hashed::from_seed(ABCDBCDE, TwoCap);
+    let mut index = fresh::<unordered::Index<Hashed<TwoCap, SeededSha256>, u64>>(
+        &rt,
+        rt.alloc(),
+        first,
+    );
+    inserts(&rt, &mut index, KEY, 1);
+    index.set_translator(Hashed::from_seed(OTHER, TwoCap));
+    holds(&rt, &index, KEY, &[]);
+    inserts(&rt, &mut index, KEY, 2);
+    holds(&rt, &index, KEY, &[2]);
+    assert_eq!(&rt; index.slot_of(KEY), 0x4e7b);
+    assert_eq!(&rt; index.run_len(0x248d), 1);
+    assert_eq!(&rt; *index.value_at(0x248d, 0), 1);
+    counts(&rt, &index, (2, 2, 0));
 }

@@ -14,7 +14,7 @@ ghost use Rattle.key_index_flat.specs.Values.{values_of, VisitsEach};
 
 use super::heads::{Heads, OrderedHeads};
 use super::older::{
-    insert_older, older_of, pop_older, remove_older, retain_older, set_older, take_older,
+    Older, insert_older, older_of, pop_older, remove_older, retain_older, set_older, take_older,
 };
 use crate::index::Values;
 use crate::index::values::visit_in_turn;
@@ -29,7 +29,7 @@ use std::marker::Model;
 #[derive(Drop)]
 pub(crate) struct Chains<T: Translator, V, M: Heads<T::Key, V>> {
     heads: M,
-    older: HashMap<T::Key, Vec<V>>,
+    older: Older<T::Key, V>,
     alloc: Global,
 }
 
@@ -49,7 +49,7 @@ impl<T: Translator, V: Drop, M: Heads<T::Key, V>> Chains<T, V, M> {
     {
         Chains {
             heads,
-            older: HashMap::new(alloc),
+            older: None,
             alloc,
         }
     }
@@ -114,20 +114,20 @@ impl<T: Translator, V: Drop, M: Heads<T::Key, V>> Chains<T, V, M> {
         }
     }
 
-    /// Puts a value under an index key that has none, and answers how many values the index key has otherwise. The one look-up that
-    /// finds no key also makes its place.
+    /// Puts a value under an index key that has none, and tells how many values the index key had. The one look-up that finds no key
+    /// also makes its place.
     #[inline]
-    pub(super) fn insert_absent(&mut self, slot: T::Key, value: V) -> Result<Option<usize>, V>
-        ensures accepted { IfOk result (λ found. let old = list_at T.Key.cmp self.old slot in MatchOption found
-            ((old ≡ []) × (self.new ≡ with_list T.Key.cmp self.old slot (value ∷ [])))
-            (λ len. (len ≡ length old) × (0 < len) × (self.new ≡ self.old))) }
+    pub(super) fn insert_absent(&mut self, slot: T::Key, value: V) -> Result<usize, V>
+        ensures found { IfOk result (λ n. 0 < n → self.new ≡ self.old) }
+        ensures inserted { IfOk result (λ n. n ≡ 0 → self.new ≡ with_list T.Key.cmp self.old slot (value ∷ [])) }
+        ensures len { IfOk result (λ n. n ≡ length (list_at T.Key.cmp self.old slot)) }
         ensures refused { OnErr result (self.new ≡ self.old) }
         ensures returned { IfErr result (λ back. back ≡ value) }
     {
         if self.heads.insert_absent(slot, value)? {
-            return Ok(None);
+            return Ok(0);
         }
-        Ok(Some(1 + older_of(&self.older, slot).len()))
+        Ok(1 + older_of(&self.older, slot).len())
     }
 
     /// Takes an index key out, and tells how many values it had.
@@ -257,7 +257,7 @@ impl<T: Translator, V: Drop, M: Heads<T::Key, V>> Chains<T, V, M> {
 /// The values of a key with its newest value.
 #[inline]
 fn values_of<'a, K: Ord + Hash + Copy, V>(
-    older: &'a HashMap<K, Vec<V>>,
+    older: &'a Older<K, V>,
     head: Option<(&'a K, &'a V)>,
 ) -> Option<Values<'a, V>>
     ensures { result ≡ option_map (λ e. e.1 ∷ reverse (older_at K.eq older.now e.0))
@@ -314,7 +314,7 @@ impl<T: Translator, V: Drop, M: OrderedHeads<T::Key, V>> Chains<T, V, M> {
 /// Calls a closure once on each value, those of an index key one after another.
 fn visit_all<K: Ord + Hash + Copy, V, F: FnMut(&V)>(
     heads: &HashMap<K, V>,
-    older: &HashMap<K, Vec<V>>,
+    older: &Older<K, V>,
     visit: &mut F,
 )
     requires callable { F.IsAlwaysCallable visit.old }

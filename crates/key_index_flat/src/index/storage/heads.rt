@@ -12,7 +12,7 @@ ghost use Rattle.key_index_flat.specs.Neighbours.{first_entry, last_entry, entri
 ghost use Rattle.key_index_flat.specs.Retention.{AsksInTurn};
 ghost use Rattle.key_index_flat.specs.Storage.{held_at, list_of, older_at, value_of, SameBut, Sets};
 
-use super::older::insert_and_retain_both;
+use super::older::{Older, insert_and_retain_both};
 use std::alloc::Global;
 use std::collections::hash_map::Entry;
 use std::collections::{BTreeMap, HashMap, btree_map};
@@ -61,7 +61,7 @@ pub(crate) trait Heads<K: Ord + Hash + Copy, V> {
     fn insert_and_retain<F: FnMut(&V) -> bool>(
         &mut self,
         alloc: Global,
-        older: &mut HashMap<K, Vec<V>>,
+        older: &mut Older<K, V>,
         key: K,
         value: V,
         should_retain: F,
@@ -127,7 +127,7 @@ impl<K: Ord + Hash + Copy, V> Heads<K, V> for HashMap<K, V> {
     fn insert_and_retain<F: FnMut(&V) -> bool>(
         &mut self,
         alloc: Global,
-        older: &mut HashMap<K, Vec<V>>,
+        older: &mut Older<K, V>,
         key: K,
         value: V,
         should_retain: F,
@@ -179,7 +179,7 @@ fn put_absent<K: Ord + Hash + Copy, V: Drop>(
 fn put_and_retain<K: Ord + Hash + Copy, V: Drop, F: FnMut(&V) -> bool>(
     alloc: Global,
     map: &mut HashMap<K, V>,
-    older: &mut HashMap<K, Vec<V>>,
+    older: &mut Older<K, V>,
     key: K,
     value: V,
     mut should_retain: F,
@@ -277,7 +277,7 @@ impl<K: Ord + Hash + Copy, V> Heads<K, V> for BTreeMap<K, V> {
     fn insert_and_retain<F: FnMut(&V) -> bool>(
         &mut self,
         alloc: Global,
-        older: &mut HashMap<K, Vec<V>>,
+        older: &mut Older<K, V>,
         key: K,
         value: V,
         should_retain: F,
@@ -299,7 +299,7 @@ impl<K: Ord + Hash + Copy, V> Heads<K, V> for BTreeMap<K, V> {
 fn put_and_retain_in_order<K: Ord + Hash + Copy, V: Drop, F: FnMut(&V) -> bool>(
     alloc: Global,
     map: &mut BTreeMap<K, V>,
-    older: &mut HashMap<K, Vec<V>>,
+    older: &mut Older<K, V>,
     key: K,
     value: V,
     mut should_retain: F,

@@ -4,21 +4,25 @@ ghost use Rattle.std.specs.Fn.{CalledAt};
 ghost use Rattle.std.specs.List.Retain.{IsFiltered};
 ghost use Rattle.std.specs.Option.{option_map, option_to_list};
 ghost use Rattle.key_index_flat.specs.Retention.{AsksInTurn};
-ghost use Rattle.key_index_flat.specs.Storage.{list_of, older_at, SameBut};
+ghost use Rattle.key_index_flat.specs.Storage.{at_key, list_of, older_at, SameBut};
 
-use crate::index::retain_in_turn;
+use crate::index::implement::retain_in_turn;
 use std::alloc::Global;
 use std::collections::HashMap;
 use std::collections::hash_map::Entry;
 use std::hash::Hash;
 use std::mem::replace;
 
-/// The older values of a key, the oldest first.
+/// The older values of the keys that have any, the oldest first. The map comes with its first value, and stays.
+pub(super) type Older<K, V> = Option<Box<HashMap<K, Vec<V>>>>;
+
+/// The values of a key in a map, the oldest first.
 #[inline(never)]
-fn older_in<K: Ord + Hash + Copy, V>(older: &HashMap<K, Vec<V>>, key: K) -> &[V]
-    ensures { result.now ≡ older_at K.eq older.now key }
+fn values_in<K: Ord + Hash + Copy, V>(map: &HashMap<K, Vec<V>>, key: K) -> &[V]
+    ensures values { result.now ≡ at_key K.eq map.now key }
+    ensures small { length result.now < usize.MAX }
 {
-    match older.get(&key) {
+    match map.get(&key) {
         Some(values) => values.as_slice(),
         None => &[],
     }
@@ -26,33 +30,38 @@ fn older_in<K: Ord + Hash + Copy, V>(older: &HashMap<K, Vec<V>>, key: K) -> &[V]
 
 /// The older values of a key, the oldest first. Where no key has any, it looks nothing up.
 #[inline]
-pub(super) fn older_of<K: Ord + Hash + Copy, V>(older: &HashMap<K, Vec<V>>, key: K) -> &[V]
-    ensures { result.now ≡ older_at K.eq older.now key }
+pub(super) fn older_of<K: Ord + Hash + Copy, V>(older: &Older<K, V>, key: K) -> &[V]
+    ensures values { result.now ≡ older_at K.eq older.now key }
+    ensures small { length result.now < usize.MAX }
 {
-    if older.is_empty() {
-        return &[];
+    match older {
+        Some(map) => {
+            if map.is_empty() {
+                return &[];
+            }
+            values_in(map, key)
+        }
+        None => &[],
     }
-    older_in(older, key)
 }
 
-/// Puts a value in among the older values of a key, where 1 is the place in front of the newest of them. A refusal hands it back
-/// and changes none of them.
-pub(super) fn insert_older<K: Ord + Hash + Copy, V: Drop>(
+/// `insert_older` in a map.
+fn insert_in<K: Ord + Hash + Copy, V: Drop>(
     alloc: Global,
-    older: &mut HashMap<K, Vec<V>>,
+    map: &mut HashMap<K, Vec<V>>,
     key: K,
     place: usize,
     value: V,
 ) -> Result<(), V>
     requires first { 0 < place }
-    requires within { place ≤ length (older_at K.eq older.old key) + 1 }
-    ensures at { OnOk result (let old = older_at K.eq older.old key in
-        older_at K.eq older.new key ≡ insert old (length old + 1 - place) value) }
-    ensures others { SameBut K.cmp (older_at K.eq older.old) (older_at K.eq older.new) key }
-    ensures refused { OnErr result (older_at K.eq older.new key ≡ older_at K.eq older.old key) }
+    requires within { place ≤ length (at_key K.eq map.old key) + 1 }
+    ensures at { OnOk result (let old = at_key K.eq map.old key in
+        at_key K.eq map.new key ≡ insert old (length old + 1 - place) value) }
+    ensures others { SameBut K.cmp (at_key K.eq map.old) (at_key K.eq map.new) key }
+    ensures refused { OnErr result (at_key K.eq map.new key ≡ at_key K.eq map.old key) }
     ensures returned { IfErr result (λ back. back ≡ value) }
 {
-    match older.entry(key) {
+    match map.entry(key) {
         Err(_) => Err(value),
         Ok(Entry::Occupied(entry)) => {
             let values = entry.into_mut();
@@ -78,20 +87,45 @@ pub(super) fn insert_older<K: Ord + Hash + Copy, V: Drop>(
     }
 }
 
-/// Takes the older values of a key out, and tells how many there were.
-pub(super) fn take_older<K: Ord + Hash + Copy, V: Drop>(
-    older: &mut HashMap<K, Vec<V>>,
+/// Puts a value in among the older values of a key, where 1 is the place in front of the newest of them. A refusal hands it back
+/// and changes none of them.
+pub(super) fn insert_older<K: Ord + Hash + Copy, V: Drop>(
+    alloc: Global,
+    older: &mut Older<K, V>,
     key: K,
-) -> usize
+    place: usize,
+    value: V,
+) -> Result<(), V>
+    requires first { 0 < place }
+    requires within { place ≤ length (older_at K.eq older.old key) + 1 }
+    ensures at { OnOk result (let old = older_at K.eq older.old key in
+        older_at K.eq older.new key ≡ insert old (length old + 1 - place) value) }
+    ensures others { SameBut K.cmp (older_at K.eq older.old) (older_at K.eq older.new) key }
+    ensures refused { OnErr result (older_at K.eq older.new key ≡ older_at K.eq older.old key) }
+    ensures returned { IfErr result (λ back. back ≡ value) }
+{
+    if let Some(map) = older {
+        return insert_in(alloc, map, key, place, value);
+    }
+    let Ok(mut map) = Box::new(alloc, HashMap::new(alloc)) else {
+        return Err(value);
+    };
+    insert_in(alloc, &mut map, key, place, value)?;
+    *older = Some(map);
+    Ok(())
+}
+
+/// Takes the older values of a key out, and tells how many there were.
+pub(super) fn take_older<K: Ord + Hash + Copy, V: Drop>(older: &mut Older<K, V>, key: K) -> usize
     ensures taken { result ≡ length (older_at K.eq older.old key) }
     ensures fits { result < usize.MAX }
     ensures at { older_at K.eq older.new key ≡ [] }
     ensures others { SameBut K.cmp (older_at K.eq older.old) (older_at K.eq older.new) key }
 {
-    if older.is_empty() {
+    let Some(map) = older else {
         return 0;
-    }
-    match older.remove(&key) {
+    };
+    match map.remove(&key) {
         Some(values) => values.len(),
         None => 0,
     }
@@ -99,7 +133,7 @@ pub(super) fn take_older<K: Ord + Hash + Copy, V: Drop>(
 
 /// Puts another value in the place of an older value of a key, where 1 is the newest of them, and answers the one that stood there.
 pub(super) fn set_older<K: Ord + Hash + Copy, V>(
-    older: &mut HashMap<K, Vec<V>>,
+    older: &mut Older<K, V>,
     key: K,
     place: usize,
     value: V,
@@ -110,14 +144,15 @@ pub(super) fn set_older<K: Ord + Hash + Copy, V>(
         older_at K.eq older.new key ≡ slice_set old (length old - place) value }
     ensures others { SameBut K.cmp (older_at K.eq older.old) (older_at K.eq older.new) key }
 {
-    let values = older.get_mut(&key).unwrap();
+    let Some(map) = older else { unreachable!() };
+    let values = map.get_mut(&key).unwrap();
     let index = values.len() - place;
     replace(&mut values[index], value)
 }
 
 /// Takes an older value of a key out, where 1 is the newest of them, and with the last one the key. Tells how many are left.
 pub(super) fn remove_older<K: Ord + Hash + Copy, V: Drop>(
-    older: &mut HashMap<K, Vec<V>>,
+    older: &mut Older<K, V>,
     key: K,
     place: usize,
 ) -> (V, usize)
@@ -130,19 +165,20 @@ pub(super) fn remove_older<K: Ord + Hash + Copy, V: Drop>(
     ensures fits { result.1 < usize.MAX }
     ensures others { SameBut K.cmp (older_at K.eq older.old) (older_at K.eq older.new) key }
 {
-    let values = older.get_mut(&key).unwrap();
+    let Some(map) = older else { unreachable!() };
+    let values = map.get_mut(&key).unwrap();
     let index = values.len() - place;
     let value = values.remove(index);
     let left = values.len();
     if left == 0 {
-        older.remove(&key);
+        map.remove(&key);
     }
     (value, left)
 }
 
 /// Takes the newest of the older values of a key out, if there is one, and with the last one the key. Tells how many are left.
 pub(super) fn pop_older<K: Ord + Hash + Copy, V: Drop>(
-    older: &mut HashMap<K, Vec<V>>,
+    older: &mut Older<K, V>,
     key: K,
 ) -> Option<(V, usize)>
     ensures at { older_at K.eq older.old key
@@ -152,14 +188,14 @@ pub(super) fn pop_older<K: Ord + Hash + Copy, V: Drop>(
     ensures fits { IfSome result (λ popped. popped.1 < usize.MAX) }
     ensures others { SameBut K.cmp (older_at K.eq older.old) (older_at K.eq older.new) key }
 {
-    if older.is_empty() {
+    let Some(map) = older else {
         return None;
-    }
-    let values = older.get_mut(&key)?;
+    };
+    let values = map.get_mut(&key)?;
     let value = values.pop()?;
     let left = values.len();
     if left == 0 {
-        older.remove(&key);
+        map.remove(&key);
     }
     Some((value, left))
 }
@@ -167,7 +203,7 @@ pub(super) fn pop_older<K: Ord + Hash + Copy, V: Drop>(
 /// Asks once on each of the older values of a key, the newest first, takes out those that are answered false, and tells how many the
 /// key had, and how many it has left.
 pub(super) fn retain_older<K: Ord + Hash + Copy, V: Drop, F: FnMut(&V) -> bool>(
-    older: &mut HashMap<K, Vec<V>>,
+    older: &mut Older<K, V>,
     key: K,
     should_retain: F,
 ) -> (usize, usize)
@@ -180,10 +216,10 @@ pub(super) fn retain_older<K: Ord + Hash + Copy, V: Drop, F: FnMut(&V) -> bool>(
     ensures fewer { result.1 ≤ result.0 }
     ensures others { SameBut K.cmp (older_at K.eq older.old) (older_at K.eq older.new) key }
 {
-    if older.is_empty() {
+    let Some(map) = older else {
         return (0, 0);
-    }
-    let Some(values) = older.get_mut(&key) else {
+    };
+    let Some(values) = map.get_mut(&key) else {
         return (0, 0);
     };
     let had = values.len();
@@ -192,7 +228,7 @@ pub(super) fn retain_older<K: Ord + Hash + Copy, V: Drop, F: FnMut(&V) -> bool>(
     values.reverse();
     let left = values.len();
     if left == 0 {
-        older.remove(&key);
+        map.remove(&key);
     }
     (had, left)
 }
@@ -256,12 +292,10 @@ fn retain_both<V: Drop, F: FnMut(&V) -> bool>(
     }
 }
 
-/// Puts a value in behind the newest value of a key and its older ones, which takes all the memory that the call may need, asks once
-/// on each of them, in list order, takes out those that are answered false, and moves the first of the others to the newest one's
-/// place. Tells how many were held. A refusal hands the value back and changes nothing.
-pub(super) fn insert_and_retain_both<K: Ord + Hash + Copy, V: Drop, F: FnMut(&V) -> bool>(
+/// `insert_and_retain_both` in a map.
+fn insert_and_retain_in<K: Ord + Hash + Copy, V: Drop, F: FnMut(&V) -> bool>(
     alloc: Global,
-    older: &mut HashMap<K, Vec<V>>,
+    map: &mut HashMap<K, Vec<V>>,
     key: K,
     newest: &mut V,
     value: V,
@@ -269,18 +303,18 @@ pub(super) fn insert_and_retain_both<K: Ord + Hash + Copy, V: Drop, F: FnMut(&V)
 ) -> Result<(usize, Turn), V>
     requires { F.IsAlwaysCallable should_retain }
     ensures asked { IfOk result (λ told. AsksInTurn (CalledAt F.FnMut) should_retain true
-        (list_of (Some newest.old) (older_at K.eq older.old key) ++ value ∷ [])
-        (list_of (if told.1.left then Some newest.new else None) (older_at K.eq older.new key)) told.1.stays) }
-    ensures had { IfOk result (λ told. told.0 ≡ 1 + length (older_at K.eq older.old key)) }
+        (list_of (Some newest.old) (at_key K.eq map.old key) ++ value ∷ [])
+        (list_of (if told.1.left then Some newest.new else None) (at_key K.eq map.new key)) told.1.stays) }
+    ensures had { IfOk result (λ told. told.0 ≡ 1 + length (at_key K.eq map.old key)) }
     ensures gone { IfOk result (λ told. told.0 + 1 ≡ told.1.gone
-        + length (list_of (if told.1.left then Some newest.new else None) (older_at K.eq older.new key))) }
-    ensures emptied { IfOk result (λ told. told.1.left ≡ false → older_at K.eq older.new key ≡ []) }
-    ensures others { SameBut K.cmp (older_at K.eq older.old) (older_at K.eq older.new) key }
-    ensures refused { OnErr result (older_at K.eq older.new key ≡ older_at K.eq older.old key) }
+        + length (list_of (if told.1.left then Some newest.new else None) (at_key K.eq map.new key))) }
+    ensures emptied { IfOk result (λ told. told.1.left ≡ false → at_key K.eq map.new key ≡ []) }
+    ensures others { SameBut K.cmp (at_key K.eq map.old) (at_key K.eq map.new) key }
+    ensures refused { OnErr result (at_key K.eq map.new key ≡ at_key K.eq map.old key) }
     ensures same { OnErr result (newest.new ≡ newest.old) }
     ensures returned { IfErr result (λ back. back ≡ value) }
 {
-    match older.entry(key) {
+    match map.entry(key) {
         Err(_) => Err(value),
         Ok(Entry::Occupied(mut entry)) => {
             let values = entry.get_mut();
@@ -310,4 +344,39 @@ pub(super) fn insert_and_retain_both<K: Ord + Hash + Copy, V: Drop, F: FnMut(&V)
             Ok((1, turn))
         }
     }
+}
+
+/// Puts a value in behind the newest value of a key and its older ones, which takes all the memory that the call may need, asks once
+/// on each of them, in list order, takes out those that are answered false, and moves the first of the others to the newest one's
+/// place. Tells how many were held. A refusal hands the value back and changes nothing.
+pub(super) fn insert_and_retain_both<K: Ord + Hash + Copy, V: Drop, F: FnMut(&V) -> bool>(
+    alloc: Global,
+    older: &mut Older<K, V>,
+    key: K,
+    newest: &mut V,
+    value: V,
+    should_retain: F,
+) -> Result<(usize, Turn), V>
+    requires { F.IsAlwaysCallable should_retain }
+    ensures asked { IfOk result (λ told. AsksInTurn (CalledAt F.FnMut) should_retain true
+        (list_of (Some newest.old) (older_at K.eq older.old key) ++ value ∷ [])
+        (list_of (if told.1.left then Some newest.new else None) (older_at K.eq older.new key)) told.1.stays) }
+    ensures had { IfOk result (λ told. told.0 ≡ 1 + length (older_at K.eq older.old key)) }
+    ensures gone { IfOk result (λ told. told.0 + 1 ≡ told.1.gone
+        + length (list_of (if told.1.left then Some newest.new else None) (older_at K.eq older.new key))) }
+    ensures emptied { IfOk result (λ told. told.1.left ≡ false → older_at K.eq older.new key ≡ []) }
+    ensures others { SameBut K.cmp (older_at K.eq older.old) (older_at K.eq older.new) key }
+    ensures refused { OnErr result (older_at K.eq older.new key ≡ older_at K.eq older.old key) }
+    ensures same { OnErr result (newest.new ≡ newest.old) }
+    ensures returned { IfErr result (λ back. back ≡ value) }
+{
+    if let Some(map) = older {
+        return insert_and_retain_in(alloc, map, key, newest, value, should_retain);
+    }
+    let Ok(mut map) = Box::new(alloc, HashMap::new(alloc)) else {
+        return Err(value);
+    };
+    let told = insert_and_retain_in(alloc, &mut map, key, newest, value, should_retain)?;
+    *older = Some(map);
+    Ok(told)
 }

@@ -7,7 +7,7 @@ ghost use Rattle.key_index_flat.specs.View.{View, growth_fault_in, items_in, run
 use crate::index::Refused;
 
 /// A map from index keys to lists of values, read and changed place by place. Its `view` is what contracts see of it, and `edited`
-/// what else one edit leaves.
+/// what else one edit leaves, which is nothing unless an index says otherwise.
 pub trait Runs {
     type Value;
 
@@ -15,7 +15,7 @@ pub trait Runs {
 
     ghost view: { Self → View Self.Key Self.Value };
 
-    ghost edited: { Self → Self → Type 0 };
+    ghost edited: { Self → Self → Type 0 } = { λ _ _. Unit {0} };
 
     /// The index key of a key.
     fn slot_of(&self, key: &[u8]) -> Self::Key

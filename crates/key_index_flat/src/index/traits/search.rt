@@ -1,7 +1,7 @@
 //! The search for a cursor: what each index does itself, and the two calls by key that are made of it.
-ghost use Rattle.std.specs.Prelude.{◌≡◌, ◌↔◌, ◌<◌, length, IfErr, IfOk, OnOk, OnErr, IsSome, Bool};
+ghost use Rattle.std.specs.Prelude.{◌≡◌, ◌↔◌, ◌<◌, false, IfErr, IfOk, OnOk, OnErr, IsSome, Bool};
 ghost use Rattle.std.specs.Borrow.{sem, RestsIfErr};
-ghost use Rattle.key_index_flat.specs.View.{items_in, run_of, growth_fault_in, Admits, InsertsBut, IsHeld, IsWantAt, StaysBut};
+ghost use Rattle.key_index_flat.specs.View.{items_in, growth_fault_in, Admits, InsertsBut, IsHeld, IsWantAt, Reaches, StaysBut};
 ghost use Rattle.key_index_flat.specs.IndexCursor.{cursor_index, cursor_name, StartsAt};
 ghost use Rattle.key_index_flat.specs.Lent.{nested, OnFound, NoneOrErr, RestsUnlessFound};
 
@@ -21,40 +21,40 @@ pub(crate) fn nest<I: Runs, F>(
     }
 }
 
-/// An index whose lists are found by key and changed by a cursor. An index writes the two searches, and has `get_mut` and
-/// `get_mut_or_insert` by them.
+/// An index whose lists are found by key and changed by a cursor. An index writes `reach`, `reach_or_insert` and, by them, the two
+/// searches, and has `get_mut` and `get_mut_or_insert` by these.
 ///
 /// What a call by key leaves beside content and counts is said by three members: `settled` by an accepted call (the index before,
 /// the index key, the index after), `left_by_refusal` by a refused one, and `may_refuse` tells where a call that inserts nothing
-/// may want memory at all.
+/// may want memory at all. An index that leaves nothing else and never refuses such a call says none of them.
 pub trait Search: Runs {
-    ghost settled: { Self → Self.Key → Self → Type 0 };
+    ghost settled: { Self → Self.Key → Self → Type 0 } = { λ _ _ _. Unit {0} };
 
-    ghost left_by_refusal: { Self → Self.Key → Self → Type 0 };
+    ghost left_by_refusal: { Self → Self.Key → Self → Type 0 } = { λ _ _ _. Unit {0} };
 
-    ghost may_refuse: { Self → Self.Key → Bool };
+    ghost may_refuse: { Self → Self.Key → Bool } = { λ _ _. false };
 
-    /// Does what `get_mut` does before it gives a cursor, and tells how many values the key has.
-    fn reach(&mut self, key: &[u8]) -> Result<usize, Fault>
+    /// Does what `get_mut` does before it gives a cursor, and tells the index key of the key with how many values that has.
+    fn reach(&mut self, key: &[u8]) -> Result<(Self::Key, usize), Fault>
         requires admits { Admits (Self.view self.old) key.now }
         ensures settled { OnOk result (StaysBut Self.view settled self.old key.now self.new) }
         ensures refused { OnErr result (StaysBut Self.view left_by_refusal self.old key.now self.new) }
-        ensures len { IfOk result (λ n. n ≡ length (run_of Self.Key.cmp (Self.view self.old) key.now)) }
+        ensures reached { IfOk result (Reaches Self.Key.cmp (Self.view self.old) key.now) }
         ensures want { IfErr result (IsWantAt Self.view may_refuse self.old key.now) };
 
-    /// Does what `get_mut_or_insert` does before it gives a cursor, and tells how many values the key had: none where it inserted
-    /// the value.
+    /// Does what `get_mut_or_insert` does before it gives a cursor, and tells the index key of the key with how many values that
+    /// had: none where it inserted the value.
     fn reach_or_insert(
         &mut self,
         key: &[u8],
         value: Self::Value,
-    ) -> Result<usize, Refused<Self::Value>>
+    ) -> Result<(Self::Key, usize), Refused<Self::Value>>
         requires admits { Admits (Self.view self.old) key.now }
-        ensures found { IfOk result (λ n. 0 < n → StaysBut Self.view settled self.old key.now self.new) }
-        ensures inserted { IfOk result (λ n. n ≡ 0 →
+        ensures found { IfOk result (λ told. 0 < told.1 → StaysBut Self.view settled self.old key.now self.new) }
+        ensures inserted { IfOk result (λ told. told.1 ≡ 0 →
             InsertsBut Self.Key.cmp Self.view settled self.old key.now value self.new) }
         ensures refused { OnErr result (StaysBut Self.view left_by_refusal self.old key.now self.new) }
-        ensures len { IfOk result (λ n. n ≡ length (run_of Self.Key.cmp (Self.view self.old) key.now)) }
+        ensures reached { IfOk result (Reaches Self.Key.cmp (Self.view self.old) key.now) }
         ensures room { OnOk result (items_in (Self.view self.old) < usize.MAX) }
         ensures returned { IfErr result (λ e. e.value ≡ value) }
         ensures fault { IfErr result (λ e. e.fault ≡ growth_fault_in (Self.view self.old)) };

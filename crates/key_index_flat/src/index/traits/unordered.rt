@@ -1,5 +1,5 @@
 //! What the indices have in common: generic code is proved over these traits, by the content of an index alone.
-ghost use Rattle.std.specs.Prelude.{◌≡◌, ℕ, ◌-◌, ◌<◌, List, [], Bool, All, IfErr, OnOk, OnErr, IfOk};
+ghost use Rattle.std.specs.Prelude.{◌≡◌, ◌↔◌, IsTrue, ℕ, ◌-◌, ◌<◌, List, [], Bool, All, IfErr, OnOk, OnErr, IfOk};
 ghost use Rattle.std.specs.Fn.{CalledAt};
 ghost use Rattle.std.specs.Iterator.{UpTo};
 ghost use Rattle.key_index_flat.specs.Content.{key_count};
@@ -94,6 +94,13 @@ pub trait Unordered: Search {
     /// How many index keys are held.
     fn keys(&self) -> usize
         ensures { result ≡ key_count (Self.view self.now).content };
+
+    /// Whether no value is held.
+    final fn is_empty(&self) -> bool
+        ensures { IsTrue result ↔ ((Self.view self.now).content ≡ []) }
+    {
+        self.keys() == 0
+    }
 
     /// How many values are held, those of all index keys together.
     fn items(&self) -> usize

@@ -55,16 +55,12 @@ fn make_ranges<I: Partitioned>(
         AreFilled I.Key.cmp I.Range.view (I.view index.now).slot I.partition [] cuts.now ranges.items) }
     ensures fault { IfErr result (λ f. f ≡ Fault.Memory) }
 {
-    let Ok(mut ranges) = Vec::with_capacity(alloc, cuts.len() - 1) else {
-        return Err(Fault::Memory);
-    };
+    let mut ranges = Vec::with_capacity(alloc, cuts.len() - 1)?;
     let mut at = 1;
     'cuts: while at < cuts.len() {
         let start = cuts[at - 1];
         let range = index.new_range(start, cuts[at] - start)?;
-        if ranges.push(range).is_err() {
-            return Err(Fault::Memory);
-        }
+        ranges.push(range)?;
         at += 1;
     }
     Ok(ranges)

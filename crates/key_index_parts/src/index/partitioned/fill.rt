@@ -18,10 +18,8 @@ where
     ensures filled { OnOk result (Fills (Step.Insert value) cursor.old cursor.new) }
     ensures fault { IfErr result (λ f. f ≡ growth_fault_in (R.view (cursor_index cursor.old).now)) }
 {
-    match cursor.insert(value) {
-        Ok(()) => Ok(()),
-        Err(refused) => Err(refused.fault),
-    }
+    cursor.insert(value)?;
+    Ok(())
 }
 
 /// One step of an edit. A step that the cursor's state does not allow is skipped.
@@ -110,11 +108,10 @@ where
     ensures refused { IfErr result (λ f. IsFillFault f
         (λ n. edited_by R.Key.cmp (take n steps.items) ((R.view range.old).slot key.now) (R.view range.old))) }
 {
-    let len = range.reach(key)?;
+    let (slot, len) = range.reach(key)?;
     if len == 0 {
         return Ok(());
     }
-    let slot = range.slot_of(key);
     fill_list(range, slot, len, steps)
 }
 
@@ -127,10 +124,8 @@ where
         ≡ with_edit R.Key.cmp (R.view range.old) ((R.view range.old).slot key.now) (one_if_absent value)) }
     ensures fault { IfErr result (λ f. f ≡ growth_fault_in (R.view range.old)) }
 {
-    match range.reach_or_insert(key, value) {
-        Ok(_) => Ok(()),
-        Err(refused) => Err(refused.fault),
-    }
+    range.reach_or_insert(key, value)?;
+    Ok(())
 }
 
 /// One op, at a key whose partition the range covers.

@@ -1,7 +1,7 @@
 //! The partitioned ordered index.
 ghost use Rattle.std.specs.Prelude.{◌≡◌, ◌<◌, ◌≤◌, false, length, IfErr};
 ghost use Rattle.key_index_flat.specs.Content.{IsLawful, item_count};
-ghost use Rattle.key_index_parts.specs.Family.{view_of};
+ghost use Rattle.key_index_parts.specs.Family.{IsIndex, view_of};
 ghost use Rattle.key_index_parts.specs.Gathered.{gathered, pair_cmp, entries_of};
 ghost use Rattle.key_index_parts.specs.Prefix.{partition_count, partition_by, slot_by};
 
@@ -12,9 +12,9 @@ use super::range::Range;
 use super::storage::Storage;
 use super::{PartitionRange, Partitioned, partition_index_and_sub_key};
 use arrays::Arrays;
+use key_index_flat::index::implement::{Lists, show_by_key, visit_by_key};
 use key_index_flat::index::{
-    Factory, Fault, IndexCursor, Lists, Ordered, Refused, Runs, Search, Unordered, Values,
-    show_by_key, visit_by_key,
+    Factory, Fault, IndexCursor, Ordered, Refused, Runs, Search, Unordered, Values,
 };
 use key_index_flat::translator::{OrderedTranslator, Translator};
 use std::alloc::Global;
@@ -29,21 +29,19 @@ use std::convert::AsSlice;
 #[derive(Drop)]
 pub struct Index<T: Translator, V: Drop, const P: usize> {
     storage: Storage<T, V, Arrays<T, V>, P>,
-    ghost least: { 1 ≤ P },
-    ghost greatest: { P ≤ 3 },
-    ghost lawful: { IsLawful (pair_cmp T.Key.cmp) (gathered storage.parts) },
-    ghost whole: { length storage.parts ≡ partition_count P },
+    ghost is_index: { IsIndex T.Key.cmp P storage.parts },
 }
 
 impl<T: Translator, V: Drop, const P: usize> Index<T, V, P> {
     ghost use Rattle.std.specs.Prelude.{◌≡◌, ◌<◌, IfErr, OnOk};
     ghost use Rattle.std.specs.Iterator.{UpTo};
     ghost use Rattle.key_index_flat.specs.Visits.{IsBatch, VisitsAt, VisitsByKey};
+    ghost use Rattle.key_index_parts.specs.Ordered.{view};
 
     /// How many values stand in the arrays of a partition.
     pub fn inline_len(&self, partition: usize) -> usize
         requires { partition < partition_count P }
-        ensures { result ≡ item_count (entries_of (⟦<Index<T, V, P> as Runs>⟧.view self.now).content partition) }
+        ensures { result ≡ item_count (entries_of (view self.now).content partition) }
     {
         self.storage.part(partition).len()
     }
@@ -62,11 +60,13 @@ impl<T: Translator, V: Drop, const P: usize> Index<T, V, P> {
         requires ends { UpTo (B.remaining keys) usize.MAX }
         requires callable { F.IsAlwaysCallable visit }
         ensures visited { OnOk result ((last : F) × VisitsByKey (IsBatch B.next_gives B.Item.items keys)
-            (VisitsAt F.FnMut) visit (pair_cmp T.Key.cmp) (⟦<Index<T, V, P> as Runs>⟧.view self.now) last) }
+            (VisitsAt F.FnMut) visit (pair_cmp T.Key.cmp) (view self.now) last) }
         ensures fault { IfErr result (λ f. f ≡ Fault.Memory) }
     {
-        visit_by_key(self.storage.alloc(), self, keys, visit)?;
-        Ok(())
+        match visit_by_key(self.storage.alloc(), self, keys, visit) {
+            Ok(_) => Ok(()),
+            Err((_, fault)) => Err(fault),
+        }
     }
 }
 
@@ -76,13 +76,12 @@ pub type RangeIndex<T, V, const P: usize> = Range<T, V, Arrays<T, V>, P>;
 impl<T: Translator, V: Drop, const P: usize> RangeIndex<T, V, P> {
     ghost use Rattle.std.specs.Prelude.{◌≡◌, ◌+◌, IsTrue};
     ghost use Rattle.key_index_parts.specs.Joined.{is_between};
+    ghost use Rattle.key_index_parts.specs.Range.{range_view, range_offset, range_count};
 
     /// How many values stand in the arrays of a partition that the range covers.
     pub fn inline_len(&self, partition: usize) -> usize
-        requires { IsTrue (is_between (⟦<RangeIndex<T, V, P> as PartitionRange>⟧.offset self.now)
-            (⟦<RangeIndex<T, V, P> as PartitionRange>⟧.offset self.now
-            + ⟦<RangeIndex<T, V, P> as PartitionRange>⟧.count self.now) partition) }
-        ensures { result ≡ item_count (entries_of (⟦<RangeIndex<T, V, P> as Runs>⟧.view self.now).content partition) }
+        requires { IsTrue (is_between (range_offset self.now) (range_offset self.now + range_count self.now) partition) }
+        ensures { result ≡ item_count (entries_of (range_view self.now).content partition) }
     {
         self.storage.part(partition - self.offset).len()
     }
@@ -98,9 +97,7 @@ impl<T: Translator, V: Drop, const P: usize> Runs for Index<T, V, P> {
 
     ghost view = { λ index. view_of P T.translated index.storage };
 
-    ghost edited = { λ _ _. Unit {0} };
-
-    ghost lawful = { λ index. index.lawful };
+    ghost lawful = { λ index. index.is_index.lawful };
 
     ghost exact = { exact_pairs nat_cmp T.Key.cmp exact_unsigned T.exact };
 
@@ -153,28 +150,27 @@ impl<T: Translator, V: Drop, const P: usize> Lists for Index<T, V, P> {
 }
 
 impl<T: Translator, V: Drop, const P: usize> Search for Index<T, V, P> {
-    ghost settled = { λ _ _ _. Unit {0} };
-
-    ghost left_by_refusal = { λ _ _ _. Unit {0} };
-
-    ghost may_refuse = { λ _ _. false };
-
-    fn reach(&mut self, key: &[u8]) -> Result<usize, Fault> {
-        Ok(self.run_len(self.slot_of(key)))
+    fn reach(&mut self, key: &[u8]) -> Result<((usize, T::Key), usize), Fault> {
+        let slot = self.slot_of(key);
+        Ok((slot, self.run_len(slot)))
     }
 
-    fn reach_or_insert(&mut self, key: &[u8], value: V) -> Result<usize, Refused<V>> {
+    fn reach_or_insert(
+        &mut self,
+        key: &[u8],
+        value: V,
+    ) -> Result<((usize, T::Key), usize), Refused<V>> {
         let slot = self.slot_of(key);
-        self.storage.insert_absent(slot, value)
+        let len = self.storage.insert_absent(slot, value)?;
+        Ok((slot, len))
     }
 
     fn search(&mut self, key: &[u8]) -> Result<IndexCursor<'_, Index<T, V, P>>, Option<Fault>> {
-        let slot = self.slot_of(key);
-        let len = self.run_len(slot);
-        if len == 0 {
-            return Err(None);
+        match self.reach(key) {
+            Ok((_, 0)) => Err(None),
+            Ok((slot, len)) => Ok(IndexCursor::with_len(self, slot, len)),
+            Err(fault) => Err(Some(fault)),
         }
-        Ok(IndexCursor::with_len(self, slot, len))
     }
 
     fn search_or_insert(
@@ -182,16 +178,19 @@ impl<T: Translator, V: Drop, const P: usize> Search for Index<T, V, P> {
         key: &[u8],
         value: V,
     ) -> Result<IndexCursor<'_, Index<T, V, P>>, Option<Refused<V>>> {
-        let slot = self.slot_of(key);
-        match self.storage.insert_absent(slot, value) {
-            Ok(0) => Err(None),
-            Ok(len) => Ok(IndexCursor::with_len(self, slot, len)),
+        match self.reach_or_insert(key, value) {
+            Ok((_, 0)) => Err(None),
+            Ok((slot, len)) => Ok(IndexCursor::with_len(self, slot, len)),
             Err(refused) => Err(Some(refused)),
         }
     }
 }
 
 impl<T: Translator, V: Drop, const P: usize> Unordered for Index<T, V, P> {
+    ghost use Rattle.std.specs.Prelude.{◌≡◌, IfErr, OnOk};
+    ghost use Rattle.std.specs.Iterator.{UpTo};
+    ghost use Rattle.key_index_flat.specs.Visits.{IsBatch, VisitsAt, VisitsByKey, VisitsInAnyOrder};
+    ghost use Rattle.key_index_parts.specs.Ordered.{view};
     ghost use Rattle.key_index_parts.specs.PrefixLaws.{prefix_reaches};
 
     ghost INSERT_FIRST = { false };
@@ -204,9 +203,10 @@ impl<T: Translator, V: Drop, const P: usize> Unordered for Index<T, V, P> {
 
     #[inline]
     fn get(&self, key: &[u8]) -> Values<'_, V> {
-        self.storage.get(key)
+        self.storage.get(self.storage.slot_of(key))
     }
 
+    /// Visits by index key and then by place, and takes memory for the places first.
     #[inline]
     fn get_many<B: Iterator + Drop, F: FnMut(usize, &V)>(
         &self,
@@ -215,13 +215,22 @@ impl<T: Translator, V: Drop, const P: usize> Unordered for Index<T, V, P> {
     ) -> Result<(), Fault>
     where
         B::Item: AsSlice<u8> + Drop,
+        requires can { B.can_next keys }
+        requires ends { UpTo (B.remaining keys) usize.MAX }
+        requires callable { F.IsAlwaysCallable visit }
+        ensures by_key { OnOk result ((last : F) × VisitsByKey (IsBatch B.next_gives B.Item.items keys)
+            (VisitsAt F.FnMut) visit (pair_cmp T.Key.cmp) (view self.now) last) }
+        ensures visited { OnOk result ((last : F) × VisitsInAnyOrder (IsBatch B.next_gives B.Item.items keys)
+            (VisitsAt F.FnMut) visit (pair_cmp T.Key.cmp) (view self.now) last) }
+        ensures fault { IfErr result (λ f. f ≡ Fault.Memory) }
     {
         show_by_key(self.storage.alloc(), self, keys, visit)
     }
 
     #[inline]
     fn insert(&mut self, key: &[u8], value: V) -> Result<(), Refused<V>> {
-        self.storage.insert(key, value)
+        let slot = self.storage.slot_of(key);
+        self.storage.insert(slot, value)
     }
 
     #[inline]
@@ -231,18 +240,21 @@ impl<T: Translator, V: Drop, const P: usize> Unordered for Index<T, V, P> {
         value: V,
         should_retain: F,
     ) -> Result<(), Refused<V>> {
-        self.storage.insert_and_retain(key, value, should_retain)
+        let slot = self.storage.slot_of(key);
+        self.storage.insert_and_retain(slot, value, should_retain)
     }
 
     #[inline]
     fn retain<F: FnMut(&V) -> bool>(&mut self, key: &[u8], should_retain: F) -> Result<(), Fault> {
-        self.storage.retain(key, should_retain);
+        let slot = self.storage.slot_of(key);
+        self.storage.retain(slot, should_retain);
         Ok(())
     }
 
     #[inline]
     fn remove(&mut self, key: &[u8]) -> Result<(), Fault> {
-        self.storage.remove(key);
+        let slot = self.storage.slot_of(key);
+        self.storage.remove(slot);
         Ok(())
     }
 
@@ -270,12 +282,12 @@ impl<T: OrderedTranslator, V: Drop, const P: usize> Ordered for Index<T, V, P> {
 
     #[inline]
     fn prev_translated_key(&self, key: &[u8]) -> Option<(Values<'_, V>, bool)> {
-        self.storage.prev(key)
+        self.storage.prev(self.storage.slot_of(key))
     }
 
     #[inline]
     fn next_translated_key(&self, key: &[u8]) -> Option<(Values<'_, V>, bool)> {
-        self.storage.next(key)
+        self.storage.next(self.storage.slot_of(key))
     }
 
     #[inline]
@@ -317,7 +329,7 @@ impl<T: Translator, V: Drop, const P: usize> Partitioned for Index<T, V, P> {
 
     ghost prefix = { partition_by P };
 
-    ghost files = { λ index b _. partition_by-made P b index.least index.greatest };
+    ghost files = { λ index b _. partition_by-made P b index.is_index.least index.is_index.greatest };
 
     ghost within = { λ b h. partition_by-below P b h };
 

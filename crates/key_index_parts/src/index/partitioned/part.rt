@@ -8,7 +8,8 @@ ghost use Rattle.key_index_flat.specs.View.{put_value};
 ghost use Rattle.key_index_flat.specs.Values.{VisitsEach, values_of};
 ghost use Rattle.key_index_parts.specs.Family.{RetainsWith};
 
-use key_index_flat::index::{Retained, Values};
+use key_index_flat::index::Values;
+use key_index_flat::index::implement::Retained;
 use key_index_flat::translator::Translator;
 use std::alloc::Global;
 

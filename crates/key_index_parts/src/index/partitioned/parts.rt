@@ -13,7 +13,8 @@ ghost use Rattle.key_index_parts.specs.Prefix.{partition_count};
 
 use super::filled::Filled;
 use super::part::{Held, OrderedPart, Part};
-use key_index_flat::index::{Fault, Retained, Values};
+use key_index_flat::index::implement::Retained;
+use key_index_flat::index::{Fault, Values};
 use key_index_flat::translator::Translator;
 use std::alloc::Global;
 use std::marker::{Model, PhantomData};

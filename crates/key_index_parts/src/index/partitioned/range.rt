@@ -2,7 +2,7 @@
 ghost use Rattle.std.specs.Prelude.{◌≡◌, ◌+◌, ◌<◌, ◌≤◌, [], ◌∷◌, false, length, IsTrue, IfOk, IfErr, OnOk, OnErr};
 ghost use Rattle.key_index_flat.specs.Content.{IsLawful};
 ghost use Rattle.key_index_flat.specs.View.{growth_fault_in, items_in, run_at, with_run};
-ghost use Rattle.key_index_parts.specs.Family.{range_view};
+ghost use Rattle.key_index_parts.specs.Family.{IsRange, view_from};
 ghost use Rattle.key_index_parts.specs.Gathered.{gathered, pair_cmp};
 ghost use Rattle.key_index_parts.specs.Joined.{IsSpanKept, is_between};
 ghost use Rattle.key_index_parts.specs.Prefix.{partition_count};
@@ -20,13 +20,12 @@ use key_index_flat::translator::Translator;
 pub struct Range<T: Translator, V: Drop, X: Held<T, V> + Drop, const P: usize> {
     pub(super) offset: usize,
     pub(super) storage: Storage<T, V, X, P>,
-    ghost least: { 1 ≤ P },
-    ghost greatest: { P ≤ 3 },
-    ghost lawful: { IsLawful (pair_cmp T.Key.cmp) (gathered storage.parts) },
-    ghost within: { offset + length storage.parts ≤ partition_count P },
+    ghost is_range: { IsRange T.Key.cmp P offset storage.parts },
 }
 
 impl<T: Translator, V: Drop, X: Part<T, V> + Drop, const P: usize> Range<T, V, X, P> {
+    ghost use Rattle.key_index_parts.specs.Range.{range_view, range_offset, range_count};
+
     /// Whether the range covers a partition.
     #[inline]
     fn covers(&self, partition: usize) -> bool
@@ -46,20 +45,16 @@ impl<T: Translator, V: Drop, X: Part<T, V> + Drop, const P: usize> Range<T, V, X
 
     /// Puts a value under an index key that has none, and tells how many values the index key had.
     fn insert_absent(&mut self, slot: (usize, T::Key), value: V) -> Result<usize, Refused<V>>
-        requires { IsTrue ((⟦<Range<T, V, X, P> as Runs>⟧.view self.old).admitted slot) }
-        ensures found { IfOk result (λ n. 0 < n
-            → ⟦<Range<T, V, X, P> as Runs>⟧.view self.new ≡ ⟦<Range<T, V, X, P> as Runs>⟧.view self.old) }
-        ensures inserted { IfOk result (λ n. n ≡ 0 → ⟦<Range<T, V, X, P> as Runs>⟧.view self.new
-            ≡ with_run (pair_cmp T.Key.cmp) (⟦<Range<T, V, X, P> as Runs>⟧.view self.old) slot (value ∷ [])) }
-        ensures refused { OnErr result
-            (⟦<Range<T, V, X, P> as Runs>⟧.view self.new ≡ ⟦<Range<T, V, X, P> as Runs>⟧.view self.old) }
-        ensures span { ⟦<Range<T, V, X, P> as Runs>⟧.edited self.old self.new }
-        ensures len { IfOk result (λ n. n
-            ≡ length (run_at (pair_cmp T.Key.cmp) (⟦<Range<T, V, X, P> as Runs>⟧.view self.old) slot)) }
-        ensures room { OnOk result (items_in (⟦<Range<T, V, X, P> as Runs>⟧.view self.old) < usize.MAX) }
+        requires { IsTrue ((range_view self.old).admitted slot) }
+        ensures found { IfOk result (λ n. 0 < n → range_view self.new ≡ range_view self.old) }
+        ensures inserted { IfOk result (λ n. n ≡ 0 →
+            range_view self.new ≡ with_run (pair_cmp T.Key.cmp) (range_view self.old) slot (value ∷ [])) }
+        ensures refused { OnErr result (range_view self.new ≡ range_view self.old) }
+        ensures span { IsSpanKept range_offset range_count self.old self.new }
+        ensures len { IfOk result (λ n. n ≡ length (run_at (pair_cmp T.Key.cmp) (range_view self.old) slot)) }
+        ensures room { OnOk result (items_in (range_view self.old) < usize.MAX) }
         ensures returned { IfErr result (λ r. r.value ≡ value) }
-        ensures fault { IfErr result (λ r. r.fault
-            ≡ growth_fault_in (⟦<Range<T, V, X, P> as Runs>⟧.view self.old)) }
+        ensures fault { IfErr result (λ r. r.fault ≡ growth_fault_in (range_view self.old)) }
     {
         let own = self.own(slot);
         self.storage.insert_absent(own, value)
@@ -75,11 +70,11 @@ impl<T: Translator, V: Drop, X: Part<T, V> + Drop, const P: usize> Runs for Rang
 
     type Key = (usize, T::Key);
 
-    ghost view = { λ range. range_view P T.translated range.offset range.storage };
+    ghost view = { λ range. view_from P T.translated range.offset range.storage };
 
     ghost edited = { IsSpanKept (λ range. range.offset) (λ range. length range.storage.parts) };
 
-    ghost lawful = { λ range. IsLawful-gathered_from T.Key.cmp range.offset range.storage.parts range.lawful };
+    ghost lawful = { λ range. IsLawful-gathered_from T.Key.cmp range.offset range.storage.parts range.is_range.lawful };
 
     ghost exact = { exact_pairs nat_cmp T.Key.cmp exact_unsigned T.exact };
 
@@ -135,24 +130,27 @@ impl<T: Translator, V: Drop, X: Part<T, V> + Drop, const P: usize> Search for Ra
 
     ghost left_by_refusal = { λ x _ y. ⟦<Range<T, V, X, P> as Runs>⟧.edited x y };
 
-    ghost may_refuse = { λ _ _. false };
-
-    fn reach(&mut self, key: &[u8]) -> Result<usize, Fault> {
-        Ok(self.run_len(self.slot_of(key)))
+    fn reach(&mut self, key: &[u8]) -> Result<((usize, T::Key), usize), Fault> {
+        let slot = self.slot_of(key);
+        Ok((slot, self.run_len(slot)))
     }
 
-    fn reach_or_insert(&mut self, key: &[u8], value: V) -> Result<usize, Refused<V>> {
+    fn reach_or_insert(
+        &mut self,
+        key: &[u8],
+        value: V,
+    ) -> Result<((usize, T::Key), usize), Refused<V>> {
         let slot = self.slot_of(key);
-        self.insert_absent(slot, value)
+        let len = self.insert_absent(slot, value)?;
+        Ok((slot, len))
     }
 
     fn search(&mut self, key: &[u8]) -> Result<IndexCursor<'_, Range<T, V, X, P>>, Option<Fault>> {
-        let slot = self.slot_of(key);
-        let len = self.run_len(slot);
-        if len == 0 {
-            return Err(None);
+        match self.reach(key) {
+            Ok((_, 0)) => Err(None),
+            Ok((slot, len)) => Ok(IndexCursor::with_len(self, slot, len)),
+            Err(fault) => Err(Some(fault)),
         }
-        Ok(IndexCursor::with_len(self, slot, len))
     }
 
     fn search_or_insert(
@@ -160,10 +158,9 @@ impl<T: Translator, V: Drop, X: Part<T, V> + Drop, const P: usize> Search for Ra
         key: &[u8],
         value: V,
     ) -> Result<IndexCursor<'_, Range<T, V, X, P>>, Option<Refused<V>>> {
-        let slot = self.slot_of(key);
-        match self.insert_absent(slot, value) {
-            Ok(0) => Err(None),
-            Ok(len) => Ok(IndexCursor::with_len(self, slot, len)),
+        match self.reach_or_insert(key, value) {
+            Ok((_, 0)) => Err(None),
+            Ok((slot, len)) => Ok(IndexCursor::with_len(self, slot, len)),
             Err(refused) => Err(Some(refused)),
         }
     }

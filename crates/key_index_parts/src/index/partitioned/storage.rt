@@ -1,20 +1,22 @@
-//! What an index over partitions keeps, over any kind of part.
-ghost use Rattle.std.specs.Prelude.{◌≡◌, ◌↔◌, ◌+◌, ◌<◌, ◌≤◌, IsTrue, [], ◌∷◌, length, slice_get, slice_set, insert, remove, Some, IfOk, IfErr, OnOk, OnErr};
+//! What an index over partitions keeps, over any kind of part. A call goes by slot: a part's number and a key of that part.
+ghost use Rattle.std.specs.Prelude.{◌≡◌, ◌↔◌, ℕ, ◌+◌, ◌<◌, ◌≤◌, IsTrue, nat_lt, [], ◌∷◌, length, slice_get, slice_set, insert, remove, Some, IfOk, IfErr, OnOk, OnErr};
 ghost use Rattle.std.specs.Bool.{Decides};
 ghost use Rattle.std.specs.Fn.{CalledAt};
 ghost use Rattle.key_index_flat.specs.Content.{IsLawful, item_count, key_count};
 ghost use Rattle.key_index_flat.specs.Fault.{growth_fault};
 ghost use Rattle.key_index_flat.specs.Neighbours.{first_list, last_list, next_list, prev_list};
-ghost use Rattle.key_index_flat.specs.View.{run_at, run_of, with_run, with_edit, with_pruned, after_insert, after_remove, InsertsAndRetainsAt, RetainsAt};
+ghost use Rattle.key_index_flat.specs.View.{put_value, InsertsAndRetains, Retains};
 ghost use Rattle.key_index_flat.specs.Values.{VisitsEach, values_of};
-ghost use Rattle.key_index_parts.specs.Family.{Kept, IsCounted, view_of, range_view, part_at};
+ghost use Rattle.key_index_parts.specs.Family.{Kept, IsCounted, KeepsParts, Edits, Prunes, held_at, view_of, view_from, part_at};
 ghost use Rattle.key_index_parts.specs.Gathered.{gathered, pair_cmp};
 ghost use Rattle.key_index_parts.specs.Joined.{IsFree, is_between, joined_view};
 ghost use Rattle.key_index_parts.specs.Prefix.{partition_count, slot_by};
 
+use super::counts::Counts;
 use super::part::{Held, OrderedPart, Part};
 use super::partition_index_and_sub_key;
 use super::parts::Parts;
+use key_index_flat::index::implement::Retained;
 use key_index_flat::index::{Fault, Refused, Values};
 use key_index_flat::translator::Translator;
 use std::alloc::Global;
@@ -26,17 +28,15 @@ use std::marker::Model;
 pub(super) struct Storage<T: Translator, V, X: Held<T, V>, const P: usize> {
     translator: T,
     parts: Parts<T, V, X>,
-    items: usize,
-    keys: usize,
-    pruned: u64,
+    counts: Counts,
 }
 
 impl<T: Translator, V, X: Held<T, V>, const P: usize> Model for Storage<T, V, X, P> {
     ghost Value = { Kept T T.Key V };
 
-    ghost view = { λ s. record { translator = s.translator; parts = s.parts; pruned = s.pruned } };
+    ghost view = { λ s. record { translator = s.translator; parts = s.parts; pruned = s.counts.pruned } };
 
-    ghost invariant = { λ s. IsCounted T.Key.cmp P s.parts s.items s.keys };
+    ghost invariant = { λ s. IsCounted T.Key.cmp P s.parts s.counts.items s.counts.keys };
 }
 
 impl<T: Translator, V: Drop, X: Part<T, V> + Drop, const P: usize> Storage<T, V, X, P> {
@@ -60,9 +60,11 @@ impl<T: Translator, V: Drop, X: Part<T, V> + Drop, const P: usize> Storage<T, V,
             Ok(parts) => Ok(Storage {
                 translator,
                 parts,
-                items: 0,
-                keys: 0,
-                pruned: 0,
+                counts: Counts {
+                    items: 0,
+                    keys: 0,
+                    pruned: 0,
+                },
             }),
             Err(fault) => Err(fault),
         }
@@ -102,23 +104,20 @@ impl<T: Translator, V: Drop, X: Part<T, V> + Drop, const P: usize> Storage<T, V,
         ensures { Decides result
             (item_count (gathered self.now.parts) + item_count (gathered range.now.parts) ≤ usize.MAX) }
     {
-        range.items <= usize::MAX - self.items
+        range.counts.items <= usize::MAX - self.counts.items
     }
 
     /// Puts the parts of a range, as they stand, in the place of those from a number on, which hold nothing, and adds its counts.
     pub(super) fn install(&mut self, first: usize, range: Storage<T, V, X, P>)
         requires fits { first + length range.parts ≤ length self.old.parts }
-        requires free { IsFree (pair_cmp T.Key.cmp) (range_view P T.translated first range).admitted
+        requires free { IsFree (pair_cmp T.Key.cmp) (view_from P T.translated first range).admitted
             (gathered self.old.parts) }
         requires room { item_count (gathered self.old.parts) + item_count (gathered range.parts) ≤ usize.MAX }
         ensures joined { view_of P T.translated self.new ≡ joined_view (pair_cmp T.Key.cmp)
-            (view_of P T.translated self.old) (range_view P T.translated first range) }
-        ensures lawful { IsLawful (pair_cmp T.Key.cmp) (gathered self.new.parts) }
-        ensures sized { length self.new.parts ≡ length self.old.parts }
+            (view_of P T.translated self.old) (view_from P T.translated first range) }
+        ensures kept { KeepsParts T.Key.cmp self.old.parts self.new.parts }
     {
-        self.keys += range.keys;
-        self.items += range.items;
-        self.pruned = self.pruned.saturating_add(range.pruned);
+        self.counts.join(range.counts);
         self.parts.install(first, range.parts);
     }
 
@@ -149,19 +148,12 @@ impl<T: Translator, V: Drop, X: Part<T, V> + Drop, const P: usize> Storage<T, V,
         (number, translator.transform(sub_key))
     }
 
+    /// Whether there is a part for the slot.
     #[inline]
     pub(super) fn admits(&self, slot: (usize, T::Key)) -> bool
-        requires { length self.now.parts ≡ partition_count P }
-        ensures { result ≡ (view_of P T.translated self.now).admitted slot }
+        ensures { result ≡ nat_lt slot.0 (length self.now.parts) }
     {
         slot.0 < self.parts.len()
-    }
-
-    #[inline]
-    pub(super) fn list_at(&self, slot: (usize, T::Key)) -> Values<'_, V>
-        ensures { result ≡ run_at (pair_cmp T.Key.cmp) (view_of P T.translated self.now) slot }
-    {
-        self.parts.list_at(slot)
     }
 
     /// Where the parts take their memory.
@@ -172,35 +164,40 @@ impl<T: Translator, V: Drop, X: Part<T, V> + Drop, const P: usize> Storage<T, V,
 
     #[inline]
     pub(super) fn run_len(&self, slot: (usize, T::Key)) -> usize
-        ensures { result ≡ length (run_at (pair_cmp T.Key.cmp) (view_of P T.translated self.now) slot) }
+        ensures { result ≡ length (held_at T.Key.cmp self.now.parts slot) }
     {
         self.parts.run_len(slot)
     }
 
     #[inline]
     pub(super) fn value_at(&self, slot: (usize, T::Key), place: usize) -> &V
-        requires { place < length (run_at (pair_cmp T.Key.cmp) (view_of P T.translated self.now) slot) }
-        ensures { slice_get (run_at (pair_cmp T.Key.cmp) (view_of P T.translated self.now) slot) place
-            ≡ Some result.now }
+        requires { place < length (held_at T.Key.cmp self.now.parts slot) }
+        ensures { slice_get (held_at T.Key.cmp self.now.parts slot) place ≡ Some result.now }
     {
         self.parts.value_at(slot, place)
     }
 
+    /// The list at a slot, empty where there is no part for it.
     #[inline]
-    pub(super) fn get(&self, key: &[u8]) -> Values<'_, V>
-        requires { length self.now.parts ≡ partition_count P }
-        ensures { result ≡ run_of (pair_cmp T.Key.cmp) (view_of P T.translated self.now) key.now }
+    pub(super) fn list_at(&self, slot: (usize, T::Key)) -> Values<'_, V>
+        ensures { result ≡ held_at T.Key.cmp self.now.parts slot }
     {
-        self.parts.get(self.slot_of(key))
+        self.parts.list_at(slot)
+    }
+
+    #[inline]
+    pub(super) fn get(&self, slot: (usize, T::Key)) -> Values<'_, V>
+        requires { slot.0 < length self.now.parts }
+        ensures { result ≡ held_at T.Key.cmp self.now.parts slot }
+    {
+        self.parts.get(slot)
     }
 
     #[inline]
     pub(super) fn set_at(&mut self, slot: (usize, T::Key), place: usize, value: V)
-        requires { place < length (run_at (pair_cmp T.Key.cmp) (view_of P T.translated self.old) slot) }
-        ensures edited { view_of P T.translated self.new
-            ≡ with_edit (pair_cmp T.Key.cmp) (view_of P T.translated self.old) slot (λ l. slice_set l place value) }
-        ensures lawful { IsLawful (pair_cmp T.Key.cmp) (gathered self.new.parts) }
-        ensures sized { length self.new.parts ≡ length self.old.parts }
+        requires { place < length (held_at T.Key.cmp self.old.parts slot) }
+        ensures edited { Edits T.Key.cmp P T.translated self.old slot (λ l. slice_set l place value) self.new }
+        ensures kept { KeepsParts T.Key.cmp self.old.parts self.new.parts }
     {
         self.parts.set_at(slot, place, value);
     }
@@ -212,64 +209,51 @@ impl<T: Translator, V: Drop, X: Part<T, V> + Drop, const P: usize> Storage<T, V,
         value: V,
     ) -> Result<(), Refused<V>>
         requires admits { slot.0 < length self.old.parts }
-        requires place { place ≤ length (run_at (pair_cmp T.Key.cmp) (view_of P T.translated self.old) slot) }
-        ensures accepted { OnOk result (view_of P T.translated self.new
-            ≡ with_edit (pair_cmp T.Key.cmp) (view_of P T.translated self.old) slot (λ l. insert l place value)) }
+        requires place { place ≤ length (held_at T.Key.cmp self.old.parts slot) }
+        ensures accepted { OnOk result (
+            Edits T.Key.cmp P T.translated self.old slot (λ l. insert l place value) self.new) }
         ensures room { OnOk result (item_count (gathered self.old.parts) < usize.MAX) }
         ensures refused { OnErr result (self.new ≡ self.old) }
-        ensures lawful { IsLawful (pair_cmp T.Key.cmp) (gathered self.new.parts) }
-        ensures sized { length self.new.parts ≡ length self.old.parts }
+        ensures kept { KeepsParts T.Key.cmp self.old.parts self.new.parts }
         ensures returned { IfErr result (λ r. r.value ≡ value) }
         ensures fault { IfErr result (λ r. r.fault ≡ growth_fault (item_count (gathered self.old.parts))) }
     {
-        if self.items == usize::MAX {
-            let fault = Fault::Full;
-            return Err(Refused { value, fault });
+        if self.counts.items == usize::MAX {
+            return Err(Refused::full(value));
         }
         match self.parts.insert_at(slot, place, value) {
             Ok(absent) => {
-                self.keys += usize::from(absent);
-                self.items += 1;
+                self.counts.gain(absent);
                 Ok(())
             }
-            Err(value) => {
-                let fault = Fault::Memory;
-                Err(Refused { value, fault })
-            }
+            Err(value) => Err(Refused::memory(value)),
         }
     }
 
-    /// Puts a value in at its end of the list of the key's index key.
-    pub(super) fn insert(&mut self, key: &[u8], value: V) -> Result<(), Refused<V>>
-        requires { length self.old.parts ≡ partition_count P }
-        ensures accepted { OnOk result (view_of P T.translated self.new
-            ≡ after_insert (pair_cmp T.Key.cmp) X.FIRST (view_of P T.translated self.old) key.now value) }
+    /// Puts a value in at its end of a slot's list.
+    pub(super) fn insert(&mut self, slot: (usize, T::Key), value: V) -> Result<(), Refused<V>>
+        requires { slot.0 < length self.old.parts }
+        ensures accepted { OnOk result (
+            Edits T.Key.cmp P T.translated self.old slot (put_value X.FIRST value) self.new) }
         ensures room { OnOk result (item_count (gathered self.old.parts) < usize.MAX) }
         ensures refused { OnErr result (self.new ≡ self.old) }
-        ensures lawful { IsLawful (pair_cmp T.Key.cmp) (gathered self.new.parts) }
-        ensures sized { length self.new.parts ≡ length self.old.parts }
+        ensures kept { KeepsParts T.Key.cmp self.old.parts self.new.parts }
         ensures returned { IfErr result (λ r. r.value ≡ value) }
         ensures fault { IfErr result (λ r. r.fault ≡ growth_fault (item_count (gathered self.old.parts))) }
     {
-        if self.items == usize::MAX {
-            let fault = Fault::Full;
-            return Err(Refused { value, fault });
+        if self.counts.items == usize::MAX {
+            return Err(Refused::full(value));
         }
-        let slot = self.slot_of(key);
         match self.parts.insert(slot, value) {
             Ok(absent) => {
-                self.keys += usize::from(absent);
-                self.items += 1;
+                self.counts.gain(absent);
                 Ok(())
             }
-            Err(value) => {
-                let fault = Fault::Memory;
-                Err(Refused { value, fault })
-            }
+            Err(value) => Err(Refused::memory(value)),
         }
     }
 
-    /// Puts a value under an index key that has none, and tells how many values the index key had.
+    /// Puts a value under a slot that has none, and tells how many values the slot had.
     pub(super) fn insert_absent(
         &mut self,
         slot: (usize, T::Key),
@@ -277,145 +261,115 @@ impl<T: Translator, V: Drop, X: Part<T, V> + Drop, const P: usize> Storage<T, V,
     ) -> Result<usize, Refused<V>>
         requires { slot.0 < length self.old.parts }
         ensures found { IfOk result (λ n. 0 < n → self.new ≡ self.old) }
-        ensures inserted { IfOk result (λ n. n ≡ 0 → view_of P T.translated self.new
-            ≡ with_run (pair_cmp T.Key.cmp) (view_of P T.translated self.old) slot (value ∷ [])) }
-        ensures len { IfOk result (λ n. n
-            ≡ length (run_at (pair_cmp T.Key.cmp) (view_of P T.translated self.old) slot)) }
+        ensures inserted { IfOk result (λ n. n ≡ 0 →
+            Edits T.Key.cmp P T.translated self.old slot (λ _. value ∷ []) self.new) }
+        ensures len { IfOk result (λ n. n ≡ length (held_at T.Key.cmp self.old.parts slot)) }
         ensures room { OnOk result (item_count (gathered self.old.parts) < usize.MAX) }
         ensures refused { OnErr result (self.new ≡ self.old) }
-        ensures lawful { IsLawful (pair_cmp T.Key.cmp) (gathered self.new.parts) }
-        ensures sized { length self.new.parts ≡ length self.old.parts }
+        ensures kept { KeepsParts T.Key.cmp self.old.parts self.new.parts }
         ensures returned { IfErr result (λ r. r.value ≡ value) }
         ensures fault { IfErr result (λ r. r.fault ≡ growth_fault (item_count (gathered self.old.parts))) }
     {
-        if self.items == usize::MAX {
-            let fault = Fault::Full;
-            return Err(Refused { value, fault });
+        if self.counts.items == usize::MAX {
+            return Err(Refused::full(value));
         }
         match self.parts.insert_absent(slot, value) {
             Ok(0) => {
-                self.keys += 1;
-                self.items += 1;
+                self.counts.gain(true);
                 Ok(0)
             }
             Ok(len) => Ok(len),
-            Err(value) => {
-                let fault = Fault::Memory;
-                Err(Refused { value, fault })
-            }
+            Err(value) => Err(Refused::memory(value)),
         }
     }
 
     pub(super) fn remove_at(&mut self, slot: (usize, T::Key), place: usize) -> V
-        requires { place < length (run_at (pair_cmp T.Key.cmp) (view_of P T.translated self.old) slot) }
-        ensures value { slice_get (run_at (pair_cmp T.Key.cmp) (view_of P T.translated self.old) slot) place
-            ≡ Some result }
-        ensures edited { view_of P T.translated self.new ≡ with_pruned (with_edit (pair_cmp T.Key.cmp)
-            (view_of P T.translated self.old) slot (λ l. remove l place)) 1 }
-        ensures lawful { IsLawful (pair_cmp T.Key.cmp) (gathered self.new.parts) }
-        ensures sized { length self.new.parts ≡ length self.old.parts }
+        requires { place < length (held_at T.Key.cmp self.old.parts slot) }
+        ensures value { slice_get (held_at T.Key.cmp self.old.parts slot) place ≡ Some result }
+        ensures edited { Prunes T.Key.cmp P T.translated self.old slot (λ l. remove l place) 1 self.new }
+        ensures kept { KeepsParts T.Key.cmp self.old.parts self.new.parts }
     {
         let (value, left) = self.parts.remove_at(slot, place);
-        self.keys -= usize::from(left == 0);
-        self.items -= 1;
-        self.pruned = self.pruned.saturating_add(1);
+        let had = left + 1;
+        let taken = 1;
+        self.counts.change(Retained { had, left, taken });
         value
     }
 
-    /// Asks once on each value of the key's index key, in list order, and takes out those that are answered false.
-    pub(super) fn retain<F: FnMut(&V) -> bool>(&mut self, key: &[u8], should_retain: F)
-        requires whole { length self.old.parts ≡ partition_count P }
+    /// Asks once on each value of a slot, in list order, and takes out those that are answered false.
+    pub(super) fn retain<F: FnMut(&V) -> bool>(&mut self, slot: (usize, T::Key), should_retain: F)
+        requires within { slot.0 < length self.old.parts }
         requires callable { F.IsAlwaysCallable should_retain }
-        ensures kept { RetainsAt (pair_cmp T.Key.cmp) (CalledAt F.FnMut) should_retain
-            (view_of P T.translated self.old) key.now (view_of P T.translated self.new) }
-        ensures lawful { IsLawful (pair_cmp T.Key.cmp) (gathered self.new.parts) }
-        ensures sized { length self.new.parts ≡ length self.old.parts }
+        ensures retained { Retains (pair_cmp T.Key.cmp) (CalledAt F.FnMut) should_retain
+            (view_of P T.translated self.old) slot (view_of P T.translated self.new) }
+        ensures kept { KeepsParts T.Key.cmp self.old.parts self.new.parts }
     {
-        let slot = self.slot_of(key);
         let (had, left) = self.parts.retain(slot, should_retain);
         let taken = had - left;
-        let had_key = usize::from(had > 0);
-        let has_key = usize::from(left > 0);
-        let lost = had_key - has_key;
-        self.keys -= lost;
-        self.items -= taken;
-        self.pruned = self.pruned.saturating_add(taken as u64);
+        self.counts.change(Retained { had, left, taken });
     }
 
-    /// Puts a value in behind those of the key's index key, asks once on each of them, in list order, and takes out those that are
-    /// answered false.
+    /// Puts a value in behind those of a slot, asks once on each of them, in list order, and takes out those that are answered false.
     pub(super) fn insert_and_retain<F: FnMut(&V) -> bool>(
         &mut self,
-        key: &[u8],
+        slot: (usize, T::Key),
         value: V,
         should_retain: F,
     ) -> Result<(), Refused<V>>
-        requires whole { length self.old.parts ≡ partition_count P }
+        requires within { slot.0 < length self.old.parts }
         requires callable { F.IsAlwaysCallable should_retain }
-        ensures accepted { OnOk result (InsertsAndRetainsAt (pair_cmp T.Key.cmp) (CalledAt F.FnMut) should_retain
-            (view_of P T.translated self.old) key.now value (view_of P T.translated self.new)) }
+        ensures accepted { OnOk result ((taken : ℕ) × InsertsAndRetains (pair_cmp T.Key.cmp) (CalledAt F.FnMut)
+            should_retain (view_of P T.translated self.old) slot value taken (view_of P T.translated self.new)) }
         ensures room { OnOk result (item_count (gathered self.old.parts) < usize.MAX) }
         ensures refused { OnErr result (self.new ≡ self.old) }
-        ensures lawful { IsLawful (pair_cmp T.Key.cmp) (gathered self.new.parts) }
-        ensures sized { length self.new.parts ≡ length self.old.parts }
+        ensures kept { KeepsParts T.Key.cmp self.old.parts self.new.parts }
         ensures returned { IfErr result (λ r. r.value ≡ value) }
         ensures fault { IfErr result (λ r. r.fault ≡ growth_fault (item_count (gathered self.old.parts))) }
     {
-        if self.items == usize::MAX {
-            let fault = Fault::Full;
-            return Err(Refused { value, fault });
+        if self.counts.items == usize::MAX {
+            return Err(Refused::full(value));
         }
-        let slot = self.slot_of(key);
         match self.parts.insert_and_retain(slot, value, should_retain) {
-            Ok(retained) => {
-                let had_key = usize::from(retained.had > 0);
-                let has_key = usize::from(retained.left > 0);
-                self.keys = self.keys - had_key + has_key;
-                self.items = self.items - retained.had + retained.left;
-                self.pruned = self.pruned.saturating_add(retained.taken as u64);
+            Ok(told) => {
+                self.counts.change(told);
                 Ok(())
             }
-            Err(value) => {
-                let fault = Fault::Memory;
-                Err(Refused { value, fault })
-            }
+            Err(value) => Err(Refused::memory(value)),
         }
     }
 
-    /// Takes the key's index key out.
-    pub(super) fn remove(&mut self, key: &[u8])
-        requires { length self.old.parts ≡ partition_count P }
-        ensures removed { view_of P T.translated self.new
-            ≡ after_remove (pair_cmp T.Key.cmp) (view_of P T.translated self.old) key.now }
-        ensures lawful { IsLawful (pair_cmp T.Key.cmp) (gathered self.new.parts) }
-        ensures sized { length self.new.parts ≡ length self.old.parts }
+    /// Takes a slot out.
+    pub(super) fn remove(&mut self, slot: (usize, T::Key))
+        requires { slot.0 < length self.old.parts }
+        ensures removed { Prunes T.Key.cmp P T.translated self.old slot (λ _. [])
+            (length (held_at T.Key.cmp self.old.parts slot)) self.new }
+        ensures kept { KeepsParts T.Key.cmp self.old.parts self.new.parts }
     {
-        let slot = self.slot_of(key);
-        let taken = self.parts.remove(slot);
-        self.keys -= usize::from(taken > 0);
-        self.items -= taken;
-        self.pruned = self.pruned.saturating_add(taken as u64);
+        let had = self.parts.remove(slot);
+        let left = 0;
+        let taken = had;
+        self.counts.change(Retained { had, left, taken });
     }
 
     #[inline]
     pub(super) fn keys(&self) -> usize
         ensures { result ≡ key_count (gathered self.now.parts) }
     {
-        self.keys
+        self.counts.keys
     }
 
     #[inline]
     pub(super) fn items(&self) -> usize
         ensures { result ≡ item_count (gathered self.now.parts) }
     {
-        self.items
+        self.counts.items
     }
 
     #[inline]
     pub(super) fn pruned(&self) -> u64
         ensures { result ≡ self.now.pruned }
     {
-        self.pruned
+        self.counts.pruned
     }
 }
 
@@ -435,20 +389,18 @@ impl<T: Translator, V: Drop, X: OrderedPart<T, V> + Drop, const P: usize> Storag
     }
 
     #[inline]
-    pub(super) fn next(&self, key: &[u8]) -> Option<(Values<'_, V>, bool)>
-        requires { length self.now.parts ≡ partition_count P }
-        ensures { result ≡ next_list (pair_cmp T.Key.cmp) (gathered self.now.parts)
-            (slot_by P (T.translated self.now.translator) key.now) }
+    pub(super) fn next(&self, slot: (usize, T::Key)) -> Option<(Values<'_, V>, bool)>
+        requires { slot.0 < length self.now.parts }
+        ensures { result ≡ next_list (pair_cmp T.Key.cmp) (gathered self.now.parts) slot }
     {
-        self.parts.next(self.slot_of(key))
+        self.parts.next(slot)
     }
 
     #[inline]
-    pub(super) fn prev(&self, key: &[u8]) -> Option<(Values<'_, V>, bool)>
-        requires { length self.now.parts ≡ partition_count P }
-        ensures { result ≡ prev_list (pair_cmp T.Key.cmp) (gathered self.now.parts)
-            (slot_by P (T.translated self.now.translator) key.now) }
+    pub(super) fn prev(&self, slot: (usize, T::Key)) -> Option<(Values<'_, V>, bool)>
+        requires { slot.0 < length self.now.parts }
+        ensures { result ≡ prev_list (pair_cmp T.Key.cmp) (gathered self.now.parts) slot }
     {
-        self.parts.prev(self.slot_of(key))
+        self.parts.prev(slot)
     }
 }

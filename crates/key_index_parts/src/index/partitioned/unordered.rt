@@ -1,7 +1,7 @@
 //! The partitioned unordered index.
 ghost use Rattle.std.specs.Prelude.{◌≡◌, ◌≤◌, true, false, length};
 ghost use Rattle.key_index_flat.specs.Content.{IsLawful};
-ghost use Rattle.key_index_parts.specs.Family.{view_of};
+ghost use Rattle.key_index_parts.specs.Family.{IsIndex, view_of};
 ghost use Rattle.key_index_parts.specs.Gathered.{gathered, pair_cmp};
 ghost use Rattle.key_index_parts.specs.Prefix.{partition_count, partition_by, slot_by};
 
@@ -11,9 +11,9 @@ use super::range::Range;
 use super::storage::Storage;
 use super::{Partitioned, partition_index_and_sub_key};
 use boxed::Boxed;
+use key_index_flat::index::implement::{Lists, show_by_place, visit_by_place};
 use key_index_flat::index::{
-    Factory, Fault, IndexCursor, Lists, Refused, Runs, Search, Unordered, Values, show_by_place,
-    visit_by_place,
+    Factory, Fault, IndexCursor, Refused, Runs, Search, Unordered, Values,
 };
 use key_index_flat::translator::Translator;
 use std::alloc::Global;
@@ -27,10 +27,7 @@ use std::convert::AsSlice;
 #[derive(Drop)]
 pub struct Index<T: Translator, V: Drop, const P: usize> {
     storage: Storage<T, V, Boxed<T, V>, P>,
-    ghost least: { 1 ≤ P },
-    ghost greatest: { P ≤ 3 },
-    ghost lawful: { IsLawful (pair_cmp T.Key.cmp) (gathered storage.parts) },
-    ghost whole: { length storage.parts ≡ partition_count P },
+    ghost is_index: { IsIndex T.Key.cmp P storage.parts },
 }
 
 impl<T: Translator, V: Drop, const P: usize> Index<T, V, P> {
@@ -38,6 +35,7 @@ impl<T: Translator, V: Drop, const P: usize> Index<T, V, P> {
     ghost use Rattle.std.specs.Iterator.{UpTo};
     ghost use Rattle.key_index_flat.specs.Visits.{IsBatch, VisitsAt, VisitsByPlace};
     ghost use Rattle.key_index_parts.specs.Gathered.{pair_cmp};
+    ghost use Rattle.key_index_parts.specs.Unordered.{view};
 
     /// Visits the values of each key of a batch with the key's place in it, from 0, by place. What it visits may be kept as long as the
     /// index is borrowed. Takes no memory, and never refuses.
@@ -53,7 +51,7 @@ impl<T: Translator, V: Drop, const P: usize> Index<T, V, P> {
         requires callable { F.IsAlwaysCallable visit }
         ensures made { IsOk result }
         ensures visited { (last : F) × VisitsByPlace (IsBatch B.next_gives B.Item.items keys) (VisitsAt F.FnMut) visit
-            (pair_cmp T.Key.cmp) (⟦<Index<T, V, P> as Runs>⟧.view self.now) last }
+            (pair_cmp T.Key.cmp) (view self.now) last }
     {
         visit_by_place(self, keys, visit);
         Ok(())
@@ -73,9 +71,7 @@ impl<T: Translator, V: Drop, const P: usize> Runs for Index<T, V, P> {
 
     ghost view = { λ index. view_of P T.translated index.storage };
 
-    ghost edited = { λ _ _. Unit {0} };
-
-    ghost lawful = { λ index. index.lawful };
+    ghost lawful = { λ index. index.is_index.lawful };
 
     ghost exact = { exact_pairs nat_cmp T.Key.cmp exact_unsigned T.exact };
 
@@ -128,28 +124,27 @@ impl<T: Translator, V: Drop, const P: usize> Lists for Index<T, V, P> {
 }
 
 impl<T: Translator, V: Drop, const P: usize> Search for Index<T, V, P> {
-    ghost settled = { λ _ _ _. Unit {0} };
-
-    ghost left_by_refusal = { λ _ _ _. Unit {0} };
-
-    ghost may_refuse = { λ _ _. false };
-
-    fn reach(&mut self, key: &[u8]) -> Result<usize, Fault> {
-        Ok(self.run_len(self.slot_of(key)))
+    fn reach(&mut self, key: &[u8]) -> Result<((usize, T::Key), usize), Fault> {
+        let slot = self.slot_of(key);
+        Ok((slot, self.run_len(slot)))
     }
 
-    fn reach_or_insert(&mut self, key: &[u8], value: V) -> Result<usize, Refused<V>> {
+    fn reach_or_insert(
+        &mut self,
+        key: &[u8],
+        value: V,
+    ) -> Result<((usize, T::Key), usize), Refused<V>> {
         let slot = self.slot_of(key);
-        self.storage.insert_absent(slot, value)
+        let len = self.storage.insert_absent(slot, value)?;
+        Ok((slot, len))
     }
 
     fn search(&mut self, key: &[u8]) -> Result<IndexCursor<'_, Index<T, V, P>>, Option<Fault>> {
-        let slot = self.slot_of(key);
-        let len = self.run_len(slot);
-        if len == 0 {
-            return Err(None);
+        match self.reach(key) {
+            Ok((_, 0)) => Err(None),
+            Ok((slot, len)) => Ok(IndexCursor::with_len(self, slot, len)),
+            Err(fault) => Err(Some(fault)),
         }
-        Ok(IndexCursor::with_len(self, slot, len))
     }
 
     fn search_or_insert(
@@ -157,16 +152,19 @@ impl<T: Translator, V: Drop, const P: usize> Search for Index<T, V, P> {
         key: &[u8],
         value: V,
     ) -> Result<IndexCursor<'_, Index<T, V, P>>, Option<Refused<V>>> {
-        let slot = self.slot_of(key);
-        match self.storage.insert_absent(slot, value) {
-            Ok(0) => Err(None),
-            Ok(len) => Ok(IndexCursor::with_len(self, slot, len)),
+        match self.reach_or_insert(key, value) {
+            Ok((_, 0)) => Err(None),
+            Ok((slot, len)) => Ok(IndexCursor::with_len(self, slot, len)),
             Err(refused) => Err(Some(refused)),
         }
     }
 }
 
 impl<T: Translator, V: Drop, const P: usize> Unordered for Index<T, V, P> {
+    ghost use Rattle.std.specs.Prelude.{◌≡◌, IfErr, IsOk, OnOk};
+    ghost use Rattle.std.specs.Iterator.{UpTo};
+    ghost use Rattle.key_index_flat.specs.Visits.{IsBatch, VisitsAt, VisitsByPlace, VisitsInAnyOrder};
+    ghost use Rattle.key_index_parts.specs.Unordered.{view};
     ghost use Rattle.key_index_parts.specs.PrefixLaws.{prefix_reaches};
 
     ghost INSERT_FIRST = { true };
@@ -179,9 +177,10 @@ impl<T: Translator, V: Drop, const P: usize> Unordered for Index<T, V, P> {
 
     #[inline]
     fn get(&self, key: &[u8]) -> Values<'_, V> {
-        self.storage.get(key)
+        self.storage.get(self.storage.slot_of(key))
     }
 
+    /// Visits by place. Takes no memory, and never refuses.
     fn get_many<B: Iterator + Drop, F: FnMut(usize, &V)>(
         &self,
         keys: B,
@@ -189,6 +188,15 @@ impl<T: Translator, V: Drop, const P: usize> Unordered for Index<T, V, P> {
     ) -> Result<(), Fault>
     where
         B::Item: AsSlice<u8> + Drop,
+        requires can { B.can_next keys }
+        requires ends { UpTo (B.remaining keys) usize.MAX }
+        requires callable { F.IsAlwaysCallable visit }
+        ensures made { IsOk result }
+        ensures by_place { (last : F) × VisitsByPlace (IsBatch B.next_gives B.Item.items keys) (VisitsAt F.FnMut) visit
+            (pair_cmp T.Key.cmp) (view self.now) last }
+        ensures visited { OnOk result ((last : F) × VisitsInAnyOrder (IsBatch B.next_gives B.Item.items keys)
+            (VisitsAt F.FnMut) visit (pair_cmp T.Key.cmp) (view self.now) last) }
+        ensures fault { IfErr result (λ f. f ≡ Fault.Memory) }
     {
         show_by_place(self, keys, visit);
         Ok(())
@@ -196,7 +204,8 @@ impl<T: Translator, V: Drop, const P: usize> Unordered for Index<T, V, P> {
 
     #[inline]
     fn insert(&mut self, key: &[u8], value: V) -> Result<(), Refused<V>> {
-        self.storage.insert(key, value)
+        let slot = self.storage.slot_of(key);
+        self.storage.insert(slot, value)
     }
 
     #[inline]
@@ -206,18 +215,21 @@ impl<T: Translator, V: Drop, const P: usize> Unordered for Index<T, V, P> {
         value: V,
         should_retain: F,
     ) -> Result<(), Refused<V>> {
-        self.storage.insert_and_retain(key, value, should_retain)
+        let slot = self.storage.slot_of(key);
+        self.storage.insert_and_retain(slot, value, should_retain)
     }
 
     #[inline]
     fn retain<F: FnMut(&V) -> bool>(&mut self, key: &[u8], should_retain: F) -> Result<(), Fault> {
-        self.storage.retain(key, should_retain);
+        let slot = self.storage.slot_of(key);
+        self.storage.retain(slot, should_retain);
         Ok(())
     }
 
     #[inline]
     fn remove(&mut self, key: &[u8]) -> Result<(), Fault> {
-        self.storage.remove(key);
+        let slot = self.storage.slot_of(key);
+        self.storage.remove(slot);
         Ok(())
     }
 
@@ -254,6 +266,11 @@ impl<T: Translator, V: Drop, const P: usize> Factory for Index<T, V, P> {
 }
 
 impl<T: Translator, V: Drop, const P: usize> Partitioned for Index<T, V, P> {
+    ghost use Rattle.std.specs.Prelude.{◌≡◌, ◌+◌, ◌<◌, ◌≤◌, IfErr, OnErr, OnOk};
+    ghost use Rattle.key_index_flat.specs.View.{items_in};
+    ghost use Rattle.key_index_parts.specs.Joined.{IsFree, install_fault, joined_view};
+    ghost use Rattle.key_index_parts.specs.Range.{range_view};
+    ghost use Rattle.key_index_parts.specs.Unordered.{view};
     ghost use Rattle.std.proofs.Common.{refl};
     ghost use Rattle.key_index_parts.specs.PrefixLaws.{partition_by-made, partition_by-below};
 
@@ -265,7 +282,7 @@ impl<T: Translator, V: Drop, const P: usize> Partitioned for Index<T, V, P> {
 
     ghost prefix = { partition_by P };
 
-    ghost files = { λ index b _. partition_by-made P b index.least index.greatest };
+    ghost files = { λ index b _. partition_by-made P b index.is_index.least index.is_index.greatest };
 
     ghost within = { λ b h. partition_by-below P b h };
 
@@ -300,11 +317,21 @@ impl<T: Translator, V: Drop, const P: usize> Partitioned for Index<T, V, P> {
         self.storage.is_free(range.offset, range.storage.len())
     }
 
-    /// It takes no memory.
+    /// It takes no memory, and is refused only where the index would hold more than `usize::MAX` values.
     fn install_range(
         &mut self,
         range: RangeIndex<T, V, P>,
-    ) -> Result<(), (RangeIndex<T, V, P>, Fault)> {
+    ) -> Result<(), (RangeIndex<T, V, P>, Fault)>
+        requires { IsFree (pair_cmp T.Key.cmp) (range_view range).admitted (view self.old).content }
+        ensures fits { IfErr result (λ _. usize.MAX < items_in (view self.old) + items_in (range_view range)) }
+        ensures accepted { OnOk result (view self.new
+            ≡ joined_view (pair_cmp T.Key.cmp) (view self.old) (range_view range)) }
+        ensures refused { OnErr result (view self.new ≡ view self.old) }
+        ensures room { OnOk result (items_in (view self.old) + items_in (range_view range) ≤ usize.MAX) }
+        ensures returned { IfErr result (λ e. e.0 ≡ range) }
+        ensures fault { IfErr result (λ e. e.1
+            ≡ install_fault (items_in (view self.old)) (items_in (range_view range))) }
+    {
         if !self.storage.has_room(&range.storage) {
             return Err((range, Fault::Full));
         }

@@ -9,7 +9,7 @@ use Rattle.key_index_plain.proofs.IndexUnordered.insert.Goals as goal
 
 pub returns-then-items-eq18446744073709551615-clause-fault : goal.returns-then-items-eq18446744073709551615-clause-fault
 returns-then-items-eq18446744073709551615-clause-fault g c =
-    ap (λ n. growth_fault n) (sym c.if-items-eq18446744073709551615.true ∙ c.items.ensures)
+    c.full.ensures.fault ∙ ap (λ n. growth_fault n) (sym c.if-items-eq18446744073709551615.true ∙ c.items.ensures)
 
 pub invariant_of-self : goal.invariant_of-self
 invariant_of-self g c =
@@ -37,4 +37,4 @@ returns-in-Err-clause-refused g c = (
 
 pub returns-in-Err-clause-fault : goal.returns-in-Err-clause-fault
 returns-in-Err-clause-fault g c =
-    growth_memory _ (λ full. c.if-items-eq18446744073709551615.false (c.items.ensures ∙ full))
+    c.memory.ensures.fault ∙ growth_memory _ (λ full. c.if-items-eq18446744073709551615.false (c.items.ensures ∙ full))

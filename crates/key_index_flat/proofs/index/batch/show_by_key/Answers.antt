@@ -4,12 +4,10 @@ use Rattle.key_index_flat.specs.Visits.{VisitsAt}
 use Rattle.key_index_flat.proofs.VisitLemmas.{folds_through}
 use Rattle.key_index_flat.proofs.index.batch.show_by_key.Goals as goal
 
-pub visit_by_key-requires : goal.visit_by_key-requires
-visit_by_key-requires g c κs =
-    let callable = mut_by _ (λ s. always_mut g.F.FnMut s.0) (λ s a i. search (rules, i)) (λ s a r t i e. search (rules, of_calls)) _ c.requires.callable in
-    ((refl, tt), (c.requires.can, (c.requires.ends, callable)))
+pub visit_probes-requires : goal.visit_probes-requires
+visit_probes-requires g c κs =
+    ((refl, tt), mut_by _ (λ s. always_mut g.F.FnMut s.0) (λ s a i. search (rules, i)) (λ s a r t i e. search (rules, of_calls)) _ c.requires.callable)
 
 pub returns-clause-visited : goal.returns-clause-visited
 returns-clause-visited g c =
-    let h = c.in_ok-visit_by_key.ensures.visited in
-    (c.in_ok-visit_by_key.field-0.0, (h.0, h.1, h.2, h.3, h.4, folds_through _ (VisitsAt g.F.FnMut) (λ s. s.0) (λ s x t e. (e.0, e.1, search (rules, of_calls))) _ c.in_ok-visit_by_key.field-0 _ h.5))
+    (c.visit_probes.result.0, (_, c.in_ok-probes.ensures.probes, folds_through _ (VisitsAt g.F.FnMut) (λ s. s.0) (λ s x t e. (e.0, e.1, search (rules, of_calls))) _ c.visit_probes.result _ c.visit_probes.ensures))

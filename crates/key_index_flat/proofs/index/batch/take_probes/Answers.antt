@@ -16,7 +16,7 @@ loop-key-preserved g c =
       left.1,
       omega (arith, less, room),
       omega (arith, long, count),
-      c.in-Ok.ensures.items ∙ ap (λ slot. c.loop-key.probes.items ++ (slot, c.loop-key.place) ∷ []) c.slot_of.ensures
+      c.in_ok-push.ensures.items ∙ ap (λ slot. c.loop-key.probes.items ++ (slot, c.loop-key.place) ∷ []) c.slot_of.ensures
           ∙ ap (λ l. l ++ (view.slot c.as_slice.result.now, c.loop-key.place) ∷ []) i.4
           ∙ sym (probes_key view.slot g.B.Item.AsSlice.items c.loop-key.yielded c.in-Some.key c.loop-key.place c.as_slice.result.now count c.as_slice.ensures),
     )

@@ -6,4 +6,4 @@ pub commands-preserved : goal.commands-preserved
 commands-preserved g c =
     let i = c.commands.command-index in
     let cs = c.args.commands.now in
-    room_next (take i cs) (take (i + 1) cs) c.commands.outcomes.items c.push.new.self.items c.command-item.result c.in_ok-outcome.outcome (take_next cs i c.command-item.result c.commands-test.true c.command-item.is) (search rules) c.commands.invariant c.in_ok-outcome.ensures.room
+    room_next (take i cs) (take (i + 1) cs) c.commands.outcomes.items c.push.new.self.items c.command-item.result _ (take_next cs i c.command-item.result c.commands-test.true c.command-item.is) (search rules) c.commands.invariant c.in_ok-place_for.ensures.room

@@ -1,15 +1,14 @@
 //! A part as sorted arrays.
 ghost use Rattle.std.specs.Prelude.{◌≡◌, List, true, false, length};
 ghost use Rattle.std.specs.Fn.{CalledAt};
-ghost use Rattle.std.specs.List.Sorted.{IsSorted};
-ghost use Rattle.std.specs.Map.{keys_of};
 ghost use Rattle.key_index_flat.specs.Content.{item_count, list_at, with_list};
 ghost use Rattle.key_index_flat.specs.Retention.{AsksInTurn};
-ghost use Rattle.key_index_parts.specs.Pairs.{IsRun, grouped};
+ghost use Rattle.key_index_parts.specs.Pairs.{IsFound, grouped};
 
 use super::partition::Partition;
 use crate::index::partitioned::part::{Held, OrderedPart, Part};
-use key_index_flat::index::{Refused, Retained, Values};
+use key_index_flat::index::Values;
+use key_index_flat::index::implement::Retained;
 use key_index_flat::translator::Translator;
 use std::alloc::Global;
 use std::ops::Range;
@@ -29,8 +28,7 @@ fn retain_run<T: Translator, V: Drop, F: FnMut(&V) -> bool>(
     mut should_retain: F,
 ) -> (usize, bool)
     requires callable { F.IsAlwaysCallable should_retain }
-    requires sorted { IsSorted T.Key.cmp (keys_of pairs.old.pairs) }
-    requires run { IsRun T.Key.cmp pairs.old.pairs key run.start run.end }
+    requires found { IsFound T.Key.cmp pairs.old.pairs key run.start run.end }
     ensures kept { (kept : List V)
         × AsksInTurn (CalledAt F.FnMut) should_retain true (list_at T.Key.cmp (grouped T.Key.cmp pairs.old.pairs) key)
         kept result.1
@@ -160,7 +158,7 @@ impl<T: Translator, V: Drop> Part<T, V> for Arrays<T, V> {
             Ok(()) => {
                 let run = start..self.pairs.len() - behind;
                 let (left, stays) = retain_run::<T, V, F>(&mut self.pairs, key, run, should_retain);
-                let taken = if stays { had - (left - 1) } else { had - left };
+                let taken = had + usize::from(stays) - left;
                 Ok(Retained { had, left, taken })
             }
             Err(refused) => Err(refused.value),

@@ -10,7 +10,7 @@ ghost use Rattle.std.specs.Vec.{vec_capacity};
 ghost use Rattle.std.specs.Vec.Iter.{into_iter_items};
 ghost use Rattle.key_index_flat.specs.Content.{Content};
 ghost use Rattle.key_index_flat.specs.Neighbours.{entries_above, entries_below, first_list, last_list};
-ghost use Rattle.key_index_parts.specs.Pairs.{Pairs, Paired, IsRun, count_below, count_upto, with_value, run_of, grouped, list_of, room_of, room_for};
+ghost use Rattle.key_index_parts.specs.Pairs.{Pairs, Paired, IsFound, IsRun, count_below, count_upto, with_value, run_of, grouped, list_of, room_of, room_for};
 
 use key_index_flat::index::{Fault, Refused};
 use std::alloc::{AllocError, Global};
@@ -309,9 +309,7 @@ impl<K: Ord + Copy, V: Drop> Partition<K, V> {
 
     /// The places of the pairs of a key. Where it has none, they begin and end where a pair of it belongs.
     pub fn run_range(&self, key: &K) -> Range<usize>
-        ensures run { IsRun K.cmp self.now.pairs key.now result.start result.end }
-        ensures within { result.end ≤ length self.now.pairs }
-        ensures sorted { IsSorted K.cmp (keys_of self.now.pairs) }
+        ensures { IsFound K.cmp self.now.pairs key.now result.start result.end }
     {
         let keys = self.keys.as_slice();
         let start = lower_bound(keys, key);

@@ -1,11 +1,12 @@
 //! A part as a flat unordered index in a box.
 ghost use Rattle.std.specs.Prelude.{◌≡◌, ◌≤◌, None, true, not, length, insert, IsSome, IfOk, IfErr, OnOk, OnErr};
 ghost use Rattle.key_index_flat.specs.Content.{is_filled, list_at, with_list_by};
-ghost use Rattle.key_index_flat.specs.Held.{held};
+ghost use Rattle.key_index_flat.specs.Unordered.{held};
 ghost use Rattle.key_index_parts.specs.Boxed.{held_in, IsLawful-held_in};
 
 use crate::index::partitioned::part::{Held, Part};
-use key_index_flat::index::{Factory, Fault, Lists, Retained, Runs, Unordered, Values, unordered};
+use key_index_flat::index::implement::{Lists, Retained};
+use key_index_flat::index::{Factory, Fault, Runs, Unordered, Values, unordered};
 use key_index_flat::translator::Translator;
 use std::alloc::Global;
 

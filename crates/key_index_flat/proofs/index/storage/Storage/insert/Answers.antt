@@ -4,7 +4,7 @@ use Rattle.key_index_flat.proofs.KeptLemmas.{lawful_edit, counted_edit}
 use Rattle.key_index_flat.proofs.index.storage.Storage.insert.Goals as goal
 
 pub invariant_of-self : goal.invariant_of-self
-invariant_of-self g c = counted_edit g.met.T.Key.Ord.total _ _ c.transform-slot.result (c.args.value ∷ list_at g.T.Key.Ord.cmp c.self.inside.chains c.transform-slot.result) _ _ c.self.invariant c.in-Ok.ensures.accepted (omega arith)
+invariant_of-self g c = counted_edit g.met.T.Key.Ord.total _ _ c.args.slot (c.args.value ∷ list_at g.T.Key.Ord.cmp c.self.inside.chains c.args.slot) _ _ c.self.invariant c.in-Ok.ensures.accepted (omega arith)
 
 pub returns-in-Ok-clause-lawful : goal.returns-in-Ok-clause-lawful
-returns-in-Ok-clause-lawful g c = lawful_edit g.met.T.Key.Ord.total _ _ c.transform-slot.result (c.args.value ∷ list_at g.T.Key.Ord.cmp c.self.inside.chains c.transform-slot.result) c.self.invariant.lawful c.in-Ok.ensures.accepted
+returns-in-Ok-clause-lawful g c = lawful_edit g.met.T.Key.Ord.total _ _ c.args.slot (c.args.value ∷ list_at g.T.Key.Ord.cmp c.self.inside.chains c.args.slot) c.self.invariant.lawful c.in-Ok.ensures.accepted

@@ -13,7 +13,7 @@ loop-key-preserved g c =
     let older = older_at g.K.PartialEq.eq c.args.older.now in
     let es = map deref_pair c.loop-key.yielded in
     let e : g.row.K.Denot × g.row.V.Denot = (c.in-Some.key.now, c.in-Some.newest.now) in
-    let list : c.newest_first.result ≡ e.1 ∷ reverse (older e.0) = c.newest_first.ensures ∙ ap (λ l. e.1 ∷ reverse l) c.older_of.ensures in
+    let list : c.newest_first.result ≡ e.1 ∷ reverse (older e.0) = c.newest_first.ensures ∙ ap (λ l. e.1 ∷ reverse l) c.older_of.ensures.values in
     let more = ap (λ l. in_turn older l) (map-append deref_pair c.loop-key.yielded ((c.in-Some.key, c.in-Some.newest) ∷ [])) ∙ in_turn-more older es e in (
       subst (λ l. VisitsInTurn (CalledAt g.F.FnMut) c.args.visit.now l c.visit_in_turn.new.visit) (sym more)
           (visits_append (CalledAt g.F.FnMut) c.args.visit.now c.loop-key.visit c.visit_in_turn.new.visit (in_turn older es) (e.1 ∷ reverse (older e.0)) c.loop-key.invariant.0

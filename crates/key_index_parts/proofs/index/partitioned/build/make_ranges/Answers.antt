@@ -3,7 +3,7 @@ use Rattle.std.specs.Prelude.{slice_index, Some}
 use Rattle.std.specs.List.{slice_get}
 use Rattle.key_index_parts.specs.Joined.{is_between}
 use Rattle.key_index_parts.specs.Ranges.{IsFilled}
-use Rattle.key_index_parts.proofs.RangeLemmas.{cuts_from, filled_none, get_append, pushed}
+use Rattle.key_index_parts.proofs.RangeLemmas.{cuts_from, filled_none, get_append}
 use Rattle.key_index_parts.proofs.index.partitioned.build.make_ranges.Goals as goal
 
 pub new_range-requires : goal.new_range-requires
@@ -24,7 +24,7 @@ cuts-preserved g c =
     let range = c.in_ok-range.range in
     let long = c.cuts.invariant.long in
     let lt = c.cuts-test.true in
-    let items : c.push.new.self.items ≡ ranges ++ range ∷ [] = pushed c.push.result c.is_err.result c.push.new.self.items ranges (ranges ++ range ∷ []) c.is_err.ensures.value c.if-is_err.false c.push.ensures.items in
+    let items : c.push.new.self.items ≡ ranges ++ range ∷ [] = c.in_ok-push.ensures.items in
     let longer = length-append ranges (range ∷ []) in
     let size : length c.push.new.self.items ≡ length (ranges ++ range ∷ []) = ap (λ l. length l) items in
     let before : at - 1 ≡ length ranges = omega (arith, long) in

@@ -6,7 +6,7 @@ use Rattle.key_index_flat.proofs.index.storage.chains.Chains.run_len.Goals as go
 pub returns-in-Some : goal.returns-in-Some
 returns-in-Some g c =
     rw (← c.self.view_is) (
-    ap (λ older. 1 + length older) c.older_of.ensures ∙ sym (length-list_of c.in-Some.field-0.now (older_at g.T.Key.PartialEq.eq c.self.inside.older c.args.slot))
+    ap (λ older. 1 + length older) c.older_of.ensures.values ∙ sym (length-list_of c.in-Some.field-0.now (older_at g.T.Key.PartialEq.eq c.self.inside.older c.args.slot))
     ∙ ap (λ newest. length (list_of newest (older_at g.T.Key.PartialEq.eq c.self.inside.older c.args.slot))) c.in-Some.ensures
     ∙ ap (λ l. length l) (sym (list_at-content_of g.met.T.Key.Ord.total g.met.T.Translator.exact (g.M.Heads.entries c.self.inside.heads) (older_at g.T.Key.PartialEq.eq c.self.inside.older) c.args.slot))
     )

@@ -26,7 +26,7 @@ overflow_sub-result g c =
     let list = list_at-content_of g.met.T.Key.Ord.total g.met.T.Translator.exact (g.M.Heads.entries c.self.inside.heads) (older_at g.T.Key.PartialEq.eq c.self.inside.older) c.args.slot in
     let held : c.args.place < length (list_of (value_of g.T.Key.Ord.cmp (g.M.Heads.entries c.self.inside.heads) c.args.slot) (older_at g.T.Key.PartialEq.eq c.self.inside.older c.args.slot)) = omega (arith, ap (λ l. length l) list, place) in
     let within = place_older _ _ c.args.place held in
-    omega (arith, within, ap (λ l. length l) c.older_of-older.ensures)
+    omega (arith, within, ap (λ l. length l) c.older_of-older.ensures.values)
 
 pub bounds-older-older : goal.bounds-older-older
 bounds-older-older g c =
@@ -34,7 +34,7 @@ bounds-older-older g c =
     let list = list_at-content_of g.met.T.Key.Ord.total g.met.T.Translator.exact (g.M.Heads.entries c.self.inside.heads) (older_at g.T.Key.PartialEq.eq c.self.inside.older) c.args.slot in
     let held : c.args.place < length (list_of (value_of g.T.Key.Ord.cmp (g.M.Heads.entries c.self.inside.heads) c.args.slot) (older_at g.T.Key.PartialEq.eq c.self.inside.older c.args.slot)) = omega (arith, ap (λ l. length l) list, place) in
     let within = place_older _ _ c.args.place held in
-    omega (arith, within, ap (λ l. length l) c.older_of-older.ensures, c.if-place-eq0.false)
+    omega (arith, within, ap (λ l. length l) c.older_of-older.ensures.values, c.if-place-eq0.false)
 
 pub returns : goal.returns
 returns g c =
@@ -43,5 +43,5 @@ returns g c =
     let list = list_at-content_of g.met.T.Key.Ord.total g.met.T.Translator.exact (g.M.Heads.entries c.self.inside.heads) (older_at g.T.Key.PartialEq.eq c.self.inside.older) c.args.slot in
     let held : c.args.place < length (list_of (value_of g.T.Key.Ord.cmp (g.M.Heads.entries c.self.inside.heads) c.args.slot) (older_at g.T.Key.PartialEq.eq c.self.inside.older c.args.slot)) = omega (arith, ap (λ l. length l) list, place) in
     ap (λ l. slice_get l c.args.place) list ∙ slice_get-older _ (older_at g.T.Key.PartialEq.eq c.self.inside.older c.args.slot) c.args.place c.index-older-older.result c.if-place-eq0.false held
-    ∙ ap (λ l. Some (get_or l (length l - c.args.place) c.index-older-older.result)) (sym c.older_of-older.ensures) ∙ ap (λ v. Some v) (sym c.index-older-older.is)
+    ∙ ap (λ l. Some (get_or l (length l - c.args.place) c.index-older-older.result)) (sym c.older_of-older.ensures.values) ∙ ap (λ v. Some v) (sym c.index-older-older.is)
     )

@@ -15,7 +15,7 @@ returns-then-not-has_room-clause-fault g c =
 
 pub install-requires : goal.install-requires
 install-requires g c =
-    (search rules, (omega (arith, c.args.range.within, c.args.self.now.whole), (c.requires, c.has_room.ensures.0 c.if-not-has_room.false)))
+    (search rules, (omega (arith, c.args.range.is_range.within, c.args.self.now.is_index.whole), (c.requires, c.has_room.ensures.0 c.if-not-has_room.false)))
 
 pub returns-clause-room : goal.returns-clause-room
 returns-clause-room g c =

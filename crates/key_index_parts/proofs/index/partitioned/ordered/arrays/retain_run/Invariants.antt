@@ -1,10 +1,8 @@
 use Rattle.std.proofs.Common.{◌-◌, ◌≡◌, ◌≤◌, true, take, drop}
 use Rattle.std.specs.Fn.{CalledAt}
-use Rattle.std.specs.List.Sorted.{IsSorted}
-use Rattle.std.specs.Map.{keys_of}
 use denote.Param.Always.{always_mut}
 use Rattle.key_index_flat.specs.Content.{list_at, with_list}
-use Rattle.key_index_parts.specs.Pairs.{IsRun, grouped}
+use Rattle.key_index_parts.specs.Pairs.{IsFound, grouped}
 use Rattle.key_index_parts.proofs.KeptInTurn.{KeptInTurn}
 use Rattle.key_index_parts.proofs.index.partitioned.ordered.arrays.retain_run.Given as goal
 
@@ -12,8 +10,7 @@ abbrev pub invariant-loop-place : goal.invariant-loop-place
 invariant-loop-place g l = record {
   from : l.fn.run.start ≤ l.place;
   within : l.place ≤ l.end;
-  sorted : IsSorted g.T.Key.Ord.cmp (keys_of l.pairs.pairs);
-  run : IsRun g.T.Key.Ord.cmp l.pairs.pairs l.fn.key l.fn.run.start l.end;
+  found : IsFound g.T.Key.Ord.cmp l.pairs.pairs l.fn.key l.fn.run.start l.end;
   content : grouped g.T.Key.Ord.cmp l.pairs.pairs
       ≡ with_list g.T.Key.Ord.cmp (grouped g.T.Key.Ord.cmp l.fn.pairs.pairs) l.fn.key (list_at g.T.Key.Ord.cmp (grouped g.T.Key.Ord.cmp l.pairs.pairs) l.fn.key);
   kept : KeptInTurn (CalledAt g.F.FnMut) l.fn.should_retain true (list_at g.T.Key.Ord.cmp (grouped g.T.Key.Ord.cmp l.fn.pairs.pairs) l.fn.key) l.should_retain l.stays

@@ -1,7 +1,7 @@
 use Rattle.std.proofs.Common.{◌≡◌, ℕ, ◌≤◌, map, false, refl, sym, ap, subst, ◌∙◌}
 use Rattle.key_index_flat.specs.Neighbours.{first_list}
 use Rattle.key_index_parts.specs.Filled.{IsFirst, flag_at}
-use Rattle.key_index_parts.proofs.FamilyLemmas.{inside_parts, part_told}
+use Rattle.key_index_parts.proofs.FamilyLemmas.{part_taken, part_told}
 use Rattle.key_index_parts.proofs.FamilyNeighbours.{flag_within, first_of, first_none}
 use Rattle.key_index_parts.proofs.index.partitioned.parts.Parts.first_from.Goals as goal
 
@@ -11,9 +11,9 @@ returns-in-Some g c =
     let xs = c.self.inside.parts.items in
     let n = c.in-Some.number in
     let found = subst (λ flags. IsFirst (flag_at flags) c.args.start n) c.self.invariant c.in-Some.ensures in
-    let inside = inside_parts f xs (map f xs) n refl (flag_within (map f xs) n found.here) in
+    let part = part_taken f xs refl (flag_within (map f xs) n found.here) c.index.ensures in
     rw (← c.self.view_is)
-    (c.first.ensures ∙ ap (λ d. first_list d) (part_told g.T.Key.Ord.cmp f xs n c.index.result.now inside c.index.ensures) ∙ sym (first_of (map f xs) c.args.start n found))
+    (c.first.ensures ∙ ap (λ d. first_list d) (part_told g.T.Key.Ord.cmp part) ∙ sym (first_of (map f xs) c.args.start n found))
 
 pub returns-in-None : goal.returns-in-None
 returns-in-None g c =

@@ -3,32 +3,18 @@ use Rattle.std.specs.Fn.{CalledAt}
 use Rattle.std.specs.List.{items_where_true}
 use Rattle.key_index_flat.specs.Content.{is_filled, list_at}
 use Rattle.key_index_parts.specs.Family.{RetainsWith, with_list_in}
-use Rattle.key_index_parts.proofs.FamilyLemmas.{inside_parts, not_not, list_told, part_edited, part_stays, flags_edited, flags_stay}
+use Rattle.key_index_parts.proofs.FamilyLemmas.{part_taken, not_not, list_told, part_edited, part_stays, flags_edited, flags_stay}
 use Rattle.key_index_parts.proofs.index.partitioned.parts.Parts.insert_and_retain.Goals as goal
 
 pub invariant_of-self : goal.invariant_of-self
 invariant_of-self g c =
-    let cmp = g.T.Key.Ord.cmp in
-    let f = g.X.Held.content in
-    let xs = c.self.inside.parts.items in
-    let n = c.args.slot.0 in
-    let k = c.args.slot.1 in
-    let inside = inside_parts f xs c.args.self.now n c.self.view_is (c.requires.within) in
-    let x = c.index_mut-part.result.now in
-    let at = c.index_mut-part.ensures.value in
-    c.set.ensures ∙ flags_edited cmp f xs n x inside at c.self.inside.filled c.insert_and_retain.new.self _ c.self.invariant (not_not _ _ c.is_empty-holds.ensures)
+    let part = part_taken g.X.Held.content c.self.inside.parts.items c.self.view_is c.requires.within c.index_mut-part.ensures.value in
+    c.set.ensures ∙ flags_edited g.T.Key.Ord.cmp part c.self.inside.filled c.insert_and_retain.new.self _ c.self.invariant (not_not _ _ c.is_empty-holds.ensures)
 
 pub invariant_of-self-in-Err : goal.invariant_of-self-in-Err
 invariant_of-self-in-Err g c =
-    let cmp = g.T.Key.Ord.cmp in
-    let f = g.X.Held.content in
-    let xs = c.self.inside.parts.items in
-    let n = c.args.slot.0 in
-    let k = c.args.slot.1 in
-    let inside = inside_parts f xs c.args.self.now n c.self.view_is (c.requires.within) in
-    let x = c.index_mut-part.result.now in
-    let at = c.index_mut-part.ensures.value in
-    flags_stay cmp f xs n x inside at c.self.inside.filled c.insert_and_retain.new.self c.self.invariant (ap is_filled c.in-Err.ensures.refused)
+    let part = part_taken g.X.Held.content c.self.inside.parts.items c.self.view_is c.requires.within c.index_mut-part.ensures.value in
+    flags_stay g.T.Key.Ord.cmp part c.self.inside.filled c.insert_and_retain.new.self c.self.invariant (ap is_filled c.in-Err.ensures.refused)
 
 pub returns-in-Ok-clause-accepted : goal.returns-in-Ok-clause-accepted
 returns-in-Ok-clause-accepted g c =
@@ -37,24 +23,16 @@ returns-in-Ok-clause-accepted g c =
     let xs = c.self.inside.parts.items in
     let n = c.args.slot.0 in
     let k = c.args.slot.1 in
-    let inside = inside_parts f xs c.args.self.now n c.self.view_is (c.requires.within) in
+    let part = part_taken g.X.Held.content c.self.inside.parts.items c.self.view_is c.requires.within c.index_mut-part.ensures.value in
     let x = c.index_mut-part.result.now in
-    let at = c.index_mut-part.ensures.value in
     let said = c.in-Ok.ensures.accepted in
-    let list = list_told cmp f xs n x inside at k in
+    let list = list_told cmp part k in
     rw (← c.self.view_is)
     (subst (λ l. RetainsWith (CalledAt g.F.FnMut) c.args.should_retain l c.args.value c.in-Ok.retained.had c.in-Ok.retained.left c.in-Ok.retained.taken
     (λ m. map f (set xs n c.insert_and_retain.new.self) ≡ with_list_in cmp (map f xs) c.args.slot m)) list
-    (said.0, said.1, said.2, said.3, part_edited cmp f xs n x inside at c.insert_and_retain.new.self k (λ l. items_where_true said.0 (list_at cmp (f x) k ++ c.args.value ∷ [])) said.4, said.5, said.6, said.7))
+    (said.0, said.1, said.2, said.3, part_edited cmp part c.insert_and_retain.new.self k (λ l. items_where_true said.0 (list_at cmp (f x) k ++ c.args.value ∷ [])) said.4, said.5, said.6, said.7))
 
 pub returns-in-Err-clause-refused : goal.returns-in-Err-clause-refused
 returns-in-Err-clause-refused g c =
-    let cmp = g.T.Key.Ord.cmp in
-    let f = g.X.Held.content in
-    let xs = c.self.inside.parts.items in
-    let n = c.args.slot.0 in
-    let k = c.args.slot.1 in
-    let inside = inside_parts f xs c.args.self.now n c.self.view_is (c.requires.within) in
-    let x = c.index_mut-part.result.now in
-    let at = c.index_mut-part.ensures.value in
-    rw (← c.self.view_is) (part_stays cmp f xs n x inside at c.insert_and_retain.new.self c.in-Err.ensures.refused)
+    let part = part_taken g.X.Held.content c.self.inside.parts.items c.self.view_is c.requires.within c.index_mut-part.ensures.value in
+    rw (← c.self.view_is) (part_stays g.T.Key.Ord.cmp part c.insert_and_retain.new.self c.in-Err.ensures.refused)

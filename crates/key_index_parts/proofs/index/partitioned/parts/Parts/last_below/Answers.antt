@@ -1,7 +1,7 @@
 use Rattle.std.proofs.Common.{◌≡◌, ℕ, ◌<◌, map, false, refl, sym, ap, subst, ◌∙◌}
 use Rattle.key_index_flat.specs.Neighbours.{last_list}
 use Rattle.key_index_parts.specs.Filled.{IsLast, flag_at}
-use Rattle.key_index_parts.proofs.FamilyLemmas.{inside_parts, part_told}
+use Rattle.key_index_parts.proofs.FamilyLemmas.{part_taken, part_told}
 use Rattle.key_index_parts.proofs.FamilyNeighbours.{flag_within, last_of, last_none}
 use Rattle.key_index_parts.proofs.index.partitioned.parts.Parts.last_below.Goals as goal
 
@@ -11,9 +11,9 @@ returns-in-Some g c =
     let xs = c.self.inside.parts.items in
     let n = c.in-Some.number in
     let found = subst (λ flags. IsLast (flag_at flags) c.args.end n) c.self.invariant c.in-Some.ensures in
-    let inside = inside_parts f xs (map f xs) n refl (flag_within (map f xs) n found.here) in
+    let part = part_taken f xs refl (flag_within (map f xs) n found.here) c.index.ensures in
     rw (← c.self.view_is)
-    (c.last.ensures ∙ ap (λ d. last_list d) (part_told g.T.Key.Ord.cmp f xs n c.index.result.now inside c.index.ensures) ∙ sym (last_of (map f xs) c.args.end n found))
+    (c.last.ensures ∙ ap (λ d. last_list d) (part_told g.T.Key.Ord.cmp part) ∙ sym (last_of (map f xs) c.args.end n found))
 
 pub returns-in-None : goal.returns-in-None
 returns-in-None g c =

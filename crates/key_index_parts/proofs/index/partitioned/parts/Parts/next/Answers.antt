@@ -1,7 +1,7 @@
 use Rattle.std.proofs.Common.{◌≡◌, sym, ap, ◌∙◌}
 use Rattle.key_index_flat.specs.Neighbours.{entries_above, first_list}
 use Rattle.key_index_parts.specs.Family.{part_at}
-use Rattle.key_index_parts.proofs.FamilyLemmas.{inside_parts, part_told}
+use Rattle.key_index_parts.proofs.FamilyLemmas.{part_taken, part_told}
 use Rattle.key_index_parts.proofs.FamilyNeighbours.{next_own, next_later, next_cycled}
 use Rattle.key_index_parts.proofs.index.partitioned.parts.Parts.next.Goals as goal
 
@@ -9,10 +9,9 @@ pub returns-in-Some : goal.returns-in-Some
 returns-in-Some g c =
     let cmp = g.T.Key.Ord.cmp in
     let f = g.X.Held.content in
-    let xs = c.self.inside.parts.items in
     let n = c.args.slot.0 in
-    let inside = inside_parts f xs c.args.self.now n c.self.view_is c.requires in
-    let told : f c.index.result.now ≡ part_at c.args.self.now n = part_told cmp f xs n c.index.result.now inside c.index.ensures ∙ ap (λ p. part_at p n) c.self.view_is in
+    let part = part_taken g.X.Held.content c.self.inside.parts.items c.self.view_is c.requires c.index.ensures in
+    let told : f c.index.result.now ≡ part_at c.args.self.now n = part_told cmp part ∙ ap (λ p. part_at p n) c.self.view_is in
     let own = ap (λ d. first_list (entries_above cmp d c.args.slot.1)) (sym told) in
     sym (next_own cmp c.args.self.now c.args.slot _ (own ∙ sym c.in-Some.ensures))
 
@@ -20,10 +19,9 @@ pub returns-in-Some-first_from : goal.returns-in-Some-first_from
 returns-in-Some-first_from g c =
     let cmp = g.T.Key.Ord.cmp in
     let f = g.X.Held.content in
-    let xs = c.self.inside.parts.items in
     let n = c.args.slot.0 in
-    let inside = inside_parts f xs c.args.self.now n c.self.view_is c.requires in
-    let told : f c.index.result.now ≡ part_at c.args.self.now n = part_told cmp f xs n c.index.result.now inside c.index.ensures ∙ ap (λ p. part_at p n) c.self.view_is in
+    let part = part_taken g.X.Held.content c.self.inside.parts.items c.self.view_is c.requires c.index.ensures in
+    let told : f c.index.result.now ≡ part_at c.args.self.now n = part_told cmp part ∙ ap (λ p. part_at p n) c.self.view_is in
     let own = ap (λ d. first_list (entries_above cmp d c.args.slot.1)) (sym told) in
     sym (next_later cmp c.args.self.now c.args.slot _ (own ∙ sym c.in-None.ensures) (sym c.in-Some-first_from.ensures))
 
@@ -31,10 +29,9 @@ pub returns-in-Some-first : goal.returns-in-Some-first
 returns-in-Some-first g c =
     let cmp = g.T.Key.Ord.cmp in
     let f = g.X.Held.content in
-    let xs = c.self.inside.parts.items in
     let n = c.args.slot.0 in
-    let inside = inside_parts f xs c.args.self.now n c.self.view_is c.requires in
-    let told : f c.index.result.now ≡ part_at c.args.self.now n = part_told cmp f xs n c.index.result.now inside c.index.ensures ∙ ap (λ p. part_at p n) c.self.view_is in
+    let part = part_taken g.X.Held.content c.self.inside.parts.items c.self.view_is c.requires c.index.ensures in
+    let told : f c.index.result.now ≡ part_at c.args.self.now n = part_told cmp part ∙ ap (λ p. part_at p n) c.self.view_is in
     let own = ap (λ d. first_list (entries_above cmp d c.args.slot.1)) (sym told) in
     sym (next_cycled cmp c.args.self.now c.args.slot _ (own ∙ sym c.in-None.ensures) (sym c.in-None-first_from.ensures) (sym c.in-Some-first.ensures))
 
@@ -42,9 +39,8 @@ pub returns-in-None-first : goal.returns-in-None-first
 returns-in-None-first g c =
     let cmp = g.T.Key.Ord.cmp in
     let f = g.X.Held.content in
-    let xs = c.self.inside.parts.items in
     let n = c.args.slot.0 in
-    let inside = inside_parts f xs c.args.self.now n c.self.view_is c.requires in
-    let told : f c.index.result.now ≡ part_at c.args.self.now n = part_told cmp f xs n c.index.result.now inside c.index.ensures ∙ ap (λ p. part_at p n) c.self.view_is in
+    let part = part_taken g.X.Held.content c.self.inside.parts.items c.self.view_is c.requires c.index.ensures in
+    let told : f c.index.result.now ≡ part_at c.args.self.now n = part_told cmp part ∙ ap (λ p. part_at p n) c.self.view_is in
     let own = ap (λ d. first_list (entries_above cmp d c.args.slot.1)) (sym told) in
     sym (next_cycled cmp c.args.self.now c.args.slot _ (own ∙ sym c.in-None.ensures) (sym c.in-None-first_from.ensures) (sym c.in-None-first.ensures))

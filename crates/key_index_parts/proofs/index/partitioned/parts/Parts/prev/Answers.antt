@@ -1,7 +1,7 @@
 use Rattle.std.proofs.Common.{◌≡◌, sym, ap, ◌∙◌}
 use Rattle.key_index_flat.specs.Neighbours.{entries_below, last_list}
 use Rattle.key_index_parts.specs.Family.{part_at}
-use Rattle.key_index_parts.proofs.FamilyLemmas.{inside_parts, part_told}
+use Rattle.key_index_parts.proofs.FamilyLemmas.{part_taken, part_told}
 use Rattle.key_index_parts.proofs.FamilyNeighbours.{prev_own, prev_earlier, prev_cycled}
 use Rattle.key_index_parts.proofs.index.partitioned.parts.Parts.prev.Goals as goal
 
@@ -9,10 +9,9 @@ pub returns-in-Some : goal.returns-in-Some
 returns-in-Some g c =
     let cmp = g.T.Key.Ord.cmp in
     let f = g.X.Held.content in
-    let xs = c.self.inside.parts.items in
     let n = c.args.slot.0 in
-    let inside = inside_parts f xs c.args.self.now n c.self.view_is c.requires in
-    let told : f c.index.result.now ≡ part_at c.args.self.now n = part_told cmp f xs n c.index.result.now inside c.index.ensures ∙ ap (λ p. part_at p n) c.self.view_is in
+    let part = part_taken g.X.Held.content c.self.inside.parts.items c.self.view_is c.requires c.index.ensures in
+    let told : f c.index.result.now ≡ part_at c.args.self.now n = part_told cmp part ∙ ap (λ p. part_at p n) c.self.view_is in
     let own = ap (λ d. last_list (entries_below cmp d c.args.slot.1)) (sym told) in
     sym (prev_own cmp c.args.self.now c.args.slot _ (own ∙ sym c.in-Some.ensures))
 
@@ -20,10 +19,9 @@ pub returns-in-Some-last_below : goal.returns-in-Some-last_below
 returns-in-Some-last_below g c =
     let cmp = g.T.Key.Ord.cmp in
     let f = g.X.Held.content in
-    let xs = c.self.inside.parts.items in
     let n = c.args.slot.0 in
-    let inside = inside_parts f xs c.args.self.now n c.self.view_is c.requires in
-    let told : f c.index.result.now ≡ part_at c.args.self.now n = part_told cmp f xs n c.index.result.now inside c.index.ensures ∙ ap (λ p. part_at p n) c.self.view_is in
+    let part = part_taken g.X.Held.content c.self.inside.parts.items c.self.view_is c.requires c.index.ensures in
+    let told : f c.index.result.now ≡ part_at c.args.self.now n = part_told cmp part ∙ ap (λ p. part_at p n) c.self.view_is in
     let own = ap (λ d. last_list (entries_below cmp d c.args.slot.1)) (sym told) in
     sym (prev_earlier cmp c.args.self.now c.args.slot _ (own ∙ sym c.in-None.ensures) (sym c.in-Some-last_below.ensures))
 
@@ -31,10 +29,9 @@ pub returns-in-Some-last : goal.returns-in-Some-last
 returns-in-Some-last g c =
     let cmp = g.T.Key.Ord.cmp in
     let f = g.X.Held.content in
-    let xs = c.self.inside.parts.items in
     let n = c.args.slot.0 in
-    let inside = inside_parts f xs c.args.self.now n c.self.view_is c.requires in
-    let told : f c.index.result.now ≡ part_at c.args.self.now n = part_told cmp f xs n c.index.result.now inside c.index.ensures ∙ ap (λ p. part_at p n) c.self.view_is in
+    let part = part_taken g.X.Held.content c.self.inside.parts.items c.self.view_is c.requires c.index.ensures in
+    let told : f c.index.result.now ≡ part_at c.args.self.now n = part_told cmp part ∙ ap (λ p. part_at p n) c.self.view_is in
     let own = ap (λ d. last_list (entries_below cmp d c.args.slot.1)) (sym told) in
     sym (prev_cycled cmp c.args.self.now c.args.slot _ (own ∙ sym c.in-None.ensures) (sym c.in-None-last_below.ensures) (sym c.in-Some-last.ensures))
 
@@ -42,9 +39,8 @@ pub returns-in-None-last : goal.returns-in-None-last
 returns-in-None-last g c =
     let cmp = g.T.Key.Ord.cmp in
     let f = g.X.Held.content in
-    let xs = c.self.inside.parts.items in
     let n = c.args.slot.0 in
-    let inside = inside_parts f xs c.args.self.now n c.self.view_is c.requires in
-    let told : f c.index.result.now ≡ part_at c.args.self.now n = part_told cmp f xs n c.index.result.now inside c.index.ensures ∙ ap (λ p. part_at p n) c.self.view_is in
+    let part = part_taken g.X.Held.content c.self.inside.parts.items c.self.view_is c.requires c.index.ensures in
+    let told : f c.index.result.now ≡ part_at c.args.self.now n = part_told cmp part ∙ ap (λ p. part_at p n) c.self.view_is in
     let own = ap (λ d. last_list (entries_below cmp d c.args.slot.1)) (sym told) in
     sym (prev_cycled cmp c.args.self.now c.args.slot _ (own ∙ sym c.in-None.ensures) (sym c.in-None-last_below.ensures) (sym c.in-None-last.ensures))

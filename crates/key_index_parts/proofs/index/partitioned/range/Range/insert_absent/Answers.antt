@@ -7,7 +7,7 @@ pub returns-clause-inserted : goal.returns-clause-inserted
 returns-clause-inserted g c =
     let range = c.args.self.now in
     if_ok c.insert_absent.result _ _ (λ n says none.
-    seen_edited g.T.Key.Ord.cmp g.row.P g.T.Translator.translated range.offset range.storage c.insert_absent.new.self c.own-own.result c.args.slot c.own-own.ensures c.insert_absent.ensures.sized
+    seen_edited g.T.Key.Ord.cmp g.row.P g.T.Translator.translated range.offset range.storage c.insert_absent.new.self c.own-own.result c.args.slot c.own-own.ensures c.insert_absent.ensures.kept.sized
     (λ _. c.args.value ∷ []) (says none)) c.insert_absent.ensures.inserted
 
 pub returns-clause-len : goal.returns-clause-len

@@ -16,7 +16,7 @@ pub returns-clause-accepted : goal.returns-clause-accepted
 returns-clause-accepted g c =
     let range = c.args.self.now in
     on_ok c.insert_at.result _ _ (λ e.
-    seen_edited g.T.Key.Ord.cmp g.row.P g.T.Translator.translated range.offset range.storage c.insert_at.new.self c.own-own.result c.args.slot c.own-own.ensures c.insert_at.ensures.sized
+    seen_edited g.T.Key.Ord.cmp g.row.P g.T.Translator.translated range.offset range.storage c.insert_at.new.self c.own-own.result c.args.slot c.own-own.ensures c.insert_at.ensures.kept.sized
     (λ l. insert l c.args.place c.args.value) e) c.insert_at.ensures.accepted
 
 pub returns-clause-room : goal.returns-clause-room

@@ -18,5 +18,5 @@ returns-clause-value g c =
 pub returns-clause-changed : goal.returns-clause-changed
 returns-clause-changed g c =
     let range = c.args.self.now in
-    seen_pruned g.T.Key.Ord.cmp g.row.P g.T.Translator.translated range.offset range.storage c.remove_at.new.self c.own-own.result c.args.slot c.own-own.ensures c.remove_at.ensures.sized
+    seen_pruned g.T.Key.Ord.cmp g.row.P g.T.Translator.translated range.offset range.storage c.remove_at.new.self c.own-own.result c.args.slot c.own-own.ensures c.remove_at.ensures.kept.sized
     (λ l. remove l c.args.place) 1 c.remove_at.ensures.edited

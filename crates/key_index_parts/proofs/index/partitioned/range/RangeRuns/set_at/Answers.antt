@@ -13,5 +13,5 @@ set_at-requires g c =
 pub returns-clause-changed : goal.returns-clause-changed
 returns-clause-changed g c =
     let range = c.args.self.now in
-    seen_edited g.T.Key.Ord.cmp g.row.P g.T.Translator.translated range.offset range.storage c.set_at.new.self c.own-own.result c.args.slot c.own-own.ensures c.set_at.ensures.sized
+    seen_edited g.T.Key.Ord.cmp g.row.P g.T.Translator.translated range.offset range.storage c.set_at.new.self c.own-own.result c.args.slot c.own-own.ensures c.set_at.ensures.kept.sized
     (λ l. slice_set l c.args.place c.args.value) c.set_at.ensures.edited

@@ -10,5 +10,5 @@ returns g c =
     let other = sym (ap (λ s. item_count (gathered s.parts)) c.range.view_is) in
     let was = c.self.invariant.counted in
     let more = c.range.invariant.counted in
-    let small : c.self.inside.items < 2 ^ 64 = search rules in
+    let small : c.self.inside.counts.items < 2 ^ 64 = search rules in
     (λ r. let l = leb-true _ _ r in omega (arith, l, own, other, was, more, small), λ h. le-leb _ _ (omega (arith, h, own, other, was, more, small)))

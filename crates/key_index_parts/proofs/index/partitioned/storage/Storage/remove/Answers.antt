@@ -1,71 +1,32 @@
-use Rattle.std.proofs.Common.{rules, ◌≡◌, ◌<◌, ◌^◌, [], length, refl, ap, subst, sym, ◌∙◌, arith}
-use Rattle.key_index_flat.specs.Content.{list_at}
-use Rattle.key_index_flat.specs.View.{run_at, with_run, with_pruned}
-use Rattle.key_index_parts.specs.Family.{list_in, view_of}
-use Rattle.key_index_parts.specs.Gathered.{pair_cmp, gathered}
-use Rattle.key_index_parts.specs.Prefix.{slot_by}
-use Rattle.key_index_parts.proofs.StorageLemmas.{list_is, reach, resized, all_entries, items_within, entries_within, counted_edit, edited_lawful, view_pruned}
+use Rattle.std.proofs.Common.{rules, ◌<◌, ◌^◌, [], length, refl, ap, sym, ◌∙◌, arith}
+use Rattle.key_index_flat.specs.View.{pruned_after}
+use Rattle.key_index_parts.proofs.StorageLemmas.{list_is, within, can_change, counted_change, keeps, view_pruned}
 use Rattle.key_index_parts.proofs.index.partitioned.storage.Storage.remove.Goals as goal
 
-pub remove-taken-requires : goal.remove-taken-requires
-remove-taken-requires g c = reach c.self.view_is g.row.P c.requires c.slot_of-slot.result.0 c.slot_of-slot.ensures.within
+pub remove-had-requires : goal.remove-had-requires
+remove-had-requires g c = within c.self.view_is c.args.slot.0 c.requires
 
-pub overflow_sub-self : goal.overflow_sub-self
-overflow_sub-self g c =
-    let slot = c.slot_of-slot.result in
-    let list = list_in g.T.Key.Ord.cmp c.self.inside.parts slot in
-    let inside = reach c.self.view_is g.row.P c.requires slot.0 c.slot_of-slot.ensures.within in
-    let taken = c.remove-taken.ensures.taken in
-    let had = all_entries list c.remove-taken.result c.from.result c.from.ensures taken in
-    let keys = entries_within c.self.invariant g.met.T.Key.Ord.total slot in
-    let items = items_within c.self.invariant g.met.T.Key.Ord.total slot in
-    omega (arith, keys, had)
-
-pub overflow_sub-self-2 : goal.overflow_sub-self-2
-overflow_sub-self-2 g c =
-    let slot = c.slot_of-slot.result in
-    let list = list_in g.T.Key.Ord.cmp c.self.inside.parts slot in
-    let inside = reach c.self.view_is g.row.P c.requires slot.0 c.slot_of-slot.ensures.within in
-    let taken = c.remove-taken.ensures.taken in
-    let had = all_entries list c.remove-taken.result c.from.result c.from.ensures taken in
-    let keys = entries_within c.self.invariant g.met.T.Key.Ord.total slot in
-    let items = items_within c.self.invariant g.met.T.Key.Ord.total slot in
-    omega (arith, items, taken)
+pub change-requires : goal.change-requires
+change-requires g c =
+    let inside = within c.self.view_is c.args.slot.0 c.requires in
+    let small : c.self.inside.counts.items < 2 ^ 64 = search rules in
+    can_change c.self.invariant g.met.T.Key.Ord.total g.met.T.Translator.exact c.args.slot [] c.remove-had.new.self inside c.remove-had.ensures.parts _ 0 c.remove-had.ensures.taken refl (omega (arith, small))
 
 pub invariant_of-self : goal.invariant_of-self
 invariant_of-self g c =
-    let slot = c.slot_of-slot.result in
-    let list = list_in g.T.Key.Ord.cmp c.self.inside.parts slot in
-    let inside = reach c.self.view_is g.row.P c.requires slot.0 c.slot_of-slot.ensures.within in
-    let taken = c.remove-taken.ensures.taken in
-    let had = all_entries list c.remove-taken.result c.from.result c.from.ensures taken in
-    let keys = entries_within c.self.invariant g.met.T.Key.Ord.total slot in
-    let items = items_within c.self.invariant g.met.T.Key.Ord.total slot in
-    counted_edit c.self.invariant g.met.T.Key.Ord.total g.met.T.Translator.exact slot [] c.remove-taken.new.self inside c.remove-taken.ensures.parts _ _ (omega (arith, items, taken)) (omega (arith, keys, had))
+    let inside = within c.self.view_is c.args.slot.0 c.requires in
+    counted_change c.self.invariant g.met.T.Key.Ord.total g.met.T.Translator.exact c.args.slot [] c.remove-had.new.self inside c.remove-had.ensures.parts _ 0 c.remove-had.ensures.taken refl _ _ c.change.ensures.items c.change.ensures.keys
 
 pub returns-clause-removed : goal.returns-clause-removed
 returns-clause-removed g c =
-    let slot = c.slot_of-slot.result in
-    let list = list_in g.T.Key.Ord.cmp c.self.inside.parts slot in
-    let inside = reach c.self.view_is g.row.P c.requires slot.0 c.slot_of-slot.ensures.within in
-    let taken = c.remove-taken.ensures.taken in
-    let of_key = subst (λ s. slot ≡ slot_by g.row.P (g.T.Translator.translated s.translator) c.args.key.now) (sym c.self.view_is) c.slot_of-slot.ensures.slot in
-    let whole = length (list_at (pair_cmp g.T.Key.Ord.cmp) (gathered c.self.inside.parts) slot) in
-    let same : whole ≡ length list = ap (λ l. length l) (list_is c.self.invariant slot) in
-    let seen = view_of g.row.P g.T.Translator.translated (record { translator = c.self.inside.translator; parts = c.self.inside.parts; pruned = c.self.inside.pruned }) in
-    let small : c.self.inside.pruned < 2 ^ 64 = search rules in
+    let inside = within c.self.view_is c.args.slot.0 c.requires in
+    let had = c.remove-had.ensures.taken ∙ ap (λ l. length l) (sym (list_is c.self.invariant c.args.slot)) in
     rw (← c.self.view_is) (
-    view_pruned c.self.invariant g.met.T.Key.Ord.total g.met.T.Translator.exact slot [] c.remove-taken.new.self inside c.remove-taken.ensures.parts g.T.Translator.translated c.self.inside.translator c.self.inside.pruned whole c.saturating_add-self-inside.result (λ _. []) refl (omega (arith, c.saturating_add-self-inside.ensures, small, same, taken))
-    ∙ ap (λ t. with_pruned (with_run (pair_cmp g.T.Key.Ord.cmp) seen t []) (length (run_at (pair_cmp g.T.Key.Ord.cmp) seen t))) of_key
+    view_pruned c.self.invariant g.met.T.Key.Ord.total g.met.T.Translator.exact c.args.slot [] c.remove-had.new.self inside c.remove-had.ensures.parts g.T.Translator.translated c.self.inside.translator _ _ (λ _. []) refl
+    _ (c.change.ensures.pruned ∙ ap (λ n. pruned_after c.self.inside.counts.pruned n) had)
     )
 
-pub returns-clause-lawful : goal.returns-clause-lawful
-returns-clause-lawful g c =
-    let slot = c.slot_of-slot.result in
-    let list = list_in g.T.Key.Ord.cmp c.self.inside.parts slot in
-    let inside = reach c.self.view_is g.row.P c.requires slot.0 c.slot_of-slot.ensures.within in
-    let taken = c.remove-taken.ensures.taken in
-    edited_lawful c.self.invariant g.met.T.Key.Ord.total g.met.T.Translator.exact slot [] c.remove-taken.new.self inside c.remove-taken.ensures.parts
-
-pub returns-clause-sized : goal.returns-clause-sized
-returns-clause-sized g c = rw (← c.self.view_is) (resized g.T.Key.Ord.cmp c.self.inside.parts c.slot_of-slot.result [] c.remove-taken.new.self c.remove-taken.ensures.parts)
+pub returns-clause-kept : goal.returns-clause-kept
+returns-clause-kept g c =
+    let inside = within c.self.view_is c.args.slot.0 c.requires in
+    rw (← c.self.view_is) (keeps c.self.invariant g.met.T.Key.Ord.total g.met.T.Translator.exact c.args.slot [] c.remove-had.new.self inside c.remove-had.ensures.parts)

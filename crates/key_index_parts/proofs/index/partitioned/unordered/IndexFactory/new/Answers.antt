@@ -5,5 +5,12 @@ use Rattle.key_index_parts.proofs.index.partitioned.unordered.IndexFactory.new.G
 pub new-requires : goal.new-requires
 new-requires g c = let is = shifted g.row.P c.requires.1 in (search rules, (c.requires.0, (c.requires.1, omega (arith, is))))
 
-pub invariant_of-result-clause-whole : goal.invariant_of-result-clause-whole
-invariant_of-result-clause-whole g c = c.in-Ok.ensures.sized ∙ shifted g.row.P c.requires.1
+pub invariant_of-result : goal.invariant_of-result
+invariant_of-result g c = record {
+  is_index = record {
+    least = c.requires.0;
+    greatest = c.requires.1;
+    lawful = c.in-Ok.ensures.lawful;
+    whole = c.in-Ok.ensures.sized ∙ shifted g.row.P c.requires.1;
+  };
+}

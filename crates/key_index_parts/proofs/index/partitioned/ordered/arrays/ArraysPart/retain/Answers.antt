@@ -14,14 +14,4 @@ returns-clause-kept g c =
     (kept.0, filtered (CalledAt g.F.FnMut) c.args.should_retain true xs kept.0 c.retain_run-left.result.1 kept.1, kept.2, kept.3)
 
 pub returns-clause-had : goal.returns-clause-had
-returns-clause-had g c =
-    let o = g.met.T.Key.Ord.total in
-    let exact = g.met.T.Translator.exact in
-    let es = c.args.self.now.pairs.pairs in
-    let k = c.args.key in
-    let start = c.run_range-run.result.start in
-    let end = c.run_range-run.result.end in
-    let run = c.run_range-run.ensures.run in
-    let sorted = c.run_range-run.ensures.sorted in
-    let count = run_count o exact es k sorted start end run in
-    omega (arith, count)
+returns-clause-had g c = let count = run_count g.met.T.Key.Ord.total g.met.T.Translator.exact c.run_range-run.ensures in omega (arith, count)

@@ -5,38 +5,12 @@ use Rattle.key_index_parts.proofs.index.partitioned.ordered.arrays.ArraysPart.se
 
 pub overflow_add-run : goal.overflow_add-run
 overflow_add-run g c =
-    let o = g.met.T.Key.Ord.total in
-    let exact = g.met.T.Translator.exact in
-    let es = c.args.self.now.pairs.pairs in
-    let k = c.args.key in
-    let start = c.run_range-run.result.start in
-    let end = c.run_range-run.result.end in
-    let run = c.run_range-run.ensures.run in
-    let sorted = c.run_range-run.ensures.sorted in
-    let count = run_count o exact es k sorted start end run in
-    let small : end < 2 ^ 64 = search rules in
+    let count = run_count g.met.T.Key.Ord.total g.met.T.Translator.exact c.run_range-run.ensures in
+    let small : c.run_range-run.result.end < 2 ^ 64 = search rules in
     omega (arith, count, small, c.requires)
 
 pub set-requires : goal.set-requires
-set-requires g c =
-    let o = g.met.T.Key.Ord.total in
-    let exact = g.met.T.Translator.exact in
-    let es = c.args.self.now.pairs.pairs in
-    let k = c.args.key in
-    let start = c.run_range-run.result.start in
-    let end = c.run_range-run.result.end in
-    let run = c.run_range-run.ensures.run in
-    let sorted = c.run_range-run.ensures.sorted in
-    place_within o exact es k sorted start end run c.args.place c.requires
+set-requires g c = place_within g.met.T.Key.Ord.total g.met.T.Translator.exact c.run_range-run.ensures c.args.place c.requires
 
 pub returns : goal.returns
-returns g c =
-    let o = g.met.T.Key.Ord.total in
-    let exact = g.met.T.Translator.exact in
-    let es = c.args.self.now.pairs.pairs in
-    let k = c.args.key in
-    let start = c.run_range-run.result.start in
-    let end = c.run_range-run.result.end in
-    let run = c.run_range-run.ensures.run in
-    let sorted = c.run_range-run.ensures.sorted in
-    ap (λ fs. grouped g.T.Key.Ord.cmp fs) c.set.ensures.pairs ∙ set_in o exact es k sorted start end run c.args.place c.args.value c.requires
+returns g c = ap (grouped g.T.Key.Ord.cmp) c.set.ensures.pairs ∙ set_in g.met.T.Key.Ord.total g.met.T.Translator.exact c.run_range-run.ensures c.args.place c.args.value c.requires

@@ -4,6 +4,7 @@ use Rattle.std.specs.List.Sorted.{IsSorted}
 use Rattle.std.specs.Map.{keys_of}
 use Rattle.std.specs.Ordering.{is_lt, is_le}
 use Rattle.std.proofs.lemmas.Map.Made.{keys_of-zip}
+use Rattle.key_index_parts.specs.Pairs.{IsRun}
 use Rattle.key_index_parts.proofs.SearchLemmas.{below_upto}
 use Rattle.key_index_parts.proofs.RunLemmas.{run_found, IsRun-within}
 use Rattle.key_index_parts.proofs.index.partitioned.ordered.partition.Partition.run_range.Goals as goal
@@ -14,19 +15,15 @@ run_end-requires-clause-from g c =
     let start = c.lower_bound-start.ensures.count in
     omega (arith, upto, start)
 
-pub returns-clause-run : goal.returns-clause-run
-returns-clause-run g c =
+pub returns : goal.returns
+returns g c =
     let keys = c.as_slice-keys.ensures.value in
-    rw (← c.self.view_is) (run_found g.met.K.Ord.total c.self.inside.keys.items c.self.inside.values.items c.self.invariant.sized c.args.key.now
-    c.lower_bound-start.result c.run_end.result
+    let start = c.lower_bound-start.result in
+    let end = c.run_end.result in
+    let run : IsRun g.K.Ord.cmp c.args.self.now.pairs c.args.key.now start end =
+    rw (← c.self.view_is) (run_found g.met.K.Ord.total c.self.inside.keys.items c.self.inside.values.items c.self.invariant.sized c.args.key.now start end
     (c.lower_bound-start.ensures.count ∙ ap (λ l. length (filter (λ x. is_lt (g.K.Ord.cmp x c.args.key.now)) l)) keys)
-    (c.run_end.ensures.count ∙ ap (λ l. length (filter (λ x. is_le (g.K.Ord.cmp x c.args.key.now)) l)) keys))
-
-pub returns-clause-sorted : goal.returns-clause-sorted
-returns-clause-sorted g c =
-    let keys = sym (keys_of-zip _ _ (sym c.self.invariant.sized)) ∙ ap (λ s. keys_of s.pairs) c.self.view_is in
-    subst (λ ks. IsSorted g.K.Ord.cmp ks) keys c.self.invariant.sorted
-
-pub returns-clause-within : goal.returns-clause-within
-returns-clause-within g c =
-    IsRun-within g.met.K.Ord.total c.args.self.now.pairs c.args.key.now c.lower_bound-start.result c.run_end.result (returns-clause-sorted g c) (returns-clause-run g c)
+    (c.run_end.ensures.count ∙ ap (λ l. length (filter (λ x. is_le (g.K.Ord.cmp x c.args.key.now)) l)) keys)) in
+    let all = sym (keys_of-zip _ _ (sym c.self.invariant.sized)) ∙ ap (λ s. keys_of s.pairs) c.self.view_is in
+    let sorted = subst (λ ks. IsSorted g.K.Ord.cmp ks) all c.self.invariant.sorted in
+    record { run = run; within = IsRun-within g.met.K.Ord.total c.args.self.now.pairs c.args.key.now start end sorted run; sorted = sorted }

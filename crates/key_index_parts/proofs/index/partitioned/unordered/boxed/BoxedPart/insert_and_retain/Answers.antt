@@ -1,5 +1,5 @@
 use Rattle.std.proofs.Common.{◌≡◌, length, ap, sym, ◌∙◌}
-use Rattle.key_index_flat.specs.Held.{held}
+use Rattle.key_index_flat.specs.Unordered.{held}
 use Rattle.key_index_flat.proofs.CursorLemmas.{list_at_edit}
 use Rattle.key_index_parts.specs.Boxed.{held_in}
 use Rattle.key_index_parts.proofs.index.partitioned.unordered.boxed.BoxedPart.insert_and_retain.Goals as goal

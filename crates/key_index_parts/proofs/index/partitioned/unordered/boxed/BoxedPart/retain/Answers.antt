@@ -1,6 +1,6 @@
 use Rattle.std.proofs.Common.{◌≡◌, [], length, refl, ap, sym, ◌∙◌}
 use Rattle.std.specs.Fn.{CalledAt}
-use Rattle.key_index_flat.specs.Held.{held}
+use Rattle.key_index_flat.specs.Unordered.{held}
 use Rattle.key_index_flat.proofs.CursorLemmas.{list_at_edit}
 use Rattle.key_index_flat.proofs.EditLemmas.{filtered_none}
 use Rattle.key_index_parts.specs.Boxed.{held_in}

@@ -1,0 +1,5 @@
+//! What an index of one's own is made of. Who uses an index needs none of it.
+pub use super::batch::{
+    Lists, probes_by_key, show_by_key, show_by_place, visit_by_key, visit_by_place,
+};
+pub use super::retain::{Retained, retain_in_turn};

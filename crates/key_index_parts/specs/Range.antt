@@ -1,0 +1,24 @@
+-- A range of an index in partitions, by its value.
+use Rattle.std.specs.Prelude.{ℕ, length}
+use Rattle.std.specs.declared.cmp.Ord as ord
+use Rattle.std.specs.declared.cmp.PartialEq as eq
+use Rattle.std.specs.declared.cmp.PartialOrd as partial
+use Rattle.std.specs.declared.hash.Hash as hash
+use Rattle.key_index_flat.specs.declared.translator.Translator as translator
+use Rattle.key_index_flat.specs.View.{View}
+use Rattle.key_index_parts.specs.declared.index.partitioned.part.Held as parts
+use Rattle.key_index_parts.specs.declared.index.partitioned.range.Range.{Range}
+use Rattle.key_index_parts.specs.Family.{view_from}
+
+module _ {T V X K : Type 0} {P : ℕ} {t : translator.Ghosts T K} {o : ord.Ghosts K} {e : eq.Ghosts K} {p : partial.Ghosts K}
+    {h : hash.Ghosts K} {x : parts.Ghosts X T V K} where
+  -- the first partition that it covers, and how many
+  abbrev pub range_offset : Range T V X P K t o e p h x → ℕ
+  range_offset range = range.offset
+
+  abbrev pub range_count : Range T V X P K t o e p h x → ℕ
+  range_count range = length range.storage.parts
+
+  -- as contracts see it
+  abbrev pub range_view : Range T V X P K t o e p h x → View (ℕ × K) V
+  range_view range = view_from P t.translated range.offset range.storage
