@@ -1,6 +1,7 @@
 pub mod Answers
-pub mod Line
-pub mod Program
-pub mod Table
 pub mod Immutable
+pub mod Line
 pub mod Marks
+pub mod Program
+pub mod Snapshot
+pub mod Table

@@ -6,6 +6,7 @@ pub mod index;
 pub mod kind;
 pub mod line;
 pub mod serve;
+pub mod snapshot;
 pub mod table;
 #[cfg(test)]
 mod tests;

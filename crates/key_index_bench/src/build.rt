@@ -12,7 +12,7 @@ use std::io::Write;
 use std::time::Clock;
 
 /// The cuts between so many ranges of equal spans, the last of which also takes what is over. `None` where there is no memory.
-fn equal_cuts(alloc: Global, partitions: usize, ranges: usize) -> Option<Vec<usize>>
+pub(crate) fn equal_cuts(alloc: Global, partitions: usize, ranges: usize) -> Option<Vec<usize>>
     requires some { 0 < ranges }
     requires enough { ranges ≤ partitions }
     ensures cuts { IfSome result (λ cuts. IsCuts cuts.items partitions) }

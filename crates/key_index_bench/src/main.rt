@@ -7,9 +7,11 @@ mod keys;
 mod maps;
 mod positions;
 mod report;
+mod snapshots;
 
 use flat::Failure;
 use key_index::index::immutable;
+use key_index::snapshot::Record;
 use key_index_flat::index::{Factory, Fault, Ordered, ordered, unordered};
 use key_index_flat::translator::{EightCap, Hashed, SeededSha256};
 use key_index_parts::index::partitioned::{self, Partitioned};
@@ -70,6 +72,7 @@ impl Kind {
 enum Measured {
     Calls,
     Build,
+    Snapshot,
 }
 
 /// The kind, the number of keys and the operations that the arguments name.
@@ -78,6 +81,7 @@ fn arguments(words: &[String]) -> Option<(Kind, usize, Measured)> {
         [kind, count] => (kind, count, Measured::Calls),
         [kind, count, last] => match last.as_str() {
             "build" => (kind, count, Measured::Build),
+            "snapshot" => (kind, count, Measured::Snapshot),
             _ => return None,
         },
         _ => return None,
@@ -347,6 +351,31 @@ fn measure_build<C: Clock, W: Write>(
     }
 }
 
+/// Measures a snapshot over a kind, or the map of full keys. The other kinds have none.
+fn measure_snapshot<C: Clock, W: Write>(
+    alloc: Global,
+    kind: Kind,
+    present: &[[u8; 32]],
+    absent: &[[u8; 32]],
+    report: &mut Report<'_, C, W>,
+) -> Result<(), Failure> {
+    match kind {
+        Kind::Ordered => snapshots::run_snapshot::<ordered::Index<EightCap, Record>, C, W>(
+            alloc, present, absent, report,
+        ),
+        Kind::PartitionedOrdered2 => {
+            snapshots::run_snapshot::<partitioned::ordered::Index<EightCap, Record, 2>, C, W>(
+                alloc, present, absent, report,
+            )?;
+            snapshots::run_build::<partitioned::ordered::Index<EightCap, Record, 2>, C, W>(
+                alloc, present, report,
+            )
+        }
+        Kind::StdTree => snapshots::run_map(alloc, present, absent, report),
+        _ => Ok(()),
+    }
+}
+
 /// Measures a kind over so many keys.
 fn measure<C: Clock, W: Write>(
     alloc: Global,
@@ -369,6 +398,7 @@ fn measure<C: Clock, W: Write>(
     match measured {
         Measured::Calls => measure_calls(alloc, kind, &present, &absent, &mut report),
         Measured::Build => measure_build(alloc, kind, &present, &mut report),
+        Measured::Snapshot => measure_snapshot(alloc, kind, &present, &absent, &mut report),
     }
 }
 
@@ -385,7 +415,7 @@ fn main(rt: HostRuntime) -> ExitCode {
     let Some((kind, count, measured)) = named else {
         let _ = writeln!(
             rt.stderr(),
-            "usage: key_index_bench unordered|hashed|ordered|punordered1|punordered2|punordered3|pordered1|pordered2|pordered3|immutable|std_hash|std_tree COUNT [build]"
+            "usage: key_index_bench unordered|hashed|ordered|punordered1|punordered2|punordered3|pordered1|pordered2|pordered3|immutable|std_hash|std_tree COUNT [build|snapshot]"
         );
         return ExitCode::from(2);
     };

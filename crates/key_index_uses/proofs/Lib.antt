@@ -2,5 +2,6 @@ pub mod CallerLemmas
 pub mod CommandLemmas
 pub mod ExclusionLemmas
 pub mod FiledLemmas
-pub mod SnapshotLemmas
+pub mod GapLemmas
+pub mod NewestLemmas
 pub mod VisitLemmas

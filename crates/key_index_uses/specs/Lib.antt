@@ -1,2 +1,2 @@
 pub mod Exclusion
-pub mod Snapshot
+pub mod Newest

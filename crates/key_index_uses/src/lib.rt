@@ -2,6 +2,7 @@
 //! and index called once by name.
 #![tactic(auto)]
 
+pub mod builds;
 pub mod callers;
 pub mod named;
 pub mod segments;

@@ -1,45 +1,33 @@
-//! The snapshot of a log, over any index in partitions: where the newest record of each key stands.
-ghost use Rattle.std.specs.Prelude.{◌≡◌, ◌⊎◌, List, ℕ, [], map, IfOk, IfErr};
-ghost use Rattle.key_index_flat.specs.View.{run_of};
-ghost use Rattle.key_index_parts.specs.Ops.{IsCuts};
-ghost use Rattle.key_index_uses.specs.Snapshot.{newest, op_of};
+//! What a snapshot is asked for: the proof that a key is absent.
+ghost use Rattle.std.specs.Prelude.{IsSome};
+ghost use Rattle.std.specs.FinMap as map;
+ghost use Rattle.std.specs.Option.{MatchOption, option_map};
+ghost use Rattle.key_index_uses.specs.Exclusion.{Excludes};
 
-use key_index_flat::index::{Fault, Runs};
-use key_index_parts::index::partitioned::{Op, Partitioned, build_in_ranges};
-use std::alloc::Global;
+use key_index::snapshot::{Record, Snapshot};
+use key_index_flat::index::Ordered;
 
-/// The ops that put each record's position in where its key has none.
-fn ops_of(alloc: Global, records: Vec<(Vec<u8>, u64)>) -> Result<Vec<Op<u64>>, Fault>
-    ensures ops { IfOk result (λ ops. ops.items ≡ map op_of records.items) }
-    ensures fault { IfErr result (λ f. f ≡ Fault.Memory) }
-{
-    let Ok(mut ops) = Vec::with_capacity(alloc, records.len()) else {
-        return Err(Fault::Memory);
-    };
-    let mut rest = records.into_iter();
-    'records: while let Some((key, position)) = rest.next() {
-        if ops.push(Op::GetOrInsert(key, position)).is_err() {
-            return Err(Fault::Memory);
-        }
-    }
-    Ok(ops)
+/// The keys next to one that a snapshot lacks, each with its position. One that is absent says that no key is on that side.
+#[derive(Drop)]
+pub struct Gap<'a> {
+    pub below: Option<(&'a [u8], u64)>,
+    pub above: Option<(&'a [u8], u64)>,
 }
 
-/// Reads the records of a log, each with its key and its position and the newest first, into an empty index, range by range. Each key
-/// then answers with the position of its newest record, as if the records were read one by one. A refusal leaves no snapshot.
-pub fn snapshot<I: Partitioned<Value = u64> + Drop>(
-    alloc: Global,
-    mut index: I,
-    cuts: &[usize],
-    records: Vec<(Vec<u8>, u64)>,
-) -> Result<I, Fault>
-    requires empty { (I.view index).content ≡ [] }
-    requires cuts { IsCuts cuts.now I.partitions }
-    ensures answers { IfOk result (λ snapshot. (key : List ℕ) → run_of I.Key.cmp (I.view snapshot) key
-        ≡ newest I.Key.cmp (I.view index).slot key records.items) }
-    ensures fault { IfErr result (λ f. (f ≡ Fault.Memory) ⊎ (f ≡ Fault.Full)) }
+/// Shows that a snapshot lacks a key, by the keys next to it. `None` exactly where the key has a position.
+pub fn gap_at<'a, I: Ordered<Value = Record>>(
+    snapshot: &'a Snapshot<I>,
+    key: &[u8],
+) -> Option<Gap<'a>>
+    ensures { MatchOption result (IsSome (map.get snapshot.now key.now))
+        (λ gap. Excludes (λ entry. entry.0) (map.entries snapshot.now) key.now
+        (option_map (λ e. (e.0.now, e.1)) gap.below) (option_map (λ e. (e.0.now, e.1)) gap.above)) }
 {
-    let ops = ops_of(alloc, records)?;
-    build_in_ranges(alloc, &mut index, cuts, ops)?;
-    Ok(index)
+    if snapshot.get(key).is_some() {
+        return None;
+    }
+    Some(Gap {
+        below: snapshot.prev(key),
+        above: snapshot.next(key),
+    })
 }

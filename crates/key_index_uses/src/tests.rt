@@ -20,5 +20,6 @@ mod partitions;
 mod ranges;
 mod segments;
 mod small;
+mod snapshots;
 mod translators;
 mod walk;

@@ -6,14 +6,14 @@ use super::checks::{counts, holds, push};
 use super::command_lists::{edit, has_all, key};
 use super::lists::{KeptLists, place};
 use super::numbers::Numbers;
-use crate::snapshots::snapshot;
+use crate::builds::newest_positions;
 use key_index_flat::index::Step;
 use key_index_parts::index::partitioned::{Op, Partitioned, build_in_ranges};
 use std::alloc::Global;
 use std::process::Abort;
 
 /// Whether numbers strictly ascend from 0 to a count.
-fn are_cuts(cuts: &[usize], count: usize) -> bool
+pub(super) fn are_cuts(cuts: &[usize], count: usize) -> bool
     ensures { IsTrue result → IsCuts cuts.now count }
 {
     if cuts.len() < 2 || cuts[0] != 0 || cuts[cuts.len() - 1] != count {
@@ -94,7 +94,7 @@ pub(super) fn built<I: Partitioned<Value = u64>>(rt: &impl Abort, alloc: Global,
     counts(rt, index, (2, 3, 1));
 }
 
-/// The newest record of each key stands in a snapshot.
+/// The newest record of each key stands.
 pub(super) fn newest_stand<I: Partitioned<Value = u64> + Drop>(
     rt: &impl Abort,
     alloc: Global,
@@ -108,8 +108,8 @@ pub(super) fn newest_stand<I: Partitioned<Value = u64> + Drop>(
     push(rt, &mut records, (bytes(rt, alloc, b"\x10\x01"), 7));
     push(rt, &mut records, (bytes(rt, alloc, b"\xff"), 6));
     assert!(rt; are_cuts(&cuts, index.partition_count()));
-    let Ok(index) = snapshot(alloc, index, &cuts, records) else {
-        panic!(rt; "a snapshot")
+    let Ok(index) = newest_positions(alloc, index, &cuts, records) else {
+        panic!(rt; "an index")
     };
     holds(rt, &index, b"\x10\x01", &[9]);
     holds(rt, &index, b"\x80\x01", &[8]);

@@ -1,4 +1,4 @@
--- The snapshot of a log, whose records are listed with the newest first.
+-- The newest records of a log, whose records are listed with the newest first.
 --     op_of        the op that puts a record's position in where its key has none
 --     newest       the position of the newest record of an index key, as a list
 use Rattle.std.specs.Prelude.{ℕ, List, [], ◌∷◌, if◌then◌else◌, Vec}

@@ -1,4 +1,4 @@
--- A snapshot that ops make of records.
+-- The positions that ops make of the records of a log.
 --     answers_newest     the list of each key
 --     build_fault        why a build is refused
 use Rattle.std.proofs.Common.{◌≡◌, ◌⊎◌, ℕ, true, false, cond, if◌then◌else◌, nat_lt, List, [], ◌∷◌, map, Vec, refl, sym, ap, ◌∙◌, inl, inr, ◌+◌, ◌-◌, ◌^◌}
@@ -18,7 +18,7 @@ use Rattle.key_index_parts.specs.Ops.{after_op, after_ops}
 use Rattle.key_index_parts.specs.Ranges.{built_upto, filled_by, RefusesBuild}
 use Rattle.key_index_parts.proofs.RangeLemmas.{slot-after_ops}
 use Rattle.key_index_parts.specs.declared.index.partitioned.op.Op.{Op}
-use Rattle.key_index_uses.specs.Snapshot.{newest, op_of}
+use Rattle.key_index_uses.specs.Newest.{newest, op_of}
 
 -- the one list, or the other where it has no value
 abbrev or_else : {V : Type 0} → List V → List V → List V

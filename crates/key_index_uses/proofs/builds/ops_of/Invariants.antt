@@ -1,7 +1,7 @@
 use Rattle.std.proofs.Common.{◌≡◌, ◌++◌, length, map}
 use Rattle.std.specs.Vec.Iter.{into_iter_items, into_iter_len}
-use Rattle.key_index_uses.specs.Snapshot.{op_of}
-use Rattle.key_index_uses.proofs.snapshots.ops_of.Given as goal
+use Rattle.key_index_uses.specs.Newest.{op_of}
+use Rattle.key_index_uses.proofs.builds.ops_of.Given as goal
 
 abbrev pub invariant-records : goal.invariant-records
 invariant-records l = record {

@@ -1,5 +1,5 @@
-use Rattle.key_index_uses.proofs.SnapshotLemmas.{answers_newest}
-use Rattle.key_index_uses.proofs.snapshots.snapshot.Goals as goal
+use Rattle.key_index_uses.proofs.NewestLemmas.{answers_newest}
+use Rattle.key_index_uses.proofs.builds.newest_positions.Goals as goal
 
 pub returns-clause-answers : goal.returns-clause-answers
 returns-clause-answers g c =

@@ -1,0 +1,10 @@
+use Rattle.std.proofs.Common.{◌≡◌, None, length, map}
+use Rattle.key_index.specs.Snapshot.{position_in}
+use Rattle.key_index.proofs.snapshot.place_of.Given as goal
+
+-- none so far has it
+abbrev pub invariant-loop-record : goal.invariant-loop-record
+invariant-loop-record l = record {
+  counted : l.place ≡ length l.yielded;
+  none : position_in l.key (map (λ r. r.now) l.yielded) ≡ None;
+}

@@ -1,0 +1,226 @@
+//! The operations of a snapshot, and the same of the standard library's ordered map of full keys.
+
+use crate::build::equal_cuts;
+use crate::flat::Failure;
+use crate::report::Report;
+use key_index::snapshot::{Record, Snapshot};
+use key_index_flat::index::{Factory, Fault, Ordered};
+use key_index_flat::translator::EightCap;
+use key_index_parts::index::partitioned::Partitioned;
+use std::alloc::Global;
+use std::collections::BTreeMap;
+use std::io::Write;
+use std::ops::Bound;
+use std::time::Clock;
+
+/// In how many ranges an index is built.
+const RANGES: usize = 16;
+
+/// What both can do.
+pub(crate) trait Positions {
+    fn put(&mut self, alloc: Global, key: &[u8], position: u64) -> Result<(), Fault>;
+
+    fn at(&self, key: &[u8]) -> Option<u64>;
+
+    /// The position of the least key strictly above one, which is a vector since the map's ranges take keys alone.
+    fn above(&self, key: &Vec<u8>) -> Option<u64>;
+}
+
+impl<I: Ordered<Value = Record>> Positions for Snapshot<I> {
+    #[inline]
+    fn put(&mut self, _alloc: Global, key: &[u8], position: u64) -> Result<(), Fault> {
+        self.set(key, position)
+    }
+
+    #[inline]
+    fn at(&self, key: &[u8]) -> Option<u64> {
+        self.get(key)
+    }
+
+    #[inline]
+    fn above(&self, key: &Vec<u8>) -> Option<u64> {
+        match self.next(key.as_slice()) {
+            Some((_, position)) => Some(position),
+            None => None,
+        }
+    }
+}
+
+impl Positions for BTreeMap<Vec<u8>, u64> {
+    #[inline]
+    fn put(&mut self, alloc: Global, key: &[u8], position: u64) -> Result<(), Fault> {
+        self.insert(Vec::from_slice(alloc, key)?, position)?;
+        Ok(())
+    }
+
+    #[inline]
+    fn at(&self, key: &[u8]) -> Option<u64> {
+        self.get(key).copied()
+    }
+
+    #[inline]
+    fn above(&self, key: &Vec<u8>) -> Option<u64> {
+        match self.range((Bound::Excluded(key), Bound::Unbounded)).next() {
+            Some((_, position)) => Some(*position),
+            None => None,
+        }
+    }
+}
+
+/// Sets position i of key i.
+fn set<P: Positions, C: Clock, W: Write>(
+    alloc: Global,
+    positions: &mut P,
+    name: &str,
+    keys: &[[u8; 32]],
+    report: &mut Report<'_, C, W>,
+) -> Result<(), Failure> {
+    let start = report.start()?;
+    let mut position = 0u64;
+    for key in keys {
+        if let Err(fault) = positions.put(alloc, key, position) {
+            return Err(Failure::Refused(fault));
+        }
+        position = position.wrapping_add(1);
+    }
+    report.line(name, keys.len(), start, 0)?;
+    Ok(())
+}
+
+/// The position of each key.
+fn get<P: Positions, C: Clock, W: Write>(
+    positions: &P,
+    name: &str,
+    keys: &[[u8; 32]],
+    report: &mut Report<'_, C, W>,
+) -> Result<(), Failure> {
+    let start = report.start()?;
+    let mut sum = 0u64;
+    for key in keys {
+        sum = sum.wrapping_add(positions.at(key).unwrap_or(0));
+    }
+    report.line(name, keys.len(), start, sum)?;
+    Ok(())
+}
+
+/// Copies of keys. `None` where there is no memory for them.
+fn copies(alloc: Global, keys: &[[u8; 32]]) -> Option<Vec<Vec<u8>>> {
+    let mut copies = Vec::with_capacity(alloc, keys.len()).ok()?;
+    for key in keys {
+        copies.push(key.to_vec(alloc).ok()?).ok()?;
+    }
+    Some(copies)
+}
+
+/// The position of the next key above each key.
+fn next<P: Positions, C: Clock, W: Write>(
+    alloc: Global,
+    positions: &P,
+    keys: &[[u8; 32]],
+    report: &mut Report<'_, C, W>,
+) -> Result<(), Failure> {
+    let Some(keys) = copies(alloc, keys) else {
+        return Err(Failure::Refused(Fault::Memory));
+    };
+    let start = report.start()?;
+    let mut sum = 0u64;
+    for key in &keys {
+        sum = sum.wrapping_add(positions.above(key).unwrap_or(0));
+    }
+    report.line("snapshot_next", keys.len(), start, sum)?;
+    Ok(())
+}
+
+/// Each operation but the build.
+fn calls<P: Positions, C: Clock, W: Write>(
+    alloc: Global,
+    positions: &mut P,
+    present: &[[u8; 32]],
+    absent: &[[u8; 32]],
+    report: &mut Report<'_, C, W>,
+) -> Result<(), Failure> {
+    set(alloc, positions, "snapshot_set", present, report)?;
+    set(alloc, positions, "snapshot_set_again", present, report)?;
+    get(positions, "snapshot_get", present, report)?;
+    get(positions, "snapshot_miss", absent, report)?;
+    next(alloc, positions, &present[..present.len() / 10], report)
+}
+
+/// Measures a snapshot over an index.
+pub(crate) fn run_snapshot<
+    I: Factory<Translator = EightCap, Value = Record> + Ordered + Drop,
+    C: Clock,
+    W: Write,
+>(
+    alloc: Global,
+    present: &[[u8; 32]],
+    absent: &[[u8; 32]],
+    report: &mut Report<'_, C, W>,
+) -> Result<(), Failure>
+    requires { I.makes }
+{
+    match I::new(alloc, EightCap) {
+        Ok(index) => calls(
+            alloc,
+            &mut Snapshot::new(alloc, index),
+            present,
+            absent,
+            report,
+        ),
+        Err(fault) => Err(Failure::Refused(fault)),
+    }
+}
+
+/// Measures the ordered map of full keys.
+pub(crate) fn run_map<C: Clock, W: Write>(
+    alloc: Global,
+    present: &[[u8; 32]],
+    absent: &[[u8; 32]],
+    report: &mut Report<'_, C, W>,
+) -> Result<(), Failure> {
+    let mut map: BTreeMap<Vec<u8>, u64> = BTreeMap::new(alloc);
+    calls(alloc, &mut map, present, absent, report)
+}
+
+/// Record i is key i at position i. `None` where there is no memory for them.
+fn records(alloc: Global, keys: &[[u8; 32]]) -> Option<Vec<Record>> {
+    let mut records = Vec::with_capacity(alloc, keys.len()).ok()?;
+    let mut position = 0u64;
+    for key in keys {
+        let key = key.to_vec(alloc).ok()?;
+        records.push(Record { key, position }).ok()?;
+        position = position.wrapping_add(1);
+    }
+    Some(records)
+}
+
+/// Measures the build of a snapshot in ranges of equal spans.
+pub(crate) fn run_build<
+    I: Factory<Translator = EightCap, Value = Record> + Ordered + Partitioned + Drop,
+    C: Clock,
+    W: Write,
+>(alloc: Global, keys: &[[u8; 32]], report: &mut Report<'_, C, W>) -> Result<(), Failure>
+    requires { I.makes }
+{
+    let Some(records) = records(alloc, keys) else {
+        return Err(Failure::Refused(Fault::Memory));
+    };
+    let index = match I::new(alloc, EightCap) {
+        Ok(index) => index,
+        Err(fault) => return Err(Failure::Refused(fault)),
+    };
+    let partitions = index.partition_count();
+    if partitions < RANGES {
+        return Ok(());
+    }
+    let Some(cuts) = equal_cuts(alloc, partitions, RANGES) else {
+        return Err(Failure::Refused(Fault::Memory));
+    };
+    let start = report.start()?;
+    let snapshot = match Snapshot::build(alloc, index, &cuts, records) {
+        Ok(snapshot) => snapshot,
+        Err(fault) => return Err(Failure::Refused(fault)),
+    };
+    report.line("snapshot_build", keys.len(), start, snapshot.len() as u64)?;
+    Ok(())
+}
