@@ -1,21 +1,46 @@
 -- Which kind of index the program's arguments name, and with which status it ends early.
-use Rattle.std.specs.Prelude.{ℕ, List, [], ◌∷◌, Option, Some, None, if◌then◌else◌, codes}
+use Rattle.std.specs.Prelude.{ℕ, ◌≤◌, ◌==◌, ⊤, List, [], ◌∷◌, Option, Some, None, option_map, if◌then◌else◌, codes}
 use Rattle.std.specs.Str.{bytes_eq}
 use Rattle.key_index.specs.declared.fault.ServeError.{ServeError}
 use Rattle.key_index.specs.declared.fault.ServeError.TheVariants.{Usage, BadLine, Failed}
 use Rattle.key_index.specs.declared.kind.Kind.{Kind}
 use Rattle.key_index.specs.declared.kind.Kind.TheVariants.{Unordered, Ordered, PartitionedUnordered, PartitionedOrdered, Immutable}
+use Rattle.key_index.specs.declared.serve.AnySession.{AnySession}
+use Rattle.key_index.specs.declared.serve.AnySession.TheVariants as any
+use Rattle.key_index.specs.Line.{◌>>=◌, number_of}
+use Rattle.key_index_parts.specs.Ordered.{standings}
 
--- the kind of one argument, and none where there are fewer or more
+-- the threshold that a word writes, a number that is not 0
+abbrev pub threshold_of : List ℕ → Option ℕ
+threshold_of word = do
+  n ← number_of word
+  (if n == 0 then None else Some n)
+
+-- the kind that the arguments name, one of them or two
 abbrev pub kind_of : List (List ℕ) → Option Kind
 kind_of (kind ∷ []) =
     if bytes_eq kind (codes "unordered") then Some Unordered
     else (if bytes_eq kind (codes "ordered") then Some Ordered
     else (if bytes_eq kind (codes "punordered") then Some PartitionedUnordered
-    else (if bytes_eq kind (codes "pordered") then Some PartitionedOrdered
+    else (if bytes_eq kind (codes "pordered") then Some (PartitionedOrdered 512)
     else (if bytes_eq kind (codes "immutable") then Some Immutable
     else None))))
+kind_of (kind ∷ threshold ∷ []) =
+    if bytes_eq kind (codes "pordered") then option_map PartitionedOrdered (threshold_of threshold) else None
 kind_of _ = None
+
+-- an index that spills does so at one value at least
+abbrev pub CanBegin : Kind → Type 0
+CanBegin (PartitionedOrdered threshold) = 1 ≤ threshold
+CanBegin _ = ⊤
+
+-- the kind of a session, with the threshold that its index has
+abbrev pub kind_of_session : AnySession → Kind
+kind_of_session (any.Unordered _) = Unordered
+kind_of_session (any.Ordered _) = Ordered
+kind_of_session (any.PartitionedUnordered _) = PartitionedUnordered
+kind_of_session (any.PartitionedOrdered session) = PartitionedOrdered (standings session.index).threshold
+kind_of_session (any.Immutable _) = Immutable
 
 -- 2 for wrong arguments, and 1 for all that goes wrong later
 abbrev pub status_of : ServeError → ℕ

@@ -8,5 +8,3 @@ pub mod line;
 pub mod serve;
 pub mod snapshot;
 pub mod table;
-#[cfg(test)]
-mod tests;

@@ -117,7 +117,7 @@ fn decode_key(word: &[u8], key: &mut Vec<u8>) -> Result<(), LineFault>
 }
 
 // The number that a word writes. A sign, which `parse` would take, is no digit.
-fn number_of(word: &[u8]) -> Option<u64>
+pub(crate) fn number_of(word: &[u8]) -> Option<u64>
     ensures { result ≡ number_of word.now }
 {
     if !word.iter().all(u8::is_ascii_digit) {

@@ -1,6 +1,7 @@
 //! The operations of an index.
 use crate::report::Report;
-use key_index_flat::index::{Cursor, CursorState, Fault, Ordered, Unordered};
+use key_index_flat::index::{Cursor, CursorState, Factory, Fault, Ordered, Unordered};
+use std::alloc::Global;
 use std::io::{self, Write};
 use std::time::Clock;
 
@@ -17,6 +18,25 @@ impl From<io::Error> for Failure {
     fn from(_: io::Error) -> Failure {
         Failure::Io
     }
+}
+
+/// Makes an index, and measures that.
+pub(crate) fn make<I: Factory + Drop, C: Clock, W: Write>(
+    alloc: Global,
+    translator: I::Translator,
+    report: &mut Report<'_, C, W>,
+) -> Result<I, Failure>
+where
+    I::Translator: Copy,
+    requires { I.makes }
+{
+    let start = report.start()?;
+    let index = match I::new(alloc, translator) {
+        Ok(index) => index,
+        Err(fault) => return Err(Failure::Refused(fault)),
+    };
+    report.line("new", 1, start, 0)?;
+    Ok(index)
 }
 
 /// Files value i under key i.
@@ -56,17 +76,19 @@ pub(crate) fn get<I: Unordered<Value = u64>, C: Clock, W: Write>(
 }
 
 /// How many keys a batch has.
-const BATCH: usize = 1024;
+pub(crate) const BATCH: usize = 1024;
 
-/// The values of each key, by batches.
+/// The values of each key, by batches of so many.
 pub(crate) fn many<I: Unordered<Value = u64>, C: Clock, W: Write>(
     index: &I,
+    name: &str,
+    size: usize,
     keys: &[[u8; 32]],
     report: &mut Report<'_, C, W>,
 ) -> Result<(), Failure> {
     let start = report.start()?;
     let mut sum = 0u64;
-    for batch in keys.chunks(BATCH) {
+    for batch in keys.chunks(size.max(1)) {
         let visited = index.get_many(
             batch.iter(),
             |_, value: &u64| sum = sum.wrapping_add(*value),
@@ -75,7 +97,7 @@ pub(crate) fn many<I: Unordered<Value = u64>, C: Clock, W: Write>(
             return Err(Failure::Refused(fault));
         }
     }
-    report.line("many", keys.len(), start, sum)?;
+    report.line(name, keys.len(), start, sum)?;
     Ok(())
 }
 

@@ -1,6 +1,7 @@
 //! The program `key_index_bench`: what each operation of an index costs, beside the maps of the standard library.
 #![tactic(auto)]
 
+mod batches;
 mod build;
 mod flat;
 mod keys;
@@ -8,6 +9,7 @@ mod maps;
 mod positions;
 mod report;
 mod snapshots;
+mod spills;
 
 use flat::Failure;
 use key_index::index::immutable;
@@ -73,6 +75,8 @@ enum Measured {
     Calls,
     Build,
     Snapshot,
+    Spills,
+    Batches,
 }
 
 /// The kind, the number of keys and the operations that the arguments name.
@@ -82,6 +86,8 @@ fn arguments(words: &[String]) -> Option<(Kind, usize, Measured)> {
         [kind, count, last] => match last.as_str() {
             "build" => (kind, count, Measured::Build),
             "snapshot" => (kind, count, Measured::Snapshot),
+            "spills" => (kind, count, Measured::Spills),
+            "batches" => (kind, count, Measured::Batches),
             _ => return None,
         },
         _ => return None,
@@ -107,25 +113,6 @@ fn arguments(words: &[String]) -> Option<(Kind, usize, Measured)> {
     }
 }
 
-/// Makes an index, and measures that.
-fn make<I: Factory + Drop, C: Clock, W: Write>(
-    alloc: Global,
-    translator: I::Translator,
-    report: &mut Report<'_, C, W>,
-) -> Result<I, Failure>
-where
-    I::Translator: Copy,
-    requires { I.makes }
-{
-    let start = report.start()?;
-    let index = match I::new(alloc, translator) {
-        Ok(index) => index,
-        Err(fault) => return Err(Failure::Refused(fault)),
-    };
-    report.line("new", 1, start, 0)?;
-    Ok(index)
-}
-
 /// Measures an index whose keys are in no order.
 fn run_unordered<I: Factory<Value = u64> + Drop, C: Clock, W: Write>(
     alloc: Global,
@@ -140,10 +127,10 @@ where
 {
     let few = &present[..present.len() / 10];
     let half = &present[..present.len() / 2];
-    let mut index = make::<I, C, W>(alloc, translator, report)?;
+    let mut index = flat::make::<I, C, W>(alloc, translator, report)?;
     flat::insert(&mut index, present, report)?;
     flat::get(&index, "get", present, report)?;
-    flat::many(&index, present, report)?;
+    flat::many(&index, "many", flat::BATCH, present, report)?;
     flat::get(&index, "miss", absent, report)?;
     flat::update(&mut index, present, report)?;
     flat::collide(&mut index, few, report)?;
@@ -178,10 +165,10 @@ fn run_ordered<I: Factory<Translator = EightCap, Value = u64> + Ordered + Drop, 
     let few = &present[..present.len() / 10];
     let half = &present[..present.len() / 2];
     run_gap::<I, C, W>(alloc, present, report)?;
-    let mut index = make::<I, C, W>(alloc, EightCap, report)?;
+    let mut index = flat::make::<I, C, W>(alloc, EightCap, report)?;
     flat::insert(&mut index, present, report)?;
     flat::get(&index, "get", present, report)?;
-    flat::many(&index, present, report)?;
+    flat::many(&index, "many", flat::BATCH, present, report)?;
     flat::get(&index, "miss", absent, report)?;
     flat::update(&mut index, present, report)?;
     flat::next(&index, few, report)?;
@@ -376,6 +363,32 @@ fn measure_snapshot<C: Clock, W: Write>(
     }
 }
 
+/// Measures one partition of a kind that spills. The other kinds have none.
+fn measure_spills<C: Clock, W: Write>(
+    alloc: Global,
+    kind: Kind,
+    present: &[[u8; 32]],
+    report: &mut Report<'_, C, W>,
+) -> Result<(), Failure> {
+    match kind {
+        Kind::PartitionedOrdered1 => spills::run(alloc, present, report),
+        _ => Ok(()),
+    }
+}
+
+/// Measures the batches of a kind that looks ahead. The other kinds have none.
+fn measure_batches<C: Clock, W: Write>(
+    alloc: Global,
+    kind: Kind,
+    present: &[[u8; 32]],
+    report: &mut Report<'_, C, W>,
+) -> Result<(), Failure> {
+    match kind {
+        Kind::PartitionedOrdered2 => batches::run(alloc, present, report),
+        _ => Ok(()),
+    }
+}
+
 /// Measures a kind over so many keys.
 fn measure<C: Clock, W: Write>(
     alloc: Global,
@@ -399,6 +412,8 @@ fn measure<C: Clock, W: Write>(
         Measured::Calls => measure_calls(alloc, kind, &present, &absent, &mut report),
         Measured::Build => measure_build(alloc, kind, &present, &mut report),
         Measured::Snapshot => measure_snapshot(alloc, kind, &present, &absent, &mut report),
+        Measured::Spills => measure_spills(alloc, kind, &present, &mut report),
+        Measured::Batches => measure_batches(alloc, kind, &present, &mut report),
     }
 }
 
@@ -415,7 +430,7 @@ fn main(rt: HostRuntime) -> ExitCode {
     let Some((kind, count, measured)) = named else {
         let _ = writeln!(
             rt.stderr(),
-            "usage: key_index_bench unordered|hashed|ordered|punordered1|punordered2|punordered3|pordered1|pordered2|pordered3|immutable|std_hash|std_tree COUNT [build|snapshot]"
+            "usage: key_index_bench unordered|hashed|ordered|punordered1|punordered2|punordered3|pordered1|pordered2|pordered3|immutable|std_hash|std_tree COUNT [build|snapshot|spills|batches]"
         );
         return ExitCode::from(2);
     };

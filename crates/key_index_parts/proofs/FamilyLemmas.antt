@@ -4,19 +4,30 @@
 --     IsPart, part_taken         a part that was taken from its place
 --     part_told, list_told       what a part holds is what the family tells of it
 --     part_edited, part_stays    the family after one list of a part was edited, and after none was
---     none_family, none_filled   parts that hold nothing
+--     all_alike, none_filled     parts that are all alike, and that hold nothing
 --     flags_edited, flags_stay   which parts are filled after such a call
-use Rattle.std.proofs.Common.{◌≡◌, ℕ, zero, suc, ◌<◌, Bool, true, false, not, List, [], ◌∷◌, ◌++◌, map, insert, take, drop, replicate, All, set, length, refl, sym, ap, ◌∙◌, arith, lt_of_not-le, slice_index_or}
-use Rattle.std.proofs.lemmas.List.{get_or-map, map-set, get_or_past, length-map}
+--     standing_told, listed      how a part stands is what the family tells of it
+--     leaves, grows, since, since_none    how the parts stand after a call that says it of one, and whether that one spilled
+--     family_stays               the family after a call that changed nothing
+--     family_spilled             how the parts stand after one spilled
+--     none_refused, refused_so   what is said of a refusal, of an outcome that is known
+--     spills_so                  a part of which a spill would move values is of a kind that spills
+--     left_fewer                 no more values of a part once its list became no longer
+use Rattle.std.proofs.Common.{◌≡◌, ℕ, zero, suc, ◌<◌, Bool, true, false, not, List, [], ◌∷◌, ◌++◌, map, insert, take, drop, replicate, All, set, length, refl, sym, ap, subst, ◌∙◌, ◌≤◌, ◌&&◌, arith, lt_of_not-le, slice_index_or}
+use Rattle.std.proofs.lemmas.List.{get_or-map, get_or-set_same, map-set, get_or_past, length-map}
+use Rattle.std.specs.Cmp.{IsTotalOrder}
+use Rattle.std.specs.Prelude.{Result, Ok, Err, OnErr}
 use Rattle.std.proofs.lemmas.List.Elements.{All-head, All-tail}
 use Rattle.std.proofs.Math.Seq.{map-set_same}
 use Rattle.std.specs.declared.cmp.Ordering.{Ordering}
 use Rattle.std.specs.declared.cmp.Ordering.TheVariants.{Less, Equal, Greater}
 use Rattle.std.specs.FinMap.{put}
 use Rattle.std.specs.FinMap.Entries.{by_order}
-use Rattle.key_index_flat.specs.Content.{Content, is_filled, list_at, with_list}
+use Rattle.key_index_flat.specs.Content.{Content, IsLawful, is_filled, item_count, list_at, with_list}
 use Rattle.key_index_flat.specs.View.{put_value}
-use Rattle.key_index_parts.specs.Family.{part_at, list_in, with_list_in, filled_parts}
+use Rattle.key_index_flat.proofs.ContentLemmas.{item_count-with_list}
+use Rattle.key_index_parts.specs.Family.{inline_in, Family, stands, stays_spilled, grows_spilled, part_at, list_in, with_list_in, filled_parts}
+use Rattle.key_index_parts.specs.Standing.{Standing, LeavesIn, GrowsIn, left_with, grown, spilled_since, standing_in, with_spilled}
 
 some_among : {V : Type 0} (xs ys : List V) (v : V) → 0 < length (xs ++ v ∷ ys)
 some_among [] ys v = omega arith
@@ -92,10 +103,83 @@ module _ {X K V : Type 0} (cmp : K → K → Ordering) {f : X → Content K V} {
   flags_stay flags y told e =
       told ∙ sym (ap (λ cs. filled_parts cs) (map-set f xs p y) ∙ map-set_same is_filled (map f xs) p (f y) (f x) (e ∙ ap is_filled (ap f part.at ∙ sym (get_or-map f xs p x (f x) part.inside))))
 
-pub none_family : {X K V : Type 0} (f : X → Content K V) (xs : List X) → All (λ x. f x ≡ []) xs → map f xs ≡ replicate (length xs) []
-none_family f [] h = refl
-none_family f (x ∷ xs) h = λ i. All-head (λ y. f y ≡ []) x xs h i ∷ none_family f xs (All-tail (λ y. f y ≡ []) x xs h) i
+pub all_alike : {X A : Type 0} (f : X → A) (a : A) (xs : List X) → All (λ x. f x ≡ a) xs → map f xs ≡ replicate (length xs) a
+all_alike f a [] h = refl
+all_alike f a (x ∷ xs) h = λ i. All-head (λ y. f y ≡ a) x xs h i ∷ all_alike f a xs (All-tail (λ y. f y ≡ a) x xs h) i
 
 pub none_filled : (K V : Type 0) (n : ℕ) → filled_parts {K = K} {V = V} (replicate n []) ≡ replicate n false
 none_filled K V zero = refl
 none_filled K V (suc n) = ap (λ l. false ∷ l) (none_filled K V n)
+
+-- how parts stand; s tells whether a part is spilled
+module _ {X K V : Type 0} {f : X → Content K V} {xs : List X} {p : ℕ} {x : X} (part : IsPart f xs p x) (s : X → Bool) where
+  abbrev how : X → Standing
+  how y = stands (f y) (s y)
+
+  pub standing_told : how x ≡ standing_in (map how xs) p
+  standing_told = ap how part.at ∙ sym (get_or-map how xs p x (record { entries = 0; spilled = false }) part.inside)
+
+  pub listed : p < length (map how xs)
+  listed = let same = length-map xs how in let inside = part.inside in omega (arith, same, inside)
+
+  pub standing_new : (y : X) → standing_in (map how (set xs p y)) p ≡ how y
+  standing_new y =
+      let same = length-map xs how in
+      let inside = part.inside in
+      ap (λ l. standing_in l p) (map-set how xs p y)
+      ∙ get_or-set_same (map how xs) p (how y) (record { entries = 0; spilled = false }) (omega (arith, same, inside))
+
+  changed : (y : X) (after : Standing → ℕ → Standing) → how y ≡ after (how x) (item_count (f y))
+      → map how (set xs p y) ≡ set (map how xs) p (after (standing_in (map how xs) p) (standing_in (map how (set xs p y)) p).entries)
+  changed y after e =
+      map-set how xs p y ∙ ap (λ z. set (map how xs) p z) (e ∙ (λ i. after (standing_told i) (sym (standing_new y) i).entries))
+
+  pub leaves : (y : X) → s y ≡ stays_spilled (s x) (f y) → LeavesIn (map how xs) p (map how (set xs p y))
+  leaves y e = changed y left_with (ap (λ b. stands (f y) b) e)
+
+  pub grows : (spills : Bool) (limit : ℕ) (y : X) → s y ≡ grows_spilled spills limit (s x) (f y)
+      → GrowsIn spills limit (map how xs) p (map how (set xs p y))
+  grows spills limit y e = changed y (grown spills limit) (ap (λ b. stands (f y) b) e)
+
+  pub since : (y : X) → (not (s x) && s y) ≡ spilled_since (map how xs) p (map how (set xs p y))
+  since y = λ i. not (standing_told i).spilled && (sym (standing_new y) i).spilled
+
+  pub since_none : (y : X) → s y ≡ s x → false ≡ spilled_since (map how xs) p (map how (set xs p y))
+  since_none y e = sym (never (s x)) ∙ ap (λ b. not (s x) && b) (sym e) ∙ since y where
+    never : (b : Bool) → (not b && b) ≡ false
+    never true = refl
+    never false = refl
+
+  pub family_stays : (y : X) → f y ≡ f x → s y ≡ s x
+      → ◌≡◌ {A = Family K V} (record { contents = map f (set xs p y); standing = map how (set xs p y) })
+      (record { contents = map f xs; standing = map how xs })
+  family_stays y e b = λ i. record {
+    contents = map-set_same f xs p y x (e ∙ ap f part.at) i;
+    standing = map-set_same how xs p y x ((λ j. stands (e j) (b j)) ∙ ap how part.at) i;
+  }
+
+  pub family_spilled : (y : X) → f y ≡ f x → s y ≡ true → map how (set xs p y) ≡ with_spilled (map how xs) p
+  family_spilled y e b =
+      map-set how xs p y
+      ∙ ap (λ z. set (map how xs) p z) ((λ i. stands (e i) (b i)) ∙ ap (λ z. record { entries = z.entries; spilled = true }) standing_told)
+
+  pub left_fewer : {cmp : K → K → Ordering} (o : IsTotalOrder cmp) → IsLawful cmp (f x) → (y : X) (k : K) (l : List V)
+      → f y ≡ with_list cmp (f x) k l → length l ≤ length (list_at cmp (f x) k)
+      → (standing_in (map how (set xs p y)) p).entries ≤ (standing_in (map how xs) p).entries
+  left_fewer {cmp = cmp} o lawful y k l e few =
+      let sum = item_count-with_list o (f x) k l lawful in
+      let is = ap (λ c. item_count c) e in
+      let was = ap (λ z. z.entries) standing_told in
+      let now = ap (λ z. z.entries) (standing_new y) in
+      omega (arith, sum, is, was, now, few)
+
+-- what an outcome says where it is known
+pub none_refused : {A E : Type 0} (Q : Type 0) (r : Result A E) (x : A) → r ≡ Ok x → OnErr r Q
+none_refused Q r x e = subst (λ s. OnErr s Q) (sym e) tt
+
+pub refused_so : {A E Q : Type 0} (r : Result A E) (x : E) → r ≡ Err x → Q → OnErr r Q
+refused_so {Q = Q} r x e q = subst (λ s. OnErr s Q) (sym e) q
+
+pub spills_so : (spills spilled : Bool) {K V : Type 0} (c : Content K V) {n : ℕ} → n ≡ inline_in spills spilled c → 0 < n → spills ≡ true
+spills_so true spilled c is some = refl
+spills_so false spilled c is some = absurd (omega (arith, is, some))

@@ -18,8 +18,9 @@ use Rattle.key_index_flat.specs.declared.index.Fault.TheVariants.{Memory, Full}
 use Rattle.key_index_flat.specs.Content.{Content, is_filled, IsLawful, list_at, item_count, key_count}
 use Rattle.key_index_flat.proofs.ContentLemmas.{same_content}
 use Rattle.key_index_flat.specs.View.{pruned_after}
-use Rattle.key_index_parts.specs.Family.{Kept, IsCounted, KeepsParts, AreFree, part_at, with_parts_from, filled_parts, view_of, view_from}
+use Rattle.key_index_parts.specs.Family.{Kept, IsCounted, KeepsParts, AreFree, part_at, with_items_from, with_parts_from, filled_parts, view_of, view_from}
 use Rattle.key_index_parts.specs.Filled.{IsFirst, flag_at}
+use Rattle.key_index_parts.specs.Standing.{new_standings}
 use Rattle.key_index_parts.specs.Gathered.{pair_cmp, gathered_from, gathered}
 use Rattle.key_index_parts.specs.GatheredLaws.{pair_total, IsLawful-gathered}
 use Rattle.key_index_parts.specs.Joined.{joined, joined_view, IsFree, is_between, install_fault}
@@ -29,18 +30,19 @@ use Rattle.key_index_parts.proofs.GatheredLemmas.{list_at-gathered, item_count-g
 use Rattle.key_index_parts.proofs.JoinedLemmas.{IsApart, apart_by, list_at-joined, IsLawful-joined, item_count-joined, key_count-joined}
 use Rattle.key_index_parts.proofs.ShiftedLemmas.{list_from}
 
-module _ {K V : Type 0} where
-  pub put_more : (parts : List (Content K V)) (n : ℕ) (c : Content K V) (cs : List (Content K V)) → n < length parts
-      → with_parts_from (set parts n c) (n + 1) cs ≡ with_parts_from parts n (c ∷ cs)
+module _ {A : Type 0} where
+  pub put_more : (parts : List A) (n : ℕ) (c : A) (cs : List A) → n < length parts
+      → with_items_from (set parts n c) (n + 1) cs ≡ with_items_from parts n (c ∷ cs)
   put_more parts n c cs h =
       let more : n + 1 + length cs ≡ n + length (c ∷ cs) = omega arith in
       (λ i. take_more_set parts n c h i ++ (cs ++ drop-set-lt (n + 1 + length cs) parts n c (omega arith) i))
       ∙ append_assoc (take n parts) (c ∷ []) (cs ++ drop (n + 1 + length cs) parts)
       ∙ ap (λ m. take n parts ++ (c ∷ cs ++ drop m parts)) more
 
-  pub put_none : (parts : List (Content K V)) (n : ℕ) → with_parts_from parts n [] ≡ parts
+  pub put_none : (parts : List A) (n : ℕ) → with_items_from parts n [] ≡ parts
   put_none parts n = ap (λ m. take n parts ++ drop m parts) (add-zero n) ∙ take-append-drop n parts
 
+module _ {K V : Type 0} where
   module _ (parts : List (Content K V)) (start count : ℕ) where
     unset : (n : ℕ) → flag_at (filled_parts parts) n ≡ false → part_at parts n ≡ []
     unset n h = unfilled (part_at parts n) (sym (flag_told parts n) ∙ h)
@@ -216,11 +218,12 @@ module _ {K V : Type 0} {cmp : K → K → Ordering} (o : IsTotalOrder cmp) (exa
 
       -- of the index as it is seen
       pub seen_joined : {T : Type 0} (translated : T → List ℕ → K) (t u : T) (pruned others more : ℕ) → more ≡ pruned_after pruned others
-          → view_of p translated (record { translator = t; parts = parts; pruned = more })
-          ≡ joined_view (pair_cmp cmp) (view_of p translated (record { translator = t; parts = own; pruned = pruned })) (view_from p translated start (record { translator = u; parts = other; pruned = others }))
+          → view_of p translated (record { translator = t; parts = parts; pruned = more; standings = new_standings 0 0 })
+          ≡ joined_view (pair_cmp cmp) (view_of p translated (record { translator = t; parts = own; pruned = pruned; standings = new_standings 0 0 }))
+          (view_from p translated start (record { translator = u; parts = other; pruned = others; standings = new_standings 0 0 }))
       seen_joined translated t u pruned others more sum =
           let content = ap (λ cs. gathered cs) is ∙ joined_by in
-          λ i. record (view_of p translated (record { translator = t; parts = own; pruned = pruned })) { content = content i; pruned = sum i }
+          λ i. record (view_of p translated (record { translator = t; parts = own; pruned = pruned; standings = new_standings 0 0 })) { content = content i; pruned = sum i }
 
 pub refused_fault : (m n : ℕ) → (m + n ≤ 2 ^ 64 - 1 → ⊥) → Full ≡ install_fault m n
 refused_fault m n full =

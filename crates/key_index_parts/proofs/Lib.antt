@@ -7,6 +7,7 @@ pub mod SearchLemmas
 pub mod ZipLemmas
 pub mod PairLemmas
 pub mod ReachLemmas
+pub mod TreeLemmas
 pub mod RunLemmas
 pub mod GroupLemmas
 pub mod EndLemmas
@@ -22,11 +23,11 @@ pub mod FamilyNeighbours
 pub mod EntriesLemmas
 pub mod BoxedLemmas
 pub mod JoinedLemmas
-pub mod OpLemmas
-pub mod DoneLemmas
-pub mod FillLemmas
-pub mod RangeLemmas
 pub mod ShiftedLemmas
 pub mod VisitLemmas
 pub mod InstallLemmas
-pub mod AcceptedLemmas
+pub mod StandingLemmas
+mod SpillLemmas
+mod SpillingLemmas
+mod SpreadLemmas
+pub mod AheadLemmas

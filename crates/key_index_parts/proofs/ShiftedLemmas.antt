@@ -5,7 +5,7 @@
 --     below_from, held_from   there is none below the first number
 --     edited_from             and one put in
 --     seen_edited, seen_pruned    a range as it is seen, after its storage was edited
-use Rattle.std.proofs.Common.{◌≡◌, ℕ, suc, ◌+◌, ◌<◌, ◌≤◌, true, false, cond, not, ◌&&◌, nat_lt, List, [], ◌∷◌, Some, unwrap_or, length, Result, Ok, Err, IfOk, IfErr, OnOk, refl, sym, ap, ◌∙◌, arith, lt_of_not-le}
+use Rattle.std.proofs.Common.{◌≡◌, ℕ, suc, ◌+◌, ◌<◌, ◌≤◌, true, false, cond, not, ◌&&◌, nat_lt, List, [], ◌∷◌, Some, unwrap_or, length, Result, Ok, Err, IfOk, IfErr, OnOk, OnErr, refl, sym, ap, ◌∙◌, arith, lt_of_not-le}
 use Rattle.std.proofs.lemmas.Bool.{lt-ltb}
 use Rattle.std.specs.declared.cmp.Ordering.{Ordering}
 use Rattle.std.specs.declared.cmp.Ordering.TheVariants.{Less, Equal, Greater}
@@ -34,6 +34,10 @@ module _ {A E : Type 0} where
   pub on_ok : (r : Result A E) (P Q : Type 0) → (P → Q) → OnOk r P → OnOk r Q
   on_ok (Ok a) P Q f h = f h
   on_ok (Err e) P Q f h = tt
+
+  pub on_err : (r : Result A E) (P Q : Type 0) → (P → Q) → OnErr r P → OnErr r Q
+  on_err (Ok a) P Q f h = tt
+  on_err (Err e) P Q f h = f h
 
 module _ {K V : Type 0} (n : ℕ) (parts : List (Content K V)) where
   pub items_from : item_count (gathered parts) ≡ item_count (gathered_from n parts)

@@ -14,8 +14,11 @@
 --     counted_gain                       and by one value more
 --     keeps, keeps_all                   it is a map of lists that are not empty, as it is where nothing was edited
 --     view_edited, view_pruned           and the index as it is seen
-use Rattle.std.proofs.Common.{◌≡◌, ℕ, zero, suc, ◌+◌, ◌-◌, ◌^◌, ◌<◌, ◌≤◌, Bool, true, false, not, List, [], ◌∷◌, replicate, length, All, length-append, refl, sym, ap, subst, ◌∙◌, arith, lt_of_not-le}
-use Rattle.std.proofs.lemmas.Bool.{lt-ltb}
+--     memory_fault                           why a value is refused where there is space for one more
+use Rattle.std.proofs.Common.{◌≡◌, ℕ, zero, suc, ◌+◌, ◌-◌, ◌^◌, ◌<◌, ◌≤◌, Bool, true, false, not, if◌then◌else◌, List, [], ◌∷◌, replicate, length, All, length-append, refl, sym, ap, subst, ◌∙◌, arith, lt_of_not-le}
+use Rattle.std.proofs.lemmas.Bool.{lt-ltb, ne_eqb}
+use Rattle.key_index_flat.specs.declared.index.Fault.TheVariants.{Memory, Full}
+use Rattle.key_index_flat.specs.Fault.{growth_fault}
 use Rattle.std.proofs.lemmas.List.{length-set, length-replicate}
 use Rattle.std.proofs.lemmas.List.Elements.{All-get_or, All-set, All-nil, All-cons}
 use Rattle.std.specs.declared.cmp.Ordering.{Ordering}
@@ -26,10 +29,11 @@ use Rattle.key_index_flat.specs.Laws.{IsLawful-with_list}
 use Rattle.key_index_flat.specs.View.{put_value, pruned_after}
 use Rattle.key_index_flat.proofs.ContentLemmas.{item_count-with_list, key_count-with_list, entries_for}
 use Rattle.key_index_parts.specs.Counts.{one_if, keys_for, CanChange}
-use Rattle.key_index_parts.specs.Family.{Kept, IsCounted, KeepsParts, Edits, Prunes, view_of, part_at, list_in, with_list_in}
+use Rattle.key_index_parts.specs.Family.{Kept, IsCounted, KeepsParts, Edits, Prunes, SameContent, view_of, part_at, list_in, with_list_in}
 use Rattle.key_index_parts.specs.Gathered.{pair_cmp, gathered_from, gathered}
 use Rattle.key_index_parts.specs.GatheredLaws.{pair_total, IsLawful-gathered}
 use Rattle.key_index_parts.specs.Prefix.{partition_count}
+use Rattle.key_index_parts.specs.Standing.{Standings, new_standings}
 use Rattle.key_index_parts.proofs.GatheredLemmas.{list_at-gathered, list_at-past, with_list-gathered}
 use Rattle.key_index_parts.proofs.PartLemmas.{keys_at_most}
 
@@ -202,16 +206,24 @@ module _ {K V : Type 0} {cmp : K → K → Ordering} {p : ℕ} {parts : List (Co
       pub edited_by : (f : List V → List V) → l ≡ f (list_in cmp parts slot) → gathered new ≡ with_list_by (pair_cmp cmp) (gathered parts) slot f
       edited_by f told = edited ∙ ap (λ m. with_list (pair_cmp cmp) (gathered parts) slot m) (told ∙ ap f (sym (list_is slot)))
 
-      -- of the index as it is seen
+      -- of the index as it is seen, however its parts stand
       module _ {T : Type 0} (translated : T → List ℕ → K) (t : T) (pruned more : ℕ) (f : List V → List V) (told : l ≡ f (list_in cmp parts slot)) where
         abbrev pub old_kept : Kept T K V
-        old_kept = record { translator = t; parts = parts; pruned = pruned }
+        old_kept = record { translator = t; parts = parts; pruned = pruned; standings = new_standings 0 0 }
 
         abbrev pub new_kept : Kept T K V
-        new_kept = record { translator = t; parts = new; pruned = more }
+        new_kept = record { translator = t; parts = new; pruned = more; standings = new_standings 0 0 }
 
         pub view_edited : more ≡ pruned → Edits cmp p translated old_kept slot f new_kept
         view_edited same = λ i. record (view_of p translated old_kept) { content = edited_by f told i; pruned = same i }
 
         pub view_pruned : (n : ℕ) → more ≡ pruned_after pruned n → Prunes cmp p translated old_kept slot f n new_kept
         view_pruned n sum = λ i. record (view_of p translated old_kept) { content = edited_by f told i; pruned = sum i }
+
+pub memory_fault : (n : ℕ) → n < 2 ^ 64 - 1 → Memory ≡ growth_fault n
+memory_fault n few = ap (λ b. if b then Full else Memory) (sym (ne_eqb n (2 ^ 64 - 1) (λ e. omega (arith, few, e))))
+
+-- the parts as before, however they stand
+pub same_but : {T K V : Type 0} {t : T} {pruned : ℕ} {old new : List (Content K V)} {b : Standings} (a : Standings) → new ≡ old
+    → SameContent (record { translator = t; parts = old; pruned = pruned; standings = a }) (record { translator = t; parts = new; pruned = pruned; standings = b })
+same_but {t = t} {pruned = pruned} {b = b} a same = λ i. record { translator = t; parts = same i; pruned = pruned; standings = b }

@@ -6,13 +6,22 @@
 --     held_at                     the list at a slot of the whole
 --     KeepsParts                  other parts are as many, and a map of lists that are not empty
 --     IsIndex, IsRange            parts for all partitions of p bytes, and for some from a first one on
+--     Family                      what each part holds, and how it stands
+--     stands, stays_spilled       how a part stands, and whether a spilled one that is left with this content is spilled still
+--     grows_spilled               whether a part is spilled once a value was put in, of a kind that spills at so many values or doesn't
+--     inline_in                   how many values of a part a spill would move
 --     Kept, IsCounted             what the storage of an index keeps, and its counts
+--     settled_in, settled_at      a partition spilled if it has reached the threshold, of parts that spill or don't
+--     GrowsTo                     what an insertion leaves of how the partitions stand, done in a partition as it stands
+--     SameContent                 how its partitions stand may differ, and nothing else
+--     IsLeft                      what a refused insertion leaves
 --     RetainsWith                 what an insertion with retention makes of a list
 --     view_of                     the view of it, by what its translator makes of a key
 --     Edits, Prunes               another view has what f makes of the list at a slot, and with n values more taken out
 --     view_from                  the same of a range's storage, whose parts are numbered from `first`
---     with_parts_from, AreFree    with other parts in the place of those from a number on; so many from there hold nothing
-use Rattle.std.specs.Prelude.{◌≡◌, ℕ, ◌+◌, ◌<◌, ◌≤◌, Bool, nat_lt, List, [], ◌∷◌, ◌++◌, length, map, take, drop, All, slice_index_or, slice_set}
+--     with_items_from             with other items in the place of those from a number on
+--     with_parts_from, AreFree    the same of parts; so many from there hold nothing
+use Rattle.std.specs.Prelude.{◌≡◌, ◌⊎◌, ℕ, ◌+◌, ◌-◌, ◌^◌, ◌<◌, ◌≤◌, Bool, not, ◌&&◌, ◌||◌, if◌then◌else◌, nat_lt, nat_le, List, [], ◌∷◌, ◌++◌, length, map, take, drop, All, slice_index_or, slice_set}
 use Rattle.std.specs.List.{items_where_true}
 use Rattle.std.specs.List.Retain.{ReturnsInTurn}
 use Rattle.std.specs.declared.cmp.Ordering.{Ordering}
@@ -21,13 +30,17 @@ use Rattle.key_index_flat.specs.View.{View, with_edit, with_pruned}
 use Rattle.key_index_parts.specs.Gathered.{gathered, gathered_from, pair_cmp}
 use Rattle.key_index_parts.specs.Joined.{is_between}
 use Rattle.key_index_parts.specs.Prefix.{partition_count, slot_by}
+use Rattle.key_index_parts.specs.Standing.{Standing, Standings, entries_at, spilled_if_reached, with_entries}
+
+abbrev pub with_items_from : {A : Type 0} → List A → ℕ → List A → List A
+with_items_from items n others = take n items ++ (others ++ drop (n + length others) items)
 
 module _ {K V : Type 0} where
   abbrev pub part_at : List (Content K V) → ℕ → Content K V
   part_at parts n = slice_index_or parts n []
 
   abbrev pub with_parts_from : List (Content K V) → ℕ → List (Content K V) → List (Content K V)
-  with_parts_from parts n others = take n parts ++ (others ++ drop (n + length others) parts)
+  with_parts_from parts n others = with_items_from parts n others
 
   abbrev pub AreFree : List (Content K V) → ℕ → ℕ → Type 0
   AreFree parts first count = (n : ℕ) → first ≤ n → n < first + count → part_at parts n ≡ []
@@ -64,11 +77,31 @@ module _ {K V : Type 0} (cmp : K → K → Ordering) where
     pub lawful : IsLawful (pair_cmp cmp) (gathered parts)
     pub within : first + length parts ≤ partition_count p
 
--- an index as its storage's contracts see it: its translator, what its parts hold, and how many held values were ever taken out
+pub record Family (K V : Type 0) : Type 0 where
+  pub contents : List (Content K V)
+  pub standing : List Standing
+
+module _ {K V : Type 0} where
+  abbrev pub stands : Content K V → Bool → Standing
+  stands c spilled = record { entries = item_count c; spilled = spilled }
+
+  abbrev pub stays_spilled : Bool → Content K V → Bool
+  stays_spilled spilled c = spilled && nat_lt 0 (item_count c)
+
+  abbrev pub grows_spilled : Bool → ℕ → Bool → Content K V → Bool
+  grows_spilled spills limit spilled c =
+      (spilled || (spills && nat_le limit (item_count c))) && nat_lt 0 (item_count c)
+
+  abbrev pub inline_in : Bool → Bool → Content K V → ℕ
+  inline_in spills spilled c = if spills && not spilled then item_count c else 0
+
+-- an index as its storage's contracts see it: its translator, what its parts hold, how many held values were ever taken out, and how
+-- its partitions stand
 pub record Kept (T K V : Type 0) : Type 0 where
   pub translator : T
   pub parts : List (Content K V)
   pub pruned : ℕ
+  pub standings : Standings
 
 -- no more parts than partitions of p bytes, each a map of lists that are not empty, and so many values and keys in all of them
 pub record IsCounted {K V : Type 0} (cmp : K → K → Ordering) (p : ℕ) (parts : List (Content K V)) (items keys : ℕ) : Type 0 where
@@ -78,6 +111,25 @@ pub record IsCounted {K V : Type 0} (cmp : K → K → Ordering) (p : ℕ) (part
   pub each : All (IsLawful cmp) parts
   pub counted : items ≡ item_count (gathered parts)
   pub keyed : keys ≡ key_count (gathered parts)
+
+abbrev pub settled_in : Bool → Standings → ℕ → Standings
+settled_in spills s n = if spills then spilled_if_reached s n else s
+
+module _ {T K V : Type 0} where
+  abbrev pub settled_at : Bool → Kept T K V → ℕ → Kept T K V
+  settled_at spills s n = record s { standings = settled_in spills s.standings n }
+
+  -- an insertion into a partition as it stands: with its values, and spilled if it has reached the threshold by them
+  abbrev pub GrowsTo : Bool → Kept T K V → ℕ → Kept T K V → Type 0
+  GrowsTo spills old n new =
+      new.standings ≡ settled_in spills (with_entries old.standings n (entries_at new.standings n)) n
+
+  abbrev pub SameContent : Kept T K V → Kept T K V → Type 0
+  SameContent old new = new ≡ record old { standings = new.standings }
+
+  abbrev pub IsLeft : Bool → Kept T K V → ℕ → Kept T K V → Type 0
+  IsLeft spills old n new =
+      (new ≡ old) ⊎ ((item_count (gathered old.parts) < 2 ^ 64 - 1) × (new ≡ settled_at spills old n))
 
 abbrev pub view_of : {T K V : Type 0} → ℕ → (T → List ℕ → K) → Kept T K V → View (ℕ × K) V
 view_of p translated s = record {

@@ -1,5 +1,5 @@
 -- A range of an index in partitions, by its value.
-use Rattle.std.specs.Prelude.{ℕ, length}
+use Rattle.std.specs.Prelude.{ℕ, ◌+◌, Bool, length}
 use Rattle.std.specs.declared.cmp.Ord as ord
 use Rattle.std.specs.declared.cmp.PartialEq as eq
 use Rattle.std.specs.declared.cmp.PartialOrd as partial
@@ -9,6 +9,8 @@ use Rattle.key_index_flat.specs.View.{View}
 use Rattle.key_index_parts.specs.declared.index.partitioned.part.Held as parts
 use Rattle.key_index_parts.specs.declared.index.partitioned.range.Range.{Range}
 use Rattle.key_index_parts.specs.Family.{view_from}
+use Rattle.key_index_parts.specs.Joined.{is_between}
+use Rattle.key_index_parts.specs.Standing.{Standings}
 
 module _ {T V X K : Type 0} {P : ℕ} {t : translator.Ghosts T K} {o : ord.Ghosts K} {e : eq.Ghosts K} {p : partial.Ghosts K}
     {h : hash.Ghosts K} {x : parts.Ghosts X T V K} where
@@ -18,6 +20,14 @@ module _ {T V X K : Type 0} {P : ℕ} {t : translator.Ghosts T K} {o : ord.Ghost
 
   abbrev pub range_count : Range T V X P K t o e p h x → ℕ
   range_count range = length range.storage.parts
+
+  -- whether it covers a partition
+  abbrev pub is_covered : Range T V X P K t o e p h x → ℕ → Bool
+  is_covered range n = is_between (range_offset range) (range_offset range + range_count range) n
+
+  -- how its partitions stand, by their numbers in it
+  abbrev pub range_standings : Range T V X P K t o e p h x → Standings
+  range_standings range = range.storage.standings
 
   -- as contracts see it
   abbrev pub range_view : Range T V X P K t o e p h x → View (ℕ × K) V

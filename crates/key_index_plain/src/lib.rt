@@ -264,6 +264,3 @@ impl<T: Translator, V: Drop> Factory for Index<T, V> {
         })
     }
 }
-
-#[cfg(test)]
-mod tests;

@@ -1,2 +1,3 @@
 pub mod Exclusion
 pub mod Newest
+pub mod Records

@@ -5,7 +5,6 @@
 pub mod builds;
 pub mod callers;
 pub mod named;
+pub mod records;
 pub mod segments;
 pub mod snapshots;
-#[cfg(test)]
-mod tests;

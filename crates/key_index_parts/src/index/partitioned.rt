@@ -8,11 +8,8 @@ ghost use Rattle.key_index_parts.specs.Gathered.{pair_cmp};
 ghost use Rattle.key_index_parts.specs.Grouping.{ComparesAs};
 ghost use Rattle.key_index_parts.specs.Prefix.{prefix_number, rest_of, slot_by};
 
-mod build;
 mod counts;
-mod fill;
 mod filled;
-mod op;
 pub mod ordered;
 mod part;
 mod parts;
@@ -21,8 +18,6 @@ mod storage;
 mod traits;
 pub mod unordered;
 
-pub use build::build_in_ranges;
-pub use op::Op;
 pub use traits::{PartitionRange, Partitioned};
 
 /// The partition of a key, and the rest of the key: the big-endian number of the first `P` bytes, with zeros behind a shorter key, and

@@ -11,9 +11,12 @@ use std::alloc::Global;
 use std::convert::AsSlice;
 
 /// An index that answers by key, with no order over the keys. Its contracts speak of its content alone, so code that is generic
-/// over it is right for each index.
+/// over it is right for each index. `resettled` is for `remove`, `retain` and `insert_and_retain` what `settled` is for the other calls
+/// by key: an index that says one of them says both.
 pub trait Unordered: Search {
     ghost INSERT_FIRST: { Bool };
+
+    ghost resettled: { Self → Self.Key → Self → Type 0 } = { λ _ _ _. Unit {0} };
 
     /// Whether `insert` puts a value in front of those that its key has, and not behind them.
     const INSERT_FIRST: bool;
@@ -61,7 +64,7 @@ pub trait Unordered: Search {
         requires { F.IsAlwaysCallable should_retain }
         ensures accepted { OnOk result (RetainsAt Self.Key.cmp (CalledAt F.FnMut) should_retain
             (Self.view self.old) key.now (Self.view self.new)) }
-        ensures settled { OnOk result (AlsoAt Self.view Self.settled self.old key.now self.new) }
+        ensures settled { OnOk result (AlsoAt Self.view Self.resettled self.old key.now self.new) }
         ensures refused { OnErr result (StaysBut Self.view Self.left_by_refusal self.old key.now self.new) }
         ensures want { IfErr result (IsWantAt Self.view Self.may_refuse self.old key.now) };
 
@@ -78,7 +81,7 @@ pub trait Unordered: Search {
         requires { F.IsAlwaysCallable should_retain }
         ensures accepted { OnOk result (InsertsAndRetainsAt Self.Key.cmp (CalledAt F.FnMut) should_retain
             (Self.view self.old) key.now value (Self.view self.new)) }
-        ensures settled { OnOk result (AlsoAt Self.view Self.settled self.old key.now self.new) }
+        ensures settled { OnOk result (AlsoAt Self.view Self.resettled self.old key.now self.new) }
         ensures room { OnOk result (items_in (Self.view self.old) < usize.MAX) }
         ensures refused { OnErr result (StaysBut Self.view Self.left_by_refusal self.old key.now self.new) }
         ensures returned { IfErr result (λ r. r.value ≡ value) }
@@ -87,7 +90,7 @@ pub trait Unordered: Search {
     /// Takes the key's index key out, with all of its values.
     fn remove(&mut self, key: &[u8]) -> Result<(), Fault>
         ensures accepted { OnOk result (Self.view self.new ≡ after_remove Self.Key.cmp (Self.view self.old) key.now) }
-        ensures settled { OnOk result (AlsoAt Self.view Self.settled self.old key.now self.new) }
+        ensures settled { OnOk result (AlsoAt Self.view Self.resettled self.old key.now self.new) }
         ensures refused { OnErr result (StaysBut Self.view Self.left_by_refusal self.old key.now self.new) }
         ensures want { IfErr result (IsWantAt Self.view Self.may_refuse self.old key.now) };
 

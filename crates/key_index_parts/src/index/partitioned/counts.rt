@@ -53,3 +53,11 @@ impl Counts {
         self.pruned = self.pruned.saturating_add(other.pruned);
     }
 }
+
+/// A count with one more, if there is one.
+#[inline]
+pub(super) fn count_if(count: u64, one: bool) -> u64
+    ensures { result ≡ pruned_after count (one_if one) }
+{
+    count.saturating_add(u64::from(one))
+}

@@ -4,46 +4,112 @@ ghost use Rattle.key_index_flat.specs.Content.{IsLawful, item_count};
 ghost use Rattle.key_index_parts.specs.Family.{IsIndex, view_of};
 ghost use Rattle.key_index_parts.specs.Gathered.{gathered, pair_cmp, entries_of};
 ghost use Rattle.key_index_parts.specs.Prefix.{partition_count, partition_by, slot_by};
+ghost use Rattle.key_index_parts.specs.Standing.{LeavesSome, Refuses, Settles, is_reached};
 
+mod ahead;
 mod arrays;
 pub mod partition;
+mod spilling;
+mod tree;
 
 use super::range::Range;
 use super::storage::Storage;
 use super::{PartitionRange, Partitioned, partition_index_and_sub_key};
-use arrays::Arrays;
+pub use ahead::{Ahead, same_visits, show_ahead, visit_ahead};
 use key_index_flat::index::implement::{Lists, show_by_key, visit_by_key};
 use key_index_flat::index::{
     Factory, Fault, IndexCursor, Ordered, Refused, Runs, Search, Unordered, Values,
 };
 use key_index_flat::translator::{OrderedTranslator, Translator};
+use spilling::Spilling;
 use std::alloc::Global;
 use std::convert::AsSlice;
 
-/// Sorted arrays for each of `256^P` partitions: the keys of a partition in order, and beside each key a value. The translator shortens
-/// what follows the first `P` bytes of a key.
+/// At how many values a partition of an index made by `new` spills.
+const THRESHOLD: usize = 512;
+
+/// Sorted arrays for each of `256^P` partitions, the keys of a partition in order and beside each key a value, and a tree in their place
+/// where a partition was left with so many values as the threshold: it has *spilled*. The translator shortens what follows the first `P`
+/// bytes of a key.
 ///
-/// `insert` puts a value behind those of its key. `remove` takes no memory and never refuses. A call by key searches the arrays of one
-/// partition, and an edit moves what stands behind it there. Over a translator that keeps the order of bytes it also gives the
+/// `insert` puts a value behind those of its key. A call by key searches one partition: in arrays, of which there are fewer than the
+/// threshold, an edit moves what stands behind it; in a tree it takes the logarithm of the keys. A cursor never spills a partition, so it
+/// may leave arrays at the threshold or past it: such a partition is *due*, the next call by key there spills it first, and `remove`,
+/// `retain` and `get_mut` want memory there and nowhere else. Over a translator that keeps the order of bytes the index also gives the
 /// neighbours of a key, however many empty partitions lie between.
 #[derive(Drop)]
 pub struct Index<T: Translator, V: Drop, const P: usize> {
-    storage: Storage<T, V, Arrays<T, V>, P>,
+    storage: Storage<T, V, Spilling<T, V>, P>,
     ghost is_index: { IsIndex T.Key.cmp P storage.parts },
 }
 
 impl<T: Translator, V: Drop, const P: usize> Index<T, V, P> {
-    ghost use Rattle.std.specs.Prelude.{◌≡◌, ◌<◌, IfErr, OnOk};
+    ghost use Rattle.std.specs.Prelude.{◌≡◌, ◌<◌, ◌≤◌, [], IfErr, IfOk, OnOk};
     ghost use Rattle.std.specs.Iterator.{UpTo};
     ghost use Rattle.key_index_flat.specs.Visits.{IsBatch, VisitsAt, VisitsByKey};
-    ghost use Rattle.key_index_parts.specs.Ordered.{view};
+    ghost use Rattle.key_index_parts.specs.Ordered.{standings, view};
+    ghost use Rattle.key_index_parts.specs.Standing.{entries_at, inline_len, new_standings, spilled_in, standing_at};
+    ghost use Rattle.key_index_parts.specs.Ahead.{TellsAhead, TellsAt};
 
-    /// How many values stand in the arrays of a partition.
+    /// An index with no values, whose partitions spill at so many. Takes the slots of all partitions at once, and answers `Memory` where
+    /// that is refused.
+    pub fn with_threshold(
+        alloc: Global,
+        translator: T,
+        threshold: usize,
+    ) -> Result<Index<T, V, P>, Fault>
+        requires least { 1 ≤ P }
+        requires greatest { P ≤ 3 }
+        requires threshold { 1 ≤ threshold }
+        ensures empty { IfOk result (λ index. (view index).content ≡ []) }
+        ensures pruned { IfOk result (λ index. (view index).pruned ≡ 0) }
+        ensures slots { IfOk result (λ index. (view index).slot ≡ slot_by P (T.translated translator)) }
+        ensures standing { IfOk result (λ index. standings index ≡ new_standings threshold (partition_count P)) }
+        ensures fault { IfErr result (λ f. f ≡ Fault.Memory) }
+    {
+        match Storage::new(alloc, translator, 1 << (8 * P), threshold) {
+            Ok(storage) => Ok(Index { storage }),
+            Err(fault) => Err(fault),
+        }
+    }
+
+    /// At how many values a partition spills.
+    pub fn threshold(&self) -> usize
+        ensures { result ≡ (standings self.now).threshold }
+    {
+        self.storage.threshold()
+    }
+
+    /// How many spills there ever were. The count stops at `u64::MAX`.
+    pub fn spills(&self) -> u64
+        ensures { result ≡ (standings self.now).spills }
+    {
+        self.storage.spills()
+    }
+
+    /// How many partitions are spilled. It looks at each.
+    pub fn spilled_count(&self) -> usize
+        ensures { result ≡ spilled_in (standings self.now).parts }
+    {
+        self.storage.spilled_count()
+    }
+
+    /// Whether a partition is spilled.
+    pub fn is_spilled(&self, partition: usize) -> bool
+        requires { partition < partition_count P }
+        ensures { result ≡ (standing_at (standings self.now) partition).spilled }
+    {
+        self.storage.is_spilled(partition)
+    }
+
+    /// How many values of a partition stand in arrays: all of them, or none where it is spilled.
     pub fn inline_len(&self, partition: usize) -> usize
         requires { partition < partition_count P }
-        ensures { result ≡ item_count (entries_of (view self.now).content partition) }
+        ensures len { result ≡ inline_len (standings self.now) partition }
+        ensures entries { entries_at (standings self.now) partition
+            ≡ item_count (entries_of (view self.now).content partition) }
     {
-        self.storage.part(partition).len()
+        self.storage.inline_len(partition)
     }
 
     /// Visits the values of each key of a batch with the key's place in it, from 0, by partition, then by translated key and, of one
@@ -68,22 +134,59 @@ impl<T: Translator, V: Drop, const P: usize> Index<T, V, P> {
             Err((_, fault)) => Err(fault),
         }
     }
+
+    /// Visits what `get_many` visits, in its order, and keeps the lists of the next four keys found ahead of the one that it visits. It
+    /// tells each list that it finds, with its length. Takes memory for the places first, and answers `Memory` where that is refused,
+    /// before it tells anything.
+    pub fn get_many_ahead<B: Iterator + Drop, F: FnMut(Ahead<'_, V>)>(
+        &self,
+        keys: B,
+        on: F,
+    ) -> Result<(), Fault>
+    where
+        B::Item: AsSlice<u8> + Drop,
+        requires can { B.can_next keys }
+        requires ends { UpTo (B.remaining keys) usize.MAX }
+        requires callable { F.IsAlwaysCallable on }
+        ensures told { OnOk result ((last : F) × TellsAhead (IsBatch B.next_gives B.Item.items keys)
+            (TellsAt F.FnMut) on (pair_cmp T.Key.cmp) (view self.now) last) }
+        ensures fault { IfErr result (λ f. f ≡ Fault.Memory) }
+    {
+        show_ahead(self.storage.alloc(), self, keys, on)
+    }
 }
 
 /// Some neighbouring partitions of a partitioned ordered index, apart from it.
-pub type RangeIndex<T, V, const P: usize> = Range<T, V, Arrays<T, V>, P>;
+pub type RangeIndex<T, V, const P: usize> = Range<T, V, Spilling<T, V>, P>;
 
 impl<T: Translator, V: Drop, const P: usize> RangeIndex<T, V, P> {
-    ghost use Rattle.std.specs.Prelude.{◌≡◌, ◌+◌, IsTrue};
-    ghost use Rattle.key_index_parts.specs.Joined.{is_between};
-    ghost use Rattle.key_index_parts.specs.Range.{range_view, range_offset, range_count};
+    ghost use Rattle.std.specs.Prelude.{◌≡◌, ◌-◌, IsTrue};
+    ghost use Rattle.key_index_parts.specs.Range.{is_covered, range_offset, range_standings, range_view};
+    ghost use Rattle.key_index_parts.specs.Standing.{entries_at, inline_len, standing_at};
 
-    /// How many values stand in the arrays of a partition that the range covers.
-    pub fn inline_len(&self, partition: usize) -> usize
-        requires { IsTrue (is_between (range_offset self.now) (range_offset self.now + range_count self.now) partition) }
-        ensures { result ≡ item_count (entries_of (range_view self.now).content partition) }
+    /// How many spills there ever were. The count stops at `u64::MAX`.
+    pub fn spills(&self) -> u64
+        ensures { result ≡ (range_standings self.now).spills }
     {
-        self.storage.part(partition - self.offset).len()
+        self.storage.spills()
+    }
+
+    /// Whether a partition that the range covers is spilled.
+    pub fn is_spilled(&self, partition: usize) -> bool
+        requires { IsTrue (is_covered self.now partition) }
+        ensures { result ≡ (standing_at (range_standings self.now) (partition - range_offset self.now)).spilled }
+    {
+        self.storage.is_spilled(partition - self.offset)
+    }
+
+    /// How many values of a partition that the range covers stand in arrays: all of them, or none where it is spilled.
+    pub fn inline_len(&self, partition: usize) -> usize
+        requires { IsTrue (is_covered self.now partition) }
+        ensures len { result ≡ inline_len (range_standings self.now) (partition - range_offset self.now) }
+        ensures entries { entries_at (range_standings self.now) (partition - range_offset self.now)
+            ≡ item_count (entries_of (range_view self.now).content partition) }
+    {
+        self.storage.inline_len(partition - self.offset)
     }
 }
 
@@ -96,6 +199,8 @@ impl<T: Translator, V: Drop, const P: usize> Runs for Index<T, V, P> {
     type Key = (usize, T::Key);
 
     ghost view = { λ index. view_of P T.translated index.storage };
+
+    ghost edited = { λ x y. LeavesSome x.storage.standings y.storage.standings };
 
     ghost lawful = { λ index. index.is_index.lawful };
 
@@ -150,9 +255,19 @@ impl<T: Translator, V: Drop, const P: usize> Lists for Index<T, V, P> {
 }
 
 impl<T: Translator, V: Drop, const P: usize> Search for Index<T, V, P> {
+    ghost settled = { λ x slot y. Settles x.storage.standings slot.0 y.storage.standings };
+
+    ghost left_by_refusal = { λ x slot y.
+        Refuses (item_count (gathered x.storage.parts)) x.storage.standings slot.0 y.storage.standings };
+
+    ghost may_refuse = { λ x slot. is_reached x.storage.standings slot.0 };
+
     fn reach(&mut self, key: &[u8]) -> Result<((usize, T::Key), usize), Fault> {
         let slot = self.slot_of(key);
-        Ok((slot, self.run_len(slot)))
+        match self.storage.settle(slot.0) {
+            Ok(()) => Ok((slot, self.run_len(slot))),
+            Err(fault) => Err(fault),
+        }
     }
 
     fn reach_or_insert(
@@ -194,6 +309,8 @@ impl<T: Translator, V: Drop, const P: usize> Unordered for Index<T, V, P> {
     ghost use Rattle.key_index_parts.specs.PrefixLaws.{prefix_reaches};
 
     ghost INSERT_FIRST = { false };
+
+    ghost resettled = { λ x slot y. Settles x.storage.standings slot.0 y.storage.standings };
 
     const INSERT_FIRST: bool = false;
 
@@ -247,15 +364,13 @@ impl<T: Translator, V: Drop, const P: usize> Unordered for Index<T, V, P> {
     #[inline]
     fn retain<F: FnMut(&V) -> bool>(&mut self, key: &[u8], should_retain: F) -> Result<(), Fault> {
         let slot = self.storage.slot_of(key);
-        self.storage.retain(slot, should_retain);
-        Ok(())
+        self.storage.retain(slot, should_retain)
     }
 
     #[inline]
     fn remove(&mut self, key: &[u8]) -> Result<(), Fault> {
         let slot = self.storage.slot_of(key);
-        self.storage.remove(slot);
-        Ok(())
+        self.storage.remove(slot)
     }
 
     #[inline]
@@ -302,24 +417,38 @@ impl<T: OrderedTranslator, V: Drop, const P: usize> Ordered for Index<T, V, P> {
 }
 
 impl<T: Translator, V: Drop, const P: usize> Factory for Index<T, V, P> {
+    ghost use Rattle.std.specs.Prelude.{◌≡◌, ◌≤◌, [], IfErr, IfOk};
+    ghost use Rattle.key_index_parts.specs.Ordered.{standings, view};
+    ghost use Rattle.key_index_parts.specs.Standing.{new_standings};
+
     type Translator = T;
 
     ghost slot_by = { λ translator. slot_by P (T.translated translator) };
 
     ghost makes = { (1 ≤ P) × (P ≤ 3) };
 
-    /// Takes the slots of all partitions at once, and answers `Memory` where that is refused.
-    fn new(alloc: Global, translator: T) -> Result<Index<T, V, P>, Fault> {
-        match Storage::new(alloc, translator, 1 << (8 * P)) {
-            Ok(storage) => Ok(Index { storage }),
-            Err(fault) => Err(fault),
-        }
+    /// Takes the slots of all partitions at once, and answers `Memory` where that is refused. A partition spills at 512 values.
+    fn new(alloc: Global, translator: T) -> Result<Index<T, V, P>, Fault>
+        requires { (1 ≤ P) × (P ≤ 3) }
+        ensures empty { IfOk result (λ index. (view index).content ≡ []) }
+        ensures pruned { IfOk result (λ index. (view index).pruned ≡ 0) }
+        ensures slots { IfOk result (λ index. (view index).slot ≡ slot_by P (T.translated translator)) }
+        ensures standing { IfOk result (λ index. standings index ≡ new_standings 512 (partition_count P)) }
+        ensures fault { IfErr result (λ f. f ≡ Fault.Memory) }
+    {
+        Index::with_threshold(alloc, translator, THRESHOLD)
     }
 }
 
 impl<T: Translator, V: Drop, const P: usize> Partitioned for Index<T, V, P> {
     ghost use Rattle.std.proofs.Common.{refl};
+    ghost use Rattle.std.specs.Prelude.{◌≡◌, ◌+◌, ◌≤◌, [], IfErr, IfOk, OnErr, OnOk};
+    ghost use Rattle.key_index_flat.specs.View.{items_in};
+    ghost use Rattle.key_index_parts.specs.Joined.{IsFree, install_fault, joined_view};
+    ghost use Rattle.key_index_parts.specs.Ordered.{standings, view};
     ghost use Rattle.key_index_parts.specs.PrefixLaws.{partition_by-made, partition_by-below};
+    ghost use Rattle.key_index_parts.specs.Range.{range_count, range_offset, range_standings, range_view};
+    ghost use Rattle.key_index_parts.specs.Standing.{joined_standings, new_standings};
 
     type Range = RangeIndex<T, V, P>;
 
@@ -353,7 +482,17 @@ impl<T: Translator, V: Drop, const P: usize> Partitioned for Index<T, V, P> {
         self.storage.is_free(number, 1)
     }
 
-    fn new_range(&self, offset: usize, count: usize) -> Result<RangeIndex<T, V, P>, Fault> {
+    /// The range has the index's threshold.
+    fn new_range(&self, offset: usize, count: usize) -> Result<RangeIndex<T, V, P>, Fault>
+        requires { offset + count ≤ partition_count P }
+        ensures empty { IfOk result (λ r. (range_view r).content ≡ []) }
+        ensures pruned { IfOk result (λ r. (range_view r).pruned ≡ 0) }
+        ensures slots { IfOk result (λ r. (range_view r).slot ≡ (view self.now).slot) }
+        ensures offset { IfOk result (λ r. range_offset r ≡ offset) }
+        ensures count { IfOk result (λ r. range_count r ≡ count) }
+        ensures standing { IfOk result (λ r. range_standings r ≡ new_standings (standings self.now).threshold count) }
+        ensures fault { IfErr result (λ f. f ≡ Fault.Memory) }
+    {
         match self.storage.new_range(count) {
             Ok(storage) => Ok(Range { offset, storage }),
             Err(fault) => Err(fault),
@@ -364,11 +503,23 @@ impl<T: Translator, V: Drop, const P: usize> Partitioned for Index<T, V, P> {
         self.storage.is_free(range.offset, range.storage.len())
     }
 
-    /// It takes no memory.
+    /// It takes no memory. Each partition stands as in the range, and the range's spills are added.
     fn install_range(
         &mut self,
         range: RangeIndex<T, V, P>,
-    ) -> Result<(), (RangeIndex<T, V, P>, Fault)> {
+    ) -> Result<(), (RangeIndex<T, V, P>, Fault)>
+        requires { IsFree (pair_cmp T.Key.cmp) (range_view range).admitted (view self.old).content }
+        ensures accepted { OnOk result (view self.new
+            ≡ joined_view (pair_cmp T.Key.cmp) (view self.old) (range_view range)) }
+        ensures standing { OnOk result (standings self.new
+            ≡ joined_standings (standings self.old) (range_offset range) (range_standings range)) }
+        ensures refused { OnErr result (view self.new ≡ view self.old) }
+        ensures stands { OnErr result (standings self.new ≡ standings self.old) }
+        ensures room { OnOk result (items_in (view self.old) + items_in (range_view range) ≤ usize.MAX) }
+        ensures returned { IfErr result (λ e. e.0 ≡ range) }
+        ensures fault { IfErr result (λ e. e.1
+            ≡ install_fault (items_in (view self.old)) (items_in (range_view range))) }
+    {
         if !self.storage.has_room(&range.storage) {
             return Err((range, Fault::Full));
         }

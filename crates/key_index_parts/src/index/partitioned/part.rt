@@ -1,35 +1,59 @@
 //! One part of an index: what it holds, by the translated keys of the part.
-ghost use Rattle.std.specs.Prelude.{◌≡◌, ◌+◌, ◌<◌, ◌≤◌, Bool, List, [], ◌∷◌, length, not, slice_get, slice_set, insert, remove, Some, IfOk, IfErr, OnErr};
+ghost use Rattle.std.specs.Prelude.{◌≡◌, ◌+◌, ◌<◌, ◌≤◌, Bool, true, false, IsTrue, List, [], ◌∷◌, length, not, slice_get, slice_set, insert, remove, Some, IfOk, IfErr, OnOk, OnErr};
 ghost use Rattle.std.specs.Fn.{CalledAt};
 ghost use Rattle.std.specs.List.Retain.{IsFiltered};
-ghost use Rattle.key_index_flat.specs.Content.{Content, IsLawful, is_filled, list_at, with_list, with_list_by};
+ghost use Rattle.key_index_flat.specs.Content.{Content, IsLawful, is_filled, item_count, list_at, with_list, with_list_by};
 ghost use Rattle.key_index_flat.specs.Neighbours.{first_list, last_list, entries_above, entries_below};
 ghost use Rattle.key_index_flat.specs.View.{put_value};
 ghost use Rattle.key_index_flat.specs.Values.{VisitsEach, values_of};
-ghost use Rattle.key_index_parts.specs.Family.{RetainsWith};
+ghost use Rattle.key_index_parts.specs.Family.{RetainsWith, grows_spilled, inline_in, stays_spilled};
 
 use key_index_flat::index::Values;
 use key_index_flat::index::implement::Retained;
 use key_index_flat::translator::Translator;
-use std::alloc::Global;
+use std::alloc::{AllocError, Global};
 
-/// What holds a map from a part's keys to lists.
+/// What holds a map from a part's keys to lists. `spilled` tells whether it stands as a tree, which a part without values never does.
 pub(super) trait Held<T: Translator, V> {
     ghost content: { Self → Content T.Key V };
 
+    ghost spilled: { Self → Bool };
+
     ghost lawful: { (x : Self) → IsLawful T.Key.cmp (content x) };
+
+    ghost filled: { (x : Self) → IsTrue (spilled x) → 0 < item_count (content x) };
 }
 
-/// A part of an index. A refusal is want of memory, and leaves what the part holds.
+/// A part of an index. A refusal is want of memory, and leaves what the part holds and how it stands. `SPILLS` tells whether parts of
+/// this kind ever stand as trees: a call that puts a value in spills such a part where it is left with `limit` values or more, and no
+/// other call but `spill` does.
 pub(super) trait Part<T: Translator, V>: Held<T, V> {
     ghost FIRST: { Bool };
 
+    ghost SPILLS: { Bool };
+
     /// A part that holds nothing, of an index with a translator. Takes no memory.
     fn new(alloc: Global, translator: T) -> Self
-        ensures { Self.content result ≡ [] };
+        ensures content { Self.content result ≡ [] }
+        ensures standing { Self.spilled result ≡ false };
 
     fn is_empty(&self) -> bool
         ensures { result ≡ not (is_filled (Self.content self.now)) };
+
+    /// How many values a spill would move: all of an inline part, and none of a spilled one.
+    fn inline_len(&self) -> usize
+        ensures { result ≡ inline_in SPILLS (Self.spilled self.now) (Self.content self.now) };
+
+    fn is_spilled(&self) -> bool
+        ensures { result ≡ Self.spilled self.now };
+
+    /// Moves the values from the arrays to a tree, all or none. It takes all the memory for it before the first value moves. A part of a
+    /// kind that never spills stays as it is.
+    fn spill(&mut self) -> Result<(), AllocError>
+        requires { IsTrue SPILLS → 0 < inline_in SPILLS (Self.spilled self.old) (Self.content self.old) }
+        ensures content { Self.content self.new ≡ Self.content self.old }
+        ensures standing { OnOk result (Self.spilled self.new ≡ SPILLS) }
+        ensures stands { OnErr result (Self.spilled self.new ≡ Self.spilled self.old) };
 
     fn get(&self, key: T::Key) -> Values<'_, V>
         ensures { result ≡ list_at T.Key.cmp (Self.content self.now) key };
@@ -43,8 +67,9 @@ pub(super) trait Part<T: Translator, V>: Held<T, V> {
 
     fn set_at(&mut self, key: T::Key, place: usize, value: V)
         requires { place < length (list_at T.Key.cmp (Self.content self.old) key) }
-        ensures { Self.content self.new
-            ≡ with_list_by T.Key.cmp (Self.content self.old) key (λ l. slice_set l place value) };
+        ensures content { Self.content self.new
+            ≡ with_list_by T.Key.cmp (Self.content self.old) key (λ l. slice_set l place value) }
+        ensures standing { Self.spilled self.new ≡ stays_spilled (Self.spilled self.old) (Self.content self.new) };
 
     /// Puts a value in at a place of the key's list, or behind its last one, and tells whether the key had none.
     fn insert_at(&mut self, key: T::Key, place: usize, value: V) -> Result<bool, V>
@@ -52,24 +77,36 @@ pub(super) trait Part<T: Translator, V>: Held<T, V> {
         ensures accepted { IfOk result (λ absent.
             (Self.content self.new ≡ with_list_by T.Key.cmp (Self.content self.old) key (λ l. insert l place value))
             × (absent ≡ not (is_filled (list_at T.Key.cmp (Self.content self.old) key)))) }
+        ensures standing { OnOk result
+            (Self.spilled self.new ≡ stays_spilled (Self.spilled self.old) (Self.content self.new)) }
         ensures refused { OnErr result (Self.content self.new ≡ Self.content self.old) }
+        ensures stands { OnErr result (Self.spilled self.new ≡ Self.spilled self.old) }
         ensures returned { IfErr result (λ back. back ≡ value) };
 
     /// Puts a value in at its end of the key's list, and tells whether the key had none.
-    fn insert(&mut self, key: T::Key, value: V) -> Result<bool, V>
+    fn insert(&mut self, key: T::Key, value: V, limit: usize) -> Result<bool, V>
+        requires { 1 ≤ limit }
         ensures accepted { IfOk result (λ absent.
             (Self.content self.new ≡ with_list_by T.Key.cmp (Self.content self.old) key (put_value FIRST value))
             × (absent ≡ not (is_filled (list_at T.Key.cmp (Self.content self.old) key)))) }
+        ensures standing { OnOk result (Self.spilled self.new
+            ≡ grows_spilled SPILLS limit (Self.spilled self.old) (Self.content self.new)) }
         ensures refused { OnErr result (Self.content self.new ≡ Self.content self.old) }
+        ensures stands { OnErr result (Self.spilled self.new ≡ Self.spilled self.old) }
         ensures returned { IfErr result (λ back. back ≡ value) };
 
     /// Puts a value under a key that has none, and tells how many values the key had.
-    fn insert_absent(&mut self, key: T::Key, value: V) -> Result<usize, V>
+    fn insert_absent(&mut self, key: T::Key, value: V, limit: usize) -> Result<usize, V>
+        requires { 1 ≤ limit }
         ensures found { IfOk result (λ n. 0 < n → Self.content self.new ≡ Self.content self.old) }
+        ensures found_stands { IfOk result (λ n. 0 < n → Self.spilled self.new ≡ Self.spilled self.old) }
         ensures inserted { IfOk result (λ n. n ≡ 0 →
             Self.content self.new ≡ with_list T.Key.cmp (Self.content self.old) key (value ∷ [])) }
+        ensures standing { IfOk result (λ n. n ≡ 0 → Self.spilled self.new
+            ≡ grows_spilled SPILLS limit (Self.spilled self.old) (Self.content self.new)) }
         ensures len { IfOk result (λ n. n ≡ length (list_at T.Key.cmp (Self.content self.old) key)) }
         ensures refused { OnErr result (Self.content self.new ≡ Self.content self.old) }
+        ensures stands { OnErr result (Self.spilled self.new ≡ Self.spilled self.old) }
         ensures returned { IfErr result (λ back. back ≡ value) };
 
     /// Takes the value at a place out, and tells how many values the key has left.
@@ -78,6 +115,7 @@ pub(super) trait Part<T: Translator, V>: Held<T, V> {
         ensures value { slice_get (list_at T.Key.cmp (Self.content self.old) key) place ≡ Some result.0 }
         ensures content { Self.content self.new
             ≡ with_list_by T.Key.cmp (Self.content self.old) key (λ l. remove l place) }
+        ensures standing { Self.spilled self.new ≡ stays_spilled (Self.spilled self.old) (Self.content self.new) }
         ensures left { result.1 + 1 ≡ length (list_at T.Key.cmp (Self.content self.old) key) };
 
     /// Asks once on each value of the key, in list order, takes out those that are answered false, and tells how many values the
@@ -88,26 +126,33 @@ pub(super) trait Part<T: Translator, V>: Held<T, V> {
             × IsFiltered (CalledAt F.FnMut) should_retain (list_at T.Key.cmp (Self.content self.old) key) kept
             × (Self.content self.new ≡ with_list T.Key.cmp (Self.content self.old) key kept)
             × (result.1 ≡ length kept) }
+        ensures standing { Self.spilled self.new ≡ stays_spilled (Self.spilled self.old) (Self.content self.new) }
         ensures had { result.0 ≡ length (list_at T.Key.cmp (Self.content self.old) key) };
 
-    /// Puts a value in behind those of the key, which takes all the memory that the call may need, then asks once on each of them, in
-    /// list order, and takes out those that are answered false.
+    /// Puts a value in behind those of the key, which takes all the memory that the call may need, a spill's with it, then asks once on
+    /// each of them, in list order, and takes out those that are answered false.
     fn insert_and_retain<F: FnMut(&V) -> bool>(
         &mut self,
         key: T::Key,
         value: V,
         should_retain: F,
+        limit: usize,
     ) -> Result<Retained, V>
-        requires { F.IsAlwaysCallable should_retain }
+        requires callable { F.IsAlwaysCallable should_retain }
+        requires limit { 1 ≤ limit }
         ensures accepted { IfOk result (λ told. RetainsWith (CalledAt F.FnMut) should_retain
             (list_at T.Key.cmp (Self.content self.old) key) value told.had told.left told.taken
             (λ l. Self.content self.new ≡ with_list T.Key.cmp (Self.content self.old) key l)) }
+        ensures standing { OnOk result (Self.spilled self.new
+            ≡ grows_spilled SPILLS limit (Self.spilled self.old) (Self.content self.new)) }
         ensures refused { OnErr result (Self.content self.new ≡ Self.content self.old) }
+        ensures stands { OnErr result (Self.spilled self.new ≡ Self.spilled self.old) }
         ensures returned { IfErr result (λ back. back ≡ value) };
 
     /// Takes the key out, and tells how many values it had.
     fn remove(&mut self, key: T::Key) -> usize
         ensures content { Self.content self.new ≡ with_list T.Key.cmp (Self.content self.old) key [] }
+        ensures standing { Self.spilled self.new ≡ stays_spilled (Self.spilled self.old) (Self.content self.new) }
         ensures taken { result ≡ length (list_at T.Key.cmp (Self.content self.old) key) };
 
     /// Visits each value once, in no certain order.

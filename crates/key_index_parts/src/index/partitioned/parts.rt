@@ -1,22 +1,23 @@
 //! The parts of an index, listed by their numbers.
-ghost use Rattle.std.specs.Prelude.{◌≡◌, ◌+◌, ◌<◌, ◌≤◌, List, [], ◌∷◌, length, map, take, drop, not, replicate, slice_get, slice_set, insert, remove, Some, IfOk, IfErr, OnErr};
+ghost use Rattle.std.specs.Prelude.{◌≡◌, ◌+◌, ◌<◌, ◌≤◌, false, ◌&&◌, if◌then◌else◌, IsTrue, List, [], ◌∷◌, length, map, take, drop, not, replicate, slice_get, slice_set, insert, remove, Some, IfOk, IfErr, OnOk, OnErr};
 ghost use Rattle.std.specs.Bool.{Decides};
 ghost use Rattle.std.specs.Fn.{CalledAt};
 ghost use Rattle.std.specs.List.Retain.{IsFiltered};
-ghost use Rattle.key_index_flat.specs.Content.{Content, is_filled};
+ghost use Rattle.key_index_flat.specs.Content.{is_filled, item_count};
 ghost use Rattle.key_index_flat.specs.Neighbours.{first_list, last_list, next_list, prev_list};
 ghost use Rattle.key_index_flat.specs.View.{put_value};
 ghost use Rattle.key_index_flat.specs.Values.{VisitsEach, values_of};
-ghost use Rattle.key_index_parts.specs.Family.{RetainsWith, part_at, list_in, with_list_in, with_edit_in, with_parts_from, filled_parts, AreFree};
+ghost use Rattle.key_index_parts.specs.Family.{Family, RetainsWith, stands, inline_in, part_at, list_in, with_list_in, with_edit_in, with_parts_from, with_items_from, filled_parts, AreFree};
 ghost use Rattle.key_index_parts.specs.Gathered.{gathered, gathered_from, pair_cmp};
 ghost use Rattle.key_index_parts.specs.Prefix.{partition_count};
+ghost use Rattle.key_index_parts.specs.Standing.{GrowsIn, LeavesIn, is_reached_by, spilled_in, spilled_since, standing_in, with_spilled};
 
 use super::filled::Filled;
 use super::part::{Held, OrderedPart, Part};
 use key_index_flat::index::implement::Retained;
 use key_index_flat::index::{Fault, Values};
 use key_index_flat::translator::Translator;
-use std::alloc::Global;
+use std::alloc::{AllocError, Global};
 use std::marker::{Model, PhantomData};
 
 /// The parts, and which of them hold anything. Contracts see what each part holds.
@@ -28,18 +29,31 @@ pub(super) struct Parts<T: Translator, V, X: Held<T, V>> {
 }
 
 impl<T: Translator, V, X: Held<T, V>> Model for Parts<T, V, X> {
-    ghost Value = { List (Content T.Key V) };
+    ghost Value = { Family T.Key V };
 
-    ghost view = { λ p. map X.content p.parts.items };
+    ghost view = { λ p. record {
+      contents = map X.content p.parts.items;
+      standing = map (λ x. stands (X.content x) (X.spilled x)) p.parts.items;
+    } };
 
     ghost invariant = { λ p. p.filled ≡ filled_parts (map X.content p.parts.items) };
+}
+
+/// Whether something is so now that was not before.
+#[inline]
+fn has_become(was: bool, is: bool) -> bool
+    ensures { result ≡ (not was && is) }
+{
+    !was && is
 }
 
 impl<T: Translator, V: Drop, X: Part<T, V> + Drop> Parts<T, V, X> {
     /// So many parts that hold nothing. Takes the memory of their slots at once.
     pub(super) fn new(alloc: Global, translator: T, count: usize) -> Result<Parts<T, V, X>, Fault>
         requires { count ≤ partition_count 3 }
-        ensures parts { IfOk result (λ parts. parts ≡ replicate count []) }
+        ensures parts { IfOk result (λ parts. parts.contents ≡ replicate count []) }
+        ensures standing { IfOk result (λ parts. parts.standing
+            ≡ replicate count (stands {K = T.Key} {V = V} [] false)) }
         ensures fault { IfErr result (λ fault. fault ≡ Fault.Memory) }
     {
         let (Ok(mut parts), Ok(filled)) = (
@@ -61,7 +75,7 @@ impl<T: Translator, V: Drop, X: Part<T, V> + Drop> Parts<T, V, X> {
     /// How many parts there are.
     #[inline]
     pub(super) fn len(&self) -> usize
-        ensures { result ≡ length self.now }
+        ensures { result ≡ length self.now.contents }
     {
         self.parts.len()
     }
@@ -69,16 +83,75 @@ impl<T: Translator, V: Drop, X: Part<T, V> + Drop> Parts<T, V, X> {
     /// The part of a number.
     #[inline]
     pub(super) fn part(&self, number: usize) -> &X
-        requires { number < length self.now }
-        ensures { X.content result.now ≡ part_at self.now number }
+        requires { number < length self.now.contents }
+        ensures { X.content result.now ≡ part_at self.now.contents number }
     {
         &self.parts[number]
     }
 
+    /// How many values a spill of the part of a number would move.
+    #[inline]
+    pub(super) fn inline_len(&self, number: usize) -> usize
+        requires { number < length self.now.contents }
+        ensures len { result ≡ inline_in X.SPILLS (standing_in self.now.standing number).spilled
+            (part_at self.now.contents number) }
+        ensures entries { (standing_in self.now.standing number).entries
+            ≡ item_count (part_at self.now.contents number) }
+    {
+        self.parts[number].inline_len()
+    }
+
+    #[inline]
+    pub(super) fn is_spilled(&self, number: usize) -> bool
+        requires { number < length self.now.contents }
+        ensures { result ≡ (standing_in self.now.standing number).spilled }
+    {
+        self.parts[number].is_spilled()
+    }
+
+    /// How many parts are spilled. It looks at each.
+    pub(super) fn spilled_count(&self) -> usize
+        ensures { result ≡ spilled_in self.now.standing }
+    {
+        let mut rest = self.parts.as_slice();
+        let mut count = 0;
+        while let Some((part, behind)) = rest.split_first() {
+            count += usize::from(part.is_spilled());
+            rest = behind;
+        }
+        count
+    }
+
+    /// Spills a part of which a spill would move `limit` values or more, and tells whether it did.
+    pub(super) fn settle(&mut self, number: usize, limit: usize) -> Result<bool, AllocError>
+        requires within { number < length self.old.contents }
+        requires least { 1 ≤ limit }
+        ensures contents { self.new.contents ≡ self.old.contents }
+        ensures standing { IfOk result (λ more. self.new.standing
+            ≡ (if more then with_spilled self.old.standing number else self.old.standing)) }
+        ensures reached { IfOk result (λ more. more
+            ≡ (X.SPILLS && is_reached_by limit (standing_in self.old.standing number))) }
+        ensures refused { OnErr result (self.new ≡ self.old) }
+        ensures due { OnErr result (IsTrue
+            (X.SPILLS && is_reached_by limit (standing_in self.old.standing number))) }
+        ensures listed { number < length self.old.standing }
+        ensures filled { IsTrue (standing_in self.old.standing number).spilled
+            → 0 < (standing_in self.old.standing number).entries }
+    {
+        let part = &mut self.parts[number];
+        if part.inline_len() < limit {
+            return Ok(false);
+        }
+        match part.spill() {
+            Ok(()) => Ok(true),
+            Err(failed) => Err(failed),
+        }
+    }
+
     #[inline]
     pub(super) fn get(&self, slot: (usize, T::Key)) -> Values<'_, V>
-        requires { slot.0 < length self.now }
-        ensures { result ≡ list_in T.Key.cmp self.now slot }
+        requires { slot.0 < length self.now.contents }
+        ensures { result ≡ list_in T.Key.cmp self.now.contents slot }
     {
         self.parts[slot.0].get(slot.1)
     }
@@ -86,7 +159,7 @@ impl<T: Translator, V: Drop, X: Part<T, V> + Drop> Parts<T, V, X> {
     /// The list at a slot, empty where there is no such part.
     #[inline]
     pub(super) fn list_at(&self, slot: (usize, T::Key)) -> Values<'_, V>
-        ensures { result ≡ list_in T.Key.cmp self.now slot }
+        ensures { result ≡ list_in T.Key.cmp self.now.contents slot }
     {
         match self.parts.get(slot.0) {
             Some(part) => part.get(slot.1),
@@ -102,7 +175,7 @@ impl<T: Translator, V: Drop, X: Part<T, V> + Drop> Parts<T, V, X> {
 
     #[inline]
     pub(super) fn run_len(&self, slot: (usize, T::Key)) -> usize
-        ensures { result ≡ length (list_in T.Key.cmp self.now slot) }
+        ensures { result ≡ length (list_in T.Key.cmp self.now.contents slot) }
     {
         match self.parts.get(slot.0) {
             Some(part) => part.run_len(slot.1),
@@ -112,16 +185,18 @@ impl<T: Translator, V: Drop, X: Part<T, V> + Drop> Parts<T, V, X> {
 
     #[inline]
     pub(super) fn value_at(&self, slot: (usize, T::Key), place: usize) -> &V
-        requires { place < length (list_in T.Key.cmp self.now slot) }
-        ensures { slice_get (list_in T.Key.cmp self.now slot) place ≡ Some result.now }
+        requires { place < length (list_in T.Key.cmp self.now.contents slot) }
+        ensures { slice_get (list_in T.Key.cmp self.now.contents slot) place ≡ Some result.now }
     {
         self.parts[slot.0].value_at(slot.1, place)
     }
 
     #[inline]
     pub(super) fn set_at(&mut self, slot: (usize, T::Key), place: usize, value: V)
-        requires { place < length (list_in T.Key.cmp self.old slot) }
-        ensures { self.new ≡ with_edit_in T.Key.cmp self.old slot (λ l. slice_set l place value) }
+        requires { place < length (list_in T.Key.cmp self.old.contents slot) }
+        ensures parts { self.new.contents
+            ≡ with_edit_in T.Key.cmp self.old.contents slot (λ l. slice_set l place value) }
+        ensures standing { LeavesIn self.old.standing slot.0 self.new.standing }
     {
         self.parts[slot.0].set_at(slot.1, place, value);
     }
@@ -133,11 +208,12 @@ impl<T: Translator, V: Drop, X: Part<T, V> + Drop> Parts<T, V, X> {
         place: usize,
         value: V,
     ) -> Result<bool, V>
-        requires within { slot.0 < length self.old }
-        requires place { place ≤ length (list_in T.Key.cmp self.old slot) }
+        requires within { slot.0 < length self.old.contents }
+        requires place { place ≤ length (list_in T.Key.cmp self.old.contents slot) }
         ensures accepted { IfOk result (λ absent.
-            (self.new ≡ with_edit_in T.Key.cmp self.old slot (λ l. insert l place value))
-            × (absent ≡ not (is_filled (list_in T.Key.cmp self.old slot)))) }
+            (self.new.contents ≡ with_edit_in T.Key.cmp self.old.contents slot (λ l. insert l place value))
+            × (absent ≡ not (is_filled (list_in T.Key.cmp self.old.contents slot)))) }
+        ensures standing { OnOk result (LeavesIn self.old.standing slot.0 self.new.standing) }
         ensures refused { OnErr result (self.new ≡ self.old) }
         ensures returned { IfErr result (λ back. back ≡ value) }
     {
@@ -150,50 +226,78 @@ impl<T: Translator, V: Drop, X: Part<T, V> + Drop> Parts<T, V, X> {
         }
     }
 
-    /// Puts a value in at its end of a slot's list, and tells whether the slot had none.
-    pub(super) fn insert(&mut self, slot: (usize, T::Key), value: V) -> Result<bool, V>
-        requires { slot.0 < length self.old }
-        ensures accepted { IfOk result (λ absent.
-            (self.new ≡ with_edit_in T.Key.cmp self.old slot (put_value X.FIRST value))
-            × (absent ≡ not (is_filled (list_in T.Key.cmp self.old slot)))) }
+    /// Puts a value in at its end of a slot's list, and tells whether the slot had none, and whether its part spilled, which it does
+    /// where it is left with `limit` values or more.
+    pub(super) fn insert(
+        &mut self,
+        slot: (usize, T::Key),
+        value: V,
+        limit: usize,
+    ) -> Result<(bool, bool), V>
+        requires within { slot.0 < length self.old.contents }
+        requires limit { 1 ≤ limit }
+        ensures accepted { IfOk result (λ told.
+            (self.new.contents ≡ with_edit_in T.Key.cmp self.old.contents slot (put_value X.FIRST value))
+            × (told.0 ≡ not (is_filled (list_in T.Key.cmp self.old.contents slot)))) }
+        ensures standing { OnOk result (GrowsIn X.SPILLS limit self.old.standing slot.0 self.new.standing) }
+        ensures spilled { IfOk result (λ told. told.1 ≡ spilled_since self.old.standing slot.0 self.new.standing) }
+        ensures listed { slot.0 < length self.old.standing }
         ensures refused { OnErr result (self.new ≡ self.old) }
         ensures returned { IfErr result (λ back. back ≡ value) }
     {
-        match self.parts[slot.0].insert(slot.1, value) {
+        let part = &mut self.parts[slot.0];
+        let was = part.is_spilled();
+        match part.insert(slot.1, value, limit) {
             Ok(absent) => {
+                let spilled = has_become(was, part.is_spilled());
                 self.filled.set(slot.0, true);
-                Ok(absent)
+                Ok((absent, spilled))
             }
             Err(value) => Err(value),
         }
     }
 
-    /// Puts a value under a slot that has none, and tells how many values the slot had.
-    pub(super) fn insert_absent(&mut self, slot: (usize, T::Key), value: V) -> Result<usize, V>
-        requires { slot.0 < length self.old }
-        ensures found { IfOk result (λ n. 0 < n → self.new ≡ self.old) }
-        ensures inserted { IfOk result (λ n. n ≡ 0 →
-            self.new ≡ with_list_in T.Key.cmp self.old slot (value ∷ [])) }
-        ensures len { IfOk result (λ n. n ≡ length (list_in T.Key.cmp self.old slot)) }
+    /// Puts a value under a slot that has none, and tells how many values the slot had, and whether its part spilled, which it does
+    /// where it is left with one value more, and so with `limit` or more.
+    pub(super) fn insert_absent(
+        &mut self,
+        slot: (usize, T::Key),
+        value: V,
+        limit: usize,
+    ) -> Result<(usize, bool), V>
+        requires within { slot.0 < length self.old.contents }
+        requires limit { 1 ≤ limit }
+        ensures found { IfOk result (λ told. 0 < told.0 → self.new ≡ self.old) }
+        ensures inserted { IfOk result (λ told. told.0 ≡ 0 →
+            self.new.contents ≡ with_list_in T.Key.cmp self.old.contents slot (value ∷ [])) }
+        ensures standing { IfOk result (λ told. told.0 ≡ 0 →
+            GrowsIn X.SPILLS limit self.old.standing slot.0 self.new.standing) }
+        ensures spilled { IfOk result (λ told. told.1 ≡ spilled_since self.old.standing slot.0 self.new.standing) }
+        ensures listed { slot.0 < length self.old.standing }
+        ensures len { IfOk result (λ told. told.0 ≡ length (list_in T.Key.cmp self.old.contents slot)) }
         ensures refused { OnErr result (self.new ≡ self.old) }
         ensures returned { IfErr result (λ back. back ≡ value) }
     {
-        match self.parts[slot.0].insert_absent(slot.1, value) {
+        let part = &mut self.parts[slot.0];
+        let was = part.is_spilled();
+        match part.insert_absent(slot.1, value, limit) {
             Ok(0) => {
+                let spilled = has_become(was, part.is_spilled());
                 self.filled.set(slot.0, true);
-                Ok(0)
+                Ok((0, spilled))
             }
-            Ok(len) => Ok(len),
+            Ok(len) => Ok((len, false)),
             Err(value) => Err(value),
         }
     }
 
     /// Takes the value at a place out, and tells how many values the slot has left.
     pub(super) fn remove_at(&mut self, slot: (usize, T::Key), place: usize) -> (V, usize)
-        requires { place < length (list_in T.Key.cmp self.old slot) }
-        ensures value { slice_get (list_in T.Key.cmp self.old slot) place ≡ Some result.0 }
-        ensures parts { self.new ≡ with_edit_in T.Key.cmp self.old slot (λ l. remove l place) }
-        ensures left { result.1 + 1 ≡ length (list_in T.Key.cmp self.old slot) }
+        requires { place < length (list_in T.Key.cmp self.old.contents slot) }
+        ensures value { slice_get (list_in T.Key.cmp self.old.contents slot) place ≡ Some result.0 }
+        ensures parts { self.new.contents ≡ with_edit_in T.Key.cmp self.old.contents slot (λ l. remove l place) }
+        ensures standing { LeavesIn self.old.standing slot.0 self.new.standing }
+        ensures left { result.1 + 1 ≡ length (list_in T.Key.cmp self.old.contents slot) }
     {
         let part = &mut self.parts[slot.0];
         let removed = part.remove_at(slot.1, place);
@@ -209,13 +313,16 @@ impl<T: Translator, V: Drop, X: Part<T, V> + Drop> Parts<T, V, X> {
         slot: (usize, T::Key),
         should_retain: F,
     ) -> (usize, usize)
-        requires within { slot.0 < length self.old }
+        requires within { slot.0 < length self.old.contents }
         requires callable { F.IsAlwaysCallable should_retain }
         ensures kept { (kept : List V)
-            × IsFiltered (CalledAt F.FnMut) should_retain (list_in T.Key.cmp self.old slot) kept
-            × (self.new ≡ with_list_in T.Key.cmp self.old slot kept)
+            × IsFiltered (CalledAt F.FnMut) should_retain (list_in T.Key.cmp self.old.contents slot) kept
+            × (self.new.contents ≡ with_list_in T.Key.cmp self.old.contents slot kept)
             × (result.1 ≡ length kept) }
-        ensures had { result.0 ≡ length (list_in T.Key.cmp self.old slot) }
+        ensures standing { LeavesIn self.old.standing slot.0 self.new.standing }
+        ensures fewer { (standing_in self.new.standing slot.0).entries
+            ≤ (standing_in self.old.standing slot.0).entries }
+        ensures had { result.0 ≡ length (list_in T.Key.cmp self.old.contents slot) }
     {
         let part = &mut self.parts[slot.0];
         let counts = part.retain(slot.1, should_retain);
@@ -225,27 +332,35 @@ impl<T: Translator, V: Drop, X: Part<T, V> + Drop> Parts<T, V, X> {
     }
 
     /// Puts a value in behind those of a slot, which takes all the memory that the call may need, then asks once on each of them, in
-    /// list order, and takes out those that are answered false.
+    /// list order, and takes out those that are answered false. It tells whether its part spilled, too, which it does where it is left
+    /// with `limit` values or more.
     pub(super) fn insert_and_retain<F: FnMut(&V) -> bool>(
         &mut self,
         slot: (usize, T::Key),
         value: V,
         should_retain: F,
-    ) -> Result<Retained, V>
-        requires within { slot.0 < length self.old }
+        limit: usize,
+    ) -> Result<(Retained, bool), V>
+        requires within { slot.0 < length self.old.contents }
+        requires limit { 1 ≤ limit }
         requires callable { F.IsAlwaysCallable should_retain }
         ensures accepted { IfOk result (λ told. RetainsWith (CalledAt F.FnMut) should_retain
-            (list_in T.Key.cmp self.old slot) value told.had told.left told.taken
-            (λ l. self.new ≡ with_list_in T.Key.cmp self.old slot l)) }
+            (list_in T.Key.cmp self.old.contents slot) value told.0.had told.0.left told.0.taken
+            (λ l. self.new.contents ≡ with_list_in T.Key.cmp self.old.contents slot l)) }
+        ensures standing { OnOk result (GrowsIn X.SPILLS limit self.old.standing slot.0 self.new.standing) }
+        ensures spilled { IfOk result (λ told. told.1 ≡ spilled_since self.old.standing slot.0 self.new.standing) }
+        ensures listed { slot.0 < length self.old.standing }
         ensures refused { OnErr result (self.new ≡ self.old) }
         ensures returned { IfErr result (λ back. back ≡ value) }
     {
         let part = &mut self.parts[slot.0];
-        match part.insert_and_retain(slot.1, value, should_retain) {
+        let was = part.is_spilled();
+        match part.insert_and_retain(slot.1, value, should_retain, limit) {
             Ok(retained) => {
+                let spilled = has_become(was, part.is_spilled());
                 let holds = !part.is_empty();
                 self.filled.set(slot.0, holds);
-                Ok(retained)
+                Ok((retained, spilled))
             }
             Err(value) => Err(value),
         }
@@ -253,8 +368,11 @@ impl<T: Translator, V: Drop, X: Part<T, V> + Drop> Parts<T, V, X> {
 
     /// Puts a part in the place of another.
     fn put(&mut self, number: usize, part: X)
-        requires { number < length self.old }
-        ensures { self.new ≡ slice_set self.old number (X.content part) }
+        requires { number < length self.old.contents }
+        ensures parts { self.new.contents ≡ slice_set self.old.contents number (X.content part) }
+        ensures standing { self.new.standing
+            ≡ slice_set self.old.standing number (stands (X.content part) (X.spilled part)) }
+        ensures listed { number < length self.old.standing }
     {
         let holds = !part.is_empty();
         self.parts[number] = part;
@@ -263,9 +381,10 @@ impl<T: Translator, V: Drop, X: Part<T, V> + Drop> Parts<T, V, X> {
 
     /// Puts other parts, as they stand, in the place of those from a number on.
     pub(super) fn install(&mut self, first: usize, others: Parts<T, V, X>)
-        requires fits { first + length others ≤ length self.old }
-        requires most { length self.old ≤ partition_count 3 }
-        ensures { self.new ≡ with_parts_from self.old first others }
+        requires fits { first + length others.contents ≤ length self.old.contents }
+        requires most { length self.old.contents ≤ partition_count 3 }
+        ensures parts { self.new.contents ≡ with_parts_from self.old.contents first others.contents }
+        ensures standing { self.new.standing ≡ with_items_from self.old.standing first others.standing }
     {
         let mut rest = others.parts.into_iter();
         let mut number = first;
@@ -277,7 +396,7 @@ impl<T: Translator, V: Drop, X: Part<T, V> + Drop> Parts<T, V, X> {
 
     /// Whether none of so many parts from a number on holds anything.
     pub(super) fn is_free(&self, first: usize, count: usize) -> bool
-        ensures { Decides result (AreFree self.now first count) }
+        ensures { Decides result (AreFree self.now.contents first count) }
     {
         match self.filled.first_from(first) {
             Some(number) => number - first >= count,
@@ -289,7 +408,7 @@ impl<T: Translator, V: Drop, X: Part<T, V> + Drop> Parts<T, V, X> {
     pub(super) fn for_each_value<F: FnMut(&V)>(&self, visit: &mut F)
         requires { F.IsAlwaysCallable visit.old }
         ensures callable { F.IsAlwaysCallable visit.new }
-        ensures visits { VisitsEach (CalledAt F.FnMut) visit.old (values_of (gathered self.now)) visit.new }
+        ensures visits { VisitsEach (CalledAt F.FnMut) visit.old (values_of (gathered self.now.contents)) visit.new }
     {
         let mut rest = self.parts.as_slice();
         while let Some((part, behind)) = rest.split_first() {
@@ -300,9 +419,12 @@ impl<T: Translator, V: Drop, X: Part<T, V> + Drop> Parts<T, V, X> {
 
     /// Takes a slot out, and tells how many values it had.
     pub(super) fn remove(&mut self, slot: (usize, T::Key)) -> usize
-        requires { slot.0 < length self.old }
-        ensures parts { self.new ≡ with_list_in T.Key.cmp self.old slot [] }
-        ensures taken { result ≡ length (list_in T.Key.cmp self.old slot) }
+        requires { slot.0 < length self.old.contents }
+        ensures parts { self.new.contents ≡ with_list_in T.Key.cmp self.old.contents slot [] }
+        ensures standing { LeavesIn self.old.standing slot.0 self.new.standing }
+        ensures fewer { (standing_in self.new.standing slot.0).entries
+            ≤ (standing_in self.old.standing slot.0).entries }
+        ensures taken { result ≡ length (list_in T.Key.cmp self.old.contents slot) }
     {
         let part = &mut self.parts[slot.0];
         let taken = part.remove(slot.1);
@@ -315,7 +437,7 @@ impl<T: Translator, V: Drop, X: Part<T, V> + Drop> Parts<T, V, X> {
 impl<T: Translator, V: Drop, X: OrderedPart<T, V> + Drop> Parts<T, V, X> {
     /// The list of the least key of the first part from a number on that holds anything.
     fn first_from(&self, start: usize) -> Option<Values<'_, V>>
-        ensures { result ≡ first_list (gathered_from start (drop start self.now)) }
+        ensures { result ≡ first_list (gathered_from start (drop start self.now.contents)) }
     {
         match self.filled.first_from(start) {
             Some(number) => self.parts[number].first(),
@@ -325,7 +447,7 @@ impl<T: Translator, V: Drop, X: OrderedPart<T, V> + Drop> Parts<T, V, X> {
 
     /// The list of the greatest key of the last part below a number that holds anything.
     fn last_below(&self, end: usize) -> Option<Values<'_, V>>
-        ensures { result ≡ last_list (gathered (take end self.now)) }
+        ensures { result ≡ last_list (gathered (take end self.now.contents)) }
     {
         match self.filled.last_below(end) {
             Some(number) => self.parts[number].last(),
@@ -334,20 +456,20 @@ impl<T: Translator, V: Drop, X: OrderedPart<T, V> + Drop> Parts<T, V, X> {
     }
 
     pub(super) fn first(&self) -> Option<Values<'_, V>>
-        ensures { result ≡ first_list (gathered self.now) }
+        ensures { result ≡ first_list (gathered self.now.contents) }
     {
         self.first_from(0)
     }
 
     pub(super) fn last(&self) -> Option<Values<'_, V>>
-        ensures { result ≡ last_list (gathered self.now) }
+        ensures { result ≡ last_list (gathered self.now.contents) }
     {
         self.last_below(self.parts.len())
     }
 
     pub(super) fn next(&self, slot: (usize, T::Key)) -> Option<(Values<'_, V>, bool)>
-        requires { slot.0 < length self.now }
-        ensures { result ≡ next_list (pair_cmp T.Key.cmp) (gathered self.now) slot }
+        requires { slot.0 < length self.now.contents }
+        ensures { result ≡ next_list (pair_cmp T.Key.cmp) (gathered self.now.contents) slot }
     {
         match self.parts[slot.0].above(slot.1) {
             Some(values) => Some((values, false)),
@@ -362,8 +484,8 @@ impl<T: Translator, V: Drop, X: OrderedPart<T, V> + Drop> Parts<T, V, X> {
     }
 
     pub(super) fn prev(&self, slot: (usize, T::Key)) -> Option<(Values<'_, V>, bool)>
-        requires { slot.0 < length self.now }
-        ensures { result ≡ prev_list (pair_cmp T.Key.cmp) (gathered self.now) slot }
+        requires { slot.0 < length self.now.contents }
+        ensures { result ≡ prev_list (pair_cmp T.Key.cmp) (gathered self.now.contents) slot }
     {
         match self.parts[slot.0].below(slot.1) {
             Some(values) => Some((values, false)),

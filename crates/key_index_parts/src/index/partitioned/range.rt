@@ -1,12 +1,14 @@
 //! Ranges of an index in partitions, over any kind of part.
-ghost use Rattle.std.specs.Prelude.{◌≡◌, ◌+◌, ◌<◌, ◌≤◌, [], ◌∷◌, false, length, IsTrue, IfOk, IfErr, OnOk, OnErr};
-ghost use Rattle.key_index_flat.specs.Content.{IsLawful};
+ghost use Rattle.std.specs.Prelude.{◌≡◌, ◌+◌, ◌-◌, ◌<◌, ◌≤◌, ◌&&◌, [], ◌∷◌, length, IsTrue, IfOk, IfErr, OnOk, OnErr};
+ghost use Rattle.key_index_flat.specs.Content.{IsLawful, item_count};
+ghost use Rattle.key_index_flat.specs.Fault.{IsWant};
 ghost use Rattle.key_index_flat.specs.View.{growth_fault_in, items_in, run_at, with_run};
 ghost use Rattle.key_index_parts.specs.Family.{IsRange, view_from};
 ghost use Rattle.key_index_parts.specs.Gathered.{gathered, pair_cmp};
 ghost use Rattle.key_index_parts.specs.Joined.{IsSpanKept, is_between};
 ghost use Rattle.key_index_parts.specs.Prefix.{partition_count};
 ghost use Rattle.key_index_parts.specs.RangeLaws.{shift};
+ghost use Rattle.key_index_parts.specs.Standing.{LeavesSome, Refuses, Settles, is_reached};
 
 use super::part::{Held, Part};
 use super::storage::Storage;
@@ -24,7 +26,7 @@ pub struct Range<T: Translator, V: Drop, X: Held<T, V> + Drop, const P: usize> {
 }
 
 impl<T: Translator, V: Drop, X: Part<T, V> + Drop, const P: usize> Range<T, V, X, P> {
-    ghost use Rattle.key_index_parts.specs.Range.{range_view, range_offset, range_count};
+    ghost use Rattle.key_index_parts.specs.Range.{range_view};
 
     /// Whether the range covers a partition.
     #[inline]
@@ -38,9 +40,22 @@ impl<T: Translator, V: Drop, X: Part<T, V> + Drop, const P: usize> Range<T, V, X
     #[inline]
     fn own(&self, slot: (usize, T::Key)) -> (usize, T::Key)
         requires { self.now.offset ≤ slot.0 }
-        ensures { shift self.now.offset result ≡ slot }
+        ensures slot { shift self.now.offset result ≡ slot }
+        ensures number { result.0 ≡ slot.0 - self.now.offset }
     {
         (slot.0 - self.offset, slot.1)
+    }
+
+    /// Spills the part of an index key if it has reached the threshold.
+    fn settle(&mut self, slot: (usize, T::Key)) -> Result<(), Fault>
+        requires { IsTrue ((range_view self.old).admitted slot) }
+        ensures view { range_view self.new ≡ range_view self.old }
+        ensures settled { OnOk result (⟦<Range<T, V, X, P> as Search>⟧.settled self.old slot self.new) }
+        ensures left { OnErr result (⟦<Range<T, V, X, P> as Search>⟧.left_by_refusal self.old slot self.new) }
+        ensures want { IfErr result (λ f. IsWant f (⟦<Range<T, V, X, P> as Search>⟧.may_refuse self.old slot)) }
+    {
+        let own = self.own(slot);
+        self.storage.settle(own.0)
     }
 
     /// Puts a value under an index key that has none, and tells how many values the index key had.
@@ -50,7 +65,8 @@ impl<T: Translator, V: Drop, X: Part<T, V> + Drop, const P: usize> Range<T, V, X
         ensures inserted { IfOk result (λ n. n ≡ 0 →
             range_view self.new ≡ with_run (pair_cmp T.Key.cmp) (range_view self.old) slot (value ∷ [])) }
         ensures refused { OnErr result (range_view self.new ≡ range_view self.old) }
-        ensures span { IsSpanKept range_offset range_count self.old self.new }
+        ensures settled { OnOk result (⟦<Range<T, V, X, P> as Search>⟧.settled self.old slot self.new) }
+        ensures left { OnErr result (⟦<Range<T, V, X, P> as Search>⟧.left_by_refusal self.old slot self.new) }
         ensures len { IfOk result (λ n. n ≡ length (run_at (pair_cmp T.Key.cmp) (range_view self.old) slot)) }
         ensures room { OnOk result (items_in (range_view self.old) < usize.MAX) }
         ensures returned { IfErr result (λ r. r.value ≡ value) }
@@ -72,7 +88,8 @@ impl<T: Translator, V: Drop, X: Part<T, V> + Drop, const P: usize> Runs for Rang
 
     ghost view = { λ range. view_from P T.translated range.offset range.storage };
 
-    ghost edited = { IsSpanKept (λ range. range.offset) (λ range. length range.storage.parts) };
+    ghost edited = { λ x y. IsSpanKept (λ range. range.offset) (λ range. length range.storage.parts) x y
+        × LeavesSome x.storage.standings y.storage.standings };
 
     ghost lawful = { λ range. IsLawful-gathered_from T.Key.cmp range.offset range.storage.parts range.is_range.lawful };
 
@@ -126,13 +143,22 @@ impl<T: Translator, V: Drop, X: Part<T, V> + Drop, const P: usize> Runs for Rang
 }
 
 impl<T: Translator, V: Drop, X: Part<T, V> + Drop, const P: usize> Search for Range<T, V, X, P> {
-    ghost settled = { λ x _ y. ⟦<Range<T, V, X, P> as Runs>⟧.edited x y };
+    ghost settled = { λ x slot y. IsSpanKept (λ range. range.offset) (λ range. length range.storage.parts) x y
+        × (IsTrue X.SPILLS → Settles x.storage.standings (slot.0 - x.offset) y.storage.standings) };
 
-    ghost left_by_refusal = { λ x _ y. ⟦<Range<T, V, X, P> as Runs>⟧.edited x y };
+    ghost left_by_refusal = { λ x slot y.
+        IsSpanKept (λ range. range.offset) (λ range. length range.storage.parts) x y
+        × (IsTrue X.SPILLS → Refuses (item_count (gathered x.storage.parts)) x.storage.standings
+        (slot.0 - x.offset) y.storage.standings) };
+
+    ghost may_refuse = { λ x slot. X.SPILLS && is_reached x.storage.standings (slot.0 - x.offset) };
 
     fn reach(&mut self, key: &[u8]) -> Result<((usize, T::Key), usize), Fault> {
         let slot = self.slot_of(key);
-        Ok((slot, self.run_len(slot)))
+        match self.settle(slot) {
+            Ok(()) => Ok((slot, self.run_len(slot))),
+            Err(fault) => Err(fault),
+        }
     }
 
     fn reach_or_insert(
@@ -174,11 +200,11 @@ impl<T: Translator, V: Drop, X: Part<T, V> + Drop, const P: usize> PartitionRang
 
     ghost count = { λ range. length range.storage.parts };
 
-    ghost edits_within = { λ _ _ h. h };
+    ghost edits_within = { λ _ _ h. h.0 };
 
-    ghost settles_within = { λ _ _ _ h. h };
+    ghost settles_within = { λ _ _ _ h. h.0 };
 
-    ghost refuses_within = { λ _ _ _ h. h };
+    ghost refuses_within = { λ _ _ _ h. h.0 };
 
     ghost covers = { λ range. gathered_from-covers T.Key.cmp range.offset range.storage.parts };
 

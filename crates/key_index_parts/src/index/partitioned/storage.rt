@@ -1,18 +1,19 @@
 //! What an index over partitions keeps, over any kind of part. A call goes by slot: a part's number and a key of that part.
-ghost use Rattle.std.specs.Prelude.{◌≡◌, ◌↔◌, ℕ, ◌+◌, ◌<◌, ◌≤◌, IsTrue, nat_lt, [], ◌∷◌, length, slice_get, slice_set, insert, remove, Some, IfOk, IfErr, OnOk, OnErr};
+ghost use Rattle.std.specs.Prelude.{◌≡◌, ◌↔◌, ℕ, ◌+◌, ◌<◌, ◌≤◌, ◌&&◌, IsTrue, nat_lt, [], ◌∷◌, length, slice_get, slice_set, insert, remove, Some, IfOk, IfErr, OnOk, OnErr};
 ghost use Rattle.std.specs.Bool.{Decides};
 ghost use Rattle.std.specs.Fn.{CalledAt};
 ghost use Rattle.key_index_flat.specs.Content.{IsLawful, item_count, key_count};
-ghost use Rattle.key_index_flat.specs.Fault.{growth_fault};
+ghost use Rattle.key_index_flat.specs.Fault.{growth_fault, IsWant};
 ghost use Rattle.key_index_flat.specs.Neighbours.{first_list, last_list, next_list, prev_list};
 ghost use Rattle.key_index_flat.specs.View.{put_value, InsertsAndRetains, Retains};
 ghost use Rattle.key_index_flat.specs.Values.{VisitsEach, values_of};
-ghost use Rattle.key_index_parts.specs.Family.{Kept, IsCounted, KeepsParts, Edits, Prunes, held_at, view_of, view_from, part_at};
+ghost use Rattle.key_index_parts.specs.Family.{Kept, IsCounted, IsLeft, KeepsParts, Edits, Prunes, GrowsTo, SameContent, held_at, part_at, settled_at, view_of, view_from};
 ghost use Rattle.key_index_parts.specs.Gathered.{gathered, pair_cmp};
 ghost use Rattle.key_index_parts.specs.Joined.{IsFree, is_between, joined_view};
 ghost use Rattle.key_index_parts.specs.Prefix.{partition_count, slot_by};
+ghost use Rattle.key_index_parts.specs.Standing.{Leaves, Settles, entries_at, inline_len, is_reached, joined_standings, new_standings, spilled_in, standing_at};
 
-use super::counts::Counts;
+use super::counts::{Counts, count_if};
 use super::part::{Held, OrderedPart, Part};
 use super::partition_index_and_sub_key;
 use super::parts::Parts;
@@ -22,21 +23,33 @@ use key_index_flat::translator::Translator;
 use std::alloc::Global;
 use std::marker::Model;
 
-/// An index over `256^P` parts: a translator, the parts, and the counts of them all. Contracts see all of it but the counts, which
-/// are those of what the parts hold.
+/// An index over `256^P` parts: a translator, the parts, the counts of them all, from how many values on a part spills, and how many
+/// spills there ever were. Contracts see all of it but the counts, which are those of what the parts hold.
+///
+/// A call by key spills its part first where that is due, and then does its edit in the part as it stands. The edits alone, without
+/// that, are `set_at`, `insert_at` and `remove_at` for cursors, and what the calls by key are made of: `put`, `put_absent`,
+/// `put_and_retain`, `retain_in_part` and `take`.
 #[derive(Drop)]
 pub(super) struct Storage<T: Translator, V, X: Held<T, V>, const P: usize> {
     translator: T,
     parts: Parts<T, V, X>,
     counts: Counts,
+    threshold: usize,
+    spills: u64,
+    ghost least: { 1 ≤ threshold },
 }
 
 impl<T: Translator, V, X: Held<T, V>, const P: usize> Model for Storage<T, V, X, P> {
     ghost Value = { Kept T T.Key V };
 
-    ghost view = { λ s. record { translator = s.translator; parts = s.parts; pruned = s.counts.pruned } };
+    ghost view = { λ s. record {
+      translator = s.translator;
+      parts = s.parts.contents;
+      pruned = s.counts.pruned;
+      standings = record { threshold = s.threshold; parts = s.parts.standing; spills = s.spills };
+    } };
 
-    ghost invariant = { λ s. IsCounted T.Key.cmp P s.parts s.counts.items s.counts.keys };
+    ghost invariant = { λ s. IsCounted T.Key.cmp P s.parts.contents s.counts.items s.counts.keys };
 }
 
 impl<T: Translator, V: Drop, X: Part<T, V> + Drop, const P: usize> Storage<T, V, X, P> {
@@ -45,15 +58,18 @@ impl<T: Translator, V: Drop, X: Part<T, V> + Drop, const P: usize> Storage<T, V,
         alloc: Global,
         translator: T,
         count: usize,
+        threshold: usize,
     ) -> Result<Storage<T, V, X, P>, Fault>
         requires least { 1 ≤ P }
         requires greatest { P ≤ 3 }
+        requires threshold { 1 ≤ threshold }
         requires count { count ≤ partition_count P }
         ensures translator { IfOk result (λ s. s.translator ≡ translator) }
         ensures sized { IfOk result (λ s. length s.parts ≡ count) }
         ensures content { IfOk result (λ s. gathered s.parts ≡ []) }
         ensures lawful { IfOk result (λ s. IsLawful (pair_cmp T.Key.cmp) (gathered s.parts)) }
         ensures pruned { IfOk result (λ s. s.pruned ≡ 0) }
+        ensures standing { IfOk result (λ s. s.standings ≡ new_standings threshold count) }
         ensures fault { IfErr result (λ fault. fault ≡ Fault.Memory) }
     {
         match Parts::new(alloc, translator, count) {
@@ -65,12 +81,14 @@ impl<T: Translator, V: Drop, X: Part<T, V> + Drop, const P: usize> Storage<T, V,
                     keys: 0,
                     pruned: 0,
                 },
+                threshold,
+                spills: 0,
             }),
             Err(fault) => Err(fault),
         }
     }
 
-    /// Another one with the same translator, over so many parts that hold nothing. Takes their slots at once.
+    /// Another one with the same translator and threshold, over so many parts that hold nothing. Takes their slots at once.
     pub(super) fn new_range(&self, count: usize) -> Result<Storage<T, V, X, P>, Fault>
         requires { count ≤ partition_count P }
         ensures translator { IfOk result (λ s. s.translator ≡ self.now.translator) }
@@ -78,9 +96,10 @@ impl<T: Translator, V: Drop, X: Part<T, V> + Drop, const P: usize> Storage<T, V,
         ensures content { IfOk result (λ s. gathered s.parts ≡ []) }
         ensures lawful { IfOk result (λ s. IsLawful (pair_cmp T.Key.cmp) (gathered s.parts)) }
         ensures pruned { IfOk result (λ s. s.pruned ≡ 0) }
+        ensures standing { IfOk result (λ s. s.standings ≡ new_standings self.now.standings.threshold count) }
         ensures fault { IfErr result (λ fault. fault ≡ Fault.Memory) }
     {
-        Storage::new(self.parts.alloc(), self.translator, count)
+        Storage::new(self.parts.alloc(), self.translator, count, self.threshold)
     }
 
     /// How many parts there are.
@@ -116,8 +135,10 @@ impl<T: Translator, V: Drop, X: Part<T, V> + Drop, const P: usize> Storage<T, V,
         ensures joined { view_of P T.translated self.new ≡ joined_view (pair_cmp T.Key.cmp)
             (view_of P T.translated self.old) (view_from P T.translated first range) }
         ensures kept { KeepsParts T.Key.cmp self.old.parts self.new.parts }
+        ensures standing { self.new.standings ≡ joined_standings self.old.standings first range.standings }
     {
         self.counts.join(range.counts);
+        self.spills = self.spills.saturating_add(range.spills);
         self.parts.install(first, range.parts);
     }
 
@@ -129,13 +150,65 @@ impl<T: Translator, V: Drop, X: Part<T, V> + Drop, const P: usize> Storage<T, V,
         self.parts.for_each_value(visit);
     }
 
-    /// The part of a number.
+    /// How many values a spill of a part would move.
     #[inline]
-    pub(super) fn part(&self, number: usize) -> &X
+    pub(super) fn inline_len(&self, number: usize) -> usize
         requires { number < length self.now.parts }
-        ensures { X.content result.now ≡ part_at self.now.parts number }
+        ensures len { IsTrue X.SPILLS → result ≡ inline_len self.now.standings number }
+        ensures entries { entries_at self.now.standings number ≡ item_count (part_at self.now.parts number) }
     {
-        self.parts.part(number)
+        self.parts.inline_len(number)
+    }
+
+    #[inline]
+    pub(super) fn is_spilled(&self, number: usize) -> bool
+        requires { number < length self.now.parts }
+        ensures { result ≡ (standing_at self.now.standings number).spilled }
+    {
+        self.parts.is_spilled(number)
+    }
+
+    /// How many parts are spilled. It looks at each.
+    pub(super) fn spilled_count(&self) -> usize
+        ensures { result ≡ spilled_in self.now.standings.parts }
+    {
+        self.parts.spilled_count()
+    }
+
+    #[inline]
+    pub(super) fn threshold(&self) -> usize
+        ensures { result ≡ self.now.standings.threshold }
+    {
+        self.threshold
+    }
+
+    #[inline]
+    pub(super) fn spills(&self) -> u64
+        ensures { result ≡ self.now.standings.spills }
+    {
+        self.spills
+    }
+
+    /// Spills a part that has reached the threshold.
+    pub(super) fn settle(&mut self, number: usize) -> Result<(), Fault>
+        requires { number < length self.old.parts }
+        ensures settled { OnOk result (self.new ≡ settled_at X.SPILLS self.old number) }
+        ensures settles { OnOk result (IsTrue X.SPILLS → Settles self.old.standings number self.new.standings) }
+        ensures same { SameContent self.old self.new }
+        ensures refused { OnErr result (self.new ≡ self.old) }
+        ensures want { IfErr result (λ f. IsWant f (X.SPILLS && is_reached self.old.standings number)) }
+        ensures kept { KeepsParts T.Key.cmp self.old.parts self.new.parts }
+        ensures within { number < length self.old.standings.parts }
+        ensures least { 1 ≤ self.old.standings.threshold }
+    {
+        match self.parts.settle(number, self.threshold) {
+            Ok(true) => {
+                self.spills = count_if(self.spills, true);
+                Ok(())
+            }
+            Ok(false) => Ok(()),
+            Err(_) => Err(Fault::Memory),
+        }
     }
 
     #[inline]
@@ -197,6 +270,7 @@ impl<T: Translator, V: Drop, X: Part<T, V> + Drop, const P: usize> Storage<T, V,
     pub(super) fn set_at(&mut self, slot: (usize, T::Key), place: usize, value: V)
         requires { place < length (held_at T.Key.cmp self.old.parts slot) }
         ensures edited { Edits T.Key.cmp P T.translated self.old slot (λ l. slice_set l place value) self.new }
+        ensures standing { Leaves self.old.standings slot.0 self.new.standings }
         ensures kept { KeepsParts T.Key.cmp self.old.parts self.new.parts }
     {
         self.parts.set_at(slot, place, value);
@@ -212,6 +286,7 @@ impl<T: Translator, V: Drop, X: Part<T, V> + Drop, const P: usize> Storage<T, V,
         requires place { place ≤ length (held_at T.Key.cmp self.old.parts slot) }
         ensures accepted { OnOk result (
             Edits T.Key.cmp P T.translated self.old slot (λ l. insert l place value) self.new) }
+        ensures standing { OnOk result (Leaves self.old.standings slot.0 self.new.standings) }
         ensures room { OnOk result (item_count (gathered self.old.parts) < usize.MAX) }
         ensures refused { OnErr result (self.new ≡ self.old) }
         ensures kept { KeepsParts T.Key.cmp self.old.parts self.new.parts }
@@ -230,13 +305,137 @@ impl<T: Translator, V: Drop, X: Part<T, V> + Drop, const P: usize> Storage<T, V,
         }
     }
 
+    pub(super) fn remove_at(&mut self, slot: (usize, T::Key), place: usize) -> V
+        requires { place < length (held_at T.Key.cmp self.old.parts slot) }
+        ensures value { slice_get (held_at T.Key.cmp self.old.parts slot) place ≡ Some result }
+        ensures edited { Prunes T.Key.cmp P T.translated self.old slot (λ l. remove l place) 1 self.new }
+        ensures standing { Leaves self.old.standings slot.0 self.new.standings }
+        ensures kept { KeepsParts T.Key.cmp self.old.parts self.new.parts }
+    {
+        let (value, left) = self.parts.remove_at(slot, place);
+        let had = left + 1;
+        let taken = 1;
+        self.counts.change(Retained { had, left, taken });
+        value
+    }
+
+    /// Puts a value in at its end of a slot's list, in its part as that stands, which spills where it is left with `threshold` values or
+    /// more.
+    fn put(&mut self, slot: (usize, T::Key), value: V) -> Result<(), V>
+        requires within { slot.0 < length self.old.parts }
+        requires room { item_count (gathered self.old.parts) < usize.MAX }
+        ensures accepted { OnOk result (
+            Edits T.Key.cmp P T.translated self.old slot (put_value X.FIRST value) self.new) }
+        ensures standing { OnOk result (GrowsTo X.SPILLS self.old slot.0 self.new) }
+        ensures refused { OnErr result (self.new ≡ self.old) }
+        ensures kept { KeepsParts T.Key.cmp self.old.parts self.new.parts }
+        ensures returned { IfErr result (λ back. back ≡ value) }
+    {
+        match self.parts.insert(slot, value, self.threshold) {
+            Ok((absent, spilled)) => {
+                self.counts.gain(absent);
+                self.spills = count_if(self.spills, spilled);
+                Ok(())
+            }
+            Err(value) => Err(value),
+        }
+    }
+
+    /// Puts a value under a slot that has none, in its part as that stands, which spills as in `put`, and tells how many values the slot
+    /// had.
+    fn put_absent(&mut self, slot: (usize, T::Key), value: V) -> Result<usize, V>
+        requires within { slot.0 < length self.old.parts }
+        requires room { item_count (gathered self.old.parts) < usize.MAX }
+        ensures found { IfOk result (λ n. 0 < n → self.new ≡ self.old) }
+        ensures inserted { IfOk result (λ n. n ≡ 0 →
+            Edits T.Key.cmp P T.translated self.old slot (λ _. value ∷ []) self.new) }
+        ensures standing { IfOk result (λ n. n ≡ 0 → GrowsTo X.SPILLS self.old slot.0 self.new) }
+        ensures len { IfOk result (λ n. n ≡ length (held_at T.Key.cmp self.old.parts slot)) }
+        ensures refused { OnErr result (self.new ≡ self.old) }
+        ensures kept { KeepsParts T.Key.cmp self.old.parts self.new.parts }
+        ensures returned { IfErr result (λ back. back ≡ value) }
+    {
+        match self.parts.insert_absent(slot, value, self.threshold) {
+            Ok((0, spilled)) => {
+                self.counts.gain(true);
+                self.spills = count_if(self.spills, spilled);
+                Ok(0)
+            }
+            Ok((len, _)) => Ok(len),
+            Err(value) => Err(value),
+        }
+    }
+
+    /// Puts a value in behind those of a slot, asks once on each of them, in list order, and takes out those that are answered false, in
+    /// its part as that stands, which spills as in `put`.
+    fn put_and_retain<F: FnMut(&V) -> bool>(
+        &mut self,
+        slot: (usize, T::Key),
+        value: V,
+        should_retain: F,
+    ) -> Result<(), V>
+        requires within { slot.0 < length self.old.parts }
+        requires room { item_count (gathered self.old.parts) < usize.MAX }
+        requires callable { F.IsAlwaysCallable should_retain }
+        ensures accepted { OnOk result ((taken : ℕ) × InsertsAndRetains (pair_cmp T.Key.cmp) (CalledAt F.FnMut)
+            should_retain (view_of P T.translated self.old) slot value taken (view_of P T.translated self.new)) }
+        ensures standing { OnOk result (GrowsTo X.SPILLS self.old slot.0 self.new) }
+        ensures refused { OnErr result (self.new ≡ self.old) }
+        ensures kept { KeepsParts T.Key.cmp self.old.parts self.new.parts }
+        ensures returned { IfErr result (λ back. back ≡ value) }
+    {
+        match self
+            .parts
+            .insert_and_retain(slot, value, should_retain, self.threshold)
+        {
+            Ok((told, spilled)) => {
+                self.counts.change(told);
+                self.spills = count_if(self.spills, spilled);
+                Ok(())
+            }
+            Err(value) => Err(value),
+        }
+    }
+
+    /// Asks once on each value of a slot, in list order, and takes out those that are answered false, in its part as that stands.
+    fn retain_in_part<F: FnMut(&V) -> bool>(&mut self, slot: (usize, T::Key), should_retain: F)
+        requires within { slot.0 < length self.old.parts }
+        requires callable { F.IsAlwaysCallable should_retain }
+        ensures retained { Retains (pair_cmp T.Key.cmp) (CalledAt F.FnMut) should_retain
+            (view_of P T.translated self.old) slot (view_of P T.translated self.new) }
+        ensures standing { Leaves self.old.standings slot.0 self.new.standings }
+        ensures fewer { entries_at self.new.standings slot.0 ≤ entries_at self.old.standings slot.0 }
+        ensures kept { KeepsParts T.Key.cmp self.old.parts self.new.parts }
+    {
+        let (had, left) = self.parts.retain(slot, should_retain);
+        let taken = had - left;
+        self.counts.change(Retained { had, left, taken });
+    }
+
+    /// Takes a slot out, in its part as that stands.
+    fn take(&mut self, slot: (usize, T::Key))
+        requires { slot.0 < length self.old.parts }
+        ensures removed { Prunes T.Key.cmp P T.translated self.old slot (λ _. [])
+            (length (held_at T.Key.cmp self.old.parts slot)) self.new }
+        ensures standing { Leaves self.old.standings slot.0 self.new.standings }
+        ensures fewer { entries_at self.new.standings slot.0 ≤ entries_at self.old.standings slot.0 }
+        ensures kept { KeepsParts T.Key.cmp self.old.parts self.new.parts }
+    {
+        let had = self.parts.remove(slot);
+        let left = 0;
+        let taken = had;
+        self.counts.change(Retained { had, left, taken });
+    }
+
     /// Puts a value in at its end of a slot's list.
     pub(super) fn insert(&mut self, slot: (usize, T::Key), value: V) -> Result<(), Refused<V>>
         requires { slot.0 < length self.old.parts }
         ensures accepted { OnOk result (
             Edits T.Key.cmp P T.translated self.old slot (put_value X.FIRST value) self.new) }
+        ensures settled { OnOk result (IsTrue X.SPILLS → Settles self.old.standings slot.0 self.new.standings) }
         ensures room { OnOk result (item_count (gathered self.old.parts) < usize.MAX) }
-        ensures refused { OnErr result (self.new ≡ self.old) }
+        ensures refused { OnErr result (SameContent self.old self.new) }
+        ensures left { OnErr result (IsLeft X.SPILLS self.old slot.0 self.new) }
         ensures kept { KeepsParts T.Key.cmp self.old.parts self.new.parts }
         ensures returned { IfErr result (λ r. r.value ≡ value) }
         ensures fault { IfErr result (λ r. r.fault ≡ growth_fault (item_count (gathered self.old.parts))) }
@@ -244,11 +443,11 @@ impl<T: Translator, V: Drop, X: Part<T, V> + Drop, const P: usize> Storage<T, V,
         if self.counts.items == usize::MAX {
             return Err(Refused::full(value));
         }
-        match self.parts.insert(slot, value) {
-            Ok(absent) => {
-                self.counts.gain(absent);
-                Ok(())
-            }
+        let Ok(()) = self.settle(slot.0) else {
+            return Err(Refused::memory(value));
+        };
+        match self.put(slot, value) {
+            Ok(()) => Ok(()),
             Err(value) => Err(Refused::memory(value)),
         }
     }
@@ -260,12 +459,14 @@ impl<T: Translator, V: Drop, X: Part<T, V> + Drop, const P: usize> Storage<T, V,
         value: V,
     ) -> Result<usize, Refused<V>>
         requires { slot.0 < length self.old.parts }
-        ensures found { IfOk result (λ n. 0 < n → self.new ≡ self.old) }
+        ensures found { IfOk result (λ n. 0 < n → SameContent self.old self.new) }
         ensures inserted { IfOk result (λ n. n ≡ 0 →
             Edits T.Key.cmp P T.translated self.old slot (λ _. value ∷ []) self.new) }
+        ensures settled { OnOk result (IsTrue X.SPILLS → Settles self.old.standings slot.0 self.new.standings) }
         ensures len { IfOk result (λ n. n ≡ length (held_at T.Key.cmp self.old.parts slot)) }
         ensures room { OnOk result (item_count (gathered self.old.parts) < usize.MAX) }
-        ensures refused { OnErr result (self.new ≡ self.old) }
+        ensures refused { OnErr result (SameContent self.old self.new) }
+        ensures left { OnErr result (IsLeft X.SPILLS self.old slot.0 self.new) }
         ensures kept { KeepsParts T.Key.cmp self.old.parts self.new.parts }
         ensures returned { IfErr result (λ r. r.value ≡ value) }
         ensures fault { IfErr result (λ r. r.fault ≡ growth_fault (item_count (gathered self.old.parts))) }
@@ -273,40 +474,13 @@ impl<T: Translator, V: Drop, X: Part<T, V> + Drop, const P: usize> Storage<T, V,
         if self.counts.items == usize::MAX {
             return Err(Refused::full(value));
         }
-        match self.parts.insert_absent(slot, value) {
-            Ok(0) => {
-                self.counts.gain(true);
-                Ok(0)
-            }
+        let Ok(()) = self.settle(slot.0) else {
+            return Err(Refused::memory(value));
+        };
+        match self.put_absent(slot, value) {
             Ok(len) => Ok(len),
             Err(value) => Err(Refused::memory(value)),
         }
-    }
-
-    pub(super) fn remove_at(&mut self, slot: (usize, T::Key), place: usize) -> V
-        requires { place < length (held_at T.Key.cmp self.old.parts slot) }
-        ensures value { slice_get (held_at T.Key.cmp self.old.parts slot) place ≡ Some result }
-        ensures edited { Prunes T.Key.cmp P T.translated self.old slot (λ l. remove l place) 1 self.new }
-        ensures kept { KeepsParts T.Key.cmp self.old.parts self.new.parts }
-    {
-        let (value, left) = self.parts.remove_at(slot, place);
-        let had = left + 1;
-        let taken = 1;
-        self.counts.change(Retained { had, left, taken });
-        value
-    }
-
-    /// Asks once on each value of a slot, in list order, and takes out those that are answered false.
-    pub(super) fn retain<F: FnMut(&V) -> bool>(&mut self, slot: (usize, T::Key), should_retain: F)
-        requires within { slot.0 < length self.old.parts }
-        requires callable { F.IsAlwaysCallable should_retain }
-        ensures retained { Retains (pair_cmp T.Key.cmp) (CalledAt F.FnMut) should_retain
-            (view_of P T.translated self.old) slot (view_of P T.translated self.new) }
-        ensures kept { KeepsParts T.Key.cmp self.old.parts self.new.parts }
-    {
-        let (had, left) = self.parts.retain(slot, should_retain);
-        let taken = had - left;
-        self.counts.change(Retained { had, left, taken });
     }
 
     /// Puts a value in behind those of a slot, asks once on each of them, in list order, and takes out those that are answered false.
@@ -320,8 +494,10 @@ impl<T: Translator, V: Drop, X: Part<T, V> + Drop, const P: usize> Storage<T, V,
         requires callable { F.IsAlwaysCallable should_retain }
         ensures accepted { OnOk result ((taken : ℕ) × InsertsAndRetains (pair_cmp T.Key.cmp) (CalledAt F.FnMut)
             should_retain (view_of P T.translated self.old) slot value taken (view_of P T.translated self.new)) }
+        ensures settled { OnOk result (IsTrue X.SPILLS → Settles self.old.standings slot.0 self.new.standings) }
         ensures room { OnOk result (item_count (gathered self.old.parts) < usize.MAX) }
-        ensures refused { OnErr result (self.new ≡ self.old) }
+        ensures refused { OnErr result (SameContent self.old self.new) }
+        ensures left { OnErr result (IsLeft X.SPILLS self.old slot.0 self.new) }
         ensures kept { KeepsParts T.Key.cmp self.old.parts self.new.parts }
         ensures returned { IfErr result (λ r. r.value ≡ value) }
         ensures fault { IfErr result (λ r. r.fault ≡ growth_fault (item_count (gathered self.old.parts))) }
@@ -329,26 +505,56 @@ impl<T: Translator, V: Drop, X: Part<T, V> + Drop, const P: usize> Storage<T, V,
         if self.counts.items == usize::MAX {
             return Err(Refused::full(value));
         }
-        match self.parts.insert_and_retain(slot, value, should_retain) {
-            Ok(told) => {
-                self.counts.change(told);
-                Ok(())
-            }
+        let Ok(()) = self.settle(slot.0) else {
+            return Err(Refused::memory(value));
+        };
+        match self.put_and_retain(slot, value, should_retain) {
+            Ok(()) => Ok(()),
             Err(value) => Err(Refused::memory(value)),
         }
     }
 
-    /// Takes a slot out.
-    pub(super) fn remove(&mut self, slot: (usize, T::Key))
-        requires { slot.0 < length self.old.parts }
-        ensures removed { Prunes T.Key.cmp P T.translated self.old slot (λ _. [])
-            (length (held_at T.Key.cmp self.old.parts slot)) self.new }
+    /// Asks once on each value of a slot, in list order, and takes out those that are answered false.
+    pub(super) fn retain<F: FnMut(&V) -> bool>(
+        &mut self,
+        slot: (usize, T::Key),
+        should_retain: F,
+    ) -> Result<(), Fault>
+        requires within { slot.0 < length self.old.parts }
+        requires callable { F.IsAlwaysCallable should_retain }
+        ensures retained { OnOk result (Retains (pair_cmp T.Key.cmp) (CalledAt F.FnMut) should_retain
+            (view_of P T.translated self.old) slot (view_of P T.translated self.new)) }
+        ensures settled { OnOk result (IsTrue X.SPILLS → Settles self.old.standings slot.0 self.new.standings) }
+        ensures refused { OnErr result (self.new ≡ self.old) }
+        ensures want { IfErr result (λ f. IsWant f (X.SPILLS && is_reached self.old.standings slot.0)) }
         ensures kept { KeepsParts T.Key.cmp self.old.parts self.new.parts }
     {
-        let had = self.parts.remove(slot);
-        let left = 0;
-        let taken = had;
-        self.counts.change(Retained { had, left, taken });
+        match self.settle(slot.0) {
+            Ok(()) => {
+                self.retain_in_part(slot, should_retain);
+                Ok(())
+            }
+            Err(fault) => Err(fault),
+        }
+    }
+
+    /// Takes a slot out.
+    pub(super) fn remove(&mut self, slot: (usize, T::Key)) -> Result<(), Fault>
+        requires { slot.0 < length self.old.parts }
+        ensures removed { OnOk result (Prunes T.Key.cmp P T.translated self.old slot (λ _. [])
+            (length (held_at T.Key.cmp self.old.parts slot)) self.new) }
+        ensures settled { OnOk result (IsTrue X.SPILLS → Settles self.old.standings slot.0 self.new.standings) }
+        ensures refused { OnErr result (self.new ≡ self.old) }
+        ensures want { IfErr result (λ f. IsWant f (X.SPILLS && is_reached self.old.standings slot.0)) }
+        ensures kept { KeepsParts T.Key.cmp self.old.parts self.new.parts }
+    {
+        match self.settle(slot.0) {
+            Ok(()) => {
+                self.take(slot);
+                Ok(())
+            }
+            Err(fault) => Err(fault),
+        }
     }
 
     #[inline]

@@ -222,15 +222,13 @@ impl<T: Translator, V: Drop, const P: usize> Unordered for Index<T, V, P> {
     #[inline]
     fn retain<F: FnMut(&V) -> bool>(&mut self, key: &[u8], should_retain: F) -> Result<(), Fault> {
         let slot = self.storage.slot_of(key);
-        self.storage.retain(slot, should_retain);
-        Ok(())
+        self.storage.retain(slot, should_retain)
     }
 
     #[inline]
     fn remove(&mut self, key: &[u8]) -> Result<(), Fault> {
         let slot = self.storage.slot_of(key);
-        self.storage.remove(slot);
-        Ok(())
+        self.storage.remove(slot)
     }
 
     #[inline]
@@ -258,7 +256,7 @@ impl<T: Translator, V: Drop, const P: usize> Factory for Index<T, V, P> {
 
     /// Takes the slots of all partitions at once, and answers `Memory` where that is refused.
     fn new(alloc: Global, translator: T) -> Result<Index<T, V, P>, Fault> {
-        match Storage::new(alloc, translator, 1 << (8 * P)) {
+        match Storage::new(alloc, translator, 1 << (8 * P), usize::MAX) {
             Ok(storage) => Ok(Index { storage }),
             Err(fault) => Err(fault),
         }

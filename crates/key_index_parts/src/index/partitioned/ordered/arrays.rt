@@ -1,16 +1,16 @@
 //! A part as sorted arrays.
-ghost use Rattle.std.specs.Prelude.{◌≡◌, List, true, false, length};
+ghost use Rattle.std.specs.Prelude.{◌≡◌, List, true, false, length, map, IfOk};
 ghost use Rattle.std.specs.Fn.{CalledAt};
 ghost use Rattle.key_index_flat.specs.Content.{item_count, list_at, with_list};
 ghost use Rattle.key_index_flat.specs.Retention.{AsksInTurn};
-ghost use Rattle.key_index_parts.specs.Pairs.{IsFound, grouped};
+ghost use Rattle.key_index_parts.specs.Pairs.{IsFound, grouped, list_of, room_of, room_for};
 
 use super::partition::Partition;
 use crate::index::partitioned::part::{Held, OrderedPart, Part};
 use key_index_flat::index::Values;
 use key_index_flat::index::implement::Retained;
 use key_index_flat::translator::Translator;
-use std::alloc::Global;
+use std::alloc::{AllocError, Global};
 use std::ops::Range;
 
 /// A part as sorted arrays: each key once for each of its values.
@@ -52,6 +52,36 @@ fn retain_run<T: Translator, V: Drop, F: FnMut(&V) -> bool>(
 }
 
 impl<T: Translator, V: Drop> Arrays<T, V> {
+    /// The arrays of some pairs.
+    #[inline]
+    pub(super) fn of_pairs(pairs: Partition<T::Key, V>) -> Arrays<T, V>
+        ensures { result.pairs ≡ pairs }
+    {
+        Arrays { pairs }
+    }
+
+    /// Where the arrays take their memory.
+    #[inline]
+    pub(super) fn alloc(&self) -> Global {
+        self.pairs.alloc()
+    }
+
+    /// Each key once, with room for exactly its values and none of them yet.
+    pub(super) fn empty_runs(&self) -> Result<Vec<(T::Key, Vec<V>)>, AllocError>
+        ensures { IfOk result (λ runs.
+            map room_of runs.items ≡ map room_for (grouped T.Key.cmp self.now.pairs.pairs)) }
+    {
+        self.pairs.empty_runs()
+    }
+
+    /// Moves all values to such room, without growth, and gives the memory of the arrays back.
+    pub(super) fn drain_into(&mut self, runs: &mut Vec<(T::Key, Vec<V>)>)
+        requires { map room_of runs.old.items ≡ map room_for (grouped T.Key.cmp self.old.pairs.pairs) }
+        ensures { map list_of runs.new.items ≡ grouped T.Key.cmp self.old.pairs.pairs }
+    {
+        self.pairs.drain_into(runs);
+    }
+
     /// How many values stand in the arrays.
     pub(super) fn len(&self) -> usize
         ensures { result ≡ item_count (grouped T.Key.cmp self.now.pairs.pairs) }
@@ -62,14 +92,21 @@ impl<T: Translator, V: Drop> Arrays<T, V> {
 
 impl<T: Translator, V> Held<T, V> for Arrays<T, V> {
     ghost use Rattle.key_index_parts.specs.PairLaws.{IsLawful-grouped};
+    ghost use Rattle.key_index_parts.specs.StandingLaws.{inline_filled};
 
     ghost content = { λ part. grouped T.Key.cmp part.pairs.pairs };
 
+    ghost spilled = { λ _. false };
+
     ghost lawful = { λ part. IsLawful-grouped T.Key.total part.pairs.pairs };
+
+    ghost filled = { λ part h. inline_filled (item_count (grouped T.Key.cmp part.pairs.pairs)) h };
 }
 
 impl<T: Translator, V: Drop> Part<T, V> for Arrays<T, V> {
     ghost FIRST = { false };
+
+    ghost SPILLS = { false };
 
     fn new(alloc: Global, _translator: T) -> Arrays<T, V> {
         Arrays {
@@ -80,6 +117,20 @@ impl<T: Translator, V: Drop> Part<T, V> for Arrays<T, V> {
     #[inline]
     fn is_empty(&self) -> bool {
         self.pairs.is_empty()
+    }
+
+    #[inline]
+    fn inline_len(&self) -> usize {
+        0
+    }
+
+    #[inline]
+    fn is_spilled(&self) -> bool {
+        false
+    }
+
+    fn spill(&mut self) -> Result<(), AllocError> {
+        Ok(())
     }
 
     #[inline]
@@ -112,7 +163,7 @@ impl<T: Translator, V: Drop> Part<T, V> for Arrays<T, V> {
         }
     }
 
-    fn insert(&mut self, key: T::Key, value: V) -> Result<bool, V> {
+    fn insert(&mut self, key: T::Key, value: V, _limit: usize) -> Result<bool, V> {
         let run = self.pairs.run_range(&key);
         let behind = run.end;
         match self.pairs.insert_at(behind, key, value) {
@@ -121,7 +172,7 @@ impl<T: Translator, V: Drop> Part<T, V> for Arrays<T, V> {
         }
     }
 
-    fn insert_absent(&mut self, key: T::Key, value: V) -> Result<usize, V> {
+    fn insert_absent(&mut self, key: T::Key, value: V, _limit: usize) -> Result<usize, V> {
         let run = self.pairs.run_range(&key);
         if run.start < run.end {
             return Ok(run.end - run.start);
@@ -150,6 +201,7 @@ impl<T: Translator, V: Drop> Part<T, V> for Arrays<T, V> {
         key: T::Key,
         value: V,
         should_retain: F,
+        _limit: usize,
     ) -> Result<Retained, V> {
         let run = self.pairs.run_range(&key);
         let (start, had) = (run.start, run.end - run.start);

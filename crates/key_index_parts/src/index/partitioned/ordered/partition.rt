@@ -1,5 +1,5 @@
 //! One partition: its keys in order, and beside each key a value.
-ghost use Rattle.std.specs.Prelude.{◌≡◌, ◌+◌, ◌-◌, ◌<◌, ◌≤◌, List, [], length, min, slice_get, insert, remove, Some, IsOk, IfOk, IfErr, OnOk, OnErr, map, take, drop, vec_len};
+ghost use Rattle.std.specs.Prelude.{◌≡◌, ◌+◌, ◌-◌, ◌<◌, ◌≤◌, List, [], ◌++◌, replicate, length, min, slice_get, insert, remove, Some, IsOk, IfOk, IfErr, OnOk, OnErr, map, take, drop, vec_len};
 ghost use Rattle.std.specs.Bool.{◌==◌, Decides};
 ghost use Rattle.std.specs.List.{flat_map, zip, slice_range, remove_range};
 ghost use Rattle.std.specs.List.Sorted.{IsSorted};
@@ -10,6 +10,7 @@ ghost use Rattle.std.specs.Vec.{vec_capacity};
 ghost use Rattle.std.specs.Vec.Iter.{into_iter_items};
 ghost use Rattle.key_index_flat.specs.Content.{Content};
 ghost use Rattle.key_index_flat.specs.Neighbours.{entries_above, entries_below, first_list, last_list};
+ghost use Rattle.key_index_parts.specs.Spread.{pairs_with};
 ghost use Rattle.key_index_parts.specs.Pairs.{Pairs, Paired, IsFound, IsRun, count_below, count_upto, with_value, run_of, grouped, list_of, room_of, room_for};
 
 use key_index_flat::index::{Fault, Refused};
@@ -178,6 +179,19 @@ fn reserve_in_turn<A, B>(
         return Err(Fault::Memory);
     }
     Ok(())
+}
+
+/// Puts a key in behind so many times.
+fn push_times<K: Copy>(keys: &mut Vec<K>, key: K, count: usize)
+    requires { vec_len keys.old + count ≤ vec_capacity keys.old }
+    ensures items { keys.new.items ≡ keys.old.items ++ replicate count key }
+    ensures capacity { vec_capacity keys.old ≤ vec_capacity keys.new }
+{
+    for done in 0..count {
+        let Ok(()) = keys.push(key) else {
+            unreachable!()
+        };
+    }
 }
 
 /// The keys in order, and beside each of them a value. Pairs of one key stand in a run, one behind another.
@@ -385,12 +399,48 @@ impl<K: Ord + Copy, V: Drop> Partition<K, V> {
         ensures refused { OnErr result (self.new ≡ self.old) }
         ensures fault { IfErr result (λ fault. fault ≡ Fault.Memory) }
     {
-        let alloc = *self.keys.allocator();
-        let Ok(mut runs) = empty_runs(alloc, self.keys.as_slice()) else {
+        let Ok(mut runs) = self.empty_runs() else {
             return Err(Fault::Memory);
         };
-        self.keys = Vec::new(alloc);
-        fill_runs(&mut runs, replace(&mut self.values, Vec::new(alloc)));
+        self.drain_into(&mut runs);
         Ok(runs)
+    }
+
+    /// Where it takes its memory.
+    #[inline]
+    pub(super) fn alloc(&self) -> Global {
+        *self.keys.allocator()
+    }
+
+    /// What `drain_runs` takes before the first value moves: each key once, with room for exactly its values and none of them yet.
+    pub(super) fn empty_runs(&self) -> Result<Vec<(K, Vec<V>)>, AllocError>
+        ensures { IfOk result (λ runs. map room_of runs.items ≡ map room_for (grouped K.cmp self.now.pairs)) }
+    {
+        empty_runs(self.alloc(), self.keys.as_slice())
+    }
+
+    /// Moves all values to such room, without growth, and gives the memory of the pairs back.
+    pub(super) fn drain_into(&mut self, runs: &mut Vec<(K, Vec<V>)>)
+        requires { map room_of runs.old.items ≡ map room_for (grouped K.cmp self.old.pairs) }
+        ensures runs { map list_of runs.new.items ≡ grouped K.cmp self.old.pairs }
+        ensures emptied { self.new.pairs ≡ [] }
+        ensures room { self.new.room ≡ 0 }
+    {
+        let alloc = self.alloc();
+        self.keys = Vec::new(alloc);
+        fill_runs(runs, replace(&mut self.values, Vec::new(alloc)));
+    }
+
+    /// Puts a run in behind all pairs. It has room for them, so it takes no memory, and moves no pair that it holds.
+    pub(super) fn push_run(&mut self, key: K, mut values: Vec<V>)
+        requires room { length values.items ≤ self.old.room }
+        requires sorted { IsSorted K.cmp (keys_of self.old.pairs ++ replicate (length values.items) key) }
+        ensures pairs { self.new.pairs ≡ self.old.pairs ++ pairs_with key values.items }
+        ensures room { self.old.room ≤ self.new.room + length values.items }
+    {
+        push_times(&mut self.keys, key, values.len());
+        let Ok(()) = self.values.append(&mut values) else {
+            unreachable!()
+        };
     }
 }

@@ -1,6 +1,6 @@
 //! A part as a flat unordered index in a box.
-ghost use Rattle.std.specs.Prelude.{◌≡◌, ◌≤◌, None, true, not, length, insert, IsSome, IfOk, IfErr, OnOk, OnErr};
-ghost use Rattle.key_index_flat.specs.Content.{is_filled, list_at, with_list_by};
+ghost use Rattle.std.specs.Prelude.{◌≡◌, ◌≤◌, None, true, false, not, length, insert, IsSome, IfOk, IfErr, OnOk, OnErr};
+ghost use Rattle.key_index_flat.specs.Content.{is_filled, item_count, list_at, with_list_by};
 ghost use Rattle.key_index_flat.specs.Unordered.{held};
 ghost use Rattle.key_index_parts.specs.Boxed.{held_in, IsLawful-held_in};
 
@@ -8,7 +8,7 @@ use crate::index::partitioned::part::{Held, Part};
 use key_index_flat::index::implement::{Lists, Retained};
 use key_index_flat::index::{Factory, Fault, Runs, Unordered, Values, unordered};
 use key_index_flat::translator::Translator;
-use std::alloc::Global;
+use std::alloc::{AllocError, Global};
 
 /// A part as a flat unordered index, which is made when the first value is put in, and stays when the last one is taken out.
 #[derive(Drop)]
@@ -61,13 +61,21 @@ fn put_at<T: Translator, V: Drop>(
 }
 
 impl<T: Translator, V> Held<T, V> for Boxed<T, V> {
+    ghost use Rattle.key_index_parts.specs.StandingLaws.{inline_filled};
+
     ghost content = { λ part. held_in part.index };
 
+    ghost spilled = { λ _. false };
+
     ghost lawful = { λ part. IsLawful-held_in part.index };
+
+    ghost filled = { λ part h. inline_filled (item_count (held_in part.index)) h };
 }
 
 impl<T: Translator, V: Drop> Part<T, V> for Boxed<T, V> {
     ghost FIRST = { true };
+
+    ghost SPILLS = { false };
 
     fn new(alloc: Global, translator: T) -> Boxed<T, V> {
         Boxed {
@@ -83,6 +91,20 @@ impl<T: Translator, V: Drop> Part<T, V> for Boxed<T, V> {
             Some(index) => index.keys() == 0,
             None => true,
         }
+    }
+
+    #[inline]
+    fn inline_len(&self) -> usize {
+        0
+    }
+
+    #[inline]
+    fn is_spilled(&self) -> bool {
+        false
+    }
+
+    fn spill(&mut self) -> Result<(), AllocError> {
+        Ok(())
     }
 
     #[inline]
@@ -128,11 +150,11 @@ impl<T: Translator, V: Drop> Part<T, V> for Boxed<T, V> {
     }
 
     #[inline]
-    fn insert(&mut self, key: T::Key, value: V) -> Result<bool, V> {
+    fn insert(&mut self, key: T::Key, value: V, _limit: usize) -> Result<bool, V> {
         self.insert_at(key, 0, value)
     }
 
-    fn insert_absent(&mut self, key: T::Key, value: V) -> Result<usize, V> {
+    fn insert_absent(&mut self, key: T::Key, value: V, _limit: usize) -> Result<usize, V> {
         if self.make().is_err() {
             return Err(value);
         }
@@ -165,6 +187,7 @@ impl<T: Translator, V: Drop> Part<T, V> for Boxed<T, V> {
         key: T::Key,
         value: V,
         should_retain: F,
+        _limit: usize,
     ) -> Result<Retained, V> {
         if self.make().is_err() {
             return Err(value);

@@ -5,12 +5,12 @@ use Rattle.key_index_parts.proofs.EntriesLemmas.{counts}
 use Rattle.key_index_parts.proofs.InstallLemmas.{within}
 use Rattle.key_index_parts.proofs.index.partitioned.ordered.RangeIndex+T+V+P.inline_len.Goals as goal
 
-pub returns : goal.returns
-returns g c =
+pub returns-clause-entries : goal.returns-clause-entries
+returns-clause-entries g c =
     let range = c.args.self.now in
     let parts = range.storage.parts in
     let at = within range.offset (range.offset + length parts) c.args.partition c.requires in
     let own = c.args.partition - range.offset in
     let same : range.offset + own ≡ c.args.partition = omega (arith, at.0) in
-    c.len.ensures ∙ ap (λ e. item_count e) c.part.ensures
+    c.inline_len.ensures.entries
     ∙ sym (ap (λ m. item_count (entries_of (gathered_from range.offset parts) m)) (sym same) ∙ counts range.offset parts own)

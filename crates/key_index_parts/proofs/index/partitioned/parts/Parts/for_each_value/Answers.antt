@@ -8,9 +8,9 @@ use Rattle.key_index_parts.proofs.index.partitioned.parts.Parts.for_each_value.G
 
 pub loop-part-init : goal.loop-part-init
 loop-part-init g c =
-    let values = values_of (gathered c.args.self.now) in
+    let values = values_of (gathered c.args.self.now.contents) in
     let all : values ≡ flat_map values_of (map g.X.Held.content c.as_slice-rest.result.now) =
-    values-gathered 0 c.args.self.now ∙ sym (ap (λ xs. flat_map values_of (map g.X.Held.content xs)) c.as_slice-rest.ensures.value ∙ ap (λ cs. flat_map values_of cs) c.self.view_is) in (
+    values-gathered 0 c.args.self.now.contents ∙ sym (ap (λ xs. flat_map values_of (map g.X.Held.content xs)) c.as_slice-rest.ensures.value ∙ ap (λ s. flat_map values_of s.contents) c.self.view_is) in (
       c.requires,
       subst (λ l. Continues (CalledAt g.F.FnMut) c.args.visit.now values c.args.visit.now l) all (continues (CalledAt g.F.FnMut) c.args.visit.now values),
     )
@@ -20,7 +20,7 @@ loop-part-smaller g c = let e = ap (λ l. length l) c.in-Some.ensures.cases.0 in
 
 pub loop-part-preserved : goal.loop-part-preserved
 loop-part-preserved g c =
-    let values = values_of (gathered c.args.self.now) in
+    let values = values_of (gathered c.args.self.now.contents) in
     let ask = CalledAt g.F.FnMut in
     let at = c.loop-part.visit in
     let behind = flat_map values_of (map g.X.Held.content c.in-Some.behind.now) in (
@@ -32,6 +32,6 @@ loop-part-preserved g c =
 
 pub returns-clause-visits : goal.returns-clause-visits
 returns-clause-visits g c =
-    let values = values_of (gathered c.args.self.now) in
+    let values = values_of (gathered c.args.self.now.contents) in
     ended (CalledAt g.F.FnMut) c.args.visit.now c.loop-part.visit values (flat_map values_of (map g.X.Held.content c.loop-part.rest.now))
     (none_left g.X.Held.content c.loop-part.rest.now c.in_default.ensures.cases) c.loop-part.invariant.1

@@ -10,7 +10,7 @@ use Rattle.key_index_parts.proofs.index.partitioned.parts.Parts.for_each_value.G
 abbrev pub invariant-loop-part : goal.invariant-loop-part
 invariant-loop-part g l =
     always_mut g.F.FnMut l.visit
-    × Continues (CalledAt g.F.FnMut) l.fn.visit (values_of (gathered l.fn.self)) l.visit (flat_map values_of (map g.X.Held.content l.rest))
+    × Continues (CalledAt g.F.FnMut) l.fn.visit (values_of (gathered l.fn.self.contents)) l.visit (flat_map values_of (map g.X.Held.content l.rest))
 
 abbrev pub decreases-loop-part : goal.decreases-loop-part
 decreases-loop-part g l = length l.rest

@@ -1,7 +1,7 @@
-use Rattle.std.proofs.Common.{true, not, ap, sym, ◌∙◌}
+use Rattle.std.proofs.Common.{true, not, ◌&&◌, ap, sym, ◌∙◌}
 use Rattle.key_index_flat.specs.Content.{is_filled, list_at}
 use Rattle.key_index_flat.specs.View.{put_value}
-use Rattle.key_index_parts.proofs.FamilyLemmas.{part_taken, list_told, part_edited, part_stays, flags_edited, flags_stay, filled_put}
+use Rattle.key_index_parts.proofs.FamilyLemmas.{part_taken, list_told, part_edited, flags_edited, flags_stay, filled_put, grows, since, family_stays, listed}
 use Rattle.key_index_parts.proofs.index.partitioned.parts.Parts.insert.Goals as goal
 
 pub invariant_of-self : goal.invariant_of-self
@@ -9,25 +9,45 @@ invariant_of-self g c =
     let cmp = g.T.Key.Ord.cmp in
     let f = g.X.Held.content in
     let k = c.args.slot.1 in
-    let part = part_taken g.X.Held.content c.self.inside.parts.items c.self.view_is c.requires c.index_mut.ensures.value in
-    let x = c.index_mut.result.now in
+    let part = part_taken g.X.Held.content c.self.inside.parts.items (ap (λ s. s.contents) c.self.view_is) c.requires.within c.index_mut-part.ensures.value in
+    let x = c.index_mut-part.result.now in
     c.set.ensures ∙ flags_edited cmp part c.self.inside.filled c.insert.new.self true c.self.invariant
     (sym (ap is_filled c.in-Ok.ensures.accepted.0 ∙ filled_put cmp (f x) k (list_at cmp (f x) k) g.X.Part.FIRST c.args.value))
 
 pub invariant_of-self-in-Err : goal.invariant_of-self-in-Err
 invariant_of-self-in-Err g c =
-    let part = part_taken g.X.Held.content c.self.inside.parts.items c.self.view_is c.requires c.index_mut.ensures.value in
+    let part = part_taken g.X.Held.content c.self.inside.parts.items (ap (λ s. s.contents) c.self.view_is) c.requires.within c.index_mut-part.ensures.value in
     flags_stay g.T.Key.Ord.cmp part c.self.inside.filled c.insert.new.self c.self.invariant (ap is_filled c.in-Err.ensures.refused)
 
 pub returns-in-Ok-clause-accepted : goal.returns-in-Ok-clause-accepted
 returns-in-Ok-clause-accepted g c =
     let cmp = g.T.Key.Ord.cmp in
     let k = c.args.slot.1 in
-    let part = part_taken g.X.Held.content c.self.inside.parts.items c.self.view_is c.requires c.index_mut.ensures.value in
+    let part = part_taken g.X.Held.content c.self.inside.parts.items (ap (λ s. s.contents) c.self.view_is) c.requires.within c.index_mut-part.ensures.value in
     rw (← c.self.view_is)
     (part_edited cmp part c.insert.new.self k (put_value g.X.Part.FIRST c.args.value) c.in-Ok.ensures.accepted.0, c.in-Ok.ensures.accepted.1 ∙ ap (λ l. not (is_filled l)) (list_told cmp part k))
 
 pub returns-in-Err-clause-refused : goal.returns-in-Err-clause-refused
 returns-in-Err-clause-refused g c =
-    let part = part_taken g.X.Held.content c.self.inside.parts.items c.self.view_is c.requires c.index_mut.ensures.value in
-    rw (← c.self.view_is) (part_stays g.T.Key.Ord.cmp part c.insert.new.self c.in-Err.ensures.refused)
+    let part = part_taken g.X.Held.content c.self.inside.parts.items (ap (λ s. s.contents) c.self.view_is) c.requires.within c.index_mut-part.ensures.value in
+    rw (← c.self.view_is) (family_stays part g.X.Held.spilled c.insert.new.self c.in-Err.ensures.refused c.in-Err.ensures.stands)
+
+pub returns-in-Ok-clause-standing : goal.returns-in-Ok-clause-standing
+returns-in-Ok-clause-standing g c =
+    let part = part_taken g.X.Held.content c.self.inside.parts.items (ap (λ s. s.contents) c.self.view_is) c.requires.within c.index_mut-part.ensures.value in
+    rw (← c.self.view_is) (grows part g.X.Held.spilled g.X.Part.SPILLS c.args.limit c.insert.new.self c.in-Ok.ensures.standing)
+
+pub returns-in-Ok-clause-spilled : goal.returns-in-Ok-clause-spilled
+returns-in-Ok-clause-spilled g c =
+    let part = part_taken g.X.Held.content c.self.inside.parts.items (ap (λ s. s.contents) c.self.view_is) c.requires.within c.index_mut-part.ensures.value in
+    rw (← c.self.view_is) (c.has_become-spilled.ensures ∙ (λ i. not (c.is_spilled-was.ensures i) && c.is_spilled.ensures i) ∙ since part g.X.Held.spilled c.insert.new.self)
+
+pub returns-in-Ok-clause-listed : goal.returns-in-Ok-clause-listed
+returns-in-Ok-clause-listed g c =
+    let part = part_taken g.X.Held.content c.self.inside.parts.items (ap (λ s. s.contents) c.self.view_is) c.requires.within c.index_mut-part.ensures.value in
+    rw (← c.self.view_is) (listed part g.X.Held.spilled)
+
+pub returns-in-Err-clause-listed : goal.returns-in-Err-clause-listed
+returns-in-Err-clause-listed g c =
+    let part = part_taken g.X.Held.content c.self.inside.parts.items (ap (λ s. s.contents) c.self.view_is) c.requires.within c.index_mut-part.ensures.value in
+    rw (← c.self.view_is) (listed part g.X.Held.spilled)

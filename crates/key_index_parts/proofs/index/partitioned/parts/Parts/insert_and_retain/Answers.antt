@@ -1,19 +1,19 @@
-use Rattle.std.proofs.Common.{◌≡◌, [], ◌∷◌, ◌++◌, map, set, ap, subst, ◌∙◌}
+use Rattle.std.proofs.Common.{not, ◌&&◌, ◌≡◌, [], ◌∷◌, ◌++◌, map, set, ap, subst, ◌∙◌}
 use Rattle.std.specs.Fn.{CalledAt}
 use Rattle.std.specs.List.{items_where_true}
 use Rattle.key_index_flat.specs.Content.{is_filled, list_at}
 use Rattle.key_index_parts.specs.Family.{RetainsWith, with_list_in}
-use Rattle.key_index_parts.proofs.FamilyLemmas.{part_taken, not_not, list_told, part_edited, part_stays, flags_edited, flags_stay}
+use Rattle.key_index_parts.proofs.FamilyLemmas.{part_taken, not_not, list_told, part_edited, flags_edited, flags_stay, grows, since, family_stays, listed}
 use Rattle.key_index_parts.proofs.index.partitioned.parts.Parts.insert_and_retain.Goals as goal
 
 pub invariant_of-self : goal.invariant_of-self
 invariant_of-self g c =
-    let part = part_taken g.X.Held.content c.self.inside.parts.items c.self.view_is c.requires.within c.index_mut-part.ensures.value in
+    let part = part_taken g.X.Held.content c.self.inside.parts.items (ap (λ s. s.contents) c.self.view_is) c.requires.within c.index_mut-part.ensures.value in
     c.set.ensures ∙ flags_edited g.T.Key.Ord.cmp part c.self.inside.filled c.insert_and_retain.new.self _ c.self.invariant (not_not _ _ c.is_empty-holds.ensures)
 
 pub invariant_of-self-in-Err : goal.invariant_of-self-in-Err
 invariant_of-self-in-Err g c =
-    let part = part_taken g.X.Held.content c.self.inside.parts.items c.self.view_is c.requires.within c.index_mut-part.ensures.value in
+    let part = part_taken g.X.Held.content c.self.inside.parts.items (ap (λ s. s.contents) c.self.view_is) c.requires.within c.index_mut-part.ensures.value in
     flags_stay g.T.Key.Ord.cmp part c.self.inside.filled c.insert_and_retain.new.self c.self.invariant (ap is_filled c.in-Err.ensures.refused)
 
 pub returns-in-Ok-clause-accepted : goal.returns-in-Ok-clause-accepted
@@ -23,7 +23,7 @@ returns-in-Ok-clause-accepted g c =
     let xs = c.self.inside.parts.items in
     let n = c.args.slot.0 in
     let k = c.args.slot.1 in
-    let part = part_taken g.X.Held.content c.self.inside.parts.items c.self.view_is c.requires.within c.index_mut-part.ensures.value in
+    let part = part_taken g.X.Held.content c.self.inside.parts.items (ap (λ s. s.contents) c.self.view_is) c.requires.within c.index_mut-part.ensures.value in
     let x = c.index_mut-part.result.now in
     let said = c.in-Ok.ensures.accepted in
     let list = list_told cmp part k in
@@ -34,5 +34,25 @@ returns-in-Ok-clause-accepted g c =
 
 pub returns-in-Err-clause-refused : goal.returns-in-Err-clause-refused
 returns-in-Err-clause-refused g c =
-    let part = part_taken g.X.Held.content c.self.inside.parts.items c.self.view_is c.requires.within c.index_mut-part.ensures.value in
-    rw (← c.self.view_is) (part_stays g.T.Key.Ord.cmp part c.insert_and_retain.new.self c.in-Err.ensures.refused)
+    let part = part_taken g.X.Held.content c.self.inside.parts.items (ap (λ s. s.contents) c.self.view_is) c.requires.within c.index_mut-part.ensures.value in
+    rw (← c.self.view_is) (family_stays part g.X.Held.spilled c.insert_and_retain.new.self c.in-Err.ensures.refused c.in-Err.ensures.stands)
+
+pub returns-in-Ok-clause-standing : goal.returns-in-Ok-clause-standing
+returns-in-Ok-clause-standing g c =
+    let part = part_taken g.X.Held.content c.self.inside.parts.items (ap (λ s. s.contents) c.self.view_is) c.requires.within c.index_mut-part.ensures.value in
+    rw (← c.self.view_is) (grows part g.X.Held.spilled g.X.Part.SPILLS c.args.limit c.insert_and_retain.new.self c.in-Ok.ensures.standing)
+
+pub returns-in-Ok-clause-spilled : goal.returns-in-Ok-clause-spilled
+returns-in-Ok-clause-spilled g c =
+    let part = part_taken g.X.Held.content c.self.inside.parts.items (ap (λ s. s.contents) c.self.view_is) c.requires.within c.index_mut-part.ensures.value in
+    rw (← c.self.view_is) (c.has_become-spilled.ensures ∙ (λ i. not (c.is_spilled-was.ensures i) && c.is_spilled.ensures i) ∙ since part g.X.Held.spilled c.insert_and_retain.new.self)
+
+pub returns-in-Ok-clause-listed : goal.returns-in-Ok-clause-listed
+returns-in-Ok-clause-listed g c =
+    let part = part_taken g.X.Held.content c.self.inside.parts.items (ap (λ s. s.contents) c.self.view_is) c.requires.within c.index_mut-part.ensures.value in
+    rw (← c.self.view_is) (listed part g.X.Held.spilled)
+
+pub returns-in-Err-clause-listed : goal.returns-in-Err-clause-listed
+returns-in-Err-clause-listed g c =
+    let part = part_taken g.X.Held.content c.self.inside.parts.items (ap (λ s. s.contents) c.self.view_is) c.requires.within c.index_mut-part.ensures.value in
+    rw (← c.self.view_is) (listed part g.X.Held.spilled)

@@ -1,17 +1,23 @@
 use Rattle.std.proofs.Common.{◌≡◌, ◌+◌, [], length, map, refl, sym, ap, ◌∙◌, arith}
 use Rattle.std.proofs.lemmas.List.{length-map, length-set}
 use Rattle.std.specs.Vec.Iter.{into_iter_items}
-use Rattle.key_index_parts.specs.Family.{with_parts_from}
+use Rattle.key_index_parts.specs.Family.{stands, with_items_from}
+use Rattle.key_index_parts.specs.Standing.{Standing}
 use Rattle.key_index_parts.proofs.InstallLemmas.{put_more, put_none, no_items}
 use Rattle.key_index_parts.proofs.index.partitioned.parts.Parts.install.Goals as goal
 
 pub loop-part-init : goal.loop-part-init
 loop-part-init g c =
     let items = c.into_iter-rest.ensures.rest in
-    let all = ap (λ xs. map g.X.Held.content xs) items ∙ c.others.view_is in
+    let all = ap (λ xs. map g.X.Held.content xs) items ∙ ap (λ s. s.contents) c.others.view_is in
+    let how = ap (λ xs. map (λ x. stands (g.X.Held.content x) (g.X.Held.spilled x)) xs) items ∙ ap (λ s. s.standing) c.others.view_is in
     let size = ap (λ cs. length cs) all in
-    let same = length-map (into_iter_items c.into_iter-rest.result) g.X.Held.content in
-    (refl, omega (arith, c.requires.fits, size, same), ap (λ cs. with_parts_from c.args.self.now c.args.first cs) all)
+    let same = length-map (into_iter_items c.into_iter-rest.result) g.X.Held.content in (
+      refl,
+      omega (arith, c.requires.fits, size, same),
+      ap (λ cs. with_items_from c.args.self.now.contents c.args.first cs) all,
+      ap (λ cs. with_items_from c.args.self.now.standing c.args.first cs) how,
+    )
 
 pub loop-part-smaller : goal.loop-part-smaller
 loop-part-smaller g c = let e = ap (λ l. length l) c.in-Some.ensures.items in omega (arith, e)
@@ -27,22 +33,32 @@ overflow_add-number g c =
 pub loop-part-preserved : goal.loop-part-preserved
 loop-part-preserved g c =
     let f = g.X.Held.content in
-    let parts = c.loop-part.self in
+    let how : g.row.X.Denot → Standing = λ x. stands (g.X.Held.content x) (g.X.Held.spilled x) in
+    let parts = c.loop-part.self.contents in
+    let standing = c.loop-part.self.standing in
     let n = c.loop-part.number in
     let behind = into_iter_items c.next.new.self in
     let e = ap (λ l. length l) c.in-Some.ensures.items in
     let inside = c.loop-part.invariant.1 in
-    let size = ap (λ cs. length cs) c.put.ensures in
+    let size = ap (λ cs. length cs) c.put.ensures.parts in
     let same = length-set parts n (f c.in-Some.part) in
     let was = c.loop-part.invariant.0 in (
       omega (arith, size, same, was),
       omega (arith, size, same, e, inside),
-      ap (λ cs. with_parts_from cs (n + 1) (map f behind)) c.put.ensures ∙ put_more parts n (f c.in-Some.part) (map f behind) (omega (arith, e, inside))
-          ∙ ap (λ xs. with_parts_from parts n (map f xs)) (sym c.in-Some.ensures.items) ∙ c.loop-part.invariant.2,
+      ap (λ cs. with_items_from cs (n + 1) (map f behind)) c.put.ensures.parts ∙ put_more parts n (f c.in-Some.part) (map f behind) (omega (arith, e, inside))
+          ∙ ap (λ xs. with_items_from parts n (map f xs)) (sym c.in-Some.ensures.items) ∙ c.loop-part.invariant.2,
+      ap (λ cs. with_items_from cs (n + 1) (map how behind)) c.put.ensures.standing ∙ put_more standing n (how c.in-Some.part) (map how behind) c.put.ensures.listed
+          ∙ ap (λ xs. with_items_from standing n (map how xs)) (sym c.in-Some.ensures.items) ∙ c.loop-part.invariant.3,
     )
 
-pub returns : goal.returns
-returns g c =
+pub returns-clause-parts : goal.returns-clause-parts
+returns-clause-parts g c =
     let f = g.X.Held.content in
     let none : into_iter_items c.loop-part.rest ≡ [] = no_items (into_iter_items c.loop-part.rest) (sym c.loop-part.rest.rest.ok.0 ∙ c.in_default.ensures.cases.0) in
-    sym (put_none c.loop-part.self c.loop-part.number) ∙ ap (λ xs. with_parts_from c.loop-part.self c.loop-part.number (map f xs)) (sym none) ∙ c.loop-part.invariant.2
+    sym (put_none c.loop-part.self.contents c.loop-part.number) ∙ ap (λ xs. with_items_from c.loop-part.self.contents c.loop-part.number (map f xs)) (sym none) ∙ c.loop-part.invariant.2
+
+pub returns-clause-standing : goal.returns-clause-standing
+returns-clause-standing g c =
+    let how : g.row.X.Denot → Standing = λ x. stands (g.X.Held.content x) (g.X.Held.spilled x) in
+    let none : into_iter_items c.loop-part.rest ≡ [] = no_items (into_iter_items c.loop-part.rest) (sym c.loop-part.rest.rest.ok.0 ∙ c.in_default.ensures.cases.0) in
+    sym (put_none c.loop-part.self.standing c.loop-part.number) ∙ ap (λ xs. with_items_from c.loop-part.self.standing c.loop-part.number (map how xs)) (sym none) ∙ c.loop-part.invariant.3

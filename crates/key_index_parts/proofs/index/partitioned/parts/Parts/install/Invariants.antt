@@ -1,12 +1,15 @@
 use Rattle.std.proofs.Common.{◌≡◌, ◌+◌, ◌≤◌, length, map}
 use Rattle.std.specs.Vec.Iter.{into_iter_items}
-use Rattle.key_index_parts.specs.Family.{with_parts_from}
+use Rattle.key_index_parts.specs.Family.{stands, with_items_from}
 use Rattle.key_index_parts.proofs.index.partitioned.parts.Parts.install.Given as goal
 
 abbrev pub invariant-loop-part : goal.invariant-loop-part
 invariant-loop-part g l =
-    (length l.self ≡ length l.fn.self) × (l.number + length (into_iter_items l.rest) ≤ length l.self)
-    × (with_parts_from l.self l.number (map g.X.Held.content (into_iter_items l.rest)) ≡ with_parts_from l.fn.self l.fn.first l.fn.others)
+    (length l.self.contents ≡ length l.fn.self.contents) × (l.number + length (into_iter_items l.rest) ≤ length l.self.contents)
+    × (with_items_from l.self.contents l.number (map g.X.Held.content (into_iter_items l.rest))
+    ≡ with_items_from l.fn.self.contents l.fn.first l.fn.others.contents)
+    × (with_items_from l.self.standing l.number (map (λ x. stands (g.X.Held.content x) (g.X.Held.spilled x)) (into_iter_items l.rest))
+    ≡ with_items_from l.fn.self.standing l.fn.first l.fn.others.standing)
 
 abbrev pub decreases-loop-part : goal.decreases-loop-part
 decreases-loop-part g l = length (into_iter_items l.rest)

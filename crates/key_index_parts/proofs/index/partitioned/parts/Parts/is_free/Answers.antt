@@ -7,13 +7,13 @@ use Rattle.key_index_parts.proofs.index.partitioned.parts.Parts.is_free.Goals as
 
 pub returns-in-Some : goal.returns-in-Some
 returns-in-Some g c =
-    let parts = c.args.self.now in
-    let flags = c.self.invariant ∙ ap (λ cs. filled_parts cs) c.self.view_is in
+    let parts = c.args.self.now.contents in
+    let flags = c.self.invariant ∙ ap (λ s. filled_parts s.contents) c.self.view_is in
     let first = subst (λ fs. IsFirst (flag_at fs) c.args.first c.in-Some.number) flags c.in-Some.ensures in
     (λ far. free_far parts c.args.first c.args.count c.in-Some.number first (leb-true _ _ far), λ free. le-leb _ _ (free_near parts c.args.first c.args.count c.in-Some.number first free))
 
 pub returns-in-None : goal.returns-in-None
 returns-in-None g c =
-    let flags = c.self.invariant ∙ ap (λ cs. filled_parts cs) c.self.view_is in
+    let flags = c.self.invariant ∙ ap (λ s. filled_parts s.contents) c.self.view_is in
     let none = subst (λ fs. IsFirstFrom (flag_at fs) c.args.first None) flags c.in-None.ensures in
-    (λ _. free_none c.args.self.now c.args.first c.args.count none, λ _. refl)
+    (λ _. free_none c.args.self.now.contents c.args.first c.args.count none, λ _. refl)

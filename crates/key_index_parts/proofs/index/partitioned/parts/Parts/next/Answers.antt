@@ -10,37 +10,37 @@ returns-in-Some g c =
     let cmp = g.T.Key.Ord.cmp in
     let f = g.X.Held.content in
     let n = c.args.slot.0 in
-    let part = part_taken g.X.Held.content c.self.inside.parts.items c.self.view_is c.requires c.index.ensures in
-    let told : f c.index.result.now ≡ part_at c.args.self.now n = part_told cmp part ∙ ap (λ p. part_at p n) c.self.view_is in
+    let part = part_taken g.X.Held.content c.self.inside.parts.items (ap (λ s. s.contents) c.self.view_is) c.requires c.index.ensures in
+    let told : f c.index.result.now ≡ part_at c.args.self.now.contents n = part_told cmp part ∙ ap (λ s. part_at s.contents n) c.self.view_is in
     let own = ap (λ d. first_list (entries_above cmp d c.args.slot.1)) (sym told) in
-    sym (next_own cmp c.args.self.now c.args.slot _ (own ∙ sym c.in-Some.ensures))
+    sym (next_own cmp c.args.self.now.contents c.args.slot _ (own ∙ sym c.in-Some.ensures))
 
 pub returns-in-Some-first_from : goal.returns-in-Some-first_from
 returns-in-Some-first_from g c =
     let cmp = g.T.Key.Ord.cmp in
     let f = g.X.Held.content in
     let n = c.args.slot.0 in
-    let part = part_taken g.X.Held.content c.self.inside.parts.items c.self.view_is c.requires c.index.ensures in
-    let told : f c.index.result.now ≡ part_at c.args.self.now n = part_told cmp part ∙ ap (λ p. part_at p n) c.self.view_is in
+    let part = part_taken g.X.Held.content c.self.inside.parts.items (ap (λ s. s.contents) c.self.view_is) c.requires c.index.ensures in
+    let told : f c.index.result.now ≡ part_at c.args.self.now.contents n = part_told cmp part ∙ ap (λ s. part_at s.contents n) c.self.view_is in
     let own = ap (λ d. first_list (entries_above cmp d c.args.slot.1)) (sym told) in
-    sym (next_later cmp c.args.self.now c.args.slot _ (own ∙ sym c.in-None.ensures) (sym c.in-Some-first_from.ensures))
+    sym (next_later cmp c.args.self.now.contents c.args.slot _ (own ∙ sym c.in-None.ensures) (sym c.in-Some-first_from.ensures))
 
 pub returns-in-Some-first : goal.returns-in-Some-first
 returns-in-Some-first g c =
     let cmp = g.T.Key.Ord.cmp in
     let f = g.X.Held.content in
     let n = c.args.slot.0 in
-    let part = part_taken g.X.Held.content c.self.inside.parts.items c.self.view_is c.requires c.index.ensures in
-    let told : f c.index.result.now ≡ part_at c.args.self.now n = part_told cmp part ∙ ap (λ p. part_at p n) c.self.view_is in
+    let part = part_taken g.X.Held.content c.self.inside.parts.items (ap (λ s. s.contents) c.self.view_is) c.requires c.index.ensures in
+    let told : f c.index.result.now ≡ part_at c.args.self.now.contents n = part_told cmp part ∙ ap (λ s. part_at s.contents n) c.self.view_is in
     let own = ap (λ d. first_list (entries_above cmp d c.args.slot.1)) (sym told) in
-    sym (next_cycled cmp c.args.self.now c.args.slot _ (own ∙ sym c.in-None.ensures) (sym c.in-None-first_from.ensures) (sym c.in-Some-first.ensures))
+    sym (next_cycled cmp c.args.self.now.contents c.args.slot _ (own ∙ sym c.in-None.ensures) (sym c.in-None-first_from.ensures) (sym c.in-Some-first.ensures))
 
 pub returns-in-None-first : goal.returns-in-None-first
 returns-in-None-first g c =
     let cmp = g.T.Key.Ord.cmp in
     let f = g.X.Held.content in
     let n = c.args.slot.0 in
-    let part = part_taken g.X.Held.content c.self.inside.parts.items c.self.view_is c.requires c.index.ensures in
-    let told : f c.index.result.now ≡ part_at c.args.self.now n = part_told cmp part ∙ ap (λ p. part_at p n) c.self.view_is in
+    let part = part_taken g.X.Held.content c.self.inside.parts.items (ap (λ s. s.contents) c.self.view_is) c.requires c.index.ensures in
+    let told : f c.index.result.now ≡ part_at c.args.self.now.contents n = part_told cmp part ∙ ap (λ s. part_at s.contents n) c.self.view_is in
     let own = ap (λ d. first_list (entries_above cmp d c.args.slot.1)) (sym told) in
-    sym (next_cycled cmp c.args.self.now c.args.slot _ (own ∙ sym c.in-None.ensures) (sym c.in-None-first_from.ensures) (sym c.in-None-first.ensures))
+    sym (next_cycled cmp c.args.self.now.contents c.args.slot _ (own ∙ sym c.in-None.ensures) (sym c.in-None-first_from.ensures) (sym c.in-None-first.ensures))

@@ -10,37 +10,37 @@ returns-in-Some g c =
     let cmp = g.T.Key.Ord.cmp in
     let f = g.X.Held.content in
     let n = c.args.slot.0 in
-    let part = part_taken g.X.Held.content c.self.inside.parts.items c.self.view_is c.requires c.index.ensures in
-    let told : f c.index.result.now ≡ part_at c.args.self.now n = part_told cmp part ∙ ap (λ p. part_at p n) c.self.view_is in
+    let part = part_taken g.X.Held.content c.self.inside.parts.items (ap (λ s. s.contents) c.self.view_is) c.requires c.index.ensures in
+    let told : f c.index.result.now ≡ part_at c.args.self.now.contents n = part_told cmp part ∙ ap (λ s. part_at s.contents n) c.self.view_is in
     let own = ap (λ d. last_list (entries_below cmp d c.args.slot.1)) (sym told) in
-    sym (prev_own cmp c.args.self.now c.args.slot _ (own ∙ sym c.in-Some.ensures))
+    sym (prev_own cmp c.args.self.now.contents c.args.slot _ (own ∙ sym c.in-Some.ensures))
 
 pub returns-in-Some-last_below : goal.returns-in-Some-last_below
 returns-in-Some-last_below g c =
     let cmp = g.T.Key.Ord.cmp in
     let f = g.X.Held.content in
     let n = c.args.slot.0 in
-    let part = part_taken g.X.Held.content c.self.inside.parts.items c.self.view_is c.requires c.index.ensures in
-    let told : f c.index.result.now ≡ part_at c.args.self.now n = part_told cmp part ∙ ap (λ p. part_at p n) c.self.view_is in
+    let part = part_taken g.X.Held.content c.self.inside.parts.items (ap (λ s. s.contents) c.self.view_is) c.requires c.index.ensures in
+    let told : f c.index.result.now ≡ part_at c.args.self.now.contents n = part_told cmp part ∙ ap (λ s. part_at s.contents n) c.self.view_is in
     let own = ap (λ d. last_list (entries_below cmp d c.args.slot.1)) (sym told) in
-    sym (prev_earlier cmp c.args.self.now c.args.slot _ (own ∙ sym c.in-None.ensures) (sym c.in-Some-last_below.ensures))
+    sym (prev_earlier cmp c.args.self.now.contents c.args.slot _ (own ∙ sym c.in-None.ensures) (sym c.in-Some-last_below.ensures))
 
 pub returns-in-Some-last : goal.returns-in-Some-last
 returns-in-Some-last g c =
     let cmp = g.T.Key.Ord.cmp in
     let f = g.X.Held.content in
     let n = c.args.slot.0 in
-    let part = part_taken g.X.Held.content c.self.inside.parts.items c.self.view_is c.requires c.index.ensures in
-    let told : f c.index.result.now ≡ part_at c.args.self.now n = part_told cmp part ∙ ap (λ p. part_at p n) c.self.view_is in
+    let part = part_taken g.X.Held.content c.self.inside.parts.items (ap (λ s. s.contents) c.self.view_is) c.requires c.index.ensures in
+    let told : f c.index.result.now ≡ part_at c.args.self.now.contents n = part_told cmp part ∙ ap (λ s. part_at s.contents n) c.self.view_is in
     let own = ap (λ d. last_list (entries_below cmp d c.args.slot.1)) (sym told) in
-    sym (prev_cycled cmp c.args.self.now c.args.slot _ (own ∙ sym c.in-None.ensures) (sym c.in-None-last_below.ensures) (sym c.in-Some-last.ensures))
+    sym (prev_cycled cmp c.args.self.now.contents c.args.slot _ (own ∙ sym c.in-None.ensures) (sym c.in-None-last_below.ensures) (sym c.in-Some-last.ensures))
 
 pub returns-in-None-last : goal.returns-in-None-last
 returns-in-None-last g c =
     let cmp = g.T.Key.Ord.cmp in
     let f = g.X.Held.content in
     let n = c.args.slot.0 in
-    let part = part_taken g.X.Held.content c.self.inside.parts.items c.self.view_is c.requires c.index.ensures in
-    let told : f c.index.result.now ≡ part_at c.args.self.now n = part_told cmp part ∙ ap (λ p. part_at p n) c.self.view_is in
+    let part = part_taken g.X.Held.content c.self.inside.parts.items (ap (λ s. s.contents) c.self.view_is) c.requires c.index.ensures in
+    let told : f c.index.result.now ≡ part_at c.args.self.now.contents n = part_told cmp part ∙ ap (λ s. part_at s.contents n) c.self.view_is in
     let own = ap (λ d. last_list (entries_below cmp d c.args.slot.1)) (sym told) in
-    sym (prev_cycled cmp c.args.self.now c.args.slot _ (own ∙ sym c.in-None.ensures) (sym c.in-None-last_below.ensures) (sym c.in-None-last.ensures))
+    sym (prev_cycled cmp c.args.self.now.contents c.args.slot _ (own ∙ sym c.in-None.ensures) (sym c.in-None-last_below.ensures) (sym c.in-None-last.ensures))

@@ -10,4 +10,4 @@ returns-then-slot-self g c =
 pub returns : goal.returns
 returns g c =
     let range = c.args.self.now in
-    c.run_len.ensures ∙ ap (λ l. length l) (read_from g.T.Key.Ord.cmp range.offset range.storage.parts c.own.result c.args.slot c.own.ensures)
+    c.run_len.ensures ∙ ap (λ l. length l) (read_from g.T.Key.Ord.cmp range.offset range.storage.parts c.own.result c.args.slot c.own.ensures.slot)

@@ -8,9 +8,9 @@ own-requires g c = (search rules, held_from g.T.Key.Ord.cmp c.args.self.now.offs
 pub value_at-requires : goal.value_at-requires
 value_at-requires g c =
     let range = c.args.self.now in
-    (search rules, subst (λ l. c.args.place < length l) (sym (read_from g.T.Key.Ord.cmp range.offset range.storage.parts c.own.result c.args.slot c.own.ensures)) c.requires)
+    (search rules, subst (λ l. c.args.place < length l) (sym (read_from g.T.Key.Ord.cmp range.offset range.storage.parts c.own.result c.args.slot c.own.ensures.slot)) c.requires)
 
 pub returns : goal.returns
 returns g c =
     let range = c.args.self.now in
-    subst (λ l. slice_get l c.args.place ≡ Some c.value_at.result.now) (read_from g.T.Key.Ord.cmp range.offset range.storage.parts c.own.result c.args.slot c.own.ensures) c.value_at.ensures
+    subst (λ l. slice_get l c.args.place ≡ Some c.value_at.result.now) (read_from g.T.Key.Ord.cmp range.offset range.storage.parts c.own.result c.args.slot c.own.ensures.slot) c.value_at.ensures

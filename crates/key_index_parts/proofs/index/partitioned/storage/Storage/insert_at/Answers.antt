@@ -1,4 +1,4 @@
-use Rattle.std.proofs.Common.{rules, ◌<◌, ◌≤◌, ◌^◌, length, insert, refl, subst, sym, arith}
+use Rattle.std.proofs.Common.{rules, ◌<◌, ◌≤◌, ◌^◌, length, insert, refl, subst, sym, ap, arith}
 use Rattle.std.proofs.lemmas.List.Edits.{length-insert}
 use Rattle.key_index_parts.specs.Family.{held_at, list_in}
 use Rattle.key_index_parts.proofs.StorageLemmas.{list_is, within, keys_below, counted_gain, keeps, keeps_all, view_edited}
@@ -17,19 +17,19 @@ gain-requires g c =
 
 pub invariant_of-self : goal.invariant_of-self
 invariant_of-self g c =
-    let list = list_in g.T.Key.Ord.cmp c.self.inside.parts c.args.slot in
+    let list = list_in g.T.Key.Ord.cmp c.self.inside.parts.contents c.args.slot in
     let inside = within c.self.view_is c.args.slot.0 c.requires.admits in
     let seen = subst (λ s. c.args.place ≤ length (held_at g.T.Key.Ord.cmp s.parts c.args.slot)) (sym c.self.view_is) c.requires.place in
     let more = length-insert list c.args.place c.args.value (subst (λ l. c.args.place ≤ length l) (list_is c.self.invariant c.args.slot) seen) in
     let told = c.in-Ok.ensures.accepted in
-    counted_gain c.self.invariant g.met.T.Key.Ord.total g.met.T.Translator.exact c.args.slot (insert list c.args.place c.args.value) c.insert_at.new.self inside told.0 _ _ c.in-Ok.absent told.1
+    counted_gain c.self.invariant g.met.T.Key.Ord.total g.met.T.Translator.exact c.args.slot (insert list c.args.place c.args.value) c.insert_at.new.self.contents inside told.0 _ _ c.in-Ok.absent told.1
     (omega (arith, more)) c.gain.ensures.items c.gain.ensures.keys
 
 pub returns-in-Ok-clause-accepted : goal.returns-in-Ok-clause-accepted
 returns-in-Ok-clause-accepted g c =
     let inside = within c.self.view_is c.args.slot.0 c.requires.admits in
     rw (← c.self.view_is) (
-    view_edited c.self.invariant g.met.T.Key.Ord.total g.met.T.Translator.exact c.args.slot _ c.insert_at.new.self inside c.in-Ok.ensures.accepted.0 g.T.Translator.translated c.self.inside.translator _ _ (λ l. insert l c.args.place c.args.value) refl c.gain.ensures.pruned
+    view_edited c.self.invariant g.met.T.Key.Ord.total g.met.T.Translator.exact c.args.slot _ c.insert_at.new.self.contents inside c.in-Ok.ensures.accepted.0 g.T.Translator.translated c.self.inside.translator _ _ (λ l. insert l c.args.place c.args.value) refl c.gain.ensures.pruned
     )
 
 pub returns-then-self-clause-kept : goal.returns-then-self-clause-kept
@@ -38,7 +38,7 @@ returns-then-self-clause-kept g c = rw (← c.self.view_is) (keeps_all c.self.in
 pub returns-in-Ok-clause-kept : goal.returns-in-Ok-clause-kept
 returns-in-Ok-clause-kept g c =
     let inside = within c.self.view_is c.args.slot.0 c.requires.admits in
-    rw (← c.self.view_is) (keeps c.self.invariant g.met.T.Key.Ord.total g.met.T.Translator.exact c.args.slot _ c.insert_at.new.self inside c.in-Ok.ensures.accepted.0)
+    rw (← c.self.view_is) (keeps c.self.invariant g.met.T.Key.Ord.total g.met.T.Translator.exact c.args.slot _ c.insert_at.new.self.contents inside c.in-Ok.ensures.accepted.0)
 
 pub returns-in-Err-clause-kept : goal.returns-in-Err-clause-kept
-returns-in-Err-clause-kept g c = rw (← c.self.view_is) (keeps_all c.self.invariant _ c.in-Err.ensures.refused)
+returns-in-Err-clause-kept g c = rw (← c.self.view_is) (keeps_all c.self.invariant _ (ap (λ s. s.contents) c.in-Err.ensures.refused))

@@ -23,7 +23,7 @@ invariant_of-self g c =
     let start = c.args.first in
     let fits = put.fits_inside cmp start c.self.view_is c.range.view_is c.requires.fits in
     let free = put.free_inside cmp start c.self.view_is c.range.view_is c.requires.free in
-    put.counted g.met.T.Key.Ord.total g.met.T.Translator.exact c.self.invariant c.range.invariant start fits free c.install.new.self c.install.ensures _ _ c.join.ensures.items c.join.ensures.keys
+    put.counted g.met.T.Key.Ord.total g.met.T.Translator.exact c.self.invariant c.range.invariant start fits free c.install.new.self.contents c.install.ensures.parts _ _ c.join.ensures.items c.join.ensures.keys
 
 pub returns-clause-joined : goal.returns-clause-joined
 returns-clause-joined g c =
@@ -32,7 +32,7 @@ returns-clause-joined g c =
     let fits = put.fits_inside cmp start c.self.view_is c.range.view_is c.requires.fits in
     let free = put.free_inside cmp start c.self.view_is c.range.view_is c.requires.free in
     rw (← c.self.view_is) (rw (← c.range.view_is) (
-    put.seen_joined g.met.T.Key.Ord.total g.met.T.Translator.exact c.self.invariant c.range.invariant start fits free c.install.new.self c.install.ensures g.T.Translator.translated c.self.inside.translator c.range.inside.translator _ _ _ c.join.ensures.pruned
+    put.seen_joined g.met.T.Key.Ord.total g.met.T.Translator.exact c.self.invariant c.range.invariant start fits free c.install.new.self.contents c.install.ensures.parts g.T.Translator.translated c.self.inside.translator c.range.inside.translator _ _ _ c.join.ensures.pruned
     ))
 
 pub returns-clause-kept : goal.returns-clause-kept
@@ -41,4 +41,4 @@ returns-clause-kept g c =
     let start = c.args.first in
     let fits = put.fits_inside cmp start c.self.view_is c.range.view_is c.requires.fits in
     let free = put.free_inside cmp start c.self.view_is c.range.view_is c.requires.free in
-    rw (← c.self.view_is) (put.keeps g.met.T.Key.Ord.total g.met.T.Translator.exact c.self.invariant c.range.invariant start fits free c.install.new.self c.install.ensures)
+    rw (← c.self.view_is) (put.keeps g.met.T.Key.Ord.total g.met.T.Translator.exact c.self.invariant c.range.invariant start fits free c.install.new.self.contents c.install.ensures.parts)

@@ -8,8 +8,8 @@ use Rattle.key_index_parts.proofs.index.partitioned.storage.Storage.new.Goals as
 pub new-requires : goal.new-requires
 new-requires g c = let most = at_most_three g.row.P c.requires.greatest in omega (arith, most, c.requires.count)
 
-pub invariant_of-result : goal.invariant_of-result
-invariant_of-result g c = none_counted g.T.Key.Ord.cmp g.row.P _ _ c.requires.least c.requires.greatest c.in-Ok.ensures.parts c.requires.count
+pub invariant_of-result-in-Ok : goal.invariant_of-result-in-Ok
+invariant_of-result-in-Ok g c = none_counted g.T.Key.Ord.cmp g.row.P _ _ c.requires.least c.requires.greatest c.in-Ok.ensures.parts c.requires.count
 
 pub returns-in-Ok-clause-sized : goal.returns-in-Ok-clause-sized
 returns-in-Ok-clause-sized g c = ap (λ cs. length cs) c.in-Ok.ensures.parts ∙ length-replicate c.args.count []

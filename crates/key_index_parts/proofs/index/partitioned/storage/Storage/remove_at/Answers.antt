@@ -18,22 +18,22 @@ overflow_add-had g c =
 pub change-requires : goal.change-requires
 change-requires g c =
     let seen = subst (λ s. c.args.place < length (held_at g.T.Key.Ord.cmp s.parts c.args.slot)) (sym c.self.view_is) c.requires in
-    let list = list_in g.T.Key.Ord.cmp c.self.inside.parts c.args.slot in
+    let list = list_in g.T.Key.Ord.cmp c.self.inside.parts.contents c.args.slot in
     let place : c.args.place < length list = subst (λ m. c.args.place < length m) (list_is c.self.invariant c.args.slot) seen in
     let less = length-remove list c.args.place place in
     let left = c.remove_at-value.ensures.left in
     let small : c.self.inside.counts.items < 2 ^ 64 = search rules in
-    can_change c.self.invariant g.met.T.Key.Ord.total g.met.T.Translator.exact c.args.slot (remove list c.args.place) c.remove_at-value.new.self (held_inside c.self.invariant c.args.slot c.args.place seen)
+    can_change c.self.invariant g.met.T.Key.Ord.total g.met.T.Translator.exact c.args.slot (remove list c.args.place) c.remove_at-value.new.self.contents (held_inside c.self.invariant c.args.slot c.args.place seen)
     c.remove_at-value.ensures.parts _ _ left (omega (arith, less, left)) (omega (arith, small))
 
 pub invariant_of-self : goal.invariant_of-self
 invariant_of-self g c =
     let seen = subst (λ s. c.args.place < length (held_at g.T.Key.Ord.cmp s.parts c.args.slot)) (sym c.self.view_is) c.requires in
-    let list = list_in g.T.Key.Ord.cmp c.self.inside.parts c.args.slot in
+    let list = list_in g.T.Key.Ord.cmp c.self.inside.parts.contents c.args.slot in
     let place : c.args.place < length list = subst (λ m. c.args.place < length m) (list_is c.self.invariant c.args.slot) seen in
     let less = length-remove list c.args.place place in
     let left = c.remove_at-value.ensures.left in
-    counted_change c.self.invariant g.met.T.Key.Ord.total g.met.T.Translator.exact c.args.slot (remove list c.args.place) c.remove_at-value.new.self (held_inside c.self.invariant c.args.slot c.args.place seen)
+    counted_change c.self.invariant g.met.T.Key.Ord.total g.met.T.Translator.exact c.args.slot (remove list c.args.place) c.remove_at-value.new.self.contents (held_inside c.self.invariant c.args.slot c.args.place seen)
     c.remove_at-value.ensures.parts _ _ left (omega (arith, less, left)) _ _ c.change.ensures.items c.change.ensures.keys
 
 pub returns-clause-value : goal.returns-clause-value
@@ -47,11 +47,11 @@ returns-clause-edited g c =
     let seen = subst (λ s. c.args.place < length (held_at g.T.Key.Ord.cmp s.parts c.args.slot)) (sym c.self.view_is) c.requires in
     let inside = held_inside c.self.invariant c.args.slot c.args.place seen in
     rw (← c.self.view_is) (
-    view_pruned c.self.invariant g.met.T.Key.Ord.total g.met.T.Translator.exact c.args.slot _ c.remove_at-value.new.self inside c.remove_at-value.ensures.parts g.T.Translator.translated c.self.inside.translator _ _ (λ l. remove l c.args.place) refl 1 c.change.ensures.pruned
+    view_pruned c.self.invariant g.met.T.Key.Ord.total g.met.T.Translator.exact c.args.slot _ c.remove_at-value.new.self.contents inside c.remove_at-value.ensures.parts g.T.Translator.translated c.self.inside.translator _ _ (λ l. remove l c.args.place) refl 1 c.change.ensures.pruned
     )
 
 pub returns-clause-kept : goal.returns-clause-kept
 returns-clause-kept g c =
     let seen = subst (λ s. c.args.place < length (held_at g.T.Key.Ord.cmp s.parts c.args.slot)) (sym c.self.view_is) c.requires in
     let inside = held_inside c.self.invariant c.args.slot c.args.place seen in
-    rw (← c.self.view_is) (keeps c.self.invariant g.met.T.Key.Ord.total g.met.T.Translator.exact c.args.slot _ c.remove_at-value.new.self inside c.remove_at-value.ensures.parts)
+    rw (← c.self.view_is) (keeps c.self.invariant g.met.T.Key.Ord.total g.met.T.Translator.exact c.args.slot _ c.remove_at-value.new.self.contents inside c.remove_at-value.ensures.parts)

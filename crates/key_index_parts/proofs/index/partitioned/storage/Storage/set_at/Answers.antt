@@ -14,22 +14,22 @@ pub invariant_of-self : goal.invariant_of-self
 invariant_of-self g c =
     let held = subst (λ s. c.args.place < length (held_at g.T.Key.Ord.cmp s.parts c.args.slot)) (sym c.self.view_is) c.requires in
     let inside = held_inside c.self.invariant c.args.slot c.args.place held in
-    let list = list_in g.T.Key.Ord.cmp c.self.inside.parts c.args.slot in
+    let list = list_in g.T.Key.Ord.cmp c.self.inside.parts.contents c.args.slot in
     let l = slice_set list c.args.place c.args.value in
     let same = length-set list c.args.place c.args.value in
     let entries = as_many_entries l list same in
-    counted_edit c.self.invariant g.met.T.Key.Ord.total g.met.T.Translator.exact c.args.slot l c.set_at.new.self inside c.set_at.ensures _ _ (omega (arith, same)) (omega (arith, entries))
+    counted_edit c.self.invariant g.met.T.Key.Ord.total g.met.T.Translator.exact c.args.slot l c.set_at.new.self.contents inside c.set_at.ensures.parts _ _ (omega (arith, same)) (omega (arith, entries))
 
 pub returns-clause-edited : goal.returns-clause-edited
 returns-clause-edited g c =
     let held = subst (λ s. c.args.place < length (held_at g.T.Key.Ord.cmp s.parts c.args.slot)) (sym c.self.view_is) c.requires in
     let inside = held_inside c.self.invariant c.args.slot c.args.place held in
     rw (← c.self.view_is) (
-    view_edited c.self.invariant g.met.T.Key.Ord.total g.met.T.Translator.exact c.args.slot _ c.set_at.new.self inside c.set_at.ensures g.T.Translator.translated c.self.inside.translator _ _ (λ l. slice_set l c.args.place c.args.value) refl refl
+    view_edited c.self.invariant g.met.T.Key.Ord.total g.met.T.Translator.exact c.args.slot _ c.set_at.new.self.contents inside c.set_at.ensures.parts g.T.Translator.translated c.self.inside.translator _ _ (λ l. slice_set l c.args.place c.args.value) refl refl
     )
 
 pub returns-clause-kept : goal.returns-clause-kept
 returns-clause-kept g c =
     let held = subst (λ s. c.args.place < length (held_at g.T.Key.Ord.cmp s.parts c.args.slot)) (sym c.self.view_is) c.requires in
     let inside = held_inside c.self.invariant c.args.slot c.args.place held in
-    rw (← c.self.view_is) (keeps c.self.invariant g.met.T.Key.Ord.total g.met.T.Translator.exact c.args.slot _ c.set_at.new.self inside c.set_at.ensures)
+    rw (← c.self.view_is) (keeps c.self.invariant g.met.T.Key.Ord.total g.met.T.Translator.exact c.args.slot _ c.set_at.new.self.contents inside c.set_at.ensures.parts)

@@ -12,5 +12,5 @@ overflow_add-run g c =
 pub set-requires : goal.set-requires
 set-requires g c = place_within g.met.T.Key.Ord.total g.met.T.Translator.exact c.run_range-run.ensures c.args.place c.requires
 
-pub returns : goal.returns
-returns g c = ap (grouped g.T.Key.Ord.cmp) c.set.ensures.pairs ∙ set_in g.met.T.Key.Ord.total g.met.T.Translator.exact c.run_range-run.ensures c.args.place c.args.value c.requires
+pub returns-clause-content : goal.returns-clause-content
+returns-clause-content g c = ap (grouped g.T.Key.Ord.cmp) c.set.ensures.pairs ∙ set_in g.met.T.Key.Ord.total g.met.T.Translator.exact c.run_range-run.ensures c.args.place c.args.value c.requires

@@ -1,0 +1,4 @@
+pub mod Ops
+pub mod Fill
+pub mod Ranges
+pub mod Accepted

@@ -1,0 +1,9 @@
+//! Builds of an index in ranges of its partitions, by ops.
+#![tactic(auto)]
+
+mod build;
+mod fill;
+mod op;
+
+pub use build::build_in_ranges;
+pub use op::Op;

@@ -1,0 +1,13 @@
+use Rattle.std.proofs.Common.{rules, [], ◌∷◌}
+use Rattle.key_index_parts.proofs.TreeLemmas.{put_first, lawful_after}
+use Rattle.key_index_parts.proofs.index.partitioned.ordered.tree.Tree.insert_first.Goals as goal
+
+pub invariant_of-self : goal.invariant_of-self
+invariant_of-self g c =
+    let o = g.met.T.Key.Ord.total in
+    let es = c.args.self.now.lists.entries in
+    record { lawful = lawful_after o c.args.key es c.args.self.now.lawful _ (c.args.value ∷ []) (put_first o c.args.key es _ c.in_ok-values.values c.args.value (search rules) c.in_ok-values.ensures.list) }
+
+pub returns-in-Ok-clause-accepted : goal.returns-in-Ok-clause-accepted
+returns-in-Ok-clause-accepted g c =
+    put_first g.met.T.Key.Ord.total c.args.key c.args.self.now.lists.entries _ c.in_ok-values.values c.args.value (search rules) c.in_ok-values.ensures.list

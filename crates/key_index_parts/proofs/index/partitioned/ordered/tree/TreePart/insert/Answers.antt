@@ -1,0 +1,46 @@
+use Rattle.std.proofs.Common.{◌<◌, false, map, length, refl, ap, ◌∙◌, arith}
+use Rattle.std.specs.BTreeMap.{is_at}
+use Rattle.key_index_flat.specs.View.{put_value}
+use Rattle.key_index_parts.specs.Pairs.{list_of}
+use Rattle.key_index_parts.proofs.TreeLemmas.{first_put, present, absent, held_some, edited, unchanged, lawful_after}
+use Rattle.key_index_parts.proofs.index.partitioned.ordered.tree.TreePart.insert.Goals as goal
+
+pub invariant_of-self : goal.invariant_of-self
+invariant_of-self g c =
+    let o = g.met.T.Key.Ord.total in
+    let es = c.args.self.now.lists.entries in
+    let lawful = c.args.self.now.lawful in
+    let old = c.in-Some.values.now in
+    let held = c.in-Some.ensures.value in
+    let w = c.push.new.self in
+    let some : 0 < length w.items = omega (arith, held_some o c.args.key es lawful old held, c.push.ensures.lower_bound, old.ok.0, w.ok.0) in
+    record { lawful = lawful_after o c.args.key es lawful _ _ (edited o c.args.key es lawful old held w (λ _. w.items) refl _ (c.get_mut.follows.holds w).0 some) }
+
+pub returns-in-Ok-clause-accepted : goal.returns-in-Ok-clause-accepted
+returns-in-Ok-clause-accepted g c =
+    let o = g.met.T.Key.Ord.total in
+    let es = c.args.self.now.lists.entries in
+    let lawful = c.args.self.now.lawful in
+    let old = c.in-Some.values.now in
+    let held = c.in-Some.ensures.value in
+    let w = c.push.new.self in
+    let some : 0 < length w.items = omega (arith, held_some o c.args.key es lawful old held, c.push.ensures.lower_bound, old.ok.0, w.ok.0) in (
+      edited o c.args.key es lawful old held w (put_value false c.args.value) c.in-Ok.ensures.items _ (c.get_mut.follows.holds w).0 some,
+      present g.T.Key.Ord.cmp c.args.key es old lawful.1 held,
+    )
+
+pub returns-in-Err-clause-refused : goal.returns-in-Err-clause-refused
+returns-in-Err-clause-refused g c =
+    let es = c.args.self.now.lists.entries in
+    let w = c.push.new.self in
+    ap (λ l. map list_of l) (c.get_mut.follows.holds w).0 ∙ unchanged (is_at (g.T.Key.Ord.cmp c.args.key)) c.in-Some.values.now es w c.in-Some.ensures.value c.in-Err.ensures.items
+
+pub returns-in_ok-insert_first-in-None-clause-accepted : goal.returns-in_ok-insert_first-in-None-clause-accepted
+returns-in_ok-insert_first-in-None-clause-accepted g c =
+    let cmp = g.T.Key.Ord.cmp in
+    let es = c.args.self.now.lists.entries in
+    let v = c.args.value in
+    let none = c.in-None.ensures.value in (
+      first_put g.met.T.Key.Ord.total c.args.key es c.insert_first.new.self.lists.entries c.get_mut.follows.lender-at-none.entries v (put_value false v) none refl (ap (λ m. m.entries) c.get_mut.follows.holds-at-none) c.in_ok-insert_first-in-None.ensures.accepted,
+      absent cmp c.args.key es none,
+    )

@@ -1,0 +1,108 @@
+use Rattle.std.proofs.Common.{◌≡◌, ◌<◌, ◌+◌, ◌-◌, Bool, true, false, cond, List, [], ◌∷◌, map, length, refl, ap, sym, subst, ◌∙◌, arith}
+use Rattle.std.specs.Fn.{CalledAt}
+use Rattle.std.specs.BTreeMap.{is_at}
+use mir.Val.{bool_byte}
+use Rattle.key_index_flat.specs.Content.{with_list}
+use Rattle.key_index_parts.specs.Family.{RetainsWith}
+use Rattle.key_index_parts.specs.Pairs.{list_of}
+use Rattle.key_index_parts.proofs.TreeLemmas.{held_list, no_list, over_same, held_some, edited, emptied, unchanged, lawful_after, left_held, few_held, retained, retained_alone}
+use Rattle.key_index_parts.proofs.index.partitioned.ordered.tree.TreePart.insert_and_retain.Goals as goal
+use Rattle.key_index_parts.proofs.index.partitioned.ordered.tree.TreePart.insert_and_retain.Goals.{then-left-eq0+in-Some-1, then-left-eq0+in-None-1, else-left-eq0}
+
+as_byte : (b : Bool) → cond b 1 0 ≡ bool_byte b
+as_byte true = refl
+as_byte false = refl
+
+pub invariant_of-self : goal.invariant_of-self
+invariant_of-self g c =
+    let o = g.met.T.Key.Ord.total in
+    let es = c.args.self.now.lists.entries in
+    let lawful = c.args.self.now.lawful in
+    let old = c.in-Some.values.now in
+    let held = c.in-Some.ensures.value in
+    let w = c.push.new.self in
+    let some : 0 < length w.items = omega (arith, held_some o c.args.key es lawful old held, c.push.ensures.lower_bound, old.ok.0, w.ok.0) in
+    record { lawful = lawful_after o c.args.key es lawful _ _ (edited o c.args.key es lawful old held w (λ _. w.items) refl _ (c.get_mut.follows.holds w).0 some) }
+
+pub returns-in-Err-clause-refused : goal.returns-in-Err-clause-refused
+returns-in-Err-clause-refused g c =
+    let es = c.args.self.now.lists.entries in
+    let w = c.push.new.self in
+    ap (λ l. map list_of l) (c.get_mut.follows.holds w).0 ∙ unchanged (is_at (g.T.Key.Ord.cmp c.args.key)) c.in-Some.values.now es w c.in-Some.ensures.value c.in-Err.ensures.items
+
+pub invariant_of-self-then-left-eq0 : goal.invariant_of-self-then-left-eq0
+invariant_of-self-then-left-eq0 g c =
+    let o = g.met.T.Key.Ord.total in
+    let es = c.args.self.now.lists.entries in
+    let lawful = c.args.self.now.lawful in
+    let v = c.retain_in_turn-stays.new.values in
+    let none : length v.items ≡ 0 = omega (arith, c.if-left-eq0.true, c.len-left.ensures, v.ok.0) in
+    record { lawful = lawful_after o c.args.key es lawful _ _ (emptied o c.args.key es lawful c.in-Some.values.now c.in-Some.ensures.value v (λ _. v.items) refl _ _ (c.get_mut.follows.holds v).0 c.remove.ensures.entries none) }
+
+pub invariant_of-self-else-left-eq0 : goal.invariant_of-self-else-left-eq0
+invariant_of-self-else-left-eq0 g c =
+    let o = g.met.T.Key.Ord.total in
+    let es = c.args.self.now.lists.entries in
+    let lawful = c.args.self.now.lawful in
+    let v = c.retain_in_turn-stays.new.values in
+    let some : 0 < length v.items = omega (arith, c.if-left-eq0.false, c.len-left.ensures, v.ok.0) in
+    record { lawful = lawful_after o c.args.key es lawful _ _ (edited o c.args.key es lawful c.in-Some.values.now c.in-Some.ensures.value v (λ _. v.items) refl _ (c.get_mut.follows.holds v).0 some) }
+
+pub overflow_sub-taken : goal.overflow_sub-taken
+overflow_sub-taken g c =
+    let old = c.in-Some.values.now in
+    let v = c.retain_in_turn-stays.new.values in
+    let left = left_held (CalledAt g.F.FnMut) c.args.should_retain old.items c.args.value c.push.new.self.items v.items c.retain_in_turn-stays.result c.in_default.ensures.items c.retain_in_turn-stays.ensures.asked in
+    let few = few_held (CalledAt g.F.FnMut) c.args.should_retain old.items c.args.value c.push.new.self.items v.items c.retain_in_turn-stays.result c.in_default.ensures.items c.retain_in_turn-stays.ensures.asked in
+    let last = as_byte c.retain_in_turn-stays.result in
+    omega (arith, left, few, last, c.from.ensures, c.len-had.ensures, c.len-left.ensures, old.ok.0, v.ok.0)
+
+pub returns-after-left-eq0-clause-accepted : goal.returns-after-left-eq0-clause-accepted
+returns-after-left-eq0-clause-accepted g c =
+    let cmp = g.T.Key.Ord.cmp in
+    let o = g.met.T.Key.Ord.total in
+    let k = c.args.key in
+    let es = c.args.self.now.lists.entries in
+    let lawful = c.args.self.now.lawful in
+    let old = c.in-Some.values.now in
+    let held = c.in-Some.ensures.value in
+    let v = c.retain_in_turn-stays.new.values in
+    let set = (c.get_mut.follows.holds v).0 in
+    let R = CalledAt g.F.FnMut in
+    let behind = c.in_default.ensures.items in
+    let asked = c.retain_in_turn-stays.ensures.asked in
+    let left = left_held R c.args.should_retain old.items c.args.value c.push.new.self.items v.items c.retain_in_turn-stays.result behind asked in
+    let few = few_held R c.args.should_retain old.items c.args.value c.push.new.self.items v.items c.retain_in_turn-stays.result behind asked in
+    let last = as_byte c.retain_in_turn-stays.result in
+    let now : map list_of c.if-left-eq0.self.lists.entries ≡ with_list cmp (map list_of es) k v.items = elim c.if-left-eq0.branch [
+      | then-left-eq0+in-Some-1 w ↦
+          let none : length v.items ≡ 0 = omega (arith, w.if-left-eq0.true, c.len-left.ensures, v.ok.0) in
+          ap (λ p. map list_of p.lists.entries) w.self-is ∙ emptied o k es lawful old held v (λ _. v.items) refl _ _ set w.remove.ensures.entries none
+      | then-left-eq0+in-None-1 w ↦
+          let none : length v.items ≡ 0 = omega (arith, w.if-left-eq0.true, c.len-left.ensures, v.ok.0) in
+          ap (λ p. map list_of p.lists.entries) w.self-is ∙ emptied o k es lawful old held v (λ _. v.items) refl _ _ set w.remove.ensures.entries none
+      | else-left-eq0 w ↦
+          let some : 0 < length v.items = omega (arith, w.if-left-eq0.false, c.len-left.ensures, v.ok.0) in
+          ap (λ p. map list_of p.lists.entries) w.self-is ∙ edited o k es lawful old held v (λ _. v.items) refl _ set some
+    ] in
+    subst (λ (l : List g.row.V.Denot). RetainsWith R c.args.should_retain l c.args.value c.len-had.result c.len-left.result (c.len-had.result + c.from.result - c.len-left.result)
+    (λ m. map list_of c.if-left-eq0.self.lists.entries ≡ with_list cmp (map list_of es) k m)) (sym (held_list cmp k es old (sym held)))
+    (retained R c.args.should_retain old.items c.args.value c.push.new.self.items v.items c.retain_in_turn-stays.result behind asked (λ m. map list_of c.if-left-eq0.self.lists.entries ≡ with_list cmp (map list_of es) k m) _ _ _ now
+    (omega (arith, c.len-had.ensures, old.ok.0)) (omega (arith, c.len-left.ensures, v.ok.0))
+    (omega (arith, left, few, last, c.from.ensures, c.len-had.ensures, c.len-left.ensures, old.ok.0, v.ok.0)))
+
+pub returns-in_ok-stays-in-None-clause-accepted : goal.returns-in_ok-stays-in-None-clause-accepted
+returns-in_ok-stays-in-None-clause-accepted g c =
+    let cmp = g.T.Key.Ord.cmp in
+    let k = c.args.key in
+    let es = c.args.self.now.lists.entries in
+    let v = c.args.value in
+    let R = CalledAt g.F.FnMut in
+    let stays = c.in_ok-stays-in-None.stays in
+    let last = as_byte stays in
+    let Becomes = λ (m : List g.row.V.Denot). map list_of c.insert_first_and_retain.new.self.lists.entries ≡ with_list cmp (map list_of es) k m in
+    subst (λ (l : List g.row.V.Denot). RetainsWith R c.args.should_retain l v 0 c.from-left.result 0 Becomes) (sym (no_list cmp k es (sym c.in-None.ensures.value)))
+    (retained_alone R c.args.should_retain v stays c.in_ok-stays-in-None.ensures.asked.0 _ Becomes c.in_ok-stays-in-None.ensures.asked.1
+    (over_same g.met.T.Key.Ord.total k es c.insert_first_and_retain.new.self.lists.entries c.get_mut.follows.lender-at-none.entries (cond stays (v ∷ []) [])
+    (ap (λ m. m.entries) c.get_mut.follows.holds-at-none) c.in_ok-stays-in-None.ensures.accepted)
+    (c.from-left.ensures ∙ sym last))

@@ -1,0 +1,27 @@
+use Rattle.std.proofs.Common.{[], map, length, ap, sym, ◌∙◌, arith}
+use Rattle.key_index_parts.specs.Pairs.{list_of}
+use Rattle.key_index_parts.proofs.TreeLemmas.{held_list, no_list, take_list, lawful_after}
+use Rattle.key_index_parts.proofs.index.partitioned.ordered.tree.TreePart.remove.Goals as goal
+
+pub invariant_of-self : goal.invariant_of-self
+invariant_of-self g c =
+    let o = g.met.T.Key.Ord.total in
+    let es = c.args.self.now.lists.entries in
+    let lawful = c.args.self.now.lawful in
+    record { lawful = lawful_after o c.args.key es lawful _ [] (ap (λ l. map list_of l) c.remove.ensures.entries ∙ take_list o c.args.key es lawful.0) }
+
+pub returns-in-Some-clause-content : goal.returns-in-Some-clause-content
+returns-in-Some-clause-content g c =
+    ap (λ l. map list_of l) c.remove.ensures.entries ∙ take_list g.met.T.Key.Ord.total c.args.key c.args.self.now.lists.entries c.args.self.now.lawful.0
+
+pub returns-in-Some-clause-taken : goal.returns-in-Some-clause-taken
+returns-in-Some-clause-taken g c =
+    let list = ap (λ l. length l) (held_list g.T.Key.Ord.cmp c.args.key c.args.self.now.lists.entries c.in-Some.values (sym c.in-Some.ensures.value)) in
+    omega (arith, list, c.len.ensures, c.in-Some.values.ok.0)
+
+pub returns-in-None-clause-content : goal.returns-in-None-clause-content
+returns-in-None-clause-content g c =
+    ap (λ l. map list_of l) c.remove.ensures.entries ∙ take_list g.met.T.Key.Ord.total c.args.key c.args.self.now.lists.entries c.args.self.now.lawful.0
+
+pub returns-in-None-clause-taken : goal.returns-in-None-clause-taken
+returns-in-None-clause-taken g c = ap (λ l. length l) (sym (no_list g.T.Key.Ord.cmp c.args.key c.args.self.now.lists.entries (sym c.in-None.ensures.value)))

@@ -1,0 +1,47 @@
+use Rattle.std.proofs.Common.{◌∙◌, refl, arith, ap}
+use Rattle.key_index_flat.specs.View.{put_value}
+use Rattle.key_index_parts.specs.Family.{list_in}
+use Rattle.key_index_flat.specs.Content.{item_count}
+use Rattle.key_index_parts.specs.Gathered.{gathered}
+use Rattle.key_index_parts.proofs.StorageLemmas.{within, keys_below, length-put_value, counted_gain, keeps, keeps_all, view_edited}
+use Rattle.key_index_flat.specs.View.{pruned_after}
+use Rattle.key_index_parts.specs.Counts.{one_if}
+use Rattle.key_index_parts.proofs.StandingLemmas.{grows_to}
+use Rattle.key_index_parts.proofs.index.partitioned.storage.Storage.put.Goals as goal
+
+pub insert-requires : goal.insert-requires
+insert-requires g c = record { within = within c.self.view_is c.args.slot.0 c.requires.within; limit = c.self.inside.least }
+
+pub gain-requires : goal.gain-requires
+gain-requires g c =
+    let few = keys_below c.self.invariant in
+    let full = ap (λ s. item_count (gathered s.parts)) c.self.view_is in
+    let was = c.self.invariant.counted in
+    record { items = omega (arith, full, was, c.requires.room); keys = omega (arith, few, full, was, c.requires.room) }
+
+pub invariant_of-self : goal.invariant_of-self
+invariant_of-self g c =
+    let list = list_in g.T.Key.Ord.cmp c.self.inside.parts.contents c.args.slot in
+    let inside = within c.self.view_is c.args.slot.0 c.requires.within in
+    let told = c.in-Ok.ensures.accepted in
+    counted_gain c.self.invariant g.met.T.Key.Ord.total g.met.T.Translator.exact c.args.slot (put_value g.X.Part.FIRST c.args.value list) c.insert.new.self.contents inside told.0 _ _ c.in-Ok.absent told.1
+    (length-put_value g.X.Part.FIRST c.args.value list) c.gain.ensures.items c.gain.ensures.keys
+
+pub returns-in-Ok-clause-accepted : goal.returns-in-Ok-clause-accepted
+returns-in-Ok-clause-accepted g c =
+    let inside = within c.self.view_is c.args.slot.0 c.requires.within in
+    rw (← c.self.view_is) (
+    view_edited c.self.invariant g.met.T.Key.Ord.total g.met.T.Translator.exact c.args.slot _ c.insert.new.self.contents inside c.in-Ok.ensures.accepted.0 g.T.Translator.translated c.self.inside.translator _ _ (put_value g.X.Part.FIRST c.args.value) refl c.gain.ensures.pruned
+    )
+
+pub returns-in-Ok-clause-kept : goal.returns-in-Ok-clause-kept
+returns-in-Ok-clause-kept g c =
+    let inside = within c.self.view_is c.args.slot.0 c.requires.within in
+    rw (← c.self.view_is) (keeps c.self.invariant g.met.T.Key.Ord.total g.met.T.Translator.exact c.args.slot _ c.insert.new.self.contents inside c.in-Ok.ensures.accepted.0)
+
+pub returns-in-Err-clause-kept : goal.returns-in-Err-clause-kept
+returns-in-Err-clause-kept g c = rw (← c.self.view_is) (keeps_all c.self.invariant _ (ap (λ s. s.contents) c.in-Err.ensures.refused))
+
+pub returns-in-Ok-clause-standing : goal.returns-in-Ok-clause-standing
+returns-in-Ok-clause-standing g c =
+    rw (← c.self.view_is) (grows_to g.X.Part.SPILLS (record { threshold = c.self.inside.threshold; parts = c.self.inside.parts.standing; spills = c.self.inside.spills }) _ c.args.slot.0 c.in-Ok.ensures.listed c.self.inside.least refl c.in-Ok.ensures.standing (c.count_if-self-inside.ensures ∙ ap (λ b. pruned_after c.self.inside.spills (one_if b)) c.in-Ok.ensures.spilled))

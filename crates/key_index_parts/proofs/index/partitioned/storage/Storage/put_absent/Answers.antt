@@ -1,0 +1,63 @@
+use Rattle.std.proofs.Common.{◌≡◌, [], ◌∷◌, length, not, true, refl, ap, sym, ◌∙◌, arith}
+use Rattle.key_index_flat.specs.Content.{is_filled}
+use Rattle.key_index_parts.specs.Family.{list_in}
+use Rattle.key_index_parts.proofs.InstallLemmas.{no_items}
+use Rattle.key_index_flat.specs.Content.{item_count}
+use Rattle.key_index_parts.specs.Gathered.{gathered}
+use Rattle.key_index_parts.proofs.StorageLemmas.{list_is, within, keys_below, counted_gain, keeps, keeps_all, view_edited}
+use Rattle.key_index_flat.specs.View.{pruned_after}
+use Rattle.key_index_parts.specs.Counts.{one_if}
+use Rattle.key_index_parts.proofs.StandingLemmas.{grows_to}
+use Rattle.key_index_parts.proofs.index.partitioned.storage.Storage.put_absent.Goals as goal
+
+pub insert_absent-requires : goal.insert_absent-requires
+insert_absent-requires g c = record { within = within c.self.view_is c.args.slot.0 c.requires.within; limit = c.self.inside.least }
+
+pub gain-requires : goal.gain-requires
+gain-requires g c =
+    let few = keys_below c.self.invariant in
+    let full = ap (λ s. item_count (gathered s.parts)) c.self.view_is in
+    let was = c.self.invariant.counted in
+    record { items = omega (arith, full, was, c.requires.room); keys = omega (arith, few, full, was, c.requires.room) }
+
+pub invariant_of-self : goal.invariant_of-self
+invariant_of-self g c =
+    let list = list_in g.T.Key.Ord.cmp c.self.inside.parts.contents c.args.slot in
+    let inside = within c.self.view_is c.args.slot.0 c.requires.within in
+    let zero = c.in-Ok-eq0-default.field-0-0-test in
+    let none : length list ≡ 0 = sym c.in-Ok-eq0-default.ensures.len ∙ zero in
+    let absent : true ≡ not (is_filled list) = ap (λ l. not (is_filled l)) (sym (no_items list none)) in
+    counted_gain c.self.invariant g.met.T.Key.Ord.total g.met.T.Translator.exact c.args.slot (c.args.value ∷ []) c.insert_absent.new.self.contents inside (c.in-Ok-eq0-default.ensures.inserted zero) _ _ true absent
+    (omega (arith, none)) c.gain.ensures.items c.gain.ensures.keys
+
+pub returns-in-Ok-eq0-default-clause-inserted : goal.returns-in-Ok-eq0-default-clause-inserted
+returns-in-Ok-eq0-default-clause-inserted g c =
+    let inside = within c.self.view_is c.args.slot.0 c.requires.within in
+    let made = c.in-Ok-eq0-default.ensures.inserted c.in-Ok-eq0-default.field-0-0-test in
+    rw (← c.self.view_is) (λ _.
+    view_edited c.self.invariant g.met.T.Key.Ord.total g.met.T.Translator.exact c.args.slot (c.args.value ∷ []) c.insert_absent.new.self.contents inside made g.T.Translator.translated c.self.inside.translator _ _ (λ _. c.args.value ∷ []) refl c.gain.ensures.pruned
+    )
+
+pub returns-in-Ok-eq0-default-clause-len : goal.returns-in-Ok-eq0-default-clause-len
+returns-in-Ok-eq0-default-clause-len g c =
+    rw (← c.self.view_is) (sym c.in-Ok-eq0-default.field-0-0-test ∙ c.in-Ok-eq0-default.ensures.len ∙ ap (λ l. length l) (sym (list_is c.self.invariant c.args.slot)))
+
+pub returns-in-Ok-clause-len : goal.returns-in-Ok-clause-len
+returns-in-Ok-clause-len g c = rw (← c.self.view_is) (c.in-Ok.ensures.len ∙ ap (λ l. length l) (sym (list_is c.self.invariant c.args.slot)))
+
+pub returns-in-Ok-eq0-default-clause-kept : goal.returns-in-Ok-eq0-default-clause-kept
+returns-in-Ok-eq0-default-clause-kept g c =
+    let inside = within c.self.view_is c.args.slot.0 c.requires.within in
+    let made = c.in-Ok-eq0-default.ensures.inserted c.in-Ok-eq0-default.field-0-0-test in
+    rw (← c.self.view_is) (keeps c.self.invariant g.met.T.Key.Ord.total g.met.T.Translator.exact c.args.slot (c.args.value ∷ []) c.insert_absent.new.self.contents inside made)
+
+pub returns-in-Ok-clause-kept : goal.returns-in-Ok-clause-kept
+returns-in-Ok-clause-kept g c = rw (← c.self.view_is) (keeps_all c.self.invariant _ (ap (λ s. s.contents) (c.in-Ok.ensures.found (omega (arith, c.in-Ok.len-test.1)))))
+
+pub returns-in-Err-clause-kept : goal.returns-in-Err-clause-kept
+returns-in-Err-clause-kept g c = rw (← c.self.view_is) (keeps_all c.self.invariant _ (ap (λ s. s.contents) c.in-Err.ensures.refused))
+
+pub returns-in-Ok-eq0-default-clause-standing : goal.returns-in-Ok-eq0-default-clause-standing
+returns-in-Ok-eq0-default-clause-standing g c =
+    rw (← c.self.view_is) (λ _. grows_to g.X.Part.SPILLS (record { threshold = c.self.inside.threshold; parts = c.self.inside.parts.standing; spills = c.self.inside.spills }) _ c.args.slot.0 c.in-Ok-eq0-default.ensures.listed c.self.inside.least refl
+    (c.in-Ok-eq0-default.ensures.standing c.in-Ok-eq0-default.field-0-0-test) (c.count_if-self-inside.ensures ∙ ap (λ b. pruned_after c.self.inside.spills (one_if b)) c.in-Ok-eq0-default.ensures.spilled))

@@ -1,0 +1,120 @@
+-- How the partitions of an index stand: inline, as sorted arrays, or spilled, as an ordered map from keys to lists. A partition has the
+-- number `n`.
+--     Standing              how many values a partition holds, and whether it is spilled
+--     Standings             the threshold, the partitions by their numbers, and how many spills there ever were
+--     standing_in           a partition; past the last one, one that holds nothing
+--     inline_len            how many values of a partition stand in arrays: all of them, or none where it is spilled
+--     is_reached            it stands inline with as many values as the threshold or more (is_reached_by: as a limit)
+--     left_with             a partition once a call has left m values there; without values it isn't spilled
+--     with_left             the partitions after that
+--     grown                 a part once a value was put in and m were left, of a kind that spills at so many values or doesn't
+--     LeavesIn, GrowsIn     what the one and the other leave of the parts
+--     spilled_since         whether a part spilled meanwhile
+--     with_entries          `with_left`, of the whole
+--     with_spill            a partition's values moved into a tree
+--     spilled_if_reached    that, where it has reached the threshold
+--     after_call            a call by key that leaves m values in a partition
+--     Settles, Refuses      what an accepted and a refused call by key leave, of an index of so many values
+--     Leaves, LeavesSome    what a cursor edit leaves, in a partition, and in some partition
+--     joined_standings      with the partitions of a range from a number on
+--     new_standings         so many partitions that hold nothing
+--     spilled_in            how many partitions are spilled
+use Rattle.std.specs.Prelude.{◌≡◌, ◌⊎◌, ℕ, ◌+◌, ◌-◌, ◌^◌, ◌<◌, Bool, true, false, not, ◌&&◌, ◌||◌, nat_lt, nat_le, if◌then◌else◌, List, ◌++◌, length, take, drop, replicate, slice_index_or, slice_set}
+use Rattle.std.specs.List.{filter}
+use Rattle.key_index_flat.specs.View.{pruned_after}
+
+pub record Standing : Type 0 where
+  pub entries : ℕ
+  pub spilled : Bool
+
+pub record Standings : Type 0 where
+  pub threshold : ℕ
+  pub parts : List Standing
+  pub spills : ℕ
+
+abbrev pub standing_in : List Standing → ℕ → Standing
+standing_in parts n = slice_index_or parts n (record { entries = 0; spilled = false })
+
+abbrev pub standing_at : Standings → ℕ → Standing
+standing_at s n = standing_in s.parts n
+
+abbrev pub entries_at : Standings → ℕ → ℕ
+entries_at s n = (standing_at s n).entries
+
+abbrev pub inline_len : Standings → ℕ → ℕ
+inline_len s n = if (standing_at s n).spilled then 0 else entries_at s n
+
+abbrev pub is_reached_by : ℕ → Standing → Bool
+is_reached_by limit p = not p.spilled && nat_le limit p.entries
+
+abbrev pub is_reached : Standings → ℕ → Bool
+is_reached s n = is_reached_by s.threshold (standing_at s n)
+
+abbrev pub left_with : Standing → ℕ → Standing
+left_with p m = record { entries = m; spilled = p.spilled && nat_lt 0 m }
+
+abbrev pub with_left : List Standing → ℕ → ℕ → List Standing
+with_left parts n m = slice_set parts n (left_with (standing_in parts n) m)
+
+-- a part of a kind that spills at so many values or doesn't, once a value was put in and m were left
+abbrev pub grown : Bool → ℕ → Standing → ℕ → Standing
+grown spills limit p m = record {
+  entries = m;
+  spilled = (p.spilled || (spills && nat_le limit m)) && nat_lt 0 m;
+}
+
+abbrev pub LeavesIn : List Standing → ℕ → List Standing → Type 0
+LeavesIn old n new = new ≡ with_left old n (standing_in new n).entries
+
+abbrev pub GrowsIn : Bool → ℕ → List Standing → ℕ → List Standing → Type 0
+GrowsIn spills limit old n new =
+    new ≡ slice_set old n (grown spills limit (standing_in old n) (standing_in new n).entries)
+
+-- whether the part spilled meanwhile
+abbrev pub spilled_since : List Standing → ℕ → List Standing → Bool
+spilled_since old n new = not (standing_in old n).spilled && (standing_in new n).spilled
+
+abbrev pub with_entries : Standings → ℕ → ℕ → Standings
+with_entries s n m = record s { parts = with_left s.parts n m }
+
+abbrev pub with_spilled : List Standing → ℕ → List Standing
+with_spilled parts n = slice_set parts n (record { entries = (standing_in parts n).entries; spilled = true })
+
+abbrev pub with_spill : Standings → ℕ → Standings
+with_spill s n = record s { parts = with_spilled s.parts n; spills = pruned_after s.spills 1 }
+
+abbrev pub spilled_if_reached : Standings → ℕ → Standings
+spilled_if_reached s n = if is_reached s n then with_spill s n else s
+
+-- it spills a partition that has reached the threshold, and one that reaches it by what the call puts in
+abbrev pub after_call : Standings → ℕ → ℕ → Standings
+after_call s n m = spilled_if_reached (with_entries (spilled_if_reached s n) n m) n
+
+abbrev pub Settles : Standings → ℕ → Standings → Type 0
+Settles old n new = new ≡ after_call old n (entries_at new n)
+
+-- a full index refuses before anything spills; else a spill that was due may have come before the growth that was refused
+abbrev pub Refuses : ℕ → Standings → ℕ → Standings → Type 0
+Refuses items old n new = (new ≡ old) ⊎ ((items < 2 ^ 64 - 1) × (new ≡ spilled_if_reached old n))
+
+abbrev pub Leaves : Standings → ℕ → Standings → Type 0
+Leaves old n new = new ≡ with_entries old n (entries_at new n)
+
+abbrev pub LeavesSome : Standings → Standings → Type 0
+LeavesSome old new = (n : ℕ) × Leaves old n new
+
+abbrev pub joined_standings : Standings → ℕ → Standings → Standings
+joined_standings s first range = record s {
+  parts = take first s.parts ++ (range.parts ++ drop (first + length range.parts) s.parts);
+  spills = pruned_after s.spills range.spills;
+}
+
+abbrev pub new_standings : ℕ → ℕ → Standings
+new_standings threshold count = record {
+  threshold = threshold;
+  parts = replicate count (record { entries = 0; spilled = false });
+  spills = 0;
+}
+
+abbrev pub spilled_in : List Standing → ℕ
+spilled_in parts = length (filter (λ p. p.spilled) parts)

@@ -1,0 +1,190 @@
+//! Long lists and long keys, and cursors that are dropped behind each step.
+use super::asks::Asks;
+use super::checks::{
+    counts, cursor_at, fill, finds_none, fresh, holds, inserts, inserts_and_retains, keeps, push,
+    removes, retains,
+};
+use super::kinds::{self, PorderedByTwo, PunorderedByTwo};
+use super::lists::{put, steps_beside};
+use super::neighbours::{next_has, prev_has};
+use super::numbers::Numbers;
+use key_index_flat::index::{Ordered, Unordered, ordered};
+use key_index_flat::translator::{EightCap, OneCap};
+use key_index_parts::index::partitioned;
+use std::alloc::Global;
+use std::process::Abort;
+
+/// The numbers below an end.
+fn numbers_below(rt: &impl Abort, alloc: Global, end: u64) -> Vec<u64> {
+    let mut numbers = Vec::new(alloc);
+    for number in 0..end {
+        push(rt, &mut numbers, number);
+    }
+    numbers
+}
+
+/// A cursor of 1001 takes so many steps and is dropped. The calls behind it, at its key and at a neighbouring one, answer by the
+/// list that the steps leave.
+fn cut_behind<I: Unordered<Value = u64>>(
+    rt: &impl Abort,
+    alloc: Global,
+    index: &mut I,
+    neighbour: &[u8],
+    seed: u64,
+    count: u64,
+) {
+    let mut list = numbers_below(rt, alloc, 3);
+    fill(rt, index, b"\x10\x01", list.as_slice());
+    inserts(rt, index, neighbour, 4);
+    let mut cursor = cursor_at(rt, index, b"\x10\x01");
+    let mut numbers = Numbers::from(seed);
+    steps_beside(rt, alloc, &mut cursor, &mut list, count, &mut numbers);
+    holds(rt, index, b"\x10\x01", list.as_slice());
+    inserts(rt, index, b"\x10\x01", 9);
+    put(rt, &mut list, 9, I::INSERT_FIRST);
+    holds(rt, index, b"\x10\x01", list.as_slice());
+    holds(rt, index, neighbour, &[4]);
+    removes(rt, index, neighbour);
+    removes(rt, index, b"\x10\x01");
+    assert_eq!(rt; (index.keys(), index.items()), (0, 0));
+}
+
+/// Two hundred lists of eight steps, each cut behind each of its steps.
+pub(super) fn cut_at_each_step<I: Unordered<Value = u64>>(
+    rt: &impl Abort,
+    alloc: Global,
+    index: &mut I,
+    neighbour: &[u8],
+) {
+    for seed in 1..201 {
+        for count in 0..9 {
+            cut_behind(rt, alloc, index, neighbour, seed, count);
+        }
+    }
+}
+
+/// A batch of one key visits these values, in this order, and no others.
+fn visits<I: Unordered<Value = u64>>(rt: &impl Abort, alloc: Global, index: &I, values: &[u64]) {
+    let mut seen = Asks::new(alloc, 0);
+    let visited = index.get_many([b"\x10"].iter(), |_, value: &u64| {
+        seen.ask(rt, *value);
+    });
+    assert!(rt; visited.is_ok());
+    seen.are(rt, values);
+}
+
+/// A list of three thousand values: each closure is asked once on each of them, in order, and on nothing else.
+pub(super) fn long_list<I: Unordered<Value = u64>>(rt: &impl Abort, alloc: Global, index: &mut I) {
+    let mut values = numbers_below(rt, alloc, 3000);
+    fill(rt, index, b"\x10", values.as_slice());
+    visits(rt, alloc, index, values.as_slice());
+    let mut cursor = cursor_at(rt, index, b"\x10");
+    finds_none(rt, alloc, &mut cursor, values.as_slice());
+    let mut cursor = cursor_at(rt, index, b"\x10");
+    keeps(rt, alloc, &mut cursor, 0b101, values.as_slice());
+    holds(rt, index, b"\x10", &[0, 2]);
+    removes(rt, index, b"\x10");
+    fill(rt, index, b"\x10", values.as_slice());
+    retains(rt, alloc, index, b"\x10", 0b1011, values.as_slice());
+    holds(rt, index, b"\x10", &[0, 1, 3]);
+    removes(rt, index, b"\x10");
+    fill(rt, index, b"\x10", values.as_slice());
+    push(rt, &mut values, 3000);
+    inserts_and_retains(rt, alloc, index, b"\x10", 3000, 0b10, values.as_slice());
+    holds(rt, index, b"\x10", &[1]);
+    counts(rt, index, (1, 1, 8999));
+}
+
+/// One key ten thousand times.
+pub(super) fn ten_thousand<I: Unordered<Value = u64>>(rt: &impl Abort, index: &mut I) {
+    for value in 0..10_000 {
+        inserts(rt, index, b"\x10", value);
+    }
+    counts(rt, index, (1, 10_000, 0));
+    if I::INSERT_FIRST {
+        assert!(rt; index.get(b"\x10").copied().eq((0..10_000).rev()));
+    } else {
+        assert!(rt; index.get(b"\x10").copied().eq(0..10_000));
+    }
+}
+
+/// A key of so many zeros, and then this byte.
+fn zeros_then(rt: &impl Abort, alloc: Global, zeros: usize, last: u8) -> Vec<u8> {
+    let mut key = Vec::new(alloc);
+    assert!(rt; key.resize(zeros, 0).is_ok());
+    push(rt, &mut key, last);
+    key
+}
+
+/// Keys of 1 to 70,000 zeros are one key, and those that differ from them in the last byte are others as far as the index key goes,
+/// which is so many bytes.
+fn long_keys<I: Unordered<Value = u64>>(
+    rt: &impl Abort,
+    alloc: Global,
+    index: &mut I,
+    width: usize,
+) {
+    inserts(rt, index, b"", 0);
+    for zeros in [0, 7, 8, 9, 69_999] {
+        inserts(rt, index, zeros_then(rt, alloc, zeros, 0).as_slice(), 0);
+        inserts(rt, index, zeros_then(rt, alloc, zeros, 1).as_slice(), 1);
+    }
+    for zeros in [0, 7, 8, 9, 69_999] {
+        let found = index
+            .get(zeros_then(rt, alloc, zeros, 1).as_slice())
+            .count();
+        assert!(rt; zeros >= width || found == 1, "{zeros} zeros and a one");
+        assert!(rt; zeros < width || found > 6, "{zeros} zeros and a one");
+    }
+}
+
+#[test]
+fn long_keys_are_cut(rt: HostRuntime) {
+    let mut by_one: ordered::Index<OneCap, u64> = fresh(&rt, rt.alloc(), OneCap);
+    long_keys(&rt, rt.alloc(), &mut by_one, 1);
+    counts(&rt, &by_one, (2, 11, 0));
+    let mut by_eight: ordered::Index<EightCap, u64> = fresh(&rt, rt.alloc(), EightCap);
+    long_keys(&rt, rt.alloc(), &mut by_eight, 8);
+    counts(&rt, &by_eight, (3, 11, 0));
+    let mut by_nine: partitioned::ordered::Index<EightCap, u64, 1> = fresh(
+        &rt,
+        rt.alloc(),
+        EightCap,
+    );
+    long_keys(&rt, rt.alloc(), &mut by_nine, 9);
+    counts(&rt, &by_nine, (4, 11, 0));
+}
+
+/// Six short keys in an index by two bytes and then one more have three index keys.
+fn short_keys<I: Unordered<Value = u64>>(rt: &impl Abort, index: &mut I, first: &[u64]) {
+    inserts(rt, index, b"", 1);
+    inserts(rt, index, b"\x00", 2);
+    inserts(rt, index, b"\x00\x00", 3);
+    inserts(rt, index, b"\x00\x00\x00", 4);
+    inserts(rt, index, b"\x00\x01", 5);
+    inserts(rt, index, b"\x01", 6);
+    counts(rt, index, (3, 6, 0));
+    holds(rt, index, b"", first);
+    holds(rt, index, b"\x00\x01\x00", &[5]);
+    holds(rt, index, b"\x01\x00\x00", &[6]);
+}
+
+/// The same, and the neighbours of the empty key.
+fn short_keys_in_order<I: Ordered<Value = u64>>(rt: &impl Abort, index: &mut I) {
+    short_keys(rt, index, &[1, 2, 3, 4]);
+    next_has(rt, index, b"", &[5], false);
+    prev_has(rt, index, b"", &[6], true);
+}
+
+#[test]
+fn short_keys_share_partitions(rt: HostRuntime) {
+    short_keys(
+        &rt,
+        &mut kinds::fresh::<PunorderedByTwo, u64>(&rt, rt.alloc()),
+        &[4, 3, 2, 1],
+    );
+    short_keys_in_order(
+        &rt,
+        &mut kinds::fresh::<PorderedByTwo, u64>(&rt, rt.alloc()),
+    );
+}

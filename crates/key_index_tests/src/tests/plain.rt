@@ -1,0 +1,51 @@
+//! The plain index: that each call can succeed.
+use key_index_flat::index::{Factory, Fault, Runs, Unordered};
+use key_index_flat::translator::TwoCap;
+use key_index_plain::Index;
+use std::alloc::Global;
+
+/// Each call once, on an index with room.
+#[test]
+fn calls(rt: HostRuntime) {
+    let Ok(mut index) = Index::<TwoCap, u64>::new(rt.alloc(), TwoCap) else {
+        panic!(&rt; "new was refused")
+    };
+    for (key, value) in [(b"cc", 3), (b"bb", 1), (b"aa", 4), (b"bb", 2)] {
+        assert!(&rt; index.insert(key, value).is_ok());
+    }
+    assert_eq!(&rt; (index.keys(), index.items(), index.pruned()), (3, 4, 0));
+    assert!(&rt; index.get(b"bb").copied().eq([2, 1]));
+    let slot = index.slot_of(b"bb");
+    assert_eq!(&rt; slot, 0x6262);
+    assert!(&rt; index.admits(slot));
+    assert_eq!(&rt; index.run_len(slot), 2);
+    assert_eq!(&rt; *index.value_at(slot, 1), 1);
+    assert!(&rt; index.get(b"a").next().is_none());
+    assert!(&rt; index.remove(b"bb").is_ok());
+    assert!(&rt; index.get(b"bb").next().is_none());
+    assert_eq!(&rt; (index.keys(), index.items(), index.pruned()), (2, 2, 2));
+}
+
+/// Runs an index through the bounds alone, and tells the values of the first key and the counts.
+fn drive<I: Unordered<Value = u64> + Factory + Drop>(
+    alloc: Global,
+    translator: I::Translator,
+) -> Result<(Option<u64>, usize, usize, u64), Fault>
+    requires { I.makes }
+{
+    let mut index = I::new(alloc, translator)?;
+    for (key, value) in [(b"\x0b", 1), (b"\x0b", 2), (b"\x0c", 3)] {
+        if let Err(refused) = index.insert(key, value) {
+            return Err(refused.fault);
+        }
+    }
+    index.remove(b"\x0b")?;
+    let left = index.get(b"\x0c").next().copied();
+    Ok((left, index.keys(), index.items(), index.pruned()))
+}
+
+#[test]
+fn through_bounds(rt: HostRuntime) {
+    let told = drive::<Index<TwoCap, u64>>(rt.alloc(), TwoCap);
+    assert_eq!(&rt; told, Ok((Some(3), 1, 1, 2)));
+}

@@ -1,0 +1,46 @@
+//! The constants of each index, the values of a slice, the texts of faults, and the first use of the repository's page.
+use key_index_flat::index::{Fault, Unordered, Values, ordered, unordered};
+use key_index_flat::translator::OneCap;
+use key_index_parts::index::partitioned;
+use key_index_uses::callers::newest;
+use std::test::Fail;
+
+#[test]
+fn values_of_a_slice(rt: HostRuntime) {
+    let mut values = Values::of_slice(&[7, 5, 6]);
+    assert_eq!(&rt; values.len(), 3);
+    assert_eq!(&rt; values.next().copied(), Some(7));
+    assert_eq!(&rt; values.len(), 2);
+    assert!(&rt; !values.is_empty());
+    assert!(&rt; values.copied().eq([5, 6]));
+    assert!(&rt; Values::<u64>::of_slice(&[]).is_empty());
+}
+
+#[test]
+fn faults_print(rt: HostRuntime) -> Result<(), Fail> {
+    for (fault, want) in [
+        (Fault::Memory, "refused memory"),
+        (Fault::Full, "refused full"),
+        (Fault::TooFar, "refused far"),
+    ] {
+        assert_eq!(&rt; fault.to_string(rt.alloc())?.as_str(), want);
+    }
+    Ok(())
+}
+
+#[test]
+fn insert_order_and_warmth(rt: HostRuntime) {
+    assert!(&rt; unordered::Index::<OneCap, u64>::INSERT_FIRST);
+    assert!(&rt; unordered::Index::<OneCap, u64>::LOOKUP_WARMS_UPDATE);
+    assert!(&rt; ordered::Index::<OneCap, u64>::INSERT_FIRST);
+    assert!(&rt; !ordered::Index::<OneCap, u64>::LOOKUP_WARMS_UPDATE);
+    assert!(&rt; partitioned::unordered::Index::<OneCap, u64, 1>::INSERT_FIRST);
+    assert!(&rt; partitioned::unordered::Index::<OneCap, u64, 1>::LOOKUP_WARMS_UPDATE);
+    assert!(&rt; !partitioned::ordered::Index::<OneCap, u64, 1>::INSERT_FIRST);
+    assert!(&rt; partitioned::ordered::Index::<OneCap, u64, 1>::LOOKUP_WARMS_UPDATE);
+}
+
+#[test]
+fn newest_is_given(rt: HostRuntime) {
+    assert_eq!(&rt; newest(rt.alloc()).expect(&rt, "newest"), Some(2));
+}

@@ -1,0 +1,417 @@
+//! Partitions that spill, on examples: when they do, what they then answer, and how ranges of them are installed.
+ghost use Rattle.std.specs.Prelude.{◌≤◌};
+
+use super::checks::{
+    counts, cursor_at, ends, fill, fresh, gets_or_inserts, goes_to, has_no_cursor, holds, inserts,
+    inserts_and_retains, puts, puts_last, removes, retains,
+};
+use super::neighbours::{next_has, prev_has, same_end};
+use super::stands::{Small, Stands, StandsWhole, has_spilled, is_inline, is_spilled, spills_at};
+use super::{calls, ranges};
+use key_index_flat::index::{Cursor, Ordered, Unordered, Values};
+use key_index_flat::translator::OneCap;
+use key_index_parts::index::partitioned::ordered::Index;
+use key_index_parts::index::partitioned::{PartitionRange, Partitioned};
+use std::alloc::Global;
+use std::process::Abort;
+
+/// Four insertions at a threshold of 2: the second one spills the partition, and the others put their values into the tree.
+fn spilled_by_insertions<I: Unordered<Value = u64> + StandsWhole>(rt: &impl Abort, index: &mut I) {
+    inserts(rt, index, b"\x10\x01", 1);
+    is_inline(rt, index, 0x10, 1);
+    inserts(rt, index, b"\x10\x02", 2);
+    is_spilled(rt, index, 0x10);
+    inserts(rt, index, b"\x10\x03", 3);
+    inserts(rt, index, b"\x10\x02", 22);
+    holds(rt, index, b"\x10\x01", &[1]);
+    holds(rt, index, b"\x10\x02", &[2, 22]);
+    holds(rt, index, b"\x10\x03", &[3]);
+    has_spilled(rt, index, 1, 1);
+    counts(rt, index, (3, 4, 0));
+}
+
+/// The list 1, 2 of 4001 in arrays that have reached a threshold of 2: a cursor put the 2 in.
+fn grown_by_cursor<I: Unordered<Value = u64> + StandsWhole>(rt: &impl Abort, index: &mut I) {
+    inserts(rt, index, b"\x40\x01", 1);
+    let mut cursor = cursor_at(rt, index, b"\x40\x01");
+    goes_to(rt, &mut cursor, 1);
+    ends(rt, &mut cursor);
+    puts(rt, &mut cursor, 2);
+    is_inline(rt, index, 0x40, 2);
+    has_spilled(rt, index, 0, 0);
+}
+
+/// The same arrays have spilled since, and the partition has these values under 4001 and so many in all.
+fn grown_has_spilled<I: Unordered<Value = u64> + StandsWhole>(
+    rt: &impl Abort,
+    index: &I,
+    values: &[u64],
+    items: usize,
+) {
+    is_spilled(rt, index, 0x40);
+    has_spilled(rt, index, 1, 1);
+    holds(rt, index, b"\x40\x01", values);
+    assert_eq!(rt; (index.items(), index.pruned()), (items, 0));
+}
+
+/// `remove` of an absent key spills arrays that have reached the threshold.
+fn spilled_by_remove<I: Unordered<Value = u64> + StandsWhole>(rt: &impl Abort, index: &mut I) {
+    grown_by_cursor(rt, index);
+    removes(rt, index, b"\x40\x02");
+    grown_has_spilled(rt, index, &[1, 2], 2);
+}
+
+/// So does `retain` of an absent key.
+fn spilled_by_retain<I: Unordered<Value = u64> + StandsWhole>(
+    rt: &impl Abort,
+    alloc: Global,
+    index: &mut I,
+) {
+    grown_by_cursor(rt, index);
+    retains(rt, alloc, index, b"\x40\x02", 0, &[]);
+    grown_has_spilled(rt, index, &[1, 2], 2);
+}
+
+/// So does `get_mut`, of an absent key too.
+fn spilled_by_get_mut<I: Unordered<Value = u64> + StandsWhole>(rt: &impl Abort, index: &mut I) {
+    grown_by_cursor(rt, index);
+    has_no_cursor(rt, index, b"\x40\x02");
+    grown_has_spilled(rt, index, &[1, 2], 2);
+}
+
+/// So does `get_mut_or_insert` of a key that has values.
+fn spilled_by_get_mut_or_insert<I: Unordered<Value = u64> + StandsWhole>(
+    rt: &impl Abort,
+    index: &mut I,
+) {
+    grown_by_cursor(rt, index);
+    assert!(rt; gets_or_inserts(rt, index, b"\x40\x01", 9).is_some());
+    grown_has_spilled(rt, index, &[1, 2], 2);
+}
+
+/// So does `insert`.
+fn spilled_by_insert<I: Unordered<Value = u64> + StandsWhole>(rt: &impl Abort, index: &mut I) {
+    grown_by_cursor(rt, index);
+    inserts(rt, index, b"\x40\x01", 3);
+    grown_has_spilled(rt, index, &[1, 2, 3], 3);
+}
+
+/// So does `insert_and_retain`, also where it keeps no value of an absent key.
+fn spilled_by_insert_and_retain<I: Unordered<Value = u64> + StandsWhole>(
+    rt: &impl Abort,
+    alloc: Global,
+    index: &mut I,
+) {
+    grown_by_cursor(rt, index);
+    inserts_and_retains(rt, alloc, index, b"\x40\x02", 3, 0, &[3]);
+    grown_has_spilled(rt, index, &[1, 2], 2);
+}
+
+/// A call that leaves arrays that had reached the threshold without values has spilled them all the same.
+fn spilled_and_emptied<I: Unordered<Value = u64> + StandsWhole>(rt: &impl Abort, index: &mut I) {
+    grown_by_cursor(rt, index);
+    removes(rt, index, b"\x40\x01");
+    is_inline(rt, index, 0x40, 0);
+    has_spilled(rt, index, 0, 1);
+    counts(rt, index, (0, 0, 2));
+}
+
+/// A call by key leaves the other partitions as they stand, whether they are spilled, have reached the threshold or are below it.
+fn others_stand<I: Unordered<Value = u64> + StandsWhole>(rt: &impl Abort, index: &mut I) {
+    grown_by_cursor(rt, index);
+    inserts(rt, index, b"\x41\x01", 1);
+    fill(rt, index, b"\x42\x01", &[1, 2]);
+    is_inline(rt, index, 0x40, 2);
+    is_inline(rt, index, 0x41, 1);
+    is_spilled(rt, index, 0x42);
+    has_spilled(rt, index, 1, 1);
+    removes(rt, index, b"\x43\x01");
+    removes(rt, index, b"\x42\x01");
+    is_inline(rt, index, 0x40, 2);
+    is_inline(rt, index, 0x41, 1);
+    has_spilled(rt, index, 0, 1);
+    removes(rt, index, b"\x40\x02");
+    is_spilled(rt, index, 0x40);
+    is_inline(rt, index, 0x41, 1);
+    has_spilled(rt, index, 1, 2);
+}
+
+/// One key of the default threshold, 512: the last of 512 insertions spills.
+fn spilled_at_512<I: Unordered<Value = u64> + StandsWhole>(rt: &impl Abort, index: &mut I) {
+    for value in 0..511 {
+        inserts(rt, index, b"\x10\x01", value);
+    }
+    is_inline(rt, index, 0x10, 511);
+    has_spilled(rt, index, 0, 0);
+    inserts(rt, index, b"\x10\x01", 511);
+    is_spilled(rt, index, 0x10);
+    has_spilled(rt, index, 1, 1);
+    counts(rt, index, (1, 512, 0));
+    assert!(rt; index.get(b"\x10\x01").copied().eq(0..512));
+}
+
+/// By two bytes the keys 01 and 0100 have one index key: their partition spills at a threshold of 1 or 2.
+fn spilled_by_two_bytes(rt: &impl Abort, alloc: Global, threshold: usize)
+    requires { 1 ≤ threshold }
+{
+    let index = Index::<OneCap, u64, 2>::with_threshold(alloc, OneCap, threshold);
+    let mut index = index.expect(rt, "an index");
+    calls::filed_under(rt, &mut index, ((0x0100, 0), (0x1002, 0xff)));
+    assert!(rt; index.is_spilled(0x0100));
+    assert_eq!(rt; index.spills(), 1);
+}
+
+/// So many partitions are spilled and spills there were, and the counts are these.
+fn tells<I: Unordered<Value = u64> + StandsWhole>(
+    rt: &impl Abort,
+    index: &I,
+    spilled: (usize, u64),
+    want: (usize, usize, u64),
+) {
+    has_spilled(rt, index, spilled.0, spilled.1);
+    counts(rt, index, want);
+}
+
+/// A cursor takes out the first value of a key.
+fn takes_first<I: Unordered<Value = u64>>(rt: &impl Abort, index: &mut I, key: &[u8], value: u64) {
+    let mut cursor = cursor_at(rt, index, key);
+    goes_to(rt, &mut cursor, value);
+    cursor.delete();
+}
+
+/// A partition spills at a threshold of 2, is emptied by cursors, spills again, and is emptied by `remove`.
+fn lived<I: Unordered<Value = u64> + StandsWhole>(rt: &impl Abort, index: &mut I) {
+    tells(rt, index, (0, 0), (0, 0, 0));
+    inserts(rt, index, b"\x10\x01", 1);
+    tells(rt, index, (0, 0), (1, 1, 0));
+    inserts(rt, index, b"\x10\x02", 2);
+    tells(rt, index, (1, 1), (2, 2, 0));
+    takes_first(rt, index, b"\x10\x01", 1);
+    tells(rt, index, (1, 1), (1, 1, 1));
+    takes_first(rt, index, b"\x10\x02", 2);
+    tells(rt, index, (0, 1), (0, 0, 2));
+    inserts(rt, index, b"\x10\x03", 3);
+    tells(rt, index, (0, 1), (1, 1, 2));
+    inserts(rt, index, b"\x10\x04", 4);
+    tells(rt, index, (1, 2), (2, 2, 2));
+    removes(rt, index, b"\x10\x03");
+    tells(rt, index, (1, 2), (1, 1, 3));
+    removes(rt, index, b"\x10\x04");
+    tells(rt, index, (0, 2), (0, 0, 4));
+}
+
+/// At a threshold of 1 each first value of a partition spills it.
+fn spilled_by_one<I: Unordered<Value = u64> + StandsWhole>(rt: &impl Abort, index: &mut I) {
+    inserts(rt, index, b"\x10\x01", 1);
+    is_spilled(rt, index, 0x10);
+    tells(rt, index, (1, 1), (1, 1, 0));
+    removes(rt, index, b"\x10\x01");
+    tells(rt, index, (0, 1), (0, 0, 1));
+    inserts(rt, index, b"\x10\x01", 2);
+    tells(rt, index, (1, 2), (1, 1, 1));
+    holds(rt, index, b"\x10\x01", &[2]);
+}
+
+/// At a threshold of 3, `insert_and_retain` goes by what it leaves: first two values of three, then three.
+fn spilled_by_what_is_left<I: Unordered<Value = u64> + StandsWhole>(
+    rt: &impl Abort,
+    alloc: Global,
+    index: &mut I,
+) {
+    fill(rt, index, b"\x10\x01", &[3, 1]);
+    inserts_and_retains(rt, alloc, index, b"\x10\x01", 2, 0b101, &[3, 1, 2]);
+    is_inline(rt, index, 0x10, 2);
+    tells(rt, index, (0, 0), (1, 2, 1));
+    holds(rt, index, b"\x10\x01", &[3, 2]);
+    inserts_and_retains(rt, alloc, index, b"\x10\x02", 4, 0, &[4]);
+    is_inline(rt, index, 0x10, 2);
+    inserts_and_retains(rt, alloc, index, b"\x10\x02", 4, 0b1, &[4]);
+    is_spilled(rt, index, 0x10);
+    tells(rt, index, (1, 1), (2, 3, 1));
+    inserts_and_retains(rt, alloc, index, b"\x10\x01", 5, 0b101, &[3, 2, 5]);
+    holds(rt, index, b"\x10\x01", &[3, 5]);
+    holds(rt, index, b"\x10\x02", &[4]);
+    tells(rt, index, (1, 1), (2, 3, 2));
+    retains(rt, alloc, index, b"\x10\x01", 0, &[3, 5]);
+    is_spilled(rt, index, 0x10);
+    retains(rt, alloc, index, b"\x10\x02", 0, &[4]);
+    tells(rt, index, (0, 1), (0, 0, 5));
+}
+
+/// A cursor that empties a spilled partition and goes on puts its values into arrays, past a threshold of 2, which spill again later.
+fn emptied_and_grown_by_cursor<I: Unordered<Value = u64> + StandsWhole>(
+    rt: &impl Abort,
+    index: &mut I,
+) {
+    inserts(rt, index, b"\x10\x01", 1);
+    inserts(rt, index, b"\x10\x02", 2);
+    takes_first(rt, index, b"\x10\x02", 2);
+    let mut cursor = cursor_at(rt, index, b"\x10\x01");
+    goes_to(rt, &mut cursor, 1);
+    cursor.delete();
+    ends(rt, &mut cursor);
+    puts_last(rt, &mut cursor, 5);
+    puts_last(rt, &mut cursor, 6);
+    is_inline(rt, index, 0x10, 2);
+    tells(rt, index, (0, 1), (1, 2, 2));
+    holds(rt, index, b"\x10\x01", &[5, 6]);
+    removes(rt, index, b"\x10\x09");
+    tells(rt, index, (1, 2), (1, 2, 2));
+    holds(rt, index, b"\x10\x01", &[5, 6]);
+}
+
+/// Neighbours at a threshold of 2, where the partitions 10 and 30 are spilled and 20 between them is not.
+fn next_to_spilled<I: Ordered<Value = u64> + StandsWhole>(rt: &impl Abort, index: &mut I) {
+    inserts(rt, index, b"\x10\x01", 1);
+    inserts(rt, index, b"\x10\x02", 2);
+    inserts(rt, index, b"\x20\x05", 5);
+    inserts(rt, index, b"\x30\x07", 7);
+    inserts(rt, index, b"\x30\x08", 8);
+    has_spilled(rt, index, 2, 2);
+    assert!(rt; same_end(index.first_translated_key(), Some(Values::of_slice(&[1]))));
+    assert!(rt; same_end(index.last_translated_key(), Some(Values::of_slice(&[8]))));
+    next_has(rt, index, b"\x10\x01", &[2], false);
+    next_has(rt, index, b"\x10\x02", &[5], false);
+    next_has(rt, index, b"\x20\x05", &[7], false);
+    prev_has(rt, index, b"\x30\x07", &[5], false);
+    prev_has(rt, index, b"\x20\x05", &[2], false);
+    next_has(rt, index, b"\x30\x08", &[1], true);
+}
+
+/// The list 1, 2, 3 of 1001 in arrays of a range past a threshold of 2, and another key.
+fn grown_range<R: PartitionRange<Value = u64> + Stands>(rt: &impl Abort, range: &mut R) {
+    assert!(rt; ranges::gets_or_inserts(rt, range, b"\x10\x01", 1).is_none());
+    let Some(mut cursor) = ranges::gets_or_inserts(rt, range, b"\x10\x01\xff", 9) else {
+        panic!(rt; "the key has a value")
+    };
+    goes_to(rt, &mut cursor, 1);
+    ends(rt, &mut cursor);
+    puts_last(rt, &mut cursor, 2);
+    puts_last(rt, &mut cursor, 3);
+    assert!(rt; ranges::gets_or_inserts(rt, range, b"\x20\x01", 4).is_none());
+    is_inline(rt, range, 0x10, 3);
+    is_inline(rt, range, 0x20, 1);
+    assert_eq!(rt; range.spills(), 0);
+}
+
+/// The next call by key spills them, and its cursor takes all three out.
+fn drained_range<R: PartitionRange<Value = u64> + Stands>(rt: &impl Abort, range: &mut R) {
+    let Some(mut cursor) = ranges::gets(rt, range, b"\x10\x01") else {
+        panic!(rt; "the key has values")
+    };
+    for value in [1, 2, 3] {
+        goes_to(rt, &mut cursor, value);
+        cursor.delete();
+    }
+    is_inline(rt, range, 0x10, 0);
+    assert_eq!(rt; range.spills(), 1);
+}
+
+/// A range over all partitions spills one and drains it; the index has its counts once it is installed.
+fn spilled_and_drained_in_range<I: Partitioned<Value = u64> + StandsWhole>(
+    rt: &impl Abort,
+    index: &mut I,
+)
+where
+    I::Range: Stands,
+{
+    let mut range = ranges::range_of(rt, index, 0, 256);
+    grown_range(rt, &mut range);
+    drained_range(rt, &mut range);
+    tells(rt, index, (0, 0), (0, 0, 0));
+    ranges::installs(rt, index, range);
+    tells(rt, index, (0, 1), (1, 1, 3));
+    holds(rt, index, b"\x20\x01", &[4]);
+}
+
+/// A range at 80 of 2 with three values, of which the first partition is spilled at a threshold of 2.
+fn spilled_range<R: PartitionRange<Value = u64> + Stands>(rt: &impl Abort, range: &mut R) {
+    assert!(rt; ranges::gets_or_inserts(rt, range, b"\x80\x01", 1).is_none());
+    assert!(rt; ranges::gets_or_inserts(rt, range, b"\x80\x02", 2).is_none());
+    assert!(rt; ranges::gets_or_inserts(rt, range, b"\x81\x07", 3).is_none());
+    is_spilled(rt, range, 0x80);
+    is_inline(rt, range, 0x81, 1);
+    assert_eq!(rt; range.spills(), 1);
+}
+
+/// Such a range is installed as it stands.
+fn installed_spilled<I: Partitioned<Value = u64> + StandsWhole>(rt: &impl Abort, index: &mut I)
+where
+    I::Range: Stands,
+{
+    let mut range = ranges::range_of(rt, index, 0x80, 2);
+    spilled_range(rt, &mut range);
+    has_spilled(rt, index, 0, 0);
+    ranges::installs(rt, index, range);
+    is_spilled(rt, index, 0x80);
+    is_inline(rt, index, 0x81, 1);
+    tells(rt, index, (1, 1), (3, 3, 0));
+    holds(rt, index, b"\x80\x02", &[2]);
+    holds(rt, index, b"\x81\x07", &[3]);
+}
+
+/// A range with arrays past the threshold is installed as it stands, and they spill at the next call by key.
+fn installed_grown<I: Partitioned<Value = u64> + StandsWhole>(rt: &impl Abort, index: &mut I)
+where
+    I::Range: Stands,
+{
+    let mut range = ranges::range_of(rt, index, 0x10, 0x11);
+    grown_range(rt, &mut range);
+    ranges::installs(rt, index, range);
+    is_inline(rt, index, 0x10, 3);
+    tells(rt, index, (0, 0), (2, 4, 0));
+    has_no_cursor(rt, index, b"\x10\x09");
+    is_spilled(rt, index, 0x10);
+    tells(rt, index, (1, 1), (2, 4, 0));
+    holds(rt, index, b"\x10\x01", &[1, 2, 3]);
+}
+
+#[test]
+fn insertions_spill(rt: HostRuntime) {
+    spilled_by_insertions(&rt, &mut spills_at(&rt, rt.alloc(), 2));
+    spilled_by_one(&rt, &mut spills_at(&rt, rt.alloc(), 1));
+    spilled_by_what_is_left(&rt, rt.alloc(), &mut spills_at(&rt, rt.alloc(), 3));
+}
+
+#[test]
+fn short_keys_spill(rt: HostRuntime) {
+    spilled_by_two_bytes(&rt, rt.alloc(), 1);
+    spilled_by_two_bytes(&rt, rt.alloc(), 2);
+}
+
+#[test]
+fn each_call_spills_what_is_due(rt: HostRuntime) {
+    spilled_by_remove(&rt, &mut spills_at(&rt, rt.alloc(), 2));
+    spilled_by_retain(&rt, rt.alloc(), &mut spills_at(&rt, rt.alloc(), 2));
+    spilled_by_get_mut(&rt, &mut spills_at(&rt, rt.alloc(), 2));
+    spilled_by_get_mut_or_insert(&rt, &mut spills_at(&rt, rt.alloc(), 2));
+    spilled_by_insert(&rt, &mut spills_at(&rt, rt.alloc(), 2));
+    spilled_by_insert_and_retain(&rt, rt.alloc(), &mut spills_at(&rt, rt.alloc(), 2));
+    spilled_and_emptied(&rt, &mut spills_at(&rt, rt.alloc(), 2));
+    others_stand(&rt, &mut spills_at(&rt, rt.alloc(), 2));
+}
+
+#[test]
+fn default_threshold_is_512(rt: HostRuntime) {
+    let mut index: Small = fresh(&rt, rt.alloc(), OneCap);
+    assert_eq!(&rt; index.threshold(), 512);
+    spilled_at_512(&rt, &mut index);
+}
+
+#[test]
+fn spilled_partitions_live(rt: HostRuntime) {
+    lived(&rt, &mut spills_at(&rt, rt.alloc(), 2));
+    emptied_and_grown_by_cursor(&rt, &mut spills_at(&rt, rt.alloc(), 2));
+}
+
+#[test]
+fn neighbours_stand_across_arrays_and_trees(rt: HostRuntime) {
+    next_to_spilled(&rt, &mut spills_at(&rt, rt.alloc(), 2));
+}
+
+#[test]
+fn ranges_spill(rt: HostRuntime) {
+    spilled_and_drained_in_range(&rt, &mut spills_at(&rt, rt.alloc(), 2));
+    installed_spilled(&rt, &mut spills_at(&rt, rt.alloc(), 2));
+    installed_grown(&rt, &mut spills_at(&rt, rt.alloc(), 2));
+}

@@ -1,0 +1,127 @@
+//! How the partitions of a partitioned ordered index and of its ranges stand, through one trait, and what the tests assert of it.
+ghost use Rattle.std.specs.Prelude.{◌≤◌};
+
+use key_index_flat::translator::{OneCap, TwoCap};
+use key_index_parts::index::partitioned::PartitionRange;
+use key_index_parts::index::partitioned::ordered::{Index, RangeIndex};
+use std::alloc::Global;
+use std::process::Abort;
+
+/// The partitioned ordered index by one byte and then one more.
+pub(super) type Small = Index<OneCap, u64, 1>;
+
+/// The partitioned ordered index by one byte and then two more.
+pub(super) type Wide = Index<TwoCap, u64, 1>;
+
+/// A range of the first one.
+pub(super) type SmallRange = RangeIndex<OneCap, u64, 1>;
+
+/// An index with no values, whose partitions spill at so many.
+pub(super) fn spills_at(rt: &impl Abort, alloc: Global, threshold: usize) -> Small
+    requires { 1 ≤ threshold }
+{
+    let index = Small::with_threshold(alloc, OneCap, threshold).expect(rt, "an index");
+    assert_eq!(rt; index.threshold(), threshold);
+    index
+}
+
+/// The same by one byte and then two more.
+pub(super) fn wide_at(rt: &impl Abort, alloc: Global, threshold: usize) -> Wide {
+    assert!(rt; threshold > 0);
+    Wide::with_threshold(alloc, TwoCap, threshold).expect(rt, "an index")
+}
+
+/// Partitions that stand as arrays or as trees.
+pub(super) trait Stands {
+    /// How many spills there ever were.
+    fn spills(&self) -> u64;
+
+    /// Whether a partition is spilled, and how many of its values stand in arrays.
+    fn standing(&self, rt: &impl Abort, partition: usize) -> (bool, usize);
+}
+
+/// A whole index of them.
+pub(super) trait StandsWhole: Stands {
+    /// How many partitions are spilled.
+    fn spilled_count(&self) -> usize;
+
+    /// At how many values in arrays a partition spills.
+    fn threshold(&self) -> usize;
+}
+
+impl StandsWhole for Small {
+    fn spilled_count(&self) -> usize {
+        Index::spilled_count(self)
+    }
+
+    fn threshold(&self) -> usize {
+        Index::threshold(self)
+    }
+}
+
+impl Stands for Small {
+    fn spills(&self) -> u64 {
+        Index::spills(self)
+    }
+
+    fn standing(&self, rt: &impl Abort, partition: usize) -> (bool, usize) {
+        assert!(rt; partition < 256);
+        (self.is_spilled(partition), self.inline_len(partition))
+    }
+}
+
+impl StandsWhole for Wide {
+    fn spilled_count(&self) -> usize {
+        Index::spilled_count(self)
+    }
+
+    fn threshold(&self) -> usize {
+        Index::threshold(self)
+    }
+}
+
+impl Stands for Wide {
+    fn spills(&self) -> u64 {
+        Index::spills(self)
+    }
+
+    fn standing(&self, rt: &impl Abort, partition: usize) -> (bool, usize) {
+        assert!(rt; partition < 256);
+        (self.is_spilled(partition), self.inline_len(partition))
+    }
+}
+
+impl Stands for SmallRange {
+    fn spills(&self) -> u64 {
+        RangeIndex::spills(self)
+    }
+
+    fn standing(&self, rt: &impl Abort, partition: usize) -> (bool, usize) {
+        let offset = self.offset();
+        assert!(rt; offset <= partition && partition - offset < self.count());
+        (self.is_spilled(partition), self.inline_len(partition))
+    }
+}
+
+/// A partition stands as arrays of so many values.
+pub(super) fn is_inline<S: Stands>(rt: &impl Abort, stands: &S, partition: usize, len: usize) {
+    assert_eq!(rt;
+        stands.standing(rt, partition),
+        (false, len),
+        "partition {partition}"
+    );
+}
+
+/// A partition is spilled.
+pub(super) fn is_spilled<S: Stands>(rt: &impl Abort, stands: &S, partition: usize) {
+    assert_eq!(rt;
+        stands.standing(rt, partition),
+        (true, 0),
+        "partition {partition}"
+    );
+}
+
+/// So many partitions are spilled, and so many spills there were.
+pub(super) fn has_spilled<S: StandsWhole>(rt: &impl Abort, index: &S, count: usize, spills: u64) {
+    assert_eq!(rt; (index.spilled_count(), index.spills()), (count, spills));
+}
