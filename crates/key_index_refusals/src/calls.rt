@@ -1,0 +1,438 @@
+//! Calls of an index, each made again where it was refused: a refused one leaves all as it was.
+use crate::kept::{Kept, key, partition};
+use crate::kinds::{Kind, Standing};
+use crate::report::{Report, Stop, must};
+use key_index_flat::index::{Cursor, CursorState, Fault, Refused, Runs, Search, Unordered};
+use std::io::Write;
+
+/// How often a call is made that is refused.
+pub(crate) const TRIES: u32 = 2;
+
+/// A call by key, with what it takes.
+#[derive(Debug, Clone, Copy, PartialEq, Eq)]
+pub(crate) enum Call {
+    Insert(u64),
+    InsertAndRetain(u64, u64),
+    Retain(u64),
+    Remove,
+    InsertAt(u64),
+    GetOrInsert(u64),
+    GetMut,
+    GetMany,
+}
+
+impl Call {
+    fn name(self) -> &'static str {
+        match self {
+            Call::Insert(_) => "insert",
+            Call::InsertAndRetain(_, _) => "insert_and_retain",
+            Call::Retain(_) => "retain",
+            Call::Remove => "remove",
+            Call::InsertAt(_) => "insert_at",
+            Call::GetOrInsert(_) => "get_mut_or_insert",
+            Call::GetMut => "get_mut",
+            Call::GetMany => "get_many",
+        }
+    }
+
+    /// Whether it may take memory whatever it finds.
+    fn inserts(self) -> bool {
+        match self {
+            Call::Retain(_) | Call::Remove | Call::GetMut => false,
+            _ => true,
+        }
+    }
+
+    /// Whether a partition that is due spills with it.
+    fn settles(self) -> bool {
+        match self {
+            Call::InsertAt(_) | Call::GetMany => false,
+            _ => true,
+        }
+    }
+}
+
+/// A refusal is for memory, and hands the value back.
+fn is_returned(refused: Refused<u64>, value: u64) -> Result<(), Stop> {
+    must(refused.fault == Fault::Memory, "a refusal for memory")?;
+    must(refused.value == value, "the value of a refusal")
+}
+
+/// `insert`: whether it is accepted.
+fn insert<I: Unordered<Value = u64>>(
+    index: &mut I,
+    kept: &mut Kept,
+    at: usize,
+    value: u64,
+) -> Result<bool, Stop> {
+    match index.insert(key(at), value) {
+        Ok(()) => {
+            let place = if I::INSERT_FIRST {
+                0
+            } else {
+                kept.list(at).len()
+            };
+            kept.insert(at, place, value)?;
+            Ok(true)
+        }
+        Err(refused) => {
+            is_returned(refused, value)?;
+            Ok(false)
+        }
+    }
+}
+
+/// `insert_and_retain`, which asks nothing where it is refused.
+fn insert_and_retain<I: Unordered<Value = u64>>(
+    index: &mut I,
+    kept: &mut Kept,
+    at: usize,
+    value: u64,
+    answers: u64,
+) -> Result<bool, Stop> {
+    kept.ask_anew();
+    match index.insert_and_retain(key(at), value, |asked: &u64| kept.ask(answers, *asked)) {
+        Ok(()) => {
+            let held = kept.list(at).len();
+            kept.push(at, value)?;
+            kept.retain(at, answers, held)?;
+            Ok(true)
+        }
+        Err(refused) => {
+            is_returned(refused, value)?;
+            must(kept.is_unasked(), "a refused call asks nothing")?;
+            Ok(false)
+        }
+    }
+}
+
+/// `retain`.
+fn retain<I: Unordered<Value = u64>>(
+    index: &mut I,
+    kept: &mut Kept,
+    at: usize,
+    answers: u64,
+) -> Result<bool, Stop> {
+    kept.ask_anew();
+    match index.retain(key(at), |asked: &u64| kept.ask(answers, *asked)) {
+        Ok(()) => {
+            let held = kept.list(at).len();
+            kept.retain(at, answers, held)?;
+            Ok(true)
+        }
+        Err(fault) => {
+            must(fault == Fault::Memory, "a refusal for memory")?;
+            must(kept.is_unasked(), "a refused call asks nothing")?;
+            Ok(false)
+        }
+    }
+}
+
+/// `remove`.
+fn remove<I: Unordered<Value = u64>>(
+    index: &mut I,
+    kept: &mut Kept,
+    at: usize,
+) -> Result<bool, Stop> {
+    match index.remove(key(at)) {
+        Ok(()) => {
+            kept.clear(at);
+            Ok(true)
+        }
+        Err(fault) => {
+            must(fault == Fault::Memory, "a refusal for memory")?;
+            Ok(false)
+        }
+    }
+}
+
+/// `insert_at` behind the values of a key.
+fn insert_at<I: Runs<Value = u64>>(
+    index: &mut I,
+    kept: &mut Kept,
+    at: usize,
+    value: u64,
+) -> Result<bool, Stop> {
+    let slot = index.slot_of(key(at));
+    if !index.admits(slot) {
+        return Err(Stop::Wrong("an index key of the index"));
+    }
+    let place = index.run_len(slot);
+    match index.insert_at(slot, place, value) {
+        Ok(()) => {
+            kept.push(at, value)?;
+            Ok(true)
+        }
+        Err(refused) => {
+            is_returned(refused, value)?;
+            Ok(false)
+        }
+    }
+}
+
+/// `get_mut_or_insert`.
+fn get_or_insert<I: Unordered<Value = u64>>(
+    index: &mut I,
+    kept: &mut Kept,
+    at: usize,
+    bytes: &[u8],
+    value: u64,
+) -> Result<bool, Stop> {
+    match index.get_mut_or_insert(bytes, value) {
+        Ok(None) => {
+            must(kept.list(at).is_empty(), "a cursor at a held key")?;
+            kept.push(at, value)?;
+            Ok(true)
+        }
+        Ok(Some(cursor)) => {
+            must(
+                cursor.state() == CursorState::NeedNext,
+                "a cursor that is new",
+            )?;
+            must(!kept.list(at).is_empty(), "no cursor at an absent key")?;
+            Ok(true)
+        }
+        Err(refused) => {
+            is_returned(refused, value)?;
+            Ok(false)
+        }
+    }
+}
+
+/// `get_mut`.
+fn get_mut<I: Unordered<Value = u64>>(
+    index: &mut I,
+    kept: &Kept,
+    at: usize,
+    bytes: &[u8],
+) -> Result<bool, Stop> {
+    match index.get_mut(bytes) {
+        Ok(found) => {
+            must(
+                found.is_some() == !kept.list(at).is_empty(),
+                "a cursor at a held key",
+            )?;
+            Ok(true)
+        }
+        Err(fault) => {
+            must(fault == Fault::Memory, "a refusal for memory")?;
+            Ok(false)
+        }
+    }
+}
+
+/// `get_many` of a key and of the empty one.
+fn get_many<I: Unordered<Value = u64>>(
+    index: &I,
+    kept: &mut Kept,
+    at: usize,
+) -> Result<bool, Stop> {
+    let mut visits = [0usize; 2];
+    let keys = [key(at), key(0)];
+    let answer = index.get_many(keys.iter().copied(), |place, _value: &u64| {
+        if let Some(count) = visits.get_mut(place) {
+            *count = count.saturating_add(1);
+        }
+    });
+    match answer {
+        Ok(()) => {
+            must(
+                visits == [kept.list(at).len(), kept.list(0).len()],
+                "the visits of a batch",
+            )?;
+            Ok(true)
+        }
+        Err(fault) => {
+            must(fault == Fault::Memory, "a refusal for memory")?;
+            must(visits == [0, 0], "a refused batch visits nothing")?;
+            Ok(false)
+        }
+    }
+}
+
+/// One call by key, and the same on the list where it is accepted.
+fn once<I: Unordered<Value = u64>>(
+    index: &mut I,
+    kept: &mut Kept,
+    at: usize,
+    call: Call,
+) -> Result<bool, Stop> {
+    match call {
+        Call::Insert(value) => insert(index, kept, at, value),
+        Call::InsertAndRetain(value, answers) => insert_and_retain(index, kept, at, value, answers),
+        Call::Retain(answers) => retain(index, kept, at, answers),
+        Call::Remove => remove(index, kept, at),
+        Call::InsertAt(value) => insert_at(index, kept, at, value),
+        Call::GetOrInsert(value) => get_or_insert(index, kept, at, key(at), value),
+        Call::GetMut => get_mut(index, kept, at, key(at)),
+        Call::GetMany => get_many(index, kept, at),
+    }
+}
+
+/// An index holds what is kept, and gives it in order.
+pub(crate) fn agrees<K: Kind>(index: &K::Index, kept: &Kept) -> Result<(), Stop> {
+    kept.are_in(index)?;
+    K::is_in_order(index, kept)
+}
+
+/// How a partition of so many values stands behind an accepted call by key that found it standing so.
+fn after_call(before: Standing, threshold: usize, entries: usize) -> Standing {
+    let reaches = !before.spilled && (threshold <= before.inline_len || threshold <= entries);
+    let spilled = (before.spilled || reaches) && entries > 0;
+    Standing {
+        spilled,
+        inline_len: if spilled { 0 } else { entries },
+        spills: before.spills.saturating_add(u64::from(reaches)),
+    }
+}
+
+/// A partition stands as an accepted call by key leaves it.
+fn stands_after<K: Kind>(
+    index: &K::Index,
+    kept: &Kept,
+    at: usize,
+    before: Standing,
+    settles: bool,
+) -> Result<(), Stop> {
+    if K::THRESHOLD == 0 {
+        return Ok(());
+    }
+    let entries = kept.entries(partition(at));
+    let inline_len = if before.spilled { 0 } else { entries };
+    let wanted = if settles {
+        after_call(before, K::THRESHOLD, entries)
+    } else {
+        Standing {
+            inline_len,
+            ..before
+        }
+    };
+    must(
+        K::standing(index, partition(at)) == wanted,
+        "how a partition stands",
+    )
+}
+
+/// A partition stands as before a refused call, or it was due and spilled. Of the calls that take memory for a spill alone none is refused
+/// but where one is due.
+fn stands_refused<K: Kind>(
+    index: &K::Index,
+    at: usize,
+    before: Standing,
+    call: Call,
+) -> Result<(), Stop> {
+    let due = K::THRESHOLD > 0 && !before.spilled && K::THRESHOLD <= before.inline_len;
+    must(due || call.inserts(), "a refusal where no spill is due")?;
+    let now = K::standing(index, partition(at));
+    if now == before {
+        return Ok(());
+    }
+    let spilled = Standing {
+        spilled: true,
+        inline_len: 0,
+        spills: before.spills.saturating_add(1),
+    };
+    must(due && now == spilled, "how a refusal leaves a partition")
+}
+
+/// A call by key, made again where it is refused.
+pub(crate) fn tries<K: Kind, W: Write + Drop>(
+    report: &mut Report<'_, W>,
+    index: &mut K::Index,
+    kept: &mut Kept,
+    at: usize,
+    call: Call,
+) -> Result<(), Stop> {
+    if !kept.has_room(at) {
+        return Ok(());
+    }
+    for _ in 0..TRIES {
+        let before = K::standing(index, partition(at));
+        let accepted = once(index, kept, at, call)?;
+        report.tells(call.name(), accepted)?;
+        agrees::<K>(index, kept)?;
+        if accepted {
+            return stands_after::<K>(index, kept, at, before, call.settles());
+        }
+        stands_refused::<K>(index, at, before, call)?;
+    }
+    Ok(())
+}
+
+/// A cursor's `insert`: whether it is accepted. None where the cursor allows no insertion, or a refusal is not for memory, does not hand
+/// the value back, or leaves another state.
+fn insert_by<C: Cursor<Value = u64>>(cursor: &mut C, value: u64) -> Option<bool> {
+    let before = cursor.state();
+    if before == CursorState::NeedNext {
+        return None;
+    }
+    match cursor.insert(value) {
+        Ok(()) => Some(true),
+        Err(refused) => {
+            let returned = refused.fault == Fault::Memory && refused.value == value;
+            if returned && cursor.state() == before {
+                Some(false)
+            } else {
+                None
+            }
+        }
+    }
+}
+
+/// A cursor goes behind a value, or past the end, and puts another there: whether that was accepted. None where the key has no values.
+fn put_behind<I: Unordered<Value = u64>>(
+    index: &mut I,
+    kept: &mut Kept,
+    at: usize,
+    bytes: &[u8],
+    past: u64,
+    value: u64,
+) -> Result<Option<bool>, Stop> {
+    let Ok(Some(mut cursor)) = index.get_mut(bytes) else {
+        return Ok(None);
+    };
+    let goes = cursor.find(|found: &u64| *found == past);
+    let found = kept.list(at).iter().position(|found: &u64| *found == past);
+    must(goes == found.is_some(), "what a cursor found")?;
+    let place = match found {
+        Some(place) => place.saturating_add(1),
+        None => kept.list(at).len(),
+    };
+    let Some(accepted) = insert_by(&mut cursor, value) else {
+        return Err(Stop::Wrong("a cursor's `insert`"));
+    };
+    if accepted {
+        kept.insert(at, place, value)?;
+    } else {
+        must(
+            cursor.next().copied() == kept.list(at).get(place).copied(),
+            "where a refused insertion leaves a cursor",
+        )?;
+    }
+    Ok(Some(accepted))
+}
+
+/// The same, made again where it was refused.
+pub(crate) fn grow<K: Kind, W: Write + Drop>(
+    report: &mut Report<'_, W>,
+    index: &mut K::Index,
+    kept: &mut Kept,
+    at: usize,
+    past: u64,
+    value: u64,
+) -> Result<(), Stop> {
+    if !kept.has_room(at) || kept.list(at).is_empty() {
+        return Ok(());
+    }
+    for _ in 0..TRIES {
+        let Some(accepted) = put_behind(index, kept, at, key(at), past, value)? else {
+            return Ok(());
+        };
+        report.tells("cursor_insert", accepted)?;
+        agrees::<K>(index, kept)?;
+        if accepted {
+            return Ok(());
+        }
+    }
+    Ok(())
+}

@@ -1,0 +1,299 @@
+//! The states, by name.
+use crate::calls::{Call, agrees, grow, tries};
+use crate::kept::{KEYS, Kept};
+use crate::kinds::{AtDefault, AtOne, AtTwo, Kind, Ordered, Punordered, Spilling, Unordered};
+use crate::parts::{ahead, build, install, run_commands};
+use crate::positions::{arrays, has_room, indexed, marked};
+use crate::report::{Report, Stop, USAGE};
+use crate::snapshots::{appended, built, called, changed};
+use key_index::snapshot::Record;
+use key_index_flat::index::{Factory, ordered};
+use key_index_flat::translator::{OneCap, TwoCap};
+use key_index_parts::index::partitioned;
+use key_index_parts::index::partitioned::Partitioned;
+use std::alloc::Global;
+use std::io::Write;
+
+/// An index with no values, of a kind; none where that was refused twice.
+fn make<K: Kind, W: Write + Drop>(
+    alloc: Global,
+    report: &mut Report<'_, W>,
+    name: &str,
+) -> Result<Option<K::Index>, Stop> {
+    for _ in 0..2 {
+        match K::make(alloc) {
+            Ok(index) => {
+                report.tells(name, true)?;
+                return Ok(Some(index));
+            }
+            Err(_) => report.tells(name, false)?,
+        }
+    }
+    Ok(None)
+}
+
+/// The next of a run of numbers that look random, by George Marsaglia's xorshift of 64 bits.
+fn next(last: &mut u64) -> u64 {
+    let mut number = *last;
+    number ^= number << 13;
+    number ^= number >> 7;
+    number ^= number << 17;
+    *last = number;
+    number
+}
+
+/// The call that a number names.
+fn call_of(number: u64) -> Call {
+    let value = number >> 32;
+    match number % 12 {
+        0 | 1 => Call::Insert(value),
+        2 | 3 => Call::InsertAndRetain(value, number >> 16),
+        4 => Call::Retain(number >> 16),
+        5 => Call::Remove,
+        6 => Call::InsertAt(value),
+        7 | 8 => Call::GetOrInsert(value),
+        9 => Call::GetMut,
+        _ => Call::GetMany,
+    }
+}
+
+/// How many calls a state at random has.
+const CALLS: u32 = 500;
+
+/// Calls at random.
+fn random<K: Kind, W: Write + Drop>(
+    alloc: Global,
+    report: &mut Report<'_, W>,
+    seed: u64,
+) -> Result<(), Stop> {
+    let mut kept = Kept::new(alloc)?;
+    let Some(mut index) = make::<K, W>(alloc, report, "new")? else {
+        return Ok(());
+    };
+    let mut last = seed.wrapping_mul(0x9e37_79b9_7f4a_7c15) | 1;
+    for _ in 0..CALLS {
+        let number = next(&mut last);
+        let at = (number >> 8) as usize % KEYS;
+        if number % 16 < 3 {
+            let place = (number >> 24 & 3) as usize;
+            let past = kept.list(at).get(place).copied().unwrap_or(0);
+            grow::<K, W>(report, &mut index, &mut kept, at, past, number >> 32)?;
+        } else {
+            tries::<K, W>(report, &mut index, &mut kept, at, call_of(number >> 4))?;
+        }
+    }
+    agrees::<K>(&index, &kept)
+}
+
+/// A list of three values, an insertion with retention, three values more behind the first one, and a value of a neighbouring key.
+fn worked<K: Kind, W: Write + Drop>(alloc: Global, report: &mut Report<'_, W>) -> Result<(), Stop> {
+    let mut kept = Kept::new(alloc)?;
+    let Some(mut index) = make::<K, W>(alloc, report, "new")? else {
+        return Ok(());
+    };
+    tries::<K, W>(report, &mut index, &mut kept, 2, Call::GetOrInsert(3))?;
+    grow::<K, W>(report, &mut index, &mut kept, 2, 3, 1)?;
+    grow::<K, W>(report, &mut index, &mut kept, 2, 1, 2)?;
+    tries::<K, W>(
+        report,
+        &mut index,
+        &mut kept,
+        2,
+        Call::InsertAndRetain(4, 15),
+    )?;
+    for value in 7..10 {
+        grow::<K, W>(report, &mut index, &mut kept, 2, 3, value)?;
+    }
+    tries::<K, W>(report, &mut index, &mut kept, 3, Call::Insert(5))?;
+    tries::<K, W>(
+        report,
+        &mut index,
+        &mut kept,
+        2,
+        Call::InsertAndRetain(6, 5),
+    )?;
+    tries::<K, W>(report, &mut index, &mut kept, 2, Call::GetMany)?;
+    tries::<K, W>(report, &mut index, &mut kept, 2, Call::Remove)
+}
+
+/// Two values that a cursor put into a partition which spills at two, and then each of four calls.
+fn overfull<W: Write + Drop>(
+    alloc: Global,
+    report: &mut Report<'_, W>,
+    seed: u64,
+) -> Result<(), Stop> {
+    let mut kept = Kept::new(alloc)?;
+    let Some(mut index) = make::<AtTwo, W>(alloc, report, "with_threshold")? else {
+        return Ok(());
+    };
+    tries::<AtTwo, W>(report, &mut index, &mut kept, 4, Call::GetOrInsert(1))?;
+    grow::<AtTwo, W>(report, &mut index, &mut kept, 4, 1, 2)?;
+    let due = match seed % 5 {
+        0 => Call::GetMut,
+        1 => Call::Remove,
+        2 => Call::Retain(3),
+        3 => Call::Insert(3),
+        _ => Call::InsertAndRetain(3, 2),
+    };
+    tries::<AtTwo, W>(report, &mut index, &mut kept, 4, due)?;
+    tries::<AtTwo, W>(report, &mut index, &mut kept, 4, Call::GetMany)
+}
+
+/// A state of an index in partitions.
+fn parted<I: Partitioned<Value = u64> + Drop, W: Write + Drop>(
+    alloc: Global,
+    report: &mut Report<'_, W>,
+    state: &str,
+    made: Option<I>,
+) -> Result<(), Stop> {
+    let Some(mut index) = made else {
+        return Ok(());
+    };
+    match state {
+        "range" => install(alloc, report, index),
+        "build" => build(alloc, report, &mut index),
+        _ => Err(Stop::Wrong(USAGE)),
+    }
+}
+
+/// A state of one kind of index.
+fn go_over<K: Kind, W: Write + Drop>(
+    alloc: Global,
+    report: &mut Report<'_, W>,
+    state: &str,
+    seed: u64,
+) -> Result<(), Stop> {
+    match state {
+        "random" => random::<K, W>(alloc, report, seed),
+        "worked" => worked::<K, W>(alloc, report),
+        "run" => match make::<K, W>(alloc, report, "new")? {
+            Some(mut index) => run_commands(alloc, report, &mut index),
+            None => Ok(()),
+        },
+        "callers" => match make::<K, W>(alloc, report, "new")? {
+            Some(mut index) => called(alloc, report, &mut index),
+            None => Ok(()),
+        },
+        _ => Err(Stop::Wrong(USAGE)),
+    }
+}
+
+/// A partitioned ordered index with no values; none where it was refused twice.
+fn spilling<W: Write + Drop>(
+    alloc: Global,
+    report: &mut Report<'_, W>,
+    threshold: usize,
+) -> Result<Option<Spilling>, Stop> {
+    if threshold == 0 {
+        return Err(Stop::Wrong("a threshold"));
+    }
+    for _ in 0..2 {
+        match Spilling::with_threshold(alloc, OneCap, threshold) {
+            Ok(index) => {
+                report.tells("with_threshold", true)?;
+                return Ok(Some(index));
+            }
+            Err(_) => report.tells("with_threshold", false)?,
+        }
+    }
+    Ok(None)
+}
+
+/// A state of it at a threshold, in which it is called by name.
+fn go_spilling<W: Write + Drop>(
+    alloc: Global,
+    report: &mut Report<'_, W>,
+    state: &str,
+    threshold: usize,
+) -> Result<(), Stop> {
+    let made = spilling(alloc, report, threshold)?;
+    if state != "ahead" {
+        return parted(alloc, report, state, made);
+    }
+    match made {
+        Some(mut index) => ahead(alloc, report, &mut index),
+        None => Ok(()),
+    }
+}
+
+/// Whether a state is one of an index called by name.
+fn is_named(state: &str) -> bool {
+    state == "range" || state == "build" || state == "ahead"
+}
+
+/// A state of the partitioned ordered index of a kind.
+fn go_over_spilling<K: Kind, W: Write + Drop>(
+    alloc: Global,
+    report: &mut Report<'_, W>,
+    state: &str,
+    seed: u64,
+) -> Result<(), Stop> {
+    if is_named(state) {
+        return go_spilling(alloc, report, state, K::THRESHOLD);
+    }
+    go_over::<K, W>(alloc, report, state, seed)
+}
+
+/// A snapshot over the flat ordered index, or over the partitioned one at a threshold of two.
+fn go_snapshot<W: Write + Drop>(
+    alloc: Global,
+    report: &mut Report<'_, W>,
+    state: &str,
+) -> Result<(), Stop> {
+    match state {
+        "flat" => match <ordered::Index<TwoCap, Record> as Factory>::new(alloc, TwoCap) {
+            Ok(index) => changed(alloc, report, index),
+            Err(_) => Err(Stop::Memory),
+        },
+        "partitioned" => match partitioned::ordered::Index::<OneCap, Record, 1>::with_threshold(
+            alloc, OneCap, 2,
+        ) {
+            Ok(index) => changed(alloc, report, index),
+            Err(_) => Err(Stop::Memory),
+        },
+        "build" => match partitioned::ordered::Index::<OneCap, Record, 1>::with_threshold(
+            alloc, OneCap, 2,
+        ) {
+            Ok(index) => built(alloc, report, index),
+            Err(_) => Err(Stop::Memory),
+        },
+        _ => Err(Stop::Wrong(USAGE)),
+    }
+}
+
+/// Goes through a state of a kind of index.
+pub(crate) fn go<W: Write + Drop>(
+    alloc: Global,
+    report: &mut Report<'_, W>,
+    words: (&str, &str),
+    seed: u64,
+) -> Result<(), Stop> {
+    let (kind, state) = words;
+    match kind {
+        "unordered" => go_over::<Unordered, W>(alloc, report, state, seed),
+        "ordered" => go_over::<Ordered, W>(alloc, report, state, seed),
+        "punordered" => match state {
+            "range" | "build" => {
+                let made = make::<Punordered, W>(alloc, report, "new")?;
+                parted(alloc, report, state, made)
+            }
+            _ => go_over::<Punordered, W>(alloc, report, state, seed),
+        },
+        "pordered_at_1" => go_over_spilling::<AtOne, W>(alloc, report, state, seed),
+        "pordered_at_2" => match state {
+            "overfull" => overfull(alloc, report, seed),
+            _ => go_over_spilling::<AtTwo, W>(alloc, report, state, seed),
+        },
+        "pordered" => go_over_spilling::<AtDefault, W>(alloc, report, state, seed),
+        "immutable" => match state {
+            "index" => indexed(alloc, report),
+            "room" => has_room(alloc, report),
+            "marks" => marked(alloc, report),
+            "log" => appended(alloc, report),
+            _ => Err(Stop::Wrong(USAGE)),
+        },
+        "arrays" => arrays(alloc, report),
+        "snapshot" => go_snapshot(alloc, report, state),
+        _ => Err(Stop::Wrong(USAGE)),
+    }
+}
