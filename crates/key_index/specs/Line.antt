@@ -5,12 +5,12 @@ use Rattle.std.specs.Char.{digit_value, is_ascii_digit, is_ascii_hexdigit}
 use Rattle.std.specs.List.{slice_split, list_all}
 use Rattle.std.specs.Str.{bytes_eq}
 use Rattle.std.specs.Str.Parse.{digits_value}
-use Rattle.key_index.specs.declared.line.Command.{Command}
-use Rattle.key_index.specs.declared.line.Command.TheVariants.{Insert, Remove, Get, Counts}
-use Rattle.key_index.specs.declared.line.ImmutableCommand.{ImmutableCommand}
-use Rattle.key_index.specs.declared.line.ImmutableCommand.TheVariants as immutable
-use Rattle.key_index.specs.declared.line.OrderedCommand.{OrderedCommand}
-use Rattle.key_index.specs.declared.line.OrderedCommand.TheVariants.{Common, Next, Prev, First, Last}
+use Rattle.key_index.specs.declared.program.line.Command.{Command}
+use Rattle.key_index.specs.declared.program.line.Command.TheVariants.{Insert, Remove, Get, Counts}
+use Rattle.key_index.specs.declared.program.line.ImmutableCommand.{ImmutableCommand}
+use Rattle.key_index.specs.declared.program.line.ImmutableCommand.TheVariants as immutable
+use Rattle.key_index.specs.declared.program.line.OrderedCommand.{OrderedCommand}
+use Rattle.key_index.specs.declared.program.line.OrderedCommand.TheVariants.{Common, Next, Prev, First, Last}
 
 -- the words of a line: its parts round each single space, 32, so that two in a row have an empty word between them
 abbrev pub words_of : List ℕ → List (List ℕ)

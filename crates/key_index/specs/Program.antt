@@ -1,12 +1,12 @@
 -- Which kind of index the program's arguments name, and with which status it ends early.
 use Rattle.std.specs.Prelude.{ℕ, ◌≤◌, ◌==◌, ⊤, List, [], ◌∷◌, Option, Some, None, option_map, if◌then◌else◌, codes}
 use Rattle.std.specs.Str.{bytes_eq}
-use Rattle.key_index.specs.declared.fault.ServeError.{ServeError}
-use Rattle.key_index.specs.declared.fault.ServeError.TheVariants.{Usage, BadLine, Failed}
-use Rattle.key_index.specs.declared.kind.Kind.{Kind}
-use Rattle.key_index.specs.declared.kind.Kind.TheVariants.{Unordered, Ordered, PartitionedUnordered, PartitionedOrdered, Immutable}
-use Rattle.key_index.specs.declared.serve.AnySession.{AnySession}
-use Rattle.key_index.specs.declared.serve.AnySession.TheVariants as any
+use Rattle.key_index.specs.declared.program.fault.ServeError.{ServeError}
+use Rattle.key_index.specs.declared.program.fault.ServeError.TheVariants.{Usage, BadLine, Failed}
+use Rattle.key_index.specs.declared.program.kind.Kind.{Kind}
+use Rattle.key_index.specs.declared.program.kind.Kind.TheVariants.{Unordered, Ordered, PartitionedUnordered, PartitionedOrdered, Immutable}
+use Rattle.key_index.specs.declared.program.serve.AnySession.{AnySession}
+use Rattle.key_index.specs.declared.program.serve.AnySession.TheVariants as any
 use Rattle.key_index.specs.Line.{◌>>=◌, number_of}
 use Rattle.key_index_parts.specs.Ordered.{standings}
 

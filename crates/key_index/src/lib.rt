@@ -1,10 +1,7 @@
-//! The program `key_index`: an index of keys that is driven by commands, one on each line.
+//! The immutable index with its table, the snapshot, and the program that drives an index by lines.
 #![tactic(auto)]
 
-pub mod fault;
 pub mod index;
-pub mod kind;
-pub mod line;
-pub mod serve;
+pub mod program;
 pub mod snapshot;
 pub mod table;

@@ -3,7 +3,7 @@ ghost use Rattle.std.specs.Prelude.{◌≤◌};
 
 use crate::flat::Failure;
 use crate::report::Report;
-use key_index_flat::index::{Fault, Unordered};
+use key_index_flat::index::{Cursor, CursorState, Fault, Search, Unordered};
 use key_index_flat::translator::EightCap;
 use key_index_parts::index::partitioned::ordered;
 use std::alloc::Global;
@@ -96,6 +96,58 @@ fn spill<C: Clock, W: Write>(
     Ok(())
 }
 
+/// How often a partition grows to its threshold and shrinks below half of it.
+const WAVES: usize = 100;
+
+/// Takes a number's key out by `remove`, which moves a small partition back to arrays, or by a cursor, which moves nothing back.
+fn take_rising(index: &mut Index, number: usize, by_cursor: bool) -> Result<(), Failure> {
+    let key = rising(number);
+    if !by_cursor {
+        return match index.remove(&key) {
+            Ok(()) => Ok(()),
+            Err(fault) => Err(Failure::Refused(fault)),
+        };
+    }
+    match index.get_mut(&key) {
+        Ok(Some(mut cursor)) => {
+            cursor.next();
+            if cursor.state() == CursorState::Active {
+                cursor.delete();
+            }
+            Ok(())
+        }
+        Ok(None) => Ok(()),
+        Err(fault) => Err(Failure::Refused(fault)),
+    }
+}
+
+/// Lets a partition grow to the default threshold and shrink below half of it, so often: time by insertion and removal. In place of the
+/// sum stands how many values were moved.
+fn waves<C: Clock, W: Write>(
+    alloc: Global,
+    name: &str,
+    by_cursor: bool,
+    report: &mut Report<'_, C, W>,
+) -> Result<(), Failure> {
+    let mut index = make(alloc, DEFAULT_THRESHOLD)?;
+    let left = DEFAULT_THRESHOLD / 2 - 1;
+    for number in 0..left {
+        insert_rising(&mut index, number)?;
+    }
+    let start = report.start()?;
+    for _ in 0..WAVES {
+        for number in left..DEFAULT_THRESHOLD {
+            insert_rising(&mut index, number)?;
+        }
+        for number in left..DEFAULT_THRESHOLD {
+            take_rising(&mut index, number, by_cursor)?;
+        }
+    }
+    let edits = 2 * WAVES * (DEFAULT_THRESHOLD - left);
+    report.line(name, edits, start, index.moved())?;
+    Ok(())
+}
+
 /// Measures one partition.
 pub(crate) fn run<C: Clock, W: Write>(
     alloc: Global,
@@ -104,5 +156,7 @@ pub(crate) fn run<C: Clock, W: Write>(
 ) -> Result<(), Failure> {
     spill(alloc, keys.len(), report)?;
     flood(alloc, "flood", DEFAULT_THRESHOLD, keys, report)?;
-    flood(alloc, "flood_arrays", usize::MAX, keys, report)
+    flood(alloc, "flood_arrays", usize::MAX, keys, report)?;
+    waves(alloc, "waves", false, report)?;
+    waves(alloc, "waves_in_tree", true, report)
 }

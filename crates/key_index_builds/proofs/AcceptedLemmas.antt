@@ -1,7 +1,7 @@
 -- Ops that are all accepted are a legal run of commands, which ends at `after_ops`.
 --     step_legal, steps_legal      a step with its flag, and steps with theirs
 --     op_legal, ops_legal          an op, and ops in turn; runs_as: the same as a clause has it
-use Rattle.std.proofs.Common.{◌≡◌, ℕ, ◌+◌, ◌-◌, ◌^◌, ◌<◌, ◌≤◌, Bool, not, IsTrue, List, [], ◌∷◌, length, take, drop, map, add-one, length-append, length-take, length-drop, length-set, refl, sym, ap, subst, arith}
+use Rattle.std.proofs.Common.{◌≡◌, ℕ, ◌+◌, ◌-◌, ◌^◌, ◌<◌, ◌≤◌, Bool, true, false, List, [], ◌∷◌, length, take, drop, map, add-one, length-append, length-take, length-drop, length-set, refl, sym, ap, subst, arith}
 use Rattle.std.specs.declared.cmp.Ordering.{Ordering}
 use Rattle.std.specs.declared.cmp.Ordering.TheVariants.{Equal}
 use Rattle.std.specs.Cmp.{IsTotalOrder}
@@ -10,36 +10,26 @@ use Rattle.key_index_flat.specs.declared.index.command.Step.TheVariants as step
 use Rattle.key_index_flat.specs.declared.index.command.Outcome.{Outcome}
 use Rattle.key_index_flat.specs.declared.index.command.Outcome.TheVariants as outcome
 use Rattle.key_index_flat.specs.Content.{Content, list_at, with_list, item_count, IsLawful}
-use Rattle.key_index_flat.specs.Laws.{IsLawful-with_list}
+use Rattle.key_index_flat.specs.laws.Laws.{IsLawful-with_list}
 use Rattle.key_index_flat.specs.View.{View, with_run, with_pruned}
 use Rattle.key_index_flat.specs.Cursor.{Place, NeedNext, Active, Done, list_after_insert, list_after_update, list_after_delete}
-use Rattle.key_index_flat.specs.Run.{is_full, Edited, edit_start, StepGives, EditGives, EditUnlessAbsent, CommandGives, IsLegal}
-use Rattle.key_index_flat.proofs.ContentLemmas.{item_count-with_list, with_list-same}
-use Rattle.key_index_flat.proofs.CursorLemmas.{pruned_none}
-use Rattle.key_index_flat.proofs.RunLemmas.{not_full, none_more}
-use Rattle.key_index_builds.specs.Ops.{after_step, after_steps, edit_held, after_op, after_ops, op_key}
-use Rattle.key_index_builds.specs.Accepted.{is_allowed, flags_of, flags_held, command_of, IsAccepted, AreAccepted, HaveSpace, RunsAs}
+use Rattle.key_index_flat.specs.Steps.{Edited, after_step, is_allowed}
+use Rattle.key_index_flat.specs.Run.{edit_start, StepGives, EditGives, EditUnlessAbsent, CommandGives, IsLegal}
+use Rattle.key_index_flat.proofs.content.ContentLemmas.{item_count-with_list, with_list-same}
+use Rattle.key_index_flat.proofs.runs.CursorLemmas.{pruned_none}
+use Rattle.key_index_flat.proofs.runs.RunLemmas.{not_full, after_skipped}
+use Rattle.key_index_builds.specs.Ops.{after_steps, edit_held, after_op, after_ops, op_key}
+use Rattle.key_index_builds.specs.Accepted.{flags_of, flags_held, command_of, IsAccepted, AreAccepted, HaveSpace, RunsAs}
 use Rattle.key_index_builds.specs.declared.op.Op.{Op}
 use Rattle.key_index_builds.specs.declared.op.Op.TheVariants as op
 
 module _ {V : Type 0} where
-  abbrev at : List V → Place → ℕ → Edited V
-  at l p n = record { items = l; place = p; taken = n }
-
-  room_here : (others : ℕ) (l : List V) → others + length l < 2 ^ 64 - 1 → IsTrue (not (is_full (others + length l)))
-  room_here others l h = not_full (others + length l) (others + length l) h refl
-
-  step_legal : (others : ℕ) (x : Step V) (l : List V) (p : Place) (n : ℕ) → others + length l < 2 ^ 64 - 1 → StepGives others x (is_allowed x p) (at l p n) (after_step x (at l p n))
-  step_legal others step.Next l p n h = (refl, refl, refl)
-  step_legal others (step.Insert v) l (NeedNext i) n h = (refl, refl, refl)
-  step_legal others (step.Insert v) l (Active i) n h = (tt, room_here others l h, (refl, refl, refl))
-  step_legal others (step.Insert v) l Done n h = (tt, room_here others l h, (refl, refl, refl))
-  step_legal others (step.Update v) l (NeedNext i) n h = (λ z. z, (refl, refl, refl))
-  step_legal others (step.Update v) l (Active i) n h = (tt, (refl, refl, refl))
-  step_legal others (step.Update v) l Done n h = (λ z. z, (refl, refl, refl))
-  step_legal others step.Delete l (NeedNext i) n h = (λ z. z, (refl, refl, none_more n))
-  step_legal others step.Delete l (Active i) n h = (tt, (refl, refl, refl))
-  step_legal others step.Delete l Done n h = (λ z. z, (refl, refl, none_more n))
+  step_legal : (others : ℕ) (x : Step V) (s : Edited V) → others + length s.items < 2 ^ 64 - 1 → StepGives others x (is_allowed x s.place) s (after_step x s)
+  step_legal others x s h =
+      elim (is_allowed x s.place) as (λ b. is_allowed x s.place ≡ b → StepGives others x b s (after_step x s)) [
+        | true ↦ λ e. (e, (λ i. not_full (others + length s.items) (others + length s.items) h refl), refl)
+        | false ↦ λ e. ((λ a. absurd (cc (a, e))), after_skipped x s e)
+      ] refl
 
   insert_longer : (l : List V) (p : Place) (v : V) → length (list_after_insert l p v) ≤ length l + 1
   insert_longer l (NeedNext i) v = omega arith
@@ -65,11 +55,11 @@ module _ {V : Type 0} where
   one_more step.Delete s = delete_shorter s.items s.place
 
   pub steps_legal : (others : ℕ) (xs : List (Step V)) (s : Edited V) → others + length s.items + length xs < 2 ^ 64 → EditGives others xs (flags_of xs s) s (after_steps xs s)
-  steps_legal others [] s h = (refl, refl, refl)
+  steps_legal others [] s h = refl
   steps_legal others (x ∷ xs) s h =
       let more = one_more x s in
       let long : length (x ∷ xs) ≡ length xs + 1 = sym (add-one (length xs)) in
-      (after_step x s, step_legal others x s.items s.place s.taken (omega (arith, h, long)), steps_legal others xs (after_step x s) (omega (arith, h, more, long)))
+      (after_step x s, step_legal others x s (omega (arith, h, long)), steps_legal others xs (after_step x s) (omega (arith, h, more, long)))
 
 module _ {K V F : Type 0} {cmp : K → K → Ordering} (o : IsTotalOrder cmp) (first : Bool) (ask : F → V → Bool → F → Type 0) where
   edit_legal : (k : K) (s : View K V) (l : List V) (steps : List (Step V)) (flags : List Bool) → IsLawful cmp s.content → list_at cmp s.content k ≡ l → item_count s.content + length steps < 2 ^ 64 → with_list cmp s.content k l ≡ s.content

@@ -8,13 +8,13 @@ use Rattle.std.specs.declared.cmp.Ordering.{Ordering}
 use Rattle.std.specs.declared.cmp.Ordering.TheVariants.{Equal}
 use Rattle.std.specs.Cmp.{IsTotalOrder}
 use Rattle.key_index_flat.specs.Content.{list_at, with_list, IsLawful}
-use Rattle.key_index_flat.specs.Laws.{IsLawful-with_list}
+use Rattle.key_index_flat.specs.laws.Laws.{IsLawful-with_list}
 use Rattle.key_index_flat.specs.View.{View, pruned_after}
 use Rattle.key_index_parts.specs.Joined.{joined, joined_view, IsFree, is_between}
 use Rattle.key_index_builds.specs.Ops.{op_key, list_after, taken_after, after_op_at, after_op, after_ops, ops_within, ops_below}
 use Rattle.key_index_builds.specs.Ranges.{number_of}
 use Rattle.key_index_builds.specs.declared.op.Op.{Op}
-use Rattle.key_index_parts.proofs.JoinedLemmas.{list_at-joined, joined-with_list, with_list-joined, IsFree-with_list}
+use Rattle.key_index_parts.proofs.family.JoinedLemmas.{list_at-joined, joined-with_list, with_list-joined, IsFree-with_list}
 
 pub pruned_left : (p q n : ℕ) → pruned_after (pruned_after p n) q ≡ pruned_after (pruned_after p q) n
 pruned_left p q n = omega arith

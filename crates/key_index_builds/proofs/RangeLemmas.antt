@@ -18,15 +18,15 @@ use Rattle.std.specs.Cmp.{IsTotalOrder}
 use Rattle.key_index_flat.specs.declared.index.Fault.{Fault}
 use Rattle.key_index_flat.specs.Content.{list_at, with_list, item_count, IsLawful}
 use Rattle.key_index_flat.specs.View.{View, items_in}
-use Rattle.key_index_flat.proofs.CursorLemmas.{pruned_none}
-use Rattle.key_index_flat.proofs.ViewLemmas.{same_view}
+use Rattle.key_index_flat.proofs.runs.CursorLemmas.{pruned_none}
+use Rattle.key_index_flat.proofs.runs.ViewLemmas.{same_view}
 use Rattle.key_index_parts.specs.Joined.{joined_view, IsFree, is_between, install_fault}
 use Rattle.key_index_builds.specs.Fill.{IsFillFault}
 use Rattle.key_index_builds.specs.Ops.{IsCuts, op_key, edit_held, list_after, after_op, after_ops, after_begun, ops_within, ops_below, AreBelow}
 use Rattle.key_index_builds.specs.Ranges.{number_of, empty_view, IsFilled, AreFilled, installed, CanInstall, StopsAt, filled_by, built_upto, IsFillingFault, RefusesBuild}
 use Rattle.key_index_builds.specs.declared.op.Op.{Op}
 use Rattle.key_index_builds.specs.declared.op.Op.TheVariants as op
-use Rattle.key_index_parts.proofs.JoinedLemmas.{joined-empty}
+use Rattle.key_index_parts.proofs.family.JoinedLemmas.{joined-empty}
 use Rattle.key_index_builds.proofs.DoneLemmas.{take_whole}
 use Rattle.key_index_builds.proofs.OpLemmas.{join_ops, free_above}
 

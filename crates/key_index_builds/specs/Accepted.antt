@@ -1,41 +1,24 @@
 -- The outcomes of ops that are all accepted, and how `after_ops` stands to the legal runs of commands.
---     is_allowed, flags_of     whether a place allows a step; the flags of steps of which each that is allowed is accepted
+--     flags_of                 the flags of steps of which each that its place allows is accepted
 --     command_of               the command that an op is
 --     IsAccepted, AreAccepted  that an outcome is `Done`, or the flags of the steps
 --     HaveSpace                that no op comes near the greatest `usize` of values
 --     RunsAs                   with such space, ops that are all accepted are a legal run of commands; first: as in `IsLegal`
-use Rattle.std.specs.Prelude.{◌≡◌, ℕ, ◌+◌, ◌^◌, ◌<◌, Bool, true, false, List, [], ◌∷◌, length, map}
+use Rattle.std.specs.Prelude.{◌≡◌, ℕ, ◌+◌, ◌^◌, ◌<◌, Bool, false, List, [], ◌∷◌, length, map}
 use Rattle.std.specs.declared.cmp.Ordering.{Ordering}
 use Rattle.key_index_flat.specs.declared.index.command.Step.{Step}
-use Rattle.key_index_flat.specs.declared.index.command.Step.TheVariants as step
 use Rattle.key_index_flat.specs.declared.index.command.Command.{Command}
 use Rattle.key_index_flat.specs.declared.index.command.Command.TheVariants as command
 use Rattle.key_index_flat.specs.declared.index.command.Outcome.{Outcome}
 use Rattle.key_index_flat.specs.declared.index.command.Outcome.TheVariants as outcome
-use Rattle.key_index_flat.specs.Cursor.{Place, NeedNext, Active, Done}
-use Rattle.key_index_flat.specs.Run.{Edited, edit_start, IsLegal}
+use Rattle.key_index_flat.specs.Run.{edit_start, IsLegal}
+use Rattle.key_index_flat.specs.Steps.{Edited, after_step, is_allowed}
 use Rattle.key_index_flat.specs.View.{View, items_in, run_of}
-use Rattle.key_index_builds.specs.Ops.{after_step, after_op, op_key}
+use Rattle.key_index_builds.specs.Ops.{after_op, op_key}
 use Rattle.key_index_builds.specs.declared.op.Op.{Op}
 use Rattle.key_index_builds.specs.declared.op.Op.TheVariants as op
 
-abbrev pub on_value : Place → Bool
-on_value (NeedNext i) = false
-on_value (Active i) = true
-on_value Done = false
-
-abbrev pub takes_insert : Place → Bool
-takes_insert (NeedNext i) = false
-takes_insert (Active i) = true
-takes_insert Done = true
-
 module _ {V : Type 0} where
-  abbrev pub is_allowed : Step V → Place → Bool
-  is_allowed step.Next p = true
-  is_allowed (step.Insert v) p = takes_insert p
-  is_allowed (step.Update v) p = on_value p
-  is_allowed step.Delete p = on_value p
-
   abbrev pub flags_of : List (Step V) → Edited V → List Bool
   flags_of [] s = []
   flags_of (x ∷ xs) s = is_allowed x s.place ∷ flags_of xs (after_step x s)

@@ -1,8 +1,7 @@
--- A step of a filling at a cursor.
---     Fills, FillsAll      a step, or some in turn, leave the index by one edit after another, and the cursor on what `after_step` says
---     RefusesStep          some steps in turn do, and the one behind them is refused
+-- Why a filling is refused.
+--     RefusesStep          some steps in turn are done at a cursor, and the one behind them is refused
 --     IsFillFault          why an op is refused: want of memory, or the greatest `usize` of values, where some of its steps were done
-use Rattle.std.specs.Prelude.{◌≡◌, ◌⊎◌, ℕ, ◌+◌, ◌-◌, ◌^◌, List, take}
+use Rattle.std.specs.Prelude.{◌≡◌, ◌⊎◌, ℕ, ◌-◌, ◌^◌, List, take}
 use Rattle.std.specs.declared.cmp.Ord as ord
 use Rattle.std.specs.declared.cmp.PartialEq as eq
 use Rattle.std.specs.declared.cmp.PartialOrd as partial
@@ -11,26 +10,15 @@ use Rattle.key_index_flat.specs.declared.index.Fault.TheVariants.{Memory, Full}
 use Rattle.key_index_flat.specs.declared.index.command.Step.{Step}
 use Rattle.key_index_flat.specs.declared.index.index_cursor.IndexCursor.{IndexCursor}
 use Rattle.key_index_flat.specs.declared.index.traits.runs.Runs as runs
-use Rattle.key_index_flat.specs.CursorRun.{edited_at}
-use Rattle.key_index_flat.specs.IndexCursor.{EditsIndex}
+use Rattle.key_index_flat.specs.CursorRun.{EditsBy}
 use Rattle.key_index_flat.specs.View.{View, items_in, growth_fault_in}
-use Rattle.key_index_builds.specs.Ops.{after_step, after_steps}
+use Rattle.key_index_builds.specs.Ops.{after_steps}
 
 module _ {I V K : Type 0} {r : runs.Ghosts I V K} {o : ord.Ghosts K} {e : eq.Ghosts K} {p : partial.Ghosts K} where
-  pub record Fills (step : Step V) (old new : IndexCursor I V K r o e p) : Type 0 where
-    pub taken : ℕ
-    pub edits : EditsIndex old new taken
-    pub gives : (before : ℕ) → edited_at new (before + taken) ≡ after_step step (edited_at old before)
-
-  pub record FillsAll (steps : List (Step V)) (old new : IndexCursor I V K r o e p) : Type 0 where
-    pub taken : ℕ
-    pub edits : EditsIndex old new taken
-    pub gives : edited_at new taken ≡ after_steps steps (edited_at old 0)
-
   pub record RefusesStep (steps : List (Step V)) (old : IndexCursor I V K r o e p) (fault : Fault) : Type 0 where
     pub count : ℕ
     pub at : IndexCursor I V K r o e p
-    pub fills : FillsAll (take count steps) old at
+    pub edits : EditsBy (after_steps (take count steps)) old at
     pub why : fault ≡ growth_fault_in (r.view at.index.now)
 
 -- beginning: what the first n steps leave

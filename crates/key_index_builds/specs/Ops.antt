@@ -1,5 +1,5 @@
 -- What a list of ops makes of a content, with every step accepted that its state allows.
---     after_step, after_steps      the list, the place and the number of values taken out after a step, and after steps in turn
+--     after_steps                  the list, the place and the number of values taken out after steps in turn
 --     after_op, after_ops          the view after an op, and after ops in turn; after_op_at: after an op at an index key
 --     after_begun                  the view after the first n steps of an op
 --     op_key                       the bytes of the key of an op
@@ -9,32 +9,14 @@
 use Rattle.std.specs.Prelude.{◌≡◌, ℕ, ◌+◌, ◌-◌, ◌<◌, nat_lt, List, [], ◌∷◌, length, take, filter, slice_index}
 use Rattle.std.specs.declared.cmp.Ordering.{Ordering}
 use Rattle.key_index_flat.specs.declared.index.command.Step.{Step}
-use Rattle.key_index_flat.specs.declared.index.command.Step.TheVariants as step
-use Rattle.key_index_flat.specs.Cursor.{Place, NeedNext, Active, Done, after_next, list_after_insert, place_after_insert, list_after_update, list_after_delete, place_after_delete}
-use Rattle.key_index_flat.specs.Run.{Edited, edit_start, one_if_absent}
+use Rattle.key_index_flat.specs.Run.{edit_start, one_if_absent}
+use Rattle.key_index_flat.specs.Steps.{Edited, after_step}
 use Rattle.key_index_flat.specs.View.{View, run_at, with_run, with_pruned}
 use Rattle.key_index_parts.specs.Joined.{is_between}
 use Rattle.key_index_builds.specs.declared.op.Op.{Op}
 use Rattle.key_index_builds.specs.declared.op.Op.TheVariants as op
 
-abbrev pub taken_by_delete : Place → ℕ
-taken_by_delete (NeedNext i) = 0
-taken_by_delete (Active i) = 1
-taken_by_delete Done = 0
-
 module _ {V : Type 0} where
-  -- a step that the place does not allow leaves all
-  abbrev pub after_step : Step V → Edited V → Edited V
-  after_step step.Next s = record s { place = after_next s.items s.place }
-  after_step (step.Insert v) s =
-      record { items = list_after_insert s.items s.place v; place = place_after_insert s.place; taken = s.taken }
-  after_step (step.Update v) s = record s { items = list_after_update s.items s.place v }
-  after_step step.Delete s = record {
-    items = list_after_delete s.items s.place;
-    place = place_after_delete s.place;
-    taken = s.taken + taken_by_delete s.place;
-  }
-
   abbrev pub after_steps : List (Step V) → Edited V → Edited V
   after_steps [] s = s
   after_steps (x ∷ xs) s = after_steps xs (after_step x s)

@@ -1,78 +1,28 @@
 //! One op in one range, proved once over any range.
 ghost use Rattle.std.specs.Prelude.{◌≡◌, ◌<◌, length, take, IsTrue, IfErr, OnOk};
-ghost use Rattle.key_index_flat.specs.Cursor.{AllowsInsert};
-ghost use Rattle.key_index_flat.specs.IndexCursor.{cursor_index, cursor_place};
+ghost use Rattle.key_index_flat.specs.CursorRun.{EditsBy};
 ghost use Rattle.key_index_flat.specs.Run.{one_if_absent};
 ghost use Rattle.key_index_flat.specs.View.{run_at, with_edit, growth_fault_in, Admits};
-ghost use Rattle.key_index_builds.specs.Fill.{Fills, FillsAll, RefusesStep, IsFillFault};
-ghost use Rattle.key_index_builds.specs.Ops.{after_op, after_begun, edited_by, op_key};
+ghost use Rattle.key_index_builds.specs.Fill.{RefusesStep, IsFillFault};
+ghost use Rattle.key_index_builds.specs.Ops.{after_op, after_begun, after_steps, edited_by, op_key};
 
 use crate::Op;
-use key_index_flat::index::{Cursor, CursorState, Fault, IndexCursor, Runs, Search, Step};
+use key_index_flat::index::{Fault, IndexCursor, Runs, Search, Step};
 use key_index_parts::index::partitioned::PartitionRange;
 
-/// Puts a value behind the one that the cursor is on, or last.
-fn put<R: Search>(cursor: &mut IndexCursor<'_, R>, value: R::Value) -> Result<(), Fault>
-where
-    R::Value: Drop,
-    requires { AllowsInsert (cursor_place cursor.old) }
-    ensures filled { OnOk result (Fills (Step.Insert value) cursor.old cursor.new) }
-    ensures fault { IfErr result (λ f. f ≡ growth_fault_in (R.view (cursor_index cursor.old).now)) }
-{
-    cursor.insert(value)?;
-    Ok(())
-}
-
-/// One step of an edit. A step that the cursor's state does not allow is skipped.
-fn fill_step<R: Search>(cursor: &mut IndexCursor<'_, R>, step: Step<R::Value>) -> Result<(), Fault>
-where
-    R::Value: Drop,
-    ensures filled { OnOk result (Fills step cursor.old cursor.new) }
-    ensures fault { IfErr result (λ f. f ≡ growth_fault_in (R.view (cursor_index cursor.old).now)) }
-{
-    let state = cursor.state();
-    match step {
-        Step::Next => {
-            cursor.next();
-            Ok(())
-        }
-        Step::Insert(value) => match state {
-            CursorState::NeedNext => Ok(()),
-            CursorState::Active => put(cursor, value),
-            CursorState::Done => put(cursor, value),
-        },
-        Step::Update(value) => match state {
-            CursorState::NeedNext => Ok(()),
-            CursorState::Active => {
-                cursor.update(value);
-                Ok(())
-            }
-            CursorState::Done => Ok(()),
-        },
-        Step::Delete => match state {
-            CursorState::NeedNext => Ok(()),
-            CursorState::Active => {
-                cursor.delete();
-                Ok(())
-            }
-            CursorState::Done => Ok(()),
-        },
-    }
-}
-
-/// The steps of an edit in turn.
+/// The steps of an edit in turn. One that the cursor's place does not allow is skipped.
 fn fill_steps<R: Search>(
     cursor: &mut IndexCursor<'_, R>,
     steps: Vec<Step<R::Value>>,
 ) -> Result<(), Fault>
 where
     R::Value: Drop,
-    ensures filled { OnOk result (FillsAll steps.items cursor.old cursor.new) }
+    ensures filled { OnOk result (EditsBy (after_steps steps.items) cursor.old cursor.new) }
     ensures refused { IfErr result (RefusesStep steps.items cursor.old) }
 {
     let mut rest = steps.into_iter();
     'steps: while let Some(step) = rest.next() {
-        fill_step(cursor, step)?;
+        cursor.step(step)?;
     }
     Ok(())
 }

@@ -1,8 +1,8 @@
 //! The program `key_index`, on the process's arguments and standard streams.
 #![tactic(auto)]
 
-use key_index::fault::ServeError;
-use key_index::serve::{end_early, serve};
+use key_index::program::fault::ServeError;
+use key_index::program::serve::{end_early, serve};
 use std::env;
 use std::io::ErrorKind;
 use std::process::ExitCode;

@@ -4,8 +4,9 @@
 --     after_next, value_next      where `next` goes, and what it answers
 --     list_after_insert, ..       the list that `insert`, `update` and `delete` leave, and place_after_insert, .. the place
 --     Retains, Finds, FindsNone   what `retain` leaves, and where `find` ends: f is asked on each value in turn, by the relation step
+--     on_value, takes_insert      whether a place is on a value, and whether a value can be put in there
 --     IsOnValue, AllowsInsert     where `update` and `delete` are allowed, and where `insert` is
-use Rattle.std.specs.Prelude.{◌≡◌, ◌<◌, ℕ, ◌+◌, Bool, true, false, if◌then◌else◌, nat_lt, List, [], ◌∷◌, ◌++◌, length, take, drop, slice_get, slice_set, replicate, Option, None}
+use Rattle.std.specs.Prelude.{◌≡◌, ◌<◌, ℕ, ◌+◌, Bool, true, false, if◌then◌else◌, nat_lt, IsTrue, List, [], ◌∷◌, ◌++◌, length, take, drop, slice_get, slice_set, replicate, Option, None}
 use Rattle.std.specs.List.Retain.{IsFiltered, ReturnsInTurn}
 use Rattle.key_index_flat.specs.declared.index.traits.cursor.CursorState.{CursorState}
 use Rattle.key_index_flat.specs.declared.index.traits.cursor.CursorState.TheVariants as state
@@ -36,6 +37,12 @@ abbrev pub place_after_delete : Place → Place
 place_after_delete (NeedNext i) = NeedNext i
 place_after_delete (Active i) = NeedNext i
 place_after_delete Done = Done
+
+-- how many values `delete` takes out
+abbrev pub taken_by_delete : Place → ℕ
+taken_by_delete (NeedNext i) = 0
+taken_by_delete (Active i) = 1
+taken_by_delete Done = 0
 
 -- the place of the value that `next` would give
 abbrev pub next_place : {V : Type 0} → List V → Place → ℕ
@@ -94,14 +101,19 @@ abbrev pub FindsNone : {F V : Type 0} → (F → V → Bool → F → Type 0) �
 FindsNone {F = F} step f l p new =
     (last : F) × ReturnsInTurn step f (replicate (length (values_left l p)) false) (values_left l p) last × (new ≡ Done)
 
--- on a value
-abbrev pub IsOnValue : Place → Type 0
-IsOnValue (NeedNext i) = ⊥
-IsOnValue (Active i) = Unit {0}
-IsOnValue Done = ⊥
+abbrev pub on_value : Place → Bool
+on_value (NeedNext i) = false
+on_value (Active i) = true
+on_value Done = false
 
 -- on a value, or past the end
+abbrev pub takes_insert : Place → Bool
+takes_insert (NeedNext i) = false
+takes_insert (Active i) = true
+takes_insert Done = true
+
+abbrev pub IsOnValue : Place → Type 0
+IsOnValue p = IsTrue (on_value p)
+
 abbrev pub AllowsInsert : Place → Type 0
-AllowsInsert (NeedNext i) = ⊥
-AllowsInsert (Active i) = Unit {0}
-AllowsInsert Done = Unit {0}
+AllowsInsert p = IsTrue (takes_insert p)

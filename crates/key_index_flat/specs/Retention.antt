@@ -1,7 +1,9 @@
 -- A closure that is asked once on each value of a list, in order.
 --     last_answer   the last of the answers, and b where there is none
 --     AsksInTurn    the closure is asked on each of xs, ys are those that it said true of, and `stays` is its last answer
-use Rattle.std.specs.Prelude.{◌≡◌, Bool, List, [], ◌∷◌, length}
+--     AsksBehind    it is asked on each of the held values and on v last, and left are those that it said true of; so many of the
+--                   held ones are gone
+use Rattle.std.specs.Prelude.{◌≡◌, ℕ, ◌+◌, Bool, List, [], ◌∷◌, ◌++◌, length}
 use Rattle.std.specs.List.{items_where_true}
 use Rattle.std.specs.List.Retain.{ReturnsInTurn}
 
@@ -14,3 +16,12 @@ abbrev pub AsksInTurn : {F V : Type 0} → (F → V → Bool → F → Type 0) �
 AsksInTurn {F = F} ask f before xs ys stays =
     (answers : List Bool) × (last : F) × (length answers ≡ length xs) × ReturnsInTurn ask f answers xs last
     × (ys ≡ items_where_true answers xs) × (stays ≡ last_answer before answers)
+
+pub record AsksBehind {F V : Type 0} (ask : F → V → Bool → F → Type 0) (f : F) (held : List V) (v : V) (left : List V)
+    (gone : ℕ) : Type 0 where
+  pub answers : List Bool
+  pub last : F
+  pub long : length answers ≡ length held + 1
+  pub asked : ReturnsInTurn ask f answers (held ++ v ∷ []) last
+  pub kept : left ≡ items_where_true answers (held ++ v ∷ [])
+  pub taken : gone + length (items_where_true answers held) ≡ length held

@@ -13,45 +13,25 @@ use Rattle.key_index_flat.specs.declared.index.command.Command.TheVariants as co
 use Rattle.key_index_flat.specs.declared.index.command.Outcome.{Outcome}
 use Rattle.key_index_flat.specs.declared.index.command.Outcome.TheVariants as outcome
 use Rattle.key_index_flat.specs.declared.index.command.Step.{Step}
-use Rattle.key_index_flat.specs.declared.index.command.Step.TheVariants as step
 use Rattle.key_index_flat.specs.declared.index.Fault.{Fault}
 use Rattle.key_index_flat.specs.View.{View, growth_fault_in, items_in, run_at, run_of, with_run, with_edit, with_pruned, after_insert, after_remove, InsertsAndRetainsAt, RetainsAt}
-use Rattle.key_index_flat.specs.Cursor.{Place, NeedNext, IsOnValue, AllowsInsert, after_next, list_after_insert, place_after_insert, list_after_update, list_after_delete, place_after_delete}
+use Rattle.key_index_flat.specs.Cursor.{NeedNext}
+use Rattle.key_index_flat.specs.Steps.{Edited, is_allowed, inserts, after_step}
 
 -- whether no value has room, at so many
 abbrev pub is_full : ℕ → Bool
 is_full items = nat_eq items (2 ^ 64 - 1)
 
--- the list that a cursor is on, its place, and how many values were taken out
-pub record Edited (V : Type 0) : Type 0 where
-  pub items : List V
-  pub place : Place
-  pub taken : ℕ
-
--- without this step
-abbrev pub Skipped : {V : Type 0} → Edited V → Edited V → Type 0
-Skipped s t = (t.items ≡ s.items) × (t.place ≡ s.place) × (t.taken ≡ s.taken)
-
-abbrev pub IsAt : {V : Type 0} → Edited V → List V → Place → ℕ → Type 0
-IsAt t l p n = (t.items ≡ l) × (t.place ≡ p) × (t.taken ≡ n)
-
+-- A step is accepted where the place allows it and one more value has room. Where the place allows it, only an insertion is refused.
 -- others: how many values the other index keys have
 abbrev pub StepGives : {V : Type 0} → ℕ → Step V → Bool → Edited V → Edited V → Type 0
-StepGives others step.Next true s t = IsAt t s.items (after_next s.items s.place) s.taken
-StepGives others step.Next false s t = ⊥
-StepGives others (step.Update v) true s t =
-    IsOnValue s.place × IsAt t (list_after_update s.items s.place v) s.place s.taken
-StepGives others (step.Update v) false s t = ¬ (IsOnValue s.place) × Skipped s t
-StepGives others step.Delete true s t =
-    IsOnValue s.place × IsAt t (list_after_delete s.items s.place) (place_after_delete s.place) (s.taken + 1)
-StepGives others step.Delete false s t = ¬ (IsOnValue s.place) × Skipped s t
-StepGives others (step.Insert v) true s t =
-    AllowsInsert s.place × IsTrue (not (is_full (others + length s.items)))
-    × IsAt t (list_after_insert s.items s.place v) (place_after_insert s.place) s.taken
-StepGives others (step.Insert v) false s t = Skipped s t
+StepGives others x true s t =
+    IsTrue (is_allowed x s.place) × (IsTrue (inserts x s.place) → IsTrue (not (is_full (others + length s.items))))
+    × (t ≡ after_step x s)
+StepGives others x false s t = (IsTrue (is_allowed x s.place) → IsTrue (inserts x s.place)) × (t ≡ s)
 
 abbrev pub EditGives : {V : Type 0} → ℕ → List (Step V) → List Bool → Edited V → Edited V → Type 0
-EditGives others [] [] s t = IsAt t s.items s.place s.taken
+EditGives others [] [] s t = t ≡ s
 EditGives others [] (b ∷ bs) s t = ⊥
 EditGives others (x ∷ xs) [] s t = ⊥
 EditGives {V = V} others (x ∷ xs) (b ∷ bs) s t = (m : Edited V) × StepGives others x b s m × EditGives others xs bs m t

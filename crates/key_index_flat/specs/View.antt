@@ -20,12 +20,12 @@
 --                                 call that inserts nothing may have it
 --     StaysBut, InsertsBut        the view stays, or gains a key with one value; what else is left is told by `also`
 use Rattle.std.specs.Prelude.{◌≡◌, ℕ, ◌<◌, ◌+◌, ◌-◌, ◌^◌, min, Bool, true, false, IsTrue, List, [], ◌∷◌, ◌++◌, length}
-use Rattle.std.specs.List.{items_where_true}
-use Rattle.std.specs.List.Retain.{IsFiltered, ReturnsInTurn}
+use Rattle.std.specs.List.Retain.{IsFiltered}
 use Rattle.std.specs.declared.cmp.Ordering.{Ordering}
 use Rattle.key_index_flat.specs.declared.index.Fault.{Fault}
 use Rattle.key_index_flat.specs.Content.{Content, list_at, with_list, item_count}
 use Rattle.key_index_flat.specs.Fault.{growth_fault, IsWant}
+use Rattle.key_index_flat.specs.Retention.{AsksBehind}
 
 abbrev pub put_value : {V : Type 0} → Bool → V → List V → List V
 put_value true v l = v ∷ l
@@ -89,14 +89,11 @@ module _ {K V : Type 0} (cmp : K → K → Ordering) where
   abbrev pub RetainsAt : {F : Type 0} → (F → V → Bool → F → Type 0) → F → View K V → List ℕ → View K V → Type 0
   RetainsAt ask f s b t = Retains ask f s (s.slot b) t
 
-  -- taken: how many of the held values were taken out; the last answer is on the new one
+  -- taken: how many of the held values were taken out
   abbrev pub InsertsAndRetains : {F : Type 0} → (F → V → Bool → F → Type 0) → F → View K V → K → V → ℕ → View K V
       → Type 0
-  InsertsAndRetains {F = F} ask f s k v taken t =
-      (answers : List Bool) × (last : F) × (length answers ≡ length (run_at s k) + 1)
-      × ReturnsInTurn ask f answers (run_at s k ++ v ∷ []) last
-      × (taken + length (items_where_true answers (run_at s k)) ≡ length (run_at s k))
-      × (t ≡ with_pruned (with_run s k (items_where_true answers (run_at s k ++ v ∷ []))) taken)
+  InsertsAndRetains ask f s k v taken t =
+      (kept : List V) × AsksBehind ask f (run_at s k) v kept taken × (t ≡ with_pruned (with_run s k kept) taken)
 
   abbrev pub InsertsAndRetainsAt : {F : Type 0} → (F → V → Bool → F → Type 0) → F → View K V → List ℕ → V
       → View K V → Type 0

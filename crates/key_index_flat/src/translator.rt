@@ -74,7 +74,7 @@ impl Translator for OneCap {
     ghost exact = { exact_unsigned };
 
     #[inline]
-    #[tactic(auto, using(crate::proofs::PaddingLemmas::one_byte))]
+    #[tactic(auto, using(crate::proofs::keys::PaddingLemmas::one_byte))]
     fn transform(&self, key: &[u8]) -> u8 {
         u8::from_be_bytes(capped::<1>(key))
     }
@@ -88,7 +88,7 @@ impl Translator for OneCap {
 }
 
 impl OrderedTranslator for OneCap {
-    ghost use Rattle.key_index_flat.specs.ByteOrder.{cap_number-keeps_order};
+    ghost use Rattle.key_index_flat.specs.laws.ByteOrder.{cap_number-keeps_order};
 
     ghost keeps_order = { λ _. cap_number-keeps_order 1 };
 }
@@ -107,7 +107,7 @@ impl Translator for TwoCap {
     ghost exact = { exact_unsigned };
 
     #[inline]
-    #[tactic(auto, using(crate::proofs::PaddingLemmas::two_bytes))]
+    #[tactic(auto, using(crate::proofs::keys::PaddingLemmas::two_bytes))]
     fn transform(&self, key: &[u8]) -> u16 {
         u16::from_be_bytes(capped::<2>(key))
     }
@@ -121,7 +121,7 @@ impl Translator for TwoCap {
 }
 
 impl OrderedTranslator for TwoCap {
-    ghost use Rattle.key_index_flat.specs.ByteOrder.{cap_number-keeps_order};
+    ghost use Rattle.key_index_flat.specs.laws.ByteOrder.{cap_number-keeps_order};
 
     ghost keeps_order = { λ _. cap_number-keeps_order 2 };
 }
@@ -140,7 +140,7 @@ impl Translator for FourCap {
     ghost exact = { exact_unsigned };
 
     #[inline]
-    #[tactic(auto, using(crate::proofs::PaddingLemmas::four_bytes))]
+    #[tactic(auto, using(crate::proofs::keys::PaddingLemmas::four_bytes))]
     fn transform(&self, key: &[u8]) -> u32 {
         u32::from_be_bytes(capped::<4>(key))
     }
@@ -154,7 +154,7 @@ impl Translator for FourCap {
 }
 
 impl OrderedTranslator for FourCap {
-    ghost use Rattle.key_index_flat.specs.ByteOrder.{cap_number-keeps_order};
+    ghost use Rattle.key_index_flat.specs.laws.ByteOrder.{cap_number-keeps_order};
 
     ghost keeps_order = { λ _. cap_number-keeps_order 4 };
 }
@@ -173,7 +173,7 @@ impl Translator for EightCap {
     ghost exact = { exact_unsigned };
 
     #[inline]
-    #[tactic(auto, using(crate::proofs::PaddingLemmas::eight_bytes))]
+    #[tactic(auto, using(crate::proofs::keys::PaddingLemmas::eight_bytes))]
     fn transform(&self, key: &[u8]) -> u64 {
         u64::from_be_bytes(capped::<8>(key))
     }
@@ -187,7 +187,7 @@ impl Translator for EightCap {
 }
 
 impl OrderedTranslator for EightCap {
-    ghost use Rattle.key_index_flat.specs.ByteOrder.{cap_number-keeps_order};
+    ghost use Rattle.key_index_flat.specs.laws.ByteOrder.{cap_number-keeps_order};
 
     ghost keeps_order = { λ _. cap_number-keeps_order 8 };
 }

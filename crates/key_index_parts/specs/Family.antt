@@ -7,6 +7,7 @@
 --     KeepsParts                  other parts are as many, and a map of lists that are not empty
 --     IsIndex, IsRange            parts for all partitions of p bytes, and for some from a first one on
 --     Family                      what each part holds, and how it stands
+--     AreCounted                  each part stands with as many values as it holds
 --     stands, stays_spilled       how a part stands, and whether a spilled one that is left with this content is spilled still
 --     grows_spilled               whether a part is spilled once a value was put in, of a kind that spills at so many values or doesn't
 --     inline_in                   how many values of a part a spill would move
@@ -15,20 +16,21 @@
 --     GrowsTo                     what an insertion leaves of how the partitions stand, done in a partition as it stands
 --     SameContent                 how its partitions stand may differ, and nothing else
 --     IsLeft                      what a refused insertion leaves
+--     KeepsWithin, KeepsRange     the bound on moved values still holds of an index, and of a range
 --     RetainsWith                 what an insertion with retention makes of a list
 --     view_of                     the view of it, by what its translator makes of a key
 --     Edits, Prunes               another view has what f makes of the list at a slot, and with n values more taken out
 --     view_from                  the same of a range's storage, whose parts are numbered from `first`
 --     with_items_from             with other items in the place of those from a number on
 --     with_parts_from, AreFree    the same of parts; so many from there hold nothing
-use Rattle.std.specs.Prelude.{◌≡◌, ◌⊎◌, ℕ, ◌+◌, ◌-◌, ◌^◌, ◌<◌, ◌≤◌, Bool, not, ◌&&◌, ◌||◌, if◌then◌else◌, nat_lt, nat_le, List, [], ◌∷◌, ◌++◌, length, map, take, drop, All, slice_index_or, slice_set}
-use Rattle.std.specs.List.{items_where_true}
-use Rattle.std.specs.List.Retain.{ReturnsInTurn}
+use Rattle.std.specs.Prelude.{◌≡◌, ◌⊎◌, ℕ, ◌+◌, ◌-◌, ◌^◌, ◌<◌, ◌≤◌, Bool, not, ◌&&◌, ◌||◌, if◌then◌else◌, nat_lt, nat_le, List, [], ◌++◌, length, map, take, drop, All, slice_index_or, slice_set}
 use Rattle.std.specs.declared.cmp.Ordering.{Ordering}
+use Rattle.key_index_flat.specs.Retention.{AsksBehind}
 use Rattle.key_index_flat.specs.Content.{Content, is_filled, IsLawful, list_at, with_list, item_count, key_count}
 use Rattle.key_index_flat.specs.View.{View, with_edit, with_pruned}
 use Rattle.key_index_parts.specs.Gathered.{gathered, gathered_from, pair_cmp}
 use Rattle.key_index_parts.specs.Joined.{is_between}
+use Rattle.key_index_parts.specs.Moves.{IsRangeWithin, IsWithin}
 use Rattle.key_index_parts.specs.Prefix.{partition_count, slot_by}
 use Rattle.key_index_parts.specs.Standing.{Standing, Standings, entries_at, spilled_if_reached, with_entries}
 
@@ -82,6 +84,9 @@ pub record Family (K V : Type 0) : Type 0 where
   pub standing : List Standing
 
 module _ {K V : Type 0} where
+  abbrev pub AreCounted : List (Content K V) → List Standing → Type 0
+  AreCounted contents standing = map (λ p. p.entries) standing ≡ map (λ c. item_count c) contents
+
   abbrev pub stands : Content K V → Bool → Standing
   stands c spilled = record { entries = item_count c; spilled = spilled }
 
@@ -118,6 +123,12 @@ settled_in spills s n = if spills then spilled_if_reached s n else s
 module _ {T K V : Type 0} where
   abbrev pub settled_at : Bool → Kept T K V → ℕ → Kept T K V
   settled_at spills s n = record s { standings = settled_in spills s.standings n }
+
+  abbrev pub KeepsWithin : Kept T K V → Kept T K V → Type 0
+  KeepsWithin old new = IsWithin old.standings old.pruned → IsWithin new.standings new.pruned
+
+  abbrev pub KeepsRange : Kept T K V → Kept T K V → Type 0
+  KeepsRange old new = IsRangeWithin old.standings old.pruned → IsRangeWithin new.standings new.pruned
 
   -- an insertion into a partition as it stands: with its values, and spilled if it has reached the threshold by them
   abbrev pub GrowsTo : Bool → Kept T K V → ℕ → Kept T K V → Type 0
@@ -157,8 +168,5 @@ module _ {T K V : Type 0} (cmp : K → K → Ordering) (p : ℕ) (translated : T
 -- many it has, and how many of those that were held are gone
 abbrev pub RetainsWith : {F V : Type 0} → (F → V → Bool → F → Type 0) → F → List V → V → ℕ → ℕ → ℕ → (List V → Type 0)
     → Type 0
-RetainsWith {F = F} ask f held v had left taken Becomes =
-    (answers : List Bool) × (last : F) × (length answers ≡ length held + 1)
-    × ReturnsInTurn ask f answers (held ++ v ∷ []) last × Becomes (items_where_true answers (held ++ v ∷ []))
-    × (had ≡ length held) × (left ≡ length (items_where_true answers (held ++ v ∷ [])))
-    × (taken + length (items_where_true answers held) ≡ length held)
+RetainsWith {V = V} ask f held v had left taken Becomes =
+    (kept : List V) × AsksBehind ask f held v kept taken × Becomes kept × (had ≡ length held) × (left ≡ length kept)

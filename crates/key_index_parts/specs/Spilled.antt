@@ -8,7 +8,7 @@ use denote.Struct.Props as logic
 use Rattle.std.specs.Prelude.{◌<◌, IsTrue, is_some, Option, Some, None, Box}
 use Rattle.std.specs.declared.cmp.Ordering.{Ordering}
 use Rattle.key_index_flat.specs.Content.{Content, IsLawful, item_count}
-use Rattle.key_index_parts.specs.StandingLaws.{inline_filled}
+use Rattle.key_index_parts.specs.laws.StandingLaws.{inline_filled}
 
 module _ {X A K V : Type 0} (f : X → Content K V) where
   abbrev pub held_by : Option (Box X A) → Content K V → Content K V

@@ -1,25 +1,30 @@
 -- How the partitions of an index stand: inline, as sorted arrays, or spilled, as an ordered map from keys to lists. A partition has the
 -- number `n`.
 --     Standing              how many values a partition holds, and whether it is spilled
---     Standings             the threshold, the partitions by their numbers, and how many spills there ever were
+--     Standings             the threshold, the partitions by their numbers, how many spills there ever were, and how many values were
+--                           ever moved by spills and by returns to arrays
 --     standing_in           a partition; past the last one, one that holds nothing
 --     inline_len            how many values of a partition stand in arrays: all of them, or none where it is spilled
 --     is_reached            it stands inline with as many values as the threshold or more (is_reached_by: as a limit)
 --     left_with             a partition once a call has left m values there; without values it isn't spilled
 --     with_left             the partitions after that
+--     due_in                how many values of a part are due to spill, of a kind that spills at so many values or doesn't
 --     grown                 a part once a value was put in and m were left, of a kind that spills at so many values or doesn't
 --     LeavesIn, GrowsIn     what the one and the other leave of the parts
---     spilled_since         whether a part spilled meanwhile
+--     spilled_since         whether a part spilled meanwhile, and moved_since, how many values that moved
 --     with_entries          `with_left`, of the whole
---     with_spill            a partition's values moved into a tree
+--     with_spill            a partition's values moved into a tree, and counted
 --     spilled_if_reached    that, where it has reached the threshold
 --     after_call            a call by key that leaves m values in a partition
 --     Settles, Refuses      what an accepted and a refused call by key leave, of an index of so many values
+--     is_small              a partition is spilled with fewer than half as many values as the threshold (is_small_by: as a limit)
+--     with_return           its values moved back to arrays, and counted
+--     MovesBack, Resettles  that, of a small one, where there is memory for it; what a call by key leaves that does it last
 --     Leaves, LeavesSome    what a cursor edit leaves, in a partition, and in some partition
 --     joined_standings      with the partitions of a range from a number on
 --     new_standings         so many partitions that hold nothing
 --     spilled_in            how many partitions are spilled
-use Rattle.std.specs.Prelude.{◌≡◌, ◌⊎◌, ℕ, ◌+◌, ◌-◌, ◌^◌, ◌<◌, Bool, true, false, not, ◌&&◌, ◌||◌, nat_lt, nat_le, if◌then◌else◌, List, ◌++◌, length, take, drop, replicate, slice_index_or, slice_set}
+use Rattle.std.specs.Prelude.{◌≡◌, ◌⊎◌, ℕ, ◌+◌, ◌-◌, ◌*◌, ◌^◌, ◌<◌, Bool, true, false, not, ◌&&◌, ◌||◌, nat_lt, nat_le, IsTrue, if◌then◌else◌, List, ◌++◌, length, take, drop, replicate, slice_index_or, slice_set}
 use Rattle.std.specs.List.{filter}
 use Rattle.key_index_flat.specs.View.{pruned_after}
 
@@ -31,6 +36,7 @@ pub record Standings : Type 0 where
   pub threshold : ℕ
   pub parts : List Standing
   pub spills : ℕ
+  pub moved : ℕ
 
 abbrev pub standing_in : List Standing → ℕ → Standing
 standing_in parts n = slice_index_or parts n (record { entries = 0; spilled = false })
@@ -46,6 +52,9 @@ inline_len s n = if (standing_at s n).spilled then 0 else entries_at s n
 
 abbrev pub is_reached_by : ℕ → Standing → Bool
 is_reached_by limit p = not p.spilled && nat_le limit p.entries
+
+abbrev pub due_in : Bool → ℕ → Standing → ℕ
+due_in spills limit p = if spills && is_reached_by limit p then p.entries else 0
 
 abbrev pub is_reached : Standings → ℕ → Bool
 is_reached s n = is_reached_by s.threshold (standing_at s n)
@@ -74,6 +83,9 @@ GrowsIn spills limit old n new =
 abbrev pub spilled_since : List Standing → ℕ → List Standing → Bool
 spilled_since old n new = not (standing_in old n).spilled && (standing_in new n).spilled
 
+abbrev pub moved_since : List Standing → ℕ → List Standing → ℕ
+moved_since old n new = if spilled_since old n new then (standing_in new n).entries else 0
+
 abbrev pub with_entries : Standings → ℕ → ℕ → Standings
 with_entries s n m = record s { parts = with_left s.parts n m }
 
@@ -81,7 +93,11 @@ abbrev pub with_spilled : List Standing → ℕ → List Standing
 with_spilled parts n = slice_set parts n (record { entries = (standing_in parts n).entries; spilled = true })
 
 abbrev pub with_spill : Standings → ℕ → Standings
-with_spill s n = record s { parts = with_spilled s.parts n; spills = pruned_after s.spills 1 }
+with_spill s n = record s {
+  parts = with_spilled s.parts n;
+  spills = pruned_after s.spills 1;
+  moved = pruned_after s.moved (entries_at s n);
+}
 
 abbrev pub spilled_if_reached : Standings → ℕ → Standings
 spilled_if_reached s n = if is_reached s n then with_spill s n else s
@@ -92,6 +108,25 @@ after_call s n m = spilled_if_reached (with_entries (spilled_if_reached s n) n m
 
 abbrev pub Settles : Standings → ℕ → Standings → Type 0
 Settles old n new = new ≡ after_call old n (entries_at new n)
+
+abbrev pub is_small_by : ℕ → Standing → Bool
+is_small_by limit p = p.spilled && nat_lt (2 * p.entries) limit
+
+abbrev pub is_small : Standings → ℕ → Bool
+is_small s n = is_small_by s.threshold (standing_at s n)
+
+abbrev pub with_inline : List Standing → ℕ → List Standing
+with_inline parts n = slice_set parts n (record { entries = (standing_in parts n).entries; spilled = false })
+
+abbrev pub with_return : Standings → ℕ → Standings
+with_return s n = record s { parts = with_inline s.parts n; moved = pruned_after s.moved (entries_at s n) }
+
+-- where the memory for its arrays is refused, it stays as it is
+abbrev pub MovesBack : Standings → ℕ → Standings → Type 0
+MovesBack old n new = (new ≡ old) ⊎ (IsTrue (is_small old n) × (new ≡ with_return old n))
+
+abbrev pub Resettles : Standings → ℕ → Standings → Type 0
+Resettles old n new = MovesBack (after_call old n (entries_at new n)) n new
 
 -- a full index refuses before anything spills; else a spill that was due may have come before the growth that was refused
 abbrev pub Refuses : ℕ → Standings → ℕ → Standings → Type 0
@@ -107,6 +142,7 @@ abbrev pub joined_standings : Standings → ℕ → Standings → Standings
 joined_standings s first range = record s {
   parts = take first s.parts ++ (range.parts ++ drop (first + length range.parts) s.parts);
   spills = pruned_after s.spills range.spills;
+  moved = pruned_after s.moved range.moved;
 }
 
 abbrev pub new_standings : ℕ → ℕ → Standings
@@ -114,6 +150,7 @@ new_standings threshold count = record {
   threshold = threshold;
   parts = replicate count (record { entries = 0; spilled = false });
   spills = 0;
+  moved = 0;
 }
 
 abbrev pub spilled_in : List Standing → ℕ

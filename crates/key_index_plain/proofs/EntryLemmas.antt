@@ -15,7 +15,7 @@ use Rattle.std.specs.Cmp.{IsTotalOrder}
 use Rattle.std.specs.FinMap.{find, put, is_sorted}
 use Rattle.std.specs.FinMap.Entries.{below_all, by_order, where_key}
 use Rattle.key_index_flat.specs.Content.{Content, is_filled, list_at, with_list, IsLawful}
-use Rattle.key_index_flat.specs.Laws.{both, first, second}
+use Rattle.key_index_flat.specs.laws.Laws.{both, first, second}
 use Rattle.key_index_plain.specs.declared.entries.Entry.{Entry}
 use Rattle.key_index_plain.specs.Entries.{listed, moved_on, content_of, place_of}
 

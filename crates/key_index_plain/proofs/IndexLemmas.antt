@@ -7,10 +7,10 @@ use Rattle.std.proofs.lemmas.Bool.{eqb-true}
 use Rattle.std.specs.declared.cmp.Ordering.{Ordering}
 use Rattle.std.specs.Cmp.{IsTotalOrder}
 use Rattle.key_index_flat.specs.Content.{Content, IsLawful, list_at, with_list, item_count}
-use Rattle.key_index_flat.specs.Laws.{IsLawful-with_list}
+use Rattle.key_index_flat.specs.laws.Laws.{IsLawful-with_list}
 use Rattle.key_index_flat.specs.Fault.{growth_fault}
 use Rattle.key_index_flat.specs.declared.index.Fault.TheVariants.{Memory, Full}
-use Rattle.key_index_flat.proofs.ContentLemmas.{item_count-with_list}
+use Rattle.key_index_flat.proofs.content.ContentLemmas.{item_count-with_list}
 use Rattle.key_index_plain.specs.declared.entries.Entry.{Entry}
 use Rattle.key_index_plain.specs.Entries.{listed, content_of}
 use Rattle.key_index_plain.proofs.EntryLemmas.{content_of-listed}

@@ -9,9 +9,9 @@ use Rattle.std.specs.declared.cmp.Ordering.TheVariants.{Equal}
 use Rattle.std.specs.Cmp.{IsTotalOrder}
 use Rattle.key_index_flat.specs.Content.{Content, IsLawful, list_at, with_list}
 use Rattle.key_index_flat.specs.Retention.{AsksInTurn}
-use Rattle.key_index_flat.proofs.ContentLemmas.{with_list-twice}
-use Rattle.key_index_flat.proofs.CursorLemmas.{list_at_edit}
-use Rattle.key_index_flat.proofs.ReversedLemmas.{behind_last}
+use Rattle.key_index_flat.proofs.content.ContentLemmas.{with_list-twice}
+use Rattle.key_index_flat.proofs.runs.CursorLemmas.{list_at_edit}
+use Rattle.key_index_flat.proofs.neighbours.ReversedLemmas.{behind_last}
 
 module _ {K V : Type 0} {cmp : K → K → Ordering} (o : IsTotalOrder cmp) (c mid : Content K V) (k : K) (v : V) (at : ℕ)
     (end : at ≡ length (list_at cmp c k)) (put : mid ≡ with_list cmp c k (insert (list_at cmp c k) at v)) where

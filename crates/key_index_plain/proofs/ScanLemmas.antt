@@ -8,7 +8,7 @@ use Rattle.std.specs.List.{last_or}
 use Rattle.std.specs.Option.{option_map}
 use Rattle.key_index_flat.specs.Content.{Content}
 use Rattle.key_index_flat.specs.Neighbours.{last_list}
-use Rattle.key_index_flat.proofs.NeighbourLemmas.{slice_get-last, last_or-map}
+use Rattle.key_index_flat.proofs.neighbours.NeighbourLemmas.{slice_get-last, last_or-map}
 use Rattle.key_index_plain.specs.declared.entries.Entry.{Entry}
 use Rattle.key_index_plain.specs.Entries.{listed}
 

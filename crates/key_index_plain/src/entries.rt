@@ -1,10 +1,10 @@
 //! Entries in the order of their keys, and the scans over them.
-ghost use Rattle.std.specs.Prelude.{◌≡◌, ◌+◌, ◌<◌, ◌≤◌, ◌^◌, Bool, true, List, [], ◌∷◌, ◌++◌, Some, length, slice_get, slice_set, IfOk, IfErr, OnOk, OnErr};
+ghost use Rattle.std.specs.Prelude.{◌≡◌, ◌+◌, ◌<◌, ◌≤◌, ◌^◌, true, List, [], ◌∷◌, Some, length, slice_get, slice_set, IfOk, IfErr, OnOk, OnErr};
 ghost use Rattle.std.specs.Fn.{CalledAt};
-ghost use Rattle.std.specs.List.{insert, remove, items_where_true};
-ghost use Rattle.std.specs.List.Retain.{IsFiltered, ReturnsInTurn};
+ghost use Rattle.std.specs.List.{insert, remove};
+ghost use Rattle.std.specs.List.Retain.{IsFiltered};
 ghost use Rattle.std.specs.declared.cmp.Ordering.TheVariants.{Equal};
-ghost use Rattle.key_index_flat.specs.Retention.{AsksInTurn};
+ghost use Rattle.key_index_flat.specs.Retention.{AsksBehind, AsksInTurn};
 ghost use Rattle.key_index_flat.specs.Content.{IsLawful, list_at, with_list, item_count, with_list_by};
 ghost use Rattle.key_index_plain.specs.Entries.{listed, place_of};
 
@@ -246,11 +246,9 @@ pub(crate) fn insert_and_retain<K: Ord + Copy + Drop, V: Drop, F: FnMut(&V) -> b
     requires lawful { IsLawful K.cmp (listed entries.old.items) }
     requires exact { (a b : K) → K.cmp a b ≡ Equal → a ≡ b }
     requires callable { F.IsAlwaysCallable should_retain }
-    ensures accepted { IfOk result (λ taken. let old = listed entries.old.items in let held = list_at K.cmp old key in
-        (answers : List Bool) × (last : F) × (length answers ≡ length held + 1)
-        × ReturnsInTurn (CalledAt F.FnMut) should_retain answers (held ++ value ∷ []) last
-        × (listed entries.new.items ≡ with_list K.cmp old key (items_where_true answers (held ++ value ∷ [])))
-        × (taken + length (items_where_true answers held) ≡ length held)) }
+    ensures accepted { IfOk result (λ taken. let old = listed entries.old.items in (kept : List V)
+        × AsksBehind (CalledAt F.FnMut) should_retain (list_at K.cmp old key) value kept taken
+        × (listed entries.new.items ≡ with_list K.cmp old key kept)) }
     ensures refused { OnErr result (listed entries.new.items ≡ listed entries.old.items) }
     ensures returned { IfErr result (λ back. back ≡ value) }
 {

@@ -43,6 +43,14 @@ impl Call {
         }
     }
 
+    /// Whether it moves a small partition back to arrays.
+    fn returns(self) -> bool {
+        match self {
+            Call::InsertAndRetain(_, _) | Call::Retain(_) | Call::Remove => true,
+            _ => false,
+        }
+    }
+
     /// Whether a partition that is due spills with it.
     fn settles(self) -> bool {
         match self {
@@ -275,42 +283,75 @@ pub(crate) fn agrees<K: Kind>(index: &K::Index, kept: &Kept) -> Result<(), Stop>
     K::is_in_order(index, kept)
 }
 
-/// How a partition of so many values stands behind an accepted call by key that found it standing so.
-fn after_call(before: Standing, threshold: usize, entries: usize) -> Standing {
-    let reaches = !before.spilled && (threshold <= before.inline_len || threshold <= entries);
-    let spilled = (before.spilled || reaches) && entries > 0;
+/// How a partition stands once so many values of it were moved into a tree.
+fn spilled(before: Standing, carried: usize) -> Standing {
     Standing {
-        spilled,
-        inline_len: if spilled { 0 } else { entries },
-        spills: before.spills.saturating_add(u64::from(reaches)),
+        spilled: true,
+        inline_len: 0,
+        spills: before.spills.saturating_add(1),
+        moved: before.moved.saturating_add(carried as u64),
     }
 }
 
-/// A partition stands as an accepted call by key leaves it.
-fn stands_after<K: Kind>(
+/// How a spilled partition of so many values stands once they were moved back to arrays.
+fn moved_back(before: Standing, entries: usize) -> Standing {
+    Standing {
+        spilled: false,
+        inline_len: entries,
+        spills: before.spills,
+        moved: before.moved.saturating_add(entries as u64),
+    }
+}
+
+/// How a partition stands once so many values are left in it.
+fn left_with(before: Standing, entries: usize) -> Standing {
+    let spilled = before.spilled && entries > 0;
+    Standing {
+        spilled,
+        inline_len: if spilled { 0 } else { entries },
+        ..before
+    }
+}
+
+/// How a partition of so many values stands behind an accepted call by key that found it standing so, before it is moved back.
+fn after_call(before: Standing, threshold: usize, entries: usize) -> Standing {
+    let due = !before.spilled && threshold <= before.inline_len;
+    if due {
+        return left_with(spilled(before, before.inline_len), entries);
+    }
+    if !before.spilled && threshold <= entries {
+        return spilled(before, entries);
+    }
+    left_with(before, entries)
+}
+
+/// A partition stands as an accepted call by key leaves it. A call that takes values out moves a small one back, unless the memory for
+/// that is refused.
+fn stands_after<K: Kind, W: Write + Drop>(
+    report: &mut Report<'_, W>,
     index: &K::Index,
     kept: &Kept,
     at: usize,
     before: Standing,
-    settles: bool,
+    call: Call,
 ) -> Result<(), Stop> {
     if K::THRESHOLD == 0 {
         return Ok(());
     }
     let entries = kept.entries(partition(at));
-    let inline_len = if before.spilled { 0 } else { entries };
-    let wanted = if settles {
+    let now = K::standing(index, partition(at));
+    let left = if call.settles() {
         after_call(before, K::THRESHOLD, entries)
     } else {
-        Standing {
-            inline_len,
-            ..before
-        }
+        left_with(before, entries)
     };
-    must(
-        K::standing(index, partition(at)) == wanted,
-        "how a partition stands",
-    )
+    let is_small = left.spilled && entries < K::THRESHOLD.saturating_sub(entries);
+    if !call.returns() || !is_small {
+        return must(now == left, "how a partition stands");
+    }
+    let returns = now == moved_back(left, entries);
+    report.tells("return", returns)?;
+    must(returns || now == left, "how a small partition stands")
 }
 
 /// A partition stands as before a refused call, or it was due and spilled. Of the calls that take memory for a spill alone none is refused
@@ -327,12 +368,10 @@ fn stands_refused<K: Kind>(
     if now == before {
         return Ok(());
     }
-    let spilled = Standing {
-        spilled: true,
-        inline_len: 0,
-        spills: before.spills.saturating_add(1),
-    };
-    must(due && now == spilled, "how a refusal leaves a partition")
+    must(
+        due && now == spilled(before, before.inline_len),
+        "how a refusal leaves a partition",
+    )
 }
 
 /// A call by key, made again where it is refused.
@@ -352,7 +391,7 @@ pub(crate) fn tries<K: Kind, W: Write + Drop>(
         report.tells(call.name(), accepted)?;
         agrees::<K>(index, kept)?;
         if accepted {
-            return stands_after::<K>(index, kept, at, before, call.settles());
+            return stands_after::<K, W>(report, index, kept, at, before, call);
         }
         stands_refused::<K>(index, at, before, call)?;
     }
@@ -435,4 +474,43 @@ pub(crate) fn grow<K: Kind, W: Write + Drop>(
         }
     }
     Ok(())
+}
+
+/// A cursor takes the first value of a key out.
+fn take_first<I: Unordered<Value = u64>>(
+    index: &mut I,
+    kept: &mut Kept,
+    at: usize,
+    bytes: &[u8],
+) -> Result<(), Stop> {
+    let Ok(Some(mut cursor)) = index.get_mut(bytes) else {
+        return Err(Stop::Wrong("a cursor at a held key"));
+    };
+    must(
+        cursor.next().copied() == kept.list(at).get(0).copied(),
+        "the first value of a key",
+    )?;
+    if cursor.state() == CursorState::Active {
+        cursor.delete();
+    }
+    kept.take_first(at)
+}
+
+/// The same, which needs no memory and moves nothing back.
+pub(crate) fn shrink<K: Kind>(
+    index: &mut K::Index,
+    kept: &mut Kept,
+    at: usize,
+) -> Result<(), Stop> {
+    if kept.list(at).is_empty() {
+        return Ok(());
+    }
+    let before = K::standing(index, partition(at));
+    take_first(index, kept, at, key(at))?;
+    agrees::<K>(index, kept)?;
+    let left = left_with(before, kept.entries(partition(at)));
+    must(
+        K::standing(index, partition(at)) == left,
+        "how a cursor leaves a partition",
+    )
 }

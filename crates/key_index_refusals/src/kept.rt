@@ -104,6 +104,18 @@ impl Kept {
         Ok(())
     }
 
+    /// Takes the first value of a list out.
+    pub(crate) fn take_first(&mut self, at: usize) -> Result<(), Stop> {
+        match self.lists.get_mut(at) {
+            Some(list) if !list.is_empty() => {
+                list.remove(0);
+                self.pruned = self.pruned.saturating_add(1);
+                Ok(())
+            }
+            _ => Err(Stop::Wrong("a value of a list")),
+        }
+    }
+
     /// Takes all values of a list out.
     pub(crate) fn clear(&mut self, at: usize) {
         if let Some(list) = self.lists.get_mut(at) {

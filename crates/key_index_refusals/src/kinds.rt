@@ -6,12 +6,14 @@ use key_index_flat::translator::{OneCap, TwoCap};
 use key_index_parts::index::partitioned;
 use std::alloc::Global;
 
-/// How a partition stands: whether it is spilled, how many of its values stand in arrays, and how many spills the index had.
+/// How a partition stands: whether it is spilled, how many of its values stand in arrays, how many spills the index had, and how many
+/// values it ever moved.
 #[derive(Debug, Clone, Copy, PartialEq, Eq)]
 pub(crate) struct Standing {
     pub(crate) spilled: bool,
     pub(crate) inline_len: usize,
     pub(crate) spills: u64,
+    pub(crate) moved: u64,
 }
 
 /// A kind of index.
@@ -36,6 +38,7 @@ const ARRAYS: Standing = Standing {
     spilled: false,
     inline_len: 0,
     spills: 0,
+    moved: 0,
 };
 
 /// The flat unordered index.
@@ -111,6 +114,7 @@ fn stands(index: &Spilling, partition: usize) -> Standing {
             spilled: index.is_spilled(partition),
             inline_len: index.inline_len(partition),
             spills: index.spills(),
+            moved: index.moved(),
         }
     } else {
         ARRAYS
@@ -148,6 +152,27 @@ impl Kind for AtTwo {
 
     fn make(alloc: Global) -> Result<Self::Index, Fault> {
         Spilling::with_threshold(alloc, OneCap, 2)
+    }
+
+    fn standing(index: &Self::Index, partition: usize) -> Standing {
+        stands(index, partition)
+    }
+
+    fn is_in_order(index: &Self::Index, kept: &Kept) -> Result<(), Stop> {
+        kept.are_in_order(index)
+    }
+}
+
+/// The same, at the eighth value.
+pub(crate) struct AtEight;
+
+impl Kind for AtEight {
+    type Index = Spilling;
+
+    const THRESHOLD: usize = 8;
+
+    fn make(alloc: Global) -> Result<Self::Index, Fault> {
+        Spilling::with_threshold(alloc, OneCap, 8)
     }
 
     fn standing(index: &Self::Index, partition: usize) -> Standing {

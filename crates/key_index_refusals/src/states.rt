@@ -1,7 +1,9 @@
 //! The states, by name.
-use crate::calls::{Call, agrees, grow, tries};
+use crate::calls::{Call, agrees, grow, shrink, tries};
 use crate::kept::{KEYS, Kept};
-use crate::kinds::{AtDefault, AtOne, AtTwo, Kind, Ordered, Punordered, Spilling, Unordered};
+use crate::kinds::{
+    AtDefault, AtEight, AtOne, AtTwo, Kind, Ordered, Punordered, Spilling, Unordered,
+};
 use crate::parts::{ahead, build, install, run_commands};
 use crate::positions::{arrays, has_room, indexed, marked};
 use crate::report::{Report, Stop, USAGE};
@@ -137,6 +139,39 @@ fn overfull<W: Write + Drop>(
     };
     tries::<AtTwo, W>(report, &mut index, &mut kept, 4, due)?;
     tries::<AtTwo, W>(report, &mut index, &mut kept, 4, Call::GetMany)
+}
+
+/// Eight values spill a partition, and cursors leave three of them. Each of four calls moves those back, or where that was refused a later
+/// one does, and seven more spill the partition once more.
+fn shrunken<W: Write + Drop>(
+    alloc: Global,
+    report: &mut Report<'_, W>,
+    seed: u64,
+) -> Result<(), Stop> {
+    let mut kept = Kept::new(alloc)?;
+    let Some(mut index) = make::<AtEight, W>(alloc, report, "with_threshold")? else {
+        return Ok(());
+    };
+    for value in 1..5 {
+        tries::<AtEight, W>(report, &mut index, &mut kept, 2, Call::Insert(value))?;
+        tries::<AtEight, W>(report, &mut index, &mut kept, 3, Call::Insert(value))?;
+    }
+    for at in [2, 2, 2, 3, 3] {
+        shrink::<AtEight>(&mut index, &mut kept, at)?;
+    }
+    let (at, call) = match seed % 4 {
+        0 => (1, Call::Remove),
+        1 => (3, Call::Remove),
+        2 => (3, Call::Retain(1)),
+        _ => (2, Call::InsertAndRetain(5, 2)),
+    };
+    tries::<AtEight, W>(report, &mut index, &mut kept, at, call)?;
+    tries::<AtEight, W>(report, &mut index, &mut kept, 1, Call::Retain(0))?;
+    tries::<AtEight, W>(report, &mut index, &mut kept, 1, Call::Remove)?;
+    for value in 6..13 {
+        tries::<AtEight, W>(report, &mut index, &mut kept, 2, Call::Insert(value))?;
+    }
+    tries::<AtEight, W>(report, &mut index, &mut kept, 2, Call::GetMany)
 }
 
 /// A state of an index in partitions.
@@ -283,6 +318,10 @@ pub(crate) fn go<W: Write + Drop>(
         "pordered_at_2" => match state {
             "overfull" => overfull(alloc, report, seed),
             _ => go_over_spilling::<AtTwo, W>(alloc, report, state, seed),
+        },
+        "pordered_at_8" => match state {
+            "shrunken" => shrunken(alloc, report, seed),
+            _ => Err(Stop::Wrong(USAGE)),
         },
         "pordered" => go_over_spilling::<AtDefault, W>(alloc, report, state, seed),
         "immutable" => match state {

@@ -9,8 +9,8 @@ use Rattle.std.specs.Cmp.{IsTotalOrder}
 use Rattle.std.specs.declared.cmp.Ordering.TheVariants.{Equal}
 use Rattle.key_index_flat.specs.Content.{list_at, with_list, IsLawful}
 use Rattle.key_index_flat.specs.View.{View, put_value, run_at, run_of, with_edit, with_pruned, with_run, after_insert, after_remove, InsertsAndRetainsAt}
-use Rattle.key_index_flat.proofs.ContentLemmas.{with_list-same}
-use Rattle.key_index_flat.proofs.CursorLemmas.{list_at-with_list_same}
+use Rattle.key_index_flat.proofs.content.ContentLemmas.{with_list-same}
+use Rattle.key_index_flat.proofs.runs.CursorLemmas.{list_at-with_list_same}
 
 alone : {V : Type 0} (first : Bool) (v : V) → put_value first v [] ≡ v ∷ []
 alone true v = refl
@@ -59,11 +59,12 @@ module _ {X F : Type 0} (R : F → X → Bool → F → Type 0) (test : X → Bo
       → t ≡ with_pruned (with_run cmp s (s.slot b) (filter test (run_of cmp s b) ++ v ∷ [])) (length (run_of cmp s b) - length (filter test (run_of cmp s b)))
   updated cmp s t b v stays told =
       let run = run_of cmp s b in
-      let said = told.1 in
+      let kept = told.1.0 in
+      let asks = told.1.1 in
       let more = length-append run (v ∷ []) in
-      let held = first_told said.0 run (v ∷ []) said.1 (omega (arith, said.2)) said.3 in
-      let all = filter_same R test f says (run ++ v ∷ []) (items_where_true said.0 (run ++ v ∷ [])) (said.0, said.1, said.2 ∙ sym more, said.3, refl)
+      let held = first_told asks.answers run (v ∷ []) asks.last (omega (arith, asks.long)) asks.asked in
+      let all = filter_same R test f says (run ++ v ∷ []) kept (asks.answers, asks.last, asks.long ∙ sym more, asks.asked, asks.kept)
       ∙ filter-append test run (v ∷ []) ∙ ap (λ a. filter test run ++ cond a (v ∷ []) []) stays in
-      let count = ap (λ l. told.0 + length l) (sym held) ∙ said.4 in
+      let count = ap (λ l. told.0 + length l) (sym held) ∙ asks.taken in
       let taken : told.0 ≡ length run - length (filter test run) = omega (arith, count) in
-      said.5 ∙ (λ i. with_pruned (with_run cmp s (s.slot b) (all i)) (taken i))
+      told.1.2 ∙ (λ i. with_pruned (with_run cmp s (s.slot b) (all i)) (taken i))

@@ -19,10 +19,10 @@ use Rattle.std.specs.FinMap.{find, is_sorted}
 use Rattle.key_index_flat.specs.Content.{Content, list_at}
 use Rattle.key_index_flat.specs.FullKeys.{IsBytes, byte_cmp, IsLeast, cmp_keys, above, below, IsFiled}
 use Rattle.key_index_flat.specs.Values.{values_of}
-use Rattle.key_index_flat.specs.Laws.{first, second}
-use Rattle.key_index_flat.proofs.ContentLemmas.{absent}
-use Rattle.key_index_flat.proofs.FullKeyLemmas.{filed_first, filed_rest}
-use Rattle.key_index_flat.proofs.LeastLemmas.{least_has}
+use Rattle.key_index_flat.specs.laws.Laws.{first, second}
+use Rattle.key_index_flat.proofs.content.ContentLemmas.{absent}
+use Rattle.key_index_flat.proofs.neighbours.FullKeyLemmas.{filed_first, filed_rest}
+use Rattle.key_index_flat.proofs.neighbours.LeastLemmas.{least_has}
 use Rattle.key_index_uses.specs.Exclusion.{has_key, Excludes}
 
 none-list_any : {X : Type 0} (p : X → Bool) (l : List X) → list_any p l ≡ false → All (λ x. p x ≡ false) l

@@ -8,7 +8,7 @@ use Rattle.std.specs.Cmp.{IsTotalOrder}
 use Rattle.key_index_flat.specs.Content.{Content, list_at, with_list_by}
 use Rattle.key_index_flat.specs.View.{put_value}
 use Rattle.key_index_flat.specs.FullKeys.{IsBytes, IsFiled}
-use Rattle.key_index_flat.proofs.ContentLemmas.{list_at-with_list, tied}
+use Rattle.key_index_flat.proofs.content.ContentLemmas.{list_at-with_list, tied}
 
 put_all : {V : Type 0} (P : V → Type 0) (first : Bool) (v : V) (l : List V) → P v → All P l → All P (put_value first v l)
 put_all P true v l h k = All-cons P v l h k

@@ -13,9 +13,9 @@ use Rattle.std.specs.Str.{bytes_eq}
 use Rattle.std.specs.declared.cmp.Ordering.{Ordering}
 use Rattle.std.specs.declared.cmp.Ordering.TheVariants.{Less, Equal, Greater}
 use Rattle.key_index_flat.specs.FullKeys.{byte_cmp, IsLeast, cmp_keys}
-use Rattle.key_index_flat.specs.Laws.{first, second}
+use Rattle.key_index_flat.specs.laws.Laws.{first, second}
 use Rattle.key_index_flat.specs.Neighbours.{entries_above, entries_below, first_entry, last_entry}
-use Rattle.key_index_flat.proofs.ContentLemmas.{less}
+use Rattle.key_index_flat.proofs.content.ContentLemmas.{less}
 use Rattle.key_index.specs.Snapshot.{Positions, next_position, prev_position}
 use Rattle.key_index_uses.specs.Exclusion.{has_key, Excludes}
 use Rattle.key_index_uses.proofs.ExclusionLemmas.{excludes}

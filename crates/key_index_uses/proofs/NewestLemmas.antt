@@ -12,7 +12,7 @@ use Rattle.key_index_flat.specs.declared.index.Fault.TheVariants.{Memory, Full}
 use Rattle.key_index_flat.specs.Content.{list_at}
 use Rattle.key_index_flat.specs.Run.{one_if_absent}
 use Rattle.key_index_flat.specs.View.{View, items_in, run_at}
-use Rattle.key_index_flat.proofs.ContentLemmas.{list_at-with_list, tied}
+use Rattle.key_index_flat.proofs.content.ContentLemmas.{list_at-with_list, tied}
 use Rattle.key_index_parts.specs.Joined.{install_fault}
 use Rattle.key_index_builds.specs.Ops.{after_op, after_ops}
 use Rattle.key_index_builds.specs.Ranges.{built_upto, filled_by, RefusesBuild}

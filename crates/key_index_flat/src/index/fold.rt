@@ -1,11 +1,11 @@
 //! The run of a list of commands, proved once over any index.
 ghost use Rattle.std.specs.Prelude.{◌≡◌, ◌<◌, false, not, map, length, IsTrue, IfOk, OnOk, OnErr, IfErr};
 ghost use Rattle.std.specs.Fn.{CalledAt};
-ghost use Rattle.key_index_flat.specs.CursorRun.{Steps, RunsSteps};
+ghost use Rattle.key_index_flat.specs.CursorRun.{RunsSteps};
 ghost use Rattle.key_index_flat.specs.View.{items_in, run_at, with_edit, growth_fault_in};
 ghost use Rattle.key_index_flat.specs.Run.{is_full, IsLegal, one_if_absent, EditAt, EditOf, CommandGives, HasTest, HaveTests, HasRoom, HaveRoom};
 
-use super::{Command, Cursor, Fault, IndexCursor, Outcome, Runs, Step, Unordered};
+use super::{Command, Fault, IndexCursor, Outcome, Runs, Step, Unordered};
 use std::alloc::Global;
 use std::mem;
 
@@ -19,41 +19,7 @@ fn unset<V>(alloc: Global, steps: &[Step<V>]) -> Result<Vec<bool>, Fault>
     Ok(flags)
 }
 
-/// One step of an edit, and whether it was accepted.
-fn apply_step<I: Unordered>(cursor: &mut IndexCursor<'_, I>, step: Step<I::Value>) -> bool
-where
-    I::Value: Drop,
-    ensures { Steps step result cursor.old cursor.new }
-{
-    match step {
-        Step::Next => {
-            cursor.advance();
-            true
-        }
-        Step::Insert(value) => {
-            if !cursor.allows_insert() {
-                return false;
-            }
-            cursor.insert(value).is_ok()
-        }
-        Step::Update(value) => {
-            if !cursor.is_on_value() {
-                return false;
-            }
-            cursor.update(value);
-            true
-        }
-        Step::Delete => {
-            if !cursor.is_on_value() {
-                return false;
-            }
-            cursor.delete();
-            true
-        }
-    }
-}
-
-/// The steps of an edit in turn.
+/// The steps of an edit in turn, and of each whether it was accepted.
 fn apply_steps<I: Unordered>(
     cursor: &mut IndexCursor<'_, I>,
     steps: Vec<Step<I::Value>>,
@@ -67,7 +33,7 @@ where
     let mut rest = steps.into_iter();
     let mut at = 0;
     'steps: while let Some(step) = rest.next() {
-        flags[at] = apply_step(cursor, step);
+        flags[at] = cursor.step(step).unwrap_or(false);
         at += 1;
     }
 }

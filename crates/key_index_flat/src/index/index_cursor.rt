@@ -3,7 +3,7 @@ ghost use Rattle.std.specs.Prelude.{◌≡◌, ◌<◌, ◌≤◌, length, true,
 ghost use Rattle.key_index_flat.specs.View.{run_at};
 ghost use Rattle.key_index_flat.specs.declared.index.traits.cursor.CursorState.TheVariants.{Active};
 
-use super::{Cursor, CursorState, Refused, Runs};
+use super::{Cursor, CursorState, Fault, Refused, Runs, Step};
 
 /// The cursor of every index: a place in the list of one index key. While it lives, the index is changed through it alone; its drop
 /// does no work. It keeps the length of the list, so that `next` looks the key up once. So does each other call that reads or changes a
@@ -22,10 +22,12 @@ pub struct IndexCursor<'a, I: Runs> {
 }
 
 impl<'a, I: Runs> IndexCursor<'a, I> {
-    ghost use Rattle.std.specs.Prelude.{◌≡◌, ◌<◌, ◌≤◌, ◌↔◌, length, slice_get, Some, IsTrue};
-    ghost use Rattle.key_index_flat.specs.View.{run_at};
-    ghost use Rattle.key_index_flat.specs.Cursor.{NeedNext, next_place, place_from, after_next, IsOnValue, AllowsInsert};
+    ghost use Rattle.std.specs.Prelude.{◌≡◌, ◌<◌, ◌≤◌, length, slice_get, Some, IsTrue, IfErr, IfOk, OnErr, OnOk};
+    ghost use Rattle.key_index_flat.specs.View.{items_in, run_at, growth_fault_in};
+    ghost use Rattle.key_index_flat.specs.Cursor.{NeedNext, next_place, place_from, after_next, on_value, takes_insert};
+    ghost use Rattle.key_index_flat.specs.CursorRun.{EditsBy};
     ghost use Rattle.key_index_flat.specs.IndexCursor.{cursor_index, cursor_slot, cursor_list, cursor_place, StaysAt};
+    ghost use Rattle.key_index_flat.specs.Steps.{after_step, inserts, is_allowed};
 
     /// A cursor before the first value of an index key.
     pub fn new(index: &'a mut I, slot: I::Key) -> IndexCursor<'a, I>
@@ -87,8 +89,8 @@ impl<'a, I: Runs> IndexCursor<'a, I> {
 
     /// Whether it is on a value.
     #[inline]
-    pub(crate) fn is_on_value(&self) -> bool
-        ensures { IsTrue result ↔ IsOnValue (cursor_place self.now) }
+    fn is_on_value(&self) -> bool
+        ensures { result ≡ on_value (cursor_place self.now) }
     {
         match self.state {
             CursorState::Active => true,
@@ -99,8 +101,8 @@ impl<'a, I: Runs> IndexCursor<'a, I> {
 
     /// Whether `insert` is allowed.
     #[inline]
-    pub(crate) fn allows_insert(&self) -> bool
-        ensures { IsTrue result ↔ AllowsInsert (cursor_place self.now) }
+    fn allows_insert(&self) -> bool
+        ensures { result ≡ takes_insert (cursor_place self.now) }
     {
         match self.state {
             CursorState::Active => true,
@@ -109,9 +111,57 @@ impl<'a, I: Runs> IndexCursor<'a, I> {
         }
     }
 
+    /// Whether its place allows a step.
+    fn allows(&self, step: &Step<I::Value>) -> bool
+        ensures { result ≡ is_allowed step.now (cursor_place self.now) }
+    {
+        match step {
+            Step::Next => true,
+            Step::Insert(_) => self.allows_insert(),
+            Step::Update(_) => self.is_on_value(),
+            Step::Delete => self.is_on_value(),
+        }
+    }
+
+    /// One step of an edit, and whether the cursor's place allows it. A step that it does not allow changes nothing. Nor does an
+    /// insertion that is refused: `Full` exactly where `usize::MAX` values are held, and else `Memory`.
+    pub fn step(&mut self, step: Step<I::Value>) -> Result<bool, Fault>
+    where
+        I::Value: Drop,
+        ensures allowed { IfOk result (λ b. b ≡ is_allowed step (cursor_place self.old)) }
+        ensures edited { OnOk result (EditsBy (after_step step) self.old self.new) }
+        ensures room { OnOk result (IsTrue (inserts step (cursor_place self.old))
+            → items_in (I.view (cursor_index self.old).now) < usize.MAX) }
+        ensures refused { OnErr result (
+            IsTrue (inserts step (cursor_place self.old)) × EditsBy (λ s. s) self.old self.new) }
+        ensures fault { IfErr result (λ f. f ≡ growth_fault_in (I.view (cursor_index self.old).now)) }
+    {
+        if !self.allows(&step) {
+            return Ok(false);
+        }
+        match step {
+            Step::Next => {
+                self.advance();
+                Ok(true)
+            }
+            Step::Insert(value) => {
+                self.insert(value)?;
+                Ok(true)
+            }
+            Step::Update(value) => {
+                self.update(value);
+                Ok(true)
+            }
+            Step::Delete => {
+                self.delete();
+                Ok(true)
+            }
+        }
+    }
+
     /// Goes where `next` goes.
     #[inline]
-    pub(crate) fn advance(&mut self)
+    fn advance(&mut self)
         ensures place { cursor_place self.new ≡ after_next (cursor_list self.old) (cursor_place self.old) }
         ensures stays { StaysAt self.old self.new }
     {

@@ -37,7 +37,7 @@ impl Side for Above {
     ghost cmp = { byte_cmp };
 
     #[inline]
-    #[tactic(auto, using(crate::proofs::LeastLemmas::told_before))]
+    #[tactic(auto, using(crate::proofs::neighbours::LeastLemmas::told_before))]
     fn is_before(a: &[u8], b: &[u8]) -> bool {
         a < b
     }
@@ -52,7 +52,7 @@ impl Side for Below {
     ghost cmp = { flip_args byte_cmp };
 
     #[inline]
-    #[tactic(auto, using(crate::proofs::LeastLemmas::told_before))]
+    #[tactic(auto, using(crate::proofs::neighbours::LeastLemmas::told_before))]
     fn is_before(a: &[u8], b: &[u8]) -> bool {
         b < a
     }

@@ -9,7 +9,7 @@ use std::hash::{Hash, Hasher};
 
 // The first eight bytes as a number, which compares as they do.
 #[inline]
-#[tactic(auto, using(crate::proofs::PaddingLemmas::eight_bytes))]
+#[tactic(auto, using(crate::proofs::keys::PaddingLemmas::eight_bytes))]
 fn word(bytes: &[u8]) -> u64
     ensures { result ≡ cap_number 8 bytes.now }
 {
@@ -38,7 +38,7 @@ pub struct UnhashedArray<const N: usize> {
 impl<const N: usize> Ord for UnhashedArray<N> {
     ghost use Rattle.std.specs.Prelude.{refl};
     ghost use Rattle.std.specs.Cmp.Lexicographic.{texts_ties};
-    ghost use Rattle.key_index_flat.specs.ArrayLaws.{array_cmp-total};
+    ghost use Rattle.key_index_flat.specs.laws.ArrayLaws.{array_cmp-total};
     ghost use Rattle.key_index_flat.specs.Arrays.{array_cmp};
 
     ghost cmp = { array_cmp };
@@ -111,7 +111,7 @@ impl<const N: usize> Default for Cap<N> {
 }
 
 impl<const N: usize> Translator for Cap<N> {
-    ghost use Rattle.key_index_flat.specs.ArrayLaws.{array_cmp-exact};
+    ghost use Rattle.key_index_flat.specs.laws.ArrayLaws.{array_cmp-exact};
     ghost use Rattle.key_index_flat.specs.Arrays.{array_of};
     ghost use Rattle.key_index_flat.specs.Hashing.{little_endian, hash_product};
 
@@ -131,7 +131,7 @@ impl<const N: usize> Translator for Cap<N> {
     }
 
     #[inline]
-    #[tactic(auto, using(crate::proofs::HashingLemmas::first_eight))]
+    #[tactic(auto, using(crate::proofs::keys::HashingLemmas::first_eight))]
     fn hash_of(&self, key: UnhashedArray<N>) -> u64 {
         let mut hasher = UintIdentity::default();
         hasher.write(&key.inner);
@@ -140,7 +140,7 @@ impl<const N: usize> Translator for Cap<N> {
 }
 
 impl<const N: usize> OrderedTranslator for Cap<N> {
-    ghost use Rattle.key_index_flat.specs.ArrayLaws.{array-keeps_order};
+    ghost use Rattle.key_index_flat.specs.laws.ArrayLaws.{array-keeps_order};
 
     ghost keeps_order = { λ _. array-keeps_order N };
 }

@@ -34,7 +34,7 @@ impl Default for UintIdentity {
 impl UintIdentity {
     /// Holds the little-endian number of the first eight bytes, with zeros behind fewer.
     #[inline]
-    #[tactic(auto, using(crate::proofs::HashingLemmas::eight_low_bytes))]
+    #[tactic(auto, using(crate::proofs::keys::HashingLemmas::eight_low_bytes))]
     pub fn write(&mut self, bytes: &[u8])
         ensures { self.new ≡ little_endian (padded 8 bytes.now) }
     {

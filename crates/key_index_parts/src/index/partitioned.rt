@@ -8,8 +8,8 @@ ghost use Rattle.key_index_parts.specs.Gathered.{pair_cmp};
 ghost use Rattle.key_index_parts.specs.Grouping.{ComparesAs};
 ghost use Rattle.key_index_parts.specs.Prefix.{prefix_number, rest_of, slot_by};
 
+mod bitmap;
 mod counts;
-mod filled;
 pub mod ordered;
 mod part;
 mod parts;

@@ -1,9 +1,9 @@
 //! The program: that a line can be read, the printed texts, and whole sessions.
 
-use key_index::fault::ServeError;
-use key_index::kind::{Kind, kind_of};
-use key_index::line::{Command, LineFault, OrderedCommand, parse, parse_ordered};
-use key_index::serve::{serve, write_refusal};
+use key_index::program::fault::ServeError;
+use key_index::program::kind::{Kind, kind_of};
+use key_index::program::line::{Command, LineFault, OrderedCommand, parse, parse_ordered};
+use key_index::program::serve::{serve, write_refusal};
 use key_index_flat::index::Fault;
 use std::alloc::{AllocError, Global};
 use std::io::{self, Error, ErrorKind, Read, Write};

@@ -6,7 +6,9 @@ use super::checks::{
     inserts_and_retains, puts, puts_last, removes, retains,
 };
 use super::neighbours::{next_has, prev_has, same_end};
-use super::stands::{Small, Stands, StandsWhole, has_spilled, is_inline, is_spilled, spills_at};
+use super::stands::{
+    Small, Stands, StandsWhole, has_moved, has_spilled, is_inline, is_spilled, spills_at,
+};
 use super::{calls, ranges};
 use key_index_flat::index::{Cursor, Ordered, Unordered, Values};
 use key_index_flat::translator::OneCap;
@@ -233,7 +235,8 @@ fn spilled_by_what_is_left<I: Unordered<Value = u64> + StandsWhole>(
     holds(rt, index, b"\x10\x02", &[4]);
     tells(rt, index, (1, 1), (2, 3, 2));
     retains(rt, alloc, index, b"\x10\x01", 0, &[3, 5]);
-    is_spilled(rt, index, 0x10);
+    is_inline(rt, index, 0x10, 1);
+    has_moved(rt, index, 4, 1);
     retains(rt, alloc, index, b"\x10\x02", 0, &[4]);
     tells(rt, index, (0, 1), (0, 0, 5));
 }
@@ -258,6 +261,151 @@ fn emptied_and_grown_by_cursor<I: Unordered<Value = u64> + StandsWhole>(
     removes(rt, index, b"\x10\x09");
     tells(rt, index, (1, 2), (1, 2, 2));
     holds(rt, index, b"\x10\x01", &[5, 6]);
+}
+
+/// A key of the partition 10.
+fn key_at(number: u8) -> [u8; 2] {
+    [0x10, number]
+}
+
+/// As many keys of the partition 10, from 1, each with its number as its value.
+fn many_keys<I: Unordered<Value = u64>>(rt: &impl Abort, index: &mut I, count: u8) {
+    for number in 1..=count {
+        inserts(rt, index, key_at(number).as_slice(), u64::from(number));
+    }
+}
+
+/// At a threshold of 8, five of eight keys are removed: at four left the partition is spilled still, at three it is in arrays.
+fn moved_back_by_remove<I: Unordered<Value = u64> + StandsWhole>(rt: &impl Abort, index: &mut I) {
+    many_keys(rt, index, 8);
+    is_spilled(rt, index, 0x10);
+    has_moved(rt, index, 8, 1);
+    for number in 1..=4 {
+        removes(rt, index, key_at(number).as_slice());
+        is_spilled(rt, index, 0x10);
+        has_moved(rt, index, 8, 1);
+    }
+    removes(rt, index, b"\x10\x05");
+    is_inline(rt, index, 0x10, 3);
+    has_moved(rt, index, 11, 1);
+    counts(rt, index, (3, 3, 5));
+    for number in 6..=8 {
+        holds(rt, index, key_at(number).as_slice(), &[u64::from(number)]);
+    }
+}
+
+/// Five of eight keys are deleted by cursors, which move nothing back, nor does `insert`, `get_mut` or `get_mut_or_insert`: the next
+/// `remove` does, of an absent key.
+fn moved_back_by_the_next_call<I: Unordered<Value = u64> + StandsWhole>(
+    rt: &impl Abort,
+    index: &mut I,
+) {
+    many_keys(rt, index, 8);
+    for number in 1..=5 {
+        takes_first(rt, index, key_at(number).as_slice(), u64::from(number));
+    }
+    is_spilled(rt, index, 0x10);
+    has_moved(rt, index, 8, 1);
+    counts(rt, index, (3, 3, 5));
+    has_no_cursor(rt, index, b"\x10\x09");
+    assert!(rt; gets_or_inserts(rt, index, b"\x10\x06", 9).is_some());
+    is_spilled(rt, index, 0x10);
+    removes(rt, index, b"\x10\x09");
+    is_inline(rt, index, 0x10, 3);
+    has_moved(rt, index, 11, 1);
+    counts(rt, index, (3, 3, 5));
+}
+
+/// At a threshold of 3 a partition spills, is moved back, and spills again.
+fn moved_back_and_spilled_again<I: Unordered<Value = u64> + StandsWhole>(
+    rt: &impl Abort,
+    index: &mut I,
+) {
+    many_keys(rt, index, 3);
+    has_moved(rt, index, 3, 1);
+    removes(rt, index, b"\x10\x01");
+    is_spilled(rt, index, 0x10);
+    removes(rt, index, b"\x10\x02");
+    is_inline(rt, index, 0x10, 1);
+    has_moved(rt, index, 4, 1);
+    counts(rt, index, (1, 1, 2));
+    inserts(rt, index, b"\x10\x01", 1);
+    is_inline(rt, index, 0x10, 2);
+    inserts(rt, index, b"\x10\x02", 2);
+    is_spilled(rt, index, 0x10);
+    has_moved(rt, index, 7, 2);
+    counts(rt, index, (3, 3, 2));
+}
+
+/// At a threshold of 8 a cursor lets a list grow to nine values, and one call spills all nine and moves the two that it keeps back.
+fn spilled_and_moved_back<I: Unordered<Value = u64> + StandsWhole>(
+    rt: &impl Abort,
+    alloc: Global,
+    index: &mut I,
+) {
+    inserts(rt, index, b"\x10\x01", 0);
+    let mut cursor = cursor_at(rt, index, b"\x10\x01");
+    goes_to(rt, &mut cursor, 0);
+    ends(rt, &mut cursor);
+    puts_last(rt, &mut cursor, 1);
+    puts_last(rt, &mut cursor, 2);
+    puts_last(rt, &mut cursor, 3);
+    puts_last(rt, &mut cursor, 4);
+    puts_last(rt, &mut cursor, 5);
+    puts_last(rt, &mut cursor, 6);
+    puts_last(rt, &mut cursor, 7);
+    puts_last(rt, &mut cursor, 8);
+    is_inline(rt, index, 0x10, 9);
+    has_moved(rt, index, 0, 0);
+    let asked = [0, 1, 2, 3, 4, 5, 6, 7, 8, 9];
+    inserts_and_retains(rt, alloc, index, b"\x10\x01", 9, 0b11_0000_0000, &asked);
+    is_inline(rt, index, 0x10, 2);
+    has_moved(rt, index, 11, 1);
+    counts(rt, index, (1, 2, 8));
+    holds(rt, index, b"\x10\x01", &[8, 9]);
+}
+
+/// `retain` moves a partition back in its order: keys that rise, and each list as it was.
+fn moved_back_in_order<I: Ordered<Value = u64> + StandsWhole>(
+    rt: &impl Abort,
+    alloc: Global,
+    index: &mut I,
+) {
+    fill(rt, index, b"\x10\x03", &[3, 1, 2]);
+    fill(rt, index, b"\x10\x05", &[7, 8, 9, 6]);
+    inserts(rt, index, b"\x10\x01", 5);
+    is_spilled(rt, index, 0x10);
+    retains(rt, alloc, index, b"\x10\x03", 0b101, &[3, 1, 2]);
+    retains(rt, alloc, index, b"\x10\x05", 0, &[7, 8, 9, 6]);
+    is_inline(rt, index, 0x10, 3);
+    has_moved(rt, index, 11, 1);
+    holds(rt, index, b"\x10\x01", &[5]);
+    holds(rt, index, b"\x10\x03", &[3, 2]);
+    next_has(rt, index, b"\x10\x01", &[3, 2], false);
+    prev_has(rt, index, b"\x10\x03", &[5], false);
+}
+
+/// A range of an index that spills at 2 is installed in one that spills at 8, as it stands: the next `remove` moves it back.
+fn moved_back_where_installed<I: Partitioned<Value = u64> + StandsWhole>(
+    rt: &impl Abort,
+    index: &mut I,
+    other: &I,
+)
+where
+    I::Range: Stands,
+{
+    let mut range = ranges::range_of(rt, other, 0x10, 1);
+    assert!(rt; ranges::gets_or_inserts(rt, &mut range, b"\x10\x01", 1).is_none());
+    assert!(rt; ranges::gets_or_inserts(rt, &mut range, b"\x10\x02", 2).is_none());
+    is_spilled(rt, &range, 0x10);
+    has_moved(rt, &range, 2, 1);
+    ranges::installs(rt, index, range);
+    has_spilled(rt, index, 1, 1);
+    has_moved(rt, index, 2, 1);
+    removes(rt, index, b"\x10\x09");
+    is_inline(rt, index, 0x10, 2);
+    has_moved(rt, index, 4, 1);
+    counts(rt, index, (2, 2, 0));
 }
 
 /// Neighbours at a threshold of 2, where the partitions 10 and 30 are spilled and 20 between them is not.
@@ -402,6 +550,17 @@ fn default_threshold_is_512(rt: HostRuntime) {
 fn spilled_partitions_live(rt: HostRuntime) {
     lived(&rt, &mut spills_at(&rt, rt.alloc(), 2));
     emptied_and_grown_by_cursor(&rt, &mut spills_at(&rt, rt.alloc(), 2));
+}
+
+#[test]
+fn small_partitions_move_back(rt: HostRuntime) {
+    moved_back_by_remove(&rt, &mut spills_at(&rt, rt.alloc(), 8));
+    moved_back_by_the_next_call(&rt, &mut spills_at(&rt, rt.alloc(), 8));
+    moved_back_and_spilled_again(&rt, &mut spills_at(&rt, rt.alloc(), 3));
+    spilled_and_moved_back(&rt, rt.alloc(), &mut spills_at(&rt, rt.alloc(), 8));
+    moved_back_in_order(&rt, rt.alloc(), &mut spills_at(&rt, rt.alloc(), 8));
+    let other = spills_at(&rt, rt.alloc(), 2);
+    moved_back_where_installed(&rt, &mut spills_at(&rt, rt.alloc(), 8), &other);
 }
 
 #[test]

@@ -14,7 +14,7 @@ use std::alloc::Global;
 use std::process::Abort;
 
 /// How many calls by key are made at each threshold.
-const CALLS: u64 = 17_000;
+const CALLS: u64 = 20_000;
 
 /// The partitions of the keys that occur: the one of the empty key, and one for each first byte.
 const PARTITIONS: [usize; 5] = [0, 0x61, 0x62, 0x63, 0x64];
@@ -28,6 +28,8 @@ struct Standings {
     threshold: usize,
     spilled: Vec<bool>,
     spills: u64,
+    moved: u64,
+    returns: u64,
 }
 
 impl Standings {
@@ -40,6 +42,8 @@ impl Standings {
             threshold,
             spilled,
             spills: 0,
+            moved: 0,
+            returns: 0,
         }
     }
 
@@ -52,6 +56,7 @@ impl Standings {
         if entries >= self.threshold && !self.is_spilled(at) {
             self.stands(at, true);
             self.spills = self.spills.saturating_add(1);
+            self.moved = self.moved.saturating_add(entries as u64);
         }
     }
 
@@ -70,15 +75,60 @@ impl Standings {
         }
     }
 
+    /// A spilled partition of fewer values than half the threshold goes back to arrays.
+    fn goes_back(&mut self, at: usize, entries: usize) {
+        if self.is_spilled(at) && entries < self.threshold.saturating_sub(entries) {
+            self.stands(at, false);
+            self.moved = self.moved.saturating_add(entries as u64);
+            self.returns = self.returns.saturating_add(1);
+        }
+    }
+
     /// A call by key was made, whose partition now has so many values. It spills what has reached the threshold first. An edit by its
-    /// cursor never spills.
-    fn follow(&mut self, met: Met, edited: Edited, gives_cursor: bool, entries: usize) {
+    /// cursor never spills. A call that takes values out moves a small partition back last.
+    fn follow(&mut self, met: Met, edited: Edited, made: Made, entries: usize) {
         self.reaches(met.at, met.entries);
-        if !gives_cursor || met.held == 0 {
+        if made != Made::Cursor || met.held == 0 {
             self.is_left_with(met.at, entries);
         } else if edited.was_empty && met.entries == met.held {
             self.stands(met.at, false);
         }
+        if made == Made::Taking {
+            self.goes_back(met.at, entries);
+        }
+    }
+
+    /// What a partition of so many values is yet to pay for, of an index or of a range.
+    fn owed(&self, at: usize, entries: usize, of_range: bool) -> usize {
+        match (self.is_spilled(at), of_range) {
+            (true, true) => entries,
+            (true, false) => entries.min(self.threshold.saturating_sub(entries)),
+            (false, true) => entries.saturating_mul(2),
+            (false, false) => entries.saturating_mul(2).saturating_sub(self.threshold),
+        }
+    }
+
+    /// What was moved is paid for: with what all partitions owe, it is at most twice the values and three times those taken out.
+    fn is_paid(
+        &self,
+        rt: &impl Abort,
+        lists: &[Vec<u64>],
+        first: usize,
+        last: usize,
+        of_range: bool,
+        pruned: u64,
+    ) {
+        let mut owed = self.moved;
+        let mut held = 0u64;
+        for at in first..=last {
+            let entries = entries(lists, at);
+            owed = owed.saturating_add(self.owed(at, entries, of_range) as u64);
+            held = held.saturating_add(entries as u64);
+        }
+        let bound = held
+            .saturating_mul(2)
+            .saturating_add(pruned.saturating_mul(3));
+        assert!(rt; owed <= bound, "{owed} of {bound} at {}", self.threshold);
     }
 
     /// Those of a range from one partition up to another one are put in the place of those here, and its spills are added.
@@ -87,6 +137,7 @@ impl Standings {
             self.stands(at, range.is_spilled(at));
         }
         self.spills = self.spills.saturating_add(range.spills);
+        self.moved = self.moved.saturating_add(range.moved);
     }
 
     /// An index or a range stands so from one partition up to another one, with these lists.
@@ -99,6 +150,7 @@ impl Standings {
         last: usize,
     ) {
         assert_eq!(rt; stands.spills(), self.spills, "at {}", self.threshold);
+        assert_eq!(rt; stands.moved(), self.moved, "at {}", self.threshold);
         for at in first..=last {
             let is_spilled = self.is_spilled(at);
             let len = if is_spilled { 0 } else { entries(lists, at) };
@@ -124,6 +176,25 @@ fn entries(lists: &[Vec<u64>], at: usize) -> usize {
         .skip(at.saturating_mul(LISTS))
         .take(LISTS)
         .fold(0usize, |sum, list| sum.saturating_add(list.len()))
+}
+
+/// How a call by key was made: one that may take values out, one that gave a cursor, or another one.
+#[derive(Clone, Copy, PartialEq)]
+enum Made {
+    Taking,
+    Cursor,
+    Other,
+}
+
+impl Made {
+    /// Which of them a call is.
+    fn of(chosen: u64) -> Made {
+        match chosen {
+            0..5 | GROW => Made::Cursor,
+            5..9 => Made::Taking,
+            _ => Made::Other,
+        }
+    }
 }
 
 /// What a call of a key meets: the place of its list, its partition, how many values that has, and how many the list has.
@@ -164,10 +235,10 @@ impl Kept {
     }
 
     /// A call by key was made.
-    fn follows(&mut self, met: Met, edited: Edited, gives_cursor: bool) {
+    fn follows(&mut self, met: Met, edited: Edited, made: Made) {
         self.lists.pruned = self.lists.pruned.saturating_add(edited.taken);
         let entries = entries(self.lists.lists.as_slice(), met.at);
-        self.standings.follow(met, edited, gives_cursor, entries);
+        self.standings.follow(met, edited, made, entries);
     }
 }
 
@@ -293,7 +364,7 @@ fn called<I: Ordered<Value = u64>>(
         &mut kept.lists.numbers,
     );
     holds(rt, index, key.as_slice(), list.as_slice());
-    kept.follows(met, edited, chosen < 5 || chosen == GROW);
+    kept.follows(met, edited, Made::of(chosen));
 }
 
 /// One call of a range by a key, if it holds that, and the same on the key's list.
@@ -326,7 +397,12 @@ fn called_in_range<R: PartitionRange<Value = u64>>(
         &mut kept.numbers,
     );
     kept.pruned = kept.pruned.saturating_add(edited.taken);
-    standings.follow(met, edited, true, entries(kept.lists.as_slice(), met.at));
+    standings.follow(
+        met,
+        edited,
+        Made::Cursor,
+        entries(kept.lists.as_slice(), met.at),
+    );
 }
 
 /// An index has the lists, their counts, and stands as the rules say.
@@ -334,6 +410,8 @@ fn has_kept<I: Ordered<Value = u64> + StandsWhole>(rt: &impl Abort, index: &I, k
     let lists = kept.lists.lists.as_slice();
     counts_as(rt, index, lists, kept.lists.pruned);
     kept.standings.are_of(rt, index, lists, 0, 4);
+    kept.standings
+        .is_paid(rt, lists, 0, 4, false, kept.lists.pruned);
     let count = kept.standings.spilled.iter().filter(|is| **is).count();
     assert_eq!(rt; index.spilled_count(), count);
 }
@@ -375,9 +453,13 @@ where
     let mut range = ranges::range_of(rt, other, from, (to - from).saturating_add(1));
     clear(rt, alloc, index, kept, first, last);
     let mut standings = Standings::new(rt, alloc, other.threshold());
+    let pruned = kept.lists.pruned;
     for _ in 0..DRAWS {
         called_in_range(rt, alloc, &mut range, &mut kept.lists, &mut standings);
-        standings.are_of(rt, &range, kept.lists.lists.as_slice(), first, last);
+        let lists = kept.lists.lists.as_slice();
+        standings.are_of(rt, &range, lists, first, last);
+        let taken = kept.lists.pruned.saturating_sub(pruned);
+        standings.is_paid(rt, lists, first, last, true, taken);
     }
     ranges::installs(rt, index, range);
     kept.standings.joins(&standings, first, last);
@@ -441,6 +523,7 @@ where
         }
     }
     assert!(rt; kept.standings.spills > 0, "partitions were spilled");
+    assert_eq!(rt; kept.standings.returns > 0, threshold > 2, "and moved back");
 }
 
 /// So does one that spills at a threshold, and ranges that spill at this or another one.

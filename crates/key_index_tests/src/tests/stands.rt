@@ -36,6 +36,9 @@ pub(super) trait Stands {
     /// How many spills there ever were.
     fn spills(&self) -> u64;
 
+    /// How many values were ever moved.
+    fn moved(&self) -> u64;
+
     /// Whether a partition is spilled, and how many of its values stand in arrays.
     fn standing(&self, rt: &impl Abort, partition: usize) -> (bool, usize);
 }
@@ -64,6 +67,10 @@ impl Stands for Small {
         Index::spills(self)
     }
 
+    fn moved(&self) -> u64 {
+        Index::moved(self)
+    }
+
     fn standing(&self, rt: &impl Abort, partition: usize) -> (bool, usize) {
         assert!(rt; partition < 256);
         (self.is_spilled(partition), self.inline_len(partition))
@@ -85,6 +92,10 @@ impl Stands for Wide {
         Index::spills(self)
     }
 
+    fn moved(&self) -> u64 {
+        Index::moved(self)
+    }
+
     fn standing(&self, rt: &impl Abort, partition: usize) -> (bool, usize) {
         assert!(rt; partition < 256);
         (self.is_spilled(partition), self.inline_len(partition))
@@ -94,6 +105,10 @@ impl Stands for Wide {
 impl Stands for SmallRange {
     fn spills(&self) -> u64 {
         RangeIndex::spills(self)
+    }
+
+    fn moved(&self) -> u64 {
+        RangeIndex::moved(self)
     }
 
     fn standing(&self, rt: &impl Abort, partition: usize) -> (bool, usize) {
@@ -124,4 +139,9 @@ pub(super) fn is_spilled<S: Stands>(rt: &impl Abort, stands: &S, partition: usiz
 /// So many partitions are spilled, and so many spills there were.
 pub(super) fn has_spilled<S: StandsWhole>(rt: &impl Abort, index: &S, count: usize, spills: u64) {
     assert_eq!(rt; (index.spilled_count(), index.spills()), (count, spills));
+}
+
+/// So many values were moved, in so many spills and what returned of them.
+pub(super) fn has_moved<S: Stands>(rt: &impl Abort, stands: &S, moved: u64, spills: u64) {
+    assert_eq!(rt; (stands.moved(), stands.spills()), (moved, spills));
 }

@@ -2,7 +2,7 @@ use Rattle.std.proofs.Common.{length, refl, sym, ap, ◌∙◌}
 use Rattle.std.proofs.lemmas.Iterator.Consumers.{YieldsList-turn, YieldsList-so_far, YieldsList-from_first}
 use Rattle.std.specs.Str.{bytes_eq}
 use Rattle.key_index.specs.Snapshot.{position_in}
-use Rattle.key_index.proofs.SnapshotLemmas.{found_at, passed_by}
+use Rattle.key_index.proofs.snapshots.SnapshotLemmas.{found_at, passed_by}
 use Rattle.key_index.proofs.snapshot.find_position.Goals as goal
 
 pub returns-then-eq : goal.returns-then-eq

@@ -1,4 +1,4 @@
-use Rattle.key_index.proofs.BuildLemmas.{last_none, last_step}
+use Rattle.key_index.proofs.snapshots.BuildLemmas.{last_none, last_step}
 use Rattle.key_index.proofs.snapshot.last_of_each.Goals as goal
 
 pub loop-item-init : goal.loop-item-init

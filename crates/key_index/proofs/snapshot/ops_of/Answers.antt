@@ -9,7 +9,7 @@ use Rattle.key_index_flat.specs.Neighbours.{KeepsOrder}
 use Rattle.key_index_builds.specs.Ops.{after_ops}
 use Rattle.key_index_builds.proofs.OpLemmas.{IsLawful-after_ops}
 use Rattle.key_index_builds.proofs.RangeLemmas.{after_ops-append, slot-after_ops}
-use Rattle.key_index.proofs.BuildLemmas.{Filling, cmp_keys, filling_none, filling_step, split_at, unmapped}
+use Rattle.key_index.proofs.snapshots.BuildLemmas.{Filling, cmp_keys, filling_none, filling_step, split_at, unmapped}
 use Rattle.key_index.proofs.snapshot.ops_of.Goals as goal
 
 pub loop-key-init : goal.loop-key-init

@@ -1,5 +1,5 @@
 use Rattle.key_index_builds.specs.Ops.{after_ops}
-use Rattle.key_index.proofs.BuildLemmas.{Filling}
+use Rattle.key_index.proofs.snapshots.BuildLemmas.{Filling}
 use Rattle.key_index.proofs.snapshot.ops_of.Given as goal
 
 abbrev pub invariant-loop-key : goal.invariant-loop-key

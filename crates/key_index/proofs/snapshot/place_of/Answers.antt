@@ -3,7 +3,7 @@ use Rattle.std.proofs.lemmas.Iterator.Consumers.{YieldsList-turn, YieldsList-so_
 use Rattle.std.specs.Option.{option_map}
 use Rattle.std.specs.Str.{bytes_eq}
 use Rattle.key_index.specs.Snapshot.{key_of, position_in}
-use Rattle.key_index.proofs.SnapshotLemmas.{found_at, key_at, passed_by}
+use Rattle.key_index.proofs.snapshots.SnapshotLemmas.{found_at, key_at, passed_by}
 use Rattle.key_index.proofs.snapshot.place_of.Goals as goal
 
 pub returns-then-eq-clause-found : goal.returns-then-eq-clause-found

@@ -1,6 +1,6 @@
 use Rattle.std.proofs.Common.{slice_index, nat_lt, ◌∙◌, arith}
 use Rattle.std.proofs.lemmas.Bool.{le-ltb}
-use Rattle.key_index.proofs.TableLemmas.{find_past}
+use Rattle.key_index.proofs.tables.TableLemmas.{find_past}
 use Rattle.key_index.proofs.table.free_between.Goals as goal
 
 pub loop-slot-preserved : goal.loop-slot-preserved

@@ -1,6 +1,6 @@
 use Rattle.std.proofs.Common.{◌≡◌, slice_index, nat_lt, ◌-◌, sym, ap, ◌∙◌, arith}
 use Rattle.std.specs.List.{find, range_with_len}
-use Rattle.key_index.proofs.TableLemmas.{found_first, found_second, free_exists}
+use Rattle.key_index.proofs.tables.TableLemmas.{found_first, found_second, free_exists}
 use Rattle.key_index.proofs.table.free_from.Goals as goal
 
 pub returns-in-Some-clause-first : goal.returns-in-Some-clause-first

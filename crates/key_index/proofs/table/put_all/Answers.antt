@@ -1,5 +1,5 @@
 use Rattle.std.proofs.Common.{◌≡◌, length, Some, subst, sym, ap, ◌∙◌, arith, refl}
-use Rattle.key_index.proofs.TableCopies.{Copied, Copied-past, put_copies, put_kept, put_long, copied_files}
+use Rattle.key_index.proofs.tables.TableCopies.{Copied, Copied-past, put_copies, put_kept, put_long, copied_files}
 use Rattle.key_index.proofs.table.put_all.Goals as goal
 
 pub loop-slot-preserved-then-controls-slot-lt-FULL : goal.loop-slot-preserved-then-controls-slot-lt-FULL

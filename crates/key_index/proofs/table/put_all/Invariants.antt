@@ -1,7 +1,7 @@
 use Rattle.std.proofs.Common.{◌≡◌, ℕ, Option, length}
 use Rattle.key_index.specs.Table.{Files, Resolves}
-use Rattle.key_index.proofs.TableMaps.{Keeps}
-use Rattle.key_index.proofs.TableCopies.{Copied}
+use Rattle.key_index.proofs.tables.TableMaps.{Keeps}
+use Rattle.key_index.proofs.tables.TableCopies.{Copied}
 use Rattle.key_index.proofs.table.put_all.Given as goal
 
 abbrev pub invariant-loop-slot : goal.invariant-loop-slot

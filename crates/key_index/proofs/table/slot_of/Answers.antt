@@ -1,7 +1,7 @@
 use Rattle.std.proofs.Common.{◌<◌, ◌==◌, length, slice_index, subst, sym, ap, ◌∙◌}
 use Rattle.std.specs.List.{All, find}
 use Rattle.std.proofs.lemmas.List.Elements.{All-tail}
-use Rattle.key_index.proofs.TableMaps.{places_within, find_beyond}
+use Rattle.key_index.proofs.tables.TableMaps.{places_within, find_beyond}
 use Rattle.key_index.proofs.table.slot_of.Goals as goal
 
 pub loop-slot-init : goal.loop-slot-init

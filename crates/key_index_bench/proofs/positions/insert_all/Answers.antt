@@ -1,5 +1,5 @@
 use Rattle.std.proofs.Common.{arith}
-use Rattle.key_index.proofs.PruneLemmas.{past_key}
+use Rattle.key_index.proofs.positions.PruneLemmas.{past_key}
 use Rattle.key_index_bench.proofs.positions.insert_all.Goals as goal
 
 pub insert-requires-clause-free : goal.insert-requires-clause-free

@@ -1,4 +1,4 @@
-use Rattle.key_index_flat.proofs.RunLemmas.{put_if_absent}
+use Rattle.key_index_flat.proofs.runs.RunLemmas.{put_if_absent}
 use Rattle.key_index_builds.proofs.fill.fill_absent.Goals as goal
 
 pub returns-clause-filled : goal.returns-clause-filled

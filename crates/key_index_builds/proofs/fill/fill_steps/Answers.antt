@@ -1,6 +1,6 @@
 use Rattle.std.proofs.Common.{length, sym, ap, ◌∙◌, arith}
 use Rattle.std.specs.Vec.Iter.{into_iter_items, into_iter_len}
-use Rattle.key_index_flat.proofs.RunLemmas.{no_items}
+use Rattle.key_index_flat.proofs.runs.RunLemmas.{no_items}
 use Rattle.key_index_builds.proofs.FillLemmas.{fill_first, fill_more, fill_all, fill_stops, if_err}
 use Rattle.key_index_builds.proofs.fill.fill_steps.Goals as goal
 
@@ -23,7 +23,7 @@ steps-preserved g c =
     let len = c.in-Some.ensures.len in
     record {
       known = omega (arith, long, known, len);
-      fills = fill_more g.met.R.Key.Ord.total g.met.R.Runs.exact start (g.met.R.Runs.lawful start.index.now) c.args.steps.items (into_iter_items at.rest) (into_iter_items c.next.new.self) c.in-Some.step at.cursor c.fill_step.new.cursor split c.in_ok-fill_step.ensures.filled at.invariant.fills;
+      fills = fill_more g.met.R.Key.Ord.total g.met.R.Runs.exact start (g.met.R.Runs.lawful start.index.now) c.args.steps.items (into_iter_items at.rest) (into_iter_items c.next.new.self) c.in-Some.step at.cursor c.step.new.self split c.in_ok-step.ensures.edited at.invariant.fills;
     }
 
 pub returns-clause-filled : goal.returns-clause-filled
@@ -32,7 +32,7 @@ returns-clause-filled g c =
     let at = c.steps in
     fill_all g.met.R.Key.Ord.total g.met.R.Runs.exact start (g.met.R.Runs.lawful start.index.now) c.args.steps.items (into_iter_items at.rest) at.cursor (no_items (into_iter_items at.rest) (into_iter_len at.rest) at.invariant.known c.in_default.ensures.cases.0) at.invariant.fills
 
-pub returns-in_err-fill_step-clause-refused : goal.returns-in_err-fill_step-clause-refused
-returns-in_err-fill_step-clause-refused g c =
+pub returns-in_err-step-clause-refused : goal.returns-in_err-step-clause-refused
+returns-in_err-step-clause-refused g c =
     let at = c.steps in
-    if_err _ c.from_residual.result c.in_err-fill_step.field-0.0 c.from_residual.ensures.1 (fill_stops c.args.steps.items (into_iter_items at.rest) c.args.cursor.now at.cursor _ c.in_err-fill_step.ensures.fault at.invariant.fills)
+    if_err _ c.from_residual.result c.in_err-step.field-0.0 c.from_residual.ensures.1 (fill_stops c.args.steps.items (into_iter_items at.rest) c.args.cursor.now at.cursor _ c.in_err-step.ensures.fault at.invariant.fills)

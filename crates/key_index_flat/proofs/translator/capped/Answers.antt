@@ -1,5 +1,5 @@
 use Rattle.std.proofs.Common.{◌∙◌, arith}
-use Rattle.key_index_flat.proofs.PaddingLemmas.{padded-front, padded-short}
+use Rattle.key_index_flat.proofs.keys.PaddingLemmas.{padded-front, padded-short}
 use Rattle.key_index_flat.proofs.translator.capped.Goals as goal
 
 pub returns-in-Some : goal.returns-in-Some

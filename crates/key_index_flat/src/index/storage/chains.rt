@@ -1,14 +1,13 @@
 //! The lists of a flat index: the newest value of each key in one map, and in another the older values of the keys that have any. An
 //! entry whose key has one value then costs that key and that value alone.
-ghost use Rattle.std.specs.Prelude.{◌≡◌, ◌+◌, ◌<◌, ◌≤◌, Bool, true, List, [], ◌∷◌, ◌++◌, length, reverse, slice_get, slice_set, insert, remove, Some, MatchOption, IfOk, IfErr, OnOk, OnErr};
+ghost use Rattle.std.specs.Prelude.{◌≡◌, ◌+◌, ◌<◌, ◌≤◌, true, List, [], ◌∷◌, length, reverse, slice_get, slice_set, insert, remove, Some, MatchOption, IfOk, IfErr, OnOk, OnErr};
 ghost use Rattle.std.specs.Fn.{CalledAt};
-ghost use Rattle.std.specs.List.{items_where_true};
-ghost use Rattle.std.specs.List.Retain.{IsFiltered, ReturnsInTurn};
+ghost use Rattle.std.specs.List.Retain.{IsFiltered};
 ghost use Rattle.std.specs.Map.Iter.{deref_pair};
 ghost use Rattle.std.specs.Option.{option_map};
 ghost use Rattle.key_index_flat.specs.Content.{Content, key_count, list_at, with_list, with_list_by};
 ghost use Rattle.key_index_flat.specs.Neighbours.{first_list, last_list, next_list, prev_list};
-ghost use Rattle.key_index_flat.specs.Retention.{last_answer};
+ghost use Rattle.key_index_flat.specs.Retention.{last_answer, AsksBehind};
 ghost use Rattle.key_index_flat.specs.Storage.{older_at, stored, IsLinked};
 ghost use Rattle.key_index_flat.specs.Values.{values_of, VisitsEach};
 
@@ -228,12 +227,9 @@ impl<T: Translator, V: Drop, M: Heads<T::Key, V>> Chains<T, V, M> {
         should_retain: F,
     ) -> Result<(usize, usize, bool), V>
         requires { F.IsAlwaysCallable should_retain }
-        ensures accepted { IfOk result (λ told. let held = list_at T.Key.cmp self.old slot in
-            (answers : List Bool) × (last : F) × (length answers ≡ length held + 1)
-            × ReturnsInTurn (CalledAt F.FnMut) should_retain answers (held ++ value ∷ []) last
-            × (self.new ≡ with_list T.Key.cmp self.old slot (items_where_true answers (held ++ value ∷ [])))
-            × (told.1 + length (items_where_true answers held) ≡ length held)
-            × (told.2 ≡ last_answer true answers)) }
+        ensures accepted { IfOk result (λ told. (kept : List V)
+            × (asks : AsksBehind (CalledAt F.FnMut) should_retain (list_at T.Key.cmp self.old slot) value kept told.1)
+            × (self.new ≡ with_list T.Key.cmp self.old slot kept) × (told.2 ≡ last_answer true asks.answers)) }
         ensures had { IfOk result (λ told. told.0 ≡ length (list_at T.Key.cmp self.old slot)) }
         ensures refused { OnErr result (self.new ≡ self.old) }
         ensures returned { IfErr result (λ back. back ≡ value) }

@@ -125,6 +125,9 @@ pub(super) fn take_older<K: Ord + Hash + Copy, V: Drop>(older: &mut Older<K, V>,
     let Some(map) = older else {
         return 0;
     };
+    if map.is_empty() {
+        return 0;
+    }
     match map.remove(&key) {
         Some(values) => values.len(),
         None => 0,

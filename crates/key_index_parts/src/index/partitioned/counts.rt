@@ -1,5 +1,5 @@
 //! The counts of what the parts of an index hold.
-ghost use Rattle.std.specs.Prelude.{◌≡◌, ◌+◌, ◌<◌, ◌≤◌};
+ghost use Rattle.std.specs.Prelude.{◌≡◌, ◌+◌, ◌<◌, ◌≤◌, nat_lt};
 ghost use Rattle.key_index_flat.specs.View.{pruned_after};
 ghost use Rattle.key_index_parts.specs.Counts.{one_if, keys_for, CanChange};
 
@@ -54,10 +54,39 @@ impl Counts {
     }
 }
 
-/// A count with one more, if there is one.
-#[inline]
-pub(super) fn count_if(count: u64, one: bool) -> u64
-    ensures { result ≡ pruned_after count (one_if one) }
-{
-    count.saturating_add(u64::from(one))
+/// How many spills there ever were, and how many values were ever moved, to trees and back.
+#[derive(Drop)]
+pub(super) struct Moves {
+    pub(super) spills: u64,
+    pub(super) moved: u64,
+}
+
+impl Moves {
+    /// Counts a spill that moved so many values. Where they are none, there was no spill.
+    #[inline]
+    pub(super) fn spill(&mut self, values: usize)
+        ensures spills { self.new.spills ≡ pruned_after self.old.spills (one_if (nat_lt 0 values)) }
+        ensures moved { self.new.moved ≡ pruned_after self.old.moved values }
+    {
+        self.spills = self.spills.saturating_add(u64::from(values > 0));
+        self.moved = self.moved.saturating_add(values as u64);
+    }
+
+    /// Counts so many values that were moved back to arrays.
+    #[inline]
+    pub(super) fn move_back(&mut self, values: usize)
+        ensures spills { self.new.spills ≡ self.old.spills }
+        ensures moved { self.new.moved ≡ pruned_after self.old.moved values }
+    {
+        self.moved = self.moved.saturating_add(values as u64);
+    }
+
+    /// Counts what other parts moved.
+    pub(super) fn join(&mut self, other: Moves)
+        ensures spills { self.new.spills ≡ pruned_after self.old.spills other.spills }
+        ensures moved { self.new.moved ≡ pruned_after self.old.moved other.moved }
+    {
+        self.spills = self.spills.saturating_add(other.spills);
+        self.moved = self.moved.saturating_add(other.moved);
+    }
 }

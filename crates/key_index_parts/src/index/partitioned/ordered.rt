@@ -3,8 +3,9 @@ ghost use Rattle.std.specs.Prelude.{◌≡◌, ◌<◌, ◌≤◌, false, length
 ghost use Rattle.key_index_flat.specs.Content.{IsLawful, item_count};
 ghost use Rattle.key_index_parts.specs.Family.{IsIndex, view_of};
 ghost use Rattle.key_index_parts.specs.Gathered.{gathered, pair_cmp, entries_of};
+ghost use Rattle.key_index_parts.specs.Moves.{IsWithin};
 ghost use Rattle.key_index_parts.specs.Prefix.{partition_count, partition_by, slot_by};
-ghost use Rattle.key_index_parts.specs.Standing.{LeavesSome, Refuses, Settles, is_reached};
+ghost use Rattle.key_index_parts.specs.Standing.{LeavesSome, Refuses, Resettles, Settles, is_reached};
 
 mod ahead;
 mod arrays;
@@ -41,11 +42,15 @@ const THRESHOLD: usize = 512;
 pub struct Index<T: Translator, V: Drop, const P: usize> {
     storage: Storage<T, V, Spilling<T, V>, P>,
     ghost is_index: { IsIndex T.Key.cmp P storage.parts },
+    ghost within: { IsWithin storage.standings storage.pruned },
 }
 
 impl<T: Translator, V: Drop, const P: usize> Index<T, V, P> {
-    ghost use Rattle.std.specs.Prelude.{◌≡◌, ◌<◌, ◌≤◌, [], IfErr, IfOk, OnOk};
+    ghost use Rattle.std.specs.Prelude.{◌≡◌, ◌+◌, ◌*◌, ◌<◌, ◌≤◌, [], IfErr, IfOk, OnOk};
     ghost use Rattle.std.specs.Iterator.{UpTo};
+    ghost use Rattle.std.specs.List.{sum_by};
+    ghost use Rattle.key_index_flat.specs.View.{items_in};
+    ghost use Rattle.key_index_parts.specs.Moves.{credit};
     ghost use Rattle.key_index_flat.specs.Visits.{IsBatch, VisitsAt, VisitsByKey};
     ghost use Rattle.key_index_parts.specs.Ordered.{standings, view};
     ghost use Rattle.key_index_parts.specs.Standing.{entries_at, inline_len, new_standings, spilled_in, standing_at};
@@ -85,6 +90,19 @@ impl<T: Translator, V: Drop, const P: usize> Index<T, V, P> {
         ensures { result ≡ (standings self.now).spills }
     {
         self.storage.spills()
+    }
+
+    /// How many values were ever moved: those of each spill, and those of each return to arrays. The count stops at `u64::MAX`. It is at
+    /// most twice the values held and three times those ever taken out, also with what the partitions are yet to pay for.
+    pub fn moved(&self) -> u64
+        ensures count { result ≡ (standings self.now).moved }
+        ensures bound { (view self.now).pruned < u64.MAX →
+            result + sum_by (credit (standings self.now).threshold) (standings self.now).parts
+            ≤ 2 * items_in (view self.now) + 3 * (view self.now).pruned }
+        ensures at_most { (view self.now).pruned < u64.MAX →
+            result ≤ 2 * items_in (view self.now) + 3 * (view self.now).pruned }
+    {
+        self.storage.moved()
     }
 
     /// How many partitions are spilled. It looks at each.
@@ -160,7 +178,10 @@ impl<T: Translator, V: Drop, const P: usize> Index<T, V, P> {
 pub type RangeIndex<T, V, const P: usize> = Range<T, V, Spilling<T, V>, P>;
 
 impl<T: Translator, V: Drop, const P: usize> RangeIndex<T, V, P> {
-    ghost use Rattle.std.specs.Prelude.{◌≡◌, ◌-◌, IsTrue};
+    ghost use Rattle.std.specs.Prelude.{◌≡◌, ◌+◌, ◌-◌, ◌*◌, ◌<◌, ◌≤◌, IsTrue};
+    ghost use Rattle.std.specs.List.{sum_by};
+    ghost use Rattle.key_index_flat.specs.View.{items_in};
+    ghost use Rattle.key_index_parts.specs.Moves.{range_credit};
     ghost use Rattle.key_index_parts.specs.Range.{is_covered, range_offset, range_standings, range_view};
     ghost use Rattle.key_index_parts.specs.Standing.{entries_at, inline_len, standing_at};
 
@@ -169,6 +190,19 @@ impl<T: Translator, V: Drop, const P: usize> RangeIndex<T, V, P> {
         ensures { result ≡ (range_standings self.now).spills }
     {
         self.storage.spills()
+    }
+
+    /// How many values were ever moved by spills. The count stops at `u64::MAX`. With two for each value in arrays and one for each in a
+    /// tree it is at most twice the values held and three times those ever taken out.
+    pub fn moved(&self) -> u64
+        ensures count { result ≡ (range_standings self.now).moved }
+        ensures bound { (range_view self.now).pruned < u64.MAX →
+            result + sum_by range_credit (range_standings self.now).parts
+            ≤ 2 * items_in (range_view self.now) + 3 * (range_view self.now).pruned }
+        ensures at_most { (range_view self.now).pruned < u64.MAX →
+            result ≤ 2 * items_in (range_view self.now) + 3 * (range_view self.now).pruned }
+    {
+        self.storage.moved()
     }
 
     /// Whether a partition that the range covers is spilled.
@@ -306,11 +340,11 @@ impl<T: Translator, V: Drop, const P: usize> Unordered for Index<T, V, P> {
     ghost use Rattle.std.specs.Iterator.{UpTo};
     ghost use Rattle.key_index_flat.specs.Visits.{IsBatch, VisitsAt, VisitsByKey, VisitsInAnyOrder};
     ghost use Rattle.key_index_parts.specs.Ordered.{view};
-    ghost use Rattle.key_index_parts.specs.PrefixLaws.{prefix_reaches};
+    ghost use Rattle.key_index_parts.specs.laws.PrefixLaws.{prefix_reaches};
 
     ghost INSERT_FIRST = { false };
 
-    ghost resettled = { λ x slot y. Settles x.storage.standings slot.0 y.storage.standings };
+    ghost resettled = { λ x slot y. Resettles x.storage.standings slot.0 y.storage.standings };
 
     const INSERT_FIRST: bool = false;
 
@@ -390,7 +424,7 @@ impl<T: Translator, V: Drop, const P: usize> Unordered for Index<T, V, P> {
 }
 
 impl<T: OrderedTranslator, V: Drop, const P: usize> Ordered for Index<T, V, P> {
-    ghost use Rattle.key_index_parts.specs.PrefixLaws.{slot_by-keeps_order};
+    ghost use Rattle.key_index_parts.specs.laws.PrefixLaws.{slot_by-keeps_order};
 
     ghost keeps_order = { λ index. slot_by-keeps_order P T.Key.cmp (T.translated index.storage.translator)
         (T.keeps_order index.storage.translator) };
@@ -446,7 +480,7 @@ impl<T: Translator, V: Drop, const P: usize> Partitioned for Index<T, V, P> {
     ghost use Rattle.key_index_flat.specs.View.{items_in};
     ghost use Rattle.key_index_parts.specs.Joined.{IsFree, install_fault, joined_view};
     ghost use Rattle.key_index_parts.specs.Ordered.{standings, view};
-    ghost use Rattle.key_index_parts.specs.PrefixLaws.{partition_by-made, partition_by-below};
+    ghost use Rattle.key_index_parts.specs.laws.PrefixLaws.{partition_by-made, partition_by-below};
     ghost use Rattle.key_index_parts.specs.Range.{range_count, range_offset, range_standings, range_view};
     ghost use Rattle.key_index_parts.specs.Standing.{joined_standings, new_standings};
 

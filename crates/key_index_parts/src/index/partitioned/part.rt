@@ -1,5 +1,5 @@
 //! One part of an index: what it holds, by the translated keys of the part.
-ghost use Rattle.std.specs.Prelude.{◌≡◌, ◌+◌, ◌<◌, ◌≤◌, Bool, true, false, IsTrue, List, [], ◌∷◌, length, not, slice_get, slice_set, insert, remove, Some, IfOk, IfErr, OnOk, OnErr};
+ghost use Rattle.std.specs.Prelude.{◌≡◌, ◌+◌, ◌<◌, ◌≤◌, Bool, true, false, IsTrue, if◌then◌else◌, List, [], ◌∷◌, length, not, slice_get, slice_set, insert, remove, Some, IfOk, IfErr, OnOk, OnErr};
 ghost use Rattle.std.specs.Fn.{CalledAt};
 ghost use Rattle.std.specs.List.Retain.{IsFiltered};
 ghost use Rattle.key_index_flat.specs.Content.{Content, IsLawful, is_filled, item_count, list_at, with_list, with_list_by};
@@ -26,7 +26,7 @@ pub(super) trait Held<T: Translator, V> {
 
 /// A part of an index. A refusal is want of memory, and leaves what the part holds and how it stands. `SPILLS` tells whether parts of
 /// this kind ever stand as trees: a call that puts a value in spills such a part where it is left with `limit` values or more, and no
-/// other call but `spill` does.
+/// other call but `spill` does. `move_back` alone moves values from a tree to arrays.
 pub(super) trait Part<T: Translator, V>: Held<T, V> {
     ghost FIRST: { Bool };
 
@@ -53,6 +53,16 @@ pub(super) trait Part<T: Translator, V>: Held<T, V> {
         requires { IsTrue SPILLS → 0 < inline_in SPILLS (Self.spilled self.old) (Self.content self.old) }
         ensures content { Self.content self.new ≡ Self.content self.old }
         ensures standing { OnOk result (Self.spilled self.new ≡ SPILLS) }
+        ensures stands { OnErr result (Self.spilled self.new ≡ Self.spilled self.old) };
+
+    /// How many values stand in a tree: all of a spilled part, and none of an inline one.
+    fn spilled_len(&self) -> usize
+        ensures { result ≡ (if Self.spilled self.now then item_count (Self.content self.now) else 0) };
+
+    /// Moves the values from the tree back to arrays, all or none. It takes all the memory for it before the first value moves.
+    fn move_back(&mut self) -> Result<(), AllocError>
+        ensures content { Self.content self.new ≡ Self.content self.old }
+        ensures standing { OnOk result (Self.spilled self.new ≡ false) }
         ensures stands { OnErr result (Self.spilled self.new ≡ Self.spilled self.old) };
 
     fn get(&self, key: T::Key) -> Values<'_, V>

@@ -1,5 +1,5 @@
 //! The parts of an index, listed by their numbers.
-ghost use Rattle.std.specs.Prelude.{◌≡◌, ◌+◌, ◌<◌, ◌≤◌, false, ◌&&◌, if◌then◌else◌, IsTrue, List, [], ◌∷◌, length, map, take, drop, not, replicate, slice_get, slice_set, insert, remove, Some, IfOk, IfErr, OnOk, OnErr};
+ghost use Rattle.std.specs.Prelude.{◌≡◌, ◌+◌, ◌<◌, ◌≤◌, false, ◌&&◌, if◌then◌else◌, IsTrue, nat_lt, List, [], ◌∷◌, length, map, take, drop, not, replicate, slice_get, slice_set, insert, remove, Some, IfOk, IfErr, OnOk, OnErr};
 ghost use Rattle.std.specs.Bool.{Decides};
 ghost use Rattle.std.specs.Fn.{CalledAt};
 ghost use Rattle.std.specs.List.Retain.{IsFiltered};
@@ -7,12 +7,12 @@ ghost use Rattle.key_index_flat.specs.Content.{is_filled, item_count};
 ghost use Rattle.key_index_flat.specs.Neighbours.{first_list, last_list, next_list, prev_list};
 ghost use Rattle.key_index_flat.specs.View.{put_value};
 ghost use Rattle.key_index_flat.specs.Values.{VisitsEach, values_of};
-ghost use Rattle.key_index_parts.specs.Family.{Family, RetainsWith, stands, inline_in, part_at, list_in, with_list_in, with_edit_in, with_parts_from, with_items_from, filled_parts, AreFree};
+ghost use Rattle.key_index_parts.specs.Family.{AreCounted, Family, RetainsWith, stands, inline_in, part_at, list_in, with_list_in, with_edit_in, with_parts_from, with_items_from, filled_parts, AreFree};
 ghost use Rattle.key_index_parts.specs.Gathered.{gathered, gathered_from, pair_cmp};
 ghost use Rattle.key_index_parts.specs.Prefix.{partition_count};
-ghost use Rattle.key_index_parts.specs.Standing.{GrowsIn, LeavesIn, is_reached_by, spilled_in, spilled_since, standing_in, with_spilled};
+ghost use Rattle.key_index_parts.specs.Standing.{GrowsIn, LeavesIn, due_in, is_reached_by, is_small_by, moved_since, spilled_in, standing_in, with_inline, with_spilled};
 
-use super::filled::Filled;
+use super::bitmap::Bitmap;
 use super::part::{Held, OrderedPart, Part};
 use key_index_flat::index::implement::Retained;
 use key_index_flat::index::{Fault, Values};
@@ -24,7 +24,7 @@ use std::marker::{Model, PhantomData};
 #[derive(Drop)]
 pub(super) struct Parts<T: Translator, V, X: Held<T, V>> {
     parts: Vec<X>,
-    filled: Filled,
+    filled: Bitmap,
     lists: PhantomData<(T, V)>,
 }
 
@@ -39,12 +39,12 @@ impl<T: Translator, V, X: Held<T, V>> Model for Parts<T, V, X> {
     ghost invariant = { λ p. p.filled ≡ filled_parts (map X.content p.parts.items) };
 }
 
-/// Whether something is so now that was not before.
+/// How many values a part moved to a tree, of which so many stand there now and none did where it wasn't spilled.
 #[inline]
-fn has_become(was: bool, is: bool) -> bool
-    ensures { result ≡ (not was && is) }
+fn newly_spilled(was: bool, len: usize) -> usize
+    ensures { result ≡ (if was then 0 else len) }
 {
-    !was && is
+    if was { 0 } else { len }
 }
 
 impl<T: Translator, V: Drop, X: Part<T, V> + Drop> Parts<T, V, X> {
@@ -55,10 +55,11 @@ impl<T: Translator, V: Drop, X: Part<T, V> + Drop> Parts<T, V, X> {
         ensures standing { IfOk result (λ parts. parts.standing
             ≡ replicate count (stands {K = T.Key} {V = V} [] false)) }
         ensures fault { IfErr result (λ fault. fault ≡ Fault.Memory) }
+        ensures counted { IfOk result (λ parts. AreCounted parts.contents parts.standing) }
     {
         let (Ok(mut parts), Ok(filled)) = (
             Vec::with_capacity(alloc, count),
-            Filled::new(alloc, count),
+            Bitmap::new(alloc, count),
         ) else {
             return Err(Fault::Memory);
         };
@@ -122,29 +123,55 @@ impl<T: Translator, V: Drop, X: Part<T, V> + Drop> Parts<T, V, X> {
         count
     }
 
-    /// Spills a part of which a spill would move `limit` values or more, and tells whether it did.
-    pub(super) fn settle(&mut self, number: usize, limit: usize) -> Result<bool, AllocError>
+    /// Spills a part of which a spill would move `limit` values or more, and tells how many values it moved.
+    #[inline]
+    pub(super) fn settle(&mut self, number: usize, limit: usize) -> Result<usize, AllocError>
         requires within { number < length self.old.contents }
         requires least { 1 ≤ limit }
         ensures contents { self.new.contents ≡ self.old.contents }
-        ensures standing { IfOk result (λ more. self.new.standing
-            ≡ (if more then with_spilled self.old.standing number else self.old.standing)) }
-        ensures reached { IfOk result (λ more. more
-            ≡ (X.SPILLS && is_reached_by limit (standing_in self.old.standing number))) }
+        ensures standing { IfOk result (λ moved. self.new.standing
+            ≡ (if nat_lt 0 moved then with_spilled self.old.standing number else self.old.standing)) }
+        ensures moved { IfOk result (λ moved. moved
+            ≡ due_in X.SPILLS limit (standing_in self.old.standing number)) }
         ensures refused { OnErr result (self.new ≡ self.old) }
         ensures due { OnErr result (IsTrue
             (X.SPILLS && is_reached_by limit (standing_in self.old.standing number))) }
         ensures listed { number < length self.old.standing }
         ensures filled { IsTrue (standing_in self.old.standing number).spilled
             → 0 < (standing_in self.old.standing number).entries }
+        ensures counted { AreCounted self.new.contents self.new.standing }
     {
         let part = &mut self.parts[number];
-        if part.inline_len() < limit {
-            return Ok(false);
+        let values = part.inline_len();
+        if values < limit {
+            return Ok(0);
         }
         match part.spill() {
-            Ok(()) => Ok(true),
+            Ok(()) => Ok(values),
             Err(failed) => Err(failed),
+        }
+    }
+
+    /// Moves the values of a part that is spilled with fewer than half of `limit` back to arrays, where there is memory for it, and
+    /// tells how many values it moved.
+    #[inline]
+    pub(super) fn move_back(&mut self, number: usize, limit: usize) -> usize
+        requires { number < length self.old.contents }
+        ensures contents { self.new.contents ≡ self.old.contents }
+        ensures standing { self.new.standing
+            ≡ (if nat_lt 0 result then with_inline self.old.standing number else self.old.standing) }
+        ensures small { 0 < result → IsTrue (is_small_by limit (standing_in self.old.standing number)) }
+        ensures moved { 0 < result → result ≡ (standing_in self.old.standing number).entries }
+        ensures counted { AreCounted self.new.contents self.new.standing }
+    {
+        let part = &mut self.parts[number];
+        let values = part.spilled_len();
+        if values == 0 || values >= limit.saturating_sub(values) {
+            return 0;
+        }
+        match part.move_back() {
+            Ok(()) => values,
+            Err(_) => 0,
         }
     }
 
@@ -197,6 +224,7 @@ impl<T: Translator, V: Drop, X: Part<T, V> + Drop> Parts<T, V, X> {
         ensures parts { self.new.contents
             ≡ with_edit_in T.Key.cmp self.old.contents slot (λ l. slice_set l place value) }
         ensures standing { LeavesIn self.old.standing slot.0 self.new.standing }
+        ensures counted { AreCounted self.new.contents self.new.standing }
     {
         self.parts[slot.0].set_at(slot.1, place, value);
     }
@@ -216,6 +244,7 @@ impl<T: Translator, V: Drop, X: Part<T, V> + Drop> Parts<T, V, X> {
         ensures standing { OnOk result (LeavesIn self.old.standing slot.0 self.new.standing) }
         ensures refused { OnErr result (self.new ≡ self.old) }
         ensures returned { IfErr result (λ back. back ≡ value) }
+        ensures counted { AreCounted self.new.contents self.new.standing }
     {
         match self.parts[slot.0].insert_at(slot.1, place, value) {
             Ok(absent) => {
@@ -226,45 +255,46 @@ impl<T: Translator, V: Drop, X: Part<T, V> + Drop> Parts<T, V, X> {
         }
     }
 
-    /// Puts a value in at its end of a slot's list, and tells whether the slot had none, and whether its part spilled, which it does
-    /// where it is left with `limit` values or more.
+    /// Puts a value in at its end of a slot's list, and tells whether the slot had none, and how many values its part moved to a tree:
+    /// it spills where it is left with `limit` values or more.
     pub(super) fn insert(
         &mut self,
         slot: (usize, T::Key),
         value: V,
         limit: usize,
-    ) -> Result<(bool, bool), V>
+    ) -> Result<(bool, usize), V>
         requires within { slot.0 < length self.old.contents }
         requires limit { 1 ≤ limit }
         ensures accepted { IfOk result (λ told.
             (self.new.contents ≡ with_edit_in T.Key.cmp self.old.contents slot (put_value X.FIRST value))
             × (told.0 ≡ not (is_filled (list_in T.Key.cmp self.old.contents slot)))) }
         ensures standing { OnOk result (GrowsIn X.SPILLS limit self.old.standing slot.0 self.new.standing) }
-        ensures spilled { IfOk result (λ told. told.1 ≡ spilled_since self.old.standing slot.0 self.new.standing) }
+        ensures moved { IfOk result (λ told. told.1 ≡ moved_since self.old.standing slot.0 self.new.standing) }
         ensures listed { slot.0 < length self.old.standing }
         ensures refused { OnErr result (self.new ≡ self.old) }
         ensures returned { IfErr result (λ back. back ≡ value) }
+        ensures counted { AreCounted self.new.contents self.new.standing }
     {
         let part = &mut self.parts[slot.0];
         let was = part.is_spilled();
         match part.insert(slot.1, value, limit) {
             Ok(absent) => {
-                let spilled = has_become(was, part.is_spilled());
+                let moved = newly_spilled(was, part.spilled_len());
                 self.filled.set(slot.0, true);
-                Ok((absent, spilled))
+                Ok((absent, moved))
             }
             Err(value) => Err(value),
         }
     }
 
-    /// Puts a value under a slot that has none, and tells how many values the slot had, and whether its part spilled, which it does
-    /// where it is left with one value more, and so with `limit` or more.
+    /// Puts a value under a slot that has none, and tells how many values the slot had, and how many its part moved to a tree: it
+    /// spills where it is left with one value more, and so with `limit` or more.
     pub(super) fn insert_absent(
         &mut self,
         slot: (usize, T::Key),
         value: V,
         limit: usize,
-    ) -> Result<(usize, bool), V>
+    ) -> Result<(usize, usize), V>
         requires within { slot.0 < length self.old.contents }
         requires limit { 1 ≤ limit }
         ensures found { IfOk result (λ told. 0 < told.0 → self.new ≡ self.old) }
@@ -272,21 +302,22 @@ impl<T: Translator, V: Drop, X: Part<T, V> + Drop> Parts<T, V, X> {
             self.new.contents ≡ with_list_in T.Key.cmp self.old.contents slot (value ∷ [])) }
         ensures standing { IfOk result (λ told. told.0 ≡ 0 →
             GrowsIn X.SPILLS limit self.old.standing slot.0 self.new.standing) }
-        ensures spilled { IfOk result (λ told. told.1 ≡ spilled_since self.old.standing slot.0 self.new.standing) }
+        ensures moved { IfOk result (λ told. told.1 ≡ moved_since self.old.standing slot.0 self.new.standing) }
         ensures listed { slot.0 < length self.old.standing }
         ensures len { IfOk result (λ told. told.0 ≡ length (list_in T.Key.cmp self.old.contents slot)) }
         ensures refused { OnErr result (self.new ≡ self.old) }
         ensures returned { IfErr result (λ back. back ≡ value) }
+        ensures counted { AreCounted self.new.contents self.new.standing }
     {
         let part = &mut self.parts[slot.0];
         let was = part.is_spilled();
         match part.insert_absent(slot.1, value, limit) {
             Ok(0) => {
-                let spilled = has_become(was, part.is_spilled());
+                let moved = newly_spilled(was, part.spilled_len());
                 self.filled.set(slot.0, true);
-                Ok((0, spilled))
+                Ok((0, moved))
             }
-            Ok(len) => Ok((len, false)),
+            Ok(len) => Ok((len, 0)),
             Err(value) => Err(value),
         }
     }
@@ -298,6 +329,7 @@ impl<T: Translator, V: Drop, X: Part<T, V> + Drop> Parts<T, V, X> {
         ensures parts { self.new.contents ≡ with_edit_in T.Key.cmp self.old.contents slot (λ l. remove l place) }
         ensures standing { LeavesIn self.old.standing slot.0 self.new.standing }
         ensures left { result.1 + 1 ≡ length (list_in T.Key.cmp self.old.contents slot) }
+        ensures counted { AreCounted self.new.contents self.new.standing }
     {
         let part = &mut self.parts[slot.0];
         let removed = part.remove_at(slot.1, place);
@@ -323,6 +355,7 @@ impl<T: Translator, V: Drop, X: Part<T, V> + Drop> Parts<T, V, X> {
         ensures fewer { (standing_in self.new.standing slot.0).entries
             ≤ (standing_in self.old.standing slot.0).entries }
         ensures had { result.0 ≡ length (list_in T.Key.cmp self.old.contents slot) }
+        ensures counted { AreCounted self.new.contents self.new.standing }
     {
         let part = &mut self.parts[slot.0];
         let counts = part.retain(slot.1, should_retain);
@@ -332,15 +365,15 @@ impl<T: Translator, V: Drop, X: Part<T, V> + Drop> Parts<T, V, X> {
     }
 
     /// Puts a value in behind those of a slot, which takes all the memory that the call may need, then asks once on each of them, in
-    /// list order, and takes out those that are answered false. It tells whether its part spilled, too, which it does where it is left
-    /// with `limit` values or more.
+    /// list order, and takes out those that are answered false. It tells how many values its part moved to a tree, too: it spills where
+    /// it is left with `limit` values or more.
     pub(super) fn insert_and_retain<F: FnMut(&V) -> bool>(
         &mut self,
         slot: (usize, T::Key),
         value: V,
         should_retain: F,
         limit: usize,
-    ) -> Result<(Retained, bool), V>
+    ) -> Result<(Retained, usize), V>
         requires within { slot.0 < length self.old.contents }
         requires limit { 1 ≤ limit }
         requires callable { F.IsAlwaysCallable should_retain }
@@ -348,19 +381,20 @@ impl<T: Translator, V: Drop, X: Part<T, V> + Drop> Parts<T, V, X> {
             (list_in T.Key.cmp self.old.contents slot) value told.0.had told.0.left told.0.taken
             (λ l. self.new.contents ≡ with_list_in T.Key.cmp self.old.contents slot l)) }
         ensures standing { OnOk result (GrowsIn X.SPILLS limit self.old.standing slot.0 self.new.standing) }
-        ensures spilled { IfOk result (λ told. told.1 ≡ spilled_since self.old.standing slot.0 self.new.standing) }
+        ensures moved { IfOk result (λ told. told.1 ≡ moved_since self.old.standing slot.0 self.new.standing) }
         ensures listed { slot.0 < length self.old.standing }
         ensures refused { OnErr result (self.new ≡ self.old) }
         ensures returned { IfErr result (λ back. back ≡ value) }
+        ensures counted { AreCounted self.new.contents self.new.standing }
     {
         let part = &mut self.parts[slot.0];
         let was = part.is_spilled();
         match part.insert_and_retain(slot.1, value, should_retain, limit) {
             Ok(retained) => {
-                let spilled = has_become(was, part.is_spilled());
+                let moved = newly_spilled(was, part.spilled_len());
                 let holds = !part.is_empty();
                 self.filled.set(slot.0, holds);
-                Ok((retained, spilled))
+                Ok((retained, moved))
             }
             Err(value) => Err(value),
         }
@@ -425,6 +459,7 @@ impl<T: Translator, V: Drop, X: Part<T, V> + Drop> Parts<T, V, X> {
         ensures fewer { (standing_in self.new.standing slot.0).entries
             ≤ (standing_in self.old.standing slot.0).entries }
         ensures taken { result ≡ length (list_in T.Key.cmp self.old.contents slot) }
+        ensures counted { AreCounted self.new.contents self.new.standing }
     {
         let part = &mut self.parts[slot.0];
         let taken = part.remove(slot.1);

@@ -6,8 +6,9 @@ ghost use Rattle.key_index_flat.specs.View.{growth_fault_in, items_in, run_at, w
 ghost use Rattle.key_index_parts.specs.Family.{IsRange, view_from};
 ghost use Rattle.key_index_parts.specs.Gathered.{gathered, pair_cmp};
 ghost use Rattle.key_index_parts.specs.Joined.{IsSpanKept, is_between};
+ghost use Rattle.key_index_parts.specs.Moves.{IsRangeWithin};
 ghost use Rattle.key_index_parts.specs.Prefix.{partition_count};
-ghost use Rattle.key_index_parts.specs.RangeLaws.{shift};
+ghost use Rattle.key_index_parts.specs.laws.RangeLaws.{shift};
 ghost use Rattle.key_index_parts.specs.Standing.{LeavesSome, Refuses, Settles, is_reached};
 
 use super::part::{Held, Part};
@@ -23,6 +24,7 @@ pub struct Range<T: Translator, V: Drop, X: Held<T, V> + Drop, const P: usize> {
     pub(super) offset: usize,
     pub(super) storage: Storage<T, V, X, P>,
     ghost is_range: { IsRange T.Key.cmp P offset storage.parts },
+    ghost within: { IsRangeWithin storage.standings storage.pruned },
 }
 
 impl<T: Translator, V: Drop, X: Part<T, V> + Drop, const P: usize> Range<T, V, X, P> {
@@ -80,7 +82,7 @@ impl<T: Translator, V: Drop, X: Part<T, V> + Drop, const P: usize> Range<T, V, X
 impl<T: Translator, V: Drop, X: Part<T, V> + Drop, const P: usize> Runs for Range<T, V, X, P> {
     ghost use Rattle.std.proofs.lemmas.Map.Lookups.{exact_pairs, exact_unsigned};
     ghost use Rattle.std.specs.Ordering.{nat_cmp};
-    ghost use Rattle.key_index_parts.specs.RangeLaws.{IsLawful-gathered_from};
+    ghost use Rattle.key_index_parts.specs.laws.RangeLaws.{IsLawful-gathered_from};
 
     type Value = V;
 
@@ -194,7 +196,7 @@ impl<T: Translator, V: Drop, X: Part<T, V> + Drop, const P: usize> Search for Ra
 
 impl<T: Translator, V: Drop, X: Part<T, V> + Drop, const P: usize> PartitionRange
     for Range<T, V, X, P> {
-    ghost use Rattle.key_index_parts.specs.RangeLaws.{gathered_from-covers};
+    ghost use Rattle.key_index_parts.specs.laws.RangeLaws.{gathered_from-covers};
 
     ghost offset = { λ range. range.offset };
 

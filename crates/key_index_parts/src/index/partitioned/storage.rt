@@ -7,13 +7,14 @@ ghost use Rattle.key_index_flat.specs.Fault.{growth_fault, IsWant};
 ghost use Rattle.key_index_flat.specs.Neighbours.{first_list, last_list, next_list, prev_list};
 ghost use Rattle.key_index_flat.specs.View.{put_value, InsertsAndRetains, Retains};
 ghost use Rattle.key_index_flat.specs.Values.{VisitsEach, values_of};
-ghost use Rattle.key_index_parts.specs.Family.{Kept, IsCounted, IsLeft, KeepsParts, Edits, Prunes, GrowsTo, SameContent, held_at, part_at, settled_at, view_of, view_from};
+ghost use Rattle.key_index_parts.specs.Family.{AreCounted, KeepsRange, KeepsWithin, Kept, IsCounted, IsLeft, KeepsParts, Edits, Prunes, GrowsTo, SameContent, held_at, part_at, settled_at, view_of, view_from};
 ghost use Rattle.key_index_parts.specs.Gathered.{gathered, pair_cmp};
 ghost use Rattle.key_index_parts.specs.Joined.{IsFree, is_between, joined_view};
+ghost use Rattle.key_index_parts.specs.Moves.{IsRangeWithin, entries_in};
 ghost use Rattle.key_index_parts.specs.Prefix.{partition_count, slot_by};
-ghost use Rattle.key_index_parts.specs.Standing.{Leaves, Settles, entries_at, inline_len, is_reached, joined_standings, new_standings, spilled_in, standing_at};
+ghost use Rattle.key_index_parts.specs.Standing.{Leaves, MovesBack, Resettles, Settles, entries_at, inline_len, is_reached, joined_standings, new_standings, spilled_in, standing_at};
 
-use super::counts::{Counts, count_if};
+use super::counts::{Counts, Moves};
 use super::part::{Held, OrderedPart, Part};
 use super::partition_index_and_sub_key;
 use super::parts::Parts;
@@ -23,20 +24,21 @@ use key_index_flat::translator::Translator;
 use std::alloc::Global;
 use std::marker::Model;
 
-/// An index over `256^P` parts: a translator, the parts, the counts of them all, from how many values on a part spills, and how many
-/// spills there ever were. Contracts see all of it but the counts, which are those of what the parts hold.
+/// An index over `256^P` parts: a translator, the parts, the counts of them all, from how many values on a part spills, and the counts
+/// of spills and of moved values. Contracts see all of it but the counts of them all, which are those of what the parts hold.
 ///
 /// A call by key spills its part first where that is due, and then does its edit in the part as it stands. The edits alone, without
 /// that, are `set_at`, `insert_at` and `remove_at` for cursors, and what the calls by key are made of: `put`, `put_absent`,
-/// `put_and_retain`, `retain_in_part` and `take`.
+/// `put_and_retain`, `retain_in_part` and `take`. The calls that take values out move a part that they leave small back to arrays last.
 #[derive(Drop)]
 pub(super) struct Storage<T: Translator, V, X: Held<T, V>, const P: usize> {
     translator: T,
     parts: Parts<T, V, X>,
     counts: Counts,
     threshold: usize,
-    spills: u64,
+    moves: Moves,
     ghost least: { 1 ≤ threshold },
+    ghost told: { AreCounted parts.contents parts.standing },
 }
 
 impl<T: Translator, V, X: Held<T, V>, const P: usize> Model for Storage<T, V, X, P> {
@@ -46,7 +48,12 @@ impl<T: Translator, V, X: Held<T, V>, const P: usize> Model for Storage<T, V, X,
       translator = s.translator;
       parts = s.parts.contents;
       pruned = s.counts.pruned;
-      standings = record { threshold = s.threshold; parts = s.parts.standing; spills = s.spills };
+      standings = record {
+        threshold = s.threshold;
+        parts = s.parts.standing;
+        spills = s.moves.spills;
+        moved = s.moves.moved;
+      };
     } };
 
     ghost invariant = { λ s. IsCounted T.Key.cmp P s.parts.contents s.counts.items s.counts.keys };
@@ -82,7 +89,10 @@ impl<T: Translator, V: Drop, X: Part<T, V> + Drop, const P: usize> Storage<T, V,
                     pruned: 0,
                 },
                 threshold,
-                spills: 0,
+                moves: Moves {
+                    spills: 0,
+                    moved: 0,
+                },
             }),
             Err(fault) => Err(fault),
         }
@@ -136,9 +146,10 @@ impl<T: Translator, V: Drop, X: Part<T, V> + Drop, const P: usize> Storage<T, V,
             (view_of P T.translated self.old) (view_from P T.translated first range) }
         ensures kept { KeepsParts T.Key.cmp self.old.parts self.new.parts }
         ensures standing { self.new.standings ≡ joined_standings self.old.standings first range.standings }
+        ensures bound { IsRangeWithin range.standings range.pruned → KeepsWithin self.old self.new }
     {
         self.counts.join(range.counts);
-        self.spills = self.spills.saturating_add(range.spills);
+        self.moves.join(range.moves);
         self.parts.install(first, range.parts);
     }
 
@@ -186,10 +197,19 @@ impl<T: Translator, V: Drop, X: Part<T, V> + Drop, const P: usize> Storage<T, V,
     pub(super) fn spills(&self) -> u64
         ensures { result ≡ self.now.standings.spills }
     {
-        self.spills
+        self.moves.spills
+    }
+
+    #[inline]
+    pub(super) fn moved(&self) -> u64
+        ensures count { result ≡ self.now.standings.moved }
+        ensures entries { entries_in self.now.standings ≡ item_count (gathered self.now.parts) }
+    {
+        self.moves.moved
     }
 
     /// Spills a part that has reached the threshold.
+    #[inline]
     pub(super) fn settle(&mut self, number: usize) -> Result<(), Fault>
         requires { number < length self.old.parts }
         ensures settled { OnOk result (self.new ≡ settled_at X.SPILLS self.old number) }
@@ -200,15 +220,29 @@ impl<T: Translator, V: Drop, X: Part<T, V> + Drop, const P: usize> Storage<T, V,
         ensures kept { KeepsParts T.Key.cmp self.old.parts self.new.parts }
         ensures within { number < length self.old.standings.parts }
         ensures least { 1 ≤ self.old.standings.threshold }
+        ensures bound { KeepsWithin self.old self.new }
+        ensures range_bound { KeepsRange self.old self.new }
     {
         match self.parts.settle(number, self.threshold) {
-            Ok(true) => {
-                self.spills = count_if(self.spills, true);
+            Ok(moved) => {
+                self.moves.spill(moved);
                 Ok(())
             }
-            Ok(false) => Ok(()),
             Err(_) => Err(Fault::Memory),
         }
+    }
+
+    /// Moves a part that is small back to arrays, where there is memory for it.
+    #[inline]
+    fn move_back(&mut self, number: usize)
+        requires { number < length self.old.parts }
+        ensures back { MovesBack self.old.standings number self.new.standings }
+        ensures same { SameContent self.old self.new }
+        ensures kept { KeepsParts T.Key.cmp self.old.parts self.new.parts }
+        ensures bound { KeepsWithin self.old self.new }
+    {
+        let moved = self.parts.move_back(number, self.threshold);
+        self.moves.move_back(moved);
     }
 
     #[inline]
@@ -272,6 +306,8 @@ impl<T: Translator, V: Drop, X: Part<T, V> + Drop, const P: usize> Storage<T, V,
         ensures edited { Edits T.Key.cmp P T.translated self.old slot (λ l. slice_set l place value) self.new }
         ensures standing { Leaves self.old.standings slot.0 self.new.standings }
         ensures kept { KeepsParts T.Key.cmp self.old.parts self.new.parts }
+        ensures bound { KeepsWithin self.old self.new }
+        ensures range_bound { KeepsRange self.old self.new }
     {
         self.parts.set_at(slot, place, value);
     }
@@ -292,6 +328,8 @@ impl<T: Translator, V: Drop, X: Part<T, V> + Drop, const P: usize> Storage<T, V,
         ensures kept { KeepsParts T.Key.cmp self.old.parts self.new.parts }
         ensures returned { IfErr result (λ r. r.value ≡ value) }
         ensures fault { IfErr result (λ r. r.fault ≡ growth_fault (item_count (gathered self.old.parts))) }
+        ensures bound { KeepsWithin self.old self.new }
+        ensures range_bound { KeepsRange self.old self.new }
     {
         if self.counts.items == usize::MAX {
             return Err(Refused::full(value));
@@ -311,6 +349,8 @@ impl<T: Translator, V: Drop, X: Part<T, V> + Drop, const P: usize> Storage<T, V,
         ensures edited { Prunes T.Key.cmp P T.translated self.old slot (λ l. remove l place) 1 self.new }
         ensures standing { Leaves self.old.standings slot.0 self.new.standings }
         ensures kept { KeepsParts T.Key.cmp self.old.parts self.new.parts }
+        ensures bound { KeepsWithin self.old self.new }
+        ensures range_bound { KeepsRange self.old self.new }
     {
         let (value, left) = self.parts.remove_at(slot, place);
         let had = left + 1;
@@ -330,11 +370,12 @@ impl<T: Translator, V: Drop, X: Part<T, V> + Drop, const P: usize> Storage<T, V,
         ensures refused { OnErr result (self.new ≡ self.old) }
         ensures kept { KeepsParts T.Key.cmp self.old.parts self.new.parts }
         ensures returned { IfErr result (λ back. back ≡ value) }
+        ensures bound { KeepsWithin self.old self.new }
     {
         match self.parts.insert(slot, value, self.threshold) {
-            Ok((absent, spilled)) => {
+            Ok((absent, moved)) => {
                 self.counts.gain(absent);
-                self.spills = count_if(self.spills, spilled);
+                self.moves.spill(moved);
                 Ok(())
             }
             Err(value) => Err(value),
@@ -354,11 +395,13 @@ impl<T: Translator, V: Drop, X: Part<T, V> + Drop, const P: usize> Storage<T, V,
         ensures refused { OnErr result (self.new ≡ self.old) }
         ensures kept { KeepsParts T.Key.cmp self.old.parts self.new.parts }
         ensures returned { IfErr result (λ back. back ≡ value) }
+        ensures bound { KeepsWithin self.old self.new }
+        ensures range_bound { KeepsRange self.old self.new }
     {
         match self.parts.insert_absent(slot, value, self.threshold) {
-            Ok((0, spilled)) => {
+            Ok((0, moved)) => {
                 self.counts.gain(true);
-                self.spills = count_if(self.spills, spilled);
+                self.moves.spill(moved);
                 Ok(0)
             }
             Ok((len, _)) => Ok(len),
@@ -383,14 +426,15 @@ impl<T: Translator, V: Drop, X: Part<T, V> + Drop, const P: usize> Storage<T, V,
         ensures refused { OnErr result (self.new ≡ self.old) }
         ensures kept { KeepsParts T.Key.cmp self.old.parts self.new.parts }
         ensures returned { IfErr result (λ back. back ≡ value) }
+        ensures bound { KeepsWithin self.old self.new }
     {
         match self
             .parts
             .insert_and_retain(slot, value, should_retain, self.threshold)
         {
-            Ok((told, spilled)) => {
+            Ok((told, moved)) => {
                 self.counts.change(told);
-                self.spills = count_if(self.spills, spilled);
+                self.moves.spill(moved);
                 Ok(())
             }
             Err(value) => Err(value),
@@ -406,6 +450,7 @@ impl<T: Translator, V: Drop, X: Part<T, V> + Drop, const P: usize> Storage<T, V,
         ensures standing { Leaves self.old.standings slot.0 self.new.standings }
         ensures fewer { entries_at self.new.standings slot.0 ≤ entries_at self.old.standings slot.0 }
         ensures kept { KeepsParts T.Key.cmp self.old.parts self.new.parts }
+        ensures bound { KeepsWithin self.old self.new }
     {
         let (had, left) = self.parts.retain(slot, should_retain);
         let taken = had - left;
@@ -420,6 +465,7 @@ impl<T: Translator, V: Drop, X: Part<T, V> + Drop, const P: usize> Storage<T, V,
         ensures standing { Leaves self.old.standings slot.0 self.new.standings }
         ensures fewer { entries_at self.new.standings slot.0 ≤ entries_at self.old.standings slot.0 }
         ensures kept { KeepsParts T.Key.cmp self.old.parts self.new.parts }
+        ensures bound { KeepsWithin self.old self.new }
     {
         let had = self.parts.remove(slot);
         let left = 0;
@@ -439,6 +485,7 @@ impl<T: Translator, V: Drop, X: Part<T, V> + Drop, const P: usize> Storage<T, V,
         ensures kept { KeepsParts T.Key.cmp self.old.parts self.new.parts }
         ensures returned { IfErr result (λ r. r.value ≡ value) }
         ensures fault { IfErr result (λ r. r.fault ≡ growth_fault (item_count (gathered self.old.parts))) }
+        ensures bound { KeepsWithin self.old self.new }
     {
         if self.counts.items == usize::MAX {
             return Err(Refused::full(value));
@@ -470,6 +517,8 @@ impl<T: Translator, V: Drop, X: Part<T, V> + Drop, const P: usize> Storage<T, V,
         ensures kept { KeepsParts T.Key.cmp self.old.parts self.new.parts }
         ensures returned { IfErr result (λ r. r.value ≡ value) }
         ensures fault { IfErr result (λ r. r.fault ≡ growth_fault (item_count (gathered self.old.parts))) }
+        ensures bound { KeepsWithin self.old self.new }
+        ensures range_bound { KeepsRange self.old self.new }
     {
         if self.counts.items == usize::MAX {
             return Err(Refused::full(value));
@@ -494,13 +543,14 @@ impl<T: Translator, V: Drop, X: Part<T, V> + Drop, const P: usize> Storage<T, V,
         requires callable { F.IsAlwaysCallable should_retain }
         ensures accepted { OnOk result ((taken : ℕ) × InsertsAndRetains (pair_cmp T.Key.cmp) (CalledAt F.FnMut)
             should_retain (view_of P T.translated self.old) slot value taken (view_of P T.translated self.new)) }
-        ensures settled { OnOk result (IsTrue X.SPILLS → Settles self.old.standings slot.0 self.new.standings) }
+        ensures settled { OnOk result (IsTrue X.SPILLS → Resettles self.old.standings slot.0 self.new.standings) }
         ensures room { OnOk result (item_count (gathered self.old.parts) < usize.MAX) }
         ensures refused { OnErr result (SameContent self.old self.new) }
         ensures left { OnErr result (IsLeft X.SPILLS self.old slot.0 self.new) }
         ensures kept { KeepsParts T.Key.cmp self.old.parts self.new.parts }
         ensures returned { IfErr result (λ r. r.value ≡ value) }
         ensures fault { IfErr result (λ r. r.fault ≡ growth_fault (item_count (gathered self.old.parts))) }
+        ensures bound { KeepsWithin self.old self.new }
     {
         if self.counts.items == usize::MAX {
             return Err(Refused::full(value));
@@ -509,7 +559,10 @@ impl<T: Translator, V: Drop, X: Part<T, V> + Drop, const P: usize> Storage<T, V,
             return Err(Refused::memory(value));
         };
         match self.put_and_retain(slot, value, should_retain) {
-            Ok(()) => Ok(()),
+            Ok(()) => {
+                self.move_back(slot.0);
+                Ok(())
+            }
             Err(value) => Err(Refused::memory(value)),
         }
     }
@@ -524,14 +577,16 @@ impl<T: Translator, V: Drop, X: Part<T, V> + Drop, const P: usize> Storage<T, V,
         requires callable { F.IsAlwaysCallable should_retain }
         ensures retained { OnOk result (Retains (pair_cmp T.Key.cmp) (CalledAt F.FnMut) should_retain
             (view_of P T.translated self.old) slot (view_of P T.translated self.new)) }
-        ensures settled { OnOk result (IsTrue X.SPILLS → Settles self.old.standings slot.0 self.new.standings) }
+        ensures settled { OnOk result (IsTrue X.SPILLS → Resettles self.old.standings slot.0 self.new.standings) }
         ensures refused { OnErr result (self.new ≡ self.old) }
         ensures want { IfErr result (λ f. IsWant f (X.SPILLS && is_reached self.old.standings slot.0)) }
         ensures kept { KeepsParts T.Key.cmp self.old.parts self.new.parts }
+        ensures bound { KeepsWithin self.old self.new }
     {
         match self.settle(slot.0) {
             Ok(()) => {
                 self.retain_in_part(slot, should_retain);
+                self.move_back(slot.0);
                 Ok(())
             }
             Err(fault) => Err(fault),
@@ -543,14 +598,16 @@ impl<T: Translator, V: Drop, X: Part<T, V> + Drop, const P: usize> Storage<T, V,
         requires { slot.0 < length self.old.parts }
         ensures removed { OnOk result (Prunes T.Key.cmp P T.translated self.old slot (λ _. [])
             (length (held_at T.Key.cmp self.old.parts slot)) self.new) }
-        ensures settled { OnOk result (IsTrue X.SPILLS → Settles self.old.standings slot.0 self.new.standings) }
+        ensures settled { OnOk result (IsTrue X.SPILLS → Resettles self.old.standings slot.0 self.new.standings) }
         ensures refused { OnErr result (self.new ≡ self.old) }
         ensures want { IfErr result (λ f. IsWant f (X.SPILLS && is_reached self.old.standings slot.0)) }
         ensures kept { KeepsParts T.Key.cmp self.old.parts self.new.parts }
+        ensures bound { KeepsWithin self.old self.new }
     {
         match self.settle(slot.0) {
             Ok(()) => {
                 self.take(slot);
+                self.move_back(slot.0);
                 Ok(())
             }
             Err(fault) => Err(fault),

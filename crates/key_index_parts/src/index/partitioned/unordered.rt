@@ -165,7 +165,7 @@ impl<T: Translator, V: Drop, const P: usize> Unordered for Index<T, V, P> {
     ghost use Rattle.std.specs.Iterator.{UpTo};
     ghost use Rattle.key_index_flat.specs.Visits.{IsBatch, VisitsAt, VisitsByPlace, VisitsInAnyOrder};
     ghost use Rattle.key_index_parts.specs.Unordered.{view};
-    ghost use Rattle.key_index_parts.specs.PrefixLaws.{prefix_reaches};
+    ghost use Rattle.key_index_parts.specs.laws.PrefixLaws.{prefix_reaches};
 
     ghost INSERT_FIRST = { true };
 
@@ -270,7 +270,7 @@ impl<T: Translator, V: Drop, const P: usize> Partitioned for Index<T, V, P> {
     ghost use Rattle.key_index_parts.specs.Range.{range_view};
     ghost use Rattle.key_index_parts.specs.Unordered.{view};
     ghost use Rattle.std.proofs.Common.{refl};
-    ghost use Rattle.key_index_parts.specs.PrefixLaws.{partition_by-made, partition_by-below};
+    ghost use Rattle.key_index_parts.specs.laws.PrefixLaws.{partition_by-made, partition_by-below};
 
     type Range = RangeIndex<T, V, P>;
 

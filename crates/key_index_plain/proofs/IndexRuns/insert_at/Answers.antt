@@ -5,7 +5,7 @@ use Rattle.key_index_flat.specs.Content.{item_count, list_at}
 use Rattle.key_index_plain.specs.Entries.{listed}
 use Rattle.key_index_plain.proofs.EntryLemmas.{content_of-listed}
 use Rattle.key_index_plain.proofs.IndexLemmas.{told, told_same, kept_or}
-use Rattle.key_index_flat.proofs.ViewLemmas.{same_view}
+use Rattle.key_index_flat.proofs.runs.ViewLemmas.{same_view}
 use Rattle.key_index_plain.proofs.IndexRuns.insert_at.Goals as goal
 
 pub insert_at-requires-clause-place : goal.insert_at-requires-clause-place

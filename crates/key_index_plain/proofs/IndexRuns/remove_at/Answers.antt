@@ -5,7 +5,7 @@ use Rattle.key_index_flat.specs.Content.{list_at}
 use Rattle.key_index_plain.specs.Entries.{listed}
 use Rattle.key_index_plain.proofs.EntryLemmas.{content_of-listed}
 use Rattle.key_index_plain.proofs.IndexLemmas.{told, kept}
-use Rattle.key_index_flat.proofs.ViewLemmas.{same_view}
+use Rattle.key_index_flat.proofs.runs.ViewLemmas.{same_view}
 use Rattle.key_index_plain.proofs.IndexRuns.remove_at.Goals as goal
 
 pub remove_at-value-requires-clause-place : goal.remove_at-value-requires-clause-place

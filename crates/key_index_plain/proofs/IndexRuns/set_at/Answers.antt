@@ -4,7 +4,7 @@ use Rattle.key_index_flat.specs.Content.{list_at}
 use Rattle.key_index_plain.specs.Entries.{listed}
 use Rattle.key_index_plain.proofs.EntryLemmas.{content_of-listed}
 use Rattle.key_index_plain.proofs.IndexLemmas.{told, kept}
-use Rattle.key_index_flat.proofs.ViewLemmas.{same_view}
+use Rattle.key_index_flat.proofs.runs.ViewLemmas.{same_view}
 use Rattle.key_index_plain.proofs.IndexRuns.set_at.Goals as goal
 
 pub set_at-requires-clause-place : goal.set_at-requires-clause-place

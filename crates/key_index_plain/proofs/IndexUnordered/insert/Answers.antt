@@ -4,7 +4,7 @@ use Rattle.key_index_flat.specs.Fault.{growth_fault}
 use Rattle.key_index_plain.specs.Entries.{listed}
 use Rattle.key_index_plain.proofs.EntryLemmas.{content_of-listed}
 use Rattle.key_index_plain.proofs.IndexLemmas.{told, told_same, kept_or, growth_memory}
-use Rattle.key_index_flat.proofs.ViewLemmas.{same_view}
+use Rattle.key_index_flat.proofs.runs.ViewLemmas.{same_view}
 use Rattle.key_index_plain.proofs.IndexUnordered.insert.Goals as goal
 
 pub returns-then-items-eq18446744073709551615-clause-fault : goal.returns-then-items-eq18446744073709551615-clause-fault

@@ -1,10 +1,9 @@
-use Rattle.std.proofs.Common.{◌≡◌, ◌+◌, List, [], ◌∷◌, ◌++◌, length, length-append, refl, ap, sym, subst, ◌∙◌, arith}
+use Rattle.std.proofs.Common.{◌≡◌, List, refl, ap, sym, subst, arith}
 use Rattle.std.specs.Fn.{CalledAt}
-use Rattle.std.specs.List.{items_where_true}
-use Rattle.std.specs.List.Retain.{ReturnsInTurn}
 use Rattle.key_index_flat.specs.Content.{list_at, item_count}
-use Rattle.key_index_flat.proofs.TurnLemmas.{kept_few}
-use Rattle.key_index_flat.proofs.ViewLemmas.{same_view}
+use Rattle.key_index_flat.specs.Retention.{AsksBehind}
+use Rattle.key_index_flat.proofs.asked.TurnLemmas.{few_kept}
+use Rattle.key_index_flat.proofs.runs.ViewLemmas.{same_view}
 use Rattle.key_index_plain.specs.Entries.{listed, content_of}
 use Rattle.key_index_plain.proofs.EntryLemmas.{content_of-listed}
 use Rattle.key_index_plain.proofs.IndexLemmas.{told, told_same, kept}
@@ -14,11 +13,9 @@ pub invariant_of-self : goal.invariant_of-self
 invariant_of-self g c =
     let now = ap (λ x. item_count x) (content_of-listed g.T.Key.Ord.cmp c.args.self.now.entries.items c.args.self.now.lawful) in
     let said = c.in-Ok.ensures.accepted in
-    let held = list_at g.T.Key.Ord.cmp (listed c.args.self.now.entries.items) c.transform-slot.result in
-    let few = kept_few said.0 (held ++ c.args.value ∷ []) in
-    let many = length-append held (c.args.value ∷ []) in
-    let is = kept g.met.T.Key.Ord.total (listed c.args.self.now.entries.items) (listed c.insert_and_retain.new.entries.items) c.transform-slot.result (items_where_true said.0 (held ++ c.args.value ∷ [])) c.args.self.now.lawful
-    (omega (arith, few, many, now, c.items.ensures, c.args.self.now.countable, c.if-items-eq18446744073709551615.false)) said.4 in
+    let few = few_kept said.1 in
+    let is = kept g.met.T.Key.Ord.total (listed c.args.self.now.entries.items) (listed c.insert_and_retain.new.entries.items) c.transform-slot.result said.0 c.args.self.now.lawful
+    (omega (arith, few, now, c.items.ensures, c.args.self.now.countable, c.if-items-eq18446744073709551615.false)) said.2 in
     record { lawful = is.0; countable = is.1 }
 
 pub returns-in-Ok-clause-accepted : goal.returns-in-Ok-clause-accepted
@@ -29,11 +26,8 @@ returns-in-Ok-clause-accepted g c =
       c.in-Ok.taken,
       (
         said.0,
-        said.1,
-        said.2 ∙ ap (λ l. length l + 1) list,
-        subst (λ (l : List g.row.V.Denot). ReturnsInTurn (CalledAt g.F.FnMut) c.args.should_retain said.0 (l ++ c.args.value ∷ []) said.1) list said.3,
-        subst (λ (l : List g.row.V.Denot). c.in-Ok.taken + length (items_where_true said.0 l) ≡ length l) list said.5,
-        same_view (told g.met.T.Key.Ord.total c.args.self.now.entries.items c.insert_and_retain.new.entries.items c.transform-slot.result _ (λ x k. items_where_true said.0 (list_at g.T.Key.Ord.cmp x k ++ c.args.value ∷ [])) c.args.self.now.lawful said.4 c.transform-slot.ensures)
+        subst (λ (l : List g.row.V.Denot). AsksBehind (CalledAt g.F.FnMut) c.args.should_retain l c.args.value said.0 c.in-Ok.taken) list said.1,
+        same_view (told g.met.T.Key.Ord.total c.args.self.now.entries.items c.insert_and_retain.new.entries.items c.transform-slot.result _ (λ x k. said.0) c.args.self.now.lawful said.2 c.transform-slot.ensures)
             (omega (arith, c.saturating_add-self.ensures)) refl refl,
       ),
     )

@@ -5,7 +5,7 @@ use Rattle.key_index_flat.specs.Content.{list_at}
 use Rattle.key_index_plain.specs.Entries.{listed, content_of}
 use Rattle.key_index_plain.proofs.EntryLemmas.{content_of-listed}
 use Rattle.key_index_plain.proofs.IndexLemmas.{told, kept}
-use Rattle.key_index_flat.proofs.ViewLemmas.{same_view}
+use Rattle.key_index_flat.proofs.runs.ViewLemmas.{same_view}
 use Rattle.key_index_plain.proofs.IndexUnordered.retain.Goals as goal
 
 pub invariant_of-self : goal.invariant_of-self

@@ -1,9 +1,9 @@
 use Rattle.std.proofs.Common.{◌≡◌, ◌+◌, ◌∙◌, length, cond, ap, sym, subst, arith}
-use Rattle.key_index_flat.specs.Content.{IsLawful, list_at, with_list}
-use Rattle.key_index_flat.specs.Laws.{IsLawful-with_list}
+use Rattle.key_index_flat.specs.Content.{IsLawful, list_at}
+use Rattle.key_index_flat.specs.laws.Laws.{IsLawful-with_list}
 use Rattle.key_index_plain.specs.Entries.{listed}
 use Rattle.std.specs.Fn.{CalledAt}
-use Rattle.key_index_flat.proofs.TurnLemmas.{put_and_asked, some_taken}
+use Rattle.key_index_flat.proofs.asked.TurnLemmas.{asks_behind, some_taken}
 use Rattle.key_index_plain.proofs.PutLemmas.{asked_put, counts_put, taken_put}
 use Rattle.key_index_plain.proofs.entries.insert_and_retain.Goals.{then-stays, else-stays}
 use Rattle.key_index_plain.proofs.entries.insert_and_retain.Goals as goal
@@ -46,6 +46,4 @@ returns-clause-accepted g c =
     ] in
     let left = listed c.retain_in_turn-taken.new.entries.items in
     let new = taken_put g.met.K.Ord.total old mid c.args.key c.args.value at end put c.requires.exact c.requires.lawful kept.0 left kept.2 in
-    let told = put_and_asked (CalledAt g.F.FnMut) c.args.should_retain held c.args.value kept.0 stays taken asked counts (λ l. with_list g.K.Ord.cmp old c.args.key l)
-    left c.if-stays.result new most in
-    (told.0, told.1, told.2, told.3, told.4, told.5)
+    (kept.0, (asks_behind (CalledAt g.F.FnMut) c.args.should_retain held c.args.value kept.0 stays taken asked counts c.if-stays.result most).0, new)

@@ -3,8 +3,8 @@ use Rattle.std.proofs.lemmas.Cmp.{nat_cmp_total}
 use Rattle.std.specs.List.Sorted.{IsSorted}
 use Rattle.std.specs.Map.{keys_of}
 use Rattle.key_index_parts.specs.Pairs.{run_of}
-use Rattle.key_index_parts.proofs.SearchLemmas.{rises}
-use Rattle.key_index_parts.proofs.PairEdits.{IsSorted-insert}
+use Rattle.key_index_parts.proofs.pairs.SearchLemmas.{rises}
+use Rattle.key_index_parts.proofs.pairs.PairEdits.{IsSorted-insert}
 use Rattle.key_index_refusals.proofs.positions.add.Goals as goal
 
 pub insert_at-requires-clause-sorted : goal.insert_at-requires-clause-sorted

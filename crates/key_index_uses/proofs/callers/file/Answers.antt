@@ -2,7 +2,7 @@ use Rattle.std.proofs.Common.{◌<◌, sym, subst, arith}
 use Rattle.std.proofs.lemmas.List.Elements.{All-from_get_or}
 use Rattle.key_index_flat.specs.FullKeys.{IsFiled}
 use Rattle.key_index_uses.proofs.FiledLemmas.{filed_more}
-use Rattle.key_index_flat.proofs.ViewLemmas.{same_content, same_slot}
+use Rattle.key_index_flat.proofs.runs.ViewLemmas.{same_content, same_slot}
 use Rattle.key_index_uses.proofs.callers.file.Goals as goal
 
 pub returns-clause-filed : goal.returns-clause-filed

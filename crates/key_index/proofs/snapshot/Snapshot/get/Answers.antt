@@ -1,7 +1,7 @@
 use Rattle.std.proofs.Common.{sym, ap, ◌∙◌}
 use Rattle.std.specs.FinMap.{get}
 use Rattle.key_index.specs.Snapshot.{position_in}
-use Rattle.key_index.proofs.SnapshotLemmas.{get-positions_in}
+use Rattle.key_index.proofs.snapshots.SnapshotLemmas.{get-positions_in}
 use Rattle.key_index.proofs.snapshot.Snapshot.get.Goals as goal
 
 pub returns : goal.returns

@@ -1,7 +1,7 @@
 use Rattle.std.proofs.Common.{◌≢◌, ◌<◌, ◌++◌, slice_index, sym, ap, ◌∙◌, arith}
 use Rattle.std.specs.List.{range_with_len}
 use Rattle.key_index.specs.Table.{marked}
-use Rattle.key_index.proofs.TableLemmas.{range_step, marked_here, marked_past}
+use Rattle.key_index.proofs.tables.TableLemmas.{range_step, marked_here, marked_past}
 use Rattle.key_index.proofs.table.Places.next.Goals as goal
 
 pub returns-then-control-self : goal.returns-then-control-self

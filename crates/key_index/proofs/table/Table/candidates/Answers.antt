@@ -1,7 +1,7 @@
 use Rattle.std.proofs.Common.{◌<◌, length, subst, sym, ap, ◌∙◌}
 use Rattle.std.specs.List.{All}
 use Rattle.key_index.specs.Table.{Stored}
-use Rattle.key_index.proofs.TableMaps.{places_within, files_candidates}
+use Rattle.key_index.proofs.tables.TableMaps.{places_within, files_candidates}
 use Rattle.key_index.proofs.table.Table.candidates.Goals as goal
 
 pub invariant_of-result : goal.invariant_of-result

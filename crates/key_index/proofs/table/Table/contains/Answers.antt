@@ -1,6 +1,6 @@
 use Rattle.std.proofs.Common.{slice_index}
 use Rattle.key_index.specs.Table.{places}
-use Rattle.key_index.proofs.TableMaps.{find_contains}
+use Rattle.key_index.proofs.tables.TableMaps.{find_contains}
 use Rattle.key_index.proofs.table.Table.contains.Goals as goal
 
 pub returns : goal.returns

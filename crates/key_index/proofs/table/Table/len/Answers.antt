@@ -1,6 +1,6 @@
 use Rattle.std.proofs.Common.{subst, sym}
 use Rattle.key_index.specs.Table.{HasSize, Stored}
-use Rattle.key_index.proofs.TableCopies.{files_size}
+use Rattle.key_index.proofs.tables.TableCopies.{files_size}
 use Rattle.key_index.proofs.table.Table.len.Goals as goal
 
 pub returns-clause-size : goal.returns-clause-size

@@ -1,6 +1,6 @@
 use Rattle.std.proofs.Common.{◌+◌, ap, subst, sym, ◌∙◌}
 use Rattle.key_index.specs.Table.{Stored, position_count}
-use Rattle.key_index.proofs.TableCopies.{put_stored, put_count, put_used}
+use Rattle.key_index.proofs.tables.TableCopies.{put_stored, put_count, put_used}
 use Rattle.key_index.proofs.table.Table.place.Goals as goal
 
 pub invariant_of-self-else-empty : goal.invariant_of-self-else-empty

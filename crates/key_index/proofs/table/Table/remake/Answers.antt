@@ -1,7 +1,7 @@
 use Rattle.std.proofs.Common.{◌≡◌, ◌<◌, ◌+◌, arith, ap, ◌∙◌, length, count_by}
 use Rattle.std.proofs.lemmas.List.{length-replicate}
 use Rattle.key_index.specs.Table.{is_full}
-use Rattle.key_index.proofs.TableMaps.{full_le_used}
+use Rattle.key_index.proofs.tables.TableMaps.{full_le_used}
 use Rattle.key_index.proofs.table.Table.remake.Goals as goal
 use Rattle.key_index.proofs.table.Table.remake.Goals.{then-slots-self+in-Some, else-slots-self}
 

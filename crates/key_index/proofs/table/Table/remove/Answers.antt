@@ -1,7 +1,7 @@
 use Rattle.std.proofs.Common.{◌≤◌, slice_index, subst, sym, ap, ◌∙◌, arith}
 use Rattle.std.proofs.lemmas.List.{length-set}
 use Rattle.key_index.specs.Table.{places, Stored, position_count}
-use Rattle.key_index.proofs.TableMaps.{find_contains, find_is, places_full, full_within, full-removed, used-put_used, removed_files}
+use Rattle.key_index.proofs.tables.TableMaps.{find_contains, find_is, places_full, full_within, full-removed, used-put_used, removed_files}
 use Rattle.key_index.proofs.table.Table.remove.Goals as goal
 
 pub returns-in_default-clause-removed : goal.returns-in_default-clause-removed

@@ -3,7 +3,7 @@ use Rattle.std.proofs.Common.{length, sym, ap, subst, ◌∙◌, arith}
 use Rattle.std.specs.Fn.{CalledAt}
 use Rattle.std.specs.Vec.Iter.{into_iter_items, into_iter_len}
 use Rattle.key_index_flat.specs.Run.{HaveTests}
-use Rattle.key_index_flat.proofs.RunLemmas.{legal_first, legal_more, legal_all, no_items}
+use Rattle.key_index_flat.proofs.runs.RunLemmas.{legal_first, legal_more, legal_all, no_items}
 use Rattle.key_index_flat.proofs.index.fold.apply_all.Goals as goal
 
 pub commands-init : goal.commands-init

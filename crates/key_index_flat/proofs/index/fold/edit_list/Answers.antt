@@ -1,5 +1,5 @@
 use Rattle.std.proofs.Common.{rules}
-use Rattle.key_index_flat.proofs.RunLemmas.{edit_done}
+use Rattle.key_index_flat.proofs.runs.RunLemmas.{edit_done}
 use Rattle.key_index_flat.proofs.index.fold.edit_list.Goals as goal
 
 pub returns : goal.returns

@@ -1,4 +1,4 @@
-use Rattle.key_index_flat.proofs.RunLemmas.{put_if_absent}
+use Rattle.key_index_flat.proofs.runs.RunLemmas.{put_if_absent}
 use Rattle.key_index_flat.proofs.index.fold.get_or_insert.Goals as goal
 
 pub returns-clause-accepted : goal.returns-clause-accepted

@@ -1,5 +1,5 @@
 use Rattle.std.proofs.Common.{rules, ◌+◌, take}
-use Rattle.key_index_flat.proofs.RunLemmas.{room_next, take_next}
+use Rattle.key_index_flat.proofs.runs.RunLemmas.{room_next, take_next}
 use Rattle.key_index_flat.proofs.index.fold.room_for.Goals as goal
 
 pub commands-preserved : goal.commands-preserved

@@ -1,5 +1,5 @@
 use Rattle.std.proofs.Common.{length, Ok, refl, ◌∙◌}
-use Rattle.key_index_flat.proofs.RunLemmas.{filled, none_set}
+use Rattle.key_index_flat.proofs.runs.RunLemmas.{filled, none_set}
 use Rattle.key_index_flat.proofs.index.fold.unset.Goals as goal
 
 pub returns-clause-flags : goal.returns-clause-flags

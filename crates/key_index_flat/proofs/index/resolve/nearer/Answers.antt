@@ -3,7 +3,7 @@ use Rattle.std.specs.Cmp.{on_total}
 use Rattle.std.specs.Option.{option_copied}
 use Rattle.std.specs.Ordering.{on}
 use Rattle.key_index_flat.specs.FullKeys.{IsLeast}
-use Rattle.key_index_flat.proofs.LeastLemmas.{told, pushed_takes, pushed_keeps}
+use Rattle.key_index_flat.proofs.neighbours.LeastLemmas.{told, pushed_takes, pushed_keeps}
 use Rattle.key_index_flat.proofs.index.resolve.nearer.Goals as goal
 
 pub returns-then-is_before : goal.returns-then-is_before

@@ -3,7 +3,7 @@ use Rattle.std.specs.List.{filter}
 use Rattle.std.specs.Option.{option_copied}
 use Rattle.std.specs.Ordering.{is_lt, on}
 use Rattle.key_index_flat.specs.FullKeys.{IsLeast}
-use Rattle.key_index_flat.proofs.LeastLemmas.{told, filter_push_passes, filter_push_fails}
+use Rattle.key_index_flat.proofs.neighbours.LeastLemmas.{told, filter_push_passes, filter_push_fails}
 use Rattle.key_index_flat.proofs.index.resolve.nearest_beyond.Goals as goal
 
 pub loop-value-preserved-then-is_before : goal.loop-value-preserved-then-is_before

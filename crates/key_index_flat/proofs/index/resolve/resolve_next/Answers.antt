@@ -2,7 +2,7 @@ use Rattle.std.proofs.Common.{◌<◌, arith}
 use Rattle.std.proofs.lemmas.List.Elements.{All-from_get_or}
 use Rattle.std.specs.Option.{option_copied}
 use Rattle.key_index_flat.specs.FullKeys.{IsBytes}
-use Rattle.key_index_flat.proofs.FullKeyLemmas.{next_of_filed}
+use Rattle.key_index_flat.proofs.neighbours.FullKeyLemmas.{next_of_filed}
 use Rattle.key_index_flat.proofs.index.resolve.resolve_next.Goals as goal
 
 pub returns-clause-filed : goal.returns-clause-filed

@@ -2,7 +2,7 @@ use Rattle.std.proofs.Common.{◌≡◌, ◌+◌, ◌<◌, true, false, length, 
 use Rattle.std.specs.Fn.{CalledAt}
 use Rattle.std.proofs.lemmas.Fn.{called_at}
 use borrow.Author.Rules.{of_calls}
-use Rattle.key_index_flat.proofs.TurnLemmas.{turned_first, turned_more, turned_less, turned_is, turned_last}
+use Rattle.key_index_flat.proofs.asked.TurnLemmas.{turned_first, turned_more, turned_less, turned_is, turned_last}
 use Rattle.key_index_flat.proofs.index.retain.retain_in_turn.Goals.{then-stays, else-stays}
 use Rattle.key_index_flat.proofs.index.retain.retain_in_turn.Goals as goal
 

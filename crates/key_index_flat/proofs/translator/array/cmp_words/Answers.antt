@@ -1,6 +1,6 @@
 use Rattle.std.proofs.Common.{◌∙◌, ◌<◌, nat_cmp, arith}
 use Rattle.std.proofs.lemmas.List.Elements.{All-from_get_or}
-use Rattle.key_index_flat.specs.CapOrder.{cap_cmp, padded-cmp}
+use Rattle.key_index_flat.specs.laws.CapOrder.{cap_cmp, padded-cmp}
 use Rattle.key_index_flat.proofs.translator.array.cmp_words.Goals as goal
 
 pub returns : goal.returns

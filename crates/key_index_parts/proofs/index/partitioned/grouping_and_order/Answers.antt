@@ -1,4 +1,4 @@
-use Rattle.key_index_parts.proofs.GroupingLemmas.{flat_compares, partitioned_compares, arrays_compare, partitioned_arrays_compare}
+use Rattle.key_index_parts.proofs.keys.GroupingLemmas.{flat_compares, partitioned_compares, arrays_compare, partitioned_arrays_compare}
 use Rattle.key_index_parts.proofs.index.partitioned.grouping_and_order.Goals as goal
 
 pub returns-clause-flat : goal.returns-clause-flat

@@ -1,7 +1,7 @@
 use Rattle.std.proofs.Common.{rules, ◌≡◌, ◌<◌, get_or, arith}
 use Rattle.std.proofs.lemmas.List.Elements.{All-from_get_or}
-use Rattle.key_index_flat.specs.ByteOrder.{cap_number-below}
-use Rattle.key_index_parts.proofs.PrefixLemmas.{cap_number-more, fits_three}
+use Rattle.key_index_flat.specs.laws.ByteOrder.{cap_number-below}
+use Rattle.key_index_parts.proofs.keys.PrefixLemmas.{cap_number-more, fits_three}
 use Rattle.key_index_parts.proofs.index.partitioned.partition_index_and_sub_key.Goals as goal
 
 pub overflow_mul-index : goal.overflow_mul-index

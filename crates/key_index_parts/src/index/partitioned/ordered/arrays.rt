@@ -91,8 +91,8 @@ impl<T: Translator, V: Drop> Arrays<T, V> {
 }
 
 impl<T: Translator, V> Held<T, V> for Arrays<T, V> {
-    ghost use Rattle.key_index_parts.specs.PairLaws.{IsLawful-grouped};
-    ghost use Rattle.key_index_parts.specs.StandingLaws.{inline_filled};
+    ghost use Rattle.key_index_parts.specs.laws.PairLaws.{IsLawful-grouped};
+    ghost use Rattle.key_index_parts.specs.laws.StandingLaws.{inline_filled};
 
     ghost content = { λ part. grouped T.Key.cmp part.pairs.pairs };
 
@@ -130,6 +130,15 @@ impl<T: Translator, V: Drop> Part<T, V> for Arrays<T, V> {
     }
 
     fn spill(&mut self) -> Result<(), AllocError> {
+        Ok(())
+    }
+
+    #[inline]
+    fn spilled_len(&self) -> usize {
+        0
+    }
+
+    fn move_back(&mut self) -> Result<(), AllocError> {
         Ok(())
     }
 

@@ -116,14 +116,15 @@ fn spill<T: Translator, V: Drop>(arrays: &mut Arrays<T, V>) -> Result<Box<Tree<T
     ensures refused { OnErr result (arrays.new ≡ arrays.old) }
 {
     let alloc = arrays.alloc();
+    let len = arrays.len();
     let mut runs = arrays.empty_runs()?;
     let mut lists = with_keys(alloc, runs.as_slice())?;
-    let Ok(mut tree) = Box::new(alloc, Tree::of_lists(alloc, BTreeMap::new(alloc))) else {
+    let Ok(mut tree) = Box::new(alloc, Tree::of_lists(alloc, BTreeMap::new(alloc), 0)) else {
         return Err(AllocError);
     };
     arrays.drain_into(&mut runs);
     fill_tree(&mut lists, runs);
-    *tree = Tree::of_lists(alloc, lists);
+    *tree = Tree::of_lists(alloc, lists, len);
     Ok(tree)
 }
 
@@ -159,7 +160,7 @@ fn lower<T: Translator, V: Drop>(
 }
 
 impl<T: Translator, V> Held<T, V> for Spilling<T, V> {
-    ghost use Rattle.key_index_parts.specs.PairLaws.{IsLawful-grouped};
+    ghost use Rattle.key_index_parts.specs.laws.PairLaws.{IsLawful-grouped};
     ghost use Rattle.key_index_parts.specs.Spilled.{IsLawful-held_by, filled-held_by};
 
     ghost content = { λ part. held_by (λ t. map list_of t.lists.entries) part.tree
@@ -208,9 +209,32 @@ impl<T: Translator, V: Drop> Part<T, V> for Spilling<T, V> {
         self.tree.is_some()
     }
 
+    #[inline(never)]
     fn spill(&mut self) -> Result<(), AllocError> {
         let tree = spill(&mut self.arrays)?;
         self.tree = Some(tree);
+        Ok(())
+    }
+
+    #[inline]
+    fn spilled_len(&self) -> usize {
+        match &self.tree {
+            Some(tree) => tree.len(),
+            None => 0,
+        }
+    }
+
+    #[inline(never)]
+    fn move_back(&mut self) -> Result<(), AllocError> {
+        let Some(tree) = self.tree.take() else {
+            return Ok(());
+        };
+        let mut spare = Partition::new(self.arrays.alloc());
+        if spare.reserve(tree.len()).is_err() {
+            self.tree = Some(tree);
+            return Err(AllocError);
+        }
+        self.arrays = lower(tree, spare);
         Ok(())
     }
 

@@ -1,5 +1,5 @@
 //! A part as an ordered map.
-ghost use Rattle.std.specs.Prelude.{◌≡◌, true, false, List, [], ◌∷◌, map, IfOk, IfErr, OnOk, OnErr, if◌then◌else◌};
+ghost use Rattle.std.specs.Prelude.{◌≡◌, ◌<◌, true, false, List, [], ◌∷◌, map, IfOk, IfErr, OnOk, OnErr, if◌then◌else◌};
 ghost use Rattle.std.specs.Fn.{CalledAt};
 ghost use Rattle.std.specs.Option.{option_map};
 ghost use Rattle.key_index_flat.specs.Content.{IsLawful, item_count, list_at, with_list};
@@ -14,11 +14,13 @@ use std::alloc::{AllocError, Global};
 use std::collections::BTreeMap;
 use std::ops::Bound;
 
-/// A part as an ordered map from each key to its list, which is never empty.
+/// A part as an ordered map from each key to its list, which is never empty, and how many values there are: `usize::MAX` at most.
 #[derive(Drop)]
 pub struct Tree<T: Translator, V> {
     alloc: Global,
     lists: BTreeMap<T::Key, Vec<V>>,
+    len: usize,
+    ghost counted: { len ≡ item_count (map list_of lists.entries) },
     ghost lawful: { IsLawful T.Key.cmp (map list_of lists.entries) },
 }
 
@@ -57,12 +59,21 @@ fn sole<V: Drop>(alloc: Global, value: V) -> Result<Vec<V>, V>
 }
 
 impl<T: Translator, V: Drop> Tree<T, V> {
-    /// The part that some lists are.
-    pub(super) fn of_lists(alloc: Global, lists: BTreeMap<T::Key, Vec<V>>) -> Tree<T, V>
-        requires { IsLawful T.Key.cmp (map list_of lists.entries) }
+    /// The part that some lists are, with so many values in them.
+    pub(super) fn of_lists(alloc: Global, lists: BTreeMap<T::Key, Vec<V>>, len: usize) -> Tree<T, V>
+        requires lawful { IsLawful T.Key.cmp (map list_of lists.entries) }
+        requires counted { len ≡ item_count (map list_of lists.entries) }
         ensures { map list_of result.lists.entries ≡ map list_of lists.entries }
     {
-        Tree { alloc, lists }
+        Tree { alloc, lists, len }
+    }
+
+    /// How many values the part has.
+    #[inline]
+    pub(super) fn len(&self) -> usize
+        ensures { result ≡ item_count (map list_of self.now.lists.entries) }
+    {
+        self.len
     }
 
     /// The lists of the part.
@@ -83,8 +94,10 @@ impl<T: Translator, V: Drop> Tree<T, V> {
         }
     }
 
-    /// Puts the first value of a key in.
+    /// Puts the first value of a key in, which has none.
     fn insert_first(&mut self, key: T::Key, value: V) -> Result<(), V>
+        requires room { self.old.len < usize.MAX }
+        requires absent { list_at T.Key.cmp (map list_of self.old.lists.entries) key ≡ [] }
         ensures accepted { OnOk result (map list_of self.new.lists.entries
             ≡ with_list T.Key.cmp (map list_of self.old.lists.entries) key (value ∷ [])) }
         ensures refused { OnErr result (map list_of self.new.lists.entries ≡ map list_of self.old.lists.entries) }
@@ -94,6 +107,7 @@ impl<T: Translator, V: Drop> Tree<T, V> {
         match self.lists.entry(key) {
             Ok(entry) => {
                 entry.insert_entry(values);
+                self.len += 1;
                 Ok(())
             }
             Err(_) => match values.pop() {
@@ -103,14 +117,16 @@ impl<T: Translator, V: Drop> Tree<T, V> {
         }
     }
 
-    /// Puts the first value of a key in, then asks on it, takes it out where it is answered false, and tells the answer.
+    /// Puts the first value of a key in, which has none, then asks on it, takes it out where it is answered false, and tells the answer.
     fn insert_first_and_retain<F: FnMut(&V) -> bool>(
         &mut self,
         key: T::Key,
         value: V,
         mut should_retain: F,
     ) -> Result<bool, V>
-        requires { F.IsAlwaysCallable should_retain }
+        requires room { self.old.len < usize.MAX }
+        requires absent { list_at T.Key.cmp (map list_of self.old.lists.entries) key ≡ [] }
+        requires callable { F.IsAlwaysCallable should_retain }
         ensures accepted { IfOk result (λ stays. map list_of self.new.lists.entries
             ≡ with_list T.Key.cmp (map list_of self.old.lists.entries) key (if stays then value ∷ [] else [])) }
         ensures asked { IfOk result (λ stays. (last : F) × CalledAt F.FnMut should_retain value stays last) }
@@ -122,6 +138,7 @@ impl<T: Translator, V: Drop> Tree<T, V> {
             Ok(entry) => {
                 let held = entry.insert_entry(values);
                 if should_retain(&held.get()[0]) {
+                    self.len += 1;
                     return Ok(true);
                 }
                 held.remove();
@@ -136,7 +153,7 @@ impl<T: Translator, V: Drop> Tree<T, V> {
 }
 
 impl<T: Translator, V> Held<T, V> for Tree<T, V> {
-    ghost use Rattle.key_index_parts.specs.StandingLaws.{inline_filled};
+    ghost use Rattle.key_index_parts.specs.laws.StandingLaws.{inline_filled};
 
     ghost content = { λ part. map list_of part.lists.entries };
 
@@ -156,6 +173,7 @@ impl<T: Translator, V: Drop> Part<T, V> for Tree<T, V> {
         Tree {
             alloc,
             lists: BTreeMap::new(alloc),
+            len: 0,
         }
     }
 
@@ -175,6 +193,15 @@ impl<T: Translator, V: Drop> Part<T, V> for Tree<T, V> {
     }
 
     fn spill(&mut self) -> Result<(), AllocError> {
+        Ok(())
+    }
+
+    #[inline]
+    fn spilled_len(&self) -> usize {
+        0
+    }
+
+    fn move_back(&mut self) -> Result<(), AllocError> {
         Ok(())
     }
 
@@ -199,9 +226,15 @@ impl<T: Translator, V: Drop> Part<T, V> for Tree<T, V> {
     }
 
     fn insert_at(&mut self, key: T::Key, place: usize, value: V) -> Result<bool, V> {
+        if self.len == usize::MAX {
+            return Err(value);
+        }
         match self.lists.get_mut(&key) {
             Some(values) => match values.insert(place, value) {
-                Ok(()) => Ok(false),
+                Ok(()) => {
+                    self.len += 1;
+                    Ok(false)
+                }
                 Err(failed) => Err(failed.value),
             },
             None => {
@@ -212,9 +245,15 @@ impl<T: Translator, V: Drop> Part<T, V> for Tree<T, V> {
     }
 
     fn insert(&mut self, key: T::Key, value: V, _limit: usize) -> Result<bool, V> {
+        if self.len == usize::MAX {
+            return Err(value);
+        }
         match self.lists.get_mut(&key) {
             Some(values) => match values.push(value) {
-                Ok(()) => Ok(false),
+                Ok(()) => {
+                    self.len += 1;
+                    Ok(false)
+                }
                 Err(failed) => Err(failed.value),
             },
             None => {
@@ -229,6 +268,9 @@ impl<T: Translator, V: Drop> Part<T, V> for Tree<T, V> {
         if len > 0 {
             return Ok(len);
         }
+        if self.len == usize::MAX {
+            return Err(value);
+        }
         self.insert_first(key, value)?;
         Ok(0)
     }
@@ -237,6 +279,7 @@ impl<T: Translator, V: Drop> Part<T, V> for Tree<T, V> {
         let values = self.lists.get_mut(&key).unwrap();
         let value = values.remove(place);
         let left = values.len();
+        self.len -= 1;
         if left == 0 {
             self.lists.remove(&key);
         }
@@ -250,6 +293,7 @@ impl<T: Translator, V: Drop> Part<T, V> for Tree<T, V> {
         let had = values.len();
         values.retain(should_retain);
         let left = values.len();
+        self.len -= had - left;
         if left == 0 {
             self.lists.remove(&key);
         }
@@ -263,6 +307,9 @@ impl<T: Translator, V: Drop> Part<T, V> for Tree<T, V> {
         should_retain: F,
         _limit: usize,
     ) -> Result<Retained, V> {
+        if self.len == usize::MAX {
+            return Err(value);
+        }
         match self.lists.get_mut(&key) {
             Some(values) => {
                 let had = values.len();
@@ -271,6 +318,7 @@ impl<T: Translator, V: Drop> Part<T, V> for Tree<T, V> {
                 }
                 let stays = retain_in_turn(values, should_retain, true);
                 let left = values.len();
+                self.len = self.len - had + left;
                 if left == 0 {
                     self.lists.remove(&key);
                 }
@@ -291,7 +339,11 @@ impl<T: Translator, V: Drop> Part<T, V> for Tree<T, V> {
 
     fn remove(&mut self, key: T::Key) -> usize {
         match self.lists.remove(&key) {
-            Some(values) => values.len(),
+            Some(values) => {
+                let taken = values.len();
+                self.len -= taken;
+                taken
+            }
             None => 0,
         }
     }

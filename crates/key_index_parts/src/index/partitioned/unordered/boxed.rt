@@ -61,7 +61,7 @@ fn put_at<T: Translator, V: Drop>(
 }
 
 impl<T: Translator, V> Held<T, V> for Boxed<T, V> {
-    ghost use Rattle.key_index_parts.specs.StandingLaws.{inline_filled};
+    ghost use Rattle.key_index_parts.specs.laws.StandingLaws.{inline_filled};
 
     ghost content = { λ part. held_in part.index };
 
@@ -104,6 +104,15 @@ impl<T: Translator, V: Drop> Part<T, V> for Boxed<T, V> {
     }
 
     fn spill(&mut self) -> Result<(), AllocError> {
+        Ok(())
+    }
+
+    #[inline]
+    fn spilled_len(&self) -> usize {
+        0
+    }
+
+    fn move_back(&mut self) -> Result<(), AllocError> {
         Ok(())
     }
 

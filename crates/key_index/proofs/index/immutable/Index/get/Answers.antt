@@ -1,4 +1,4 @@
-use Rattle.key_index.proofs.PositionLemmas.{candidates_within, positions_are}
+use Rattle.key_index.proofs.positions.PositionLemmas.{candidates_within, positions_are}
 use Rattle.key_index.proofs.index.immutable.Index.get.Goals as goal
 
 pub invariant_of-result : goal.invariant_of-result

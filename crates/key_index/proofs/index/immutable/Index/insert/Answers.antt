@@ -1,7 +1,7 @@
 use Rattle.std.proofs.Common.{◌^◌, ◌<◌, ◌≤◌, sym, ap, subst, ◌∙◌}
 use Rattle.std.specs.Option.{option_map}
 use Rattle.key_index.specs.Immutable.{key_at, with_key}
-use Rattle.key_index.proofs.ImmutableLemmas.{inserted, inserted_log, resolves, kept_slots}
+use Rattle.key_index.proofs.positions.ImmutableLemmas.{inserted, inserted_log, resolves, kept_slots}
 use Rattle.key_index.proofs.index.immutable.Index.insert.Goals as goal
 
 pub insert-requires : goal.insert-requires

@@ -1,5 +1,5 @@
 use Rattle.key_index.specs.Immutable.{key_at}
-use Rattle.key_index.proofs.PositionLemmas.{none_left}
+use Rattle.key_index.proofs.positions.PositionLemmas.{none_left}
 use Rattle.key_index.proofs.index.immutable.Index.is_empty.Goals as goal
 
 pub returns : goal.returns

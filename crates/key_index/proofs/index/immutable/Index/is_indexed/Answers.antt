@@ -1,5 +1,5 @@
 use Rattle.std.proofs.Common.{◌<◌, ◌-◌, length, arith}
-use Rattle.key_index.proofs.ImmutableLemmas.{found_there, slot_read}
+use Rattle.key_index.proofs.positions.ImmutableLemmas.{found_there, slot_read}
 use Rattle.key_index.proofs.index.immutable.Index.is_indexed.Goals as goal
 
 pub returns : goal.returns

@@ -1,4 +1,4 @@
-use Rattle.key_index.proofs.PositionLemmas.{key_size}
+use Rattle.key_index.proofs.positions.PositionLemmas.{key_size}
 use Rattle.key_index.proofs.index.immutable.Index.len.Goals as goal
 
 pub returns : goal.returns

@@ -1,6 +1,6 @@
 use Rattle.std.proofs.Common.{◌≡◌, ◌<◌, ◌≤◌, length, sym, subst}
 use Rattle.key_index.specs.Immutable.{IsReleased}
-use Rattle.key_index.proofs.PruneLemmas.{jumped_log, jumped}
+use Rattle.key_index.proofs.positions.PruneLemmas.{jumped_log, jumped}
 use Rattle.key_index.proofs.index.immutable.Index.prune.Goals as goal
 
 pub release_below-requires-clause-lawful : goal.release_below-requires-clause-lawful

@@ -1,6 +1,6 @@
 use Rattle.std.proofs.Common.{◌+◌, ◌-◌, ◌^◌, ℕ, min, cond, is_some, ap, ◌∙◌, arith}
 use Rattle.key_index.specs.Immutable.{key_at}
-use Rattle.key_index.proofs.ImmutableLemmas.{released_table, released_key, released_log, released_count, byte_count}
+use Rattle.key_index.proofs.positions.ImmutableLemmas.{released_table, released_key, released_log, released_count, byte_count}
 use Rattle.key_index.proofs.index.immutable.Index.release.Goals as goal
 
 pub invariant_of-self-2 : goal.invariant_of-self-2

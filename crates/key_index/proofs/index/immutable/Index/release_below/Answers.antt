@@ -1,5 +1,5 @@
 use Rattle.std.proofs.Common.{◌<◌, subst, arith}
-use Rattle.key_index.proofs.PruneLemmas.{released_none, released_more}
+use Rattle.key_index.proofs.positions.PruneLemmas.{released_none, released_more}
 use Rattle.key_index.proofs.index.immutable.Index.release_below.Goals as goal
 
 pub loop-self-init : goal.loop-self-init

@@ -3,8 +3,8 @@ use Rattle.std.specs.List.{All, filter}
 use Rattle.std.specs.Ordering.{is_eq}
 use Rattle.std.proofs.lemmas.List.Elements.{All-head, All-tail}
 use Rattle.key_index.specs.Immutable.{has_key}
-use Rattle.key_index.proofs.ImmutableLemmas.{slot_read}
-use Rattle.key_index.proofs.PositionLemmas.{filter_here, filter_past, has_key_of}
+use Rattle.key_index.proofs.positions.ImmutableLemmas.{slot_read}
+use Rattle.key_index.proofs.positions.PositionLemmas.{filter_here, filter_past, has_key_of}
 use Rattle.key_index.proofs.index.immutable.PositionsIterator.next.Goals as goal
 
 pub invariant_of-self : goal.invariant_of-self

@@ -1,7 +1,7 @@
 use Rattle.std.proofs.Common.{length, sym, ap, ◌∙◌, arith}
 use Rattle.std.specs.Vec.Iter.{into_iter_items, into_iter_len}
-use Rattle.key_index_flat.proofs.RunLemmas.{no_items}
-use Rattle.key_index.proofs.MarkLemmas.{marked_first, marked_more, marked_all}
+use Rattle.key_index_flat.proofs.runs.RunLemmas.{no_items}
+use Rattle.key_index.proofs.positions.MarkLemmas.{marked_first, marked_more, marked_all}
 use Rattle.key_index.proofs.index.immutable.marks.apply_marks.Goals as goal
 
 pub marks-init : goal.marks-init

@@ -1,6 +1,6 @@
 use Rattle.std.proofs.Common.{◌≡◌, ◌≤◌, length, vec_capacity}
 use Rattle.std.specs.Vec.Iter.{into_iter_items, into_iter_len}
-use Rattle.key_index.proofs.MarkLemmas.{MarkedTo}
+use Rattle.key_index.proofs.positions.MarkLemmas.{MarkedTo}
 use Rattle.key_index.proofs.index.immutable.marks.apply_marks.Given as goal
 
 -- the marks so far have their outcomes, and there is room for those of the others

@@ -1,4 +1,4 @@
-use Rattle.key_index.proofs.MarkLemmas.{marks_start, marks_keys}
+use Rattle.key_index.proofs.positions.MarkLemmas.{marks_start, marks_keys}
 use Rattle.key_index.proofs.index.immutable.marks.run_marks.Goals as goal
 
 pub returns-clause-start : goal.returns-clause-start

@@ -4,8 +4,8 @@ use Rattle.std.specs.List.{remove}
 use Rattle.key_index_flat.specs.Content.{list_at}
 use Rattle.key_index_flat.specs.Cursor.{list_after_delete}
 use Rattle.key_index_flat.specs.Cursor.{place_of}
-use Rattle.key_index_flat.proofs.CursorLemmas.{list_at_edit, on_value, edits_index}
-use Rattle.key_index_flat.proofs.ViewLemmas.{same_content, same_admitted}
+use Rattle.key_index_flat.proofs.runs.CursorLemmas.{list_at_edit, on_value, edits_index}
+use Rattle.key_index_flat.proofs.runs.ViewLemmas.{same_content, same_admitted}
 use Rattle.key_index_flat.proofs.index.index_cursor.IndexCursorCursor.delete.Goals as goal
 
 pub invariant_of-self : goal.invariant_of-self

@@ -7,8 +7,8 @@ use Rattle.key_index_flat.specs.Cursor.{place_of}
 use Rattle.key_index_flat.specs.IndexCursor.{EditsIndex, cursor_list}
 use Rattle.key_index_flat.specs.declared.index.traits.cursor.CursorState.TheVariants as state
 use Rattle.key_index_flat.specs.contracts.index.traits.cursor.CursorState.{the_type}
-use Rattle.key_index_flat.proofs.CursorLemmas.{list_at_edit, same_edit, length-list_at, pruned_none, past_end, inserted, edits_index}
-use Rattle.key_index_flat.proofs.ViewLemmas.{same_content, same_pruned, same_slot, same_admitted}
+use Rattle.key_index_flat.proofs.runs.CursorLemmas.{list_at_edit, same_edit, length-list_at, pruned_none, past_end, inserted, edits_index}
+use Rattle.key_index_flat.proofs.runs.ViewLemmas.{same_content, same_pruned, same_slot, same_admitted}
 use Rattle.key_index_flat.proofs.index.index_cursor.IndexCursorCursor.insert.Goals as goal
 use Rattle.key_index_flat.proofs.index.index_cursor.IndexCursorCursor.insert.Goals.{then-eq, else-eq}
 

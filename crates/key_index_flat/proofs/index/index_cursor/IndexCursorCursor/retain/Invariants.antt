@@ -4,8 +4,8 @@ use denote.Param.Always.{always_mut}
 use Rattle.key_index_flat.specs.Cursor.{next_place}
 use Rattle.key_index_flat.specs.IndexCursor.{cursor_list, cursor_place}
 use Rattle.key_index_flat.specs.declared.index.traits.cursor.CursorState.TheVariants.{Done}
-use Rattle.key_index_flat.proofs.Asked.{KeptTo}
-use Rattle.key_index_flat.proofs.CursorLemmas.{EditedTo}
+use Rattle.key_index_flat.proofs.asked.Asked.{KeptTo}
+use Rattle.key_index_flat.proofs.runs.CursorLemmas.{EditedTo}
 use Rattle.key_index_flat.proofs.index.index_cursor.IndexCursorCursor.retain.Given as goal
 
 abbrev pub invariant-loop-place : goal.invariant-loop-place

@@ -3,8 +3,8 @@ use Rattle.std.proofs.lemmas.List.{length-set}
 use Rattle.key_index_flat.specs.Content.{list_at}
 use Rattle.key_index_flat.specs.Cursor.{list_after_update}
 use Rattle.key_index_flat.specs.Cursor.{place_of}
-use Rattle.key_index_flat.proofs.CursorLemmas.{list_at_edit, pruned_none, on_value, edits_index}
-use Rattle.key_index_flat.proofs.ViewLemmas.{same_content, same_admitted}
+use Rattle.key_index_flat.proofs.runs.CursorLemmas.{list_at_edit, pruned_none, on_value, edits_index}
+use Rattle.key_index_flat.proofs.runs.ViewLemmas.{same_content, same_admitted}
 use Rattle.key_index_flat.proofs.index.index_cursor.IndexCursorCursor.update.Goals as goal
 
 pub invariant_of-self : goal.invariant_of-self

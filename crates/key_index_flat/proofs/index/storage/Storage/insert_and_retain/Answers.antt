@@ -1,16 +1,14 @@
-use Rattle.std.proofs.Common.{rules, ◌≡◌, ◌+◌, ◌<◌, ◌≤◌, ◌^◌, true, cond, length, ap, ◌∙◌, sym, arith}
-use Rattle.std.specs.List.{items_where_true}
-use Rattle.key_index_flat.specs.Content.{list_at}
-use Rattle.key_index_flat.proofs.CursorLemmas.{list_at_edit}
-use Rattle.key_index_flat.proofs.KeptLemmas.{lawful_edit, counted_edit, within_count}
-use Rattle.key_index_flat.proofs.TurnLemmas.{held_answers}
+use Rattle.std.proofs.Common.{rules, ◌≡◌, ◌<◌, ◌≤◌, ◌^◌, cond, length, ap, ◌∙◌, sym, arith}
+use Rattle.key_index_flat.proofs.runs.CursorLemmas.{list_at_edit}
+use Rattle.key_index_flat.proofs.asked.KeptLemmas.{lawful_edit, counted_edit, within_count}
+use Rattle.key_index_flat.proofs.asked.TurnLemmas.{count_kept}
 use Rattle.key_index_flat.proofs.index.storage.Storage.insert_and_retain.Goals.{then-stays, else-stays}
 use Rattle.key_index_flat.proofs.index.storage.Storage.insert_and_retain.Goals as goal
 
 pub overflow_sub-left : goal.overflow_sub-left
 overflow_sub-left g c =
     let said = c.in-Ok.ensures.accepted in
-    omega (arith, said.5, c.in-Ok.ensures.had)
+    omega (arith, said.1.taken, c.in-Ok.ensures.had)
 
 pub overflow_add-left : goal.overflow_add-left
 overflow_add-left g c =
@@ -30,28 +28,26 @@ pub invariant_of-self : goal.invariant_of-self
 invariant_of-self g c =
     let within = within_count g.met.T.Key.Ord.total c.self.inside.chains c.args.slot _ c.self.invariant in
     let said = c.in-Ok.ensures.accepted in
-    let held = list_at g.T.Key.Ord.cmp c.self.inside.chains c.args.slot in
     let added : c.if-stays.added ≡ cond c.in-Ok.stays 1 0 = elim c.if-stays.branch [
       | then-stays w ↦ w.added-is ∙ ap (λ b. cond b 1 0) (sym w.if-stays.true)
       | else-stays w ↦ w.added-is ∙ ap (λ b. cond b 1 0) (sym w.if-stays.false)
     ] in
-    let more = held_answers true said.0 held c.args.value said.2 ∙ ap (λ b. length (items_where_true said.0 held) + cond b 1 0) (sym said.6) in
-    counted_edit g.met.T.Key.Ord.total _ _ _ _ _ _ c.self.invariant said.4 (omega (arith, within, said.5, added, more, c.in-Ok.ensures.had))
+    let counts = count_kept c.in-Ok.stays said.1 said.3 in
+    counted_edit g.met.T.Key.Ord.total _ _ _ _ _ _ c.self.invariant said.2 (omega (arith, within, said.1.taken, added, counts, c.in-Ok.ensures.had))
 
 pub returns-after-stays-clause-left : goal.returns-after-stays-clause-left
 returns-after-stays-clause-left g c =
     let said = c.in-Ok.ensures.accepted in
-    let held = list_at g.T.Key.Ord.cmp c.self.inside.chains c.args.slot in
     let added : c.if-stays.added ≡ cond c.in-Ok.stays 1 0 = elim c.if-stays.branch [
       | then-stays w ↦ w.added-is ∙ ap (λ b. cond b 1 0) (sym w.if-stays.true)
       | else-stays w ↦ w.added-is ∙ ap (λ b. cond b 1 0) (sym w.if-stays.false)
     ] in
-    let more = held_answers true said.0 held c.args.value said.2 ∙ ap (λ b. length (items_where_true said.0 held) + cond b 1 0) (sym said.6) in
-    let now = ap (λ l. length l) (list_at_edit g.met.T.Key.Ord.total _ _ _ _ said.4) in
-    omega (arith, said.5, added, more, c.in-Ok.ensures.had, now)
+    let counts = count_kept c.in-Ok.stays said.1 said.3 in
+    let now = ap (λ l. length l) (list_at_edit g.met.T.Key.Ord.total _ _ _ _ said.2) in
+    omega (arith, said.1.taken, added, counts, c.in-Ok.ensures.had, now)
 
 pub returns-after-stays-clause-lawful : goal.returns-after-stays-clause-lawful
-returns-after-stays-clause-lawful g c = lawful_edit g.met.T.Key.Ord.total _ _ _ _ c.self.invariant.lawful c.in-Ok.ensures.accepted.4
+returns-after-stays-clause-lawful g c = lawful_edit g.met.T.Key.Ord.total _ _ _ _ c.self.invariant.lawful c.in-Ok.ensures.accepted.2
 
 pub overflow_add-self : goal.overflow_add-self
 overflow_add-self g c =
@@ -62,4 +58,4 @@ overflow_add-self g c =
       | then-stays w ↦ omega (arith, w.added-is)
       | else-stays w ↦ omega (arith, w.added-is)
     ] in
-    omega (arith, within, small, added, said.5, c.in-Ok.ensures.had, c.if-self.false)
+    omega (arith, within, small, added, said.1.taken, c.in-Ok.ensures.had, c.if-self.false)

@@ -1,7 +1,7 @@
 use Rattle.std.proofs.Common.{◌≤◌, length, subst, sym, arith}
 use Rattle.std.proofs.lemmas.List.Edits.{length-insert}
 use Rattle.key_index_flat.specs.Content.{list_at}
-use Rattle.key_index_flat.proofs.KeptLemmas.{lawful_edit, counted_edit}
+use Rattle.key_index_flat.proofs.asked.KeptLemmas.{lawful_edit, counted_edit}
 use Rattle.key_index_flat.proofs.index.storage.Storage.insert_at.Goals as goal
 
 pub invariant_of-self : goal.invariant_of-self

@@ -1,5 +1,5 @@
 use Rattle.std.proofs.Common.{[], arith}
-use Rattle.key_index_flat.proofs.KeptLemmas.{lawful_edit, counted_edit, within_count}
+use Rattle.key_index_flat.proofs.asked.KeptLemmas.{lawful_edit, counted_edit, within_count}
 use Rattle.key_index_flat.proofs.index.storage.Storage.remove.Goals as goal
 
 pub overflow_sub-self : goal.overflow_sub-self

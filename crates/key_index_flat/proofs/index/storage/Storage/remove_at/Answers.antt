@@ -1,7 +1,7 @@
 use Rattle.std.proofs.Common.{◌<◌, length, subst, sym, arith}
 use Rattle.std.proofs.lemmas.List.Edits.{length-remove}
 use Rattle.key_index_flat.specs.Content.{list_at}
-use Rattle.key_index_flat.proofs.KeptLemmas.{lawful_edit, counted_edit, within_count}
+use Rattle.key_index_flat.proofs.asked.KeptLemmas.{lawful_edit, counted_edit, within_count}
 use Rattle.key_index_flat.proofs.index.storage.Storage.remove_at.Goals as goal
 
 pub overflow_sub-self : goal.overflow_sub-self

@@ -1,6 +1,6 @@
 use Rattle.std.proofs.Common.{length, ap, sym, ◌∙◌, arith}
-use Rattle.key_index_flat.proofs.CursorLemmas.{list_at_edit}
-use Rattle.key_index_flat.proofs.KeptLemmas.{lawful_edit, counted_edit, within_count}
+use Rattle.key_index_flat.proofs.runs.CursorLemmas.{list_at_edit}
+use Rattle.key_index_flat.proofs.asked.KeptLemmas.{lawful_edit, counted_edit, within_count}
 use Rattle.key_index_flat.proofs.index.storage.Storage.retain.Goals as goal
 
 pub overflow_sub-self : goal.overflow_sub-self

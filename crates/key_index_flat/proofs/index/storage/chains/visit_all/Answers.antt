@@ -5,7 +5,7 @@ use Rattle.std.specs.Fn.{CalledAt}
 use Rattle.std.specs.Map.Iter.{deref_pair}
 use Rattle.key_index_flat.specs.Storage.{older_at}
 use Rattle.key_index_flat.specs.Values.{VisitsInTurn}
-use Rattle.key_index_flat.proofs.ValueLemmas.{visits_append, in_turn, in_turn-more, all_values}
+use Rattle.key_index_flat.proofs.content.ValueLemmas.{visits_append, in_turn, in_turn-more, all_values}
 use Rattle.key_index_flat.proofs.index.storage.chains.visit_all.Goals as goal
 
 pub loop-key-preserved : goal.loop-key-preserved

@@ -4,7 +4,7 @@ use denote.Param.Always.{always_mut}
 use Rattle.std.specs.Map.Iter.{deref_pair}
 use Rattle.key_index_flat.specs.Storage.{older_at}
 use Rattle.key_index_flat.specs.Values.{VisitsInTurn}
-use Rattle.key_index_flat.proofs.ValueLemmas.{in_turn}
+use Rattle.key_index_flat.proofs.content.ValueLemmas.{in_turn}
 use Rattle.key_index_flat.proofs.index.storage.chains.visit_all.Given as goal
 
 -- the closure was called on the values of the entries so far

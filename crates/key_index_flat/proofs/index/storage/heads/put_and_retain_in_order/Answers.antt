@@ -3,7 +3,7 @@ use Rattle.std.proofs.lemmas.Fn.{called_at}
 use Rattle.std.specs.Fn.{CalledAt}
 use Rattle.std.specs.BTreeMap.{get}
 use Rattle.key_index_flat.specs.Storage.{older_at}
-use Rattle.key_index_flat.proofs.TurnLemmas.{asked_alone}
+use Rattle.key_index_flat.proofs.asked.TurnLemmas.{asked_alone}
 use Rattle.key_index_flat.proofs.index.storage.heads.put_and_retain_in_order.Goals as goal
 
 pub returns-then-should_retain-clause-asked : goal.returns-then-should_retain-clause-asked

@@ -2,8 +2,8 @@ use Rattle.std.proofs.Common.{arith, true, false, [], ◌∷◌, reverse, ap, sy
 use Rattle.std.proofs.lemmas.Fn.{called_at}
 use Rattle.std.proofs.lemmas.List.{reverse-reverse, reverse-append}
 use Rattle.std.specs.Fn.{CalledAt}
-use Rattle.key_index_flat.proofs.ChainLemmas.{no_items}
-use Rattle.key_index_flat.proofs.TurnLemmas.{asked_newest}
+use Rattle.key_index_flat.proofs.content.ChainLemmas.{no_items}
+use Rattle.key_index_flat.proofs.asked.TurnLemmas.{asked_newest}
 use Rattle.key_index_flat.proofs.index.storage.older.retain_both.Goals as goal
 
 pub returns-then-newest_stays-clause-asked : goal.returns-then-newest_stays-clause-asked

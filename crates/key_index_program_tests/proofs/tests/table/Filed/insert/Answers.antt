@@ -1,7 +1,7 @@
 use Rattle.std.proofs.Common.{◌≡◌, ◌<◌, None, Some, slice_index_or, slice_set, length, sym, ap, unwrap_or, ◌∙◌, arith}
 use Rattle.std.proofs.lemmas.List.{length-set, get_or_read}
 use Rattle.key_index.specs.Table.{with_hash}
-use Rattle.key_index.proofs.TableMaps.{files_same, with_hash-listed, none_if_not_some, listed_within}
+use Rattle.key_index.proofs.tables.TableMaps.{files_same, with_hash-listed, none_if_not_some, listed_within}
 use Rattle.key_index_program_tests.proofs.tests.table.Filed.insert.Goals as goal
 
 pub invariant_of-self : goal.invariant_of-self

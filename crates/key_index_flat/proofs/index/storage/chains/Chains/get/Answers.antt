@@ -1,6 +1,6 @@
 use Rattle.std.proofs.Common.{◌∷◌, reverse, ap, sym, ◌∙◌}
 use Rattle.key_index_flat.specs.Storage.{list_of, older_at}
-use Rattle.key_index_flat.proofs.ChainLemmas.{list_at-content_of}
+use Rattle.key_index_flat.proofs.content.ChainLemmas.{list_at-content_of}
 use Rattle.key_index_flat.proofs.index.storage.chains.Chains.get.Goals as goal
 
 pub returns-in-Some : goal.returns-in-Some

@@ -1,7 +1,7 @@
 use Rattle.std.proofs.Common.{◌+◌, length, cond, is_some, Some, refl, ap, sym, ◌∙◌}
 use Rattle.key_index_flat.specs.Storage.{older_at}
-use Rattle.key_index_flat.proofs.ChainLemmas.{first_value, newer_value, put_back, taken_in}
-use Rattle.key_index_flat.proofs.ReversedLemmas.{insert_last}
+use Rattle.key_index_flat.proofs.content.ChainLemmas.{first_value, newer_value, put_back, taken_in}
+use Rattle.key_index_flat.proofs.neighbours.ReversedLemmas.{insert_last}
 use Rattle.key_index_flat.proofs.index.storage.chains.Chains.insert.Goals as goal
 
 pub invariant_of-self-in_default : goal.invariant_of-self-in_default

@@ -1,6 +1,6 @@
 use Rattle.std.proofs.Common.{◌+◌, length, refl, sym, ap, ◌∙◌}
 use Rattle.key_index_flat.specs.Storage.{older_at}
-use Rattle.key_index_flat.proofs.ChainLemmas.{put_absent, left_present}
+use Rattle.key_index_flat.proofs.content.ChainLemmas.{put_absent, left_present}
 use Rattle.key_index_flat.proofs.index.storage.chains.Chains.insert_absent.Goals as goal
 
 pub invariant_of-self-then-branch : goal.invariant_of-self-then-branch

@@ -1,9 +1,9 @@
 use Rattle.std.proofs.Common.{◌≡◌, ◌+◌, true, [], ◌∷◌, ◌++◌, cond, length, refl, sym, ap, ◌∙◌, arith}
 use Rattle.std.specs.Fn.{CalledAt}
-use Rattle.key_index_flat.specs.Content.{list_at, with_list}
+use Rattle.key_index_flat.specs.Content.{list_at}
 use Rattle.key_index_flat.specs.Storage.{content_of, held_at, older_at}
-use Rattle.key_index_flat.proofs.ChainLemmas.{both_changed, both_same, list_at-content_of, on_err}
-use Rattle.key_index_flat.proofs.TurnLemmas.{asked_same, put_and_asked, some_taken}
+use Rattle.key_index_flat.proofs.content.ChainLemmas.{both_changed, both_same, list_at-content_of, on_err}
+use Rattle.key_index_flat.proofs.asked.TurnLemmas.{asked_same, asks_behind, some_taken}
 use Rattle.key_index_flat.proofs.index.storage.chains.Chains.insert_and_retain.Goals.{then-stays, else-stays}
 use Rattle.key_index_flat.proofs.index.storage.chains.Chains.insert_and_retain.Goals as goal
 
@@ -41,13 +41,18 @@ returns-clause-accepted g c =
       | then-stays w ↦ let s = ap (λ b. c.if-stays.gone + cond b 0 1) w.if-stays.true in omega (arith, s, w.gone-is)
       | else-stays w ↦ let s = ap (λ b. c.if-stays.gone + cond b 0 1) w.if-stays.false in let one = some w.if-stays.false in omega (arith, s, one, w.gone-is)
     ] in
-    rw (← c.self.view_is) (
-    put_and_asked (CalledAt g.F.FnMut) c.args.should_retain (list_at g.T.Key.Ord.cmp (content_of g.T.Key.Ord.cmp (g.M.Heads.entries c.self.inside.heads) (older_at g.T.Key.PartialEq.eq c.self.inside.older)) c.args.slot) c.args.value (held_at g.T.Key.Ord.cmp g.T.Key.PartialEq.eq (g.M.Heads.entries c.insert_and_retain.new.self) c.insert_and_retain.new.older c.args.slot)
-    c.in_ok-had.stays c.in_ok-had.taken
-    (asked_same (CalledAt g.F.FnMut) c.args.should_retain true ((held_at g.T.Key.Ord.cmp g.T.Key.PartialEq.eq (g.M.Heads.entries c.self.inside.heads) c.self.inside.older c.args.slot) ++ c.args.value ∷ []) (held_at g.T.Key.Ord.cmp g.T.Key.PartialEq.eq (g.M.Heads.entries c.insert_and_retain.new.self) c.insert_and_retain.new.older c.args.slot)
+    let asked =
+    asked_same (CalledAt g.F.FnMut) c.args.should_retain true ((held_at g.T.Key.Ord.cmp g.T.Key.PartialEq.eq (g.M.Heads.entries c.self.inside.heads) c.self.inside.older c.args.slot) ++ c.args.value ∷ []) (held_at g.T.Key.Ord.cmp g.T.Key.PartialEq.eq (g.M.Heads.entries c.insert_and_retain.new.self) c.insert_and_retain.new.older c.args.slot)
     (list_at g.T.Key.Ord.cmp (content_of g.T.Key.Ord.cmp (g.M.Heads.entries c.self.inside.heads) (older_at g.T.Key.PartialEq.eq c.self.inside.older)) c.args.slot ++ c.args.value ∷ []) (held_at g.T.Key.Ord.cmp g.T.Key.PartialEq.eq (g.M.Heads.entries c.insert_and_retain.new.self) c.insert_and_retain.new.older c.args.slot)
-    c.in_ok-had.stays c.in_ok-had.ensures.asked (ap (λ l. l ++ c.args.value ∷ []) list) refl)
-    (ap (λ l. length l + 1) (sym list) ∙ counts) (with_list g.T.Key.Ord.cmp (content_of g.T.Key.Ord.cmp (g.M.Heads.entries c.self.inside.heads) (older_at g.T.Key.PartialEq.eq c.self.inside.older)) c.args.slot) _ c.if-stays.gone
-    (both_changed g.met.T.Key.Ord.total g.met.T.Translator.exact (g.M.Heads.entries c.self.inside.heads) (g.M.Heads.entries c.insert_and_retain.new.self) (older_at g.T.Key.PartialEq.eq c.self.inside.older) (older_at g.T.Key.PartialEq.eq c.insert_and_retain.new.older) c.args.slot c.self.invariant c.insert_and_retain.ensures.others c.insert_and_retain.ensures.others_older c.insert_and_retain.ensures.len
-    c.insert_and_retain.ensures.headed).content most
+    c.in_ok-had.stays c.in_ok-had.ensures.asked (ap (λ l. l ++ c.args.value ∷ []) list) refl in
+    let asks =
+    asks_behind (CalledAt g.F.FnMut) c.args.should_retain (list_at g.T.Key.Ord.cmp (content_of g.T.Key.Ord.cmp (g.M.Heads.entries c.self.inside.heads) (older_at g.T.Key.PartialEq.eq c.self.inside.older)) c.args.slot) c.args.value (held_at g.T.Key.Ord.cmp g.T.Key.PartialEq.eq (g.M.Heads.entries c.insert_and_retain.new.self) c.insert_and_retain.new.older c.args.slot)
+    c.in_ok-had.stays c.in_ok-had.taken
+    asked (ap (λ l. length l + 1) (sym list) ∙ counts) c.if-stays.gone most in
+    rw (← c.self.view_is) (
+      held_at g.T.Key.Ord.cmp g.T.Key.PartialEq.eq (g.M.Heads.entries c.insert_and_retain.new.self) c.insert_and_retain.new.older c.args.slot,
+      asks.0,
+      (both_changed g.met.T.Key.Ord.total g.met.T.Translator.exact (g.M.Heads.entries c.self.inside.heads) (g.M.Heads.entries c.insert_and_retain.new.self) (older_at g.T.Key.PartialEq.eq c.self.inside.older) (older_at g.T.Key.PartialEq.eq c.insert_and_retain.new.older) c.args.slot c.self.invariant c.insert_and_retain.ensures.others c.insert_and_retain.ensures.others_older c.insert_and_retain.ensures.len
+          c.insert_and_retain.ensures.headed).content,
+      asks.1,
     )

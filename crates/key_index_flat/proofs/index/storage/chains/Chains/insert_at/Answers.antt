@@ -1,6 +1,6 @@
 use Rattle.std.proofs.Common.{length, subst, sym, ◌≤◌}
 use Rattle.key_index_flat.specs.Storage.{older_at}
-use Rattle.key_index_flat.proofs.EditLemmas.{insert_within, inserted_linked, inserted_content, refused_content}
+use Rattle.key_index_flat.proofs.content.EditLemmas.{insert_within, inserted_linked, inserted_content, refused_content}
 use Rattle.key_index_flat.specs.Content.{list_at}
 use Rattle.key_index_flat.proofs.index.storage.chains.Chains.insert_at.Goals as goal
 

@@ -2,7 +2,7 @@ use Rattle.std.proofs.Common.{ap, sym, ◌∙◌}
 use Rattle.std.specs.Option.{option_map}
 use Rattle.key_index_flat.specs.Neighbours.{first_list}
 use Rattle.key_index_flat.specs.Storage.{older_at}
-use Rattle.key_index_flat.proofs.NeighbourLemmas.{listed, next_found, next_cycled}
+use Rattle.key_index_flat.proofs.neighbours.NeighbourLemmas.{listed, next_found, next_cycled}
 use Rattle.key_index_flat.proofs.index.storage.chains.Chains.next.Goals as goal
 
 pub returns-in-Some : goal.returns-in-Some

@@ -2,7 +2,7 @@ use Rattle.std.proofs.Common.{ap, sym, ◌∙◌}
 use Rattle.std.specs.Option.{option_map}
 use Rattle.key_index_flat.specs.Neighbours.{last_list}
 use Rattle.key_index_flat.specs.Storage.{older_at}
-use Rattle.key_index_flat.proofs.NeighbourLemmas.{listed, prev_found, prev_cycled}
+use Rattle.key_index_flat.proofs.neighbours.NeighbourLemmas.{listed, prev_found, prev_cycled}
 use Rattle.key_index_flat.proofs.index.storage.chains.Chains.prev.Goals as goal
 
 pub returns-in-Some : goal.returns-in-Some

@@ -1,6 +1,6 @@
 use Rattle.std.proofs.Common.{◌+◌, length, cond, is_some, refl, ap, sym, ◌∙◌}
 use Rattle.key_index_flat.specs.Storage.{list_of, older_at}
-use Rattle.key_index_flat.proofs.ChainLemmas.{taken_out, nothing_taken, list_at-content_of, no_value, length-filled}
+use Rattle.key_index_flat.proofs.content.ChainLemmas.{taken_out, nothing_taken, list_at-content_of, no_value, length-filled}
 use Rattle.key_index_flat.proofs.index.storage.chains.Chains.remove.Goals as goal
 
 pub invariant_of-self : goal.invariant_of-self

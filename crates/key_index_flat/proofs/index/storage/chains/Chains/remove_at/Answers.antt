@@ -2,7 +2,7 @@ use Rattle.std.proofs.Common.{rules, ◌+◌, ◌<◌, [], ◌∷◌, ◌++◌, 
 use Rattle.std.proofs.lemmas.List.{length-reverse}
 use Rattle.key_index_flat.specs.Storage.{older_at, content_of}
 use Rattle.key_index_flat.specs.Content.{list_at}
-use Rattle.key_index_flat.proofs.EditLemmas.{list_is, place_within, remove_among_older, value_among_older, value_newest, newest, newest_removed, only_removed}
+use Rattle.key_index_flat.proofs.content.EditLemmas.{list_is, place_within, remove_among_older, value_among_older, value_newest, newest, newest_removed, only_removed}
 use Rattle.key_index_flat.proofs.index.storage.chains.Chains.remove_at.Goals as goal
 
 pub remove_older-value-requires-clause-within : goal.remove_older-value-requires-clause-within

@@ -4,10 +4,10 @@ use Rattle.std.specs.Fn.{CalledAt}
 use Rattle.std.specs.List.Retain.{IsFiltered}
 use Rattle.key_index_flat.specs.Storage.{older_at, content_of, list_of}
 use Rattle.key_index_flat.specs.Content.{with_list}
-use Rattle.key_index_flat.specs.Laws.{IsLawful-content_of}
-use Rattle.key_index_flat.proofs.ContentLemmas.{with_list-same, with_list-twice}
-use Rattle.key_index_flat.proofs.ChainLemmas.{list_at-content_of}
-use Rattle.key_index_flat.proofs.EditLemmas.{older_edited, list_is, filtered_first, filtered_none}
+use Rattle.key_index_flat.specs.laws.Laws.{IsLawful-content_of}
+use Rattle.key_index_flat.proofs.content.ContentLemmas.{with_list-same, with_list-twice}
+use Rattle.key_index_flat.proofs.content.ChainLemmas.{list_at-content_of}
+use Rattle.key_index_flat.proofs.content.EditLemmas.{older_edited, list_is, filtered_first, filtered_none}
 use Rattle.key_index_flat.proofs.index.storage.chains.Chains.retain.Goals as goal
 
 pub returns-in_default : goal.returns-in_default

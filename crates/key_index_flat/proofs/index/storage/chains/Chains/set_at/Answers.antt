@@ -1,7 +1,7 @@
 use Rattle.std.proofs.Common.{◌+◌, ◌<◌, length, cond, is_some, T, refl, sym, ap, subst, ◌∙◌, arith}
 use Rattle.key_index_flat.specs.Storage.{older_at, content_of}
 use Rattle.key_index_flat.specs.Content.{list_at}
-use Rattle.key_index_flat.proofs.EditLemmas.{place_within, set_among_older, newest, newest_set}
+use Rattle.key_index_flat.proofs.content.EditLemmas.{place_within, set_among_older, newest, newest_set}
 use Rattle.key_index_flat.proofs.index.storage.chains.Chains.set_at.Goals as goal
 
 pub set_older-requires-clause-within : goal.set_older-requires-clause-within

@@ -3,7 +3,7 @@ use Rattle.std.specs.Option.{option_copied}
 use Rattle.key_index_flat.specs.Content.{list_at}
 use Rattle.key_index_flat.specs.Storage.{content_of, list_of, older_at}
 use Rattle.key_index_flat.specs.Storage.{value_of}
-use Rattle.key_index_flat.proofs.ChainLemmas.{list_at-content_of, place_older, slice_get-older, slice_get-newest, is_some-newest}
+use Rattle.key_index_flat.proofs.content.ChainLemmas.{list_at-content_of, place_older, slice_get-older, slice_get-newest, is_some-newest}
 use Rattle.key_index_flat.proofs.index.storage.chains.Chains.value_at.Goals as goal
 
 pub unwrap-requires : goal.unwrap-requires

@@ -1,5 +1,5 @@
 use Rattle.std.specs.Map.Iter.{deref_pair}
-use Rattle.key_index_flat.proofs.NeighbourLemmas.{last_told}
+use Rattle.key_index_flat.proofs.neighbours.NeighbourLemmas.{last_told}
 use Rattle.key_index_flat.proofs.index.storage.heads.BTreeMapOrderedHeads.last.Goals as goal
 
 pub returns-clause-entry : goal.returns-clause-entry

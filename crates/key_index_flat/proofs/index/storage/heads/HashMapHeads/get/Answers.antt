@@ -1,4 +1,4 @@
-use Rattle.key_index_flat.proofs.KeyLemmas.{value_by_eq}
+use Rattle.key_index_flat.proofs.content.KeyLemmas.{value_by_eq}
 use Rattle.key_index_flat.proofs.index.storage.heads.HashMapHeads.get.Goals as goal
 
 pub returns : goal.returns

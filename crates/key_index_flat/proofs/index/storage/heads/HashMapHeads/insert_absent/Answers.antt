@@ -1,6 +1,6 @@
 use Rattle.std.proofs.Common.{◌≡◌, Bool, Some, unwrap_or, OnOk, subst}
 use Rattle.std.specs.Map.{lookup}
-use Rattle.key_index_flat.proofs.KeyLemmas.{same_test}
+use Rattle.key_index_flat.proofs.content.KeyLemmas.{same_test}
 use Rattle.key_index_flat.proofs.index.storage.heads.HashMapHeads.insert_absent.Goals as goal
 
 pub returns-clause-at : goal.returns-clause-at

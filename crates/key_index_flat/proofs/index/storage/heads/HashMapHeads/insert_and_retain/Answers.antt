@@ -3,7 +3,7 @@ use Rattle.std.specs.Fn.{CalledAt}
 use Rattle.std.specs.Map.{lookup}
 use Rattle.key_index_flat.specs.Retention.{AsksInTurn}
 use Rattle.key_index_flat.specs.Storage.{list_of, older_at}
-use Rattle.key_index_flat.proofs.KeyLemmas.{same_test}
+use Rattle.key_index_flat.proofs.content.KeyLemmas.{same_test}
 use Rattle.key_index_flat.proofs.index.storage.heads.HashMapHeads.insert_and_retain.Goals as goal
 
 pub returns-clause-asked : goal.returns-clause-asked

@@ -1,4 +1,4 @@
-use Rattle.key_index_flat.proofs.KeyLemmas.{Sets_by_eq}
+use Rattle.key_index_flat.proofs.content.KeyLemmas.{Sets_by_eq}
 use Rattle.key_index_flat.proofs.index.storage.heads.HashMapHeads.remove.Goals as goal
 
 pub returns-clause-sets : goal.returns-clause-sets

@@ -46,7 +46,7 @@ use Rattle.key_index_flat.specs.contracts.index.index_cursor.IndexCursor as curs
 use Rattle.key_index_flat.specs.contracts.index.traits.search.Search.get_mut_or_insert as f
 use Rattle.key_index_flat.specs.contracts.index.traits.search.Search.search_or_insert as g
 use Rattle.key_index_flat.specs.contracts.index.traits.search.nest as n
-use Rattle.key_index_flat.proofs.Nested.{rests_nested}
+use Rattle.key_index_flat.proofs.neighbours.Nested.{rests_nested}
 use Rattle.key_index_flat.proofs.index.Refused.TheLaws as refused_laws
 use Rattle.key_index_flat.proofs.index.index_cursor.IndexCursor.TheLaws as cursor_laws
 use Rattle.key_index_flat.proofs.index.traits.search.nest.Met as nest_met

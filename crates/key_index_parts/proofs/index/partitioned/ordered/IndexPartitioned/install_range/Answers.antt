@@ -2,8 +2,8 @@ use Rattle.std.proofs.Common.{rules, ◌+◌, ◌-◌, ◌^◌, ◌≤◌, ap, s
 use Rattle.key_index_flat.specs.Content.{item_count}
 use Rattle.key_index_parts.specs.Gathered.{gathered}
 use Rattle.key_index_parts.specs.Joined.{install_fault}
-use Rattle.key_index_parts.proofs.InstallLemmas.{refused_fault}
-use Rattle.key_index_parts.proofs.ShiftedLemmas.{items_from}
+use Rattle.key_index_parts.proofs.family.InstallLemmas.{refused_fault}
+use Rattle.key_index_parts.proofs.family.ShiftedLemmas.{items_from}
 use Rattle.key_index_parts.proofs.index.partitioned.ordered.IndexPartitioned.install_range.Goals as goal
 
 pub returns-then-not-has_room-clause-fault : goal.returns-then-not-has_room-clause-fault
@@ -21,3 +21,6 @@ pub returns-clause-room : goal.returns-clause-room
 returns-clause-room g c =
     let own = item_count (gathered c.args.self.now.storage.parts) in
     subst (λ n. own + n ≤ 2 ^ 64 - 1) (items_from c.args.range.offset c.args.range.storage.parts) (c.has_room.ensures.0 c.if-not-has_room.false)
+
+pub invariant_of-self-clause-within : goal.invariant_of-self-clause-within
+invariant_of-self-clause-within g c = c.install.ensures.bound c.args.range.within c.args.self.now.within

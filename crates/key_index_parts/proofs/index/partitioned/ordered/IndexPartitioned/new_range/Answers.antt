@@ -1,6 +1,6 @@
 use Rattle.std.proofs.Common.{ap, ◌∙◌}
 use Rattle.key_index_parts.specs.Prefix.{slot_by}
-use Rattle.key_index_parts.specs.RangeLaws.{shifted, gathered_from-shifted}
+use Rattle.key_index_parts.specs.laws.RangeLaws.{shifted, gathered_from-shifted}
 use Rattle.key_index_parts.proofs.index.partitioned.ordered.IndexPartitioned.new_range.Goals as goal
 
 pub returns-in-Ok-clause-empty : goal.returns-in-Ok-clause-empty

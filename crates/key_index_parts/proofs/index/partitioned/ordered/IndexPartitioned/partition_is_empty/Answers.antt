@@ -1,5 +1,5 @@
 use Rattle.std.proofs.Common.{sym, ◌∙◌}
-use Rattle.key_index_parts.proofs.InstallLemmas.{alone}
+use Rattle.key_index_parts.proofs.family.InstallLemmas.{alone}
 use Rattle.key_index_parts.proofs.index.partitioned.ordered.IndexPartitioned.partition_is_empty.Goals as goal
 
 pub returns : goal.returns

@@ -1,6 +1,6 @@
 use Rattle.std.proofs.Common.{ap}
-use Rattle.key_index_parts.proofs.ShiftedLemmas.{on_err}
-use Rattle.key_index_parts.proofs.StandingLemmas.{leaves_either}
+use Rattle.key_index_parts.proofs.family.ShiftedLemmas.{on_err}
+use Rattle.key_index_parts.proofs.standing.StandingLemmas.{leaves_either}
 use Rattle.key_index_parts.proofs.index.partitioned.ordered.IndexRuns.insert_at.Goals as goal
 
 pub returns-clause-edited : goal.returns-clause-edited

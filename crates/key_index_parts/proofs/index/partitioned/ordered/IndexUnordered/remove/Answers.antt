@@ -2,8 +2,8 @@ use Rattle.std.proofs.Common.{◌≡◌, [], length, refl, subst}
 use Rattle.key_index_flat.specs.View.{with_edit, with_pruned}
 use Rattle.key_index_parts.specs.Family.{held_at, view_of}
 use Rattle.key_index_parts.specs.Gathered.{pair_cmp}
-use Rattle.key_index_parts.specs.Standing.{Settles}
-use Rattle.key_index_parts.proofs.ShiftedLemmas.{on_ok}
+use Rattle.key_index_parts.specs.Standing.{Resettles}
+use Rattle.key_index_parts.proofs.family.ShiftedLemmas.{on_ok}
 use Rattle.key_index_parts.proofs.index.partitioned.ordered.IndexUnordered.remove.Goals as goal
 
 pub returns-clause-accepted : goal.returns-clause-accepted
@@ -17,4 +17,4 @@ returns-clause-accepted g c =
 pub returns-clause-settled : goal.returns-clause-settled
 returns-clause-settled g c =
     let storage = c.args.self.now.storage in
-    on_ok c.remove.result _ _ (λ h. subst (λ s. Settles storage.standings s.0 c.remove.new.self.standings) c.slot_of-slot.ensures.slot (h refl)) c.remove.ensures.settled
+    on_ok c.remove.result _ _ (λ h. subst (λ s. Resettles storage.standings s.0 c.remove.new.self.standings) c.slot_of-slot.ensures.slot (h refl)) c.remove.ensures.settled

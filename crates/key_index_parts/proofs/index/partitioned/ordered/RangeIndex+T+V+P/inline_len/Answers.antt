@@ -1,8 +1,8 @@
 use Rattle.std.proofs.Common.{◌≡◌, ◌+◌, ◌-◌, length, ap, sym, ◌∙◌, arith}
 use Rattle.key_index_flat.specs.Content.{item_count}
 use Rattle.key_index_parts.specs.Gathered.{gathered_from, entries_of}
-use Rattle.key_index_parts.proofs.EntriesLemmas.{counts}
-use Rattle.key_index_parts.proofs.InstallLemmas.{within}
+use Rattle.key_index_parts.proofs.family.EntriesLemmas.{counts}
+use Rattle.key_index_parts.proofs.family.InstallLemmas.{within}
 use Rattle.key_index_parts.proofs.index.partitioned.ordered.RangeIndex+T+V+P.inline_len.Goals as goal
 
 pub returns-clause-entries : goal.returns-clause-entries

@@ -1,7 +1,7 @@
 use Rattle.std.proofs.Common.{refl, rules, of_calls}
 use denote.Param.Always.{always_mut, mut_by}
 use Rattle.std.proofs.lemmas.Result.{on_ok_weaker}
-use Rattle.key_index_parts.proofs.AheadLemmas.{tells_through}
+use Rattle.key_index_parts.proofs.asked.AheadLemmas.{tells_through}
 use Rattle.key_index_parts.proofs.index.partitioned.ordered.ahead.show_ahead.Goals as goal
 
 pub visit_ahead-requires : goal.visit_ahead-requires

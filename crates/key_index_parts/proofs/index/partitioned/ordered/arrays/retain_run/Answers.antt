@@ -5,12 +5,12 @@ use Rattle.std.specs.Fn.{CalledAt}
 use Rattle.std.specs.Map.{values_of}
 use borrow.Author.Rules.{of_calls}
 use Rattle.key_index_flat.specs.Content.{list_at, with_list}
-use Rattle.key_index_flat.proofs.Asked.{drop-value, take-value, drop-remove, take-remove}
-use Rattle.key_index_flat.proofs.ContentLemmas.{with_list-same, with_list-twice}
+use Rattle.key_index_flat.proofs.asked.Asked.{drop-value, take-value, drop-remove, take-remove}
+use Rattle.key_index_flat.proofs.content.ContentLemmas.{with_list-same, with_list-twice}
 use Rattle.key_index_parts.specs.Pairs.{IsFound, grouped}
-use Rattle.key_index_parts.specs.PairLaws.{IsLawful-grouped}
-use Rattle.key_index_parts.proofs.KeptInTurn.{turn_first, turn_more, turn_less, turn_parts, turn_stays, turn_last}
-use Rattle.key_index_parts.proofs.FoundRun.{run_count, place_within, value_in, removed, list_after, found_after}
+use Rattle.key_index_parts.specs.laws.PairLaws.{IsLawful-grouped}
+use Rattle.key_index_parts.proofs.asked.KeptInTurn.{turn_first, turn_more, turn_less, turn_parts, turn_stays, turn_last}
+use Rattle.key_index_parts.proofs.pairs.FoundRun.{run_count, place_within, value_in, removed, list_after, found_after}
 use Rattle.key_index_parts.proofs.index.partitioned.ordered.arrays.retain_run.Goals as goal
 
 pub loop-place-init : goal.loop-place-init

@@ -3,7 +3,7 @@ use Rattle.std.specs.Fn.{CalledAt}
 use denote.Param.Always.{always_mut}
 use Rattle.key_index_flat.specs.Content.{list_at, with_list}
 use Rattle.key_index_parts.specs.Pairs.{IsFound, grouped}
-use Rattle.key_index_parts.proofs.KeptInTurn.{KeptInTurn}
+use Rattle.key_index_parts.proofs.asked.KeptInTurn.{KeptInTurn}
 use Rattle.key_index_parts.proofs.index.partitioned.ordered.arrays.retain_run.Given as goal
 
 abbrev pub invariant-loop-place : goal.invariant-loop-place

@@ -3,8 +3,8 @@ use Rattle.std.proofs.lemmas.List.{map_push, append_assoc, append-nil, take_rest
 use Rattle.std.specs.List.{filter, zip}
 use Rattle.std.specs.Ordering.{is_le}
 use Rattle.key_index_parts.specs.Pairs.{grouped, room_of, room_for}
-use Rattle.key_index_parts.proofs.ZipLemmas.{length-zip}
-use Rattle.key_index_parts.proofs.DrainLemmas.{next_room}
+use Rattle.key_index_parts.proofs.pairs.ZipLemmas.{length-zip}
+use Rattle.key_index_parts.proofs.pairs.DrainLemmas.{next_room}
 use Rattle.key_index_parts.proofs.index.partitioned.ordered.partition.empty_runs.Goals as goal
 
 pub loop-start-preserved : goal.loop-start-preserved

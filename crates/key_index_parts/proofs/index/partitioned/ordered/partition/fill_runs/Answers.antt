@@ -1,6 +1,6 @@
 use Rattle.std.proofs.Common.{◌<◌, length, sym, ◌∙◌, arith}
 use Rattle.std.proofs.lemmas.List.{length-set}
-use Rattle.key_index_parts.proofs.DrainLemmas.{run_empty, run_enough, run_filled, rooms_left, values_left}
+use Rattle.key_index_parts.proofs.pairs.DrainLemmas.{run_empty, run_enough, run_filled, rooms_left, values_left}
 use Rattle.key_index_parts.proofs.index.partitioned.ordered.partition.fill_runs.Goals as goal
 
 pub fill-requires-clause-empty : goal.fill-requires-clause-empty

@@ -1,5 +1,5 @@
 use Rattle.std.proofs.Common.{◌≡◌, ◌-◌, sym, ap, ◌∙◌, take, Some, arith}
-use Rattle.key_index_parts.proofs.EndLemmas.{first_run_is}
+use Rattle.key_index_parts.proofs.pairs.EndLemmas.{first_run_is}
 use Rattle.key_index_parts.proofs.index.partitioned.ordered.partition.first_run.Goals as goal
 
 pub returns : goal.returns

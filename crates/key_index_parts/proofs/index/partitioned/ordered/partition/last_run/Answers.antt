@@ -1,6 +1,6 @@
 use Rattle.std.proofs.Common.{Some, sym, ap, ◌∙◌}
 use Rattle.std.proofs.lemmas.List.{take_rest}
-use Rattle.key_index_parts.proofs.EndLemmas.{last_run_is}
+use Rattle.key_index_parts.proofs.pairs.EndLemmas.{last_run_is}
 use Rattle.key_index_parts.proofs.index.partitioned.ordered.partition.last_run.Goals as goal
 
 pub returns : goal.returns

@@ -1,7 +1,7 @@
 use Rattle.std.proofs.Common.{◌≡◌, ◌-◌, length, take, sym, ap, ◌∙◌, arith}
 use Rattle.std.specs.Ordering.{is_lt}
 use Rattle.key_index_parts.specs.Pairs.{count_below}
-use Rattle.key_index_parts.proofs.SearchLemmas.{lower_partitions, counted, uncounted, count_before, last_uncounted}
+use Rattle.key_index_parts.proofs.pairs.SearchLemmas.{lower_partitions, counted, uncounted, count_before, last_uncounted}
 use Rattle.key_index_parts.proofs.index.partitioned.ordered.partition.last_start.Goals as goal
 use Rattle.key_index_parts.proofs.index.partitioned.ordered.partition.last_start.Goals.{then-end-eq0-via-then-end-eq0, then-end-eq0-via-else-end-eq0+then-is_lt}
 

@@ -1,7 +1,7 @@
 use Rattle.std.proofs.Common.{rules}
 use Rattle.std.proofs.lemmas.List.Sorted.{IsPartitionPoint-from_clause}
 use Rattle.std.specs.Ordering.{is_lt}
-use Rattle.key_index_parts.proofs.SearchLemmas.{length-filter-point, lower_partitions}
+use Rattle.key_index_parts.proofs.pairs.SearchLemmas.{length-filter-point, lower_partitions}
 use Rattle.key_index_parts.proofs.index.partitioned.ordered.partition.lower_bound.Goals as goal
 
 pub returns-clause-count : goal.returns-clause-count

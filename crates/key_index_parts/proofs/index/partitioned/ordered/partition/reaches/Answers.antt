@@ -1,7 +1,7 @@
 use Rattle.std.proofs.Common.{◌≡◌, true, false, refl, sym, ap, ◌∙◌, arith}
 use Rattle.std.proofs.lemmas.Bool.{ltb-true}
 use Rattle.std.specs.Ordering.{is_le}
-use Rattle.key_index_parts.proofs.SearchLemmas.{upper_partitions, counted, uncounted, count_within}
+use Rattle.key_index_parts.proofs.pairs.SearchLemmas.{upper_partitions, counted, uncounted, count_within}
 use Rattle.key_index_parts.proofs.index.partitioned.ordered.partition.reaches.Goals as goal
 
 pub returns-then-place-keys : goal.returns-then-place-keys

@@ -2,7 +2,7 @@ use Rattle.std.proofs.Common.{◌≤◌, ◌+◌, ap, ◌∙◌, arith}
 use Rattle.std.proofs.lemmas.List.{take_rest}
 use Rattle.std.specs.Ordering.{is_le}
 use Rattle.key_index_parts.specs.Pairs.{count_upto}
-use Rattle.key_index_parts.proofs.SearchLemmas.{upper_partitions, count_behind, count_within}
+use Rattle.key_index_parts.proofs.pairs.SearchLemmas.{upper_partitions, count_behind, count_within}
 use Rattle.key_index_parts.proofs.index.partitioned.ordered.partition.run_end.Goals as goal
 
 pub returns-then-not-reaches-clause-within : goal.returns-then-not-reaches-clause-within

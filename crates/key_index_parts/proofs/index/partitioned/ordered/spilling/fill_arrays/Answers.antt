@@ -2,7 +2,7 @@ use Rattle.std.proofs.Common.{◌++◌, map, append_assoc, append-nil, ap, sym, 
 use Rattle.key_index_flat.specs.Content.{item_count}
 use Rattle.key_index_parts.specs.Pairs.{grouped, list_of}
 use Rattle.key_index_parts.specs.Spread.{spread}
-use Rattle.key_index_parts.proofs.SpreadLemmas.{grouped-spread, next_list, next_rises}
+use Rattle.key_index_parts.proofs.family.SpreadLemmas.{grouped-spread, next_list, next_rises}
 use Rattle.key_index_parts.proofs.index.partitioned.ordered.spilling.fill_arrays.Goals as goal
 
 pub push_run-requires-clause-room : goal.push_run-requires-clause-room

@@ -2,8 +2,8 @@ use Rattle.std.proofs.Common.{◌≡◌, T, [], ◌∷◌, ◌++◌, is_some, ap
 use Rattle.std.specs.List.Sorted.{IsStrictlySortedBy}
 use Rattle.std.specs.Map.{keys_of}
 use Rattle.std.specs.Vec.Iter.{into_iter_items}
-use Rattle.key_index_parts.proofs.InstallLemmas.{no_items}
-use Rattle.key_index_parts.proofs.SpillLemmas.{keys_of-append, moved, no_keys}
+use Rattle.key_index_parts.proofs.family.InstallLemmas.{no_items}
+use Rattle.key_index_parts.proofs.standing.SpillLemmas.{keys_of-append, moved, no_keys}
 use Rattle.key_index_parts.proofs.index.partitioned.ordered.spilling.fill_tree.Goals as goal
 
 pub unreachable-requires : goal.unreachable-requires

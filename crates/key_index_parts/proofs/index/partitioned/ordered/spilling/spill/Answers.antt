@@ -1,10 +1,10 @@
 use Rattle.std.proofs.Common.{map, ap, sym, subst, ◌∙◌}
 use Rattle.std.specs.List.Sorted.{IsStrictlySortedBy}
 use Rattle.std.specs.Map.{keys_of}
-use Rattle.key_index_flat.specs.Content.{IsLawful}
+use Rattle.key_index_flat.specs.Content.{IsLawful, item_count}
 use Rattle.key_index_parts.specs.Pairs.{grouped, list_of}
-use Rattle.key_index_parts.specs.PairLaws.{IsLawful-grouped}
-use Rattle.key_index_parts.proofs.SpillLemmas.{keys-room, keys-list, rising}
+use Rattle.key_index_parts.specs.laws.PairLaws.{IsLawful-grouped}
+use Rattle.key_index_parts.proofs.standing.SpillLemmas.{keys-room, keys-list, rising}
 use Rattle.key_index_parts.proofs.index.partitioned.ordered.spilling.spill.Goals as goal
 
 pub with_keys-requires : goal.with_keys-requires
@@ -30,5 +30,8 @@ fill_tree-requires-clause-rising g c =
 
 pub of_lists-requires-2 : goal.of_lists-requires-2
 of_lists-requires-2 g c =
-    subst (λ l. IsLawful g.T.Key.Ord.cmp l) (sym (ap (λ es. map list_of es) c.fill_tree.ensures ∙ c.drain_into.ensures))
-    (IsLawful-grouped g.met.T.Key.Ord.total c.args.arrays.now.pairs.pairs)
+    let same = ap (λ es. map list_of es) c.fill_tree.ensures ∙ c.drain_into.ensures in
+    record {
+      lawful = subst (λ l. IsLawful g.T.Key.Ord.cmp l) (sym same) (IsLawful-grouped g.met.T.Key.Ord.total c.args.arrays.now.pairs.pairs);
+      counted = c.len-len.ensures ∙ ap item_count (sym same);
+    }

@@ -1,7 +1,7 @@
 use Rattle.std.proofs.Common.{◌≡◌, [], ◌∷◌, ◌++◌, append_assoc, ap, sym, subst, ◌∙◌}
 use Rattle.std.specs.List.Sorted.{IsStrictlySortedBy}
 use Rattle.std.specs.Map.{keys_of}
-use Rattle.key_index_parts.proofs.SpillLemmas.{below_mid, insert_last, keys_of-append}
+use Rattle.key_index_parts.proofs.standing.SpillLemmas.{below_mid, insert_last, keys_of-append}
 use Rattle.key_index_parts.proofs.index.partitioned.ordered.spilling.with_keys.Goals as goal
 
 pub runs-preserved : goal.runs-preserved

@@ -3,7 +3,7 @@ use Rattle.std.proofs.lemmas.Fn.{FoldsTo-push, called_at}
 use Rattle.std.proofs.lemmas.Option.{slice_get_read}
 use Rattle.std.specs.Fn.{CalledAt}
 use Rattle.key_index_flat.specs.Values.{VisitsInTurn}
-use Rattle.key_index_flat.proofs.Asked.{take-value}
+use Rattle.key_index_flat.proofs.asked.Asked.{take-value}
 use Rattle.key_index_parts.proofs.index.partitioned.ordered.tree.visit_list.Goals as goal
 
 pub loop-value-preserved : goal.loop-value-preserved

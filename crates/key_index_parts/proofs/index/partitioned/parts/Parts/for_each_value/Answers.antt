@@ -3,7 +3,7 @@ use Rattle.std.specs.Fn.{CalledAt}
 use Rattle.std.specs.List.{flat_map}
 use Rattle.key_index_flat.specs.Values.{values_of}
 use Rattle.key_index_parts.specs.Gathered.{gathered}
-use Rattle.key_index_parts.proofs.VisitLemmas.{Continues, continues, some_more, ended, values-gathered, none_left}
+use Rattle.key_index_parts.proofs.asked.VisitLemmas.{Continues, continues, some_more, ended, values-gathered, none_left}
 use Rattle.key_index_parts.proofs.index.partitioned.parts.Parts.for_each_value.Goals as goal
 
 pub loop-part-init : goal.loop-part-init

@@ -4,7 +4,7 @@ use Rattle.std.specs.List.{flat_map}
 use denote.Param.Always.{always_mut}
 use Rattle.key_index_flat.specs.Values.{values_of}
 use Rattle.key_index_parts.specs.Gathered.{gathered}
-use Rattle.key_index_parts.proofs.VisitLemmas.{Continues}
+use Rattle.key_index_parts.proofs.asked.VisitLemmas.{Continues}
 use Rattle.key_index_parts.proofs.index.partitioned.parts.Parts.for_each_value.Given as goal
 
 abbrev pub invariant-loop-part : goal.invariant-loop-part

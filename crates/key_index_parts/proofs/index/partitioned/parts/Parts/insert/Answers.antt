@@ -1,7 +1,8 @@
-use Rattle.std.proofs.Common.{true, not, ◌&&◌, ap, sym, ◌∙◌}
+use Rattle.std.proofs.Common.{if◌then◌else◌, true, not, ap, sym, ◌∙◌}
 use Rattle.key_index_flat.specs.Content.{is_filled, list_at}
 use Rattle.key_index_flat.specs.View.{put_value}
-use Rattle.key_index_parts.proofs.FamilyLemmas.{part_taken, list_told, part_edited, flags_edited, flags_stay, filled_put, grows, since, family_stays, listed}
+use Rattle.key_index_parts.proofs.family.FamilyLemmas.{part_taken, list_told, part_edited, flags_edited, flags_stay, filled_put, grows, newly, family_stays, listed}
+use Rattle.key_index_parts.proofs.family.FamilyLemmas.{counted_parts}
 use Rattle.key_index_parts.proofs.index.partitioned.parts.Parts.insert.Goals as goal
 
 pub invariant_of-self : goal.invariant_of-self
@@ -37,10 +38,10 @@ returns-in-Ok-clause-standing g c =
     let part = part_taken g.X.Held.content c.self.inside.parts.items (ap (λ s. s.contents) c.self.view_is) c.requires.within c.index_mut-part.ensures.value in
     rw (← c.self.view_is) (grows part g.X.Held.spilled g.X.Part.SPILLS c.args.limit c.insert.new.self c.in-Ok.ensures.standing)
 
-pub returns-in-Ok-clause-spilled : goal.returns-in-Ok-clause-spilled
-returns-in-Ok-clause-spilled g c =
+pub returns-in-Ok-clause-moved : goal.returns-in-Ok-clause-moved
+returns-in-Ok-clause-moved g c =
     let part = part_taken g.X.Held.content c.self.inside.parts.items (ap (λ s. s.contents) c.self.view_is) c.requires.within c.index_mut-part.ensures.value in
-    rw (← c.self.view_is) (c.has_become-spilled.ensures ∙ (λ i. not (c.is_spilled-was.ensures i) && c.is_spilled.ensures i) ∙ since part g.X.Held.spilled c.insert.new.self)
+    rw (← c.self.view_is) (c.newly_spilled-moved.ensures ∙ (λ i. if c.is_spilled-was.ensures i then 0 else c.spilled_len.ensures i) ∙ newly part g.X.Held.spilled c.insert.new.self)
 
 pub returns-in-Ok-clause-listed : goal.returns-in-Ok-clause-listed
 returns-in-Ok-clause-listed g c =
@@ -51,3 +52,9 @@ pub returns-in-Err-clause-listed : goal.returns-in-Err-clause-listed
 returns-in-Err-clause-listed g c =
     let part = part_taken g.X.Held.content c.self.inside.parts.items (ap (λ s. s.contents) c.self.view_is) c.requires.within c.index_mut-part.ensures.value in
     rw (← c.self.view_is) (listed part g.X.Held.spilled)
+
+pub returns-in-Ok-clause-counted : goal.returns-in-Ok-clause-counted
+returns-in-Ok-clause-counted g c = counted_parts g.X.Held.content g.X.Held.spilled _
+
+pub returns-in-Err-clause-counted : goal.returns-in-Err-clause-counted
+returns-in-Err-clause-counted g c = counted_parts g.X.Held.content g.X.Held.spilled _

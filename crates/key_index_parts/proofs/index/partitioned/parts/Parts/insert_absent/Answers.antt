@@ -1,6 +1,7 @@
-use Rattle.std.proofs.Common.{true, not, ◌&&◌, [], ◌∷◌, ap, sym, ◌∙◌}
+use Rattle.std.proofs.Common.{if◌then◌else◌, true, [], ◌∷◌, ap, sym, ◌∙◌}
 use Rattle.key_index_flat.specs.Content.{is_filled}
-use Rattle.key_index_parts.proofs.FamilyLemmas.{positive, part_taken, part_edited, flags_edited, flags_stay, filled_with, grows, since, since_none, family_stays, listed}
+use Rattle.key_index_parts.proofs.family.FamilyLemmas.{positive, part_taken, part_edited, flags_edited, flags_stay, filled_with, grows, newly, newly_none, family_stays, listed}
+use Rattle.key_index_parts.proofs.family.FamilyLemmas.{counted_parts}
 use Rattle.key_index_parts.proofs.index.partitioned.parts.Parts.insert_absent.Goals as goal
 
 pub invariant_of-self : goal.invariant_of-self
@@ -46,15 +47,15 @@ returns-in-Ok-eq0-clause-standing g c =
     let part = part_taken g.X.Held.content c.self.inside.parts.items (ap (λ s. s.contents) c.self.view_is) c.requires.within c.index_mut-part.ensures.value in
     λ _. rw (← c.self.view_is) (grows part g.X.Held.spilled g.X.Part.SPILLS c.args.limit c.insert_absent.new.self (c.in-Ok-eq0.ensures.standing c.in-Ok-eq0.field-0-test))
 
-pub returns-in-Ok-eq0-clause-spilled : goal.returns-in-Ok-eq0-clause-spilled
-returns-in-Ok-eq0-clause-spilled g c =
+pub returns-in-Ok-eq0-clause-moved : goal.returns-in-Ok-eq0-clause-moved
+returns-in-Ok-eq0-clause-moved g c =
     let part = part_taken g.X.Held.content c.self.inside.parts.items (ap (λ s. s.contents) c.self.view_is) c.requires.within c.index_mut-part.ensures.value in
-    rw (← c.self.view_is) (c.has_become-spilled.ensures ∙ (λ i. not (c.is_spilled-was.ensures i) && c.is_spilled.ensures i) ∙ since part g.X.Held.spilled c.insert_absent.new.self)
+    rw (← c.self.view_is) (c.newly_spilled-moved.ensures ∙ (λ i. if c.is_spilled-was.ensures i then 0 else c.spilled_len.ensures i) ∙ newly part g.X.Held.spilled c.insert_absent.new.self)
 
-pub returns-in-Ok-clause-spilled : goal.returns-in-Ok-clause-spilled
-returns-in-Ok-clause-spilled g c =
+pub returns-in-Ok-clause-moved : goal.returns-in-Ok-clause-moved
+returns-in-Ok-clause-moved g c =
     let part = part_taken g.X.Held.content c.self.inside.parts.items (ap (λ s. s.contents) c.self.view_is) c.requires.within c.index_mut-part.ensures.value in
-    rw (← c.self.view_is) (since_none part g.X.Held.spilled c.insert_absent.new.self (c.in-Ok.ensures.found_stands (positive _ c.in-Ok.len-test.1)))
+    rw (← c.self.view_is) (newly_none part g.X.Held.spilled c.insert_absent.new.self (c.in-Ok.ensures.found_stands (positive _ c.in-Ok.len-test.1)))
 
 pub returns-in-Ok-eq0-clause-listed : goal.returns-in-Ok-eq0-clause-listed
 returns-in-Ok-eq0-clause-listed g c =
@@ -70,3 +71,12 @@ pub returns-in-Err-clause-listed : goal.returns-in-Err-clause-listed
 returns-in-Err-clause-listed g c =
     let part = part_taken g.X.Held.content c.self.inside.parts.items (ap (λ s. s.contents) c.self.view_is) c.requires.within c.index_mut-part.ensures.value in
     rw (← c.self.view_is) (listed part g.X.Held.spilled)
+
+pub returns-in-Ok-eq0-clause-counted : goal.returns-in-Ok-eq0-clause-counted
+returns-in-Ok-eq0-clause-counted g c = counted_parts g.X.Held.content g.X.Held.spilled _
+
+pub returns-in-Ok-clause-counted : goal.returns-in-Ok-clause-counted
+returns-in-Ok-clause-counted g c = counted_parts g.X.Held.content g.X.Held.spilled _
+
+pub returns-in-Err-clause-counted : goal.returns-in-Err-clause-counted
+returns-in-Err-clause-counted g c = counted_parts g.X.Held.content g.X.Held.spilled _

@@ -1,6 +1,7 @@
 use Rattle.std.proofs.Common.{insert, true, not, ap, sym, ◌∙◌}
 use Rattle.key_index_flat.specs.Content.{is_filled, list_at}
-use Rattle.key_index_parts.proofs.FamilyLemmas.{part_taken, list_told, part_edited, flags_edited, flags_stay, filled_insert, leaves, family_stays}
+use Rattle.key_index_parts.proofs.family.FamilyLemmas.{part_taken, list_told, part_edited, flags_edited, flags_stay, filled_insert, leaves, family_stays}
+use Rattle.key_index_parts.proofs.family.FamilyLemmas.{counted_parts}
 use Rattle.key_index_parts.proofs.index.partitioned.parts.Parts.insert_at.Goals as goal
 
 pub invariant_of-self : goal.invariant_of-self
@@ -35,3 +36,9 @@ pub returns-in-Ok-clause-standing : goal.returns-in-Ok-clause-standing
 returns-in-Ok-clause-standing g c =
     let part = part_taken g.X.Held.content c.self.inside.parts.items (ap (λ s. s.contents) c.self.view_is) c.requires.within c.index_mut.ensures.value in
     rw (← c.self.view_is) (leaves part g.X.Held.spilled c.insert_at.new.self c.in-Ok.ensures.standing)
+
+pub returns-in-Ok-clause-counted : goal.returns-in-Ok-clause-counted
+returns-in-Ok-clause-counted g c = counted_parts g.X.Held.content g.X.Held.spilled _
+
+pub returns-in-Err-clause-counted : goal.returns-in-Err-clause-counted
+returns-in-Err-clause-counted g c = counted_parts g.X.Held.content g.X.Held.spilled _

@@ -3,7 +3,7 @@ use Rattle.std.proofs.lemmas.List.{length-map, length-set}
 use Rattle.std.specs.Vec.Iter.{into_iter_items}
 use Rattle.key_index_parts.specs.Family.{stands, with_items_from}
 use Rattle.key_index_parts.specs.Standing.{Standing}
-use Rattle.key_index_parts.proofs.InstallLemmas.{put_more, put_none, no_items}
+use Rattle.key_index_parts.proofs.family.InstallLemmas.{put_more, put_none, no_items}
 use Rattle.key_index_parts.proofs.index.partitioned.parts.Parts.install.Goals as goal
 
 pub loop-part-init : goal.loop-part-init

@@ -1,8 +1,8 @@
 use Rattle.std.proofs.Common.{None, ap, refl, subst, ◌∙◌}
 use Rattle.std.proofs.lemmas.Bool.{le-leb, leb-true}
 use Rattle.key_index_parts.specs.Family.{filled_parts}
-use Rattle.key_index_parts.specs.Filled.{IsFirst, IsFirstFrom, flag_at}
-use Rattle.key_index_parts.proofs.InstallLemmas.{free_none, free_far, free_near}
+use Rattle.key_index_parts.specs.Bitmap.{IsFirst, IsFirstFrom, flag_at}
+use Rattle.key_index_parts.proofs.family.InstallLemmas.{free_none, free_far, free_near}
 use Rattle.key_index_parts.proofs.index.partitioned.parts.Parts.is_free.Goals as goal
 
 pub returns-in-Some : goal.returns-in-Some

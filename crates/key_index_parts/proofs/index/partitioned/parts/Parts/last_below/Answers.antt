@@ -1,8 +1,8 @@
 use Rattle.std.proofs.Common.{◌≡◌, ℕ, ◌<◌, map, false, refl, sym, ap, subst, ◌∙◌}
 use Rattle.key_index_flat.specs.Neighbours.{last_list}
-use Rattle.key_index_parts.specs.Filled.{IsLast, flag_at}
-use Rattle.key_index_parts.proofs.FamilyLemmas.{part_taken, part_told}
-use Rattle.key_index_parts.proofs.FamilyNeighbours.{flag_within, last_of, last_none}
+use Rattle.key_index_parts.specs.Bitmap.{IsLast, flag_at}
+use Rattle.key_index_parts.proofs.family.FamilyLemmas.{part_taken, part_told}
+use Rattle.key_index_parts.proofs.family.FamilyNeighbours.{flag_within, last_of, last_none}
 use Rattle.key_index_parts.proofs.index.partitioned.parts.Parts.last_below.Goals as goal
 
 pub returns-in-Some : goal.returns-in-Some

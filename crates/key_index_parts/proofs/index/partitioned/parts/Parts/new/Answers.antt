@@ -2,7 +2,8 @@ use Rattle.std.proofs.Common.{◌≡◌, false, [], ◌∷◌, length, length-ap
 use Rattle.std.proofs.lemmas.List.Elements.{All-push}
 use Rattle.key_index_parts.specs.Family.{filled_parts, stands}
 use Rattle.key_index_parts.specs.Standing.{Standing}
-use Rattle.key_index_parts.proofs.FamilyLemmas.{all_alike, none_filled}
+use Rattle.key_index_parts.proofs.family.FamilyLemmas.{all_alike, none_filled}
+use Rattle.key_index_parts.proofs.family.FamilyLemmas.{counted_parts}
 use Rattle.key_index_parts.proofs.index.partitioned.parts.Parts.new.Goals as goal
 
 pub loop-preserved : goal.loop-preserved
@@ -36,3 +37,6 @@ returns-clause-standing g c =
     let end : c.loop.counter ≡ c.args.count = omega (arith, c.loop-test.false, c.loop.auto.counter-end) in
     all_alike (λ x. stands (g.X.Held.content x) (g.X.Held.spilled x)) (none) c.loop.parts.items c.loop.invariant.3
     ∙ ap (λ n. replicate n (none)) (c.loop.invariant.0 ∙ end)
+
+pub returns-clause-counted : goal.returns-clause-counted
+returns-clause-counted g c = counted_parts g.X.Held.content g.X.Held.spilled _

@@ -1,8 +1,8 @@
 use Rattle.std.proofs.Common.{◌≡◌, sym, ap, ◌∙◌}
 use Rattle.key_index_flat.specs.Neighbours.{entries_above, first_list}
 use Rattle.key_index_parts.specs.Family.{part_at}
-use Rattle.key_index_parts.proofs.FamilyLemmas.{part_taken, part_told}
-use Rattle.key_index_parts.proofs.FamilyNeighbours.{next_own, next_later, next_cycled}
+use Rattle.key_index_parts.proofs.family.FamilyLemmas.{part_taken, part_told}
+use Rattle.key_index_parts.proofs.family.FamilyNeighbours.{next_own, next_later, next_cycled}
 use Rattle.key_index_parts.proofs.index.partitioned.parts.Parts.next.Goals as goal
 
 pub returns-in-Some : goal.returns-in-Some

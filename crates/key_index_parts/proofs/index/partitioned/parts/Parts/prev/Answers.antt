@@ -1,8 +1,8 @@
 use Rattle.std.proofs.Common.{◌≡◌, sym, ap, ◌∙◌}
 use Rattle.key_index_flat.specs.Neighbours.{entries_below, last_list}
 use Rattle.key_index_parts.specs.Family.{part_at}
-use Rattle.key_index_parts.proofs.FamilyLemmas.{part_taken, part_told}
-use Rattle.key_index_parts.proofs.FamilyNeighbours.{prev_own, prev_earlier, prev_cycled}
+use Rattle.key_index_parts.proofs.family.FamilyLemmas.{part_taken, part_told}
+use Rattle.key_index_parts.proofs.family.FamilyNeighbours.{prev_own, prev_earlier, prev_cycled}
 use Rattle.key_index_parts.proofs.index.partitioned.parts.Parts.prev.Goals as goal
 
 pub returns-in-Some : goal.returns-in-Some

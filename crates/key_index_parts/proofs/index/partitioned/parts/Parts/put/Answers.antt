@@ -1,6 +1,6 @@
 use Rattle.std.proofs.Common.{◌∙◌, ap}
 use Rattle.std.proofs.lemmas.List.{map-set}
-use Rattle.key_index_parts.proofs.FamilyLemmas.{part_taken, not_not, flags_edited, listed}
+use Rattle.key_index_parts.proofs.family.FamilyLemmas.{part_taken, not_not, flags_edited, listed}
 use Rattle.key_index_parts.specs.Family.{stands}
 use Rattle.key_index_parts.proofs.index.partitioned.parts.Parts.put.Goals as goal
 

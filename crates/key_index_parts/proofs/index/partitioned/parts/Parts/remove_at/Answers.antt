@@ -1,5 +1,6 @@
 use Rattle.std.proofs.Common.{remove, ◌∙◌, ap}
-use Rattle.key_index_parts.proofs.FamilyLemmas.{held_within, part_taken, not_not, part_edited, flags_edited, leaves}
+use Rattle.key_index_parts.proofs.family.FamilyLemmas.{held_within, part_taken, not_not, part_edited, flags_edited, leaves}
+use Rattle.key_index_parts.proofs.family.FamilyLemmas.{counted_parts}
 use Rattle.key_index_parts.proofs.index.partitioned.parts.Parts.remove_at.Goals as goal
 
 pub invariant_of-self : goal.invariant_of-self
@@ -19,3 +20,6 @@ pub returns-clause-standing : goal.returns-clause-standing
 returns-clause-standing g c =
     let part = part_taken g.X.Held.content c.self.inside.parts.items (ap (λ s. s.contents) c.self.view_is) (held_within g.T.Key.Ord.cmp c.args.self.now.contents c.args.slot c.args.place c.requires) c.index_mut-part.ensures.value in
     rw (← c.self.view_is) (leaves part g.X.Held.spilled c.remove_at-removed.new.self c.remove_at-removed.ensures.standing)
+
+pub returns-clause-counted : goal.returns-clause-counted
+returns-clause-counted g c = counted_parts g.X.Held.content g.X.Held.spilled _

@@ -1,8 +1,9 @@
 use Rattle.std.proofs.Common.{subst, ◌∙◌, ap}
 use Rattle.std.specs.Fn.{CalledAt}
 use Rattle.std.specs.List.Retain.{IsFiltered}
-use Rattle.key_index_parts.proofs.FamilyLemmas.{part_taken, not_not, list_told, part_edited, flags_edited, leaves, left_fewer}
-use Rattle.key_index_parts.proofs.PartLemmas.{kept_at_most}
+use Rattle.key_index_parts.proofs.family.FamilyLemmas.{part_taken, not_not, list_told, part_edited, flags_edited, leaves, left_fewer}
+use Rattle.key_index_parts.proofs.family.PartLemmas.{kept_at_most}
+use Rattle.key_index_parts.proofs.family.FamilyLemmas.{counted_parts}
 use Rattle.key_index_parts.proofs.index.partitioned.parts.Parts.retain.Goals as goal
 
 pub invariant_of-self : goal.invariant_of-self
@@ -35,3 +36,6 @@ returns-clause-fewer g c =
     let kept = c.retain-counts.ensures.kept in
     rw (← c.self.view_is) (left_fewer part g.X.Held.spilled g.met.T.Key.Ord.total (g.met.X.Held.lawful x) c.retain-counts.new.self c.args.slot.1 kept.0 kept.2
     (kept_at_most (CalledAt g.F.FnMut) c.args.should_retain _ kept.0 kept.1))
+
+pub returns-clause-counted : goal.returns-clause-counted
+returns-clause-counted g c = counted_parts g.X.Held.content g.X.Held.spilled _

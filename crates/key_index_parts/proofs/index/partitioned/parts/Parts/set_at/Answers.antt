@@ -2,7 +2,8 @@ use Rattle.std.proofs.Common.{◌<◌, length, slice_set, ap, sym, subst, ◌∙
 use Rattle.std.proofs.Math.ListN.{length-set}
 use Rattle.key_index_flat.specs.Content.{is_filled, list_at}
 use Rattle.key_index_parts.specs.Family.{list_in}
-use Rattle.key_index_parts.proofs.FamilyLemmas.{held_within, part_taken, list_told, part_edited, flags_stay, filled_by, filled_held, leaves}
+use Rattle.key_index_parts.proofs.family.FamilyLemmas.{held_within, part_taken, list_told, part_edited, flags_stay, filled_by, filled_held, leaves}
+use Rattle.key_index_parts.proofs.family.FamilyLemmas.{counted_parts}
 use Rattle.key_index_parts.proofs.index.partitioned.parts.Parts.set_at.Goals as goal
 
 pub invariant_of-self : goal.invariant_of-self
@@ -29,3 +30,6 @@ pub returns-clause-standing : goal.returns-clause-standing
 returns-clause-standing g c =
     let part = part_taken g.X.Held.content c.self.inside.parts.items (ap (λ s. s.contents) c.self.view_is) (held_within g.T.Key.Ord.cmp c.args.self.now.contents c.args.slot c.args.place c.requires) c.index_mut.ensures.value in
     rw (← c.self.view_is) (leaves part g.X.Held.spilled c.set_at.new.self c.set_at.ensures.standing)
+
+pub returns-clause-counted : goal.returns-clause-counted
+returns-clause-counted g c = counted_parts g.X.Held.content g.X.Held.spilled _

@@ -4,8 +4,8 @@ use Rattle.key_index_flat.specs.Content.{item_count}
 use Rattle.key_index_parts.specs.Family.{view_from}
 use Rattle.key_index_parts.specs.Gathered.{gathered}
 use Rattle.key_index_parts.specs.Standing.{Refuses, Settles}
-use Rattle.key_index_parts.proofs.ShiftedLemmas.{if_ok, if_err, on_ok, on_err, items_from, read_from, seen_edited}
-use Rattle.key_index_parts.proofs.StandingLemmas.{left_standing}
+use Rattle.key_index_parts.proofs.family.ShiftedLemmas.{if_ok, if_err, on_ok, on_err, items_from, read_from, seen_edited}
+use Rattle.key_index_parts.proofs.standing.StandingLemmas.{left_standing}
 use Rattle.key_index_parts.proofs.index.partitioned.range.Range.insert_absent.Goals as goal
 
 pub returns-clause-inserted : goal.returns-clause-inserted

@@ -2,7 +2,7 @@ use Rattle.std.proofs.Common.{refl, ap, subst, inl, ◌&&◌}
 use Rattle.key_index_flat.specs.Fault.{IsWant}
 use Rattle.key_index_parts.specs.Family.{view_from}
 use Rattle.key_index_parts.specs.Standing.{Settles, is_reached}
-use Rattle.key_index_parts.proofs.ShiftedLemmas.{if_err, on_ok, on_err}
+use Rattle.key_index_parts.proofs.family.ShiftedLemmas.{if_err, on_ok, on_err}
 use Rattle.key_index_parts.proofs.index.partitioned.range.Range.settle.Goals as goal
 
 pub returns-clause-view : goal.returns-clause-view

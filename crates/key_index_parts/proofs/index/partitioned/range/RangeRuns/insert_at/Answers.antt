@@ -1,8 +1,8 @@
 use Rattle.std.proofs.Common.{refl, rules, arith, ◌+◌, ◌≤◌, ◌<◌, ◌^◌, ◌-◌, length, insert, ap, subst, sym, ◌∙◌}
 use Rattle.key_index_flat.specs.Fault.{growth_fault}
-use Rattle.key_index_parts.proofs.InstallLemmas.{within}
-use Rattle.key_index_parts.proofs.ShiftedLemmas.{if_err, on_ok, on_err, items_from, read_from, seen_edited}
-use Rattle.key_index_parts.proofs.StandingLemmas.{leaves_either}
+use Rattle.key_index_parts.proofs.family.InstallLemmas.{within}
+use Rattle.key_index_parts.proofs.family.ShiftedLemmas.{if_err, on_ok, on_err, items_from, read_from, seen_edited}
+use Rattle.key_index_parts.proofs.standing.StandingLemmas.{leaves_either}
 use Rattle.key_index_parts.proofs.index.partitioned.range.RangeRuns.insert_at.Goals as goal
 
 pub insert_at-requires : goal.insert_at-requires

@@ -1,6 +1,6 @@
-use Rattle.std.proofs.Common.{rules, arith}
+use Rattle.std.proofs.Common.{rules, refl, sym, true≢false, arith}
 use Rattle.key_index_parts.specs.Gathered.{pair_cmp}
-use Rattle.key_index_parts.proofs.ReachLemmas.{run_reached}
+use Rattle.key_index_parts.proofs.family.ReachLemmas.{run_reached}
 use Rattle.key_index_parts.proofs.index.partitioned.range.RangeSearch.search_or_insert.Goals as goal
 
 pub with_len-requires-clause-known : goal.with_len-requires-clause-known
@@ -22,3 +22,20 @@ returns-in-Ok g c = (
     fault = tt;
   },
 )
+
+pub returns-in-Ok-default-eq0 : goal.returns-in-Ok-default-eq0
+returns-in-Ok-default-eq0 g c =
+    let none = c.in-Ok-default-eq0.field-0-1-test in
+    let told = c.in-Ok-default-eq0.ensures.reached in (
+      (refl, λ _. tt, c.in-Ok-default-eq0.ensures.inserted none),
+      record {
+        rests = tt;
+        same_reference = tt;
+        found = tt;
+        start = tt;
+        held = (λ e. absurd (true≢false (sym e)), λ some. absurd (omega (arith, some, told.1, none)));
+        room = c.in-Ok-default-eq0.ensures.room;
+        returned = tt;
+        fault = tt;
+      },
+    )

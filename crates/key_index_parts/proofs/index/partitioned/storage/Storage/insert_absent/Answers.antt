@@ -3,7 +3,7 @@ use Rattle.key_index_flat.specs.Content.{item_count}
 use Rattle.key_index_parts.specs.Family.{GrowsTo, settled_in}
 use Rattle.key_index_parts.specs.Gathered.{gathered}
 use Rattle.key_index_parts.specs.Standing.{Settles, entries_at, with_entries}
-use Rattle.key_index_parts.proofs.StorageLemmas.{keeps_all, memory_fault}
+use Rattle.key_index_parts.proofs.family.StorageLemmas.{keeps_all, memory_fault}
 use Rattle.key_index_parts.proofs.index.partitioned.storage.Storage.insert_absent.Goals as goal
 
 pub returns-then-self-clause-kept : goal.returns-then-self-clause-kept
@@ -33,3 +33,9 @@ returns-in-Ok-put_absent-clause-settled g c = λ is.
       | zero ↦ λ found grown. grown refl ∙ (λ i. settled_in (is i) (with_entries (mid i) n (entries_at new.standings n)) n)
       | suc len ↦ λ found grown. subst (λ s. Settles old n s.standings) (sym (found (omega arith))) (c.in-Ok.ensures.settles is)
     ] c.in-Ok-put_absent.ensures.found c.in-Ok-put_absent.ensures.standing
+
+pub returns-in-Ok-put_absent-clause-bound : goal.returns-in-Ok-put_absent-clause-bound
+returns-in-Ok-put_absent-clause-bound g c = λ before. c.put_absent.ensures.bound (c.settle.ensures.bound before)
+
+pub returns-in-Ok-put_absent-clause-range_bound : goal.returns-in-Ok-put_absent-clause-range_bound
+returns-in-Ok-put_absent-clause-range_bound g c = λ before. c.put_absent.ensures.range_bound (c.settle.ensures.range_bound before)

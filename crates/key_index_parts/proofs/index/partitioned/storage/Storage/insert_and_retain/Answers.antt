@@ -1,10 +1,12 @@
-use Rattle.std.proofs.Common.{rules, ℕ, subst, ◌<◌, ◌^◌, refl, ap, ◌∙◌, arith}
+use Rattle.std.proofs.Common.{rules, ◌≡◌, ℕ, subst, sym, ◌<◌, ◌^◌, refl, ap, ◌∙◌, arith}
 use Rattle.std.specs.Fn.{CalledAt}
 use Rattle.key_index_flat.specs.Content.{item_count}
 use Rattle.key_index_flat.specs.View.{View, InsertsAndRetains}
-use Rattle.key_index_parts.specs.Family.{Kept, view_of}
+use Rattle.key_index_parts.specs.Family.{Kept, settled_in, view_of}
 use Rattle.key_index_parts.specs.Gathered.{gathered, pair_cmp}
-use Rattle.key_index_parts.proofs.StorageLemmas.{keeps_all, memory_fault}
+use Rattle.key_index_parts.specs.Standing.{entries_at, with_entries}
+use Rattle.key_index_parts.proofs.standing.StandingLemmas.{resettles}
+use Rattle.key_index_parts.proofs.family.StorageLemmas.{keeps_all, kept_twice, memory_fault}
 use Rattle.key_index_parts.proofs.index.partitioned.storage.Storage.insert_and_retain.Goals as goal
 
 pub returns-then-self-clause-kept : goal.returns-then-self-clause-kept
@@ -27,5 +29,29 @@ returns-in-Err-clause-fault g c =
 pub returns-in-Ok-put_and_retain-clause-accepted : goal.returns-in-Ok-put_and_retain-clause-accepted
 returns-in-Ok-put_and_retain-clause-accepted g c =
     let view : Kept _ _ _ → View _ _ = λ s. view_of g.row.P g.T.Translator.translated s in
-    subst (λ v. (taken : ℕ) × InsertsAndRetains (pair_cmp g.T.Key.Ord.cmp) (CalledAt g.F.FnMut) c.args.should_retain v c.args.slot c.args.value taken (view c.put_and_retain.new.self))
-    (ap view c.in-Ok.ensures.settled) c.in-Ok-put_and_retain.ensures.accepted
+    let now : view c.move_back.new.self ≡ view c.put_and_retain.new.self = ap view c.move_back.ensures.same in
+    subst (λ v. (taken : ℕ) × InsertsAndRetains (pair_cmp g.T.Key.Ord.cmp) (CalledAt g.F.FnMut) c.args.should_retain (view c.args.self.now) c.args.slot c.args.value taken v) (sym now)
+    (subst (λ v. (taken : ℕ) × InsertsAndRetains (pair_cmp g.T.Key.Ord.cmp) (CalledAt g.F.FnMut) c.args.should_retain v c.args.slot c.args.value taken (view c.put_and_retain.new.self))
+    (ap view c.in-Ok.ensures.settled) c.in-Ok-put_and_retain.ensures.accepted)
+
+pub returns-in-Ok-put_and_retain-clause-settled : goal.returns-in-Ok-put_and_retain-clause-settled
+returns-in-Ok-put_and_retain-clause-settled g c = λ is.
+    let old = c.args.self.now.standings in
+    let left = c.put_and_retain.new.self.standings in
+    let n = c.args.slot.0 in
+    let raised = ap (λ s. s.standings) c.in-Ok.ensures.settled ∙ ap (λ b. settled_in b old n) is in
+    resettles old left c.move_back.new.self.standings n c.in-Ok.ensures.within
+    (c.in-Ok-put_and_retain.ensures.standing ∙ (λ i. settled_in (is i) (with_entries (raised i) n (entries_at left n)) n))
+    c.move_back.ensures.back
+
+pub returns-in-Ok-put_and_retain-clause-kept : goal.returns-in-Ok-put_and_retain-clause-kept
+returns-in-Ok-put_and_retain-clause-kept g c =
+    let cmp = g.T.Key.Ord.cmp in
+    kept_twice cmp _ _ _ (kept_twice cmp _ _ _ c.settle.ensures.kept c.put_and_retain.ensures.kept) c.move_back.ensures.kept
+
+pub returns-in-Ok-put_and_retain-clause-bound : goal.returns-in-Ok-put_and_retain-clause-bound
+returns-in-Ok-put_and_retain-clause-bound g c = λ before.
+    c.move_back.ensures.bound (c.put_and_retain.ensures.bound (c.settle.ensures.bound before))
+
+pub returns-in-Err-clause-bound : goal.returns-in-Err-clause-bound
+returns-in-Err-clause-bound g c = λ before. c.put_and_retain.ensures.bound (c.settle.ensures.bound before)

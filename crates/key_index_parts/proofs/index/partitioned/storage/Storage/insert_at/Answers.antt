@@ -1,7 +1,10 @@
-use Rattle.std.proofs.Common.{rules, ◌<◌, ◌≤◌, ◌^◌, length, insert, refl, subst, sym, ap, arith}
+use Rattle.std.proofs.Common.{◌∙◌, rules, ◌<◌, ◌≤◌, ◌^◌, length, insert, refl, subst, sym, ap, arith}
 use Rattle.std.proofs.lemmas.List.Edits.{length-insert}
 use Rattle.key_index_parts.specs.Family.{held_at, list_in}
-use Rattle.key_index_parts.proofs.StorageLemmas.{list_is, within, keys_below, counted_gain, keeps, keeps_all, view_edited}
+use Rattle.key_index_parts.proofs.family.StorageLemmas.{list_is, within, keys_below, counted_gain, keeps, keeps_all, view_edited}
+use Rattle.key_index_parts.proofs.standing.MoveLemmas.{credit_pays, range_pays}
+use Rattle.key_index_parts.proofs.standing.PaidLemmas.{edit_paid}
+use Rattle.key_index_parts.proofs.standing.StandingLemmas.{none_more}
 use Rattle.key_index_parts.proofs.index.partitioned.storage.Storage.insert_at.Goals as goal
 
 pub insert_at-requires : goal.insert_at-requires
@@ -42,3 +45,19 @@ returns-in-Ok-clause-kept g c =
 
 pub returns-in-Err-clause-kept : goal.returns-in-Err-clause-kept
 returns-in-Err-clause-kept g c = rw (← c.self.view_is) (keeps_all c.self.invariant _ (ap (λ s. s.contents) c.in-Err.ensures.refused))
+
+pub returns-in-Ok-clause-bound : goal.returns-in-Ok-clause-bound
+returns-in-Ok-clause-bound g c =
+    let list = list_in g.T.Key.Ord.cmp c.self.inside.parts.contents c.args.slot in
+    let inside = within c.self.view_is c.args.slot.0 c.requires.admits in
+    let seen = subst (λ s. c.args.place ≤ length (held_at g.T.Key.Ord.cmp s.parts c.args.slot)) (sym c.self.view_is) c.requires.place in
+    let more = length-insert list c.args.place c.args.value (subst (λ l. c.args.place ≤ length l) (list_is c.self.invariant c.args.slot) seen) in
+    rw (← c.self.view_is) (edit_paid c.self.invariant g.met.T.Key.Ord.total c.args.slot (insert list c.args.place c.args.value) c.insert_at.new.self.contents inside c.in-Ok.ensures.accepted.0 c.self.inside.parts.standing _ c.self.inside.told c.insert_at.ensures.counted c.self.inside.threshold c.self.inside.moves.spills c.self.inside.moves.moved c.self.inside.counts.pruned _ 0 (omega (arith, more)) (c.gain.ensures.pruned ∙ sym (none_more c.self.inside.counts.pruned)) credit_pays c.in-Ok.ensures.standing)
+
+pub returns-in-Ok-clause-range_bound : goal.returns-in-Ok-clause-range_bound
+returns-in-Ok-clause-range_bound g c =
+    let list = list_in g.T.Key.Ord.cmp c.self.inside.parts.contents c.args.slot in
+    let inside = within c.self.view_is c.args.slot.0 c.requires.admits in
+    let seen = subst (λ s. c.args.place ≤ length (held_at g.T.Key.Ord.cmp s.parts c.args.slot)) (sym c.self.view_is) c.requires.place in
+    let more = length-insert list c.args.place c.args.value (subst (λ l. c.args.place ≤ length l) (list_is c.self.invariant c.args.slot) seen) in
+    rw (← c.self.view_is) (edit_paid c.self.invariant g.met.T.Key.Ord.total c.args.slot (insert list c.args.place c.args.value) c.insert_at.new.self.contents inside c.in-Ok.ensures.accepted.0 c.self.inside.parts.standing _ c.self.inside.told c.insert_at.ensures.counted c.self.inside.threshold c.self.inside.moves.spills c.self.inside.moves.moved c.self.inside.counts.pruned _ 0 (omega (arith, more)) (c.gain.ensures.pruned ∙ sym (none_more c.self.inside.counts.pruned)) range_pays c.in-Ok.ensures.standing)

@@ -1,6 +1,12 @@
-use Rattle.std.proofs.Common.{arith}
-use Rattle.key_index_parts.proofs.InstallLemmas as put
-use Rattle.key_index_parts.proofs.StorageLemmas as of_storage
+use Rattle.std.proofs.Common.{◌≡◌, ℕ, ◌+◌, ◌<◌, ◌≤◌, List, map, length, ap, subst, sym, ◌∙◌, arith}
+use Rattle.key_index_flat.specs.Content.{item_count}
+use Rattle.key_index_flat.specs.View.{pruned_after}
+use Rattle.key_index_parts.specs.Moves.{IsWithin}
+use Rattle.key_index_parts.specs.Standing.{Standing, Standings, standing_in}
+use Rattle.key_index_parts.proofs.family.InstallLemmas as put
+use Rattle.key_index_parts.proofs.standing.MoveLemmas.{install_within}
+use Rattle.key_index_parts.proofs.standing.PaidLemmas.{counted_joined, counted_size, free_entries}
+use Rattle.key_index_parts.proofs.family.StorageLemmas as of_storage
 use Rattle.key_index_parts.proofs.index.partitioned.storage.Storage.install.Goals as goal
 
 pub join-requires : goal.join-requires
@@ -16,6 +22,14 @@ pub install-requires-clause-most : goal.install-requires-clause-most
 install-requires-clause-most g c =
     let most = of_storage.at_most_three g.row.P c.self.invariant.greatest in
     let sized = c.self.invariant.sized in omega (arith, most, sized)
+
+pub invariant_of-self-inside : goal.invariant_of-self-inside
+invariant_of-self-inside g c =
+    let own = c.self.inside in
+    let other = c.range.inside in
+    let joined = counted_joined own.parts.contents other.parts.contents own.parts.standing other.parts.standing c.args.first own.told other.told in
+    let entries : List Standing → List ℕ = λ ps. map (λ p. p.entries) ps in
+    (own.least, (ap entries c.install.ensures.standing ∙ joined ∙ ap (λ cs. map (λ d. item_count d) cs) (sym c.install.ensures.parts), tt))
 
 pub invariant_of-self : goal.invariant_of-self
 invariant_of-self g c =
@@ -42,3 +56,24 @@ returns-clause-kept g c =
     let fits = put.fits_inside cmp start c.self.view_is c.range.view_is c.requires.fits in
     let free = put.free_inside cmp start c.self.view_is c.range.view_is c.requires.free in
     rw (← c.self.view_is) (put.keeps g.met.T.Key.Ord.total g.met.T.Translator.exact c.self.invariant c.range.invariant start fits free c.install.new.self.contents c.install.ensures.parts)
+
+pub returns-clause-bound : goal.returns-clause-bound
+returns-clause-bound g c =
+    let cmp = g.T.Key.Ord.cmp in
+    let start = c.args.first in
+    let own = c.self.inside in
+    let other = c.range.inside in
+    let fits = put.fits_inside cmp start c.self.view_is c.range.view_is c.requires.fits in
+    let free = put.free_inside cmp start c.self.view_is c.range.view_is c.requires.free in
+    let gap = put.free_parts g.met.T.Key.Ord.total g.met.T.Translator.exact own.parts.contents start (length other.parts.contents) c.self.invariant.each free in
+    let size = counted_size own.parts.contents own.parts.standing own.told in
+    let more = counted_size other.parts.contents other.parts.standing other.told in
+    let old : Standings = record { threshold = own.threshold; parts = own.parts.standing; spills = own.moves.spills; moved = own.moves.moved } in
+    let range : Standings = record { threshold = other.threshold; parts = other.parts.standing; spills = other.moves.spills; moved = other.moves.moved } in
+    let none : (n : ℕ) → start ≤ n → n < start + length other.parts.standing → (standing_in own.parts.standing n).entries ≡ 0 = λ n from upto.
+    free_entries own.parts.contents own.parts.standing own.told start (length other.parts.contents) fits gap n from (omega (arith, upto, more)) in
+    rw (← c.self.view_is) (rw (← c.range.view_is) (λ apart before.
+    subst (λ q. IsWithin (record { threshold = own.threshold; parts = c.install.new.self.standing; spills = c.join-2.new.self.spills; moved = c.join-2.new.self.moved }) q) (sym c.join.ensures.pruned)
+    (subst (λ s. IsWithin s (pruned_after own.counts.pruned other.counts.pruned))
+    (sym (λ i. record { threshold = own.threshold; parts = c.install.ensures.standing i; spills = c.join-2.ensures.spills i; moved = c.join-2.ensures.moved i }))
+    (install_within old range start own.counts.pruned other.counts.pruned (omega (arith, fits, size, more)) none before apart))))

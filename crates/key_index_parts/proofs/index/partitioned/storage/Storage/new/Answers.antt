@@ -2,7 +2,7 @@ use Rattle.std.proofs.Common.{[], sym, subst, ap, length, ◌∙◌, arith}
 use Rattle.std.proofs.lemmas.List.{length-replicate}
 use Rattle.key_index_flat.specs.Content.{IsLawful}
 use Rattle.key_index_parts.specs.Gathered.{pair_cmp}
-use Rattle.key_index_parts.proofs.StorageLemmas.{at_most_three, none_held, none_counted}
+use Rattle.key_index_parts.proofs.family.StorageLemmas.{at_most_three, none_held, none_counted}
 use Rattle.key_index_parts.proofs.index.partitioned.storage.Storage.new.Goals as goal
 
 pub new-requires : goal.new-requires

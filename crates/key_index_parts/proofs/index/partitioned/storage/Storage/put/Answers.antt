@@ -1,12 +1,12 @@
-use Rattle.std.proofs.Common.{◌∙◌, refl, arith, ap}
+use Rattle.std.proofs.Common.{sym, ◌∙◌, refl, arith, ap}
 use Rattle.key_index_flat.specs.View.{put_value}
 use Rattle.key_index_parts.specs.Family.{list_in}
 use Rattle.key_index_flat.specs.Content.{item_count}
 use Rattle.key_index_parts.specs.Gathered.{gathered}
-use Rattle.key_index_parts.proofs.StorageLemmas.{within, keys_below, length-put_value, counted_gain, keeps, keeps_all, view_edited}
-use Rattle.key_index_flat.specs.View.{pruned_after}
-use Rattle.key_index_parts.specs.Counts.{one_if}
-use Rattle.key_index_parts.proofs.StandingLemmas.{grows_to}
+use Rattle.key_index_parts.proofs.family.StorageLemmas.{within, keys_below, length-put_value, counted_gain, keeps, keeps_all, view_edited}
+use Rattle.key_index_parts.proofs.standing.StandingLemmas.{grows_to, none_more}
+use Rattle.key_index_parts.proofs.standing.MoveLemmas.{credit_pays}
+use Rattle.key_index_parts.proofs.standing.PaidLemmas.{growth_paid}
 use Rattle.key_index_parts.proofs.index.partitioned.storage.Storage.put.Goals as goal
 
 pub insert-requires : goal.insert-requires
@@ -44,4 +44,11 @@ returns-in-Err-clause-kept g c = rw (← c.self.view_is) (keeps_all c.self.invar
 
 pub returns-in-Ok-clause-standing : goal.returns-in-Ok-clause-standing
 returns-in-Ok-clause-standing g c =
-    rw (← c.self.view_is) (grows_to g.X.Part.SPILLS (record { threshold = c.self.inside.threshold; parts = c.self.inside.parts.standing; spills = c.self.inside.spills }) _ c.args.slot.0 c.in-Ok.ensures.listed c.self.inside.least refl c.in-Ok.ensures.standing (c.count_if-self-inside.ensures ∙ ap (λ b. pruned_after c.self.inside.spills (one_if b)) c.in-Ok.ensures.spilled))
+    rw (← c.self.view_is) (grows_to g.X.Part.SPILLS (record { threshold = c.self.inside.threshold; parts = c.self.inside.parts.standing; spills = c.self.inside.moves.spills; moved = c.self.inside.moves.moved }) _ c.args.slot.0 c.in-Ok.ensures.listed c.self.inside.least refl c.in-Ok.ensures.standing _ c.in-Ok.ensures.moved c.spill.ensures.spills c.spill.ensures.moved)
+
+pub returns-in-Ok-clause-bound : goal.returns-in-Ok-clause-bound
+returns-in-Ok-clause-bound g c =
+    let list = list_in g.T.Key.Ord.cmp c.self.inside.parts.contents c.args.slot in
+    let inside = within c.self.view_is c.args.slot.0 c.requires.within in
+    let more = length-put_value g.X.Part.FIRST c.args.value list in
+    rw (← c.self.view_is) (growth_paid c.self.invariant g.met.T.Key.Ord.total c.args.slot (put_value g.X.Part.FIRST c.args.value list) c.insert.new.self.contents inside c.in-Ok.ensures.accepted.0 c.self.inside.parts.standing _ c.self.inside.told c.insert.ensures.counted c.self.inside.threshold c.self.inside.moves.spills c.self.inside.moves.moved c.self.inside.counts.pruned _ 0 (omega (arith, more)) (c.gain.ensures.pruned ∙ sym (none_more c.self.inside.counts.pruned)) credit_pays g.X.Part.SPILLS _ _ (grows_to g.X.Part.SPILLS (record { threshold = c.self.inside.threshold; parts = c.self.inside.parts.standing; spills = c.self.inside.moves.spills; moved = c.self.inside.moves.moved }) _ c.args.slot.0 c.in-Ok.ensures.listed c.self.inside.least refl c.in-Ok.ensures.standing _ c.in-Ok.ensures.moved c.spill.ensures.spills c.spill.ensures.moved))

@@ -1,13 +1,13 @@
 use Rattle.std.proofs.Common.{◌≡◌, [], ◌∷◌, length, not, true, refl, ap, sym, ◌∙◌, arith}
 use Rattle.key_index_flat.specs.Content.{is_filled}
 use Rattle.key_index_parts.specs.Family.{list_in}
-use Rattle.key_index_parts.proofs.InstallLemmas.{no_items}
+use Rattle.key_index_parts.proofs.family.InstallLemmas.{no_items}
 use Rattle.key_index_flat.specs.Content.{item_count}
 use Rattle.key_index_parts.specs.Gathered.{gathered}
-use Rattle.key_index_parts.proofs.StorageLemmas.{list_is, within, keys_below, counted_gain, keeps, keeps_all, view_edited}
-use Rattle.key_index_flat.specs.View.{pruned_after}
-use Rattle.key_index_parts.specs.Counts.{one_if}
-use Rattle.key_index_parts.proofs.StandingLemmas.{grows_to}
+use Rattle.key_index_parts.proofs.family.StorageLemmas.{list_is, within, keys_below, counted_gain, keeps, keeps_all, view_edited}
+use Rattle.key_index_parts.proofs.standing.StandingLemmas.{grows_to, none_more}
+use Rattle.key_index_parts.proofs.standing.MoveLemmas.{credit_pays, range_pays}
+use Rattle.key_index_parts.proofs.standing.PaidLemmas.{growth_paid}
 use Rattle.key_index_parts.proofs.index.partitioned.storage.Storage.put_absent.Goals as goal
 
 pub insert_absent-requires : goal.insert_absent-requires
@@ -59,5 +59,21 @@ returns-in-Err-clause-kept g c = rw (← c.self.view_is) (keeps_all c.self.invar
 
 pub returns-in-Ok-eq0-default-clause-standing : goal.returns-in-Ok-eq0-default-clause-standing
 returns-in-Ok-eq0-default-clause-standing g c =
-    rw (← c.self.view_is) (λ _. grows_to g.X.Part.SPILLS (record { threshold = c.self.inside.threshold; parts = c.self.inside.parts.standing; spills = c.self.inside.spills }) _ c.args.slot.0 c.in-Ok-eq0-default.ensures.listed c.self.inside.least refl
-    (c.in-Ok-eq0-default.ensures.standing c.in-Ok-eq0-default.field-0-0-test) (c.count_if-self-inside.ensures ∙ ap (λ b. pruned_after c.self.inside.spills (one_if b)) c.in-Ok-eq0-default.ensures.spilled))
+    rw (← c.self.view_is) (λ _. grows_to g.X.Part.SPILLS (record { threshold = c.self.inside.threshold; parts = c.self.inside.parts.standing; spills = c.self.inside.moves.spills; moved = c.self.inside.moves.moved }) _ c.args.slot.0 c.in-Ok-eq0-default.ensures.listed c.self.inside.least refl
+    (c.in-Ok-eq0-default.ensures.standing c.in-Ok-eq0-default.field-0-0-test) _ c.in-Ok-eq0-default.ensures.moved c.spill.ensures.spills c.spill.ensures.moved)
+
+pub returns-in-Ok-eq0-default-clause-bound : goal.returns-in-Ok-eq0-default-clause-bound
+returns-in-Ok-eq0-default-clause-bound g c =
+    let list = list_in g.T.Key.Ord.cmp c.self.inside.parts.contents c.args.slot in
+    let inside = within c.self.view_is c.args.slot.0 c.requires.within in
+    let zero = c.in-Ok-eq0-default.field-0-0-test in
+    let none : length list ≡ 0 = sym c.in-Ok-eq0-default.ensures.len ∙ zero in
+    rw (← c.self.view_is) (growth_paid c.self.invariant g.met.T.Key.Ord.total c.args.slot (c.args.value ∷ []) c.insert_absent.new.self.contents inside (c.in-Ok-eq0-default.ensures.inserted zero) c.self.inside.parts.standing _ c.self.inside.told c.insert_absent.ensures.counted c.self.inside.threshold c.self.inside.moves.spills c.self.inside.moves.moved c.self.inside.counts.pruned _ 0 (omega (arith, none)) (c.gain.ensures.pruned ∙ sym (none_more c.self.inside.counts.pruned)) credit_pays g.X.Part.SPILLS _ _ (grows_to g.X.Part.SPILLS (record { threshold = c.self.inside.threshold; parts = c.self.inside.parts.standing; spills = c.self.inside.moves.spills; moved = c.self.inside.moves.moved }) _ c.args.slot.0 c.in-Ok-eq0-default.ensures.listed c.self.inside.least refl (c.in-Ok-eq0-default.ensures.standing zero) _ c.in-Ok-eq0-default.ensures.moved c.spill.ensures.spills c.spill.ensures.moved))
+
+pub returns-in-Ok-eq0-default-clause-range_bound : goal.returns-in-Ok-eq0-default-clause-range_bound
+returns-in-Ok-eq0-default-clause-range_bound g c =
+    let list = list_in g.T.Key.Ord.cmp c.self.inside.parts.contents c.args.slot in
+    let inside = within c.self.view_is c.args.slot.0 c.requires.within in
+    let zero = c.in-Ok-eq0-default.field-0-0-test in
+    let none : length list ≡ 0 = sym c.in-Ok-eq0-default.ensures.len ∙ zero in
+    rw (← c.self.view_is) (growth_paid c.self.invariant g.met.T.Key.Ord.total c.args.slot (c.args.value ∷ []) c.insert_absent.new.self.contents inside (c.in-Ok-eq0-default.ensures.inserted zero) c.self.inside.parts.standing _ c.self.inside.told c.insert_absent.ensures.counted c.self.inside.threshold c.self.inside.moves.spills c.self.inside.moves.moved c.self.inside.counts.pruned _ 0 (omega (arith, none)) (c.gain.ensures.pruned ∙ sym (none_more c.self.inside.counts.pruned)) range_pays g.X.Part.SPILLS _ _ (grows_to g.X.Part.SPILLS (record { threshold = c.self.inside.threshold; parts = c.self.inside.parts.standing; spills = c.self.inside.moves.spills; moved = c.self.inside.moves.moved }) _ c.args.slot.0 c.in-Ok-eq0-default.ensures.listed c.self.inside.least refl (c.in-Ok-eq0-default.ensures.standing zero) _ c.in-Ok-eq0-default.ensures.moved c.spill.ensures.spills c.spill.ensures.moved))

@@ -1,7 +1,9 @@
 use Rattle.std.proofs.Common.{rules, ◌≡◌, ◌<◌, ◌^◌, Some, length, slice_get, remove, refl, subst, sym, arith}
 use Rattle.std.proofs.lemmas.List.Edits.{length-remove}
 use Rattle.key_index_parts.specs.Family.{held_at, list_in}
-use Rattle.key_index_parts.proofs.StorageLemmas.{list_is, held_inside, items_within, can_change, counted_change, keeps, view_pruned}
+use Rattle.key_index_parts.proofs.family.StorageLemmas.{list_is, held_inside, items_within, can_change, counted_change, keeps, view_pruned}
+use Rattle.key_index_parts.proofs.standing.MoveLemmas.{credit_pays, range_pays}
+use Rattle.key_index_parts.proofs.standing.PaidLemmas.{edit_paid}
 use Rattle.key_index_parts.proofs.index.partitioned.storage.Storage.remove_at.Goals as goal
 
 pub remove_at-value-requires : goal.remove_at-value-requires
@@ -55,3 +57,21 @@ returns-clause-kept g c =
     let seen = subst (λ s. c.args.place < length (held_at g.T.Key.Ord.cmp s.parts c.args.slot)) (sym c.self.view_is) c.requires in
     let inside = held_inside c.self.invariant c.args.slot c.args.place seen in
     rw (← c.self.view_is) (keeps c.self.invariant g.met.T.Key.Ord.total g.met.T.Translator.exact c.args.slot _ c.remove_at-value.new.self.contents inside c.remove_at-value.ensures.parts)
+
+pub returns-clause-bound : goal.returns-clause-bound
+returns-clause-bound g c =
+    let seen = subst (λ s. c.args.place < length (held_at g.T.Key.Ord.cmp s.parts c.args.slot)) (sym c.self.view_is) c.requires in
+    let inside = held_inside c.self.invariant c.args.slot c.args.place seen in
+    let list = list_in g.T.Key.Ord.cmp c.self.inside.parts.contents c.args.slot in
+    let place : c.args.place < length list = subst (λ m. c.args.place < length m) (list_is c.self.invariant c.args.slot) seen in
+    let less = length-remove list c.args.place place in
+    rw (← c.self.view_is) (edit_paid c.self.invariant g.met.T.Key.Ord.total c.args.slot (remove list c.args.place) c.remove_at-value.new.self.contents inside c.remove_at-value.ensures.parts c.self.inside.parts.standing _ c.self.inside.told c.remove_at-value.ensures.counted c.self.inside.threshold c.self.inside.moves.spills c.self.inside.moves.moved c.self.inside.counts.pruned _ 1 (omega (arith, less, place)) c.change.ensures.pruned credit_pays c.remove_at-value.ensures.standing)
+
+pub returns-clause-range_bound : goal.returns-clause-range_bound
+returns-clause-range_bound g c =
+    let seen = subst (λ s. c.args.place < length (held_at g.T.Key.Ord.cmp s.parts c.args.slot)) (sym c.self.view_is) c.requires in
+    let inside = held_inside c.self.invariant c.args.slot c.args.place seen in
+    let list = list_in g.T.Key.Ord.cmp c.self.inside.parts.contents c.args.slot in
+    let place : c.args.place < length list = subst (λ m. c.args.place < length m) (list_is c.self.invariant c.args.slot) seen in
+    let less = length-remove list c.args.place place in
+    rw (← c.self.view_is) (edit_paid c.self.invariant g.met.T.Key.Ord.total c.args.slot (remove list c.args.place) c.remove_at-value.new.self.contents inside c.remove_at-value.ensures.parts c.self.inside.parts.standing _ c.self.inside.told c.remove_at-value.ensures.counted c.self.inside.threshold c.self.inside.moves.spills c.self.inside.moves.moved c.self.inside.counts.pruned _ 1 (omega (arith, less, place)) c.change.ensures.pruned range_pays c.remove_at-value.ensures.standing)

@@ -1,23 +1,34 @@
-use Rattle.std.proofs.Common.{◌≤◌, ap, subst, ◌∙◌}
+use Rattle.std.proofs.Common.{◌≡◌, ◌≤◌, ap, subst, sym, ◌∙◌}
 use Rattle.std.specs.Fn.{CalledAt}
 use Rattle.key_index_flat.specs.View.{View, Retains}
 use Rattle.key_index_parts.specs.Family.{Kept, settled_in, view_of}
 use Rattle.key_index_parts.specs.Gathered.{pair_cmp}
 use Rattle.key_index_parts.specs.Standing.{Leaves, entries_at}
-use Rattle.key_index_parts.proofs.StandingLemmas.{settles_edit}
+use Rattle.key_index_parts.proofs.standing.StandingLemmas.{resettles, settles_edit}
+use Rattle.key_index_parts.proofs.family.StorageLemmas.{kept_twice}
 use Rattle.key_index_parts.proofs.index.partitioned.storage.Storage.retain.Goals as goal
 
 pub returns-in-Ok-clause-retained : goal.returns-in-Ok-clause-retained
 returns-in-Ok-clause-retained g c =
     let view : Kept _ _ _ → View _ _ = λ s. view_of g.row.P g.T.Translator.translated s in
-    subst (λ v. Retains (pair_cmp g.T.Key.Ord.cmp) (CalledAt g.F.FnMut) c.args.should_retain v c.args.slot (view c.retain_in_part.new.self))
-    (ap view c.in-Ok.ensures.settled) c.retain_in_part.ensures.retained
+    let now : view c.move_back.new.self ≡ view c.retain_in_part.new.self = ap view c.move_back.ensures.same in
+    subst (λ v. Retains (pair_cmp g.T.Key.Ord.cmp) (CalledAt g.F.FnMut) c.args.should_retain (view c.args.self.now) c.args.slot v) (sym now)
+    (subst (λ v. Retains (pair_cmp g.T.Key.Ord.cmp) (CalledAt g.F.FnMut) c.args.should_retain v c.args.slot (view c.retain_in_part.new.self))
+    (ap view c.in-Ok.ensures.settled) c.retain_in_part.ensures.retained)
 
 pub returns-in-Ok-clause-settled : goal.returns-in-Ok-clause-settled
 returns-in-Ok-clause-settled g c = λ is.
     let old = c.args.self.now.standings in
+    let left = c.retain_in_part.new.self.standings in
     let n = c.args.slot.0 in
-    let mid = ap (λ s. s.standings) c.in-Ok.ensures.settled ∙ ap (λ b. settled_in b old n) is in
-    settles_edit old n c.in-Ok.ensures.within c.in-Ok.ensures.least c.retain_in_part.new.self.standings
-    (subst (λ s. Leaves s n c.retain_in_part.new.self.standings) mid c.retain_in_part.ensures.standing)
-    (subst (λ s. entries_at c.retain_in_part.new.self.standings n ≤ entries_at s n) mid c.retain_in_part.ensures.fewer)
+    let raised = ap (λ s. s.standings) c.in-Ok.ensures.settled ∙ ap (λ b. settled_in b old n) is in
+    resettles old left c.move_back.new.self.standings n c.in-Ok.ensures.within
+    (settles_edit old n c.in-Ok.ensures.within c.in-Ok.ensures.least left
+    (subst (λ s. Leaves s n left) raised c.retain_in_part.ensures.standing)
+    (subst (λ s. entries_at left n ≤ entries_at s n) raised c.retain_in_part.ensures.fewer))
+    c.move_back.ensures.back
+
+pub returns-in-Ok-clause-kept : goal.returns-in-Ok-clause-kept
+returns-in-Ok-clause-kept g c =
+    let cmp = g.T.Key.Ord.cmp in
+    kept_twice cmp _ _ _ (kept_twice cmp _ _ _ c.settle.ensures.kept c.retain_in_part.ensures.kept) c.move_back.ensures.kept

@@ -3,8 +3,10 @@ use Rattle.std.specs.Fn.{CalledAt}
 use Rattle.std.specs.List.Retain.{IsFiltered}
 use Rattle.key_index_flat.specs.View.{pruned_after}
 use Rattle.key_index_parts.specs.Family.{held_at, list_in}
-use Rattle.key_index_parts.proofs.PartLemmas.{kept_at_most}
-use Rattle.key_index_parts.proofs.StorageLemmas.{list_is, within, can_change, counted_change, keeps, view_pruned}
+use Rattle.key_index_parts.proofs.family.PartLemmas.{kept_at_most}
+use Rattle.key_index_parts.proofs.family.StorageLemmas.{list_is, within, can_change, counted_change, keeps, view_pruned}
+use Rattle.key_index_parts.proofs.standing.MoveLemmas.{credit_pays}
+use Rattle.key_index_parts.proofs.standing.PaidLemmas.{edit_paid}
 use Rattle.key_index_parts.proofs.index.partitioned.storage.Storage.retain_in_part.Goals as goal
 
 pub retain-had-requires-clause-within : goal.retain-had-requires-clause-within
@@ -51,3 +53,10 @@ pub returns-clause-kept : goal.returns-clause-kept
 returns-clause-kept g c =
     let inside = within c.self.view_is c.args.slot.0 c.requires.within in
     rw (← c.self.view_is) (keeps c.self.invariant g.met.T.Key.Ord.total g.met.T.Translator.exact c.args.slot _ c.retain-had.new.self.contents inside c.retain-had.ensures.kept.2)
+
+pub returns-clause-bound : goal.returns-clause-bound
+returns-clause-bound g c =
+    let inside = within c.self.view_is c.args.slot.0 c.requires.within in
+    let kept = c.retain-had.ensures.kept in
+    let fewer = kept_at_most (CalledAt g.F.FnMut) c.args.should_retain (list_in g.T.Key.Ord.cmp c.self.inside.parts.contents c.args.slot) kept.0 kept.1 in
+    rw (← c.self.view_is) (edit_paid c.self.invariant g.met.T.Key.Ord.total c.args.slot kept.0 c.retain-had.new.self.contents inside kept.2 c.self.inside.parts.standing _ c.self.inside.told c.retain-had.ensures.counted c.self.inside.threshold c.self.inside.moves.spills c.self.inside.moves.moved c.self.inside.counts.pruned _ _ (omega (arith, c.retain-had.ensures.had, kept.3, fewer)) c.change.ensures.pruned credit_pays c.retain-had.ensures.standing)

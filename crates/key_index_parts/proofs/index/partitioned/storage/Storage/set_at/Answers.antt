@@ -1,8 +1,10 @@
 use Rattle.std.proofs.Common.{◌<◌, length, slice_set, refl, subst, sym, arith}
 use Rattle.std.proofs.lemmas.List.{length-set}
 use Rattle.key_index_parts.specs.Family.{held_at, list_in}
-use Rattle.key_index_parts.proofs.PartLemmas.{as_many_entries}
-use Rattle.key_index_parts.proofs.StorageLemmas.{list_is, held_inside, counted_edit, keeps, view_edited}
+use Rattle.key_index_parts.proofs.family.PartLemmas.{as_many_entries}
+use Rattle.key_index_parts.proofs.family.StorageLemmas.{list_is, held_inside, counted_edit, keeps, view_edited}
+use Rattle.key_index_parts.proofs.standing.MoveLemmas.{credit_pays, range_pays}
+use Rattle.key_index_parts.proofs.standing.PaidLemmas.{edit_paid}
 use Rattle.key_index_parts.proofs.index.partitioned.storage.Storage.set_at.Goals as goal
 
 pub set_at-requires : goal.set_at-requires
@@ -33,3 +35,21 @@ returns-clause-kept g c =
     let held = subst (λ s. c.args.place < length (held_at g.T.Key.Ord.cmp s.parts c.args.slot)) (sym c.self.view_is) c.requires in
     let inside = held_inside c.self.invariant c.args.slot c.args.place held in
     rw (← c.self.view_is) (keeps c.self.invariant g.met.T.Key.Ord.total g.met.T.Translator.exact c.args.slot _ c.set_at.new.self.contents inside c.set_at.ensures.parts)
+
+pub returns-clause-bound : goal.returns-clause-bound
+returns-clause-bound g c =
+    let held = subst (λ s. c.args.place < length (held_at g.T.Key.Ord.cmp s.parts c.args.slot)) (sym c.self.view_is) c.requires in
+    let inside = held_inside c.self.invariant c.args.slot c.args.place held in
+    let list = list_in g.T.Key.Ord.cmp c.self.inside.parts.contents c.args.slot in
+    let l = slice_set list c.args.place c.args.value in
+    let same = length-set list c.args.place c.args.value in
+    rw (← c.self.view_is) (edit_paid c.self.invariant g.met.T.Key.Ord.total c.args.slot l c.set_at.new.self.contents inside c.set_at.ensures.parts c.self.inside.parts.standing _ c.self.inside.told c.set_at.ensures.counted c.self.inside.threshold c.self.inside.moves.spills c.self.inside.moves.moved c.self.inside.counts.pruned _ 0 (omega (arith, same)) (omega arith) credit_pays c.set_at.ensures.standing)
+
+pub returns-clause-range_bound : goal.returns-clause-range_bound
+returns-clause-range_bound g c =
+    let held = subst (λ s. c.args.place < length (held_at g.T.Key.Ord.cmp s.parts c.args.slot)) (sym c.self.view_is) c.requires in
+    let inside = held_inside c.self.invariant c.args.slot c.args.place held in
+    let list = list_in g.T.Key.Ord.cmp c.self.inside.parts.contents c.args.slot in
+    let l = slice_set list c.args.place c.args.value in
+    let same = length-set list c.args.place c.args.value in
+    rw (← c.self.view_is) (edit_paid c.self.invariant g.met.T.Key.Ord.total c.args.slot l c.set_at.new.self.contents inside c.set_at.ensures.parts c.self.inside.parts.standing _ c.self.inside.told c.set_at.ensures.counted c.self.inside.threshold c.self.inside.moves.spills c.self.inside.moves.moved c.self.inside.counts.pruned _ 0 (omega (arith, same)) (omega arith) range_pays c.set_at.ensures.standing)

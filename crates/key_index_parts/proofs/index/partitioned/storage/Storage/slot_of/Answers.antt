@@ -1,7 +1,7 @@
 use Rattle.std.proofs.Common.{◌<◌, subst, sym, arith}
 use Rattle.std.proofs.lemmas.List.Elements.{All-from_get_or}
 use Rattle.key_index_parts.specs.Prefix.{partition_count}
-use Rattle.key_index_parts.specs.PrefixLaws.{prefix_below}
+use Rattle.key_index_parts.specs.laws.PrefixLaws.{prefix_below}
 use Rattle.key_index_parts.proofs.index.partitioned.storage.Storage.slot_of.Goals as goal
 
 pub returns-clause-within : goal.returns-clause-within

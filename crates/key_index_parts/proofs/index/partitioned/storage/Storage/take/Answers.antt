@@ -1,6 +1,8 @@
 use Rattle.std.proofs.Common.{rules, ◌<◌, ◌^◌, [], length, refl, ap, sym, ◌∙◌, arith}
 use Rattle.key_index_flat.specs.View.{pruned_after}
-use Rattle.key_index_parts.proofs.StorageLemmas.{list_is, within, can_change, counted_change, keeps, view_pruned}
+use Rattle.key_index_parts.proofs.family.StorageLemmas.{list_is, within, can_change, counted_change, keeps, view_pruned}
+use Rattle.key_index_parts.proofs.standing.MoveLemmas.{credit_pays}
+use Rattle.key_index_parts.proofs.standing.PaidLemmas.{edit_paid}
 use Rattle.key_index_parts.proofs.index.partitioned.storage.Storage.take.Goals as goal
 
 pub remove-had-requires : goal.remove-had-requires
@@ -30,3 +32,8 @@ pub returns-clause-kept : goal.returns-clause-kept
 returns-clause-kept g c =
     let inside = within c.self.view_is c.args.slot.0 c.requires in
     rw (← c.self.view_is) (keeps c.self.invariant g.met.T.Key.Ord.total g.met.T.Translator.exact c.args.slot [] c.remove-had.new.self.contents inside c.remove-had.ensures.parts)
+
+pub returns-clause-bound : goal.returns-clause-bound
+returns-clause-bound g c =
+    let inside = within c.self.view_is c.args.slot.0 c.requires in
+    rw (← c.self.view_is) (edit_paid c.self.invariant g.met.T.Key.Ord.total c.args.slot [] c.remove-had.new.self.contents inside c.remove-had.ensures.parts c.self.inside.parts.standing _ c.self.inside.told c.remove-had.ensures.counted c.self.inside.threshold c.self.inside.moves.spills c.self.inside.moves.moved c.self.inside.counts.pruned _ _ (omega (arith, c.remove-had.ensures.taken)) c.change.ensures.pruned credit_pays c.remove-had.ensures.standing)

@@ -1,5 +1,5 @@
 use Rattle.std.proofs.Common.{rules, ◌∙◌, arith}
-use Rattle.key_index_parts.proofs.PrefixLemmas.{shifted}
+use Rattle.key_index_parts.proofs.keys.PrefixLemmas.{shifted}
 use Rattle.key_index_parts.proofs.index.partitioned.unordered.IndexFactory.new.Goals as goal
 
 pub new-requires : goal.new-requires

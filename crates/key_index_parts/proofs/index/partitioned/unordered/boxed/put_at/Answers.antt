@@ -2,7 +2,7 @@ use Rattle.std.proofs.Common.{insert, ap, arith}
 use Rattle.std.proofs.lemmas.List.Edits.{length-insert}
 use Rattle.key_index_flat.specs.Content.{list_at}
 use Rattle.key_index_flat.specs.Unordered.{IsLawful-held, held}
-use Rattle.key_index_parts.proofs.BoxedLemmas.{absent_key}
+use Rattle.key_index_parts.proofs.family.BoxedLemmas.{absent_key}
 use Rattle.key_index_parts.proofs.index.partitioned.unordered.boxed.put_at.Goals as goal
 
 pub returns-in-Ok-clause-accepted : goal.returns-in-Ok-clause-accepted

@@ -1,5 +1,5 @@
 use Rattle.std.proofs.Common.{sym, ◌∙◌}
-use Rattle.key_index_parts.proofs.GroupLemmas.{item_count-grouped}
+use Rattle.key_index_parts.proofs.pairs.GroupLemmas.{item_count-grouped}
 use Rattle.key_index_parts.proofs.index.partitioned.ordered.arrays.Arrays.len.Goals as goal
 
 pub returns : goal.returns

@@ -3,9 +3,9 @@ use Rattle.std.proofs.lemmas.Fn.{called_at}
 use Rattle.std.specs.Fn.{CalledAt}
 use Rattle.std.specs.Map.{keys_of}
 use Rattle.key_index_flat.specs.Values.{values_of}
-use Rattle.key_index_parts.proofs.DrainLemmas.{values_of-grouped}
-use Rattle.key_index_parts.proofs.SearchLemmas.{rises}
-use Rattle.key_index_parts.proofs.VisitLemmas.{Continues, continues, one_more, ended, values_flat}
+use Rattle.key_index_parts.proofs.pairs.DrainLemmas.{values_of-grouped}
+use Rattle.key_index_parts.proofs.pairs.SearchLemmas.{rises}
+use Rattle.key_index_parts.proofs.asked.VisitLemmas.{Continues, continues, one_more, ended, values_flat}
 use Rattle.key_index_parts.specs.Pairs.{grouped}
 use Rattle.key_index_parts.proofs.index.partitioned.ordered.arrays.ArraysPart.for_each_value.Goals as goal
 

@@ -2,7 +2,7 @@ use Rattle.std.proofs.Common.{length}
 use Rattle.std.specs.Fn.{CalledAt}
 use denote.Param.Always.{always_mut}
 use Rattle.key_index_flat.specs.Values.{values_of}
-use Rattle.key_index_parts.proofs.VisitLemmas.{Continues}
+use Rattle.key_index_parts.proofs.asked.VisitLemmas.{Continues}
 use Rattle.key_index_parts.specs.Pairs.{grouped}
 use Rattle.key_index_parts.proofs.index.partitioned.ordered.arrays.ArraysPart.for_each_value.Given as goal
 

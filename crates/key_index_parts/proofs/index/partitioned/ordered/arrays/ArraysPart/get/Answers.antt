@@ -1,5 +1,5 @@
 use Rattle.std.proofs.Common.{sym, ◌∙◌}
-use Rattle.key_index_parts.proofs.GroupLemmas.{list_at-grouped}
+use Rattle.key_index_parts.proofs.pairs.GroupLemmas.{list_at-grouped}
 use Rattle.key_index_parts.proofs.index.partitioned.ordered.arrays.ArraysPart.get.Goals as goal
 
 pub returns : goal.returns

@@ -1,6 +1,6 @@
 use Rattle.std.proofs.Common.{ap, ◌∙◌}
 use Rattle.key_index_parts.specs.Pairs.{grouped}
-use Rattle.key_index_parts.proofs.FoundRun.{may_append, inserted_last, none_there}
+use Rattle.key_index_parts.proofs.pairs.FoundRun.{may_append, inserted_last, none_there}
 use Rattle.key_index_parts.proofs.index.partitioned.ordered.arrays.ArraysPart.insert.Goals as goal
 
 pub insert_at-requires-clause-sorted : goal.insert_at-requires-clause-sorted

@@ -1,6 +1,6 @@
 use Rattle.std.proofs.Common.{ap, ◌∙◌, arith}
 use Rattle.key_index_parts.specs.Pairs.{grouped}
-use Rattle.key_index_parts.proofs.FoundRun.{run_count, may_append, inserted_sole}
+use Rattle.key_index_parts.proofs.pairs.FoundRun.{run_count, may_append, inserted_sole}
 use Rattle.key_index_parts.proofs.index.partitioned.ordered.arrays.ArraysPart.insert_absent.Goals as goal
 
 pub returns-then-run-clause-len : goal.returns-then-run-clause-len

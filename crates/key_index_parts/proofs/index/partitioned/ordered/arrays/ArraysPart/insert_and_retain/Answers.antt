@@ -2,7 +2,7 @@ use Rattle.std.proofs.Common.{rules, ◌≡◌, ◌+◌, ◌-◌, ◌<◌, ◌�
 use Rattle.std.specs.Fn.{CalledAt}
 use mir.Val.{bool_byte}
 use Rattle.key_index_parts.specs.Pairs.{IsFound}
-use Rattle.key_index_parts.proofs.FoundRun.{run_count, may_append, length_appended, found_appended, left_held, few_held, retains}
+use Rattle.key_index_parts.proofs.pairs.FoundRun.{run_count, may_append, length_appended, found_appended, left_held, few_held, retains}
 use Rattle.key_index_parts.proofs.index.partitioned.ordered.arrays.ArraysPart.insert_and_retain.Goals as goal
 
 as_byte : (b : Bool) → cond b 1 0 ≡ bool_byte b

@@ -1,5 +1,5 @@
 use Rattle.std.proofs.Common.{◌∙◌}
-use Rattle.key_index_parts.proofs.GroupLemmas.{none_grouped}
+use Rattle.key_index_parts.proofs.pairs.GroupLemmas.{none_grouped}
 use Rattle.key_index_parts.proofs.index.partitioned.ordered.arrays.ArraysPart.is_empty.Goals as goal
 
 pub returns : goal.returns

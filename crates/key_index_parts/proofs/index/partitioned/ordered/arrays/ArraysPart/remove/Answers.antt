@@ -1,6 +1,6 @@
 use Rattle.std.proofs.Common.{ap, ◌∙◌, arith}
 use Rattle.key_index_parts.specs.Pairs.{grouped}
-use Rattle.key_index_parts.proofs.FoundRun.{run_count, removed_all}
+use Rattle.key_index_parts.proofs.pairs.FoundRun.{run_count, removed_all}
 use Rattle.key_index_parts.proofs.index.partitioned.ordered.arrays.ArraysPart.remove.Goals as goal
 
 pub returns-clause-content : goal.returns-clause-content

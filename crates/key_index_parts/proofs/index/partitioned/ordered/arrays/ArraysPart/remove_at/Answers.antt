@@ -1,6 +1,6 @@
 use Rattle.std.proofs.Common.{rules, ◌<◌, ◌^◌, ap, sym, ◌∙◌, arith}
 use Rattle.key_index_parts.specs.Pairs.{grouped}
-use Rattle.key_index_parts.proofs.FoundRun.{run_count, place_within, value_in, removed}
+use Rattle.key_index_parts.proofs.pairs.FoundRun.{run_count, place_within, value_in, removed}
 use Rattle.key_index_parts.proofs.index.partitioned.ordered.arrays.ArraysPart.remove_at.Goals as goal
 
 pub overflow_add-run : goal.overflow_add-run

@@ -2,8 +2,8 @@ use Rattle.std.proofs.Common.{true, arith}
 use Rattle.std.specs.Fn.{CalledAt}
 use Rattle.key_index_flat.specs.Content.{list_at}
 use Rattle.key_index_parts.specs.Pairs.{grouped}
-use Rattle.key_index_parts.proofs.FoundRun.{run_count}
-use Rattle.key_index_parts.proofs.KeptInTurn.{filtered}
+use Rattle.key_index_parts.proofs.pairs.FoundRun.{run_count}
+use Rattle.key_index_parts.proofs.asked.KeptInTurn.{filtered}
 use Rattle.key_index_parts.proofs.index.partitioned.ordered.arrays.ArraysPart.retain.Goals as goal
 
 pub returns-clause-kept : goal.returns-clause-kept

@@ -1,5 +1,5 @@
 use Rattle.std.proofs.Common.{arith}
-use Rattle.key_index_parts.proofs.FoundRun.{run_count}
+use Rattle.key_index_parts.proofs.pairs.FoundRun.{run_count}
 use Rattle.key_index_parts.proofs.index.partitioned.ordered.arrays.ArraysPart.run_len.Goals as goal
 
 pub returns : goal.returns

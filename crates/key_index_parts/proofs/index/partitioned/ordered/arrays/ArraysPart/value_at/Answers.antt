@@ -1,5 +1,5 @@
 use Rattle.std.proofs.Common.{rules, ◌<◌, ◌^◌, sym, ◌∙◌, arith}
-use Rattle.key_index_parts.proofs.FoundRun.{run_count, place_within, value_in}
+use Rattle.key_index_parts.proofs.pairs.FoundRun.{run_count, place_within, value_in}
 use Rattle.key_index_parts.proofs.index.partitioned.ordered.arrays.ArraysPart.value_at.Goals as goal
 
 pub overflow_add-run : goal.overflow_add-run

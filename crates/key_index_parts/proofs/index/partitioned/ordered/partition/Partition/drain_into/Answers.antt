@@ -4,9 +4,9 @@ use Rattle.std.specs.List.Sorted.{IsSorted}
 use Rattle.std.specs.Map.{keys_of}
 use Rattle.std.proofs.lemmas.Map.Made.{keys_of-zip}
 use Rattle.key_index_parts.specs.Pairs.{grouped, room_of, room_for}
-use Rattle.key_index_parts.proofs.SearchLemmas.{rises}
-use Rattle.key_index_parts.proofs.ZipLemmas.{values_of-zip}
-use Rattle.key_index_parts.proofs.DrainLemmas.{values_of-grouped}
+use Rattle.key_index_parts.proofs.pairs.SearchLemmas.{rises}
+use Rattle.key_index_parts.proofs.pairs.ZipLemmas.{values_of-zip}
+use Rattle.key_index_parts.proofs.pairs.DrainLemmas.{values_of-grouped}
 use Rattle.key_index_parts.proofs.index.partitioned.ordered.partition.Partition.drain_into.Goals as goal
 
 pub fill_runs-requires : goal.fill_runs-requires

@@ -2,7 +2,7 @@ use Rattle.std.proofs.Common.{◌≤◌, length, sym, ap, ◌∙◌, arith}
 use Rattle.std.proofs.lemmas.List.Edits.{length-insert}
 use Rattle.std.proofs.lemmas.Map.Made.{keys_of-zip}
 use Rattle.std.specs.Map.{keys_of}
-use Rattle.key_index_parts.proofs.ZipLemmas.{length-zip, zip-insert}
+use Rattle.key_index_parts.proofs.pairs.ZipLemmas.{length-zip, zip-insert}
 use Rattle.key_index_parts.proofs.index.partitioned.ordered.partition.Partition.insert_at.Goals as goal
 
 pub insert-requires : goal.insert-requires

@@ -1,7 +1,7 @@
 use Rattle.std.proofs.Common.{◌≡◌, ℕ, length, ap, ◌∙◌, arith}
 use Rattle.std.specs.Bool.{◌==◌}
 use Rattle.std.specs.Vec.{vec_len}
-use Rattle.key_index_parts.proofs.ZipLemmas.{length-zip}
+use Rattle.key_index_parts.proofs.pairs.ZipLemmas.{length-zip}
 use Rattle.key_index_parts.proofs.index.partitioned.ordered.partition.Partition.is_empty.Goals as goal
 
 pub returns : goal.returns

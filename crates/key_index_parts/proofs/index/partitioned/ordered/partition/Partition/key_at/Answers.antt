@@ -1,7 +1,7 @@
 use Rattle.std.proofs.Common.{◌<◌, length, refl, sym, ap, arith}
 use Rattle.std.proofs.lemmas.Option.{slice_get_read}
 use Rattle.std.proofs.lemmas.Map.Made.{keys_of-zip}
-use Rattle.key_index_parts.proofs.ZipLemmas.{length-zip}
+use Rattle.key_index_parts.proofs.pairs.ZipLemmas.{length-zip}
 use Rattle.key_index_parts.proofs.index.partitioned.ordered.partition.Partition.key_at.Goals as goal
 
 pub index-requires : goal.index-requires

@@ -1,5 +1,5 @@
 use Rattle.std.proofs.Common.{arith}
-use Rattle.key_index_parts.proofs.ZipLemmas.{length-zip}
+use Rattle.key_index_parts.proofs.pairs.ZipLemmas.{length-zip}
 use Rattle.key_index_parts.proofs.index.partitioned.ordered.partition.Partition.len.Goals as goal
 
 pub returns : goal.returns

@@ -3,7 +3,7 @@ use Rattle.std.specs.List.{filter, zip, slice_range}
 use Rattle.std.specs.Ordering.{is_le}
 use Rattle.key_index_flat.specs.Neighbours.{entries_above, first_list}
 use Rattle.key_index_parts.specs.Pairs.{grouped}
-use Rattle.key_index_parts.proofs.EndLemmas.{above_is}
+use Rattle.key_index_parts.proofs.pairs.EndLemmas.{above_is}
 use Rattle.key_index_parts.proofs.index.partitioned.ordered.partition.Partition.next_values_after.Goals as goal
 
 pub returns : goal.returns

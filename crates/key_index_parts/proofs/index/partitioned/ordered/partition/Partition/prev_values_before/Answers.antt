@@ -3,7 +3,7 @@ use Rattle.std.specs.List.{filter, zip, slice_range}
 use Rattle.std.specs.Ordering.{is_lt}
 use Rattle.key_index_flat.specs.Neighbours.{entries_below, last_list}
 use Rattle.key_index_parts.specs.Pairs.{grouped}
-use Rattle.key_index_parts.proofs.EndLemmas.{below_is}
+use Rattle.key_index_parts.proofs.pairs.EndLemmas.{below_is}
 use Rattle.key_index_parts.proofs.index.partitioned.ordered.partition.Partition.prev_values_before.Goals as goal
 
 pub returns : goal.returns

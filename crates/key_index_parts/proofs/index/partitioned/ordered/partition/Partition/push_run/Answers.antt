@@ -5,7 +5,7 @@ use Rattle.std.specs.List.{zip}
 use Rattle.std.specs.List.Sorted.{IsSorted}
 use Rattle.std.specs.Map.{keys_of}
 use Rattle.key_index_parts.specs.Spread.{pairs_with}
-use Rattle.key_index_parts.proofs.SpreadLemmas.{zip-more}
+use Rattle.key_index_parts.proofs.family.SpreadLemmas.{zip-more}
 use Rattle.key_index_parts.proofs.index.partitioned.ordered.partition.Partition.push_run.Goals as goal
 
 pub invariant_of-self : goal.invariant_of-self

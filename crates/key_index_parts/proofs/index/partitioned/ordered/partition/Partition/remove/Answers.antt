@@ -1,8 +1,8 @@
 use Rattle.std.proofs.Common.{suc, ◌<◌, ◌≤◌, length, refl, ap, arith}
 use Rattle.std.proofs.lemmas.List.Edits.{length-remove}
 use Rattle.std.proofs.lemmas.Option.{slice_get_read}
-use Rattle.key_index_parts.proofs.SearchLemmas.{IsSorted-remove_range}
-use Rattle.key_index_parts.proofs.ZipLemmas.{length-zip, values_of-zip, zip-remove}
+use Rattle.key_index_parts.proofs.pairs.SearchLemmas.{IsSorted-remove_range}
+use Rattle.key_index_parts.proofs.pairs.ZipLemmas.{length-zip, values_of-zip, zip-remove}
 use Rattle.key_index_parts.proofs.index.partitioned.ordered.partition.Partition.remove.Goals as goal
 
 pub remove-requires : goal.remove-requires

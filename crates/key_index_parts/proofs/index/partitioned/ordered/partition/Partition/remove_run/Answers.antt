@@ -2,9 +2,9 @@ use Rattle.std.proofs.Common.{◌≤◌, length, sym, ap, subst, ◌∙◌, arit
 use Rattle.std.specs.List.Sorted.{IsSorted}
 use Rattle.std.specs.Map.{keys_of}
 use Rattle.std.proofs.lemmas.Map.Made.{keys_of-zip}
-use Rattle.key_index_parts.proofs.SearchLemmas.{IsSorted-remove_range}
-use Rattle.key_index_parts.proofs.ZipLemmas.{length-zip, zip-remove_range, length-remove_range}
-use Rattle.key_index_parts.proofs.RunLemmas.{IsRun-within}
+use Rattle.key_index_parts.proofs.pairs.SearchLemmas.{IsSorted-remove_range}
+use Rattle.key_index_parts.proofs.pairs.ZipLemmas.{length-zip, zip-remove_range, length-remove_range}
+use Rattle.key_index_parts.proofs.pairs.RunLemmas.{IsRun-within}
 use Rattle.key_index_parts.proofs.index.partitioned.ordered.partition.Partition.remove_run.Goals as goal
 
 pub drain-requires-clause-in_bounds : goal.drain-requires-clause-in_bounds

@@ -5,8 +5,8 @@ use Rattle.std.specs.Map.{keys_of}
 use Rattle.std.specs.Ordering.{is_lt, is_le}
 use Rattle.std.proofs.lemmas.Map.Made.{keys_of-zip}
 use Rattle.key_index_parts.specs.Pairs.{IsRun}
-use Rattle.key_index_parts.proofs.SearchLemmas.{below_upto}
-use Rattle.key_index_parts.proofs.RunLemmas.{run_found, IsRun-within}
+use Rattle.key_index_parts.proofs.pairs.SearchLemmas.{below_upto}
+use Rattle.key_index_parts.proofs.pairs.RunLemmas.{run_found, IsRun-within}
 use Rattle.key_index_parts.proofs.index.partitioned.ordered.partition.Partition.run_range.Goals as goal
 
 pub run_end-requires-clause-from : goal.run_end-requires-clause-from

@@ -1,6 +1,6 @@
 use Rattle.std.proofs.Common.{length, refl, sym, ap, arith}
 use Rattle.std.proofs.lemmas.Map.Made.{keys_of-zip}
-use Rattle.key_index_parts.proofs.ZipLemmas.{length-zip, values_of-zip}
+use Rattle.key_index_parts.proofs.pairs.ZipLemmas.{length-zip, values_of-zip}
 use Rattle.key_index_parts.proofs.index.partitioned.ordered.partition.Partition.set.Goals as goal
 
 pub index_mut-requires : goal.index_mut-requires

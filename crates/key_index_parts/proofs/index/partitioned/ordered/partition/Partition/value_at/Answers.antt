@@ -1,6 +1,6 @@
 use Rattle.std.proofs.Common.{◌<◌, length, refl, ap, arith}
 use Rattle.std.proofs.lemmas.Option.{slice_get_read}
-use Rattle.key_index_parts.proofs.ZipLemmas.{length-zip, values_of-zip}
+use Rattle.key_index_parts.proofs.pairs.ZipLemmas.{length-zip, values_of-zip}
 use Rattle.key_index_parts.proofs.index.partitioned.ordered.partition.Partition.value_at.Goals as goal
 
 pub index-requires : goal.index-requires

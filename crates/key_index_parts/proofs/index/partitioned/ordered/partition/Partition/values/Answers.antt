@@ -1,8 +1,8 @@
 use Rattle.std.proofs.Common.{length, sym, ap, ◌∙◌, arith}
 use Rattle.std.specs.List.{slice_range}
 use Rattle.std.specs.Map.{values_of}
-use Rattle.key_index_parts.proofs.ZipLemmas.{length-zip, values_of-zip}
-use Rattle.key_index_parts.proofs.RunLemmas.{IsRun-slice}
+use Rattle.key_index_parts.proofs.pairs.ZipLemmas.{length-zip, values_of-zip}
+use Rattle.key_index_parts.proofs.pairs.RunLemmas.{IsRun-slice}
 use Rattle.key_index_parts.proofs.index.partitioned.ordered.partition.Partition.values.Goals as goal
 
 pub part-requires-clause-end : goal.part-requires-clause-end

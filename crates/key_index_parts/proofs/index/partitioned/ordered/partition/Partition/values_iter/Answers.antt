@@ -2,7 +2,7 @@ use Rattle.std.proofs.Common.{sym, ap, subst, ◌∙◌}
 use Rattle.std.specs.List.Sorted.{IsSorted}
 use Rattle.std.specs.Map.{keys_of, values_of}
 use Rattle.std.proofs.lemmas.Map.Made.{keys_of-zip}
-use Rattle.key_index_parts.proofs.ZipLemmas.{values_of-zip}
+use Rattle.key_index_parts.proofs.pairs.ZipLemmas.{values_of-zip}
 use Rattle.key_index_parts.proofs.index.partitioned.ordered.partition.Partition.values_iter.Goals as goal
 
 pub returns-clause-values : goal.returns-clause-values

@@ -2,8 +2,8 @@ use Rattle.std.proofs.Common.{false, ◌<◌, ◌-◌, [], ◌∷◌, map, not, 
 use Rattle.key_index_flat.specs.Content.{is_filled, item_count, list_at}
 use Rattle.key_index_flat.specs.View.{put_value}
 use Rattle.key_index_parts.specs.Pairs.{grouped, list_of}
-use Rattle.key_index_parts.specs.PairLaws.{IsLawful-grouped}
-use Rattle.key_index_parts.proofs.SpillingLemmas.{held_now, grown, inline_grown, one_more, reached}
+use Rattle.key_index_parts.specs.laws.PairLaws.{IsLawful-grouped}
+use Rattle.key_index_parts.proofs.standing.SpillingLemmas.{held_now, grown, inline_grown, one_more, reached}
 use Rattle.key_index_parts.proofs.index.partitioned.ordered.spilling.SpillingPart.insert.Goals as goal
 
 pub invariant_of-self : goal.invariant_of-self

@@ -2,8 +2,8 @@ use Rattle.std.proofs.Common.{◌<◌, ◌-◌, map, ap, ◌∙◌, arith}
 use Rattle.std.specs.Fn.{CalledAt}
 use Rattle.key_index_flat.specs.Content.{item_count}
 use Rattle.key_index_parts.specs.Pairs.{grouped, list_of}
-use Rattle.key_index_parts.specs.PairLaws.{IsLawful-grouped}
-use Rattle.key_index_parts.proofs.SpillingLemmas.{reached, reached_inline, retained, retained_inline}
+use Rattle.key_index_parts.specs.laws.PairLaws.{IsLawful-grouped}
+use Rattle.key_index_parts.proofs.standing.SpillingLemmas.{reached, reached_inline, retained, retained_inline}
 use Rattle.key_index_parts.proofs.index.partitioned.ordered.spilling.SpillingPart.insert_and_retain.Goals as goal
 use Rattle.key_index_parts.proofs.index.partitioned.ordered.spilling.SpillingPart.insert_and_retain.Goals.{then-others-saturating_sub, else-others-saturating_sub}
 

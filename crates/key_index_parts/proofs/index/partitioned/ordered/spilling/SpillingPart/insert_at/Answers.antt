@@ -3,7 +3,7 @@ use Rattle.std.proofs.lemmas.List.Edits.{length-insert}
 use Rattle.std.specs.List.{insert}
 use Rattle.key_index_flat.specs.Content.{is_filled, list_at}
 use Rattle.key_index_parts.specs.Pairs.{grouped, list_of}
-use Rattle.key_index_parts.proofs.SpillingLemmas.{held_is, held_now, grown}
+use Rattle.key_index_parts.proofs.standing.SpillingLemmas.{held_is, held_now, grown}
 use Rattle.key_index_parts.proofs.index.partitioned.ordered.spilling.SpillingPart.insert_at.Goals as goal
 
 pub invariant_of-self : goal.invariant_of-self

@@ -1,7 +1,7 @@
 use Rattle.std.proofs.Common.{map, length-set, arith}
 use Rattle.key_index_flat.specs.Content.{list_at}
 use Rattle.key_index_parts.specs.Pairs.{list_of}
-use Rattle.key_index_parts.proofs.SpillingLemmas.{held_now, some_left}
+use Rattle.key_index_parts.proofs.standing.SpillingLemmas.{held_now, some_left}
 use Rattle.key_index_parts.proofs.index.partitioned.ordered.spilling.SpillingPart.set_at.Goals as goal
 
 pub invariant_of-self : goal.invariant_of-self

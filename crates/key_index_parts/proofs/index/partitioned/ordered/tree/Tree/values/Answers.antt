@@ -1,5 +1,5 @@
 use Rattle.std.proofs.Common.{sym, ◌∙◌}
-use Rattle.key_index_parts.proofs.TreeLemmas.{held_list, no_list}
+use Rattle.key_index_parts.proofs.standing.TreeLemmas.{held_list, no_list}
 use Rattle.key_index_parts.proofs.index.partitioned.ordered.tree.Tree.values.Goals as goal
 
 pub returns-in-Some : goal.returns-in-Some

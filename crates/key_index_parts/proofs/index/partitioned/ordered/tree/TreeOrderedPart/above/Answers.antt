@@ -2,7 +2,7 @@ use Rattle.std.proofs.Common.{rules, ◌≡◌}
 use Rattle.std.specs.Map.Iter.{deref_pair}
 use Rattle.std.specs.Option.{option_map}
 use Rattle.key_index_flat.specs.Neighbours.{first_entry, entries_above}
-use Rattle.key_index_parts.proofs.TreeLemmas.{above_shown}
+use Rattle.key_index_parts.proofs.standing.TreeLemmas.{above_shown}
 use Rattle.key_index_parts.proofs.index.partitioned.ordered.tree.TreeOrderedPart.above.Goals as goal
 
 pub returns : goal.returns

@@ -1,5 +1,5 @@
 use Rattle.std.specs.Map.Iter.{deref_pair}
-use Rattle.key_index_parts.proofs.TreeLemmas.{below_shown}
+use Rattle.key_index_parts.proofs.standing.TreeLemmas.{below_shown}
 use Rattle.key_index_parts.proofs.index.partitioned.ordered.tree.TreeOrderedPart.below.Goals as goal
 
 pub returns : goal.returns

@@ -1,6 +1,6 @@
 use Rattle.std.specs.Map.Iter.{deref_pair}
-use Rattle.key_index_flat.proofs.NeighbourLemmas.{last_told}
-use Rattle.key_index_parts.proofs.TreeLemmas.{last_shown}
+use Rattle.key_index_flat.proofs.neighbours.NeighbourLemmas.{last_told}
+use Rattle.key_index_parts.proofs.standing.TreeLemmas.{last_shown}
 use Rattle.key_index_parts.proofs.index.partitioned.ordered.tree.TreeOrderedPart.last.Goals as goal
 
 pub returns : goal.returns

@@ -7,8 +7,8 @@ use Rattle.std.specs.BTreeMap.{values}
 use Rattle.std.specs.Fn.{CalledAt}
 use Rattle.std.specs.List.{flat_map}
 use Rattle.key_index_flat.specs.Values.{VisitsEach, VisitsInTurn}
-use Rattle.key_index_flat.proofs.VisitLemmas.{folds_append}
-use Rattle.key_index_parts.proofs.TreeLemmas.{values-lists}
+use Rattle.key_index_flat.proofs.asked.VisitLemmas.{folds_append}
+use Rattle.key_index_parts.proofs.standing.TreeLemmas.{values-lists}
 use Rattle.key_index_parts.proofs.index.partitioned.ordered.tree.TreePart.for_each_value.Goals as goal
 
 pub loop-values-preserved : goal.loop-values-preserved

@@ -1,17 +1,35 @@
-use Rattle.std.proofs.Common.{◌≡◌, ◌<◌, ◌+◌, ◌-◌, Bool, true, false, cond, List, [], ◌∷◌, map, length, refl, ap, sym, subst, ◌∙◌, arith}
+use Rattle.std.proofs.Common.{rules, ◌≡◌, ◌<◌, ◌≤◌, ◌+◌, ◌-◌, ◌^◌, Bool, true, false, cond, List, [], ◌∷◌, map, length, refl, ap, sym, subst, ◌∙◌, arith}
 use Rattle.std.specs.Fn.{CalledAt}
 use Rattle.std.specs.BTreeMap.{is_at}
 use mir.Val.{bool_byte}
-use Rattle.key_index_flat.specs.Content.{with_list}
+use Rattle.key_index_flat.specs.Content.{IsLawful, item_count, list_at, with_list}
 use Rattle.key_index_parts.specs.Family.{RetainsWith}
 use Rattle.key_index_parts.specs.Pairs.{list_of}
-use Rattle.key_index_parts.proofs.TreeLemmas.{held_list, no_list, over_same, held_some, edited, emptied, unchanged, lawful_after, left_held, few_held, retained, retained_alone}
+use Rattle.key_index_parts.proofs.standing.TreeLemmas.{held_list, no_list, over_same, held_some, edited, emptied, unchanged, lawful_after, left_held, few_held, retained, retained_alone, counted_after, had_within}
 use Rattle.key_index_parts.proofs.index.partitioned.ordered.tree.TreePart.insert_and_retain.Goals as goal
 use Rattle.key_index_parts.proofs.index.partitioned.ordered.tree.TreePart.insert_and_retain.Goals.{then-left-eq0+in-Some-1, then-left-eq0+in-None-1, else-left-eq0}
+
+at_most_one : (b : Bool) → cond b 1 0 ≤ 1
+at_most_one true = omega arith
+at_most_one false = omega arith
 
 as_byte : (b : Bool) → cond b 1 0 ≡ bool_byte b
 as_byte true = refl
 as_byte false = refl
+
+pub invariant_of-self-in-None : goal.invariant_of-self-in-None
+invariant_of-self-in-None g c =
+    let same = sym c.get_mut.follows.holds-at-none in
+    record {
+      counted = c.args.self.now.counted ∙ ap (λ m. item_count (map list_of m.entries)) same;
+      lawful = subst (λ m. IsLawful g.T.Key.Ord.cmp (map list_of m.entries)) same c.args.self.now.lawful;
+    }
+
+pub insert_first_and_retain-requires-clause-absent : goal.insert_first_and_retain-requires-clause-absent
+insert_first_and_retain-requires-clause-absent g c =
+    let cmp = g.T.Key.Ord.cmp in
+    ap (λ m. list_at cmp (map list_of m.entries) c.args.key) c.get_mut.follows.holds-at-none
+    ∙ no_list cmp c.args.key c.args.self.now.lists.entries (sym c.in-None.ensures.value)
 
 pub invariant_of-self : goal.invariant_of-self
 invariant_of-self g c =
@@ -20,9 +38,15 @@ invariant_of-self g c =
     let lawful = c.args.self.now.lawful in
     let old = c.in-Some.values.now in
     let held = c.in-Some.ensures.value in
+    let list = ap (λ l. length l) (held_list g.T.Key.Ord.cmp c.args.key es old (sym held)) in
     let w = c.push.new.self in
     let some : 0 < length w.items = omega (arith, held_some o c.args.key es lawful old held, c.push.ensures.lower_bound, old.ok.0, w.ok.0) in
-    record { lawful = lawful_after o c.args.key es lawful _ _ (edited o c.args.key es lawful old held w (λ _. w.items) refl _ (c.get_mut.follows.holds w).0 some) }
+    let now = edited o c.args.key es lawful old held w (λ _. w.items) refl _ (c.get_mut.follows.holds w).0 some in
+    let same = ap (λ l. length l) c.in-Err.ensures.items in
+    record {
+      counted = counted_after o c.args.key es lawful c.args.self.now.len _ c.args.self.now.counted refl _ w.items now c.args.self.now.len (omega (arith, list, same));
+      lawful = lawful_after o c.args.key es lawful _ _ now;
+    }
 
 pub returns-in-Err-clause-refused : goal.returns-in-Err-clause-refused
 returns-in-Err-clause-refused g c =
@@ -30,23 +54,68 @@ returns-in-Err-clause-refused g c =
     let w = c.push.new.self in
     ap (λ l. map list_of l) (c.get_mut.follows.holds w).0 ∙ unchanged (is_at (g.T.Key.Ord.cmp c.args.key)) c.in-Some.values.now es w c.in-Some.ensures.value c.in-Err.ensures.items
 
+pub overflow_sub-self : goal.overflow_sub-self
+overflow_sub-self g c =
+    let o = g.met.T.Key.Ord.total in
+    let es = c.args.self.now.lists.entries in
+    let lawful = c.args.self.now.lawful in
+    let old = c.in-Some.values.now in
+    let held = c.in-Some.ensures.value in
+    let list = ap (λ l. length l) (held_list g.T.Key.Ord.cmp c.args.key es old (sym held)) in
+    let had = had_within o c.args.key es lawful c.args.self.now.len _ c.args.self.now.counted refl in
+    omega (arith, list, had, c.len-had.ensures, old.ok.0)
+
+pub overflow_add-self : goal.overflow_add-self
+overflow_add-self g c =
+    let o = g.met.T.Key.Ord.total in
+    let es = c.args.self.now.lists.entries in
+    let lawful = c.args.self.now.lawful in
+    let old = c.in-Some.values.now in
+    let held = c.in-Some.ensures.value in
+    let list = ap (λ l. length l) (held_list g.T.Key.Ord.cmp c.args.key es old (sym held)) in
+    let v = c.retain_in_turn-stays.new.values in
+    let had = had_within o c.args.key es lawful c.args.self.now.len _ c.args.self.now.counted refl in
+    let left = left_held (CalledAt g.F.FnMut) c.args.should_retain old.items c.args.value c.push.new.self.items v.items c.retain_in_turn-stays.result c.in_default.ensures.items c.retain_in_turn-stays.ensures.asked in
+    let few = few_held (CalledAt g.F.FnMut) c.args.should_retain old.items c.args.value c.push.new.self.items v.items c.retain_in_turn-stays.result c.in_default.ensures.items c.retain_in_turn-stays.ensures.asked in
+    let last = at_most_one c.retain_in_turn-stays.result in
+    let small : c.args.self.now.len < 2 ^ 64 = search rules in
+    omega (arith, list, had, left, few, last, small, c.if-self.false, c.len-had.ensures, c.len-left.ensures, old.ok.0, v.ok.0)
+
 pub invariant_of-self-then-left-eq0 : goal.invariant_of-self-then-left-eq0
 invariant_of-self-then-left-eq0 g c =
     let o = g.met.T.Key.Ord.total in
     let es = c.args.self.now.lists.entries in
     let lawful = c.args.self.now.lawful in
+    let old = c.in-Some.values.now in
+    let held = c.in-Some.ensures.value in
+    let list = ap (λ l. length l) (held_list g.T.Key.Ord.cmp c.args.key es old (sym held)) in
     let v = c.retain_in_turn-stays.new.values in
+    let had = had_within o c.args.key es lawful c.args.self.now.len _ c.args.self.now.counted refl in
     let none : length v.items ≡ 0 = omega (arith, c.if-left-eq0.true, c.len-left.ensures, v.ok.0) in
-    record { lawful = lawful_after o c.args.key es lawful _ _ (emptied o c.args.key es lawful c.in-Some.values.now c.in-Some.ensures.value v (λ _. v.items) refl _ _ (c.get_mut.follows.holds v).0 c.remove.ensures.entries none) }
+    let now = emptied o c.args.key es lawful old held v (λ _. v.items) refl _ _ (c.get_mut.follows.holds v).0 c.remove.ensures.entries none in
+    record {
+      counted = counted_after o c.args.key es lawful c.args.self.now.len _ c.args.self.now.counted refl _ v.items now _
+          (omega (arith, list, had, c.len-had.ensures, c.len-left.ensures, old.ok.0, v.ok.0));
+      lawful = lawful_after o c.args.key es lawful _ _ now;
+    }
 
 pub invariant_of-self-else-left-eq0 : goal.invariant_of-self-else-left-eq0
 invariant_of-self-else-left-eq0 g c =
     let o = g.met.T.Key.Ord.total in
     let es = c.args.self.now.lists.entries in
     let lawful = c.args.self.now.lawful in
+    let old = c.in-Some.values.now in
+    let held = c.in-Some.ensures.value in
+    let list = ap (λ l. length l) (held_list g.T.Key.Ord.cmp c.args.key es old (sym held)) in
     let v = c.retain_in_turn-stays.new.values in
+    let had = had_within o c.args.key es lawful c.args.self.now.len _ c.args.self.now.counted refl in
     let some : 0 < length v.items = omega (arith, c.if-left-eq0.false, c.len-left.ensures, v.ok.0) in
-    record { lawful = lawful_after o c.args.key es lawful _ _ (edited o c.args.key es lawful c.in-Some.values.now c.in-Some.ensures.value v (λ _. v.items) refl _ (c.get_mut.follows.holds v).0 some) }
+    let now = edited o c.args.key es lawful old held v (λ _. v.items) refl _ (c.get_mut.follows.holds v).0 some in
+    record {
+      counted = counted_after o c.args.key es lawful c.args.self.now.len _ c.args.self.now.counted refl _ v.items now _
+          (omega (arith, list, had, c.len-had.ensures, c.len-left.ensures, old.ok.0, v.ok.0));
+      lawful = lawful_after o c.args.key es lawful _ _ now;
+    }
 
 pub overflow_sub-taken : goal.overflow_sub-taken
 overflow_sub-taken g c =

@@ -1,8 +1,10 @@
-use Rattle.std.proofs.Common.{◌<◌, map, length, insert, is_ok, refl, ap, sym, ◌∙◌, arith}
+use Rattle.std.proofs.Common.{subst, ◌<◌, map, length, insert, is_ok, refl, ap, sym, ◌∙◌, arith}
+use Rattle.std.proofs.lemmas.List.Edits.{length-insert}
 use Rattle.std.specs.BTreeMap.{is_at}
 use Rattle.std.specs.Vec.{vec_len}
+use Rattle.key_index_flat.specs.Content.{IsLawful, item_count, list_at}
 use Rattle.key_index_parts.specs.Pairs.{list_of}
-use Rattle.key_index_parts.proofs.TreeLemmas.{held_list, no_list, insert_alone, grown, first_put, present, absent, held_some, edited, unchanged, lawful_after}
+use Rattle.key_index_parts.proofs.standing.TreeLemmas.{held_list, no_list, insert_alone, grown, first_put, present, absent, held_some, edited, unchanged, lawful_after, counted_after}
 use Rattle.key_index_parts.proofs.index.partitioned.ordered.tree.TreePart.insert_at.Goals as goal
 
 pub insert-requires : goal.insert-requires
@@ -10,6 +12,20 @@ insert-requires g c =
     let values = c.in-Some.values.now in
     let len = ap (λ l. length l) (held_list g.T.Key.Ord.cmp c.args.key c.args.self.now.lists.entries values (sym c.in-Some.ensures.value)) in
     omega (arith, len, c.requires, values.ok.0)
+
+pub invariant_of-self-in-None : goal.invariant_of-self-in-None
+invariant_of-self-in-None g c =
+    let same = sym c.get_mut.follows.holds-at-none in
+    record {
+      counted = c.args.self.now.counted ∙ ap (λ m. item_count (map list_of m.entries)) same;
+      lawful = subst (λ m. IsLawful g.T.Key.Ord.cmp (map list_of m.entries)) same c.args.self.now.lawful;
+    }
+
+pub insert_first-requires-clause-absent : goal.insert_first-requires-clause-absent
+insert_first-requires-clause-absent g c =
+    let cmp = g.T.Key.Ord.cmp in
+    ap (λ m. list_at cmp (map list_of m.entries) c.args.key) c.get_mut.follows.holds-at-none
+    ∙ no_list cmp c.args.key c.args.self.now.lists.entries (sym c.in-None.ensures.value)
 
 pub invariant_of-self : goal.invariant_of-self
 invariant_of-self g c =
@@ -20,7 +36,31 @@ invariant_of-self g c =
     let held = c.in-Some.ensures.value in
     let w = c.insert.new.self in
     let some : 0 < length w.items = omega (arith, held_some o c.args.key es lawful old held, grown (is_ok c.insert.result) (vec_len old) (vec_len w) c.insert.ensures.len, old.ok.0, w.ok.0) in
-    record { lawful = lawful_after o c.args.key es lawful _ _ (edited o c.args.key es lawful old held w (λ _. w.items) refl _ (c.get_mut.follows.holds w).0 some) }
+    let now = edited o c.args.key es lawful old held w (λ _. w.items) refl _ (c.get_mut.follows.holds w).0 some in
+    let list = ap (λ l. length l) (held_list g.T.Key.Ord.cmp c.args.key es old (sym held)) in
+    let more = ap (λ l. length l) c.in-Ok.ensures.items in
+    let long = length-insert old.items c.args.place c.args.value (omega (arith, list, c.requires)) in
+    record {
+      counted = counted_after o c.args.key es lawful c.args.self.now.len _ c.args.self.now.counted refl _ w.items now _ (omega (arith, list, more, long));
+      lawful = lawful_after o c.args.key es lawful _ _ now;
+    }
+
+pub invariant_of-self-in-Err-1 : goal.invariant_of-self-in-Err-1
+invariant_of-self-in-Err-1 g c =
+    let o = g.met.T.Key.Ord.total in
+    let es = c.args.self.now.lists.entries in
+    let lawful = c.args.self.now.lawful in
+    let old = c.in-Some.values.now in
+    let held = c.in-Some.ensures.value in
+    let w = c.insert.new.self in
+    let some : 0 < length w.items = omega (arith, held_some o c.args.key es lawful old held, grown (is_ok c.insert.result) (vec_len old) (vec_len w) c.insert.ensures.len, old.ok.0, w.ok.0) in
+    let now = edited o c.args.key es lawful old held w (λ _. w.items) refl _ (c.get_mut.follows.holds w).0 some in
+    let list = ap (λ l. length l) (held_list g.T.Key.Ord.cmp c.args.key es old (sym held)) in
+    let same = ap (λ l. length l) c.in-Err.ensures.items in
+    record {
+      counted = counted_after o c.args.key es lawful c.args.self.now.len _ c.args.self.now.counted refl _ w.items now c.args.self.now.len (omega (arith, list, same));
+      lawful = lawful_after o c.args.key es lawful _ _ now;
+    }
 
 pub returns-in-Ok-clause-accepted : goal.returns-in-Ok-clause-accepted
 returns-in-Ok-clause-accepted g c =

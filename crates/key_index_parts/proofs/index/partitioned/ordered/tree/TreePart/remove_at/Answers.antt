@@ -2,7 +2,7 @@ use Rattle.std.proofs.Common.{◌≡◌, ◌<◌, length, map, remove, refl, ap,
 use Rattle.std.proofs.lemmas.Option.{slice_get_read}
 use Rattle.std.specs.List.{slice_get}
 use Rattle.key_index_parts.specs.Pairs.{list_of}
-use Rattle.key_index_parts.proofs.TreeLemmas.{held_list, is_held, lent_at, edited, emptied, lawful_after}
+use Rattle.key_index_parts.proofs.standing.TreeLemmas.{held_list, is_held, lent_at, edited, emptied, lawful_after, counted_after, had_within}
 use Rattle.key_index_parts.proofs.index.partitioned.ordered.tree.TreePart.remove_at.Goals as goal
 use Rattle.key_index_parts.proofs.index.partitioned.ordered.tree.TreePart.remove_at.Goals.{then-left-eq0+in-Some-1, then-left-eq0+in-None-1, else-left-eq0}
 
@@ -20,6 +20,11 @@ remove-value-requires g c =
     let len = ap (λ l. length l) list in
     omega (arith, len, c.requires, values.now.ok.0)
 
+pub overflow_sub-self : goal.overflow_sub-self
+overflow_sub-self g c =
+    let had = had_within g.met.T.Key.Ord.total c.args.key c.args.self.now.lists.entries c.args.self.now.lawful c.args.self.now.len _ c.args.self.now.counted refl in
+    omega (arith, had, c.requires)
+
 pub invariant_of-self : goal.invariant_of-self
 invariant_of-self g c =
     let o = g.met.T.Key.Ord.total in
@@ -28,9 +33,14 @@ invariant_of-self g c =
     let values = c.unwrap-values.result in
     let held = lent_at g.T.Key.Ord.cmp c.args.key es c.get_mut.result c.get_mut.ensures.value values c.unwrap-values.ensures in
     let w = c.remove-value.new.self in
+    let list = ap (λ l. length l) (held_list g.T.Key.Ord.cmp c.args.key es values.now (sym held)) in
+    let had = had_within o c.args.key es lawful c.args.self.now.len _ c.args.self.now.counted refl in
     let none : length w.items ≡ 0 = omega (arith, c.if-left-eq0.true, c.len-left.ensures, w.ok.0) in
+    let now = emptied o c.args.key es lawful values.now held w (λ _. w.items) refl _ _ (c.get_mut.follows.holds w).0 c.remove.ensures.entries none in
     record {
-      lawful = lawful_after o c.args.key es lawful _ _ (emptied o c.args.key es lawful values.now held w (λ l. remove l c.args.place) c.remove-value.ensures.items _ _ (c.get_mut.follows.holds w).0 c.remove.ensures.entries none);
+      counted = counted_after o c.args.key es lawful c.args.self.now.len _ c.args.self.now.counted refl _ w.items now _
+          (omega (arith, list, had, c.requires, c.remove-value.ensures.len, values.now.ok.0, w.ok.0));
+      lawful = lawful_after o c.args.key es lawful _ _ now;
     }
 
 pub invariant_of-self-else-left-eq0 : goal.invariant_of-self-else-left-eq0
@@ -41,8 +51,15 @@ invariant_of-self-else-left-eq0 g c =
     let values = c.unwrap-values.result in
     let held = lent_at g.T.Key.Ord.cmp c.args.key es c.get_mut.result c.get_mut.ensures.value values c.unwrap-values.ensures in
     let w = c.remove-value.new.self in
+    let list = ap (λ l. length l) (held_list g.T.Key.Ord.cmp c.args.key es values.now (sym held)) in
+    let had = had_within o c.args.key es lawful c.args.self.now.len _ c.args.self.now.counted refl in
     let some : 0 < length w.items = omega (arith, c.if-left-eq0.false, c.len-left.ensures, w.ok.0) in
-    record { lawful = lawful_after o c.args.key es lawful _ _ (edited o c.args.key es lawful values.now held w (λ l. remove l c.args.place) c.remove-value.ensures.items _ (c.get_mut.follows.holds w).0 some) }
+    let now = edited o c.args.key es lawful values.now held w (λ _. w.items) refl _ (c.get_mut.follows.holds w).0 some in
+    record {
+      counted = counted_after o c.args.key es lawful c.args.self.now.len _ c.args.self.now.counted refl _ w.items now _
+          (omega (arith, list, had, c.requires, c.remove-value.ensures.len, values.now.ok.0, w.ok.0));
+      lawful = lawful_after o c.args.key es lawful _ _ now;
+    }
 
 pub returns-clause-value : goal.returns-clause-value
 returns-clause-value g c =

@@ -1,10 +1,20 @@
 use Rattle.std.proofs.Common.{◌≡◌, ◌<◌, [], map, length, refl, ap, sym, subst, ◌∙◌, arith}
 use Rattle.std.specs.Fn.{CalledAt}
 use Rattle.std.specs.List.Retain.{IsFiltered}
-use Rattle.key_index_flat.proofs.EditLemmas.{filtered_none}
+use Rattle.key_index_flat.proofs.content.EditLemmas.{filtered_none}
+use Rattle.key_index_flat.specs.Content.{IsLawful, item_count}
 use Rattle.key_index_parts.specs.Pairs.{list_of}
-use Rattle.key_index_parts.proofs.TreeLemmas.{held_list, no_list, left_absent, edited, emptied, lawful_after}
+use Rattle.key_index_parts.proofs.family.PartLemmas.{kept_at_most}
+use Rattle.key_index_parts.proofs.standing.TreeLemmas.{held_list, no_list, left_absent, edited, emptied, lawful_after, counted_after, had_within}
 use Rattle.key_index_parts.proofs.index.partitioned.ordered.tree.TreePart.retain.Goals as goal
+
+pub invariant_of-self : goal.invariant_of-self
+invariant_of-self g c =
+    let same = sym c.get_mut.follows.holds-at-none in
+    record {
+      counted = c.args.self.now.counted ∙ ap (λ m. item_count (map list_of m.entries)) same;
+      lawful = subst (λ m. IsLawful g.T.Key.Ord.cmp (map list_of m.entries)) same c.args.self.now.lawful;
+    }
 
 pub returns-in_default-clause-kept : goal.returns-in_default-clause-kept
 returns-in_default-clause-kept g c =
@@ -21,23 +31,49 @@ returns-in_default-clause-kept g c =
 pub returns-in_default-clause-had : goal.returns-in_default-clause-had
 returns-in_default-clause-had g c = ap (λ l. length l) (sym (no_list g.T.Key.Ord.cmp c.args.key c.args.self.now.lists.entries (sym c.in_default.ensures.value)))
 
+pub overflow_sub-self-2 : goal.overflow_sub-self-2
+overflow_sub-self-2 g c =
+    let es = c.args.self.now.lists.entries in
+    let old = c.in-Some.values.now in
+    let list = ap (λ l. length l) (held_list g.T.Key.Ord.cmp c.args.key es old (sym c.in-Some.ensures.value)) in
+    let had = had_within g.met.T.Key.Ord.total c.args.key es c.args.self.now.lawful c.args.self.now.len _ c.args.self.now.counted refl in
+    omega (arith, list, had, c.len-had.ensures, old.ok.0)
+
 pub invariant_of-self-then-left-eq0 : goal.invariant_of-self-then-left-eq0
 invariant_of-self-then-left-eq0 g c =
     let o = g.met.T.Key.Ord.total in
     let es = c.args.self.now.lists.entries in
     let lawful = c.args.self.now.lawful in
+    let old = c.in-Some.values.now in
     let v = c.retain.new.self in
+    let list = ap (λ l. length l) (held_list g.T.Key.Ord.cmp c.args.key es old (sym c.in-Some.ensures.value)) in
+    let had = had_within o c.args.key es lawful c.args.self.now.len _ c.args.self.now.counted refl in
+    let few = kept_at_most (CalledAt g.F.FnMut) c.args.should_retain old.items v.items c.retain.ensures.filtered in
     let none : length v.items ≡ 0 = omega (arith, c.if-left-eq0.true, c.len-left.ensures, v.ok.0) in
-    record { lawful = lawful_after o c.args.key es lawful _ _ (emptied o c.args.key es lawful c.in-Some.values.now c.in-Some.ensures.value v (λ _. v.items) refl _ _ (c.get_mut.follows.holds v).0 c.remove.ensures.entries none) }
+    let now = emptied o c.args.key es lawful old c.in-Some.ensures.value v (λ _. v.items) refl _ _ (c.get_mut.follows.holds v).0 c.remove.ensures.entries none in
+    record {
+      counted = counted_after o c.args.key es lawful c.args.self.now.len _ c.args.self.now.counted refl _ v.items now _
+          (omega (arith, list, had, few, c.len-had.ensures, c.len-left.ensures, old.ok.0, v.ok.0));
+      lawful = lawful_after o c.args.key es lawful _ _ now;
+    }
 
 pub invariant_of-self-else-left-eq0 : goal.invariant_of-self-else-left-eq0
 invariant_of-self-else-left-eq0 g c =
     let o = g.met.T.Key.Ord.total in
     let es = c.args.self.now.lists.entries in
     let lawful = c.args.self.now.lawful in
+    let old = c.in-Some.values.now in
     let v = c.retain.new.self in
+    let list = ap (λ l. length l) (held_list g.T.Key.Ord.cmp c.args.key es old (sym c.in-Some.ensures.value)) in
+    let had = had_within o c.args.key es lawful c.args.self.now.len _ c.args.self.now.counted refl in
+    let few = kept_at_most (CalledAt g.F.FnMut) c.args.should_retain old.items v.items c.retain.ensures.filtered in
     let some : 0 < length v.items = omega (arith, c.if-left-eq0.false, c.len-left.ensures, v.ok.0) in
-    record { lawful = lawful_after o c.args.key es lawful _ _ (edited o c.args.key es lawful c.in-Some.values.now c.in-Some.ensures.value v (λ _. v.items) refl _ (c.get_mut.follows.holds v).0 some) }
+    let now = edited o c.args.key es lawful old c.in-Some.ensures.value v (λ _. v.items) refl _ (c.get_mut.follows.holds v).0 some in
+    record {
+      counted = counted_after o c.args.key es lawful c.args.self.now.len _ c.args.self.now.counted refl _ v.items now _
+          (omega (arith, list, had, few, c.len-had.ensures, c.len-left.ensures, old.ok.0, v.ok.0));
+      lawful = lawful_after o c.args.key es lawful _ _ now;
+    }
 
 pub returns-then-left-eq0-clause-kept : goal.returns-then-left-eq0-clause-kept
 returns-then-left-eq0-clause-kept g c =

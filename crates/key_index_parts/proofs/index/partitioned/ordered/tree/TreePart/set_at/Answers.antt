@@ -1,7 +1,7 @@
 use Rattle.std.proofs.Common.{◌<◌, length, slice_set, refl, ap, sym, arith}
 use Rattle.std.proofs.lemmas.List.{length-set}
 use Rattle.std.specs.Vec.{with_item}
-use Rattle.key_index_parts.proofs.TreeLemmas.{held_list, is_held, lent_at, edited, held_some, lawful_after}
+use Rattle.key_index_parts.proofs.standing.TreeLemmas.{held_list, is_held, lent_at, edited, held_some, lawful_after, counted_after}
 use Rattle.key_index_parts.proofs.index.partitioned.ordered.tree.TreePart.set_at.Goals as goal
 
 pub unwrap-values-requires : goal.unwrap-values-requires
@@ -27,7 +27,13 @@ invariant_of-self g c =
     let held = lent_at g.T.Key.Ord.cmp c.args.key es c.get_mut.result c.get_mut.ensures.value values c.unwrap-values.ensures in
     let w = with_item values.now c.args.place c.args.value in
     let some : 0 < length w.items = omega (arith, held_some o c.args.key es lawful values.now held, length-set values.now.items c.args.place c.args.value) in
-    record { lawful = lawful_after o c.args.key es lawful _ _ (edited o c.args.key es lawful values.now held w (λ l. slice_set l c.args.place c.args.value) refl _ (c.get_mut.follows.holds w).0 some) }
+    let now = edited o c.args.key es lawful values.now held w (λ _. w.items) refl _ (c.get_mut.follows.holds w).0 some in
+    let list = ap (λ l. length l) (held_list g.T.Key.Ord.cmp c.args.key es values.now (sym held)) in
+    let same = length-set values.now.items c.args.place c.args.value in
+    record {
+      counted = counted_after o c.args.key es lawful c.args.self.now.len _ c.args.self.now.counted refl _ w.items now c.args.self.now.len (omega (arith, list, same));
+      lawful = lawful_after o c.args.key es lawful _ _ now;
+    }
 
 pub returns-clause-content : goal.returns-clause-content
 returns-clause-content g c =

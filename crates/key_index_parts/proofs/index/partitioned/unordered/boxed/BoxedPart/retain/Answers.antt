@@ -1,8 +1,8 @@
 use Rattle.std.proofs.Common.{◌≡◌, [], length, refl, ap, sym, ◌∙◌}
 use Rattle.std.specs.Fn.{CalledAt}
 use Rattle.key_index_flat.specs.Unordered.{held}
-use Rattle.key_index_flat.proofs.CursorLemmas.{list_at_edit}
-use Rattle.key_index_flat.proofs.EditLemmas.{filtered_none}
+use Rattle.key_index_flat.proofs.runs.CursorLemmas.{list_at_edit}
+use Rattle.key_index_flat.proofs.content.EditLemmas.{filtered_none}
 use Rattle.key_index_parts.specs.Boxed.{held_in}
 use Rattle.key_index_parts.proofs.index.partitioned.unordered.boxed.BoxedPart.retain.Goals as goal
 

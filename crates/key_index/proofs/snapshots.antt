@@ -1,0 +1,4 @@
+pub mod BuildLemmas
+pub mod NearestLemmas
+pub mod RecordLemmas
+pub mod SnapshotLemmas

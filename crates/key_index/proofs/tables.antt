@@ -1,0 +1,3 @@
+pub mod TableCopies
+pub mod TableLemmas
+pub mod TableMaps

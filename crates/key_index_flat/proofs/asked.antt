@@ -1,0 +1,4 @@
+pub mod Asked
+pub mod TurnLemmas
+pub mod KeptLemmas
+pub mod VisitLemmas

@@ -1,0 +1,5 @@
+pub mod ContentLemmas
+pub mod ChainLemmas
+pub mod KeyLemmas
+pub mod EditLemmas
+pub mod ValueLemmas

@@ -1,0 +1,5 @@
+pub mod NeighbourLemmas
+pub mod ReversedLemmas
+pub mod LeastLemmas
+pub mod FullKeyLemmas
+pub mod Nested

@@ -1,0 +1,3 @@
+pub mod CursorLemmas
+pub mod RunLemmas
+pub mod ViewLemmas

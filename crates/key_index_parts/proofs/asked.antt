@@ -1,0 +1,3 @@
+pub mod AheadLemmas
+pub mod VisitLemmas
+pub mod KeptInTurn

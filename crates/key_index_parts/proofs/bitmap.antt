@@ -1,0 +1,2 @@
+pub mod BitmapLemmas
+pub mod WordLemmas

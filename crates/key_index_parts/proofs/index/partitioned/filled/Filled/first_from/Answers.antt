@@ -1,9 +1,0 @@
-use Rattle.std.proofs.Common.{subst}
-use Rattle.key_index_parts.specs.Filled.{IsFirstFrom}
-use Rattle.key_index_parts.proofs.FilledLemmas.{same_places}
-use Rattle.key_index_parts.proofs.index.partitioned.filled.Filled.first_from.Goals as goal
-
-pub returns : goal.returns
-returns c =
-    let same = same_places c.self.inside.places c.self.inside.count c.self.invariant.unused in
-    rw (← c.self.view_is) (subst (λ filled. IsFirstFrom filled c.args.start c.first_from.result) same c.first_from.ensures.first)

@@ -1,0 +1,33 @@
+use Rattle.std.proofs.Common.{◌≡◌, ◌≤◌, [], length, ap, subst, ◌∙◌}
+use Rattle.key_index_flat.specs.View.{View, with_edit, with_pruned}
+use Rattle.key_index_parts.specs.Family.{Kept, settled_in, held_at, view_of}
+use Rattle.key_index_parts.specs.Gathered.{pair_cmp}
+use Rattle.key_index_parts.specs.Standing.{Leaves, entries_at}
+use Rattle.key_index_parts.proofs.standing.StandingLemmas.{resettles, settles_edit}
+use Rattle.key_index_parts.proofs.family.StorageLemmas.{kept_twice}
+use Rattle.key_index_parts.proofs.index.partitioned.storage.Storage.remove.Goals as goal
+
+pub returns-in-Ok-clause-removed : goal.returns-in-Ok-clause-removed
+returns-in-Ok-clause-removed g c =
+    let view : Kept _ _ _ → View _ _ = λ s. view_of g.row.P g.T.Translator.translated s in
+    let cmp = g.T.Key.Ord.cmp in
+    let now : view c.move_back.new.self ≡ view c.take.new.self = ap view c.move_back.ensures.same in
+    now ∙ c.take.ensures.removed
+    ∙ ap (λ s. with_pruned (with_edit (pair_cmp cmp) (view s) c.args.slot (λ _. [])) (length (held_at cmp s.parts c.args.slot))) c.in-Ok.ensures.settled
+
+pub returns-in-Ok-clause-settled : goal.returns-in-Ok-clause-settled
+returns-in-Ok-clause-settled g c = λ is.
+    let old = c.args.self.now.standings in
+    let left = c.take.new.self.standings in
+    let n = c.args.slot.0 in
+    let raised = ap (λ s. s.standings) c.in-Ok.ensures.settled ∙ ap (λ b. settled_in b old n) is in
+    resettles old left c.move_back.new.self.standings n c.in-Ok.ensures.within
+    (settles_edit old n c.in-Ok.ensures.within c.in-Ok.ensures.least left
+    (subst (λ s. Leaves s n left) raised c.take.ensures.standing)
+    (subst (λ s. entries_at left n ≤ entries_at s n) raised c.take.ensures.fewer))
+    c.move_back.ensures.back
+
+pub returns-in-Ok-clause-kept : goal.returns-in-Ok-clause-kept
+returns-in-Ok-clause-kept g c =
+    let cmp = g.T.Key.Ord.cmp in
+    kept_twice cmp _ _ _ (kept_twice cmp _ _ _ c.settle.ensures.kept c.take.ensures.kept) c.move_back.ensures.kept

@@ -1,0 +1,9 @@
+pub mod PairLemmas
+pub mod PairEdits
+pub mod GroupLemmas
+pub mod RunLemmas
+pub mod FoundRun
+pub mod EndLemmas
+pub mod DrainLemmas
+pub mod ZipLemmas
+pub mod SearchLemmas

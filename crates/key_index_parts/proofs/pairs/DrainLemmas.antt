@@ -1,0 +1,189 @@
+-- The runs of pairs whose keys never fall, one after another.
+--     grouped-first        the first run: its key, as it stands last in the run, its values, and what the pairs behind it stand for
+--     values_of-grouped    the lists of the content, one behind another, are the values
+--     next_room            the room for one run more
+--     run_filled, ..       one run more has its values
+use Rattle.std.proofs.Common.{◌≡◌, ℕ, zero, suc, ◌+◌, ◌<◌, ◌≤◌, false, cond, T, List, [], ◌∷◌, ◌++◌, length, take, drop, map, slice_set, get_or, All, ◌-◌, refl, sym, ap, subst, ◌∙◌, arith}
+use Rattle.std.proofs.Math.Seq.{take-append_seam, drop-append_seam}
+use Rattle.std.proofs.lemmas.List.{map-append, length-map, length-drop, drop-map, drop-drop, drop_more, get_or-drop, length-append, take_more_set, map_push, drop-set-lt}
+use Rattle.std.proofs.lemmas.Map.Made.{keys_of-zip}
+use Rattle.std.proofs.lemmas.List.Elements.{All-cons, All-head, All-weaker}
+use Rattle.std.specs.List.{filter, flat_map, zip}
+use Rattle.std.specs.List.Sorted.{IsSorted}
+use Rattle.std.specs.Map.{keys_of, values_of}
+use Rattle.std.specs.Cmp.{IsTotalOrder, tied_itself, alike_right}
+use Rattle.std.specs.FinMap.{put}
+use Rattle.std.specs.FinMap.Entries.{by_order}
+use Rattle.std.specs.declared.cmp.Ordering.{Ordering}
+use Rattle.std.specs.declared.cmp.Ordering.TheVariants.{Less, Equal, Greater}
+use Rattle.std.specs.Ordering.{is_lt, is_le, is_eq, eq_by_cmp, ordering_reverse}
+use Rattle.std.specs.declared.vec.Vec.{Vec}
+use Rattle.std.specs.Vec.{vec_capacity}
+use Rattle.key_index_flat.specs.Content.{Content}
+use Rattle.key_index_flat.specs.Neighbours.{entries_above}
+use Rattle.key_index_parts.specs.Pairs.{run_of, grouped, list_of, room_of, room_for}
+use Rattle.key_index_parts.proofs.pairs.SearchLemmas.{Rises, Rises-drop, rises}
+use Rattle.key_index_parts.proofs.pairs.ZipLemmas.{length-zip}
+use Rattle.key_index_parts.proofs.pairs.PairLemmas.{filter-none, length-filter-keys, length-filter-upto}
+use Rattle.key_index_parts.proofs.pairs.RunLemmas.{all_keys, above_too, none_at, parts, pairs_at}
+use Rattle.key_index_parts.proofs.pairs.GroupLemmas.{list_at-grouped, run_of-alike}
+
+module _ {K V : Type 0} {cmp : K → K → Ordering} (o : IsTotalOrder cmp) where
+  -- what stands at the front once a first pair is put to a content that begins with this entry
+  put_first : (k : K) (l : List V) (f : K) (m : List V) (c : Content K V) (r : Ordering) → cmp k f ≡ r → put cmp k l ((f, m) ∷ c) ≡ by_order r ((k, l) ∷ (f, m) ∷ c) ((f, l) ∷ c) ((f, m) ∷ put cmp k l c)
+  put_first k l f m c r e = ap (λ r. by_order r ((k, l) ∷ (f, m) ∷ c) ((f, l) ∷ c) ((f, m) ∷ put cmp k l c)) e
+
+  -- after a first pair, m more of its run
+  abbrev pub first_key : K × V → List (K × V) → K → K
+  first_key e es d = get_or (keys_of (e ∷ es)) (length (run_of cmp es e.0)) d
+
+  abbrev FirstRun : K × V → List (K × V) → Content K V → K → List V → Type 0
+  FirstRun e es c d r =
+      (c ≡ (get_or (keys_of (e ∷ es)) (length r) d, e.1 ∷ r) ∷ grouped cmp (drop (length r) es)) × (cmp e.0 (get_or (keys_of (e ∷ es)) (length r) d) ≡ Equal)
+
+  pub grouped-first : (e : K × V) (es : List (K × V)) (d : K) → Rises cmp (keys_of (e ∷ es)) → FirstRun e es (grouped cmp (e ∷ es)) d (run_of cmp es e.0)
+  grouped-first e [] d h = (refl, tied_itself o e.0)
+  grouped-first e (f ∷ fs) d h =
+      let rest : FirstRun f fs (grouped cmp (f ∷ fs)) d (run_of cmp fs f.0) = grouped-first f fs d h.1 in
+      let k = get_or (keys_of (f ∷ fs)) (length (run_of cmp fs f.0)) d in
+      let behind = grouped cmp (drop (length (run_of cmp fs f.0)) fs) in
+      let same : cmp e.0 k ≡ cmp e.0 f.0 = sym (alike_right o f.0 k e.0 rest.1) in
+      elim (cmp e.0 f.0) as (λ r. cmp e.0 f.0 ≡ r → FirstRun e (f ∷ fs) (grouped cmp (e ∷ f ∷ fs)) d (run_of cmp (f ∷ fs) e.0)) [
+        | Less ↦ λ q.
+            let least : All (λ g. is_lt (cmp g.0 e.0) ≡ false) (f ∷ fs) = all_keys (λ x. is_lt (cmp x e.0) ≡ false) (f ∷ fs) h.0 in
+            let first : All (λ g. is_lt (cmp g.0 f.0) ≡ false) fs = all_keys (λ x. is_lt (cmp x f.0) ≡ false) fs h.1.0 in
+            let over : All (λ g. cmp e.0 g.0 ≡ Less) (f ∷ fs) = All-cons (λ g. cmp e.0 g.0 ≡ Less) f fs q (All-weaker (λ g. is_lt (cmp g.0 f.0) ≡ false) (λ g. cmp e.0 g.0 ≡ Less) (λ g n. above_too o e.0 f.0 g.0 n q) fs first) in
+            let none : run_of cmp (f ∷ fs) e.0 ≡ [] = ap values_of (none_at o (f ∷ fs) e.0 over) in
+            subst (λ r. FirstRun e (f ∷ fs) (grouped cmp (e ∷ f ∷ fs)) d r) (sym none) (
+              ap (λ l. put cmp e.0 (e.1 ∷ l) (grouped cmp (f ∷ fs))) (list_at-grouped o (f ∷ fs) e.0 ∙ none)
+                  ∙ ap (put cmp e.0 (e.1 ∷ [])) rest.0 ∙ put_first e.0 (e.1 ∷ []) k _ behind Less (same ∙ q) ∙ ap (λ c. (e.0, e.1 ∷ []) ∷ c) (sym rest.0),
+              tied_itself o e.0,
+            )
+        | Equal ↦ λ q.
+            let at = filter (λ g. eq_by_cmp cmp f.0 g.0) fs in
+            let run : run_of cmp (f ∷ fs) e.0 ≡ f.1 ∷ run_of cmp fs f.0 =
+            run_of-alike o (f ∷ fs) e.0 f.0 q ∙ ap (λ r. values_of (cond (is_eq r) (f ∷ at) at)) (tied_itself o f.0) in
+            subst (λ r. FirstRun e (f ∷ fs) (grouped cmp (e ∷ f ∷ fs)) d r) (sym run) (
+              ap (λ l. put cmp e.0 (e.1 ∷ l) (grouped cmp (f ∷ fs))) (list_at-grouped o (f ∷ fs) e.0 ∙ run)
+                  ∙ ap (put cmp e.0 (e.1 ∷ f.1 ∷ run_of cmp fs f.0)) rest.0 ∙ put_first e.0 _ k _ behind Equal (same ∙ q),
+              same ∙ q,
+            )
+        | Greater ↦ λ q.
+            let under : is_lt (cmp f.0 e.0) ≡ false = All-head (λ x. is_lt (cmp x e.0) ≡ false) f.0 (keys_of fs) h.0 in
+            absurd (subst T (sym (ap is_lt (o.antisymm f.0 e.0 ∙ ap ordering_reverse q)) ∙ under) tt)
+      ] refl
+
+  -- the others of the first run stand first
+  behind_first : (e : K × V) (es : List (K × V)) → Rises cmp (keys_of (e ∷ es)) → es ≡ pairs_at o es e.0 ++ entries_above cmp es e.0
+  behind_first e es h = parts o es e.0 h.1 ∙ ap (λ l. l ++ (pairs_at o es e.0 ++ entries_above cmp es e.0)) (filter-none (λ f. is_lt (cmp f.0 e.0)) es (all_keys (λ x. is_lt (cmp x e.0) ≡ false) es h.0))
+
+  rest_rises : (n : ℕ) (es : List (K × V)) → Rises cmp (keys_of es) → Rises cmp (keys_of (drop n es))
+  rest_rises n es h = subst (Rises cmp) (drop-map (λ e. e.0) n es) (Rises-drop o n (keys_of es) h)
+
+  values_upto : (n : ℕ) (es : List (K × V)) → length es ≤ n → Rises cmp (keys_of es) → flat_map (λ e. e.1) (grouped cmp es) ≡ values_of es
+  values_upto n [] l h = refl
+  values_upto zero (e ∷ es) l h = absurd (omega arith)
+  values_upto (suc n) (e ∷ es) l h =
+      let run = run_of cmp es e.0 in
+      let at = pairs_at o es e.0 in
+      let above = entries_above cmp es e.0 in
+      let split = behind_first e es h in
+      let len = length-map at (λ f. f.1) in
+      let left = length-drop (length run) es in
+      let fewer : length (drop (length run) es) ≤ n = omega (arith, left, l) in
+      let rest : drop (length run) es ≡ above = ap (λ m. drop m es) len ∙ ap (drop (length at)) split ∙ drop-append_seam at above in
+      ap (flat_map (λ e. e.1)) (grouped-first e es e.0 h).0
+      ∙ ap (λ l. e.1 ∷ run ++ l) (values_upto n (drop (length run) es) fewer (rest_rises (length run) es h.1) ∙ ap values_of rest)
+      ∙ ap (λ l. e.1 ∷ l) (sym (ap values_of split ∙ map-append (λ f. f.1) at above))
+
+  pub values_of-grouped : (es : List (K × V)) → Rises cmp (keys_of es) → flat_map (λ e. e.1) (grouped cmp es) ≡ values_of es
+  values_of-grouped es h = values_upto (length es) es (omega arith) h
+
+  -- the room for the first run, and for those behind it
+  first_room : (e : K × V) (es : List (K × V)) (d : K) (count : ℕ) → Rises cmp (keys_of (e ∷ es)) → count ≡ length (filter (λ x. is_le (cmp x e.0)) (keys_of (e ∷ es)))
+      → map room_for (grouped cmp (e ∷ es)) ≡ ((get_or (keys_of (e ∷ es)) (count - 1) d, []), count) ∷ map room_for (grouped cmp (drop count (e ∷ es)))
+  first_room e es d count h counted =
+      let run = run_of cmp es e.0 in
+      let at = pairs_at o es e.0 in
+      let lowest : All (λ x. is_lt (cmp x e.0) ≡ false) (keys_of (e ∷ es)) = All-cons (λ x. is_lt (cmp x e.0) ≡ false) e.0 (keys_of es) (ap is_lt (tied_itself o e.0)) h.0 in
+      let none = ap length (filter-none (λ f. is_lt (cmp f.0 e.0)) (e ∷ es) (all_keys (λ x. is_lt (cmp x e.0) ≡ false) (e ∷ es) lowest)) in
+      let own : length (filter (λ f. eq_by_cmp cmp e.0 f.0) (e ∷ es)) ≡ suc (length at) = ap (λ r. length (cond (is_eq r) (e ∷ at) at)) (tied_itself o e.0) in
+      let both = length-filter-upto o e.0 (e ∷ es) in
+      let keys = length-filter-keys (λ x. is_le (cmp x e.0)) (e ∷ es) in
+      let len = length-map at (λ f. f.1) in
+      let many : count ≡ suc (length run) = omega (arith, counted, none, own, both, keys, len) in
+      let last : length run ≡ count - 1 = omega (arith, many) in
+      ap (map room_for) (grouped-first e es d h).0
+      ∙ (λ i. ((get_or (keys_of (e ∷ es)) (last i) d, []), sym many i) ∷ map room_for (grouped cmp (drop (sym many i) (e ∷ es))))
+
+  module _ (ks : List K) (vs : List V) (sized : length ks ≡ length vs) (h : IsSorted cmp ks) (start count : ℕ) (k d : K) (within : start < length ks) (here : k ≡ get_or ks start d)
+      (counted : count ≡ length (filter (λ x. is_le (cmp x k)) (drop start ks))) where
+    abbrev es : List (K × V)
+    es = zip ks vs
+
+    room_from : (l : List (K × V)) → drop start es ≡ l → map room_for (grouped cmp l) ≡ ((get_or ks (start + (count - 1)) d, []), count) ∷ map room_for (grouped cmp (drop (start + count) es))
+    room_from [] is =
+        let left = sym (length-drop start es) ∙ ap length is in
+        let len = length-zip ks vs sized in absurd (omega (arith, left, len, within))
+    room_from (f ∷ fs) is =
+        let keys : keys_of (f ∷ fs) ≡ drop start ks = ap keys_of (sym is) ∙ sym (drop-map (λ e. e.0) start es) ∙ ap (drop start) (keys_of-zip ks vs (sym sized)) in
+        let begin : start + 0 ≡ start = omega arith in
+        let same : k ≡ f.0 = here ∙ sym (ap (λ l. get_or l 0 d) keys ∙ get_or-drop start ks 0 d ∙ ap (λ n. get_or ks n d) begin) in
+        let up : Rises cmp (keys_of (f ∷ fs)) = subst (Rises cmp) (sym keys) (Rises-drop o start ks (rises o ks h)) in
+        first_room f fs d count up (counted ∙ (λ i. length (filter (λ x. is_le (cmp x (same i))) (sym keys i))))
+        ∙ (λ i. ((get_or (keys i) (count - 1) d, []), count) ∷ map room_for (grouped cmp (drop count (sym is i))))
+        ∙ (λ i. ((get_or-drop start ks (count - 1) d i, []), count) ∷ map room_for (grouped cmp (drop-drop count start es i)))
+
+    pub next_room : map room_for (grouped cmp (drop start es)) ≡ ((get_or ks (start + (count - 1)) d, []), count) ∷ map room_for (grouped cmp (drop (start + count) es))
+    next_room = room_from (drop start es) refl
+
+-- ---- runs that are filled in turn
+
+take_next : {X : Type 0} (i : ℕ) (xs : List X) (x : X) (rest : List X) → drop i xs ≡ x ∷ rest → take (i + 1) xs ≡ take i xs ++ x ∷ []
+take_next zero [] x rest h = cc
+take_next zero (y ∷ ys) x rest h = let same : y ≡ x = cc in ap (λ z. z ∷ []) same
+take_next (suc i) [] x rest h = cc
+take_next (suc i) (y ∷ ys) x rest h = let next : suc i + 1 ≡ suc (i + 1) = omega arith in ap (λ n. take n (y ∷ ys)) next ∙ ap (λ l. y ∷ l) (take_next i ys x rest h)
+
+module _ {K V A : Type 0} (c : Content K V) (rs : List (K × Vec V A)) (i : ℕ) (r : K × Vec V A) (within : i < length rs) (here : r ≡ get_or rs i r)
+    (rooms : map room_of (drop i rs) ≡ map room_for (drop i c)) where
+  found_at : (l : Content K V) → drop i c ≡ l → (e : K × List V) × (drop i c ≡ e ∷ drop (i + 1) c) × (room_of r ≡ room_for e) × (map room_of (drop (i + 1) rs) ≡ map room_for (drop (i + 1) c))
+  found_at [] is =
+      let none : room_of (get_or rs i r) ∷ map room_of (drop (i + 1) rs) ≡ [] = ap (map room_of) (sym (drop_more rs i r within)) ∙ rooms ∙ ap (map room_for) is in cc
+  found_at (e ∷ es) is =
+      let behind : es ≡ drop (i + 1) c = ap (drop 1) (sym is) ∙ drop-drop 1 i c in
+      let both : room_of (get_or rs i r) ∷ map room_of (drop (i + 1) rs) ≡ room_for e ∷ map room_for es = ap (map room_of) (sym (drop_more rs i r within)) ∙ rooms ∙ ap (map room_for) is in
+      let first : room_of (get_or rs i r) ≡ room_for e = cc in
+      let others : map room_of (drop (i + 1) rs) ≡ map room_for es = cc in
+      (e, is ∙ ap (λ l. e ∷ l) behind, ap room_of here ∙ first, others ∙ ap (map room_for) behind)
+
+  -- the entry that stands beside the run at a place
+  pub at_place : (e : K × List V) × (drop i c ≡ e ∷ drop (i + 1) c) × (room_of r ≡ room_for e) × (map room_of (drop (i + 1) rs) ≡ map room_for (drop (i + 1) c))
+  at_place = found_at (drop i c) refl
+
+  module _ (left : List V) (is : left ≡ flat_map (λ e. e.1) (drop i c)) where
+    next_values : left ≡ at_place.0.1 ++ flat_map (λ e. e.1) (drop (i + 1) c)
+    next_values = is ∙ ap (flat_map (λ e. e.1)) at_place.1
+
+    room_is : vec_capacity r.1 ≡ length at_place.0.1
+    room_is = ap (λ p. p.1) at_place.2
+
+    pub run_empty : r.1.items ≡ []
+    run_empty = ap (λ p. p.0.1) at_place.2
+
+    pub run_enough : vec_capacity r.1 ≤ length left
+    run_enough = let whole = ap length next_values ∙ length-append at_place.0.1 (flat_map (λ e. e.1) (drop (i + 1) c)) in let room = room_is in omega (arith, whole, room)
+
+    -- once it has its values
+    pub run_filled : (new : Vec V A) → new.items ≡ take (vec_capacity r.1) left → map list_of (take i rs) ≡ take i c → map list_of (take (i + 1) (slice_set rs i (r.0, new))) ≡ take (i + 1) c
+    run_filled new filled done =
+        let values : new.items ≡ at_place.0.1 = filled ∙ (λ j. take (room_is j) (next_values j)) ∙ take-append_seam at_place.0.1 (flat_map (λ e. e.1) (drop (i + 1) c)) in
+        ap (map list_of) (take_more_set rs i (r.0, new) within) ∙ map_push list_of (take i rs) (r.0, new)
+        ∙ (λ j. done j ++ (ap (λ p. p.0.0) at_place.2 j, values j) ∷ [])
+        ∙ sym (take_next i c at_place.0 (drop (i + 1) c) at_place.1)
+
+    pub rooms_left : (new : Vec V A) → map room_of (drop (i + 1) (slice_set rs i (r.0, new))) ≡ map room_for (drop (i + 1) c)
+    rooms_left new = ap (map room_of) (drop-set-lt (i + 1) rs i (r.0, new) (omega arith)) ∙ at_place.3
+
+    pub values_left : (rest : List V) → rest ≡ drop (vec_capacity r.1) left → rest ≡ flat_map (λ e. e.1) (drop (i + 1) c)
+    values_left rest h = h ∙ (λ j. drop (room_is j) (next_values j)) ∙ drop-append_seam at_place.0.1 (flat_map (λ e. e.1) (drop (i + 1) c))

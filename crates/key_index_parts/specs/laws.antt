@@ -1,0 +1,5 @@
+pub mod GatheredLaws
+pub mod PairLaws
+pub mod PrefixLaws
+pub mod RangeLaws
+pub mod StandingLaws

@@ -1,0 +1,238 @@
+-- The laws of standing, in its own words. The threshold is at least 1, and the partition of the number n is one of the index's.
+--     inline_filled    a part that isn't spilled is held to nothing
+--     call_stands      after a call by key a partition has the values that it was left with, and is spilled exactly where there are some and it
+--                      was spilled, had reached the threshold, or reaches it by the call
+--     call_spills      a spill is counted exactly where it stood inline and had reached the threshold, or reaches it by the call
+--     call_moved       a spill before the call moves what the partition held, and one behind it what it is left with
+--     call_inline      it has fewer values in arrays than the threshold
+--     call_others      every other partition stands as before
+--     back_stands      after a call that takes values out it stands so too, or a small one stands in arrays: what was moved back is counted
+--     back_spills      that is no spill
+--     back_inline      it has fewer values in arrays than the threshold
+--     back_others      every other partition stands as before
+use Rattle.std.proofs.Common.{◌≡◌, ◌≢◌, ◌⊎◌, inl, inr, ℕ, ◌*◌, ◌<◌, ◌≤◌, Bool, true, false, not, ◌&&◌, ◌||◌, nat_lt, nat_le, if◌then◌else◌, T, length, set, get_or, refl, sym, ap, subst, ◌∙◌, arith}
+use Rattle.std.proofs.lemmas.Bool.Decides.{nat_tests}
+use Rattle.std.proofs.lemmas.List.{length-set, get_or-set_same, get_or-set_other}
+use Rattle.std.specs.Prelude.{IsTrue}
+use Rattle.key_index_flat.specs.View.{pruned_after}
+use Rattle.key_index_parts.specs.Standing.{Standings, MovesBack, Resettles, standing_at, entries_at, inline_len, is_reached, is_small, with_spill, with_entries, spilled_if_reached, after_call}
+
+pub inline_filled : (n : ℕ) → IsTrue false → 0 < n
+inline_filled n h = absurd (subst T (sym h) tt)
+
+spilled_then : (a b : Bool) → not a && b ≡ true → true ≡ (a || b)
+spilled_then true b e = refl
+spilled_then false true e = refl
+spilled_then false false e = sym e
+
+stays_so : (a b : Bool) → not a && b ≡ false → a ≡ (a || b)
+stays_so true b e = refl
+stays_so false true e = sym e
+stays_so false false e = refl
+
+as_many : (s : Standings) (n : ℕ) → length (spilled_if_reached s n).parts ≡ length s.parts
+as_many s n = elim (is_reached s n) as (λ r. length (if r then with_spill s n else s).parts ≡ length s.parts) [
+  | true ↦ length-set s.parts n (record { entries = entries_at s n; spilled = true })
+  | false ↦ refl
+]
+
+module _ (s : Standings) (n : ℕ) (inside : n < length s.parts) where
+  at_set : (m : ℕ) (b : Bool) → get_or (set s.parts n (record { entries = m; spilled = b })) n (record { entries = 0; spilled = false }) ≡ record { entries = m; spilled = b }
+  at_set m b = get_or-set_same s.parts n (record { entries = m; spilled = b }) (record { entries = 0; spilled = false }) inside
+
+  -- once it has spilled where it had reached the threshold
+  then_stands : standing_at (spilled_if_reached s n) n ≡ record { entries = entries_at s n; spilled = (standing_at s n).spilled || nat_le s.threshold (entries_at s n) }
+  then_stands =
+      elim (is_reached s n) as (λ r. is_reached s n ≡ r → standing_at (if r then with_spill s n else s) n
+      ≡ record { entries = entries_at s n; spilled = (standing_at s n).spilled || nat_le s.threshold (entries_at s n) }) [
+        | true ↦ λ e. at_set (entries_at s n) true ∙ ap (λ b. record { entries = entries_at s n; spilled = b }) (spilled_then (standing_at s n).spilled (nat_le s.threshold (entries_at s n)) e)
+        | false ↦ λ e. ap (λ b. record { entries = entries_at s n; spilled = b }) (stays_so (standing_at s n).spilled (nat_le s.threshold (entries_at s n)) e)
+      ] refl
+
+  left_stands : (m : ℕ) → standing_at (with_entries s n m) n ≡ record { entries = m; spilled = (standing_at s n).spilled && nat_lt 0 m }
+  left_stands m = at_set m ((standing_at s n).spilled && nat_lt 0 m)
+
+  same_threshold : (spilled_if_reached s n).threshold ≡ s.threshold
+  same_threshold = elim (is_reached s n) as (λ r. (if r then with_spill s n else s).threshold ≡ s.threshold) [ true ↦ refl | false ↦ refl ]
+
+gathered_tests : (t m : ℕ) (x : Bool) → 1 ≤ t → ((x && nat_lt 0 m) || nat_le t m) ≡ ((x || nat_le t m) && nat_lt 0 m)
+gathered_tests t m true least = grind (arith, nat_tests)
+gathered_tests t m false least = grind (arith, nat_tests)
+
+not_reached : (t m : ℕ) (x : Bool) → x ≡ true → 1 ≤ t → (not (x && nat_lt 0 m) && nat_le t m) ≡ false
+not_reached t m true e least = grind (arith, nat_tests)
+not_reached t m false e least = grind (arith, nat_tests)
+
+new_reached : (t m : ℕ) (x : Bool) → 1 ≤ t → (not (x && nat_lt 0 m) && nat_le t m) ≡ (not x && nat_le t m)
+new_reached t m true least = grind (arith, nat_tests)
+new_reached t m false least = refl
+
+module _ (s : Standings) (n m : ℕ) (inside : n < length s.parts) (least : 1 ≤ s.threshold) where
+  a_inside : n < length (spilled_if_reached s n).parts
+  a_inside = let same = as_many s n in omega (arith, same, inside)
+
+  b_inside : n < length (with_entries (spilled_if_reached s n) n m).parts
+  b_inside =
+      let same = length-set (spilled_if_reached s n).parts n (record { entries = m; spilled = (standing_at (spilled_if_reached s n) n).spilled && nat_lt 0 m }) in
+      let inner = a_inside in omega (arith, same, inner)
+
+  b_stands : standing_at (with_entries (spilled_if_reached s n) n m) n
+      ≡ record { entries = m; spilled = ((standing_at s n).spilled || nat_le s.threshold (entries_at s n)) && nat_lt 0 m }
+  b_stands = left_stands (spilled_if_reached s n) n a_inside m
+      ∙ ap (λ p. record { entries = m; spilled = p.spilled && nat_lt 0 m }) (then_stands s n inside)
+
+  b_reached : is_reached (with_entries (spilled_if_reached s n) n m) n
+      ≡ (not (((standing_at s n).spilled || nat_le s.threshold (entries_at s n)) && nat_lt 0 m) && nat_le s.threshold m)
+  b_reached = (λ i. not (b_stands i).spilled && nat_le (same_threshold s n inside i) (b_stands i).entries)
+
+  pub call_stands : standing_at (after_call s n m) n ≡ record {
+    entries = m;
+    spilled = ((standing_at s n).spilled || nat_le s.threshold (entries_at s n) || nat_le s.threshold m) && nat_lt 0 m;
+  }
+  call_stands =
+      then_stands (with_entries (spilled_if_reached s n) n m) n b_inside
+      ∙ (λ i. record { entries = (b_stands i).entries; spilled = (b_stands i).spilled || nat_le (same_threshold s n inside i) (b_stands i).entries })
+      ∙ ap (λ b. record { entries = m; spilled = b }) (gathered_tests s.threshold m ((standing_at s n).spilled || nat_le s.threshold (entries_at s n)) least ∙ regroup (standing_at s n).spilled (nat_le s.threshold (entries_at s n)) (nat_le s.threshold m))
+    where
+      regroup : (a b c : Bool) → (((a || b) || c) && nat_lt 0 m) ≡ ((a || b || c) && nat_lt 0 m)
+      regroup true b c = refl
+      regroup false b c = refl
+
+  spills_cases : (s' : Standings) (r : Bool) → is_reached s' n ≡ r → (spilled_if_reached s' n).spills ≡ (if r then pruned_after s'.spills 1 else s'.spills)
+  spills_cases s' true e = ap (λ r. (if r then with_spill s' n else s').spills) e
+  spills_cases s' false e = ap (λ r. (if r then with_spill s' n else s').spills) e
+
+  pub call_spills : (after_call s n m).spills ≡ pruned_after s.spills (
+      if not (standing_at s n).spilled && (nat_le s.threshold (entries_at s n) || nat_le s.threshold m) then 1 else 0)
+  call_spills =
+      spills_cases (with_entries (spilled_if_reached s n) n m) (is_reached (with_entries (spilled_if_reached s n) n m) n) refl
+      ∙ (λ i. if b_reached i then pruned_after (spills_cases s (is_reached s n) refl i) 1 else spills_cases s (is_reached s n) refl i)
+      ∙ told (standing_at s n).spilled (nat_le s.threshold (entries_at s n))
+    where
+      told : (a b : Bool) → (if not ((a || b) && nat_lt 0 m) && nat_le s.threshold m
+          then pruned_after (if not a && b then pruned_after s.spills 1 else s.spills) 1
+          else (if not a && b then pruned_after s.spills 1 else s.spills))
+          ≡ pruned_after s.spills (if not a && (b || nat_le s.threshold m) then 1 else 0)
+      told true b = ap (λ r. if r then pruned_after s.spills 1 else s.spills) (not_reached s.threshold m true refl least) ∙ none
+        where
+          none : s.spills ≡ pruned_after s.spills 0
+          none = omega arith
+      told false true = ap (λ r. if r then pruned_after (pruned_after s.spills 1) 1 else pruned_after s.spills 1) (not_reached s.threshold m true refl least)
+      told false false = elim (nat_le s.threshold m) as (λ r. (if r then pruned_after s.spills 1 else s.spills) ≡ pruned_after s.spills (if r then 1 else 0)) [
+        | true ↦ refl
+        | false ↦ omega arith
+      ]
+
+  moved_cases : (s' : Standings) (r : Bool) → is_reached s' n ≡ r
+      → (spilled_if_reached s' n).moved ≡ (if r then pruned_after s'.moved (entries_at s' n) else s'.moved)
+  moved_cases s' true e = ap (λ r. (if r then with_spill s' n else s').moved) e
+  moved_cases s' false e = ap (λ r. (if r then with_spill s' n else s').moved) e
+
+  pub call_moved : (after_call s n m).moved ≡ pruned_after s.moved (
+      if is_reached s n then entries_at s n else if not (standing_at s n).spilled && nat_le s.threshold m then m else 0)
+  call_moved =
+      moved_cases (with_entries (spilled_if_reached s n) n m) (is_reached (with_entries (spilled_if_reached s n) n m) n) refl
+      ∙ (λ i. if b_reached i then pruned_after (moved_cases s (is_reached s n) refl i) (b_stands i).entries else moved_cases s (is_reached s n) refl i)
+      ∙ told (standing_at s n).spilled (nat_le s.threshold (entries_at s n))
+    where
+      told : (a b : Bool) → (if not ((a || b) && nat_lt 0 m) && nat_le s.threshold m
+          then pruned_after (if not a && b then pruned_after s.moved (entries_at s n) else s.moved) m
+          else (if not a && b then pruned_after s.moved (entries_at s n) else s.moved))
+          ≡ pruned_after s.moved (if not a && b then entries_at s n else if not a && nat_le s.threshold m then m else 0)
+      told true b = ap (λ r. if r then pruned_after s.moved m else s.moved) (not_reached s.threshold m true refl least) ∙ none
+        where
+          none : s.moved ≡ pruned_after s.moved 0
+          none = omega arith
+      told false true = ap (λ r. if r then pruned_after (pruned_after s.moved (entries_at s n)) m else pruned_after s.moved (entries_at s n)) (not_reached s.threshold m true refl least)
+      told false false = elim (nat_le s.threshold m) as (λ r. (if r then pruned_after s.moved m else s.moved) ≡ pruned_after s.moved (if r then m else 0)) [
+        | true ↦ refl
+        | false ↦ omega arith
+      ]
+
+  few : (b : Bool) → (if (b || nat_le s.threshold m) && nat_lt 0 m then 0 else m) < s.threshold
+  few true = grind (arith, nat_tests, least)
+  few false = grind (arith, nat_tests, least)
+
+  pub call_inline : inline_len (after_call s n m) n < s.threshold
+  call_inline =
+      subst (λ p. (if p.spilled then 0 else p.entries) < s.threshold) (sym call_stands)
+      (subst (λ b. (if b && nat_lt 0 m then 0 else m) < s.threshold) (apart (standing_at s n).spilled (nat_le s.threshold (entries_at s n)) (nat_le s.threshold m))
+      (few ((standing_at s n).spilled || nat_le s.threshold (entries_at s n))))
+    where
+      apart : (a b c : Bool) → ((a || b) || c) ≡ (a || b || c)
+      apart true b c = refl
+      apart false b c = refl
+
+-- every other partition stands as before
+module _ (n j : ℕ) (other : j ≢ n) where
+  others_spilled : (s : Standings) → standing_at (spilled_if_reached s n) j ≡ standing_at s j
+  others_spilled s = elim (is_reached s n) as (λ r. standing_at (if r then with_spill s n else s) j ≡ standing_at s j) [
+    | true ↦ get_or-set_other s.parts n j (record { entries = entries_at s n; spilled = true }) (record { entries = 0; spilled = false }) other
+    | false ↦ refl
+  ]
+
+  others_left : (s : Standings) (m : ℕ) → standing_at (with_entries s n m) j ≡ standing_at s j
+  others_left s m = get_or-set_other s.parts n j (record { entries = m; spilled = (standing_at s n).spilled && nat_lt 0 m }) (record { entries = 0; spilled = false }) other
+
+  pub call_others : (s : Standings) (m : ℕ) → standing_at (after_call s n m) j ≡ standing_at s j
+  call_others s m =
+      others_spilled (with_entries (spilled_if_reached s n) n m) ∙ others_left (spilled_if_reached s n) m ∙ others_spilled s
+
+-- a call that takes values out, and moves a partition that it leaves small back to arrays where there is memory for it
+module _ (s new : Standings) (n : ℕ) (told : Resettles s n new) where
+  abbrev called : Standings
+  called = after_call s n (entries_at new n)
+
+  pub back_spills : new.spills ≡ called.spills
+  back_spills = by told where
+    by : MovesBack called n new → new.spills ≡ called.spills
+    by (inl same) = ap (λ r. r.spills) same
+    by (inr back) = ap (λ r. r.spills) back.1
+
+  pub back_others : (j : ℕ) → j ≢ n → standing_at new j ≡ standing_at s j
+  back_others j other = by told ∙ call_others n j other s (entries_at new n) where
+    by : MovesBack called n new → standing_at new j ≡ standing_at called j
+    by (inl same) = ap (λ r. standing_at r j) same
+    by (inr back) =
+        ap (λ r. standing_at r j) back.1
+        ∙ get_or-set_other called.parts n j (record { entries = entries_at called n; spilled = false }) (record { entries = 0; spilled = false }) other
+
+  module _ (inside : n < length s.parts) (least : 1 ≤ s.threshold) where
+    as_left : entries_at called n ≡ entries_at new n
+    as_left = ap (λ p. p.entries) (call_stands s n (entries_at new n) inside least)
+
+    pub back_stands : ((standing_at new n ≡ standing_at called n) × (new.moved ≡ called.moved))
+        ⊎ (IsTrue (is_small called n) × (standing_at new n ≡ record { entries = entries_at new n; spilled = false })
+        × (new.moved ≡ pruned_after called.moved (entries_at new n)))
+    back_stands = by told where
+      by : MovesBack called n new → ((standing_at new n ≡ standing_at called n) × (new.moved ≡ called.moved))
+          ⊎ (IsTrue (is_small called n) × (standing_at new n ≡ record { entries = entries_at new n; spilled = false })
+          × (new.moved ≡ pruned_after called.moved (entries_at new n)))
+      by (inl same) = inl (ap (λ r. standing_at r n) same, ap (λ r. r.moved) same)
+      by (inr back) =
+          let still = as_many (with_entries (spilled_if_reached s n) n (entries_at new n)) n in
+          let within = b_inside s n (entries_at new n) inside least in
+          inr (
+            back.0,
+            ap (λ r. standing_at r n) back.1 ∙ at_set called n (omega (arith, still, within)) (entries_at called n) false ∙ ap (λ m. record { entries = m; spilled = false }) as_left,
+            ap (λ r. r.moved) back.1 ∙ ap (λ m. pruned_after called.moved m) as_left,
+          )
+
+    pub back_inline : inline_len new n < s.threshold
+    back_inline = by back_stands where
+      same_limit : called.threshold ≡ s.threshold
+      same_limit = limit_stays (with_entries (spilled_if_reached s n) n (entries_at new n)) ∙ limit_stays s where
+        limit_stays : (r : Standings) → (spilled_if_reached r n).threshold ≡ r.threshold
+        limit_stays r = elim (is_reached r n) as (λ b. (if b then with_spill r n else r).threshold ≡ r.threshold) [ true ↦ refl | false ↦ refl ]
+
+      few_left : (spilled : Bool) (limit m : ℕ) → IsTrue (spilled && nat_lt (2 * m) limit) → m < limit
+      few_left true limit m small = grind (arith, nat_tests)
+      few_left false limit m small = grind (arith, nat_tests)
+
+      by : ((standing_at new n ≡ standing_at called n) × (new.moved ≡ called.moved))
+          ⊎ (IsTrue (is_small called n) × (standing_at new n ≡ record { entries = entries_at new n; spilled = false })
+          × (new.moved ≡ pruned_after called.moved (entries_at new n))) → inline_len new n < s.threshold
+      by (inl same) = subst (λ p. (if p.spilled then 0 else p.entries) < s.threshold) (sym same.0) (call_inline s n (entries_at new n) inside least)
+      by (inr back) =
+          let few = few_left (standing_at called n).spilled called.threshold (entries_at called n) back.0 in
+          subst (λ p. (if p.spilled then 0 else p.entries) < s.threshold) (sym back.1) (omega (arith, few, as_left, same_limit))
