@@ -36,6 +36,9 @@ as_many s n = elim (is_reached s n) as (λ r. length (if r then with_spill s n e
   | false ↦ refl
 ]
 
+same_threshold : (s : Standings) (n : ℕ) → (spilled_if_reached s n).threshold ≡ s.threshold
+same_threshold s n = elim (is_reached s n) as (λ r. (if r then with_spill s n else s).threshold ≡ s.threshold) [ true ↦ refl | false ↦ refl ]
+
 module _ (s : Standings) (n : ℕ) (inside : n < length s.parts) where
   at_set : (m : ℕ) (b : Bool) → get_or (set s.parts n (record { entries = m; spilled = b })) n (record { entries = 0; spilled = false }) ≡ record { entries = m; spilled = b }
   at_set m b = get_or-set_same s.parts n (record { entries = m; spilled = b }) (record { entries = 0; spilled = false }) inside
@@ -51,9 +54,6 @@ module _ (s : Standings) (n : ℕ) (inside : n < length s.parts) where
 
   left_stands : (m : ℕ) → standing_at (with_entries s n m) n ≡ record { entries = m; spilled = (standing_at s n).spilled && nat_lt 0 m }
   left_stands m = at_set m ((standing_at s n).spilled && nat_lt 0 m)
-
-  same_threshold : (spilled_if_reached s n).threshold ≡ s.threshold
-  same_threshold = elim (is_reached s n) as (λ r. (if r then with_spill s n else s).threshold ≡ s.threshold) [ true ↦ refl | false ↦ refl ]
 
 gathered_tests : (t m : ℕ) (x : Bool) → 1 ≤ t → ((x && nat_lt 0 m) || nat_le t m) ≡ ((x || nat_le t m) && nat_lt 0 m)
 gathered_tests t m true least = grind (arith, nat_tests)
@@ -83,7 +83,7 @@ module _ (s : Standings) (n m : ℕ) (inside : n < length s.parts) (least : 1 �
 
   b_reached : is_reached (with_entries (spilled_if_reached s n) n m) n
       ≡ (not (((standing_at s n).spilled || nat_le s.threshold (entries_at s n)) && nat_lt 0 m) && nat_le s.threshold m)
-  b_reached = (λ i. not (b_stands i).spilled && nat_le (same_threshold s n inside i) (b_stands i).entries)
+  b_reached = (λ i. not (b_stands i).spilled && nat_le (same_threshold s n i) (b_stands i).entries)
 
   pub call_stands : standing_at (after_call s n m) n ≡ record {
     entries = m;
@@ -91,63 +91,64 @@ module _ (s : Standings) (n m : ℕ) (inside : n < length s.parts) (least : 1 �
   }
   call_stands =
       then_stands (with_entries (spilled_if_reached s n) n m) n b_inside
-      ∙ (λ i. record { entries = (b_stands i).entries; spilled = (b_stands i).spilled || nat_le (same_threshold s n inside i) (b_stands i).entries })
+      ∙ (λ i. record { entries = (b_stands i).entries; spilled = (b_stands i).spilled || nat_le (same_threshold s n i) (b_stands i).entries })
       ∙ ap (λ b. record { entries = m; spilled = b }) (gathered_tests s.threshold m ((standing_at s n).spilled || nat_le s.threshold (entries_at s n)) least ∙ regroup (standing_at s n).spilled (nat_le s.threshold (entries_at s n)) (nat_le s.threshold m))
     where
       regroup : (a b c : Bool) → (((a || b) || c) && nat_lt 0 m) ≡ ((a || b || c) && nat_lt 0 m)
       regroup true b c = refl
       regroup false b c = refl
 
-  spills_cases : (s' : Standings) (r : Bool) → is_reached s' n ≡ r → (spilled_if_reached s' n).spills ≡ (if r then pruned_after s'.spills 1 else s'.spills)
-  spills_cases s' true e = ap (λ r. (if r then with_spill s' n else s').spills) e
-  spills_cases s' false e = ap (λ r. (if r then with_spill s' n else s').spills) e
+  -- what a spill adds to a count, by the values that the partition has
+  counted : (count : Standings → ℕ) (adds : ℕ → ℕ)
+      → ((r : Standings) (b : Bool) → count (if b then with_spill r n else r) ≡ (if b then pruned_after (count r) (adds (entries_at r n)) else count r))
+      → ((r : Standings) → count (with_entries r n m) ≡ count r)
+      → count (after_call s n m) ≡ pruned_after (count s) (
+          if is_reached s n then adds (entries_at s n) else if not (standing_at s n).spilled && nat_le s.threshold m then adds m else 0)
+  counted count adds spilled left =
+      spilled (with_entries (spilled_if_reached s n) n m) (is_reached (with_entries (spilled_if_reached s n) n m) n)
+      ∙ (λ i. if b_reached i then pruned_after (before i) (adds (b_stands i).entries) else before i)
+      ∙ told (standing_at s n).spilled (nat_le s.threshold (entries_at s n))
+    where
+      before : count (with_entries (spilled_if_reached s n) n m) ≡ (if is_reached s n then pruned_after (count s) (adds (entries_at s n)) else count s)
+      before = left (spilled_if_reached s n) ∙ spilled s (is_reached s n)
+
+      told : (a b : Bool) → (if not ((a || b) && nat_lt 0 m) && nat_le s.threshold m
+          then pruned_after (if not a && b then pruned_after (count s) (adds (entries_at s n)) else count s) (adds m)
+          else (if not a && b then pruned_after (count s) (adds (entries_at s n)) else count s))
+          ≡ pruned_after (count s) (if not a && b then adds (entries_at s n) else if not a && nat_le s.threshold m then adds m else 0)
+      told true b = ap (λ r. if r then pruned_after (count s) (adds m) else count s) (not_reached s.threshold m true refl least) ∙ none
+        where
+          none : count s ≡ pruned_after (count s) 0
+          none = omega arith
+      told false true =
+          ap (λ r. if r then pruned_after (pruned_after (count s) (adds (entries_at s n))) (adds m) else pruned_after (count s) (adds (entries_at s n))) (not_reached s.threshold m true refl least)
+      told false false = elim (nat_le s.threshold m) as (λ r. (if r then pruned_after (count s) (adds m) else count s) ≡ pruned_after (count s) (if r then adds m else 0)) [
+        | true ↦ refl
+        | false ↦ omega arith
+      ]
 
   pub call_spills : (after_call s n m).spills ≡ pruned_after s.spills (
       if not (standing_at s n).spilled && (nat_le s.threshold (entries_at s n) || nat_le s.threshold m) then 1 else 0)
   call_spills =
-      spills_cases (with_entries (spilled_if_reached s n) n m) (is_reached (with_entries (spilled_if_reached s n) n m) n) refl
-      ∙ (λ i. if b_reached i then pruned_after (spills_cases s (is_reached s n) refl i) 1 else spills_cases s (is_reached s n) refl i)
-      ∙ told (standing_at s n).spilled (nat_le s.threshold (entries_at s n))
+      counted (λ r. r.spills) (λ _. 1) adds_one (λ r. refl)
+      ∙ ap (pruned_after s.spills) (either (standing_at s n).spilled (nat_le s.threshold (entries_at s n)) (nat_le s.threshold m))
     where
-      told : (a b : Bool) → (if not ((a || b) && nat_lt 0 m) && nat_le s.threshold m
-          then pruned_after (if not a && b then pruned_after s.spills 1 else s.spills) 1
-          else (if not a && b then pruned_after s.spills 1 else s.spills))
-          ≡ pruned_after s.spills (if not a && (b || nat_le s.threshold m) then 1 else 0)
-      told true b = ap (λ r. if r then pruned_after s.spills 1 else s.spills) (not_reached s.threshold m true refl least) ∙ none
-        where
-          none : s.spills ≡ pruned_after s.spills 0
-          none = omega arith
-      told false true = ap (λ r. if r then pruned_after (pruned_after s.spills 1) 1 else pruned_after s.spills 1) (not_reached s.threshold m true refl least)
-      told false false = elim (nat_le s.threshold m) as (λ r. (if r then pruned_after s.spills 1 else s.spills) ≡ pruned_after s.spills (if r then 1 else 0)) [
-        | true ↦ refl
-        | false ↦ omega arith
-      ]
+      adds_one : (r : Standings) (b : Bool) → (if b then with_spill r n else r).spills ≡ (if b then pruned_after r.spills 1 else r.spills)
+      adds_one r true = refl
+      adds_one r false = refl
 
-  moved_cases : (s' : Standings) (r : Bool) → is_reached s' n ≡ r
-      → (spilled_if_reached s' n).moved ≡ (if r then pruned_after s'.moved (entries_at s' n) else s'.moved)
-  moved_cases s' true e = ap (λ r. (if r then with_spill s' n else s').moved) e
-  moved_cases s' false e = ap (λ r. (if r then with_spill s' n else s').moved) e
+      either : (a b c : Bool) → ◌≡◌ {A = ℕ} (if not a && b then 1 else if not a && c then 1 else 0) (if not a && (b || c) then 1 else 0)
+      either true b c = refl
+      either false true c = refl
+      either false false c = refl
 
   pub call_moved : (after_call s n m).moved ≡ pruned_after s.moved (
       if is_reached s n then entries_at s n else if not (standing_at s n).spilled && nat_le s.threshold m then m else 0)
-  call_moved =
-      moved_cases (with_entries (spilled_if_reached s n) n m) (is_reached (with_entries (spilled_if_reached s n) n m) n) refl
-      ∙ (λ i. if b_reached i then pruned_after (moved_cases s (is_reached s n) refl i) (b_stands i).entries else moved_cases s (is_reached s n) refl i)
-      ∙ told (standing_at s n).spilled (nat_le s.threshold (entries_at s n))
+  call_moved = counted (λ r. r.moved) (λ k. k) adds_all (λ r. refl)
     where
-      told : (a b : Bool) → (if not ((a || b) && nat_lt 0 m) && nat_le s.threshold m
-          then pruned_after (if not a && b then pruned_after s.moved (entries_at s n) else s.moved) m
-          else (if not a && b then pruned_after s.moved (entries_at s n) else s.moved))
-          ≡ pruned_after s.moved (if not a && b then entries_at s n else if not a && nat_le s.threshold m then m else 0)
-      told true b = ap (λ r. if r then pruned_after s.moved m else s.moved) (not_reached s.threshold m true refl least) ∙ none
-        where
-          none : s.moved ≡ pruned_after s.moved 0
-          none = omega arith
-      told false true = ap (λ r. if r then pruned_after (pruned_after s.moved (entries_at s n)) m else pruned_after s.moved (entries_at s n)) (not_reached s.threshold m true refl least)
-      told false false = elim (nat_le s.threshold m) as (λ r. (if r then pruned_after s.moved m else s.moved) ≡ pruned_after s.moved (if r then m else 0)) [
-        | true ↦ refl
-        | false ↦ omega arith
-      ]
+      adds_all : (r : Standings) (b : Bool) → (if b then with_spill r n else r).moved ≡ (if b then pruned_after r.moved (entries_at r n) else r.moved)
+      adds_all r true = refl
+      adds_all r false = refl
 
   few : (b : Bool) → (if (b || nat_le s.threshold m) && nat_lt 0 m then 0 else m) < s.threshold
   few true = grind (arith, nat_tests, least)
@@ -221,9 +222,7 @@ module _ (s new : Standings) (n : ℕ) (told : Resettles s n new) where
     pub back_inline : inline_len new n < s.threshold
     back_inline = by back_stands where
       same_limit : called.threshold ≡ s.threshold
-      same_limit = limit_stays (with_entries (spilled_if_reached s n) n (entries_at new n)) ∙ limit_stays s where
-        limit_stays : (r : Standings) → (spilled_if_reached r n).threshold ≡ r.threshold
-        limit_stays r = elim (is_reached r n) as (λ b. (if b then with_spill r n else r).threshold ≡ r.threshold) [ true ↦ refl | false ↦ refl ]
+      same_limit = same_threshold (with_entries (spilled_if_reached s n) n (entries_at new n)) n ∙ same_threshold s n
 
       few_left : (spilled : Bool) (limit m : ℕ) → IsTrue (spilled && nat_lt (2 * m) limit) → m < limit
       few_left true limit m small = grind (arith, nat_tests)

@@ -194,6 +194,9 @@ pub(super) fn pop_older<K: Ord + Hash + Copy, V: Drop>(
     let Some(map) = older else {
         return None;
     };
+    if map.is_empty() {
+        return None;
+    }
     let values = map.get_mut(&key)?;
     let value = values.pop()?;
     let left = values.len();
@@ -222,6 +225,9 @@ pub(super) fn retain_older<K: Ord + Hash + Copy, V: Drop, F: FnMut(&V) -> bool>(
     let Some(map) = older else {
         return (0, 0);
     };
+    if map.is_empty() {
+        return (0, 0);
+    }
     let Some(values) = map.get_mut(&key) else {
         return (0, 0);
     };
@@ -295,6 +301,30 @@ fn retain_both<V: Drop, F: FnMut(&V) -> bool>(
     }
 }
 
+/// `insert_and_retain_both` over the older values of a key.
+fn insert_and_retain_among<V: Drop, F: FnMut(&V) -> bool>(
+    newest: &mut V,
+    older: &mut Vec<V>,
+    value: V,
+    should_retain: F,
+) -> Result<Turn, V>
+    requires { F.IsAlwaysCallable should_retain }
+    ensures asked { IfOk result (λ turn. AsksInTurn (CalledAt F.FnMut) should_retain true
+        (list_of (Some newest.old) older.old.items ++ value ∷ [])
+        (list_of (if turn.left then Some newest.new else None) older.new.items) turn.stays) }
+    ensures gone { IfOk result (λ turn. turn.gone
+        + length (list_of (if turn.left then Some newest.new else None) older.new.items) ≡ 2 + length older.old.items) }
+    ensures emptied { IfOk result (λ turn. turn.left ≡ false → older.new.items ≡ []) }
+    ensures refused { OnErr result (older.new.items ≡ older.old.items) }
+    ensures same { OnErr result (newest.new ≡ newest.old) }
+    ensures returned { IfErr result (λ back. back ≡ value) }
+{
+    match older.insert(0, value) {
+        Ok(()) => Ok(retain_both(newest, older, should_retain)),
+        Err(failed) => Err(failed.value),
+    }
+}
+
 /// `insert_and_retain_both` in a map.
 fn insert_and_retain_in<K: Ord + Hash + Copy, V: Drop, F: FnMut(&V) -> bool>(
     alloc: Global,
@@ -321,11 +351,8 @@ fn insert_and_retain_in<K: Ord + Hash + Copy, V: Drop, F: FnMut(&V) -> bool>(
         Err(_) => Err(value),
         Ok(Entry::Occupied(mut entry)) => {
             let values = entry.get_mut();
-            if let Err(failed) = values.insert(0, value) {
-                return Err(failed.value);
-            }
-            let had = values.len();
-            let turn = retain_both(newest, values, should_retain);
+            let had = 1 + values.len();
+            let turn = insert_and_retain_among(newest, values, value, should_retain)?;
             if values.is_empty() {
                 entry.remove();
                 return Ok((had, turn));
@@ -334,17 +361,13 @@ fn insert_and_retain_in<K: Ord + Hash + Copy, V: Drop, F: FnMut(&V) -> bool>(
         }
         Ok(Entry::Vacant(entry)) => {
             let mut values = Vec::new(alloc);
-            if let Err(failed) = values.push(value) {
-                entry.into_key();
-                return Err(failed.value);
-            }
-            let turn = retain_both(newest, &mut values, should_retain);
+            let told = insert_and_retain_among(newest, &mut values, value, should_retain);
             if values.is_empty() {
                 entry.into_key();
-                return Ok((1, turn));
+            } else {
+                entry.insert(values);
             }
-            entry.insert(values);
-            Ok((1, turn))
+            Ok((1, told?))
         }
     }
 }

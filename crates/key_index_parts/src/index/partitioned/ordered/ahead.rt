@@ -144,8 +144,10 @@ where
         (TellsAt F.FnMut) on I.Key.cmp (I.view index.now) last) }
     ensures fault { IfErr result (λ f. f ≡ Fault.Memory) }
 {
+    let sorted = probes_by_key(alloc, index, keys)?;
     let mut tell = move |event| on(event);
-    visit_ahead(alloc, index, keys, &mut tell)
+    look_ahead(index, &sorted, &mut tell);
+    Ok(())
 }
 
 /// The law of a batch that looks ahead: of any lists and probes it visits the same values with the same places, in the same order, as
