@@ -1,5 +1,6 @@
 //! The program `key_index_bench`: what each operation of an index costs, beside the maps of the standard library.
 #![tactic(auto)]
+ghost use Rattle.std.specs.Prelude.{◌≤◌};
 
 mod batches;
 mod build;
@@ -30,7 +31,10 @@ use std::time::Clock;
 /// The unordered index for keys that an attacker picks.
 type HashedIndex = unordered::Index<Hashed<EightCap, SeededSha256>, u64>;
 
-/// A seed for it, fixed so that each run measures the same.
+/// The partitioned ordered index of records.
+type RecordIndex = partitioned::ordered::Index<EightCap, Record, 2>;
+
+/// A seed for the hash of a hashed index, fixed so that each run measures the same.
 const SEED: u64 = 0x6564_6362_6463_6261;
 
 /// What is measured.
@@ -244,6 +248,36 @@ fn run_build<
     build::in_ranges::<I, C, W>(alloc, "build16", 16, present, report)
 }
 
+/// Measures the calls of the partitioned unordered index.
+fn measure_punordered<const P: usize, C: Clock, W: Write>(
+    alloc: Global,
+    present: &[[u8; 32]],
+    absent: &[[u8; 32]],
+    report: &mut Report<'_, C, W>,
+) -> Result<(), Failure>
+    requires least { 1 ≤ P }
+    requires most { P ≤ 3 }
+{
+    run_unordered::<partitioned::unordered::Index<EightCap, u64, P>, C, W>(
+        alloc, EightCap, present, absent, report,
+    )
+}
+
+/// Measures the calls of the partitioned ordered index.
+fn measure_pordered<const P: usize, C: Clock, W: Write>(
+    alloc: Global,
+    present: &[[u8; 32]],
+    absent: &[[u8; 32]],
+    report: &mut Report<'_, C, W>,
+) -> Result<(), Failure>
+    requires least { 1 ≤ P }
+    requires most { P ≤ 3 }
+{
+    run_ordered::<partitioned::ordered::Index<EightCap, u64, P>, C, W>(
+        alloc, present, absent, report,
+    )
+}
+
 /// Measures the calls of a kind.
 fn measure_calls<C: Clock, W: Write>(
     alloc: Global,
@@ -267,39 +301,51 @@ fn measure_calls<C: Clock, W: Write>(
             alloc, present, absent, report,
         ),
         Kind::PartitionedUnordered1 => {
-            run_unordered::<partitioned::unordered::Index<EightCap, u64, 1>, C, W>(
-                alloc, EightCap, present, absent, report,
-            )
+            measure_punordered::<1, C, W>(alloc, present, absent, report)
         }
         Kind::PartitionedUnordered2 => {
-            run_unordered::<partitioned::unordered::Index<EightCap, u64, 2>, C, W>(
-                alloc, EightCap, present, absent, report,
-            )
+            measure_punordered::<2, C, W>(alloc, present, absent, report)
         }
         Kind::PartitionedUnordered3 => {
-            run_unordered::<partitioned::unordered::Index<EightCap, u64, 3>, C, W>(
-                alloc, EightCap, present, absent, report,
-            )
+            measure_punordered::<3, C, W>(alloc, present, absent, report)
         }
         Kind::PartitionedOrdered1 => {
-            run_ordered::<partitioned::ordered::Index<EightCap, u64, 1>, C, W>(
-                alloc, present, absent, report,
-            )
+            measure_pordered::<1, C, W>(alloc, present, absent, report)
         }
         Kind::PartitionedOrdered2 => {
-            run_ordered::<partitioned::ordered::Index<EightCap, u64, 2>, C, W>(
-                alloc, present, absent, report,
-            )
+            measure_pordered::<2, C, W>(alloc, present, absent, report)
         }
         Kind::PartitionedOrdered3 => {
-            run_ordered::<partitioned::ordered::Index<EightCap, u64, 3>, C, W>(
-                alloc, present, absent, report,
-            )
+            measure_pordered::<3, C, W>(alloc, present, absent, report)
         }
         Kind::Immutable => run_immutable(alloc, present, absent, report),
         Kind::StdHash => run_std_hash(alloc, present, absent, report),
         Kind::StdTree => run_std_tree(alloc, present, absent, report),
     }
+}
+
+/// Measures the builds of the partitioned unordered index.
+fn build_punordered<const P: usize, C: Clock, W: Write>(
+    alloc: Global,
+    present: &[[u8; 32]],
+    report: &mut Report<'_, C, W>,
+) -> Result<(), Failure>
+    requires least { 1 ≤ P }
+    requires most { P ≤ 3 }
+{
+    run_build::<partitioned::unordered::Index<EightCap, u64, P>, C, W>(alloc, present, report)
+}
+
+/// Measures the builds of the partitioned ordered index.
+fn build_pordered<const P: usize, C: Clock, W: Write>(
+    alloc: Global,
+    present: &[[u8; 32]],
+    report: &mut Report<'_, C, W>,
+) -> Result<(), Failure>
+    requires least { 1 ≤ P }
+    requires most { P ≤ 3 }
+{
+    run_build::<partitioned::ordered::Index<EightCap, u64, P>, C, W>(alloc, present, report)
 }
 
 /// Measures the build of a kind. One without partitions has none.
@@ -310,32 +356,25 @@ fn measure_build<C: Clock, W: Write>(
     report: &mut Report<'_, C, W>,
 ) -> Result<(), Failure> {
     match kind {
-        Kind::PartitionedUnordered1 => {
-            run_build::<partitioned::unordered::Index<EightCap, u64, 1>, C, W>(
-                alloc, present, report,
-            )
-        }
-        Kind::PartitionedUnordered2 => {
-            run_build::<partitioned::unordered::Index<EightCap, u64, 2>, C, W>(
-                alloc, present, report,
-            )
-        }
-        Kind::PartitionedUnordered3 => {
-            run_build::<partitioned::unordered::Index<EightCap, u64, 3>, C, W>(
-                alloc, present, report,
-            )
-        }
-        Kind::PartitionedOrdered1 => {
-            run_build::<partitioned::ordered::Index<EightCap, u64, 1>, C, W>(alloc, present, report)
-        }
-        Kind::PartitionedOrdered2 => {
-            run_build::<partitioned::ordered::Index<EightCap, u64, 2>, C, W>(alloc, present, report)
-        }
-        Kind::PartitionedOrdered3 => {
-            run_build::<partitioned::ordered::Index<EightCap, u64, 3>, C, W>(alloc, present, report)
-        }
+        Kind::PartitionedUnordered1 => build_punordered::<1, C, W>(alloc, present, report),
+        Kind::PartitionedUnordered2 => build_punordered::<2, C, W>(alloc, present, report),
+        Kind::PartitionedUnordered3 => build_punordered::<3, C, W>(alloc, present, report),
+        Kind::PartitionedOrdered1 => build_pordered::<1, C, W>(alloc, present, report),
+        Kind::PartitionedOrdered2 => build_pordered::<2, C, W>(alloc, present, report),
+        Kind::PartitionedOrdered3 => build_pordered::<3, C, W>(alloc, present, report),
         _ => Ok(()),
     }
+}
+
+/// Measures the snapshot store over the partitioned ordered index, and its build.
+fn snapshot_pordered<C: Clock, W: Write>(
+    alloc: Global,
+    present: &[[u8; 32]],
+    absent: &[[u8; 32]],
+    report: &mut Report<'_, C, W>,
+) -> Result<(), Failure> {
+    snapshots::run_snapshot::<RecordIndex, C, W>(alloc, present, absent, report)?;
+    snapshots::run_build::<RecordIndex, C, W>(alloc, present, report)
 }
 
 /// Measures a snapshot over a kind, or the map of full keys. The other kinds have none.
@@ -350,14 +389,7 @@ fn measure_snapshot<C: Clock, W: Write>(
         Kind::Ordered => snapshots::run_snapshot::<ordered::Index<EightCap, Record>, C, W>(
             alloc, present, absent, report,
         ),
-        Kind::PartitionedOrdered2 => {
-            snapshots::run_snapshot::<partitioned::ordered::Index<EightCap, Record, 2>, C, W>(
-                alloc, present, absent, report,
-            )?;
-            snapshots::run_build::<partitioned::ordered::Index<EightCap, Record, 2>, C, W>(
-                alloc, present, report,
-            )
-        }
+        Kind::PartitionedOrdered2 => snapshot_pordered(alloc, present, absent, report),
         Kind::StdTree => snapshots::run_map(alloc, present, absent, report),
         _ => Ok(()),
     }

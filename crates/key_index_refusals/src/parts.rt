@@ -116,6 +116,20 @@ fn fill<R: PartitionRange<Value = u64>, W: Write + Drop>(
     Ok(())
 }
 
+/// A range that was handed back holds what it held, without what stands in the index beside it.
+fn stands<R: PartitionRange<Value = u64>>(
+    range: &R,
+    kept: &mut Kept,
+    beside: &Kept,
+) -> Result<(), Stop> {
+    kept.clear_uncounted(5);
+    agrees(range, kept)?;
+    for value in beside.list(5) {
+        kept.push(5, *value)?;
+    }
+    Ok(())
+}
+
 /// A range that is filled and then installed beside a value of the index.
 pub(crate) fn install<I: Partitioned<Value = u64> + Drop, W: Write + Drop>(
     alloc: Global,
@@ -147,12 +161,8 @@ pub(crate) fn install<I: Partitioned<Value = u64> + Drop, W: Write + Drop>(
                 must(fault == Fault::Memory, "a refusal for memory")?;
                 report.tells("install_range", false)?;
                 beside.are_in(&index)?;
+                stands(&back, &mut kept, &beside)?;
                 range = back;
-                kept.clear_uncounted(5);
-                agrees(&range, &kept)?;
-                for value in beside.list(5) {
-                    kept.push(5, *value)?;
-                }
             }
         }
     }

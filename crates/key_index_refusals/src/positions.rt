@@ -162,6 +162,25 @@ fn marks(alloc: Global) -> Result<Vec<Mark>, Stop> {
     Ok(marks)
 }
 
+/// Files the positions whose marks were done, and looks that each other one was refused for want of memory.
+fn take(filed: &mut Filed, outcomes: &[Marked]) -> Result<(), Stop> {
+    let [first, second, pruned, third] = outcomes else {
+        return Err(Stop::Wrong("one outcome for each mark"));
+    };
+    must(*pruned == Marked::Done, "a pruning")?;
+    filed.start = 2;
+    for (outcome, at, position) in [(*first, 2, 1), (*second, 3, 20), (*third, 4, 5)] {
+        match outcome {
+            Marked::Done => push(&mut filed.entries, (at, position))?,
+            _ => must(
+                outcome == Marked::Refused(Fault::Memory),
+                "a refusal for memory",
+            )?,
+        }
+    }
+    Ok(())
+}
+
 /// Marks come to what their outcomes say.
 pub(crate) fn marked<W: Write + Drop>(
     alloc: Global,
@@ -179,20 +198,7 @@ pub(crate) fn marked<W: Write + Drop>(
             filed.are_in(&index)?;
             continue;
         };
-        let [first, second, pruned, third] = outcomes.as_slice() else {
-            return Err(Stop::Wrong("one outcome for each mark"));
-        };
-        must(*pruned == Marked::Done, "a pruning")?;
-        filed.start = 2;
-        for (outcome, at, position) in [(*first, 2, 1), (*second, 3, 20), (*third, 4, 5)] {
-            match outcome {
-                Marked::Done => push(&mut filed.entries, (at, position))?,
-                _ => must(
-                    outcome == Marked::Refused(Fault::Memory),
-                    "a refusal for memory",
-                )?,
-            }
-        }
+        take(&mut filed, outcomes.as_slice())?;
         return filed.are_in(&index);
     }
     Ok(())

@@ -141,6 +141,22 @@ fn overfull<W: Write + Drop>(
     tries::<AtTwo, W>(report, &mut index, &mut kept, 4, Call::GetMany)
 }
 
+/// Puts eight values in a partition, which spills, and takes five of them out by cursors.
+fn grown_and_shrunken<W: Write + Drop>(
+    report: &mut Report<'_, W>,
+    index: &mut <AtEight as Kind>::Index,
+    kept: &mut Kept,
+) -> Result<(), Stop> {
+    for value in 1..5 {
+        tries::<AtEight, W>(report, index, kept, 2, Call::Insert(value))?;
+        tries::<AtEight, W>(report, index, kept, 3, Call::Insert(value))?;
+    }
+    for at in [2, 2, 2, 3, 3] {
+        shrink::<AtEight>(index, kept, at)?;
+    }
+    Ok(())
+}
+
 /// Eight values spill a partition, and cursors leave three of them. Each of four calls moves those back, or where that was refused a later
 /// one does, and seven more spill the partition once more.
 fn shrunken<W: Write + Drop>(
@@ -152,22 +168,16 @@ fn shrunken<W: Write + Drop>(
     let Some(mut index) = make::<AtEight, W>(alloc, report, "with_threshold")? else {
         return Ok(());
     };
-    for value in 1..5 {
-        tries::<AtEight, W>(report, &mut index, &mut kept, 2, Call::Insert(value))?;
-        tries::<AtEight, W>(report, &mut index, &mut kept, 3, Call::Insert(value))?;
-    }
-    for at in [2, 2, 2, 3, 3] {
-        shrink::<AtEight>(&mut index, &mut kept, at)?;
-    }
+    grown_and_shrunken(report, &mut index, &mut kept)?;
     let (at, call) = match seed % 4 {
         0 => (1, Call::Remove),
         1 => (3, Call::Remove),
         2 => (3, Call::Retain(1)),
         _ => (2, Call::InsertAndRetain(5, 2)),
     };
-    tries::<AtEight, W>(report, &mut index, &mut kept, at, call)?;
-    tries::<AtEight, W>(report, &mut index, &mut kept, 1, Call::Retain(0))?;
-    tries::<AtEight, W>(report, &mut index, &mut kept, 1, Call::Remove)?;
+    for (at, call) in [(at, call), (1, Call::Retain(0)), (1, Call::Remove)] {
+        tries::<AtEight, W>(report, &mut index, &mut kept, at, call)?;
+    }
     for value in 6..13 {
         tries::<AtEight, W>(report, &mut index, &mut kept, 2, Call::Insert(value))?;
     }
@@ -234,6 +244,18 @@ fn spilling<W: Write + Drop>(
     Ok(None)
 }
 
+/// Batches that look ahead.
+fn go_ahead<W: Write + Drop>(
+    alloc: Global,
+    report: &mut Report<'_, W>,
+    threshold: usize,
+) -> Result<(), Stop> {
+    match spilling(alloc, report, threshold)? {
+        Some(mut index) => ahead(alloc, report, &mut index),
+        None => Ok(()),
+    }
+}
+
 /// A state of it at a threshold, in which it is called by name.
 fn go_spilling<W: Write + Drop>(
     alloc: Global,
@@ -241,14 +263,11 @@ fn go_spilling<W: Write + Drop>(
     state: &str,
     threshold: usize,
 ) -> Result<(), Stop> {
+    if state == "ahead" {
+        return go_ahead(alloc, report, threshold);
+    }
     let made = spilling(alloc, report, threshold)?;
-    if state != "ahead" {
-        return parted(alloc, report, state, made);
-    }
-    match made {
-        Some(mut index) => ahead(alloc, report, &mut index),
-        None => Ok(()),
-    }
+    parted(alloc, report, state, made)
 }
 
 /// Whether a state is one of an index called by name.
@@ -269,6 +288,30 @@ fn go_over_spilling<K: Kind, W: Write + Drop>(
     go_over::<K, W>(alloc, report, state, seed)
 }
 
+/// A flat index of records.
+fn flat_records(alloc: Global) -> Result<ordered::Index<TwoCap, Record>, Stop> {
+    match Factory::new(alloc, TwoCap) {
+        Ok(index) => Ok(index),
+        Err(_) => Err(Stop::Memory),
+    }
+}
+
+/// An index of records in partitions that spill at two.
+fn parted_records(alloc: Global) -> Result<partitioned::ordered::Index<OneCap, Record, 1>, Stop> {
+    match partitioned::ordered::Index::with_threshold(alloc, OneCap, 2) {
+        Ok(index) => Ok(index),
+        Err(_) => Err(Stop::Memory),
+    }
+}
+
+/// Changes records of an index in partitions.
+fn changed_in_partitions<W: Write + Drop>(
+    alloc: Global,
+    report: &mut Report<'_, W>,
+) -> Result<(), Stop> {
+    changed(alloc, report, parted_records(alloc)?)
+}
+
 /// A snapshot over the flat ordered index, or over the partitioned one at a threshold of two.
 fn go_snapshot<W: Write + Drop>(
     alloc: Global,
@@ -276,22 +319,58 @@ fn go_snapshot<W: Write + Drop>(
     state: &str,
 ) -> Result<(), Stop> {
     match state {
-        "flat" => match <ordered::Index<TwoCap, Record> as Factory>::new(alloc, TwoCap) {
-            Ok(index) => changed(alloc, report, index),
-            Err(_) => Err(Stop::Memory),
-        },
-        "partitioned" => match partitioned::ordered::Index::<OneCap, Record, 1>::with_threshold(
-            alloc, OneCap, 2,
-        ) {
-            Ok(index) => changed(alloc, report, index),
-            Err(_) => Err(Stop::Memory),
-        },
-        "build" => match partitioned::ordered::Index::<OneCap, Record, 1>::with_threshold(
-            alloc, OneCap, 2,
-        ) {
-            Ok(index) => built(alloc, report, index),
-            Err(_) => Err(Stop::Memory),
-        },
+        "flat" => changed(alloc, report, flat_records(alloc)?),
+        "partitioned" => changed_in_partitions(alloc, report),
+        "build" => built(alloc, report, parted_records(alloc)?),
+        _ => Err(Stop::Wrong(USAGE)),
+    }
+}
+
+/// A state of the partitioned unordered index.
+fn go_punordered<W: Write + Drop>(
+    alloc: Global,
+    report: &mut Report<'_, W>,
+    state: &str,
+    seed: u64,
+) -> Result<(), Stop> {
+    match state {
+        "range" | "build" => {
+            let made = make::<Punordered, W>(alloc, report, "new")?;
+            parted(alloc, report, state, made)
+        }
+        _ => go_over::<Punordered, W>(alloc, report, state, seed),
+    }
+}
+
+/// A state of the partitioned ordered index, by a threshold.
+fn go_pordered<W: Write + Drop>(
+    alloc: Global,
+    report: &mut Report<'_, W>,
+    words: (&str, &str),
+    seed: u64,
+) -> Result<(), Stop> {
+    let (kind, state) = words;
+    match (kind, state) {
+        ("pordered_at_1", _) => go_over_spilling::<AtOne, W>(alloc, report, state, seed),
+        ("pordered_at_2", "overfull") => overfull(alloc, report, seed),
+        ("pordered_at_2", _) => go_over_spilling::<AtTwo, W>(alloc, report, state, seed),
+        ("pordered_at_8", "shrunken") => shrunken(alloc, report, seed),
+        ("pordered", _) => go_over_spilling::<AtDefault, W>(alloc, report, state, seed),
+        _ => Err(Stop::Wrong(USAGE)),
+    }
+}
+
+/// A state of the immutable index.
+fn go_immutable<W: Write + Drop>(
+    alloc: Global,
+    report: &mut Report<'_, W>,
+    state: &str,
+) -> Result<(), Stop> {
+    match state {
+        "index" => indexed(alloc, report),
+        "room" => has_room(alloc, report),
+        "marks" => marked(alloc, report),
+        "log" => appended(alloc, report),
         _ => Err(Stop::Wrong(USAGE)),
     }
 }
@@ -307,30 +386,11 @@ pub(crate) fn go<W: Write + Drop>(
     match kind {
         "unordered" => go_over::<Unordered, W>(alloc, report, state, seed),
         "ordered" => go_over::<Ordered, W>(alloc, report, state, seed),
-        "punordered" => match state {
-            "range" | "build" => {
-                let made = make::<Punordered, W>(alloc, report, "new")?;
-                parted(alloc, report, state, made)
-            }
-            _ => go_over::<Punordered, W>(alloc, report, state, seed),
-        },
-        "pordered_at_1" => go_over_spilling::<AtOne, W>(alloc, report, state, seed),
-        "pordered_at_2" => match state {
-            "overfull" => overfull(alloc, report, seed),
-            _ => go_over_spilling::<AtTwo, W>(alloc, report, state, seed),
-        },
-        "pordered_at_8" => match state {
-            "shrunken" => shrunken(alloc, report, seed),
-            _ => Err(Stop::Wrong(USAGE)),
-        },
-        "pordered" => go_over_spilling::<AtDefault, W>(alloc, report, state, seed),
-        "immutable" => match state {
-            "index" => indexed(alloc, report),
-            "room" => has_room(alloc, report),
-            "marks" => marked(alloc, report),
-            "log" => appended(alloc, report),
-            _ => Err(Stop::Wrong(USAGE)),
-        },
+        "punordered" => go_punordered(alloc, report, state, seed),
+        "pordered_at_1" | "pordered_at_2" | "pordered_at_8" | "pordered" => {
+            go_pordered(alloc, report, words, seed)
+        }
+        "immutable" => go_immutable(alloc, report, state),
         "arrays" => arrays(alloc, report),
         "snapshot" => go_snapshot(alloc, report, state),
         _ => Err(Stop::Wrong(USAGE)),
