@@ -1,5 +1,6 @@
 //! The program `key_index_bench`: what each operation of an index costs, beside the maps of the standard library.
 #![tactic(auto)]
+
 ghost use Rattle.std.specs.Prelude.{◌≤◌};
 
 mod batches;
@@ -309,15 +310,9 @@ fn measure_calls<C: Clock, W: Write>(
         Kind::PartitionedUnordered3 => {
             measure_punordered::<3, C, W>(alloc, present, absent, report)
         }
-        Kind::PartitionedOrdered1 => {
-            measure_pordered::<1, C, W>(alloc, present, absent, report)
-        }
-        Kind::PartitionedOrdered2 => {
-            measure_pordered::<2, C, W>(alloc, present, absent, report)
-        }
-        Kind::PartitionedOrdered3 => {
-            measure_pordered::<3, C, W>(alloc, present, absent, report)
-        }
+        Kind::PartitionedOrdered1 => { measure_pordered::<1, C, W>(alloc, present, absent, report) }
+        Kind::PartitionedOrdered2 => { measure_pordered::<2, C, W>(alloc, present, absent, report) }
+        Kind::PartitionedOrdered3 => { measure_pordered::<3, C, W>(alloc, present, absent, report) }
         Kind::Immutable => run_immutable(alloc, present, absent, report),
         Kind::StdHash => run_std_hash(alloc, present, absent, report),
         Kind::StdTree => run_std_tree(alloc, present, absent, report),

@@ -103,7 +103,7 @@ module _ (s : Standings) (n m : ℕ) (inside : n < length s.parts) (least : 1 �
       → ((r : Standings) (b : Bool) → count (if b then with_spill r n else r) ≡ (if b then pruned_after (count r) (adds (entries_at r n)) else count r))
       → ((r : Standings) → count (with_entries r n m) ≡ count r)
       → count (after_call s n m) ≡ pruned_after (count s) (
-          if is_reached s n then adds (entries_at s n) else if not (standing_at s n).spilled && nat_le s.threshold m then adds m else 0)
+      if is_reached s n then adds (entries_at s n) else if not (standing_at s n).spilled && nat_le s.threshold m then adds m else 0)
   counted count adds spilled left =
       spilled (with_entries (spilled_if_reached s n) n m) (is_reached (with_entries (spilled_if_reached s n) n m) n)
       ∙ (λ i. if b_reached i then pruned_after (before i) (adds (b_stands i).entries) else before i)
