@@ -35,7 +35,7 @@ type HashedIndex = unordered::Index<Hashed<EightCap, SeededSha256>, u64>;
 /// The partitioned ordered index of records.
 type RecordIndex = partitioned::ordered::Index<EightCap, Record, 2>;
 
-/// A seed for the hash of a hashed index, fixed so that each run measures the same.
+/// A seed for a hashed index, fixed so that each run measures the same.
 const SEED: u64 = 0x6564_6362_6463_6261;
 
 /// What is measured.

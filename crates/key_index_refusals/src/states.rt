@@ -244,18 +244,6 @@ fn spilling<W: Write + Drop>(
     Ok(None)
 }
 
-/// Batches that look ahead.
-fn go_ahead<W: Write + Drop>(
-    alloc: Global,
-    report: &mut Report<'_, W>,
-    threshold: usize,
-) -> Result<(), Stop> {
-    match spilling(alloc, report, threshold)? {
-        Some(mut index) => ahead(alloc, report, &mut index),
-        None => Ok(()),
-    }
-}
-
 /// A state of it at a threshold, in which it is called by name.
 fn go_spilling<W: Write + Drop>(
     alloc: Global,
@@ -263,11 +251,14 @@ fn go_spilling<W: Write + Drop>(
     state: &str,
     threshold: usize,
 ) -> Result<(), Stop> {
-    if state == "ahead" {
-        return go_ahead(alloc, report, threshold);
-    }
     let made = spilling(alloc, report, threshold)?;
-    parted(alloc, report, state, made)
+    if state != "ahead" {
+        return parted(alloc, report, state, made);
+    }
+    match made {
+        Some(mut index) => ahead(alloc, report, &mut index),
+        None => Ok(()),
+    }
 }
 
 /// Whether a state is one of an index called by name.
@@ -304,14 +295,6 @@ fn parted_records(alloc: Global) -> Result<partitioned::ordered::Index<OneCap, R
     }
 }
 
-/// Changes records of an index in partitions.
-fn changed_in_partitions<W: Write + Drop>(
-    alloc: Global,
-    report: &mut Report<'_, W>,
-) -> Result<(), Stop> {
-    changed(alloc, report, parted_records(alloc)?)
-}
-
 /// A snapshot over the flat ordered index, or over the partitioned one at a threshold of two.
 fn go_snapshot<W: Write + Drop>(
     alloc: Global,
@@ -320,7 +303,7 @@ fn go_snapshot<W: Write + Drop>(
 ) -> Result<(), Stop> {
     match state {
         "flat" => changed(alloc, report, flat_records(alloc)?),
-        "partitioned" => changed_in_partitions(alloc, report),
+        "partitioned" => changed(alloc, report, parted_records(alloc)?),
         "build" => built(alloc, report, parted_records(alloc)?),
         _ => Err(Stop::Wrong(USAGE)),
     }
