@@ -524,6 +524,9 @@ where
     assert_eq!(rt; kept.standings.returns > 0, threshold > 2, "and moved back");
 }
 
+/// The thresholds of those others.
+const THRESHOLDS: [usize; 6] = [1, 2, 3, 8, 64, 512];
+
 /// So does one that spills at a threshold, and ranges that spill at this or another one.
 fn stands_at<I: Ordered<Value = u64> + Partitioned + StandsWhole>(
     rt: &impl Abort,
@@ -534,15 +537,11 @@ where
     I::Range: Stands,
 {
     let mut index = I::spilling_at(rt, alloc, threshold);
-    let others = [
-        I::spilling_at(rt, alloc, 1),
-        I::spilling_at(rt, alloc, 2),
-        I::spilling_at(rt, alloc, 3),
-        I::spilling_at(rt, alloc, 8),
-        I::spilling_at(rt, alloc, 64),
-        I::spilling_at(rt, alloc, 512),
-    ];
-    stands_beside(rt, alloc, &mut index, &others);
+    let mut others = Vec::new(alloc);
+    for other in THRESHOLDS {
+        push(rt, &mut others, I::spilling_at(rt, alloc, other));
+    }
+    stands_beside(rt, alloc, &mut index, others.as_slice());
 }
 
 fn at(rt: &impl Abort, alloc: Global, threshold: usize) {
