@@ -110,6 +110,7 @@ fn partition_is_edited(rt: HostRuntime) {
     let mut partition = held(&rt, rt.alloc(), &[(10, 1), (20, 2), (10, 11), (30, 3)]);
     assert_eq!(&rt; partition.len(), 4);
     partition.set(1, 12);
+    assert_eq!(&rt; partition.len(), 4);
     assert_eq!(&rt; (partition.key_at(1), *partition.value_at(1)), (10, 12));
     assert_eq!(&rt; partition.remove(0), 1);
     clear(&mut partition, 20);
