@@ -1,27 +1,27 @@
 -- What an immutable index holds: translated keys by position. `s` is an index, `k` a translated key, `p` a position.
---     Log                       the keys of the slots, from the first position on, and the slots of the table that says which of
+--     Log                       the keys of the cells, from the first position on, and the cells of the table that says which of
 --                               them are indexed
 --     key_at                    the translated key that is indexed at a position
---     end_of                    the position behind the last slot
+--     end_of                    the position behind the last cell
 --     with_key                  the keys by position, with one more
---     has_key                   whether the slot of a position has a key that compares equal
+--     has_key                   whether the cell of a position has a key that compares equal
 --     indexed_count             how many positions are indexed, of so many from one on
 --     hashes                    the map that the table stores: the hash of each key that is indexed
 --     IsLog                     the table stores it, and no number is past 64 bits
 --     ArePositions              the positions of a key, each once
---     IsReleased                slots went from the front, and their positions with them
+--     IsReleased                cells went from the front, and their positions with them
 use Rattle.std.specs.Prelude.{◌≡◌, ◌↔◌, ℕ, ◌+◌, ◌-◌, ◌^◌, ◌<◌, ◌≤◌, ◌==◌, ◌&&◌, min, nat_eq, nat_le, Bool, false, List, length, slice_get, Option, Some, None, is_some, unwrap_or, if◌then◌else◌}
 use Rattle.std.specs.List.{Contains, IsDistinct, count_by, range_with_len}
 use Rattle.std.specs.Option.{option_map}
 use Rattle.std.specs.Ordering.{is_eq}
 use Rattle.std.specs.declared.cmp.Ordering.{Ordering}
-use Rattle.key_index.specs.Table.{Slots, Stored, stored_at}
+use Rattle.key_index.specs.Table.{Cells, Stored, stored_at}
 
 pub record Log (T K : Type 0) : Type 0 where
   pub translator : T
   pub start : ℕ
   pub keys : List K
-  pub slots : Slots
+  pub cells : Cells
   pub pruned : ℕ
 
 abbrev pub with_key : {K : Type 0} → (ℕ → Option K) → ℕ → K → ℕ → Option K
@@ -32,7 +32,7 @@ has_key cmp ks start k p = unwrap_or (option_map (λ x. is_eq (cmp x k)) (slice_
 
 module _ {T K : Type 0} where
   abbrev pub key_at : Log T K → ℕ → Option K
-  key_at s p = if nat_le s.start p && stored_at s.slots p then slice_get s.keys (p - s.start) else None
+  key_at s p = if nat_le s.start p && stored_at s.cells p then slice_get s.keys (p - s.start) else None
 
   abbrev pub end_of : Log T K → ℕ
   end_of s = s.start + length s.keys
@@ -44,10 +44,10 @@ module _ {T K : Type 0} where
   hashes hashed s p = option_map (hashed s.translator) (key_at s p)
 
   pub record IsLog (hashed : T → K → ℕ) (s : Log T K) : Type 0 where
-    pub stored : Stored s.slots (hashes hashed s)
+    pub stored : Stored s.cells (hashes hashed s)
     pub fits : end_of s ≤ 2 ^ 64
     pub pruned_fits : s.pruned < 2 ^ 64
-    pub removals_fit : s.slots.removals < 2 ^ 64
+    pub removals_fit : s.cells.removals < 2 ^ 64
 
   pub record ArePositions (s : Log T K) (k : K) (ps : List ℕ) : Type 0 where
     pub once : IsDistinct nat_eq ps
@@ -59,4 +59,4 @@ module _ {T K : Type 0} where
     pub end : end_of t ≡ end_of s
     pub keys : (p : ℕ) → t.start ≤ p → key_at t p ≡ key_at s p
     pub pruned : t.pruned ≡ min (s.pruned + indexed_count s s.start (t.start - s.start)) (2 ^ 64 - 1)
-    pub removals : t.slots.removals ≡ min (s.slots.removals + (t.start - s.start)) (2 ^ 64 - 1)
+    pub removals : t.cells.removals ≡ min (s.cells.removals + (t.start - s.start)) (2 ^ 64 - 1)

@@ -29,7 +29,7 @@ module _ {T K : Type 0} where
     pub start : t.start ≡ s.start
     pub end : end_of t ≡ max (end_of s) (p + 1)
     pub pruned : t.pruned ≡ s.pruned
-    pub removals : t.slots.removals ≡ s.slots.removals
+    pub removals : t.cells.removals ≡ s.cells.removals
     pub translator : t.translator ≡ s.translator
 
   pub record IsPruned (n : ℕ) (s t : Log T K) : Type 0 where
@@ -37,7 +37,7 @@ module _ {T K : Type 0} where
     pub start : t.start ≡ max s.start n
     pub end : end_of t ≡ max (end_of s) n
     pub pruned : t.pruned ≡ min (s.pruned + indexed_count s s.start (n - s.start)) (2 ^ 64 - 1)
-    pub removals : t.slots.removals ≡ min (s.slots.removals + (min (end_of s) n - s.start)) (2 ^ 64 - 1)
+    pub removals : t.cells.removals ≡ min (s.cells.removals + (min (end_of s) n - s.start)) (2 ^ 64 - 1)
     pub translator : t.translator ≡ s.translator
 
 module _ {T K : Type 0} (translated : T → List ℕ → K) where

@@ -3,22 +3,22 @@ ghost use Rattle.std.specs.Prelude.{◌≡◌, ◌≢◌, ◌⊎◌, ℕ, ◌+�
 ghost use Rattle.std.specs.Bool.{OnTrue, OnFalse};
 ghost use Rattle.std.specs.Iterator.{YieldsFirst, item_count};
 ghost use Rattle.std.specs.List.{All, Contains, find, range_with_len};
-ghost use Rattle.key_index.specs.Table.{Slots, control_of, is_full, is_used, home, from_slot, marked, places, candidates, position_count, with_hash, without, Files, Stored, HasSize, AreCandidates, Resolves, IsPut};
+ghost use Rattle.key_index.specs.Table.{Cells, control_of, is_full, is_used, home, from_cell, marked, places, candidates, position_count, with_hash, without, Files, Stored, HasSize, AreCandidates, Resolves, IsPut};
 
 use key_index_flat::index::Fault;
 use std::alloc::{AllocError, Global};
 use std::marker::Model;
 
-/// Marks a slot that never held a position since its table was made.
+/// Marks a cell that never held a position since its table was made.
 const EMPTY: u16 = 0;
-/// Marks a slot whose position was removed.
+/// Marks a cell whose position was removed.
 const REMOVED: u16 = 1;
-/// Slots with a position are marked by this number and more.
+/// Cells with a position are marked by this number and more.
 const FULL: u16 = 2;
-/// How many slots a table has at the least.
-const LEAST_SLOTS: usize = 8;
+/// How many cells a table has at the least.
+const LEAST_CELLS: usize = 8;
 
-/// What marks a slot whose position is stored under a hash.
+/// What marks a cell whose position is stored under a hash.
 #[inline]
 fn control_of(hash: u64) -> u16
     ensures { result ≡ control_of hash }
@@ -26,59 +26,59 @@ fn control_of(hash: u64) -> u16
     (hash >> 56) as u16 + FULL
 }
 
-/// The slot at which a search for a hash begins, of so many.
+/// The cell at which a search for a hash begins, of so many.
 #[inline]
-fn home_of(hash: u64, slots: usize) -> usize
-    requires { 0 < slots }
-    ensures home { result ≡ home slots hash }
-    ensures within { result < slots }
+fn home_of(hash: u64, cells: usize) -> usize
+    requires { 0 < cells }
+    ensures home { result ≡ home cells hash }
+    ensures within { result < cells }
 {
-    hash as usize & (slots - 1)
+    hash as usize & (cells - 1)
 }
 
-/// How many slots may be used before the table is made anew.
+/// How many cells may be used before the table is made anew.
 #[inline]
-fn limit(slots: usize) -> usize
-    requires { 0 < slots }
-    ensures { result + 1 ≤ slots }
+fn limit(cells: usize) -> usize
+    requires { 0 < cells }
+    ensures { result + 1 ≤ cells }
 {
-    slots / 8 * 7
+    cells / 8 * 7
 }
 
-/// The first slot in a range that holds no position.
+/// The first cell in a range that holds no position.
 #[inline]
 fn free_between(controls: &[u16], from: usize, to: usize) -> Option<usize>
     requires { to ≤ length controls.now }
     ensures first { result ≡ find (λ i. nat_lt (slice_index controls.now i) 2) (range_with_len from (to - from)) }
-    ensures within { IfSome result (λ slot. slot < to) }
+    ensures within { IfSome result (λ cell. cell < to) }
 {
-    for slot in from..to {
-        if controls[slot] < FULL {
-            return Some(slot);
+    for cell in from..to {
+        if controls[cell] < FULL {
+            return Some(cell);
         }
     }
     None
 }
 
-/// The first slot that holds no position, from one on and round to it.
+/// The first cell that holds no position, from one on and round to it.
 #[inline]
 fn free_from(controls: &[u16], start: usize) -> usize
     requires start { start < length controls.now }
     requires free { count_by is_used controls.now < length controls.now }
-    ensures first { find (λ i. nat_lt (slice_index controls.now i) 2) (from_slot (length controls.now) start)
+    ensures first { find (λ i. nat_lt (slice_index controls.now i) 2) (from_cell (length controls.now) start)
         ≡ Some result }
     ensures within { result < length controls.now }
 {
-    if let Some(slot) = free_between(controls, start, controls.len()) {
-        return slot;
+    if let Some(cell) = free_between(controls, start, controls.len()) {
+        return cell;
     }
-    let Some(slot) = free_between(controls, 0, start) else {
+    let Some(cell) = free_between(controls, 0, start) else {
         unreachable!()
     };
-    slot
+    cell
 }
 
-/// The slots that a search for a hash finds.
+/// The cells that a search for a hash finds.
 #[derive(Drop)]
 struct Places<'a> {
     controls: &'a [u16],
@@ -120,7 +120,7 @@ impl<'a> Places<'a> {
     /// The next of them.
     #[inline]
     fn next(&mut self) -> Option<usize>
-        ensures { MatchOption result ((self.old ≡ []) × (self.new ≡ [])) (λ slot. self.old ≡ slot ∷ self.new) }
+        ensures { MatchOption result ((self.old ≡ []) × (self.new ≡ [])) (λ cell. self.old ≡ cell ∷ self.new) }
     {
         while self.next < self.end || 0 < self.rest {
             if self.next == self.end {
@@ -129,53 +129,53 @@ impl<'a> Places<'a> {
                 self.rest = 0;
                 continue;
             }
-            let slot = self.next;
-            let control = self.controls[slot];
+            let cell = self.next;
+            let control = self.controls[cell];
             if control == EMPTY {
-                self.end = slot;
+                self.end = cell;
                 self.rest = 0;
                 return None;
             }
             self.next += 1;
             if control == self.wanted {
-                return Some(slot);
+                return Some(cell);
             }
         }
         None
     }
 }
 
-/// The slot of a position among those that a search for a hash finds.
+/// The cell of a position among those that a search for a hash finds.
 #[inline]
-fn slot_of(controls: &[u16], positions: &[u64], hash: u64, position: u64) -> Option<usize>
-    requires slots { 0 < length controls.now }
+fn cell_of(controls: &[u16], positions: &[u64], hash: u64, position: u64) -> Option<usize>
+    requires cells { 0 < length controls.now }
     requires sized { length positions.now ≡ length controls.now }
     ensures { result ≡ find (λ i. slice_index positions.now i == position) (places controls.now hash) }
 {
     let mut places = Places::new(controls, hash);
-    while let Some(slot) = places.next() {
-        if positions[slot] == position {
-            return Some(slot);
+    while let Some(cell) = places.next() {
+        if positions[cell] == position {
+            return Some(cell);
         }
     }
     None
 }
 
-/// Puts a position into the first slot without one. Answers whether that slot was empty.
+/// Puts a position into the first cell without one. Answers whether that cell was empty.
 #[inline]
 fn put(controls: &mut Vec<u16>, positions: &mut Vec<u64>, hash: u64, position: u64) -> bool
     requires free { count_by is_used controls.old.items < length controls.old.items }
     requires sized { length positions.old.items ≡ length controls.old.items }
     ensures { IsPut controls.old.items positions.old.items hash position controls.new.items positions.new.items result }
 {
-    let slot = free_from(controls, home_of(hash, controls.len()));
-    let empty = controls[slot] == EMPTY;
-    controls[slot] = control_of(hash);
-    positions[slot] = position;
+    let cell = free_from(controls, home_of(hash, controls.len()));
+    let empty = controls[cell] == EMPTY;
+    controls[cell] = control_of(hash);
+    positions[cell] = position;
     empty
 }
 
-/// Puts all positions of some slots into empty ones, by the hashes that the resolver answers.
+/// Puts all positions of some cells into empty ones, by the hashes that the resolver answers.
 fn put_all<F: Fn(u64) -> u64>(
     controls: &[u16],
     positions: &[u64],
@@ -197,29 +197,29 @@ fn put_all<F: Fn(u64) -> u64>(
     ensures sized { length new_positions.new.items ≡ length new_controls.new.items }
     ensures long { length new_controls.new.items ≡ length new_controls.old.items }
 {
-    for slot in 0..controls.len() {
-        if controls[slot] < FULL {
+    for cell in 0..controls.len() {
+        if controls[cell] < FULL {
             continue;
         }
-        let position = positions[slot];
+        let position = positions[cell];
         let hash = resolver(position);
         put(new_controls, new_positions, hash, position);
     }
 }
 
-/// Empty slots for some positions, so many that they need not be made anew for them.
-fn slots_for(capacity: usize) -> Option<usize>
-    ensures { IfSome result (λ slots. 0 < slots) }
+/// Empty cells for some positions, so many that they need not be made anew for them.
+fn cells_for(capacity: usize) -> Option<usize>
+    ensures { IfSome result (λ cells. 0 < cells) }
 {
-    let slots = capacity.checked_add(capacity / 7 + 1)?;
-    Some(slots.checked_next_power_of_two()?.max(LEAST_SLOTS))
+    let cells = capacity.checked_add(capacity / 7 + 1)?;
+    Some(cells.checked_next_power_of_two()?.max(LEAST_CELLS))
 }
 
-/// So many empty slots.
-fn empty_slots(alloc: Global, slots: usize) -> Result<(Vec<u16>, Vec<u64>), AllocError>
-    ensures { IfOk result (λ s. (s.0.items ≡ replicate slots 0) × (s.1.items ≡ replicate slots 0)) }
+/// So many empty cells.
+fn empty_cells(alloc: Global, cells: usize) -> Result<(Vec<u16>, Vec<u64>), AllocError>
+    ensures { IfOk result (λ s. (s.0.items ≡ replicate cells 0) × (s.1.items ≡ replicate cells 0)) }
 {
-    Ok((vec![in alloc; EMPTY; slots]?, vec![in alloc; 0; slots]?))
+    Ok((vec![in alloc; EMPTY; cells]?, vec![in alloc; 0; cells]?))
 }
 
 /// The positions under one hash, and some under others that have its fingerprint.
@@ -250,7 +250,7 @@ impl<'a> Iterator for Candidates<'a> {
     #[inline]
     fn next(&mut self) -> Option<u64> {
         match self.places.next() {
-            Some(slot) => Some(self.positions[slot]),
+            Some(cell) => Some(self.positions[cell]),
             None => None,
         }
     }
@@ -268,13 +268,13 @@ pub struct Table {
 }
 
 impl Model for Table {
-    ghost use Rattle.key_index.specs.Table.{Slots, AreSlots};
+    ghost use Rattle.key_index.specs.Table.{Cells, AreCells};
 
-    ghost Value = { Slots };
+    ghost Value = { Cells };
 
     ghost view = { λ t. record { controls = t.controls.items; positions = t.positions.items; removals = t.removals } };
 
-    ghost invariant = { λ t. AreSlots t.controls.items t.positions.items t.len t.used };
+    ghost invariant = { λ t. AreCells t.controls.items t.positions.items t.len t.used };
 }
 
 impl Table {
@@ -284,10 +284,10 @@ impl Table {
         ensures removals { IfOk result (λ t. t.removals ≡ 0) }
         ensures fault { IfErr result (λ fault. fault ≡ Fault.Memory) }
     {
-        let Some(slots) = slots_for(capacity) else {
+        let Some(cells) = cells_for(capacity) else {
             return Err(Fault::Memory);
         };
-        let Ok((controls, positions)) = empty_slots(alloc, slots) else {
+        let Ok((controls, positions)) = empty_cells(alloc, cells) else {
             return Err(Fault::Memory);
         };
         Ok(Table {
@@ -337,10 +337,10 @@ impl Table {
     pub fn contains(&self, hash: u64, position: u64) -> bool
         ensures { IsTrue result ↔ Contains (candidates self.now hash) position }
     {
-        slot_of(&self.controls, &self.positions, hash, position).is_some()
+        cell_of(&self.controls, &self.positions, hash, position).is_some()
     }
 
-    /// Makes slots anew that have no marks of removed positions, and twice as many where half of them are full.
+    /// Makes cells anew that have no marks of removed positions, and twice as many where half of them are full.
     fn remake<F: Fn(u64) -> u64>(&mut self, resolver: &F) -> Result<(), Fault>
         requires { (m : ℕ → Option ℕ) × Stored self.old m × Resolves (F.pre resolver.now) (F.post resolver.now) m }
         ensures stored { OnOk result ((m : ℕ → Option ℕ) → Stored self.old m
@@ -351,14 +351,14 @@ impl Table {
         ensures refused { OnErr result (self.new ≡ self.old) }
         ensures fault { IfErr result (λ fault. fault ≡ Fault.Memory) }
     {
-        let mut slots = self.controls.len();
-        if slots / 2 <= self.len {
-            let Some(more) = slots.checked_mul(2) else {
+        let mut cells = self.controls.len();
+        if cells / 2 <= self.len {
+            let Some(more) = cells.checked_mul(2) else {
                 return Err(Fault::Memory);
             };
-            slots = more;
+            cells = more;
         }
-        let Ok((mut controls, mut positions)) = empty_slots(*self.controls.allocator(), slots)
+        let Ok((mut controls, mut positions)) = empty_cells(*self.controls.allocator(), cells)
         else {
             return Err(Fault::Memory);
         };
@@ -400,7 +400,7 @@ impl Table {
         Ok(())
     }
 
-    /// Stores a position where the slots need not be made anew.
+    /// Stores a position where the cells need not be made anew.
     #[inline]
     fn place(&mut self, hash: u64, position: u64)
         requires { count_by is_used self.old.controls + 1 < length self.old.controls }
@@ -427,10 +427,10 @@ impl Table {
         ensures removals { self.new.removals ≡ min (self.old.removals + 1) (2 ^ 64 - 1) }
     {
         self.removals = self.removals.saturating_add(1);
-        let Some(slot) = slot_of(&self.controls, &self.positions, hash, position) else {
+        let Some(cell) = cell_of(&self.controls, &self.positions, hash, position) else {
             return false;
         };
-        self.controls[slot] = REMOVED;
+        self.controls[cell] = REMOVED;
         self.len -= 1;
         true
     }

@@ -361,17 +361,6 @@ fn measure_build<C: Clock, W: Write>(
     }
 }
 
-/// Measures the snapshot store over the partitioned ordered index, and its build.
-fn snapshot_pordered<C: Clock, W: Write>(
-    alloc: Global,
-    present: &[[u8; 32]],
-    absent: &[[u8; 32]],
-    report: &mut Report<'_, C, W>,
-) -> Result<(), Failure> {
-    snapshots::run_snapshot::<RecordIndex, C, W>(alloc, present, absent, report)?;
-    snapshots::run_build::<RecordIndex, C, W>(alloc, present, report)
-}
-
 /// Measures a snapshot over a kind, or the map of full keys. The other kinds have none.
 fn measure_snapshot<C: Clock, W: Write>(
     alloc: Global,
@@ -384,7 +373,9 @@ fn measure_snapshot<C: Clock, W: Write>(
         Kind::Ordered => snapshots::run_snapshot::<ordered::Index<EightCap, Record>, C, W>(
             alloc, present, absent, report,
         ),
-        Kind::PartitionedOrdered2 => snapshot_pordered(alloc, present, absent, report),
+        Kind::PartitionedOrdered2 => snapshots::run_both::<RecordIndex, C, W>(
+            alloc, present, absent, report,
+        ),
         Kind::StdTree => snapshots::run_map(alloc, present, absent, report),
         _ => Ok(()),
     }

@@ -195,7 +195,7 @@ fn records(alloc: Global, keys: &[[u8; 32]]) -> Option<Vec<Record>> {
 }
 
 /// Measures the build of a snapshot in ranges of equal spans.
-pub(crate) fn run_build<
+fn run_build<
     I: Factory<Translator = EightCap, Value = Record> + Ordered + Partitioned + Drop,
     C: Clock,
     W: Write,
@@ -223,4 +223,21 @@ pub(crate) fn run_build<
     };
     report.line("snapshot_build", keys.len(), start, snapshot.len() as u64)?;
     Ok(())
+}
+
+/// Measures a snapshot over an index in partitions, and its build.
+pub(crate) fn run_both<
+    I: Factory<Translator = EightCap, Value = Record> + Ordered + Partitioned + Drop,
+    C: Clock,
+    W: Write,
+>(
+    alloc: Global,
+    present: &[[u8; 32]],
+    absent: &[[u8; 32]],
+    report: &mut Report<'_, C, W>,
+) -> Result<(), Failure>
+    requires { I.makes }
+{
+    run_snapshot::<I, C, W>(alloc, present, absent, report)?;
+    run_build::<I, C, W>(alloc, present, report)
 }

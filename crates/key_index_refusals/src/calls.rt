@@ -335,17 +335,17 @@ fn stands_after<K: Kind, W: Write + Drop>(
     before: Standing,
     call: Call,
 ) -> Result<(), Stop> {
-    if K::THRESHOLD == 0 {
+    if kept.threshold == 0 {
         return Ok(());
     }
     let entries = kept.entries(partition(at));
     let now = K::standing(index, partition(at));
     let left = if call.settles() {
-        after_call(before, K::THRESHOLD, entries)
+        after_call(before, kept.threshold, entries)
     } else {
         left_with(before, entries)
     };
-    let is_small = left.spilled && entries < K::THRESHOLD.saturating_sub(entries);
+    let is_small = left.spilled && entries < kept.threshold.saturating_sub(entries);
     if !call.returns() || !is_small {
         return must(now == left, "how a partition stands");
     }
@@ -358,11 +358,12 @@ fn stands_after<K: Kind, W: Write + Drop>(
 /// but where one is due.
 fn stands_refused<K: Kind>(
     index: &K::Index,
+    kept: &Kept,
     at: usize,
     before: Standing,
     call: Call,
 ) -> Result<(), Stop> {
-    let due = K::THRESHOLD > 0 && !before.spilled && K::THRESHOLD <= before.inline_len;
+    let due = kept.threshold > 0 && !before.spilled && kept.threshold <= before.inline_len;
     must(due || call.inserts(), "a refusal where no spill is due")?;
     let now = K::standing(index, partition(at));
     if now == before {
@@ -393,7 +394,7 @@ pub(crate) fn tries<K: Kind, W: Write + Drop>(
         if accepted {
             return stands_after::<K, W>(report, index, kept, at, before, call);
         }
-        stands_refused::<K>(index, at, before, call)?;
+        stands_refused::<K>(index, kept, at, before, call)?;
     }
     Ok(())
 }

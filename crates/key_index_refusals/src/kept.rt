@@ -43,18 +43,27 @@ pub(crate) fn push<V: Drop>(values: &mut Vec<V>, value: V) -> Result<(), Stop> {
 #[derive(Drop)]
 pub(crate) struct Kept {
     lists: Vec<Vec<u64>>,
+    /// At how many values a partition of the index spills; 0 where none does.
+    pub(crate) threshold: usize,
     pub(crate) pruned: u64,
     asked: Vec<u64>,
 }
 
 impl Kept {
+    /// No value, of an index whose partitions don't spill.
     pub(crate) fn new(alloc: Global) -> Result<Kept, Stop> {
+        Kept::spilling_at(alloc, 0)
+    }
+
+    /// No value, of an index whose partitions spill at so many.
+    pub(crate) fn spilling_at(alloc: Global, threshold: usize) -> Result<Kept, Stop> {
         let mut lists = Vec::with_capacity(alloc, KEYS)?;
         for _ in 0..KEYS {
             push(&mut lists, Vec::with_capacity(alloc, LONGEST + 1)?)?;
         }
         Ok(Kept {
             lists,
+            threshold,
             pruned: 0,
             asked: Vec::with_capacity(alloc, LONGEST + 1)?,
         })

@@ -20,11 +20,8 @@ pub(crate) struct Standing {
 pub(crate) trait Kind {
     type Index: index::Unordered<Value = u64> + Drop;
 
-    /// At how many values a partition spills; 0 where none does.
-    const THRESHOLD: usize;
-
-    /// An index with no values.
-    fn make(alloc: Global) -> Result<Self::Index, Fault>;
+    /// An index with no values, whose partitions spill at so many where they do.
+    fn make(alloc: Global, threshold: usize) -> Result<Self::Index, Fault>;
 
     /// How a partition stands, of an index whose partitions spill.
     fn standing(index: &Self::Index, partition: usize) -> Standing;
@@ -47,9 +44,7 @@ pub(crate) struct Unordered;
 impl Kind for Unordered {
     type Index = unordered::Index<TwoCap, u64>;
 
-    const THRESHOLD: usize = 0;
-
-    fn make(alloc: Global) -> Result<Self::Index, Fault> {
+    fn make(alloc: Global, _threshold: usize) -> Result<Self::Index, Fault> {
         Factory::new(alloc, TwoCap)
     }
 
@@ -68,9 +63,7 @@ pub(crate) struct Ordered;
 impl Kind for Ordered {
     type Index = ordered::Index<TwoCap, u64>;
 
-    const THRESHOLD: usize = 0;
-
-    fn make(alloc: Global) -> Result<Self::Index, Fault> {
+    fn make(alloc: Global, _threshold: usize) -> Result<Self::Index, Fault> {
         Factory::new(alloc, TwoCap)
     }
 
@@ -89,9 +82,7 @@ pub(crate) struct Punordered;
 impl Kind for Punordered {
     type Index = partitioned::unordered::Index<OneCap, u64, 1>;
 
-    const THRESHOLD: usize = 0;
-
-    fn make(alloc: Global) -> Result<Self::Index, Fault> {
+    fn make(alloc: Global, _threshold: usize) -> Result<Self::Index, Fault> {
         Factory::new(alloc, OneCap)
     }
 
@@ -104,100 +95,36 @@ impl Kind for Punordered {
     }
 }
 
-/// The partitioned ordered index.
+/// The partitioned ordered index, whose partitions spill.
 pub(crate) type Spilling = partitioned::ordered::Index<OneCap, u64, 1>;
 
-/// How a partition of it stands.
-fn stands(index: &Spilling, partition: usize) -> Standing {
-    if partition < 256 {
-        Standing {
-            spilled: index.is_spilled(partition),
-            inline_len: index.inline_len(partition),
-            spills: index.spills(),
-            moved: index.moved(),
+/// At how many values a partition spills where no threshold is given.
+pub(crate) const DEFAULT: usize = 512;
+
+/// The partitioned ordered index.
+pub(crate) struct Pordered;
+
+impl Kind for Pordered {
+    type Index = Spilling;
+
+    fn make(alloc: Global, threshold: usize) -> Result<Self::Index, Fault> {
+        if 0 < threshold && threshold < DEFAULT {
+            return Spilling::with_threshold(alloc, OneCap, threshold);
         }
-    } else {
-        ARRAYS
-    }
-}
-
-/// The partitioned ordered index, whose partitions spill at the first value.
-pub(crate) struct AtOne;
-
-impl Kind for AtOne {
-    type Index = Spilling;
-
-    const THRESHOLD: usize = 1;
-
-    fn make(alloc: Global) -> Result<Self::Index, Fault> {
-        Spilling::with_threshold(alloc, OneCap, 1)
-    }
-
-    fn standing(index: &Self::Index, partition: usize) -> Standing {
-        stands(index, partition)
-    }
-
-    fn is_in_order(index: &Self::Index, kept: &Kept) -> Result<(), Stop> {
-        kept.are_in_order(index)
-    }
-}
-
-/// The same, at the second value.
-pub(crate) struct AtTwo;
-
-impl Kind for AtTwo {
-    type Index = Spilling;
-
-    const THRESHOLD: usize = 2;
-
-    fn make(alloc: Global) -> Result<Self::Index, Fault> {
-        Spilling::with_threshold(alloc, OneCap, 2)
-    }
-
-    fn standing(index: &Self::Index, partition: usize) -> Standing {
-        stands(index, partition)
-    }
-
-    fn is_in_order(index: &Self::Index, kept: &Kept) -> Result<(), Stop> {
-        kept.are_in_order(index)
-    }
-}
-
-/// The same, at the eighth value.
-pub(crate) struct AtEight;
-
-impl Kind for AtEight {
-    type Index = Spilling;
-
-    const THRESHOLD: usize = 8;
-
-    fn make(alloc: Global) -> Result<Self::Index, Fault> {
-        Spilling::with_threshold(alloc, OneCap, 8)
-    }
-
-    fn standing(index: &Self::Index, partition: usize) -> Standing {
-        stands(index, partition)
-    }
-
-    fn is_in_order(index: &Self::Index, kept: &Kept) -> Result<(), Stop> {
-        kept.are_in_order(index)
-    }
-}
-
-/// The same, at 512 values.
-pub(crate) struct AtDefault;
-
-impl Kind for AtDefault {
-    type Index = Spilling;
-
-    const THRESHOLD: usize = 512;
-
-    fn make(alloc: Global) -> Result<Self::Index, Fault> {
         Factory::new(alloc, OneCap)
     }
 
     fn standing(index: &Self::Index, partition: usize) -> Standing {
-        stands(index, partition)
+        if partition < 256 {
+            Standing {
+                spilled: index.is_spilled(partition),
+                inline_len: index.inline_len(partition),
+                spills: index.spills(),
+                moved: index.moved(),
+            }
+        } else {
+            ARRAYS
+        }
     }
 
     fn is_in_order(index: &Self::Index, kept: &Kept) -> Result<(), Stop> {

@@ -313,11 +313,25 @@ fn came_to<I: Unordered<Value = u64>>(
     kept.are_in(index)
 }
 
+/// An index whose batches look ahead.
+pub(crate) trait LooksAhead: Unordered<Value = u64> {
+    /// Tells a closure what a batch of all keys does.
+    fn look_ahead<F: FnMut(Ahead<'_, u64>)>(&self, on: F) -> Result<(), Fault>
+        requires { F.IsAlwaysCallable on };
+}
+
+impl LooksAhead for Spilling {
+    fn look_ahead<F: FnMut(Ahead<'_, u64>)>(&self, on: F) -> Result<(), Fault> {
+        let keys = [key(0), key(1), key(2), key(3), key(4), key(5)];
+        self.get_many_ahead(keys.iter().copied(), on)
+    }
+}
+
 /// A batch that looks ahead, of all keys: a refused one tells nothing.
-pub(crate) fn ahead<W: Write + Drop>(
+pub(crate) fn ahead<I: LooksAhead, W: Write + Drop>(
     alloc: Global,
     report: &mut Report<'_, W>,
-    index: &mut Spilling,
+    index: &mut I,
 ) -> Result<(), Stop> {
     let mut kept = Kept::new(alloc)?;
     for (at, value) in [(2, 1), (3, 2), (5, 3)] {
@@ -327,8 +341,7 @@ pub(crate) fn ahead<W: Write + Drop>(
     }
     for _ in 0..TRIES {
         let mut told = 0usize;
-        let keys = [key(0), key(1), key(2), key(3), key(4), key(5)];
-        let answer = index.get_many_ahead(keys.iter().copied(), |_told: Ahead<'_, u64>| {
+        let answer = index.look_ahead(|_told: Ahead<'_, u64>| {
             told = told.saturating_add(1);
         });
         report.tells("get_many_ahead", answer.is_ok())?;

@@ -1,29 +1,32 @@
 //! The states, by name.
 use crate::calls::{Call, agrees, grow, shrink, tries};
 use crate::kept::{KEYS, Kept};
-use crate::kinds::{
-    AtDefault, AtEight, AtOne, AtTwo, Kind, Ordered, Punordered, Spilling, Unordered,
-};
-use crate::parts::{ahead, build, install, run_commands};
+use crate::kinds::{DEFAULT, Kind, Ordered, Pordered, Punordered, Unordered};
+use crate::parts::{LooksAhead, ahead, build, install, run_commands};
 use crate::positions::{arrays, has_room, indexed, marked};
 use crate::report::{Report, Stop, USAGE};
 use crate::snapshots::{appended, built, called, changed};
 use key_index::snapshot::Record;
-use key_index_flat::index::{Factory, ordered};
+use key_index_flat::index::{self, Factory, ordered};
 use key_index_flat::translator::{OneCap, TwoCap};
 use key_index_parts::index::partitioned;
 use key_index_parts::index::partitioned::Partitioned;
 use std::alloc::Global;
 use std::io::Write;
 
-/// An index with no values, of a kind; none where that was refused twice.
+/// An index with no values, of a kind, whose partitions spill at so many where they do; none where that was refused twice.
 fn make<K: Kind, W: Write + Drop>(
     alloc: Global,
     report: &mut Report<'_, W>,
-    name: &str,
+    threshold: usize,
 ) -> Result<Option<K::Index>, Stop> {
+    let name = if threshold == 0 || threshold == DEFAULT {
+        "new"
+    } else {
+        "with_threshold"
+    };
     for _ in 0..2 {
-        match K::make(alloc) {
+        match K::make(alloc, threshold) {
             Ok(index) => {
                 report.tells(name, true)?;
                 return Ok(Some(index));
@@ -66,10 +69,11 @@ const CALLS: u32 = 500;
 fn random<K: Kind, W: Write + Drop>(
     alloc: Global,
     report: &mut Report<'_, W>,
+    threshold: usize,
     seed: u64,
 ) -> Result<(), Stop> {
-    let mut kept = Kept::new(alloc)?;
-    let Some(mut index) = make::<K, W>(alloc, report, "new")? else {
+    let mut kept = Kept::spilling_at(alloc, threshold)?;
+    let Some(mut index) = make::<K, W>(alloc, report, threshold)? else {
         return Ok(());
     };
     let mut last = seed.wrapping_mul(0x9e37_79b9_7f4a_7c15) | 1;
@@ -88,9 +92,13 @@ fn random<K: Kind, W: Write + Drop>(
 }
 
 /// A list of three values, an insertion with retention, three values more behind the first one, and a value of a neighbouring key.
-fn worked<K: Kind, W: Write + Drop>(alloc: Global, report: &mut Report<'_, W>) -> Result<(), Stop> {
-    let mut kept = Kept::new(alloc)?;
-    let Some(mut index) = make::<K, W>(alloc, report, "new")? else {
+fn worked<K: Kind, W: Write + Drop>(
+    alloc: Global,
+    report: &mut Report<'_, W>,
+    threshold: usize,
+) -> Result<(), Stop> {
+    let mut kept = Kept::spilling_at(alloc, threshold)?;
+    let Some(mut index) = make::<K, W>(alloc, report, threshold)? else {
         return Ok(());
     };
     tries::<K, W>(report, &mut index, &mut kept, 2, Call::GetOrInsert(3))?;
@@ -119,17 +127,17 @@ fn worked<K: Kind, W: Write + Drop>(alloc: Global, report: &mut Report<'_, W>) -
 }
 
 /// Two values that a cursor put into a partition which spills at two, and then each of four calls.
-fn overfull<W: Write + Drop>(
+fn overfull<K: Kind, W: Write + Drop>(
     alloc: Global,
     report: &mut Report<'_, W>,
     seed: u64,
 ) -> Result<(), Stop> {
-    let mut kept = Kept::new(alloc)?;
-    let Some(mut index) = make::<AtTwo, W>(alloc, report, "with_threshold")? else {
+    let mut kept = Kept::spilling_at(alloc, 2)?;
+    let Some(mut index) = make::<K, W>(alloc, report, 2)? else {
         return Ok(());
     };
-    tries::<AtTwo, W>(report, &mut index, &mut kept, 4, Call::GetOrInsert(1))?;
-    grow::<AtTwo, W>(report, &mut index, &mut kept, 4, 1, 2)?;
+    tries::<K, W>(report, &mut index, &mut kept, 4, Call::GetOrInsert(1))?;
+    grow::<K, W>(report, &mut index, &mut kept, 4, 1, 2)?;
     let due = match seed % 5 {
         0 => Call::GetMut,
         1 => Call::Remove,
@@ -137,38 +145,38 @@ fn overfull<W: Write + Drop>(
         3 => Call::Insert(3),
         _ => Call::InsertAndRetain(3, 2),
     };
-    tries::<AtTwo, W>(report, &mut index, &mut kept, 4, due)?;
-    tries::<AtTwo, W>(report, &mut index, &mut kept, 4, Call::GetMany)
+    tries::<K, W>(report, &mut index, &mut kept, 4, due)?;
+    tries::<K, W>(report, &mut index, &mut kept, 4, Call::GetMany)
 }
 
 /// Puts eight values in a partition, which spills, and takes five of them out by cursors.
-fn grown_and_shrunken<W: Write + Drop>(
+fn grown_and_shrunken<K: Kind, W: Write + Drop>(
     report: &mut Report<'_, W>,
-    index: &mut <AtEight as Kind>::Index,
+    index: &mut K::Index,
     kept: &mut Kept,
 ) -> Result<(), Stop> {
     for value in 1..5 {
-        tries::<AtEight, W>(report, index, kept, 2, Call::Insert(value))?;
-        tries::<AtEight, W>(report, index, kept, 3, Call::Insert(value))?;
+        tries::<K, W>(report, index, kept, 2, Call::Insert(value))?;
+        tries::<K, W>(report, index, kept, 3, Call::Insert(value))?;
     }
     for at in [2, 2, 2, 3, 3] {
-        shrink::<AtEight>(index, kept, at)?;
+        shrink::<K>(index, kept, at)?;
     }
     Ok(())
 }
 
 /// Eight values spill a partition, and cursors leave three of them. Each of four calls moves those back, or where that was refused a later
 /// one does, and seven more spill the partition once more.
-fn shrunken<W: Write + Drop>(
+fn shrunken<K: Kind, W: Write + Drop>(
     alloc: Global,
     report: &mut Report<'_, W>,
     seed: u64,
 ) -> Result<(), Stop> {
-    let mut kept = Kept::new(alloc)?;
-    let Some(mut index) = make::<AtEight, W>(alloc, report, "with_threshold")? else {
+    let mut kept = Kept::spilling_at(alloc, 8)?;
+    let Some(mut index) = make::<K, W>(alloc, report, 8)? else {
         return Ok(());
     };
-    grown_and_shrunken(report, &mut index, &mut kept)?;
+    grown_and_shrunken::<K, W>(report, &mut index, &mut kept)?;
     let (at, call) = match seed % 4 {
         0 => (1, Call::Remove),
         1 => (3, Call::Remove),
@@ -176,29 +184,12 @@ fn shrunken<W: Write + Drop>(
         _ => (2, Call::InsertAndRetain(5, 2)),
     };
     for (at, call) in [(at, call), (1, Call::Retain(0)), (1, Call::Remove)] {
-        tries::<AtEight, W>(report, &mut index, &mut kept, at, call)?;
+        tries::<K, W>(report, &mut index, &mut kept, at, call)?;
     }
     for value in 6..13 {
-        tries::<AtEight, W>(report, &mut index, &mut kept, 2, Call::Insert(value))?;
+        tries::<K, W>(report, &mut index, &mut kept, 2, Call::Insert(value))?;
     }
-    tries::<AtEight, W>(report, &mut index, &mut kept, 2, Call::GetMany)
-}
-
-/// A state of an index in partitions.
-fn parted<I: Partitioned<Value = u64> + Drop, W: Write + Drop>(
-    alloc: Global,
-    report: &mut Report<'_, W>,
-    state: &str,
-    made: Option<I>,
-) -> Result<(), Stop> {
-    let Some(mut index) = made else {
-        return Ok(());
-    };
-    match state {
-        "range" => install(alloc, report, index),
-        "build" => build(alloc, report, &mut index),
-        _ => Err(Stop::Wrong(USAGE)),
-    }
+    tries::<K, W>(report, &mut index, &mut kept, 2, Call::GetMany)
 }
 
 /// A state of one kind of index.
@@ -206,16 +197,17 @@ fn go_over<K: Kind, W: Write + Drop>(
     alloc: Global,
     report: &mut Report<'_, W>,
     state: &str,
+    threshold: usize,
     seed: u64,
 ) -> Result<(), Stop> {
     match state {
-        "random" => random::<K, W>(alloc, report, seed),
-        "worked" => worked::<K, W>(alloc, report),
-        "run" => match make::<K, W>(alloc, report, "new")? {
+        "random" => random::<K, W>(alloc, report, threshold, seed),
+        "worked" => worked::<K, W>(alloc, report, threshold),
+        "run" => match make::<K, W>(alloc, report, threshold)? {
             Some(mut index) => run_commands(alloc, report, &mut index),
             None => Ok(()),
         },
-        "callers" => match make::<K, W>(alloc, report, "new")? {
+        "callers" => match make::<K, W>(alloc, report, threshold)? {
             Some(mut index) => called(alloc, report, &mut index),
             None => Ok(()),
         },
@@ -223,60 +215,50 @@ fn go_over<K: Kind, W: Write + Drop>(
     }
 }
 
-/// A partitioned ordered index with no values; none where it was refused twice.
-fn spilling<W: Write + Drop>(
-    alloc: Global,
-    report: &mut Report<'_, W>,
-    threshold: usize,
-) -> Result<Option<Spilling>, Stop> {
-    if threshold == 0 {
-        return Err(Stop::Wrong("a threshold"));
-    }
-    for _ in 0..2 {
-        match Spilling::with_threshold(alloc, OneCap, threshold) {
-            Ok(index) => {
-                report.tells("with_threshold", true)?;
-                return Ok(Some(index));
-            }
-            Err(_) => report.tells("with_threshold", false)?,
-        }
-    }
-    Ok(None)
-}
-
-/// A state of it at a threshold, in which it is called by name.
-fn go_spilling<W: Write + Drop>(
+/// A state of a kind in partitions.
+fn go_parted<K: Kind, W: Write + Drop>(
     alloc: Global,
     report: &mut Report<'_, W>,
     state: &str,
     threshold: usize,
-) -> Result<(), Stop> {
-    let made = spilling(alloc, report, threshold)?;
-    if state != "ahead" {
-        return parted(alloc, report, state, made);
-    }
-    match made {
-        Some(mut index) => ahead(alloc, report, &mut index),
-        None => Ok(()),
-    }
-}
-
-/// Whether a state is one of an index called by name.
-fn is_named(state: &str) -> bool {
-    state == "range" || state == "build" || state == "ahead"
-}
-
-/// A state of the partitioned ordered index of a kind.
-fn go_over_spilling<K: Kind, W: Write + Drop>(
-    alloc: Global,
-    report: &mut Report<'_, W>,
-    state: &str,
     seed: u64,
-) -> Result<(), Stop> {
-    if is_named(state) {
-        return go_spilling(alloc, report, state, K::THRESHOLD);
+) -> Result<(), Stop>
+where
+    K::Index: Partitioned<Value = u64>,
+{
+    match state {
+        "range" => match make::<K, W>(alloc, report, threshold)? {
+            Some(index) => install(alloc, report, index),
+            None => Ok(()),
+        },
+        "build" => match make::<K, W>(alloc, report, threshold)? {
+            Some(mut index) => build(alloc, report, &mut index),
+            None => Ok(()),
+        },
+        _ => go_over::<K, W>(alloc, report, state, threshold, seed),
     }
-    go_over::<K, W>(alloc, report, state, seed)
+}
+
+/// A state of a kind whose partitions spill.
+fn go_spilling<K: Kind, W: Write + Drop>(
+    alloc: Global,
+    report: &mut Report<'_, W>,
+    state: &str,
+    threshold: usize,
+    seed: u64,
+) -> Result<(), Stop>
+where
+    K::Index: Partitioned<Value = u64> + LooksAhead,
+{
+    match (state, threshold) {
+        ("ahead", _) => match make::<K, W>(alloc, report, threshold)? {
+            Some(mut index) => ahead(alloc, report, &mut index),
+            None => Ok(()),
+        },
+        ("overfull", 2) => overfull::<K, W>(alloc, report, seed),
+        ("shrunken", 8) => shrunken::<K, W>(alloc, report, seed),
+        _ => go_parted::<K, W>(alloc, report, state, threshold, seed),
+    }
 }
 
 /// A flat index of records.
@@ -295,6 +277,20 @@ fn parted_records(alloc: Global) -> Result<partitioned::ordered::Index<OneCap, R
     }
 }
 
+/// A snapshot over an index in partitions.
+fn parted_snapshot<I: index::Ordered<Value = Record> + Partitioned + Drop, W: Write + Drop>(
+    alloc: Global,
+    report: &mut Report<'_, W>,
+    state: &str,
+    index: I,
+) -> Result<(), Stop> {
+    match state {
+        "partitioned" => changed(alloc, report, index),
+        "build" => built(alloc, report, index),
+        _ => Err(Stop::Wrong(USAGE)),
+    }
+}
+
 /// A snapshot over the flat ordered index, or over the partitioned one at a threshold of two.
 fn go_snapshot<W: Write + Drop>(
     alloc: Global,
@@ -303,10 +299,19 @@ fn go_snapshot<W: Write + Drop>(
 ) -> Result<(), Stop> {
     match state {
         "flat" => changed(alloc, report, flat_records(alloc)?),
-        "partitioned" => changed(alloc, report, parted_records(alloc)?),
-        "build" => built(alloc, report, parted_records(alloc)?),
-        _ => Err(Stop::Wrong(USAGE)),
+        _ => parted_snapshot(alloc, report, state, parted_records(alloc)?),
     }
+}
+
+/// A state of the partitioned ordered index.
+fn go_pordered<W: Write + Drop>(
+    alloc: Global,
+    report: &mut Report<'_, W>,
+    state: &str,
+    threshold: usize,
+    seed: u64,
+) -> Result<(), Stop> {
+    go_spilling::<Pordered, W>(alloc, report, state, threshold, seed)
 }
 
 /// A state of the partitioned unordered index.
@@ -316,31 +321,7 @@ fn go_punordered<W: Write + Drop>(
     state: &str,
     seed: u64,
 ) -> Result<(), Stop> {
-    match state {
-        "range" | "build" => {
-            let made = make::<Punordered, W>(alloc, report, "new")?;
-            parted(alloc, report, state, made)
-        }
-        _ => go_over::<Punordered, W>(alloc, report, state, seed),
-    }
-}
-
-/// A state of the partitioned ordered index, by a threshold.
-fn go_pordered<W: Write + Drop>(
-    alloc: Global,
-    report: &mut Report<'_, W>,
-    words: (&str, &str),
-    seed: u64,
-) -> Result<(), Stop> {
-    let (kind, state) = words;
-    match (kind, state) {
-        ("pordered_at_1", _) => go_over_spilling::<AtOne, W>(alloc, report, state, seed),
-        ("pordered_at_2", "overfull") => overfull(alloc, report, seed),
-        ("pordered_at_2", _) => go_over_spilling::<AtTwo, W>(alloc, report, state, seed),
-        ("pordered_at_8", "shrunken") => shrunken(alloc, report, seed),
-        ("pordered", _) => go_over_spilling::<AtDefault, W>(alloc, report, state, seed),
-        _ => Err(Stop::Wrong(USAGE)),
-    }
+    go_parted::<Punordered, W>(alloc, report, state, 0, seed)
 }
 
 /// A state of the immutable index.
@@ -367,12 +348,13 @@ pub(crate) fn go<W: Write + Drop>(
 ) -> Result<(), Stop> {
     let (kind, state) = words;
     match kind {
-        "unordered" => go_over::<Unordered, W>(alloc, report, state, seed),
-        "ordered" => go_over::<Ordered, W>(alloc, report, state, seed),
+        "unordered" => go_over::<Unordered, W>(alloc, report, state, 0, seed),
+        "ordered" => go_over::<Ordered, W>(alloc, report, state, 0, seed),
         "punordered" => go_punordered(alloc, report, state, seed),
-        "pordered_at_1" | "pordered_at_2" | "pordered_at_8" | "pordered" => {
-            go_pordered(alloc, report, words, seed)
-        }
+        "pordered_at_1" => go_pordered(alloc, report, state, 1, seed),
+        "pordered_at_2" => go_pordered(alloc, report, state, 2, seed),
+        "pordered_at_8" => go_pordered(alloc, report, state, 8, seed),
+        "pordered" => go_pordered(alloc, report, state, DEFAULT, seed),
         "immutable" => go_immutable(alloc, report, state),
         "arrays" => arrays(alloc, report),
         "snapshot" => go_snapshot(alloc, report, state),

@@ -2,7 +2,7 @@
 ghost use Rattle.std.specs.Prelude.{◌≡◌, IfOk};
 
 use key_index_flat::index::{Factory, Fault};
-use key_index_flat::translator::{OneCap, Translator};
+use key_index_flat::translator::{Cap, Hashed, OneCap, SeededSha256, Translator, UnhashedArray};
 use key_index_parts::index::partitioned::{Partitioned, ordered, unordered};
 use std::alloc::Global;
 
@@ -62,4 +62,23 @@ pub struct Filed<T: Translator> {
 #[derive(Drop)]
 pub struct Sorted<T: Translator> {
     pub index: ordered::Index<T, u64, 1>,
+}
+
+/// Positions by hashed keys, over a translator of their hashes. It says the bound of a hashed translator again, since the index has
+/// ghost fields by it.
+#[derive(Drop)]
+pub struct Seeded<T: Translator>
+where
+    Hashed<T, SeededSha256>: Translator<Key = T::Key>,
+{
+    pub index: unordered::Index<Hashed<T, SeededSha256>, u64, 2>,
+}
+
+/// Positions by the first bytes of keys, whose translator's bound it says again too.
+#[derive(Drop)]
+pub struct Capped<const N: usize>
+where
+    Cap<N>: Translator<Key = UnhashedArray<N>>,
+{
+    pub index: ordered::Index<Cap<N>, u64, 1>,
 }

@@ -9,7 +9,7 @@ use Rattle.std.specs.Bool.{OnTrue, OnFalse}
 use Rattle.std.proofs.lemmas.Option.{slice_get_within}
 use mir.Val.{bool_byte}
 use Rattle.std.proofs.lemmas.Bool.{le-leb, leb-true, leb-false, eqb-true, eqb-false, eq-eqb, ne_eqb}
-use Rattle.key_index.specs.Table.{Slots, Files, Stored, stored_at, is_full, with_hash, without, candidates}
+use Rattle.key_index.specs.Table.{Cells, Files, Stored, stored_at, is_full, with_hash, without, candidates}
 use Rattle.key_index.specs.Immutable.{Log, key_at, hashes, with_key, IsLog}
 use Rattle.key_index.proofs.tables.TableMaps.{files_candidates, find_passes, full_within, files_same}
 use Rattle.key_index.proofs.tables.TableLemmas.{find_none}
@@ -44,15 +44,15 @@ some_of : {X : Type 0} (o : Option X) → IsSome o → (x : X) × (o ≡ Some x)
 some_of None e = absurd (cc)
 some_of (Some x) e = (x, refl)
 
-pub kept_slots : {X : Type 0} (old xs new : List X) (n : ℕ) → xs ≡ old → ((i : ℕ) → i ≢ n → i < length xs → slice_get new i ≡ slice_get xs i)
+pub kept_cells : {X : Type 0} (old xs new : List X) (n : ℕ) → xs ≡ old → ((i : ℕ) → i ≢ n → i < length xs → slice_get new i ≡ slice_get xs i)
     → (i : ℕ) → i ≢ n → IsSome (slice_get old i) → slice_get new i ≡ slice_get old i
-kept_slots old xs new n same keep i ne is =
+kept_cells old xs new n same keep i ne is =
     let x = some_of (slice_get old i) is in
     let within = slice_get_within old i x.0 x.1 in
     let long : length xs ≡ length old = ap length same in
     keep i ne (omega (arith, within, long)) ∙ ap (λ l. slice_get l i) same
 
-pub stored_some : (t : Slots) (m : ℕ → Option ℕ) → Stored t m → (p : ℕ) → stored_at t p ≡ is_some (m p)
+pub stored_some : (t : Cells) (m : ℕ → Option ℕ) → Stored t m → (p : ℕ) → stored_at t p ≡ is_some (m p)
 stored_some t m s p =
     let test : ℕ → Bool = λ i. is_full (slice_index t.controls i) && (slice_index t.positions i == p) in
     elim (find test (range_with_len 0 (length t.controls))) as (λ o. find test (range_with_len 0 (length t.controls)) ≡ o → is_some o ≡ is_some (m p)) [
@@ -76,36 +76,36 @@ module _ {T K : Type 0} (hashed : T → K → ℕ) where
   some_map f None = refl
   some_map f (Some k) = refl
 
-  pub indexed : (s : Log T K) → IsLog hashed s → (p : ℕ) → stored_at s.slots p ≡ is_some (key_at s p)
-  indexed s l p = stored_some s.slots (hashes hashed s) l.stored p ∙ some_map (hashed s.translator) (key_at s p)
+  pub indexed : (s : Log T K) → IsLog hashed s → (p : ℕ) → stored_at s.cells p ≡ is_some (key_at s p)
+  indexed s l p = stored_some s.cells (hashes hashed s) l.stored p ∙ some_map (hashed s.translator) (key_at s p)
 
   -- the key at a position that is stored stands in the ring
-  pub key_there : (s : Log T K) → IsLog hashed s → (p : ℕ) → stored_at s.slots p ≡ true → (s.start ≤ p) × (key_at s p ≡ slice_get s.keys (p - s.start))
+  pub key_there : (s : Log T K) → IsLog hashed s → (p : ℕ) → stored_at s.cells p ≡ true → (s.start ≤ p) × (key_at s p ≡ slice_get s.keys (p - s.start))
   key_there s l p e =
       elim (nat_le s.start p) as (λ b. nat_le s.start p ≡ b → (s.start ≤ p) × (key_at s p ≡ slice_get s.keys (p - s.start))) [
         | true ↦ λ t. (leb-true _ _ t, ap (λ b. cond b (slice_get s.keys (p - s.start)) None) (and_both _ _ t e))
         | false ↦ λ t. absurd (
-            let none : key_at s p ≡ None = ap (λ b. cond (b && stored_at s.slots p) (slice_get s.keys (p - s.start)) None) t in
+            let none : key_at s p ≡ None = ap (λ b. cond (b && stored_at s.cells p) (slice_get s.keys (p - s.start)) None) t in
             true_is_false (sym e ∙ indexed s l p ∙ ap is_some none))
       ] refl
 
-  pub inserted : (s : Log T K) (u : Slots) (ks : List K) (p : ℕ) (k : K) → IsLog hashed s → s.start ≤ p
+  pub inserted : (s : Log T K) (u : Cells) (ks : List K) (p : ℕ) (k : K) → IsLog hashed s → s.start ≤ p
       → Stored u (with_hash (hashes hashed s) p (hashed s.translator k))
       → slice_get ks (p - s.start) ≡ Some k
       → ((i : ℕ) → i ≢ p - s.start → IsSome (slice_get s.keys i) → slice_get ks i ≡ slice_get s.keys i)
-      → (q : ℕ) → key_at (record s { keys = ks; slots = u }) q ≡ with_key (key_at s) p k q
+      → (q : ℕ) → key_at (record s { keys = ks; cells = u }) q ≡ with_key (key_at s) p k q
   inserted s u ks p k l le st at others q =
       let now : stored_at u q ≡ is_some (with_hash (hashes hashed s) p (hashed s.translator k) q) = stored_some u _ st q in
-      elim (q == p) as (λ b. q == p ≡ b → stored_at u q ≡ is_some (cond b (Some (hashed s.translator k)) (hashes hashed s q)) → key_at (record s { keys = ks; slots = u }) q ≡ cond b (Some k) (key_at s q)) [
+      elim (q == p) as (λ b. q == p ≡ b → stored_at u q ≡ is_some (cond b (Some (hashed s.translator k)) (hashes hashed s q)) → key_at (record s { keys = ks; cells = u }) q ≡ cond b (Some k) (key_at s q)) [
         | true ↦ λ t y.
             let same : q ≡ p = eqb-true _ _ t in
             let above : nat_le s.start q ≡ true = le-leb _ _ (omega (arith, same)) in
             ap (λ b. cond b (slice_get ks (q - s.start)) None) (and_both _ _ above y) ∙ ap (λ r. slice_get ks (r - s.start)) same ∙ at
         | false ↦ λ t y.
             let ne : q ≢ p = eqb-false _ _ t in
-            let as_before : stored_at u q ≡ stored_at s.slots q = y ∙ sym (stored_some s.slots (hashes hashed s) l.stored q) in
+            let as_before : stored_at u q ≡ stored_at s.cells q = y ∙ sym (stored_some s.cells (hashes hashed s) l.stored q) in
             let step = ap (λ b. cond (nat_le s.start q && b) (slice_get ks (q - s.start)) None) as_before in
-            step ∙ elim (stored_at s.slots q) as (λ b. stored_at s.slots q ≡ b → cond (nat_le s.start q && b) (slice_get ks (q - s.start)) None ≡ key_at s q) [
+            step ∙ elim (stored_at s.cells q) as (λ b. stored_at s.cells q ≡ b → cond (nat_le s.start q && b) (slice_get ks (q - s.start)) None ≡ key_at s q) [
               | true ↦ λ e.
                   let there = key_there s l q e in
                   let above : s.start ≤ q = there.0 in
@@ -120,14 +120,14 @@ module _ {T K : Type 0} (hashed : T → K → ℕ) where
   map_with : (f : K → ℕ) (m : ℕ → Option K) (p : ℕ) (k : K) (q : ℕ) → option_map f (with_key m p k q) ≡ with_hash (λ r. option_map f (m r)) p (f k) q
   map_with f m p k q = elim (q == p) as (λ b. option_map f (cond b (Some k) (m q)) ≡ cond b (Some (f k)) (option_map f (m q))) [ true ↦ refl | false ↦ refl ]
 
-  pub inserted_log : (s : Log T K) (u : Slots) (ks : List K) (p : ℕ) (k : K) → IsLog hashed s → s.start ≤ p → p < 2 ^ 64
+  pub inserted_log : (s : Log T K) (u : Cells) (ks : List K) (p : ℕ) (k : K) → IsLog hashed s → s.start ≤ p → p < 2 ^ 64
       → Stored u (with_hash (hashes hashed s) p (hashed s.translator k))
       → slice_get ks (p - s.start) ≡ Some k
       → ((i : ℕ) → i ≢ p - s.start → IsSome (slice_get s.keys i) → slice_get ks i ≡ slice_get s.keys i)
       → length ks ≡ max (length s.keys) ((p - s.start) + 1) → u.removals < 2 ^ 64
-      → IsLog hashed (record s { keys = ks; slots = u })
+      → IsLog hashed (record s { keys = ks; cells = u })
   inserted_log s u ks p k l le lt st at others long fit = record {
-    stored = files_same (with_hash (hashes hashed s) p (hashed s.translator k)) (hashes hashed (record s { keys = ks; slots = u }))
+    stored = files_same (with_hash (hashes hashed s) p (hashed s.translator k)) (hashes hashed (record s { keys = ks; cells = u }))
         (λ q. sym (ap (option_map (hashed s.translator)) (inserted s u ks p k l le st at others q) ∙ map_with (hashed s.translator) (key_at s) p k q)) st;
     fits = let f = l.fits in omega (arith, long, f);
     pruned_fits = l.pruned_fits;
@@ -145,13 +145,13 @@ module _ {T K : Type 0} (hashed : T → K → ℕ) (s : Log T K) (l : IsLog hash
   resolves ks same p h e =
       let key = map_some (hashed s.translator) (key_at s p) h e in
       let there = key_there hashed s l p (indexed hashed s l p ∙ ap is_some key.1) in
-      let slot : slice_get ks (p - s.start) ≡ Some key.0 = ap (λ x. slice_get x (p - s.start)) same ∙ sym there.1 ∙ key.1 in
-      ((there.0, slice_get_within ks (p - s.start) key.0 slot), (λ g answers. answers key.0 slot ∙ key.2))
+      let cell : slice_get ks (p - s.start) ≡ Some key.0 = ap (λ x. slice_get x (p - s.start)) same ∙ sym there.1 ∙ key.1 in
+      ((there.0, slice_get_within ks (p - s.start) key.0 cell), (λ g answers. answers key.0 cell ∙ key.2))
 
-  -- the table finds a position under the hash of its slot's key exactly where it is indexed
-  pub found_there : (p : ℕ) (k : K) → slice_get s.keys (p - s.start) ≡ Some k → Contains (candidates s.slots (hashed s.translator k)) p ↔ IsSome (key_at s p)
+  -- the table finds a position under the hash of its cell's key exactly where it is indexed
+  pub found_there : (p : ℕ) (k : K) → slice_get s.keys (p - s.start) ≡ Some k → Contains (candidates s.cells (hashed s.translator k)) p ↔ IsSome (key_at s p)
   found_there p k at =
-      let cands = files_candidates s.slots.controls s.slots.positions (hashes hashed s) (hashed s.translator k) l.stored in (
+      let cands = files_candidates s.cells.controls s.cells.positions (hashes hashed s) (hashed s.translator k) l.stored in (
         (λ h. let r = cands.only p h in let key = map_some (hashed s.translator) (key_at s p) r.0 r.1 in subst IsSome (sym key.1) refl),
         (λ is.
             let key = some_of (key_at s p) is in
@@ -160,8 +160,8 @@ module _ {T K : Type 0} (hashed : T → K → ℕ) (s : Log T K) (l : IsLog hash
             cands.all p (ap (option_map (hashed s.translator)) same)),
       )
 
--- the first slot goes, and its position with it where it is indexed
-module _ {T K : Type 0} (hashed : T → K → ℕ) (s : Log T K) (l : IsLog hashed s) (k : K) (ks : List K) (first : s.keys ≡ k ∷ ks) (u : Slots) where
+-- the first cell goes, and its position with it where it is indexed
+module _ {T K : Type 0} (hashed : T → K → ℕ) (s : Log T K) (l : IsLog hashed s) (k : K) (ks : List K) (first : s.keys ≡ k ∷ ks) (u : Cells) where
   pub released_stored : (b : Bool) → (b ≡ true) ↔ IsSome (key_at s s.start) → (b ≡ true → Stored u (without (hashes hashed s) s.start))
       → (b ≡ false → Stored u (hashes hashed s)) → Stored u (without (hashes hashed s) s.start)
   released_stored true hit on off = on refl
@@ -178,23 +178,23 @@ module _ {T K : Type 0} (hashed : T → K → ℕ) (s : Log T K) (l : IsLog hash
       ] refl) (off refl)
 
   pub released_key : (pruned : ℕ) → Stored u (without (hashes hashed s) s.start) → (q : ℕ) → s.start + 1 ≤ q
-      → key_at (record { translator = s.translator; start = s.start + 1; keys = ks; slots = u; pruned = pruned }) q ≡ key_at s q
+      → key_at (record { translator = s.translator; start = s.start + 1; keys = ks; cells = u; pruned = pruned }) q ≡ key_at s q
   released_key pruned st q le =
       let ne : q ≢ s.start = omega arith in
       let same : without (hashes hashed s) s.start q ≡ hashes hashed s q = ap (λ b. cond b None (hashes hashed s q)) (ne_eqb q s.start ne) in
-      let stored : stored_at u q ≡ stored_at s.slots q = stored_some u (without (hashes hashed s) s.start) st q ∙ ap is_some same ∙ sym (stored_some s.slots (hashes hashed s) l.stored q) in
+      let stored : stored_at u q ≡ stored_at s.cells q = stored_some u (without (hashes hashed s) s.start) st q ∙ ap is_some same ∙ sym (stored_some s.cells (hashes hashed s) l.stored q) in
       let place : q - s.start ≡ suc (q - (s.start + 1)) = omega arith in
-      let slot : slice_get s.keys (q - s.start) ≡ slice_get ks (q - (s.start + 1)) = ap (λ x. slice_get x (q - s.start)) first ∙ ap (slice_get (k ∷ ks)) place in
+      let cell : slice_get s.keys (q - s.start) ≡ slice_get ks (q - (s.start + 1)) = ap (λ x. slice_get x (q - s.start)) first ∙ ap (slice_get (k ∷ ks)) place in
       ap (λ b. cond (b && stored_at u q) (slice_get ks (q - (s.start + 1))) None) (le-leb (s.start + 1) q le)
       ∙ ap (λ b. cond b (slice_get ks (q - (s.start + 1))) None) stored
-      ∙ ap (λ x. cond (stored_at s.slots q) x None) (sym slot)
-      ∙ sym (ap (λ b. cond (b && stored_at s.slots q) (slice_get s.keys (q - s.start)) None) (le-leb s.start q (omega arith)))
+      ∙ ap (λ x. cond (stored_at s.cells q) x None) (sym cell)
+      ∙ sym (ap (λ b. cond (b && stored_at s.cells q) (slice_get s.keys (q - s.start)) None) (le-leb s.start q (omega arith)))
 
   pub released_log : (pruned : ℕ) → pruned < 2 ^ 64 → u.removals < 2 ^ 64 → Stored u (without (hashes hashed s) s.start)
-      → IsLog hashed (record { translator = s.translator; start = s.start + 1; keys = ks; slots = u; pruned = pruned })
+      → IsLog hashed (record { translator = s.translator; start = s.start + 1; keys = ks; cells = u; pruned = pruned })
   released_log pruned more fit st = record {
-    stored = files_same (without (hashes hashed s) s.start) (hashes hashed (record { translator = s.translator; start = s.start + 1; keys = ks; slots = u; pruned = pruned })) (λ q.
-        elim (nat_le (s.start + 1) q) as (λ b. nat_le (s.start + 1) q ≡ b → without (hashes hashed s) s.start q ≡ hashes hashed (record { translator = s.translator; start = s.start + 1; keys = ks; slots = u; pruned = pruned }) q) [
+    stored = files_same (without (hashes hashed s) s.start) (hashes hashed (record { translator = s.translator; start = s.start + 1; keys = ks; cells = u; pruned = pruned })) (λ q.
+        elim (nat_le (s.start + 1) q) as (λ b. nat_le (s.start + 1) q ≡ b → without (hashes hashed s) s.start q ≡ hashes hashed (record { translator = s.translator; start = s.start + 1; keys = ks; cells = u; pruned = pruned }) q) [
           | true ↦ λ t.
               let le : s.start + 1 ≤ q = leb-true _ _ t in
               let ne : q ≢ s.start = omega arith in
@@ -207,7 +207,7 @@ module _ {T K : Type 0} (hashed : T → K → ℕ) (s : Log T K) (l : IsLog hash
                 | false ↦ λ e.
                     let ne : q ≢ s.start = eqb-false _ _ e in
                     let lt : q < s.start = omega arith in
-                    ap (λ b. option_map (hashed s.translator) (cond (b && stored_at s.slots q) (slice_get s.keys (q - s.start)) None)) (lt-leb s.start q lt)
+                    ap (λ b. option_map (hashed s.translator) (cond (b && stored_at s.cells q) (slice_get s.keys (q - s.start)) None)) (lt-leb s.start q lt)
               ] refl ∙ sym gone
         ] refl) st;
     fits = let long = ap length first in let f = l.fits in omega arith;
@@ -215,10 +215,10 @@ module _ {T K : Type 0} (hashed : T → K → ℕ) (s : Log T K) (l : IsLog hash
     removals_fit = fit;
   }
 
-pub slot_read : {X : Type 0} (xs : List X) (i : ℕ) (x : X) → i < length xs → x ≡ get_or xs i x → slice_get xs i ≡ Some x
-slot_read [] i x b e = absurd (omega arith)
-slot_read (y ∷ ys) zero x b e = ap Some (sym e)
-slot_read (y ∷ ys) (suc i) x b e = slot_read ys i x (omega arith) e
+pub cell_read : {X : Type 0} (xs : List X) (i : ℕ) (x : X) → i < length xs → x ≡ get_or xs i x → slice_get xs i ≡ Some x
+cell_read [] i x b e = absurd (omega arith)
+cell_read (y ∷ ys) zero x b e = ap Some (sym e)
+cell_read (y ∷ ys) (suc i) x b e = cell_read ys i x (omega arith) e
 
 on_true : {P : Type 0} (b : Bool) → OnTrue b P → b ≡ true → P
 on_true true h e = h
@@ -228,11 +228,11 @@ on_false : {P : Type 0} (b : Bool) → OnFalse b P → b ≡ false → P
 on_false true h e = absurd (cc)
 on_false false h e = h
 
--- what a removal of the first slot's position leaves in the table
-module _ {T K : Type 0} (hashed : T → K → ℕ) (s : Log T K) (l : IsLog hashed s) (k : K) (ks : List K) (first : s.keys ≡ k ∷ ks) (u : Slots) (b : Bool)
-    (removed : (b ≡ true) ↔ Contains (candidates s.slots (hashed s.translator k)) s.start)
-    (stored : OnTrue b ((m : ℕ → Option ℕ) → Stored s.slots m → Stored u (without m s.start)))
-    (rest : OnFalse b ((u.controls ≡ s.slots.controls) × (u.positions ≡ s.slots.positions))) where
+-- what a removal of the first cell's position leaves in the table
+module _ {T K : Type 0} (hashed : T → K → ℕ) (s : Log T K) (l : IsLog hashed s) (k : K) (ks : List K) (first : s.keys ≡ k ∷ ks) (u : Cells) (b : Bool)
+    (removed : (b ≡ true) ↔ Contains (candidates s.cells (hashed s.translator k)) s.start)
+    (stored : OnTrue b ((m : ℕ → Option ℕ) → Stored s.cells m → Stored u (without m s.start)))
+    (rest : OnFalse b ((u.controls ≡ s.cells.controls) × (u.positions ≡ s.cells.positions))) where
   pub released_hit : (b ≡ true) ↔ IsSome (key_at s s.start)
   released_hit =
       let zero_place : s.start - s.start ≡ 0 = omega arith in
@@ -244,7 +244,7 @@ module _ {T K : Type 0} (hashed : T → K → ℕ) (s : Log T K) (l : IsLog hash
   released_table =
       released_stored hashed s l k ks first u b released_hit (λ t. on_true b stored t (hashes hashed s) l.stored)
       (λ f. let same = on_false b rest f in
-      subst (λ x. Files x u.positions (hashes hashed s)) (sym same.0) (subst (λ x. Files s.slots.controls x (hashes hashed s)) (sym same.1) l.stored))
+      subst (λ x. Files x u.positions (hashes hashed s)) (sym same.0) (subst (λ x. Files s.cells.controls x (hashes hashed s)) (sym same.1) l.stored))
 
   pub released_count : cond {A = ℕ} b 1 0 ≡ cond {A = ℕ} (is_some (key_at s s.start)) 1 0
   released_count =

@@ -1,7 +1,7 @@
--- What stays of an immutable index whose first slots go.
---     past_key, below_key            no key is behind the slots, nor in front of the start
---     released_none, released_more   no slot goes, and one more
---     jumped_log                     the start may be raised once it is reached or no slot is left
+-- What stays of an immutable index whose first cells go.
+--     past_key, below_key            no key is behind the cells, nor in front of the start
+--     released_none, released_more   no cell goes, and one more
+--     jumped_log                     the start may be raised once it is reached or no cell is left
 --     Pruned                         what a pruning changes
 --     jumped, not_pruned             it does so, and where the start is passed already too
 use Rattle.std.proofs.Common.{◌≡◌, ℕ, suc, zero, ◌+◌, ◌-◌, ◌^◌, ◌<◌, ◌≤◌, ◌⊎◌, min, max, Bool, true, false, cond, ◌&&◌, [], length, drop, slice_get, nat_le, nat_eq, None, is_some, refl, sym, ap, ◌∙◌, inl, inr, arith, count_by, length-drop}
@@ -40,13 +40,13 @@ module _ (q : ℕ → Bool) where
 module _ {T K : Type 0} where
   pub past_key : (t : Log T K) (p : ℕ) → length t.keys ≤ p - t.start → key_at t p ≡ None
   past_key t p le =
-      elim (nat_le t.start p && stored_at t.slots p) as (λ b. cond b (slice_get t.keys (p - t.start)) None ≡ None) [
+      elim (nat_le t.start p && stored_at t.cells p) as (λ b. cond b (slice_get t.keys (p - t.start)) None ≡ None) [
         | true ↦ slice_get_past t.keys (p - t.start) le
         | false ↦ refl
       ]
 
   pub below_key : (t : Log T K) (p : ℕ) → p < t.start → key_at t p ≡ None
-  below_key t p lt = ap (λ b. cond (b && stored_at t.slots p) (slice_get t.keys (p - t.start)) None) (lt-leb t.start p lt)
+  below_key t p lt = ap (λ b. cond (b && stored_at t.cells p) (slice_get t.keys (p - t.start)) None) (lt-leb t.start p lt)
 
   pub released_none : (hashed : T → K → ℕ) (s : Log T K) → IsLog hashed s → IsReleased s s
   released_none hashed s l =
@@ -64,10 +64,10 @@ module _ {T K : Type 0} where
   pub released_more : (s t u : Log T K) → IsReleased s t → u.translator ≡ t.translator → 0 < length t.keys → u.start ≡ t.start + 1 → u.keys ≡ drop 1 t.keys
       → ((p : ℕ) → u.start ≤ p → key_at u p ≡ key_at t p)
       → u.pruned ≡ min (t.pruned + cond {A = ℕ} (is_some (key_at t t.start)) 1 0) (2 ^ 64 - 1)
-      → u.slots.removals ≡ min (t.slots.removals + 1) (2 ^ 64 - 1) → IsReleased s u
-  released_more s t u r same held start slots keys pruned removals =
+      → u.cells.removals ≡ min (t.cells.removals + 1) (2 ^ 64 - 1) → IsReleased s u
+  released_more s t u r same held start cells keys pruned removals =
       let from = r.start in
-      let long : length u.keys ≡ length t.keys - 1 = ap length slots ∙ length-drop 1 t.keys in
+      let long : length u.keys ≡ length t.keys - 1 = ap length cells ∙ length-drop 1 t.keys in
       let next : u.start - s.start ≡ suc (t.start - s.start) = omega (arith, from, start) in
       let place : s.start + (t.start - s.start) ≡ t.start = omega (arith, from) in
       let counted : indexed_count s s.start (u.start - s.start) ≡ indexed_count s s.start (t.start - s.start) + cond {A = ℕ} (is_some (key_at t t.start)) 1 0 =
@@ -88,7 +88,7 @@ module _ {T K : Type 0} where
     pub start_is : u.start ≡ max s.start start
     pub end : end_of u ≡ max (end_of s) start
     pub pruned : u.pruned ≡ min (s.pruned + indexed_count s s.start (start - s.start)) (2 ^ 64 - 1)
-    pub removals : u.slots.removals ≡ min (s.slots.removals + (min (end_of s) start - s.start)) (2 ^ 64 - 1)
+    pub removals : u.cells.removals ≡ min (s.cells.removals + (min (end_of s) start - s.start)) (2 ^ 64 - 1)
 
   pub not_pruned : (hashed : T → K → ℕ) (s : Log T K) (start : ℕ) → IsLog hashed s → start ≤ s.start → Pruned s start s
   not_pruned hashed s start l le =

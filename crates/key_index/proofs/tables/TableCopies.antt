@@ -1,20 +1,20 @@
--- Slots that are made anew, and how many positions slots have.
---     Copied                    the positions of the first slots stand in new ones, of which no other is used
---     Copied-none, Copied-past, Copied-put     before the first slot, past one without a position, and with a position more
---     copied_keeps              what the new slots keep of a map, with a position more
---     copied_files              once all are copied, the new slots file the same map
---     put_stored, put_count, put_empty, put_used     what a position put in leaves, into an empty slot or another
---     put_copies, put_kept      the same of new slots
---     files_size                a map that slots file has as many positions as slots are full
+-- Cells that are made anew, and how many positions cells have.
+--     Copied                    the positions of the first cells stand in new ones, of which no other is used
+--     Copied-none, Copied-past, Copied-put     before the first cell, past one without a position, and with a position more
+--     copied_keeps              what the new cells keep of a map, with a position more
+--     copied_files              once all are copied, the new cells file the same map
+--     put_stored, put_count, put_empty, put_used     what a position put in leaves, into an empty cell or another
+--     put_copies, put_kept      the same of new cells
+--     files_size                a map that cells file has as many positions as cells are full
 use Rattle.std.proofs.Common.{◌≡◌, ◌≢◌, ℕ, suc, zero, ◌+◌, ◌<◌, ◌≤◌, Bool, true, false, cond, List, [], ◌∷◌, length, slice_index, slice_set, nat_lt, nat_eq, map, take, Option, Some, None, IsSome, refl, sym, ap, subst, ◌∙◌, inl, inr, arith, count_by, replicate, get_or-set_same, get_or-set_other}
 use Rattle.std.specs.List.{find, filter, range_with_len, Contains, IsDistinct}
 use Rattle.std.proofs.lemmas.Bool.{le-leb, leb-true, ltb-true, eqb-true, eqb-false}
 use Rattle.std.proofs.lemmas.List.{length-set, length-map}
 use Rattle.std.proofs.lemmas.List.Sums.{sum_by-cons, length-filter, count_by_more_yes, count_by_more_no}
-use Rattle.key_index.specs.Table.{is_used, is_full, from_slot, home, control_of, Files, HasSize, IsPut, AreSlots, with_hash}
+use Rattle.key_index.specs.Table.{is_used, is_full, from_cell, home, control_of, Files, HasSize, IsPut, AreCells, with_hash}
 use Rattle.key_index.proofs.tables.TableMaps.{Keeps, put_keeps, find_passes, full-put, used-put_empty, used-put_used, put_files, full_within, Contains-head, Contains-tail, Contains_cases, Contains_none, Contains-map, Contains-from_map, list_distinct, apart_from, range_has, range_distinct, no_full}
 
--- the positions of the first n slots cs, ps stand in the slots ds, qs
+-- the positions of the first n cells cs, ps stand in the cells ds, qs
 pub record Copied (cs ps ds qs : List ℕ) (n : ℕ) : Type 0 where
   pub sized : length qs ≡ length ds
   pub full : count_by is_full ds ≡ count_by is_full (take n cs)
@@ -62,53 +62,53 @@ Copied-past cs ps ds qs n b f s =
       ] refl;
     }
 
-module _ (cs ps ds qs : List ℕ) (n h p slot : ℕ) (s : Copied cs ps ds qs n) (b : n < length cs) (f : 2 ≤ slice_index cs n) (at : p ≡ slice_index ps n)
-    (free : slice_index ds slot < 2) (within : slot < length ds) where
-  empty : slice_index ds slot ≡ 0
-  empty = let c = s.clean slot in omega arith
+module _ (cs ps ds qs : List ℕ) (n h p cell : ℕ) (s : Copied cs ps ds qs n) (b : n < length cs) (f : 2 ≤ slice_index cs n) (at : p ≡ slice_index ps n)
+    (free : slice_index ds cell < 2) (within : cell < length ds) where
+  empty : slice_index ds cell ≡ 0
+  empty = let c = s.clean cell in omega arith
 
-  mark : slice_index (slice_set ds slot (control_of h)) slot ≡ control_of h
-  mark = get_or-set_same ds slot (control_of h) 0 within
+  mark : slice_index (slice_set ds cell (control_of h)) cell ≡ control_of h
+  mark = get_or-set_same ds cell (control_of h) 0 within
 
-  place : slice_index (slice_set qs slot p) slot ≡ p
-  place = let z = s.sized in get_or-set_same qs slot p 0 (omega arith)
+  place : slice_index (slice_set qs cell p) cell ≡ p
+  place = let z = s.sized in get_or-set_same qs cell p 0 (omega arith)
 
-  pub Copied-put : Copied cs ps (slice_set ds slot (control_of h)) (slice_set qs slot p) (n + 1)
+  pub Copied-put : Copied cs ps (slice_set ds cell (control_of h)) (slice_set qs cell p) (n + 1)
   Copied-put =
       let more = count_by_more_yes is_full cs n 0 b (le-leb 2 (slice_index cs n) f) in
-      let full = full-put ds slot (control_of h) within free (omega arith) in
-      let used = used-put_empty ds slot (control_of h) within empty (omega arith) in
+      let full = full-put ds cell (control_of h) within free (omega arith) in
+      let used = used-put_empty ds cell (control_of h) within empty (omega arith) in
       record {
-        sized = length-set qs slot p ∙ s.sized ∙ sym (length-set ds slot (control_of h));
+        sized = length-set qs cell p ∙ s.sized ∙ sym (length-set ds cell (control_of h));
         full = full ∙ ap (λ k. k + 1) s.full ∙ sym more;
         used = used ∙ ap (λ k. k + 1) s.used ∙ sym more;
-        clean = λ j z. elim (nat_eq j slot) as (λ t. nat_eq j slot ≡ t → ⊥) [
-          | true ↦ λ t. let e = ap (slice_index (slice_set ds slot (control_of h))) (eqb-true _ _ t) ∙ mark in omega (arith, e, z)
-          | false ↦ λ t. s.clean j (sym (get_or-set_other ds slot j (control_of h) 0 (eqb-false _ _ t)) ∙ z)
+        clean = λ j z. elim (nat_eq j cell) as (λ t. nat_eq j cell ≡ t → ⊥) [
+          | true ↦ λ t. let e = ap (slice_index (slice_set ds cell (control_of h))) (eqb-true _ _ t) ∙ mark in omega (arith, e, z)
+          | false ↦ λ t. s.clean j (sym (get_or-set_other ds cell j (control_of h) 0 (eqb-false _ _ t)) ∙ z)
         ] refl;
-        origin = λ j g. elim (nat_eq j slot) as (λ t. nat_eq j slot ≡ t → (i : ℕ) × (i < n + 1) × (2 ≤ slice_index cs i) × (slice_index ps i ≡ slice_index (slice_set qs slot p) j)) [
-          | true ↦ λ t. (n, omega arith, f, sym at ∙ sym place ∙ ap (slice_index (slice_set qs slot p)) (sym (eqb-true _ _ t)))
+        origin = λ j g. elim (nat_eq j cell) as (λ t. nat_eq j cell ≡ t → (i : ℕ) × (i < n + 1) × (2 ≤ slice_index cs i) × (slice_index ps i ≡ slice_index (slice_set qs cell p) j)) [
+          | true ↦ λ t. (n, omega arith, f, sym at ∙ sym place ∙ ap (slice_index (slice_set qs cell p)) (sym (eqb-true _ _ t)))
           | false ↦ λ t.
               let ne = eqb-false _ _ t in
-              let e = get_or-set_other ds slot j (control_of h) 0 ne in
+              let e = get_or-set_other ds cell j (control_of h) 0 ne in
               let r = s.origin j (omega (arith, e, g)) in
-              (r.0, omega arith, r.2, r.3 ∙ sym (get_or-set_other qs slot j p 0 ne))
+              (r.0, omega arith, r.2, r.3 ∙ sym (get_or-set_other qs cell j p 0 ne))
         ] refl;
-        target = λ i l g. elim (nat_eq i n) as (λ t. nat_eq i n ≡ t → (j : ℕ) × (2 ≤ slice_index (slice_set ds slot (control_of h)) j) × (slice_index (slice_set qs slot p) j ≡ slice_index ps i)) [
-          | true ↦ λ t. (slot, (let e = mark in omega (arith, e)), place ∙ at ∙ ap (slice_index ps) (sym (eqb-true _ _ t)))
+        target = λ i l g. elim (nat_eq i n) as (λ t. nat_eq i n ≡ t → (j : ℕ) × (2 ≤ slice_index (slice_set ds cell (control_of h)) j) × (slice_index (slice_set qs cell p) j ≡ slice_index ps i)) [
+          | true ↦ λ t. (cell, (let e = mark in omega (arith, e)), place ∙ at ∙ ap (slice_index ps) (sym (eqb-true _ _ t)))
           | false ↦ λ t.
               let ne = eqb-false _ _ t in
               let r = s.target i (omega (arith, ne)) g in
-              let apart : r.0 ≢ slot = λ e. let z = ap (slice_index ds) e in let y = r.1 in omega (arith, z, y, free) in
-              (r.0, (let e = get_or-set_other ds slot r.0 (control_of h) 0 apart in let y = r.1 in omega (arith, e, y)), get_or-set_other qs slot r.0 p 0 apart ∙ r.2)
+              let apart : r.0 ≢ cell = λ e. let z = ap (slice_index ds) e in let y = r.1 in omega (arith, z, y, free) in
+              (r.0, (let e = get_or-set_other ds cell r.0 (control_of h) 0 apart in let y = r.1 in omega (arith, e, y)), get_or-set_other qs cell r.0 p 0 apart ∙ r.2)
         ] refl;
       }
 
   pub copied_keeps : (m : ℕ → Option ℕ) → Files cs ps m → m p ≡ Some h
-      → find (λ i. nat_lt (slice_index ds i) 2) (from_slot (length ds) (home (length ds) h)) ≡ Some slot
-      → Keeps ds qs m → Keeps (slice_set ds slot (control_of h)) (slice_set qs slot p) m
+      → find (λ i. nat_lt (slice_index ds i) 2) (from_cell (length ds) (home (length ds) h)) ≡ Some cell
+      → Keeps ds qs m → Keeps (slice_set ds cell (control_of h)) (slice_set qs cell p) m
   copied_keeps m a e first k =
-      put_keeps ds qs h p slot s.sized first free within m m k e
+      put_keeps ds qs h p cell s.sized first free within m m k e
       (λ j g z. let r = s.origin j g in let same = a.apart r.0 n r.2 f (r.3 ∙ z ∙ at) in let l = r.1 in omega (arith, same, l))
       (λ q _. refl)
 
@@ -124,45 +124,45 @@ copied_files cs ps ds qs m a s k = record {
 
 -- ---- what putting a position in leaves
 
-free_slot : (cs : List ℕ) (s slot : ℕ) → find (λ i. nat_lt (slice_index cs i) 2) (from_slot (length cs) s) ≡ Some slot → slice_index cs slot < 2
-free_slot cs s slot e = ltb-true _ _ (find_passes (λ i. nat_lt (slice_index cs i) 2) (from_slot (length cs) s) slot e)
+free_cell : (cs : List ℕ) (s cell : ℕ) → find (λ i. nat_lt (slice_index cs i) 2) (from_cell (length cs) s) ≡ Some cell → slice_index cs cell < 2
+free_cell cs s cell e = ltb-true _ _ (find_passes (λ i. nat_lt (slice_index cs i) 2) (from_cell (length cs) s) cell e)
 
 module _ (cs ps : List ℕ) (h p : ℕ) (es rs : List ℕ) (b : Bool) (put : IsPut cs ps h p es rs b) where
-  free_put : slice_index cs put.slot < 2
-  free_put = free_slot cs (home (length cs) h) put.slot put.first
+  free_put : slice_index cs put.cell < 2
+  free_put = free_cell cs (home (length cs) h) put.cell put.first
 
   pub put_stored : (m : ℕ → Option ℕ) → length ps ≡ length cs → Files cs ps m → m p ≡ None → Files es rs (with_hash m p h)
   put_stored m sized s none =
       subst (λ l. Files l rs (with_hash m p h)) (sym put.controls)
-      (subst (λ l. Files (slice_set cs put.slot (control_of h)) l (with_hash m p h)) (sym put.positions)
-      (put_files cs ps h p put.slot sized put.first free_put put.within m s none))
+      (subst (λ l. Files (slice_set cs put.cell (control_of h)) l (with_hash m p h)) (sym put.positions)
+      (put_files cs ps h p put.cell sized put.first free_put put.within m s none))
 
   pub put_count : count_by is_full es ≡ count_by is_full cs + 1
-  put_count = ap (count_by is_full) put.controls ∙ full-put cs put.slot (control_of h) put.within free_put (omega arith)
+  put_count = ap (count_by is_full) put.controls ∙ full-put cs put.cell (control_of h) put.within free_put (omega arith)
 
   put_sized : length ps ≡ length cs → length rs ≡ length es
-  put_sized sized = ap length put.positions ∙ length-set ps put.slot p ∙ sized ∙ sym (length-set cs put.slot (control_of h)) ∙ sym (ap length put.controls)
+  put_sized sized = ap length put.positions ∙ length-set ps put.cell p ∙ sized ∙ sym (length-set cs put.cell (control_of h)) ∙ sym (ap length put.controls)
 
   pub put_long : length es ≡ length cs
-  put_long = ap length put.controls ∙ length-set cs put.slot (control_of h)
+  put_long = ap length put.controls ∙ length-set cs put.cell (control_of h)
 
-  pub put_empty : (len used : ℕ) → AreSlots cs ps len used → used + 1 < length cs → b ≡ true → AreSlots es rs (len + 1) (used + 1)
+  pub put_empty : (len used : ℕ) → AreCells cs ps len used → used + 1 < length cs → b ≡ true → AreCells es rs (len + 1) (used + 1)
   put_empty len used s room t =
-      let zero : slice_index cs put.slot ≡ 0 = eqb-true _ _ (sym put.was_empty ∙ t) in
+      let zero : slice_index cs put.cell ≡ 0 = eqb-true _ _ (sym put.was_empty ∙ t) in
       record {
         sized = put_sized s.sized;
         counted = omega (arith, s.counted, put_count);
-        marked = omega (arith, s.marked, ap (count_by is_used) put.controls, used-put_empty cs put.slot (control_of h) put.within zero (omega arith));
+        marked = omega (arith, s.marked, ap (count_by is_used) put.controls, used-put_empty cs put.cell (control_of h) put.within zero (omega arith));
         room = omega (arith, room, put_long);
       }
 
-  pub put_used : (len used : ℕ) → AreSlots cs ps len used → b ≡ false → AreSlots es rs (len + 1) used
+  pub put_used : (len used : ℕ) → AreCells cs ps len used → b ≡ false → AreCells es rs (len + 1) used
   put_used len used s t =
-      let marked : slice_index cs put.slot ≢ 0 = eqb-false _ _ (sym put.was_empty ∙ t) in
+      let marked : slice_index cs put.cell ≢ 0 = eqb-false _ _ (sym put.was_empty ∙ t) in
       record {
         sized = put_sized s.sized;
         counted = omega (arith, s.counted, put_count);
-        marked = omega (arith, s.marked, ap (count_by is_used) put.controls, used-put_used cs put.slot (control_of h) put.within marked (omega arith));
+        marked = omega (arith, s.marked, ap (count_by is_used) put.controls, used-put_used cs put.cell (control_of h) put.within marked (omega arith));
         room = let r = s.room in omega (arith, r, put_long);
       }
 
@@ -171,14 +171,14 @@ module _ (cs ps ds qs : List ℕ) (n h p : ℕ) (es rs : List ℕ) (b : Bool) (p
   pub put_copies : Copied cs ps es rs (n + 1)
   put_copies =
       subst (λ l. Copied cs ps l rs (n + 1)) (sym put.controls)
-      (subst (λ l. Copied cs ps (slice_set ds put.slot (control_of h)) l (n + 1)) (sym put.positions)
-      (Copied-put cs ps ds qs n h p put.slot s within f at (free_slot ds (home (length ds) h) put.slot put.first) put.within))
+      (subst (λ l. Copied cs ps (slice_set ds put.cell (control_of h)) l (n + 1)) (sym put.positions)
+      (Copied-put cs ps ds qs n h p put.cell s within f at (free_cell ds (home (length ds) h) put.cell put.first) put.within))
 
   pub put_kept : (m : ℕ → Option ℕ) → Files cs ps m → m p ≡ Some h → Keeps ds qs m → Keeps es rs m
   put_kept m a e k =
       subst (λ l. Keeps l rs m) (sym put.controls)
-      (subst (λ l. Keeps (slice_set ds put.slot (control_of h)) l m) (sym put.positions)
-      (copied_keeps cs ps ds qs n h p put.slot s within f at (free_slot ds (home (length ds) h) put.slot put.first) put.within m a e put.first k))
+      (subst (λ l. Keeps (slice_set ds put.cell (control_of h)) l m) (sym put.positions)
+      (copied_keeps cs ps ds qs n h p put.cell s within f at (free_cell ds (home (length ds) h) put.cell put.first) put.within m a e put.first k))
 
 -- ---- how many positions
 
@@ -243,17 +243,17 @@ module _ (cs ps : List ℕ) (m : ℕ → Option ℕ) (a : Files cs ps m) where
 
   pub files_size : HasSize m (count_by is_full cs)
   files_size =
-      let slots = range_with_len 0 (length cs) in
-      let fulls = filter (λ i. is_full (slice_index cs i)) slots in (
+      let cells = range_with_len 0 (length cs) in
+      let fulls = filter (λ i. is_full (slice_index cs i)) cells in (
         map (slice_index ps) fulls,
-        distinct_full slots (range_distinct 0 (length cs)),
-        length-map fulls (slice_index ps) ∙ length-filter (λ i. is_full (slice_index cs i)) slots ∙ count_range is_full cs,
+        distinct_full cells (range_distinct 0 (length cs)),
+        length-map fulls (slice_index ps) ∙ length-filter (λ i. is_full (slice_index cs i)) cells ∙ count_range is_full cs,
         λ p. (
           (λ h. let r = Contains-from_map (slice_index ps) fulls p h in
-              let has = a.held r.0 (filter_is slots r.0 r.2).0 in
+              let has = a.held r.0 (filter_is cells r.0 r.2).0 in
               subst IsSome (sym (ap m (sym r.1) ∙ has.1)) refl),
           (λ is. let r = a.found p is in
               Contains-map (slice_index ps) fulls r.0 p r.2
-              (filter-has slots r.0 (range_has 0 (length cs) r.0 (omega arith) (let b = full_within cs r.0 r.1 in omega arith)) (le-leb _ _ r.1))),
+              (filter-has cells r.0 (range_has 0 (length cs) r.0 (omega arith) (let b = full_within cs r.0 r.1 in omega arith)) (le-leb _ _ r.1))),
         ),
       )

@@ -1,8 +1,8 @@
--- Searches of the slots of a table.
+-- Searches of the cells of a table.
 --     range_step, range_end             a range of numbers by its first, and one without any
 --     find_here, find_past, find_out    what is found in a range, by its first
---     marked_end, marked_past, marked_here     what is marked among slots, by the first of them
---     free_exists                       where fewer slots are used than there are, one is free
+--     marked_end, marked_past, marked_here     what is marked among cells, by the first of them
+--     free_exists                       where fewer cells are used than there are, one is free
 use Rattle.std.proofs.Common.{◌≡◌, ◌≢◌, ℕ, suc, zero, ◌+◌, ◌-◌, ◌<◌, ◌≤◌, Bool, true, false, cond, List, [], ◌∷◌, ◌++◌, length, slice_index, nat_lt, nat_eq, ◌==◌, Some, None, refl, sym, ap, ◌∙◌, arith, count_by}
 use Rattle.std.specs.Option.{option_or}
 use Rattle.std.specs.List.{find, filter, take_while, range_with_len}

@@ -1,9 +1,9 @@
--- The maps that the slots of a table file.
+-- The maps that the cells of a table file.
 --     Contains-head, Contains-tail, Contains_cases     an element of a list, by its first
 --     Contains-map                  what a function makes of an element
---     marked_is, marked_among       a slot among those marked has their mark, and was searched
---     marked_kept                   a slot is found again after changes that empty none
---     marked_put                    the first free slot is found, once it is marked
+--     marked_is, marked_among       a cell among those marked has their mark, and was searched
+--     marked_kept                   a cell is found again after changes that empty none
+--     marked_put                    the first free cell is found, once it is marked
 --     distinct_map                  what a function makes of distinct elements is distinct, where it keeps them apart
 use Rattle.std.proofs.Common.{◌≡◌, ◌≢◌, ◌⊎◌, ℕ, suc, zero, ◌+◌, ◌-◌, ◌<◌, ◌≤◌, Bool, true, false, cond, List, [], ◌∷◌, ◌++◌, length, get_or, slice_index, slice_set, nat_lt, nat_eq, ◌==◌, map, Option, Some, None, is_some, IsSome, ◌↔◌, refl, sym, ap, subst, ◌∙◌, inl, inr, arith, count_by, get_or-set_same, get_or-set_other}
 use Rattle.std.specs.List.{find, range_with_len, Contains, IsDistinct, All, AllByRecursion}
@@ -11,7 +11,7 @@ use Rattle.std.proofs.lemmas.Bool.{ltb-false, le-leb, eqb-true, eqb-false, eq-eq
 use Rattle.std.proofs.lemmas.List.Elements.{Contains-append_cases, Contains-get_or}
 use Rattle.std.proofs.lemmas.List.Sums.{sum_by-set, sum_by-cons}
 use Rattle.std.proofs.lemmas.List.{length-set}
-use Rattle.key_index.specs.Table.{is_used, is_full, marked, from_slot, places, home, control_of, fingerprint, with_hash, without, Files, AreCandidates}
+use Rattle.key_index.specs.Table.{is_used, is_full, marked, from_cell, places, home, control_of, fingerprint, with_hash, without, Files, AreCandidates}
 use Rattle.key_index.proofs.tables.TableLemmas.{marked_end, marked_here, marked_past}
 
 some_same : {a b : ℕ} → Some a ≡ Some b → a ≡ b
@@ -53,7 +53,7 @@ Contains-from_map f (z ∷ xs) y h =
       | inr t ↦ let r = Contains-from_map f xs y t in (r.0, r.1, Contains-tail z xs r.0 r.2)
     ]
 
--- of a slot: it is empty, or has a mark, or another one
+-- of a cell: it is empty, or has a mark, or another one
 marks : (v c : ℕ) → (v ≡ 0) ⊎ (((v ≢ 0) × (v ≡ c)) ⊎ ((v ≢ 0) × (v ≢ c)))
 marks zero c = inl refl
 marks (suc v) c =
@@ -63,7 +63,7 @@ marks (suc v) c =
       | false ↦ λ t. inr (inr (used, eqb-false _ _ t))
     ] refl
 
-pub marked_is : (cs : List ℕ) (c : ℕ) (slots : List ℕ) (i : ℕ) → Contains (marked cs c slots) i → (slice_index cs i ≡ c) × Contains slots i
+pub marked_is : (cs : List ℕ) (c : ℕ) (cells : List ℕ) (i : ℕ) → Contains (marked cs c cells) i → (slice_index cs i ≡ c) × Contains cells i
 marked_is cs c [] i h = absurd (Contains_none i h)
 marked_is cs c (x ∷ xs) i h =
     elim (marks (slice_index cs x) c) [
@@ -75,7 +75,7 @@ marked_is cs c (x ∷ xs) i h =
       | inr (inr (u, n)) ↦ let r = marked_is cs c xs i (subst (λ l. Contains l i) (marked_past cs c x xs u n) h) in (r.0, Contains-tail x xs i r.1)
     ]
 
--- what is marked behind a used slot is marked from it on
+-- what is marked behind a used cell is marked from it on
 marked_behind : (cs : List ℕ) (c x : ℕ) (xs : List ℕ) (i : ℕ) → slice_index cs x ≢ 0 → Contains (marked cs c xs) i → Contains (marked cs c (x ∷ xs)) i
 marked_behind cs c x xs i u h =
     elim (marks (slice_index cs x) c) [
@@ -90,8 +90,8 @@ marked_first cs c x xs i n e s =
     let used : slice_index cs x ≢ 0 = λ z. n (sym at ∙ z) in
     subst (λ l. Contains l i) (sym (marked_here cs c x xs used at)) (subst (Contains (x ∷ marked cs c xs)) s (Contains-head x (marked cs c xs)))
 
-pub marked_kept : (cs ds : List ℕ) (c : ℕ) (slots : List ℕ) (i : ℕ) → c ≢ 0
-    → ((x : ℕ) → slice_index cs x ≢ 0 → slice_index ds x ≢ 0) → slice_index ds i ≡ c → Contains (marked cs c slots) i → Contains (marked ds c slots) i
+pub marked_kept : (cs ds : List ℕ) (c : ℕ) (cells : List ℕ) (i : ℕ) → c ≢ 0
+    → ((x : ℕ) → slice_index cs x ≢ 0 → slice_index ds x ≢ 0) → slice_index ds i ≡ c → Contains (marked cs c cells) i → Contains (marked ds c cells) i
 marked_kept cs ds c [] i n k e h = absurd (Contains_none i h)
 marked_kept cs ds c (x ∷ xs) i n k e h =
     elim (marks (slice_index cs x) c) [
@@ -103,9 +103,9 @@ marked_kept cs ds c (x ∷ xs) i n k e h =
       | inr (inr (u, s)) ↦ marked_behind ds c x xs i (k x u) (marked_kept cs ds c xs i n k e (subst (λ l. Contains l i) (marked_past cs c x xs u s) h))
     ]
 
-pub marked_put : (cs ds : List ℕ) (c : ℕ) (slots : List ℕ) (i : ℕ) → c ≢ 0
+pub marked_put : (cs ds : List ℕ) (c : ℕ) (cells : List ℕ) (i : ℕ) → c ≢ 0
     → ((x : ℕ) → 2 ≤ slice_index cs x → slice_index ds x ≢ 0) → slice_index ds i ≡ c
-    → find (λ x. nat_lt (slice_index cs x) 2) slots ≡ Some i → Contains (marked ds c slots) i
+    → find (λ x. nat_lt (slice_index cs x) 2) cells ≡ Some i → Contains (marked ds c cells) i
 marked_put cs ds c [] i n k e f = absurd (cc)
 marked_put cs ds c (x ∷ xs) i n k e f =
     elim (nat_lt (slice_index cs x) 2) as (λ b. nat_lt (slice_index cs x) 2 ≡ b → cond b (Some x) (find (λ x. nat_lt (slice_index cs x) 2) xs) ≡ Some i → Contains (marked ds c (x ∷ xs)) i) [
@@ -113,7 +113,7 @@ marked_put cs ds c (x ∷ xs) i n k e f =
       | false ↦ λ t g. marked_behind ds c x xs i (k x (ltb-false _ _ t)) (marked_put cs ds c xs i n k e g)
     ] refl f
 
--- ---- the counts of full and of used slots
+-- ---- the counts of full and of used cells
 
 in_bounds : (cs : List ℕ) (i : ℕ) → 1 ≤ slice_index cs i → i < length cs
 in_bounds [] zero h = absurd (omega arith)
@@ -175,7 +175,7 @@ pub All-from_contains : (P : ℕ → Type 0) (xs : List ℕ) → ((x : ℕ) → 
 All-from_contains P xs f k d b = f (get_or xs k d) (Contains-get_or xs k d b)
 
 pub places_is : (cs : List ℕ) (h i : ℕ) → Contains (places cs h) i → slice_index cs i ≡ control_of h
-places_is cs h i at = (marked_is cs (control_of h) (from_slot (length cs) (home (length cs) h)) i at).0
+places_is cs h i at = (marked_is cs (control_of h) (from_cell (length cs) (home (length cs) h)) i at).0
 
 pub places_full : (cs : List ℕ) (h i : ℕ) → Contains (places cs h) i → 2 ≤ slice_index cs i
 places_full cs h i at = let e = places_is cs h i at in omega (arith, e)
@@ -235,9 +235,9 @@ apart_from (z ∷ zs) x a y h =
       | inr t ↦ apart_from zs x a.1 y t
     ]
 
--- f keeps the slots marked c apart
+-- f keeps the cells marked c apart
 pub distinct_marked : (cs : List ℕ) (c : ℕ) (f : ℕ → ℕ) → ((i j : ℕ) → slice_index cs i ≡ c → slice_index cs j ≡ c → f i ≡ f j → i ≡ j)
-    → (slots : List ℕ) → IsDistinct nat_eq slots → IsDistinct nat_eq (map f (marked cs c slots))
+    → (cells : List ℕ) → IsDistinct nat_eq cells → IsDistinct nat_eq (map f (marked cs c cells))
 unfolding IsDistinct
 distinct_marked cs c f k [] d = tt
 distinct_marked cs c f k (x ∷ xs) d =
@@ -287,14 +287,14 @@ append_distinct (x ∷ xs) ys d e n = (
   append_distinct xs ys d.1 e (λ y a b. n y (Contains-tail x xs y a) b),
 )
 
-pub from_slot_distinct : (n s : ℕ) → IsDistinct nat_eq (from_slot n s)
-from_slot_distinct n s =
+pub from_cell_distinct : (n s : ℕ) → IsDistinct nat_eq (from_cell n s)
+from_cell_distinct n s =
     append_distinct (range_with_len s (n - s)) (range_with_len 0 s) (range_distinct s (n - s)) (range_distinct 0 s)
     (λ x a b. let r = range_is s (n - s) x a in let q = range_is 0 s x b in omega arith)
 
 -- ---- maps
 
--- full slots keep positions of a map: what a table files, but for the positions that it lacks
+-- full cells keep positions of a map: what a table files, but for the positions that it lacks
 pub record Keeps (cs ps : List ℕ) (m : ℕ → Option ℕ) : Type 0 where
   pub held : (i : ℕ) → 2 ≤ slice_index cs i → (h : ℕ) × (m (slice_index ps i) ≡ Some h) × Contains (places cs h) i
   pub apart : (i j : ℕ) → 2 ≤ slice_index cs i → 2 ≤ slice_index cs j → slice_index ps i ≡ slice_index ps j → i ≡ j
@@ -305,7 +305,7 @@ keeps s = record { held = s.held; apart = s.apart }
 pub files_candidates : (cs ps : List ℕ) (m : ℕ → Option ℕ) (h : ℕ) → Files cs ps m → AreCandidates m h (map (slice_index ps) (places cs h))
 files_candidates cs ps m h s = record {
   once = distinct_marked cs (control_of h) (slice_index ps) (λ i j a b. s.apart i j (omega arith) (omega arith))
-      (from_slot (length cs) (home (length cs) h)) (from_slot_distinct (length cs) (home (length cs) h));
+      (from_cell (length cs) (home (length cs) h)) (from_cell_distinct (length cs) (home (length cs) h));
   all = λ p e.
       let at = s.found p (subst IsSome (sym e) refl) in
       let has = s.held at.0 at.1 in
@@ -318,73 +318,73 @@ files_candidates cs ps m h s = record {
       (has.0, ap m (sym at.1) ∙ has.1, omega arith);
 }
 
--- a position under a hash, put into the first free slot
-module _ (cs ps : List ℕ) (h p slot : ℕ) (sized : length ps ≡ length cs)
-    (first : find (λ i. nat_lt (slice_index cs i) 2) (from_slot (length cs) (home (length cs) h)) ≡ Some slot)
-    (free : slice_index cs slot < 2) (within : slot < length cs) where
-  there : slice_index (slice_set cs slot (control_of h)) slot ≡ control_of h
-  there = get_or-set_same cs slot (control_of h) 0 within
+-- a position under a hash, put into the first free cell
+module _ (cs ps : List ℕ) (h p cell : ℕ) (sized : length ps ≡ length cs)
+    (first : find (λ i. nat_lt (slice_index cs i) 2) (from_cell (length cs) (home (length cs) h)) ≡ Some cell)
+    (free : slice_index cs cell < 2) (within : cell < length cs) where
+  there : slice_index (slice_set cs cell (control_of h)) cell ≡ control_of h
+  there = get_or-set_same cs cell (control_of h) 0 within
 
-  there_position : slice_index (slice_set ps slot p) slot ≡ p
-  there_position = get_or-set_same ps slot p 0 (omega arith)
+  there_position : slice_index (slice_set ps cell p) cell ≡ p
+  there_position = get_or-set_same ps cell p 0 (omega arith)
 
-  elsewhere : (i : ℕ) → i ≢ slot → slice_index (slice_set cs slot (control_of h)) i ≡ slice_index cs i
-  elsewhere i n = get_or-set_other cs slot i (control_of h) 0 n
+  elsewhere : (i : ℕ) → i ≢ cell → slice_index (slice_set cs cell (control_of h)) i ≡ slice_index cs i
+  elsewhere i n = get_or-set_other cs cell i (control_of h) 0 n
 
-  elsewhere_position : (i : ℕ) → i ≢ slot → slice_index (slice_set ps slot p) i ≡ slice_index ps i
-  elsewhere_position i n = get_or-set_other ps slot i p 0 n
+  elsewhere_position : (i : ℕ) → i ≢ cell → slice_index (slice_set ps cell p) i ≡ slice_index ps i
+  elsewhere_position i n = get_or-set_other ps cell i p 0 n
 
-  -- no slot is emptied
-  stays_used : (i : ℕ) → slice_index cs i ≢ 0 → slice_index (slice_set cs slot (control_of h)) i ≢ 0
+  -- no cell is emptied
+  stays_used : (i : ℕ) → slice_index cs i ≢ 0 → slice_index (slice_set cs cell (control_of h)) i ≢ 0
   stays_used i u =
-      elim (nat_eq i slot) as (λ b. nat_eq i slot ≡ b → slice_index (slice_set cs slot (control_of h)) i ≢ 0) [
-        | true ↦ λ t z. let e = ap (slice_index (slice_set cs slot (control_of h))) (eqb-true _ _ t) ∙ there in omega (arith, e, z)
+      elim (nat_eq i cell) as (λ b. nat_eq i cell ≡ b → slice_index (slice_set cs cell (control_of h)) i ≢ 0) [
+        | true ↦ λ t z. let e = ap (slice_index (slice_set cs cell (control_of h))) (eqb-true _ _ t) ∙ there in omega (arith, e, z)
         | false ↦ λ t z. u (sym (elsewhere i (eqb-false _ _ t)) ∙ z)
       ] refl
 
-  -- a search finds what it found before, and the slot
-  finds : (g i : ℕ) → i ≢ slot → Contains (places cs g) i → Contains (places (slice_set cs slot (control_of h)) g) i
+  -- a search finds what it found before, and the cell
+  finds : (g i : ℕ) → i ≢ cell → Contains (places cs g) i → Contains (places (slice_set cs cell (control_of h)) g) i
   finds g i n at =
-      subst (λ count. Contains (marked (slice_set cs slot (control_of h)) (control_of g) (from_slot count (home count g))) i) (sym (length-set cs slot (control_of h)))
-      (marked_kept cs (slice_set cs slot (control_of h)) (control_of g) (from_slot (length cs) (home (length cs) g)) i (omega arith) stays_used
+      subst (λ count. Contains (marked (slice_set cs cell (control_of h)) (control_of g) (from_cell count (home count g))) i) (sym (length-set cs cell (control_of h)))
+      (marked_kept cs (slice_set cs cell (control_of h)) (control_of g) (from_cell (length cs) (home (length cs) g)) i (omega arith) stays_used
       (elsewhere i n ∙ places_is cs g i at) at)
 
-  finds_slot : Contains (places (slice_set cs slot (control_of h)) h) slot
-  finds_slot =
-      subst (λ count. Contains (marked (slice_set cs slot (control_of h)) (control_of h) (from_slot count (home count h))) slot) (sym (length-set cs slot (control_of h)))
-      (marked_put cs (slice_set cs slot (control_of h)) (control_of h) (from_slot (length cs) (home (length cs) h)) slot (omega arith)
+  finds_cell : Contains (places (slice_set cs cell (control_of h)) h) cell
+  finds_cell =
+      subst (λ count. Contains (marked (slice_set cs cell (control_of h)) (control_of h) (from_cell count (home count h))) cell) (sym (length-set cs cell (control_of h)))
+      (marked_put cs (slice_set cs cell (control_of h)) (control_of h) (from_cell (length cs) (home (length cs) h)) cell (omega arith)
       (λ i f. stays_used i (omega arith)) there first)
 
   -- what was full is elsewhere
-  before : (i : ℕ) → i ≢ slot → 2 ≤ slice_index (slice_set cs slot (control_of h)) i → 2 ≤ slice_index cs i
+  before : (i : ℕ) → i ≢ cell → 2 ≤ slice_index (slice_set cs cell (control_of h)) i → 2 ≤ slice_index cs i
   before i n f = let e = elsewhere i n in omega (arith, e)
 
   pub put_keeps : (m n : ℕ → Option ℕ) → Keeps cs ps m → n p ≡ Some h → ((i : ℕ) → 2 ≤ slice_index cs i → slice_index ps i ≢ p)
-      → ((q : ℕ) → q ≢ p → n q ≡ m q) → Keeps (slice_set cs slot (control_of h)) (slice_set ps slot p) n
+      → ((q : ℕ) → q ≢ p → n q ≡ m q) → Keeps (slice_set cs cell (control_of h)) (slice_set ps cell p) n
   put_keeps m n k at fresh same = record {
-    held = λ i f. elim (nat_eq i slot) as (λ b. nat_eq i slot ≡ b → (g : ℕ) × (n (slice_index (slice_set ps slot p) i) ≡ Some g) × Contains (places (slice_set cs slot (control_of h)) g) i) [
+    held = λ i f. elim (nat_eq i cell) as (λ b. nat_eq i cell ≡ b → (g : ℕ) × (n (slice_index (slice_set ps cell p) i) ≡ Some g) × Contains (places (slice_set cs cell (control_of h)) g) i) [
       | true ↦ λ t. let e = eqb-true _ _ t in
-          (h, ap (λ j. n (slice_index (slice_set ps slot p) j)) e ∙ ap n there_position ∙ at, subst (Contains (places (slice_set cs slot (control_of h)) h)) (sym e) finds_slot)
+          (h, ap (λ j. n (slice_index (slice_set ps cell p) j)) e ∙ ap n there_position ∙ at, subst (Contains (places (slice_set cs cell (control_of h)) h)) (sym e) finds_cell)
       | false ↦ λ t. let e = eqb-false _ _ t in
           let was = before i e f in
           let has = k.held i was in
           (has.0, ap n (elsewhere_position i e) ∙ same (slice_index ps i) (fresh i was) ∙ has.1, finds has.0 i e has.2)
     ] refl;
-    apart = λ i j f g e. elim (nat_eq i slot) as (λ b. nat_eq i slot ≡ b → i ≡ j) [
-      | true ↦ λ t. elim (nat_eq j slot) as (λ b. nat_eq j slot ≡ b → i ≡ j) [
+    apart = λ i j f g e. elim (nat_eq i cell) as (λ b. nat_eq i cell ≡ b → i ≡ j) [
+      | true ↦ λ t. elim (nat_eq j cell) as (λ b. nat_eq j cell ≡ b → i ≡ j) [
         | true ↦ λ u. eqb-true _ _ t ∙ sym (eqb-true _ _ u)
         | false ↦ λ u. let ne = eqb-false _ _ u in
-            absurd (fresh j (before j ne g) (sym (elsewhere_position j ne) ∙ sym e ∙ ap (slice_index (slice_set ps slot p)) (eqb-true _ _ t) ∙ there_position))
+            absurd (fresh j (before j ne g) (sym (elsewhere_position j ne) ∙ sym e ∙ ap (slice_index (slice_set ps cell p)) (eqb-true _ _ t) ∙ there_position))
       ] refl
-      | false ↦ λ t. let ni = eqb-false _ _ t in elim (nat_eq j slot) as (λ b. nat_eq j slot ≡ b → i ≡ j) [
-        | true ↦ λ u. absurd (fresh i (before i ni f) (sym (elsewhere_position i ni) ∙ e ∙ ap (slice_index (slice_set ps slot p)) (eqb-true _ _ u) ∙ there_position))
+      | false ↦ λ t. let ni = eqb-false _ _ t in elim (nat_eq j cell) as (λ b. nat_eq j cell ≡ b → i ≡ j) [
+        | true ↦ λ u. absurd (fresh i (before i ni f) (sym (elsewhere_position i ni) ∙ e ∙ ap (slice_index (slice_set ps cell p)) (eqb-true _ _ u) ∙ there_position))
         | false ↦ λ u. let nj = eqb-false _ _ u in
             k.apart i j (before i ni f) (before j nj g) (sym (elsewhere_position i ni) ∙ e ∙ elsewhere_position j nj)
       ] refl
     ] refl;
   }
 
-  pub put_files : (m : ℕ → Option ℕ) → Files cs ps m → m p ≡ None → Files (slice_set cs slot (control_of h)) (slice_set ps slot p) (with_hash m p h)
+  pub put_files : (m : ℕ → Option ℕ) → Files cs ps m → m p ≡ None → Files (slice_set cs cell (control_of h)) (slice_set ps cell p) (with_hash m p h)
   put_files m s none =
       let fresh : (i : ℕ) → 2 ≤ slice_index cs i → slice_index ps i ≢ p = λ i f e. absurd (some_not_none (sym (s.held i f).1 ∙ ap m e ∙ none)) in
       let at : with_hash m p h p ≡ Some h = ap (λ b. cond b (Some h) (m p)) (eq-eqb p p refl) in
@@ -393,58 +393,58 @@ module _ (cs ps : List ℕ) (h p slot : ℕ) (sized : length ps ≡ length cs)
       record {
         held = kept.held;
         apart = kept.apart;
-        found = λ q is. elim (nat_eq q p) as (λ b. nat_eq q p ≡ b → (i : ℕ) × (2 ≤ slice_index (slice_set cs slot (control_of h)) i) × (slice_index (slice_set ps slot p) i ≡ q)) [
-          | true ↦ λ t. (slot, (let e = there in omega (arith, e)), there_position ∙ sym (eqb-true _ _ t))
+        found = λ q is. elim (nat_eq q p) as (λ b. nat_eq q p ≡ b → (i : ℕ) × (2 ≤ slice_index (slice_set cs cell (control_of h)) i) × (slice_index (slice_set ps cell p) i ≡ q)) [
+          | true ↦ λ t. (cell, (let e = there in omega (arith, e)), there_position ∙ sym (eqb-true _ _ t))
           | false ↦ λ t.
               let has = s.found q (subst IsSome (same q (eqb-false _ _ t)) is) in
-              let ne : has.0 ≢ slot = λ e. let c = ap (slice_index cs) e in let f = has.1 in omega (arith, c, f) in
+              let ne : has.0 ≢ cell = λ e. let c = ap (slice_index cs) e in let f = has.1 in omega (arith, c, f) in
               (has.0, (let e = elsewhere has.0 ne in let f = has.1 in omega (arith, e, f)), elsewhere_position has.0 ne ∙ has.2)
         ] refl;
       }
 
--- a position taken out of its slot
-module _ (cs ps : List ℕ) (slot : ℕ) (full : 2 ≤ slice_index cs slot) where
-  left : (i : ℕ) → i ≢ slot → slice_index (slice_set cs slot 1) i ≡ slice_index cs i
-  left i n = get_or-set_other cs slot i 1 0 n
+-- a position taken out of its cell
+module _ (cs ps : List ℕ) (cell : ℕ) (full : 2 ≤ slice_index cs cell) where
+  left : (i : ℕ) → i ≢ cell → slice_index (slice_set cs cell 1) i ≡ slice_index cs i
+  left i n = get_or-set_other cs cell i 1 0 n
 
-  removed_mark : slice_index (slice_set cs slot 1) slot ≡ 1
-  removed_mark = get_or-set_same cs slot 1 0 (full_within cs slot full)
+  removed_mark : slice_index (slice_set cs cell 1) cell ≡ 1
+  removed_mark = get_or-set_same cs cell 1 0 (full_within cs cell full)
 
-  still_used : (i : ℕ) → slice_index cs i ≢ 0 → slice_index (slice_set cs slot 1) i ≢ 0
+  still_used : (i : ℕ) → slice_index cs i ≢ 0 → slice_index (slice_set cs cell 1) i ≢ 0
   still_used i u =
-      elim (nat_eq i slot) as (λ b. nat_eq i slot ≡ b → slice_index (slice_set cs slot 1) i ≢ 0) [
-        | true ↦ λ t z. let e = ap (slice_index (slice_set cs slot 1)) (eqb-true _ _ t) ∙ removed_mark in omega (arith, e, z)
+      elim (nat_eq i cell) as (λ b. nat_eq i cell ≡ b → slice_index (slice_set cs cell 1) i ≢ 0) [
+        | true ↦ λ t z. let e = ap (slice_index (slice_set cs cell 1)) (eqb-true _ _ t) ∙ removed_mark in omega (arith, e, z)
         | false ↦ λ t z. u (sym (left i (eqb-false _ _ t)) ∙ z)
       ] refl
 
-  -- what is full yet is another slot
-  other : (i : ℕ) → 2 ≤ slice_index (slice_set cs slot 1) i → i ≢ slot
-  other i f e = let z = ap (slice_index (slice_set cs slot 1)) e ∙ removed_mark in omega (arith, z)
+  -- what is full yet is another cell
+  other : (i : ℕ) → 2 ≤ slice_index (slice_set cs cell 1) i → i ≢ cell
+  other i f e = let z = ap (slice_index (slice_set cs cell 1)) e ∙ removed_mark in omega (arith, z)
 
-  was_full : (i : ℕ) → 2 ≤ slice_index (slice_set cs slot 1) i → 2 ≤ slice_index cs i
+  was_full : (i : ℕ) → 2 ≤ slice_index (slice_set cs cell 1) i → 2 ≤ slice_index cs i
   was_full i f = let e = left i (other i f) in omega (arith, e)
 
-  still_finds : (g i : ℕ) → i ≢ slot → Contains (places cs g) i → Contains (places (slice_set cs slot 1) g) i
+  still_finds : (g i : ℕ) → i ≢ cell → Contains (places cs g) i → Contains (places (slice_set cs cell 1) g) i
   still_finds g i n at =
-      subst (λ count. Contains (marked (slice_set cs slot 1) (control_of g) (from_slot count (home count g))) i) (sym (length-set cs slot 1))
-      (marked_kept cs (slice_set cs slot 1) (control_of g) (from_slot (length cs) (home (length cs) g)) i (omega arith) still_used
+      subst (λ count. Contains (marked (slice_set cs cell 1) (control_of g) (from_cell count (home count g))) i) (sym (length-set cs cell 1))
+      (marked_kept cs (slice_set cs cell 1) (control_of g) (from_cell (length cs) (home (length cs) g)) i (omega arith) still_used
       (left i n ∙ places_is cs g i at) at)
 
-  pub removed_files : (m : ℕ → Option ℕ) (p : ℕ) → slice_index ps slot ≡ p → Files cs ps m → Files (slice_set cs slot 1) ps (without m p)
+  pub removed_files : (m : ℕ → Option ℕ) (p : ℕ) → slice_index ps cell ≡ p → Files cs ps m → Files (slice_set cs cell 1) ps (without m p)
   removed_files m p at s =
       let same : (q : ℕ) → q ≢ p → without m p q ≡ m q = λ q n. ap (λ b. cond b None (m q)) (ne_eqb q p n) in
       record {
         held = λ i f.
             let has = s.held i (was_full i f) in
             let ne = other i f in
-            let apart : slice_index ps i ≢ p = λ e. ne (s.apart i slot (was_full i f) full (e ∙ sym at)) in
+            let apart : slice_index ps i ≢ p = λ e. ne (s.apart i cell (was_full i f) full (e ∙ sym at)) in
             (has.0, same (slice_index ps i) apart ∙ has.1, still_finds has.0 i ne has.2);
         apart = λ i j f g e. s.apart i j (was_full i f) (was_full j g) e;
-        found = λ q is. elim (nat_eq q p) as (λ b. nat_eq q p ≡ b → (i : ℕ) × (2 ≤ slice_index (slice_set cs slot 1) i) × (slice_index ps i ≡ q)) [
+        found = λ q is. elim (nat_eq q p) as (λ b. nat_eq q p ≡ b → (i : ℕ) × (2 ≤ slice_index (slice_set cs cell 1) i) × (slice_index ps i ≡ q)) [
           | true ↦ λ t. absurd (none_is_some (subst (λ b. IsSome (cond b None (m q))) t is))
           | false ↦ λ t.
               let has = s.found q (subst (λ b. IsSome (cond b None (m q))) t is) in
-              let ne : has.0 ≢ slot = λ e. eqb-false _ _ t (sym has.2 ∙ ap (slice_index ps) e ∙ at) in
+              let ne : has.0 ≢ cell = λ e. eqb-false _ _ t (sym has.2 ∙ ap (slice_index ps) e ∙ at) in
               (has.0, (let e = left has.0 ne in let f = has.1 in omega (arith, e, f)), has.2)
         ] refl;
       }

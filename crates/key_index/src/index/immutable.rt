@@ -18,8 +18,8 @@ use std::alloc::Global;
 use std::collections::VecDeque;
 use std::marker::Model;
 
-/// Translated keys by position, from a start on. The keys stand in a ring, one slot for each position up to the last one
-/// that was inserted; the table has the positions alone, and finds them by the hashes of their keys. A slot that was
+/// Translated keys by position, from a start on. The keys stand in a ring, one cell for each position up to the last one
+/// that was inserted; the table has the positions alone, and finds them by the hashes of their keys. A cell that was
 /// skipped holds a copy of some key, and its position isn't in the table.
 #[derive(Drop)]
 pub struct Index<T: Translator> {
@@ -30,12 +30,12 @@ pub struct Index<T: Translator> {
     pruned: u64,
 }
 
-/// Puts a key into a slot, and copies of it into those up to there that are missing.
+/// Puts a key into a cell, and copies of it into those up to there that are missing.
 #[inline]
 fn put_key<K: Copy>(keys: &mut VecDeque<K>, offset: usize, key: K)
     requires room { offset < deque_capacity keys.old }
     requires long { length keys.old.items ≤ offset → offset + 1 < 2 ^ 64 }
-    ensures slot { slice_get keys.new.items offset ≡ Some key }
+    ensures cell { slice_get keys.new.items offset ≡ Some key }
     ensures others { (i : ℕ) → i ≢ offset → i < length keys.old.items
         → slice_get keys.new.items i ≡ slice_get keys.old.items i }
     ensures len { length keys.new.items ≡ max (length keys.old.items) (offset + 1) }
@@ -51,7 +51,7 @@ fn put_key<K: Copy>(keys: &mut VecDeque<K>, offset: usize, key: K)
     }
 }
 
-/// Takes the room that a slot needs, and leaves the keys as they are.
+/// Takes the room that a cell needs, and leaves the keys as they are.
 #[inline]
 fn take_room<K: Copy>(keys: &mut VecDeque<K>, offset: usize) -> Result<(), Fault>
     requires { offset + 1 < 2 ^ 64 }
@@ -59,8 +59,8 @@ fn take_room<K: Copy>(keys: &mut VecDeque<K>, offset: usize) -> Result<(), Fault
     ensures room { OnOk result (offset < deque_capacity keys.new) }
     ensures fault { IfErr result (λ fault. fault ≡ Fault.Memory) }
 {
-    let slots = keys.len();
-    if slots <= offset && keys.reserve(offset + 1 - slots).is_err() {
+    let cells = keys.len();
+    if cells <= offset && keys.reserve(offset + 1 - cells).is_err() {
         return Err(Fault::Memory);
     }
     Ok(())
@@ -75,7 +75,7 @@ impl<T: Translator> Model for Index<T> {
       translator = s.translator;
       start = s.start;
       keys = s.keys.items;
-      slots = s.table;
+      cells = s.table;
       pruned = s.pruned;
     } };
 
@@ -84,7 +84,7 @@ impl<T: Translator> Model for Index<T> {
           translator = s.translator;
           start = s.start;
           keys = s.keys.items;
-          slots = s.table;
+          cells = s.table;
           pruned = s.pruned;
         }) };
 }
@@ -95,7 +95,7 @@ impl<T: Translator> Index<T> {
         ensures empty { IfOk result (λ s. (p : ℕ) → key_at s p ≡ None) }
         ensures start { IfOk result (λ s. s.start ≡ start) }
         ensures end { IfOk result (λ s. end_of s ≡ start) }
-        ensures counts { IfOk result (λ s. (s.pruned ≡ 0) × (s.slots.removals ≡ 0)) }
+        ensures counts { IfOk result (λ s. (s.pruned ≡ 0) × (s.cells.removals ≡ 0)) }
         ensures translator { IfOk result (λ s. s.translator ≡ translator) }
         ensures fault { IfErr result (λ fault. fault ≡ Fault.Memory) }
     {
@@ -113,7 +113,7 @@ impl<T: Translator> Index<T> {
     }
 
     /// Indexes a key at a position. `TooFar` is tested before anything grows, and a refusal changes nothing: the ring has its
-    /// room first, and gets its slots once the table has the position.
+    /// room first, and gets its cells once the table has the position.
     #[inline]
     pub fn insert(&mut self, key: &[u8], position: u64) -> Result<(), Fault>
         requires start { self.old.start ≤ position }
@@ -123,7 +123,7 @@ impl<T: Translator> Index<T> {
         ensures end { OnOk result (end_of self.new ≡ max (end_of self.old) (position + 1)) }
         ensures start { OnOk result (self.new.start ≡ self.old.start) }
         ensures counts { OnOk result ((self.new.pruned ≡ self.old.pruned)
-            × (self.new.slots.removals ≡ self.old.slots.removals)) }
+            × (self.new.cells.removals ≡ self.old.cells.removals)) }
         ensures translator { OnOk result (self.new.translator ≡ self.old.translator) }
         ensures refused { OnErr result (self.new ≡ self.old) }
         ensures far { IsErrOf result Fault.TooFar ↔ (usize.MAX ≤ position - self.old.start) }
@@ -163,15 +163,15 @@ impl<T: Translator> Index<T> {
     }
 
     /// Takes out every position below one, which is the start from then on; a start that was passed changes nothing. Each
-    /// slot that goes is one removal. Takes no memory.
+    /// cell that goes is one removal. Takes no memory.
     pub fn prune(&mut self, start: u64)
         ensures keys { (p : ℕ) → key_at self.new p ≡ (if nat_le start p then key_at self.old p else None) }
         ensures start { self.new.start ≡ max self.old.start start }
         ensures end { end_of self.new ≡ max (end_of self.old) start }
         ensures pruned { self.new.pruned
             ≡ min (self.old.pruned + indexed_count self.old self.old.start (start - self.old.start)) (2 ^ 64 - 1) }
-        ensures removals { self.new.slots.removals
-            ≡ min (self.old.slots.removals + (min (end_of self.old) start - self.old.start)) (2 ^ 64 - 1) }
+        ensures removals { self.new.cells.removals
+            ≡ min (self.old.cells.removals + (min (end_of self.old) start - self.old.start)) (2 ^ 64 - 1) }
         ensures translator { self.new.translator ≡ self.old.translator }
     {
         if start <= self.start {
@@ -181,7 +181,7 @@ impl<T: Translator> Index<T> {
         self.start = start;
     }
 
-    /// Lets the slots below a position go.
+    /// Lets the cells below a position go.
     fn release_below(&mut self, start: u64)
         requires start { self.old.start ≤ start }
         requires lawful { IsLog T.hashed self.old }
@@ -196,18 +196,18 @@ impl<T: Translator> Index<T> {
         }
     }
 
-    /// Lets the first slot go, and takes its position out where it is indexed. False where there is no slot.
+    /// Lets the first cell go, and takes its position out where it is indexed. False where there is no cell.
     #[inline]
     fn release(&mut self) -> bool
         requires { self.old.start + 1 < 2 ^ 64 }
-        ensures slot { IsTrue result ↔ (0 < length self.old.keys) }
+        ensures cell { IsTrue result ↔ (0 < length self.old.keys) }
         ensures none { result ≡ false → self.new ≡ self.old }
         ensures keys { result ≡ true → (p : ℕ) → self.new.start ≤ p → key_at self.new p ≡ key_at self.old p }
         ensures start { result ≡ true → self.new.start ≡ self.old.start + 1 }
-        ensures slots { result ≡ true → self.new.keys ≡ drop 1 self.old.keys }
+        ensures cells { result ≡ true → self.new.keys ≡ drop 1 self.old.keys }
         ensures pruned { result ≡ true → self.new.pruned
             ≡ min (self.old.pruned + (if is_some (key_at self.old self.old.start) then 1 else 0)) (2 ^ 64 - 1) }
-        ensures removals { result ≡ true → self.new.slots.removals ≡ min (self.old.slots.removals + 1) (2 ^ 64 - 1) }
+        ensures removals { result ≡ true → self.new.cells.removals ≡ min (self.old.cells.removals + 1) (2 ^ 64 - 1) }
         ensures translator { self.new.translator ≡ self.old.translator }
     {
         let Some(key) = self.keys.pop_front() else {
@@ -262,9 +262,9 @@ impl<T: Translator> Index<T> {
         self.pruned
     }
 
-    /// How many slots were released. It stops at `u64::MAX`.
+    /// How many cells were released. It stops at `u64::MAX`.
     pub fn removals(&self) -> u64
-        ensures { result ≡ self.now.slots.removals }
+        ensures { result ≡ self.now.cells.removals }
     {
         self.table.removals()
     }

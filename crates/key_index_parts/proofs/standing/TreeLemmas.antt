@@ -11,6 +11,7 @@
 --     unchanged                   the same list again
 --     lawful_after                the law of contents holds after it
 --     had_within, counted_after   a key has no more values than all keys, and the count of all after it
+--     put_back, left_out          the count and the law once the list is in its place, or out of the tree where it is empty
 --     left_absent                 a key that has no list stays so
 --     grown                       a length after an insertion that may be refused
 --     left_held, few_held         how many are left, where a value is put in behind a list and each is asked on then
@@ -240,6 +241,23 @@ module _ {K V A : Type 0} {cmp : K → K → Ordering} (o : IsTotalOrder cmp) (k
         emptied fs ws set taken none =
             ap (λ l. map list_of l) (taken ∙ ap (remove_entry (is_at (cmp k))) set ∙ remove-set (is_at (cmp k)) es w) ∙ take_list o k es lawful.0
             ∙ ap (λ l. with_list cmp (map list_of es) k l) (sym (no_items w.items none) ∙ here)
+
+      -- the count and the law once a list stands in the place of the old one, and once its entry is taken out where it is empty
+      module _ (w : Vec V A) (len new : ℕ) (was : len ≡ item_count (map list_of es)) (more : new + length old.items ≡ len + length w.items) where
+        settled : (fs : List (K × Vec V A)) → map list_of fs ≡ with_list cmp (map list_of es) k w.items
+            → (new ≡ item_count (map list_of fs)) × IsLawful cmp (map list_of fs)
+        settled fs now = (
+          counted_after len (length old.items) was (sym (ap (λ l. length l) (held_list cmp k es old (sym held)))) fs w.items now new more,
+          lawful_after fs w.items now,
+        )
+
+        pub put_back : (fs : List (K × Vec V A)) → fs ≡ set_value (is_at (cmp k)) es w → 0 < length w.items
+            → (new ≡ item_count (map list_of fs)) × IsLawful cmp (map list_of fs)
+        put_back fs set some = settled fs (edited w (λ _. w.items) refl fs set some)
+
+        pub left_out : (fs ws : List (K × Vec V A)) → ws ≡ set_value (is_at (cmp k)) es w → fs ≡ remove_entry (is_at (cmp k)) ws → length w.items ≡ 0
+            → (new ≡ item_count (map list_of fs)) × IsLawful cmp (map list_of fs)
+        left_out fs ws set taken none = settled fs (emptied w (λ _. w.items) refl fs ws set taken none)
 
 module _ {K V A : Type 0} {cmp : K → K → Ordering} (o : IsTotalOrder cmp) (exact : (x y : K) → cmp x y ≡ Equal → x ≡ y) (k : K) (es : List (K × Vec V A)) where
   pub left_absent : IsLawful cmp (map list_of es) → None ≡ lookup (is_at (cmp k)) es → map list_of es ≡ with_list cmp (map list_of es) k []

@@ -32,7 +32,7 @@ pub(super) fn positions<T: Translator>(
     found
 }
 
-/// The length, the start, and how many positions were pruned and slots released.
+/// The length, the start, and how many positions were pruned and cells released.
 pub(super) fn counts<T: Translator>(index: &Index<T>) -> (usize, u64, u64, u64) {
     (index.len(), index.start(), index.pruned(), index.removals())
 }
@@ -84,7 +84,7 @@ fn the_last_position_is_too_far_from_0_alone(rt: HostRuntime) {
 }
 
 #[test]
-fn a_skipped_slot_is_never_found(rt: HostRuntime) {
+fn a_skipped_cell_is_never_found(rt: HostRuntime) {
     let mut index = Index::new(rt.alloc(), EightCap, 0, 0).expect(&rt, "an index");
     put(&rt, &mut index, [0; 8].as_slice(), 1);
     put(&rt, &mut index, [1; 8].as_slice(), 3);

@@ -19,7 +19,7 @@ struct Filed {
 
 impl Model for Filed {
     ghost use Rattle.std.specs.Prelude.{◌≡◌, ℕ, List, Option, None, length, slice_index_or};
-    ghost use Rattle.key_index.specs.Table.{Slots, Stored};
+    ghost use Rattle.key_index.specs.Table.{Cells, Stored};
 
     ghost Value = { List (Option ℕ) };
 
@@ -32,7 +32,7 @@ impl Model for Filed {
 impl Filed {
     fn new(rt: &impl Abort, alloc: Global) -> Filed {
         Filed {
-            table: Table::with_capacity(alloc, 0).expect(rt, "slots"),
+            table: Table::with_capacity(alloc, 0).expect(rt, "cells"),
             hashes: vec![in alloc; None; POSITIONS].expect(rt, "hashes"),
         }
     }
@@ -133,7 +133,7 @@ fn a_table_gives_what_it_was_given(rt: HostRuntime) {
     assert_eq!(rt; filed.table.removals(), 2);
 }
 
-/// Few slots under many insertions and removals, of hashes that share home slots and fingerprints.
+/// Few cells under many insertions and removals, of hashes that share home cells and fingerprints.
 #[test]
 fn a_table_answers_as_a_list_does(rt: HostRuntime) {
     let mut filed = Filed::new(&rt, rt.alloc());

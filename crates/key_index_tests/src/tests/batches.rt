@@ -1,10 +1,10 @@
 //! Batches: which values are visited with which places, in the order of each index.
 ghost use Rattle.std.specs.Prelude.{◌≡◌};
 
-use super::checks::{fill, fresh, push};
-use key_index_flat::index::{Unordered, ordered, unordered};
-use key_index_flat::translator::OneCap;
-use key_index_parts::index::partitioned;
+use super::checks::{fill, push};
+use super::kinds::{Ordered, fresh};
+use key_index_flat::index::Unordered;
+use key_index_flat::index::implement::Lists;
 use key_index_uses::callers::last_values;
 use std::alloc::Global;
 use std::process::Abort;
@@ -91,59 +91,69 @@ pub(super) fn by_partition_and_key<I: Unordered<Value = u64>>(
     );
 }
 
-#[test]
-fn unordered_batch_goes_by_place(rt: HostRuntime) {
-    let mut index: unordered::Index<OneCap, u64> = fresh(&rt, rt.alloc(), OneCap);
-    three(&rt, &mut index);
+/// A batch of the flat unordered index by one byte goes by place.
+pub(super) fn by_place<I: Unordered<Value = u64>>(rt: &impl Abort, alloc: Global, index: &mut I) {
+    three(rt, index);
     visits(
-        &rt,
-        rt.alloc(),
-        &index,
+        rt,
+        alloc,
+        index,
         &[b"\x2d", b"\x1c", b"\x1c\x00", b"\x55"],
         &[(0, 3), (1, 22), (1, 21), (2, 22), (2, 21)],
     );
-    visits(&rt, rt.alloc(), &index, &[], &[]);
+    visits(rt, alloc, index, &[], &[]);
 }
 
-#[test]
-fn ordered_batch_goes_by_key(rt: HostRuntime) {
-    let mut index: ordered::Index<OneCap, u64> = fresh(&rt, rt.alloc(), OneCap);
-    three(&rt, &mut index);
+/// A batch of the flat ordered index by one byte goes by index key, and of one key by place.
+pub(super) fn by_key<I: Unordered<Value = u64>>(rt: &impl Abort, alloc: Global, index: &mut I) {
+    three(rt, index);
     visits(
-        &rt,
-        rt.alloc(),
-        &index,
+        rt,
+        alloc,
+        index,
         &[b"\x2d", b"\x1c", b"\x1c\x00", b"\x55"],
         &[(1, 22), (1, 21), (2, 22), (2, 21), (0, 3)],
     );
     visits(
-        &rt,
-        rt.alloc(),
-        &index,
+        rt,
+        alloc,
+        index,
         &[b"\x2d", b"\x0b", b"\x2d", b"\x0b"],
         &[(1, 1), (3, 1), (0, 3), (2, 3)],
     );
-    visits(&rt, rt.alloc(), &index, &[], &[]);
+    visits(rt, alloc, index, &[], &[]);
 }
 
-#[test]
-fn punordered_batch_goes_by_place(rt: HostRuntime) {
-    let mut index: partitioned::unordered::Index<OneCap, u64, 1> = fresh(&rt, rt.alloc(), OneCap);
-    fill(&rt, &mut index, b"\x10\x02", &[2, 22]);
-    fill(&rt, &mut index, b"\x20\x01", &[5]);
-    fill(&rt, &mut index, b"\x00", &[7]);
+/// A batch of the unordered index with partitions by one byte goes by place.
+pub(super) fn by_place_in_partitions<I: Unordered<Value = u64>>(
+    rt: &impl Abort,
+    alloc: Global,
+    index: &mut I,
+) {
+    fill(rt, index, b"\x10\x02", &[2, 22]);
+    fill(rt, index, b"\x20\x01", &[5]);
+    fill(rt, index, b"\x00", &[7]);
     visits(
-        &rt,
-        rt.alloc(),
-        &index,
+        rt,
+        alloc,
+        index,
         &[b"\x20\x01", b"\x10\x02", b"", b"\x10\x02\xff"],
         &[(0, 5), (1, 2), (1, 22), (2, 7), (3, 2), (3, 22)],
     );
 }
 
+/// The last values of three keys, one of which has none.
+fn slice_is_filled<I: Unordered<Value = u64> + Lists>(rt: &impl Abort, index: &mut I) {
+    three(rt, index);
+    let keys: [&[u8]; 3] = [b"\x1c", b"\x55", b"\x0b"];
+    let mut answers = [None, Some(9), None];
+    last_values(index, &keys, &mut answers);
+    assert_eq!(rt; answers, [Some(21), Some(9), Some(1)]);
+}
+
 #[test]
 fn visited_values_may_be_kept(rt: HostRuntime) {
-    let mut index: ordered::Index<OneCap, u64> = fresh(&rt, rt.alloc(), OneCap);
+    let mut index = fresh::<Ordered, u64>(&rt, rt.alloc(), &Ordered);
     three(&rt, &mut index);
     let keys: [&[u8]; 2] = [b"\x2d", b"\x0b"];
     let mut kept: Option<&u64> = None;
@@ -154,10 +164,5 @@ fn visited_values_may_be_kept(rt: HostRuntime) {
 
 #[test]
 fn last_values_fill_a_slice(rt: HostRuntime) {
-    let mut index: ordered::Index<OneCap, u64> = fresh(&rt, rt.alloc(), OneCap);
-    three(&rt, &mut index);
-    let keys: [&[u8]; 3] = [b"\x1c", b"\x55", b"\x0b"];
-    let mut answers = [None, Some(9), None];
-    last_values(&index, &keys, &mut answers);
-    assert_eq!(&rt; answers, [Some(21), Some(9), Some(1)]);
+    slice_is_filled(&rt, &mut fresh::<Ordered, u64>(&rt, rt.alloc(), &Ordered));
 }

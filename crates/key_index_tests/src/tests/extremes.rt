@@ -4,11 +4,10 @@ use super::checks::{
     counts, cursor_at, fill, finds_none, fresh, holds, inserts, inserts_and_retains, keeps, push,
     removes, retains,
 };
-use super::kinds::{self, PorderedByTwo, PunorderedByTwo};
 use super::lists::{put, steps_beside};
 use super::neighbours::{next_has, prev_has};
 use super::numbers::Numbers;
-use key_index_flat::index::{Ordered, Unordered, ordered};
+use key_index_flat::index::{Factory, Ordered, Unordered, ordered};
 use key_index_flat::translator::{EightCap, OneCap};
 use key_index_parts::index::partitioned;
 use std::alloc::Global;
@@ -138,25 +137,37 @@ fn long_keys<I: Unordered<Value = u64>>(
     }
 }
 
+/// The same in an index with no values, which then has these counts.
+fn long_keys_in<I: Unordered<Value = u64> + Factory + Drop>(
+    rt: &impl Abort,
+    alloc: Global,
+    translator: I::Translator,
+    width: usize,
+    want: (usize, usize, u64),
+)
+    requires { I.makes }
+{
+    let mut index = fresh::<I>(rt, alloc, translator);
+    long_keys(rt, alloc, &mut index, width);
+    counts(rt, &index, want);
+}
+
 #[test]
 fn long_keys_are_cut(rt: HostRuntime) {
-    let mut by_one: ordered::Index<OneCap, u64> = fresh(&rt, rt.alloc(), OneCap);
-    long_keys(&rt, rt.alloc(), &mut by_one, 1);
-    counts(&rt, &by_one, (2, 11, 0));
-    let mut by_eight: ordered::Index<EightCap, u64> = fresh(&rt, rt.alloc(), EightCap);
-    long_keys(&rt, rt.alloc(), &mut by_eight, 8);
-    counts(&rt, &by_eight, (3, 11, 0));
-    let mut by_nine: partitioned::ordered::Index<EightCap, u64, 1> = fresh(
+    let alloc = rt.alloc();
+    long_keys_in::<ordered::Index<OneCap, u64>>(&rt, alloc, OneCap, 1, (2, 11, 0));
+    long_keys_in::<ordered::Index<EightCap, u64>>(&rt, alloc, EightCap, 8, (3, 11, 0));
+    long_keys_in::<partitioned::ordered::Index<EightCap, u64, 1>>(
         &rt,
-        rt.alloc(),
+        alloc,
         EightCap,
+        9,
+        (4, 11, 0),
     );
-    long_keys(&rt, rt.alloc(), &mut by_nine, 9);
-    counts(&rt, &by_nine, (4, 11, 0));
 }
 
 /// Six short keys in an index by two bytes and then one more have three index keys.
-fn short_keys<I: Unordered<Value = u64>>(rt: &impl Abort, index: &mut I, first: &[u64]) {
+pub(super) fn short_keys<I: Unordered<Value = u64>>(rt: &impl Abort, index: &mut I) {
     inserts(rt, index, b"", 1);
     inserts(rt, index, b"\x00", 2);
     inserts(rt, index, b"\x00\x00", 3);
@@ -164,27 +175,18 @@ fn short_keys<I: Unordered<Value = u64>>(rt: &impl Abort, index: &mut I, first: 
     inserts(rt, index, b"\x00\x01", 5);
     inserts(rt, index, b"\x01", 6);
     counts(rt, index, (3, 6, 0));
-    holds(rt, index, b"", first);
+    if I::INSERT_FIRST {
+        holds(rt, index, b"", &[4, 3, 2, 1]);
+    } else {
+        holds(rt, index, b"", &[1, 2, 3, 4]);
+    }
     holds(rt, index, b"\x00\x01\x00", &[5]);
     holds(rt, index, b"\x01\x00\x00", &[6]);
 }
 
 /// The same, and the neighbours of the empty key.
-fn short_keys_in_order<I: Ordered<Value = u64>>(rt: &impl Abort, index: &mut I) {
-    short_keys(rt, index, &[1, 2, 3, 4]);
+pub(super) fn short_keys_in_order<I: Ordered<Value = u64>>(rt: &impl Abort, index: &mut I) {
+    short_keys(rt, index);
     next_has(rt, index, b"", &[5], false);
     prev_has(rt, index, b"", &[6], true);
-}
-
-#[test]
-fn short_keys_share_partitions(rt: HostRuntime) {
-    short_keys(
-        &rt,
-        &mut kinds::fresh::<PunorderedByTwo, u64>(&rt, rt.alloc()),
-        &[4, 3, 2, 1],
-    );
-    short_keys_in_order(
-        &rt,
-        &mut kinds::fresh::<PorderedByTwo, u64>(&rt, rt.alloc()),
-    );
 }

@@ -3,7 +3,7 @@ use super::checks::{counts, cursor_at, holds, inserts, push, removes};
 use super::lists::grow_beside;
 use super::neighbours::{next_has, same_neighbour};
 use super::numbers::Numbers;
-use super::stands::{StandsWhole, has_spilled, is_inline, is_spilled, wide_at};
+use super::stands::{StandsWhole, Wide, has_spilled, is_inline, is_spilled};
 use key_index_flat::index::{Ordered, Unordered, Values};
 use std::alloc::Global;
 use std::process::Abort;
@@ -137,24 +137,60 @@ fn many_by_cursor<I: Ordered<Value = u64> + StandsWhole>(
     counts(rt, index, (1, 1001, 0));
 }
 
-#[test]
-fn floods_spill(rt: HostRuntime) {
-    two_partitions(&rt, &mut wide_at(&rt, rt.alloc(), 512));
+/// The thresholds that floods are tried at.
+const THRESHOLDS: [usize; 6] = [1, 2, 3, 7, 512, usize::MAX];
+
+/// Floods that go together.
+enum Flood {
+    /// Keys of one partition, and then values of one key.
+    Both,
+    /// A thousand keys.
+    Keys,
+    /// A thousand values.
+    Values,
 }
 
-#[test]
-fn floods_of_keys_stand(rt: HostRuntime) {
-    for threshold in [1, 2, 3, 7, 512, usize::MAX] {
+/// Floods of an index by one byte and then two more.
+fn on<I: Ordered<Value = u64> + StandsWhole>(rt: &impl Abort, alloc: Global, flood: Flood) {
+    match flood {
+        Flood::Both => two_partitions(rt, &mut I::spilling_at(rt, alloc, 512)),
+        Flood::Keys => floods_of_keys::<I>(rt, alloc),
+        Flood::Values => floods_of_values::<I>(rt, alloc),
+    }
+}
+
+/// A thousand keys at each threshold, in each order.
+fn floods_of_keys<I: Ordered<Value = u64> + StandsWhole>(rt: &impl Abort, alloc: Global) {
+    for threshold in THRESHOLDS {
         for order in [Order::Rising, Order::Falling, Order::Mixed] {
-            many_keys(&rt, &mut wide_at(&rt, rt.alloc(), threshold), order);
+            many_keys(rt, &mut I::spilling_at(rt, alloc, threshold), order);
         }
     }
 }
 
+/// A thousand values at each threshold, by calls and by a cursor.
+fn floods_of_values<I: Ordered<Value = u64> + StandsWhole>(rt: &impl Abort, alloc: Global) {
+    for threshold in THRESHOLDS {
+        many_values(rt, &mut I::spilling_at(rt, alloc, threshold));
+        many_by_cursor(rt, alloc, &mut I::spilling_at(rt, alloc, threshold));
+    }
+}
+
+fn on_wide(rt: &impl Abort, alloc: Global, flood: Flood) {
+    on::<Wide>(rt, alloc, flood)
+}
+
+#[test]
+fn floods_spill(rt: HostRuntime) {
+    on_wide(&rt, rt.alloc(), Flood::Both)
+}
+
+#[test]
+fn floods_of_keys_stand(rt: HostRuntime) {
+    on_wide(&rt, rt.alloc(), Flood::Keys)
+}
+
 #[test]
 fn floods_of_values_stand(rt: HostRuntime) {
-    for threshold in [1, 2, 3, 7, 512, usize::MAX] {
-        many_values(&rt, &mut wide_at(&rt, rt.alloc(), threshold));
-        many_by_cursor(&rt, rt.alloc(), &mut wide_at(&rt, rt.alloc(), threshold));
-    }
+    on_wide(&rt, rt.alloc(), Flood::Values)
 }

@@ -14,15 +14,15 @@ pub(super) trait Kind<V> {
     const WIDTH: usize;
 
     /// An index with no values.
-    fn make(alloc: Global) -> Result<Self::Index, Fault>;
+    fn make(&self, alloc: Global) -> Result<Self::Index, Fault>;
 
     /// The index keys of 01 and of 1002ff.
     fn slots() -> (<Self::Index as Runs>::Key, <Self::Index as Runs>::Key);
 }
 
 /// An index of a kind, with no values.
-pub(super) fn fresh<K: Kind<V>, V>(rt: &impl Abort, alloc: Global) -> K::Index {
-    K::make(alloc).expect(rt, "an index")
+pub(super) fn fresh<K: Kind<V>, V>(rt: &impl Abort, alloc: Global, kind: &K) -> K::Index {
+    kind.make(alloc).expect(rt, "an index")
 }
 
 /// The flat unordered index.
@@ -33,7 +33,7 @@ impl<V: Drop> Kind<V> for Unordered {
 
     const WIDTH: usize = 1;
 
-    fn make(alloc: Global) -> Result<Self::Index, Fault> {
+    fn make(&self, alloc: Global) -> Result<Self::Index, Fault> {
         Factory::new(alloc, OneCap)
     }
 
@@ -50,7 +50,7 @@ impl<V: Drop> Kind<V> for UnorderedByHash {
 
     const WIDTH: usize = 1;
 
-    fn make(alloc: Global) -> Result<Self::Index, Fault> {
+    fn make(&self, alloc: Global) -> Result<Self::Index, Fault> {
         Factory::new(alloc, Hashed::from_seed(0, FourCap))
     }
 
@@ -67,7 +67,7 @@ impl<V: Drop> Kind<V> for Ordered {
 
     const WIDTH: usize = 1;
 
-    fn make(alloc: Global) -> Result<Self::Index, Fault> {
+    fn make(&self, alloc: Global) -> Result<Self::Index, Fault> {
         Factory::new(alloc, OneCap)
     }
 
@@ -84,7 +84,7 @@ impl<V: Drop> Kind<V> for OrderedByTwo {
 
     const WIDTH: usize = 2;
 
-    fn make(alloc: Global) -> Result<Self::Index, Fault> {
+    fn make(&self, alloc: Global) -> Result<Self::Index, Fault> {
         Factory::new(alloc, TwoCap)
     }
 
@@ -101,7 +101,7 @@ impl<V: Drop> Kind<V> for OrderedByEight {
 
     const WIDTH: usize = 2;
 
-    fn make(alloc: Global) -> Result<Self::Index, Fault> {
+    fn make(&self, alloc: Global) -> Result<Self::Index, Fault> {
         Factory::new(alloc, EightCap)
     }
 
@@ -118,7 +118,7 @@ impl<V: Drop> Kind<V> for OrderedByArrays {
 
     const WIDTH: usize = 2;
 
-    fn make(alloc: Global) -> Result<Self::Index, Fault> {
+    fn make(&self, alloc: Global) -> Result<Self::Index, Fault> {
         Factory::new(alloc, Cap::new())
     }
 
@@ -136,7 +136,7 @@ impl<V: Drop> Kind<V> for Punordered {
 
     const WIDTH: usize = 2;
 
-    fn make(alloc: Global) -> Result<Self::Index, Fault> {
+    fn make(&self, alloc: Global) -> Result<Self::Index, Fault> {
         Factory::new(alloc, OneCap)
     }
 
@@ -153,7 +153,7 @@ impl<V: Drop> Kind<V> for PunorderedByTwo {
 
     const WIDTH: usize = 2;
 
-    fn make(alloc: Global) -> Result<Self::Index, Fault> {
+    fn make(&self, alloc: Global) -> Result<Self::Index, Fault> {
         Factory::new(alloc, OneCap)
     }
 
@@ -162,50 +162,24 @@ impl<V: Drop> Kind<V> for PunorderedByTwo {
     }
 }
 
-/// The partitioned ordered index, by one byte and then one more.
-pub(super) struct Pordered;
+/// The partitioned ordered index, by one byte and then one more, whose partitions spill at so many values.
+pub(super) enum Pordered {
+    AtDefault,
+    AtOne,
+    AtTwo,
+}
 
 impl<V: Drop> Kind<V> for Pordered {
     type Index = partitioned::ordered::Index<OneCap, V, 1>;
 
     const WIDTH: usize = 2;
 
-    fn make(alloc: Global) -> Result<Self::Index, Fault> {
-        Factory::new(alloc, OneCap)
-    }
-
-    fn slots() -> ((usize, u8), (usize, u8)) {
-        ((0x01, 0), (0x10, 0x02))
-    }
-}
-
-/// The partitioned ordered index, by one byte and then one more, whose partitions spill at the first value.
-pub(super) struct PorderedAtOne;
-
-impl<V: Drop> Kind<V> for PorderedAtOne {
-    type Index = partitioned::ordered::Index<OneCap, V, 1>;
-
-    const WIDTH: usize = 2;
-
-    fn make(alloc: Global) -> Result<Self::Index, Fault> {
-        partitioned::ordered::Index::with_threshold(alloc, OneCap, 1)
-    }
-
-    fn slots() -> ((usize, u8), (usize, u8)) {
-        ((0x01, 0), (0x10, 0x02))
-    }
-}
-
-/// The same, whose partitions spill at the second value.
-pub(super) struct PorderedAtTwo;
-
-impl<V: Drop> Kind<V> for PorderedAtTwo {
-    type Index = partitioned::ordered::Index<OneCap, V, 1>;
-
-    const WIDTH: usize = 2;
-
-    fn make(alloc: Global) -> Result<Self::Index, Fault> {
-        partitioned::ordered::Index::with_threshold(alloc, OneCap, 2)
+    fn make(&self, alloc: Global) -> Result<Self::Index, Fault> {
+        match self {
+            Pordered::AtDefault => Factory::new(alloc, OneCap),
+            Pordered::AtOne => partitioned::ordered::Index::with_threshold(alloc, OneCap, 1),
+            Pordered::AtTwo => partitioned::ordered::Index::with_threshold(alloc, OneCap, 2),
+        }
     }
 
     fn slots() -> ((usize, u8), (usize, u8)) {
@@ -221,7 +195,7 @@ impl<V: Drop> Kind<V> for PorderedByTwo {
 
     const WIDTH: usize = 2;
 
-    fn make(alloc: Global) -> Result<Self::Index, Fault> {
+    fn make(&self, alloc: Global) -> Result<Self::Index, Fault> {
         Factory::new(alloc, OneCap)
     }
 
@@ -238,7 +212,7 @@ impl<V: Drop> Kind<V> for Plain {
 
     const WIDTH: usize = 1;
 
-    fn make(alloc: Global) -> Result<Self::Index, Fault> {
+    fn make(&self, alloc: Global) -> Result<Self::Index, Fault> {
         Factory::new(alloc, OneCap)
     }
 

@@ -1,36 +1,46 @@
 //! What the partitioned ordered index alone has: how much a partition holds, and neighbours across sixteen million partitions.
-ghost use Rattle.std.specs.Prelude.{◌≡◌};
-
 use super::checks::{counts, fill, fresh, holds, inserts, removes};
 use super::neighbours::{next_has, prev_has};
-use key_index_flat::translator::{OneCap, TwoCap};
+use super::stands::{Small, StandsWhole, is_inline};
+use key_index_flat::index::{Ordered, Unordered};
+use key_index_flat::translator::TwoCap;
 use key_index_parts::index::partitioned::ordered;
+use std::process::Abort;
+
+/// Values are put in behind those of their key, and a partition tells how many it holds.
+fn behind<I: Unordered<Value = u64> + StandsWhole>(rt: &impl Abort, index: &mut I) {
+    fill(rt, index, b"\x10\x02", &[1, 2, 3]);
+    holds(rt, index, b"\x10\x02", &[1, 2, 3]);
+    fill(rt, index, b"\x10\x01", &[4]);
+    is_inline(rt, index, 0x10, 4);
+    is_inline(rt, index, 0x11, 0);
+    removes(rt, index, b"\x10\x02");
+    is_inline(rt, index, 0x10, 1);
+    counts(rt, index, (1, 1, 3));
+}
+
+/// Three keys with many partitions between them.
+fn far_apart<I: Ordered<Value = u64>>(rt: &impl Abort, index: &mut I) {
+    inserts(rt, index, b"", 1);
+    inserts(rt, index, b"\xff\xff\xff\xff\xff", 2);
+    inserts(rt, index, b"\x80", 3);
+    next_has(rt, index, b"", &[3], false);
+    next_has(rt, index, b"\x80", &[2], false);
+    next_has(rt, index, b"\xff\xff\xff\xff\xff", &[1], true);
+    prev_has(rt, index, b"\xff\xff\xff", &[3], false);
+    prev_has(rt, index, b"\x80", &[1], false);
+    prev_has(rt, index, b"", &[2], true);
+    removes(rt, index, b"\x80");
+    next_has(rt, index, b"", &[2], false);
+}
 
 #[test]
 fn values_go_behind(rt: HostRuntime) {
-    let mut index: ordered::Index<OneCap, u64, 1> = fresh(&rt, rt.alloc(), OneCap);
-    fill(&rt, &mut index, b"\x10\x02", &[1, 2, 3]);
-    holds(&rt, &index, b"\x10\x02", &[1, 2, 3]);
-    fill(&rt, &mut index, b"\x10\x01", &[4]);
-    assert_eq!(&rt; index.inline_len(0x10), 4);
-    assert_eq!(&rt; index.inline_len(0x11), 0);
-    removes(&rt, &mut index, b"\x10\x02");
-    assert_eq!(&rt; index.inline_len(0x10), 1);
-    counts(&rt, &index, (1, 1, 3));
+    behind(&rt, &mut Small::spilling_at(&rt, rt.alloc(), 512));
 }
 
 #[test]
 fn neighbours_stand_across_all_partitions(rt: HostRuntime) {
     let mut index: ordered::Index<TwoCap, u64, 3> = fresh(&rt, rt.alloc(), TwoCap);
-    inserts(&rt, &mut index, b"", 1);
-    inserts(&rt, &mut index, b"\xff\xff\xff\xff\xff", 2);
-    inserts(&rt, &mut index, b"\x80", 3);
-    next_has(&rt, &index, b"", &[3], false);
-    next_has(&rt, &index, b"\x80", &[2], false);
-    next_has(&rt, &index, b"\xff\xff\xff\xff\xff", &[1], true);
-    prev_has(&rt, &index, b"\xff\xff\xff", &[3], false);
-    prev_has(&rt, &index, b"\x80", &[1], false);
-    prev_has(&rt, &index, b"", &[2], true);
-    removes(&rt, &mut index, b"\x80");
-    next_has(&rt, &index, b"", &[2], false);
+    far_apart(&rt, &mut index);
 }

@@ -3,27 +3,38 @@ use key_index_flat::index::{Factory, Fault, Runs, Unordered};
 use key_index_flat::translator::TwoCap;
 use key_index_plain::Index;
 use std::alloc::Global;
+use std::process::Abort;
 
-/// Each call once, on an index with room.
-#[test]
-fn calls(rt: HostRuntime) {
-    let Ok(mut index) = Index::<TwoCap, u64>::new(rt.alloc(), TwoCap) else {
-        panic!(&rt; "new was refused")
+/// Four values under three keys.
+fn three_keys(rt: &impl Abort, alloc: Global) -> Index<TwoCap, u64> {
+    let Ok(mut index) = Index::<TwoCap, u64>::new(alloc, TwoCap) else {
+        panic!(rt; "new was refused")
     };
     for (key, value) in [(b"cc", 3), (b"bb", 1), (b"aa", 4), (b"bb", 2)] {
-        assert!(&rt; index.insert(key, value).is_ok());
+        assert!(rt; index.insert(key, value).is_ok());
     }
+    index
+}
+
+#[test]
+fn calls_by_key(rt: HostRuntime) {
+    let mut index = three_keys(&rt, rt.alloc());
     assert_eq!(&rt; (index.keys(), index.items(), index.pruned()), (3, 4, 0));
     assert!(&rt; index.get(b"bb").copied().eq([2, 1]));
+    assert!(&rt; index.get(b"a").next().is_none());
+    assert!(&rt; index.remove(b"bb").is_ok());
+    assert!(&rt; index.get(b"bb").next().is_none());
+    assert_eq!(&rt; (index.keys(), index.items(), index.pruned()), (2, 2, 2));
+}
+
+#[test]
+fn calls_by_place(rt: HostRuntime) {
+    let index = three_keys(&rt, rt.alloc());
     let slot = index.slot_of(b"bb");
     assert_eq!(&rt; slot, 0x6262);
     assert!(&rt; index.admits(slot));
     assert_eq!(&rt; index.run_len(slot), 2);
     assert_eq!(&rt; *index.value_at(slot, 1), 1);
-    assert!(&rt; index.get(b"a").next().is_none());
-    assert!(&rt; index.remove(b"bb").is_ok());
-    assert!(&rt; index.get(b"bb").next().is_none());
-    assert_eq!(&rt; (index.keys(), index.items(), index.pruned()), (2, 2, 2));
 }
 
 /// Runs an index through the bounds alone, and tells the values of the first key and the counts.

@@ -3,7 +3,7 @@ ghost use Rattle.std.specs.Prelude.{◌≡◌, []};
 
 use super::builds::are_cuts;
 use super::checks::push;
-use super::kinds::{self, Kind, fresh};
+use super::kinds::{self, Kind, Pordered, fresh};
 use super::numbers::Numbers;
 use key_index::snapshot::{Record, Snapshot};
 use key_index_flat::index::{Ordered, Unordered};
@@ -386,69 +386,67 @@ fn built_beside<I: Ordered<Value = Record> + Partitioned + Drop>(
 }
 
 /// An index of a kind, with no values.
-fn empty<K: Kind<Record>>(rt: &impl Abort, alloc: Global) -> K::Index
+fn empty<K: Kind<Record>>(rt: &impl Abort, alloc: Global, kind: &K) -> K::Index
     ensures { (K.Index.view result).content ≡ [] }
 {
-    let index = fresh::<K, Record>(rt, alloc);
+    let index = fresh::<K, Record>(rt, alloc, kind);
     assert_eq!(rt; index.keys(), 0);
     index
 }
 
 /// The examples and the random calls, over a kind.
-fn over<K: Kind<Record>>(rt: &impl Abort, alloc: Global)
+fn over<K: Kind<Record>>(rt: &impl Abort, alloc: Global, kind: &K)
 where
     K::Index: Ordered<Value = Record>,
 {
-    set_and_unset(rt, alloc, empty::<K>(rt, alloc));
-    zeros_tell_apart(rt, alloc, empty::<K>(rt, alloc));
-    called_beside(rt, alloc, empty::<K>(rt, alloc));
+    set_and_unset(rt, alloc, empty(rt, alloc, kind));
+    zeros_tell_apart(rt, alloc, empty(rt, alloc, kind));
+    called_beside(rt, alloc, empty(rt, alloc, kind));
 }
 
-/// The example and the random builds, over a kind whose partitions are by one byte.
-fn built_over<K: Kind<Record>>(rt: &impl Abort, alloc: Global)
+/// The same, and the example and the random builds, over a kind whose partitions are by one byte.
+fn over_partitions<K: Kind<Record>>(rt: &impl Abort, alloc: Global, kind: &K)
 where
     K::Index: Ordered<Value = Record> + Partitioned<Value = Record>,
 {
-    built(rt, alloc, empty::<K>(rt, alloc));
+    over(rt, alloc, kind);
+    built(rt, alloc, empty(rt, alloc, kind));
     let mut numbers = Numbers::new();
     for _ in 0..BUILDS {
-        built_beside(rt, alloc, empty::<K>(rt, alloc), &mut numbers);
+        built_beside(rt, alloc, empty(rt, alloc, kind), &mut numbers);
     }
+}
+
+fn over_pordered(rt: &impl Abort, alloc: Global, kind: &Pordered) {
+    over_partitions(rt, alloc, kind)
 }
 
 #[test]
 fn snapshot_over_ordered(rt: HostRuntime) {
-    over::<kinds::Ordered>(&rt, rt.alloc())
+    over(&rt, rt.alloc(), &kinds::Ordered)
 }
 
 #[test]
 fn snapshot_over_ordered_by_two_bytes(rt: HostRuntime) {
-    over::<kinds::OrderedByTwo>(&rt, rt.alloc())
+    over(&rt, rt.alloc(), &kinds::OrderedByTwo)
 }
 
 #[test]
 fn snapshot_over_ordered_by_eight_bytes(rt: HostRuntime) {
-    over::<kinds::OrderedByEight>(&rt, rt.alloc())
+    over(&rt, rt.alloc(), &kinds::OrderedByEight)
 }
 
 #[test]
 fn snapshot_over_partitioned_ordered(rt: HostRuntime) {
-    over::<kinds::Pordered>(&rt, rt.alloc())
-}
-
-#[test]
-fn snapshot_over_partitioned_ordered_is_built(rt: HostRuntime) {
-    built_over::<kinds::Pordered>(&rt, rt.alloc())
+    over_pordered(&rt, rt.alloc(), &Pordered::AtDefault)
 }
 
 #[test]
 fn snapshot_over_partitions_that_spill_at_one(rt: HostRuntime) {
-    over::<kinds::PorderedAtOne>(&rt, rt.alloc());
-    built_over::<kinds::PorderedAtOne>(&rt, rt.alloc())
+    over_pordered(&rt, rt.alloc(), &Pordered::AtOne)
 }
 
 #[test]
 fn snapshot_over_partitions_that_spill_at_two(rt: HostRuntime) {
-    over::<kinds::PorderedAtTwo>(&rt, rt.alloc());
-    built_over::<kinds::PorderedAtTwo>(&rt, rt.alloc())
+    over_pordered(&rt, rt.alloc(), &Pordered::AtTwo)
 }

@@ -6,9 +6,7 @@ use super::checks::{
     inserts_and_retains, puts, puts_last, removes, retains,
 };
 use super::neighbours::{next_has, prev_has, same_end};
-use super::stands::{
-    Small, Stands, StandsWhole, has_moved, has_spilled, is_inline, is_spilled, spills_at,
-};
+use super::stands::{Small, Stands, StandsWhole, has_moved, has_spilled, is_inline, is_spilled};
 use super::{calls, ranges};
 use key_index_flat::index::{Cursor, Ordered, Unordered, Values};
 use key_index_flat::translator::OneCap;
@@ -140,6 +138,7 @@ fn others_stand<I: Unordered<Value = u64> + StandsWhole>(rt: &impl Abort, index:
 
 /// One key of the default threshold, 512: the last of 512 insertions spills.
 fn spilled_at_512<I: Unordered<Value = u64> + StandsWhole>(rt: &impl Abort, index: &mut I) {
+    assert_eq!(rt; index.threshold(), 512);
     for value in 0..511 {
         inserts(rt, index, b"\x10\x01", value);
     }
@@ -514,11 +513,97 @@ where
     holds(rt, index, b"\x10\x01", &[1, 2, 3]);
 }
 
+/// Cases of the index by one byte and then one more that go together.
+enum Case {
+    /// Which insertions spill.
+    Insertions,
+    /// Each call that spills what a cursor let grow.
+    Calls,
+    /// Partitions that are emptied and filled again.
+    Lives,
+    /// Spilled partitions that move back.
+    Returns,
+    /// Neighbours across arrays and trees.
+    Neighbours,
+    /// Ranges that spill.
+    Ranges,
+}
+
+/// Which insertions spill.
+fn insertions<I: Unordered<Value = u64> + StandsWhole>(rt: &impl Abort, alloc: Global) {
+    spilled_by_insertions(rt, &mut I::spilling_at(rt, alloc, 2));
+    spilled_by_one(rt, &mut I::spilling_at(rt, alloc, 1));
+    spilled_by_what_is_left(rt, alloc, &mut I::spilling_at(rt, alloc, 3));
+}
+
+/// Each call that spills what a cursor let grow.
+fn calls_that_spill<I: Unordered<Value = u64> + StandsWhole>(rt: &impl Abort, alloc: Global) {
+    spilled_by_remove(rt, &mut I::spilling_at(rt, alloc, 2));
+    spilled_by_retain(rt, alloc, &mut I::spilling_at(rt, alloc, 2));
+    spilled_by_get_mut(rt, &mut I::spilling_at(rt, alloc, 2));
+    spilled_by_get_mut_or_insert(rt, &mut I::spilling_at(rt, alloc, 2));
+    spilled_by_insert(rt, &mut I::spilling_at(rt, alloc, 2));
+    spilled_by_insert_and_retain(rt, alloc, &mut I::spilling_at(rt, alloc, 2));
+    spilled_and_emptied(rt, &mut I::spilling_at(rt, alloc, 2));
+    others_stand(rt, &mut I::spilling_at(rt, alloc, 2));
+}
+
+/// Partitions that are emptied and filled again.
+fn lives<I: Unordered<Value = u64> + StandsWhole>(rt: &impl Abort, alloc: Global) {
+    lived(rt, &mut I::spilling_at(rt, alloc, 2));
+    emptied_and_grown_by_cursor(rt, &mut I::spilling_at(rt, alloc, 2));
+}
+
+/// Spilled partitions that move back.
+fn returns<I: Ordered<Value = u64> + Partitioned + StandsWhole>(rt: &impl Abort, alloc: Global)
+where
+    I::Range: Stands,
+{
+    moved_back_by_remove(rt, &mut I::spilling_at(rt, alloc, 8));
+    moved_back_by_the_next_call(rt, &mut I::spilling_at(rt, alloc, 8));
+    moved_back_and_spilled_again(rt, &mut I::spilling_at(rt, alloc, 3));
+    spilled_and_moved_back(rt, alloc, &mut I::spilling_at(rt, alloc, 8));
+    moved_back_in_order(rt, alloc, &mut I::spilling_at(rt, alloc, 8));
+    let other = I::spilling_at(rt, alloc, 2);
+    moved_back_where_installed(rt, &mut I::spilling_at(rt, alloc, 8), &other);
+}
+
+/// Ranges that spill.
+fn ranges_that_spill<I: Partitioned<Value = u64> + StandsWhole>(rt: &impl Abort, alloc: Global)
+where
+    I::Range: Stands,
+{
+    spilled_and_drained_in_range(rt, &mut I::spilling_at(rt, alloc, 2));
+    installed_spilled(rt, &mut I::spilling_at(rt, alloc, 2));
+    installed_grown(rt, &mut I::spilling_at(rt, alloc, 2));
+}
+
+/// A case of an index by one byte and then one more.
+fn on<I: Ordered<Value = u64> + Partitioned + StandsWhole>(
+    rt: &impl Abort,
+    alloc: Global,
+    case: Case,
+)
+where
+    I::Range: Stands,
+{
+    match case {
+        Case::Insertions => insertions::<I>(rt, alloc),
+        Case::Calls => calls_that_spill::<I>(rt, alloc),
+        Case::Lives => lives::<I>(rt, alloc),
+        Case::Returns => returns::<I>(rt, alloc),
+        Case::Neighbours => next_to_spilled(rt, &mut I::spilling_at(rt, alloc, 2)),
+        Case::Ranges => ranges_that_spill::<I>(rt, alloc),
+    }
+}
+
+fn on_small(rt: &impl Abort, alloc: Global, case: Case) {
+    on::<Small>(rt, alloc, case)
+}
+
 #[test]
 fn insertions_spill(rt: HostRuntime) {
-    spilled_by_insertions(&rt, &mut spills_at(&rt, rt.alloc(), 2));
-    spilled_by_one(&rt, &mut spills_at(&rt, rt.alloc(), 1));
-    spilled_by_what_is_left(&rt, rt.alloc(), &mut spills_at(&rt, rt.alloc(), 3));
+    on_small(&rt, rt.alloc(), Case::Insertions)
 }
 
 #[test]
@@ -529,48 +614,31 @@ fn short_keys_spill(rt: HostRuntime) {
 
 #[test]
 fn each_call_spills_what_is_due(rt: HostRuntime) {
-    spilled_by_remove(&rt, &mut spills_at(&rt, rt.alloc(), 2));
-    spilled_by_retain(&rt, rt.alloc(), &mut spills_at(&rt, rt.alloc(), 2));
-    spilled_by_get_mut(&rt, &mut spills_at(&rt, rt.alloc(), 2));
-    spilled_by_get_mut_or_insert(&rt, &mut spills_at(&rt, rt.alloc(), 2));
-    spilled_by_insert(&rt, &mut spills_at(&rt, rt.alloc(), 2));
-    spilled_by_insert_and_retain(&rt, rt.alloc(), &mut spills_at(&rt, rt.alloc(), 2));
-    spilled_and_emptied(&rt, &mut spills_at(&rt, rt.alloc(), 2));
-    others_stand(&rt, &mut spills_at(&rt, rt.alloc(), 2));
+    on_small(&rt, rt.alloc(), Case::Calls)
 }
 
 #[test]
 fn default_threshold_is_512(rt: HostRuntime) {
     let mut index: Small = fresh(&rt, rt.alloc(), OneCap);
-    assert_eq!(&rt; index.threshold(), 512);
     spilled_at_512(&rt, &mut index);
 }
 
 #[test]
 fn spilled_partitions_live(rt: HostRuntime) {
-    lived(&rt, &mut spills_at(&rt, rt.alloc(), 2));
-    emptied_and_grown_by_cursor(&rt, &mut spills_at(&rt, rt.alloc(), 2));
+    on_small(&rt, rt.alloc(), Case::Lives)
 }
 
 #[test]
 fn small_partitions_move_back(rt: HostRuntime) {
-    moved_back_by_remove(&rt, &mut spills_at(&rt, rt.alloc(), 8));
-    moved_back_by_the_next_call(&rt, &mut spills_at(&rt, rt.alloc(), 8));
-    moved_back_and_spilled_again(&rt, &mut spills_at(&rt, rt.alloc(), 3));
-    spilled_and_moved_back(&rt, rt.alloc(), &mut spills_at(&rt, rt.alloc(), 8));
-    moved_back_in_order(&rt, rt.alloc(), &mut spills_at(&rt, rt.alloc(), 8));
-    let other = spills_at(&rt, rt.alloc(), 2);
-    moved_back_where_installed(&rt, &mut spills_at(&rt, rt.alloc(), 8), &other);
+    on_small(&rt, rt.alloc(), Case::Returns)
 }
 
 #[test]
 fn neighbours_stand_across_arrays_and_trees(rt: HostRuntime) {
-    next_to_spilled(&rt, &mut spills_at(&rt, rt.alloc(), 2));
+    on_small(&rt, rt.alloc(), Case::Neighbours)
 }
 
 #[test]
 fn ranges_spill(rt: HostRuntime) {
-    spilled_and_drained_in_range(&rt, &mut spills_at(&rt, rt.alloc(), 2));
-    installed_spilled(&rt, &mut spills_at(&rt, rt.alloc(), 2));
-    installed_grown(&rt, &mut spills_at(&rt, rt.alloc(), 2));
+    on_small(&rt, rt.alloc(), Case::Ranges)
 }

@@ -1,12 +1,10 @@
 //! An index whose partitions spill, called some ten thousand times, stands as the rules say, and answers as lists do that the test
 //! keeps. Ranges of it are made, called and installed on the way.
-ghost use Rattle.std.specs.Prelude.{◌≤◌};
-
 use super::checks::{holds, push};
 use super::command_lists::{has_all, key};
 use super::lists::{self, Edited, KeptLists, counts_as, grow_beside, list_at, place};
 use super::numbers::Numbers;
-use super::stands::{Stands, StandsWhole, spills_at};
+use super::stands::{Small, Stands, StandsWhole};
 use super::{checks, ranges};
 use key_index_flat::index::Ordered;
 use key_index_parts::index::partitioned::{PartitionRange, Partitioned};
@@ -526,20 +524,28 @@ where
     assert_eq!(rt; kept.standings.returns > 0, threshold > 2, "and moved back");
 }
 
+/// The thresholds of those others.
+const THRESHOLDS: [usize; 6] = [1, 2, 3, 8, 64, 512];
+
 /// So does one that spills at a threshold, and ranges that spill at this or another one.
-fn at(rt: &impl Abort, alloc: Global, threshold: usize)
-    requires { 1 ≤ threshold }
+fn stands_at<I: Ordered<Value = u64> + Partitioned + StandsWhole>(
+    rt: &impl Abort,
+    alloc: Global,
+    threshold: usize,
+)
+where
+    I::Range: Stands,
 {
-    let mut index = spills_at(rt, alloc, threshold);
-    let others = [
-        spills_at(rt, alloc, 1),
-        spills_at(rt, alloc, 2),
-        spills_at(rt, alloc, 3),
-        spills_at(rt, alloc, 8),
-        spills_at(rt, alloc, 64),
-        spills_at(rt, alloc, 512),
-    ];
-    stands_beside(rt, alloc, &mut index, &others);
+    let mut index = I::spilling_at(rt, alloc, threshold);
+    let mut others = Vec::new(alloc);
+    for other in THRESHOLDS {
+        push(rt, &mut others, I::spilling_at(rt, alloc, other));
+    }
+    stands_beside(rt, alloc, &mut index, others.as_slice());
+}
+
+fn at(rt: &impl Abort, alloc: Global, threshold: usize) {
+    stands_at::<Small>(rt, alloc, threshold)
 }
 
 #[test]

@@ -16,21 +16,6 @@ pub(super) type Wide = Index<TwoCap, u64, 1>;
 /// A range of the first one.
 pub(super) type SmallRange = RangeIndex<OneCap, u64, 1>;
 
-/// An index with no values, whose partitions spill at so many.
-pub(super) fn spills_at(rt: &impl Abort, alloc: Global, threshold: usize) -> Small
-    requires { 1 ≤ threshold }
-{
-    let index = Small::with_threshold(alloc, OneCap, threshold).expect(rt, "an index");
-    assert_eq!(rt; index.threshold(), threshold);
-    index
-}
-
-/// The same by one byte and then two more.
-pub(super) fn wide_at(rt: &impl Abort, alloc: Global, threshold: usize) -> Wide {
-    assert!(rt; threshold > 0);
-    Wide::with_threshold(alloc, TwoCap, threshold).expect(rt, "an index")
-}
-
 /// Partitions that stand as arrays or as trees.
 pub(super) trait Stands {
     /// How many spills there ever were.
@@ -44,7 +29,10 @@ pub(super) trait Stands {
 }
 
 /// A whole index of them.
-pub(super) trait StandsWhole: Stands {
+pub(super) trait StandsWhole: Stands + Drop {
+    /// An index with no values, whose partitions spill at so many.
+    fn spilling_at(rt: &impl Abort, alloc: Global, threshold: usize) -> Self;
+
     /// How many partitions are spilled.
     fn spilled_count(&self) -> usize;
 
@@ -53,6 +41,11 @@ pub(super) trait StandsWhole: Stands {
 }
 
 impl StandsWhole for Small {
+    fn spilling_at(rt: &impl Abort, alloc: Global, threshold: usize) -> Small {
+        assert!(rt; threshold > 0);
+        Index::with_threshold(alloc, OneCap, threshold).expect(rt, "an index")
+    }
+
     fn spilled_count(&self) -> usize {
         Index::spilled_count(self)
     }
@@ -78,6 +71,11 @@ impl Stands for Small {
 }
 
 impl StandsWhole for Wide {
+    fn spilling_at(rt: &impl Abort, alloc: Global, threshold: usize) -> Wide {
+        assert!(rt; threshold > 0);
+        Index::with_threshold(alloc, TwoCap, threshold).expect(rt, "an index")
+    }
+
     fn spilled_count(&self) -> usize {
         Index::spilled_count(self)
     }

@@ -118,6 +118,12 @@ fn identity_hasher(rt: HostRuntime) {
     hasher.write(&[1, 0, 0, 0, 0, 0, 0, 0, 9]);
     assert_eq!(&rt; hasher.finish(), 0x9e37_79b9_7f4a_7c15);
     assert_eq!(&rt; copy.finish(), 1);
+}
+
+#[test]
+fn identity_hasher_of_narrow_numbers(rt: HostRuntime) {
+    let mut hasher = UintIdentity::default();
+    hasher.write_u64(1);
     hasher.write(&[]);
     assert_eq!(&rt; hasher.finish(), 0);
     hasher.write_u8(1);
@@ -209,6 +215,22 @@ fn hashed_indices(rt: HostRuntime) {
 /// A seed by which the example's key has another hash.
 const OTHER: u64 = 0x6867_6665_6463_6261;
 
+/// The value 1 stays under the slot that it was put in under, and the calls by key go by another one.
+fn goes_by_another<I: Unordered<Value = u64>>(
+    rt: &impl Abort,
+    index: &mut I,
+    before: I::Key,
+    behind: I::Key,
+) {
+    holds(rt, index, KEY, &[]);
+    inserts(rt, index, KEY, 2);
+    holds(rt, index, KEY, &[2]);
+    assert!(rt; index.slot_of(KEY) == behind);
+    assert_eq!(rt; index.run_len(before), 1);
+    assert_eq!(rt; *index.value_at(before, 0), 1);
+    counts(rt, index, (2, 2, 0));
+}
+
 /// Values stay under their index keys when an index takes another translator, and the calls by key then go by that one.
 #[test]
 fn another_translator_is_set(rt: HostRuntime) {
@@ -220,11 +242,5 @@ fn another_translator_is_set(rt: HostRuntime) {
     );
     inserts(&rt, &mut index, KEY, 1);
     index.set_translator(Hashed::from_seed(OTHER, TwoCap));
-    holds(&rt, &index, KEY, &[]);
-    inserts(&rt, &mut index, KEY, 2);
-    holds(&rt, &index, KEY, &[2]);
-    assert_eq!(&rt; index.slot_of(KEY), 0x4e7b);
-    assert_eq!(&rt; index.run_len(0x248d), 1);
-    assert_eq!(&rt; *index.value_at(0x248d, 0), 1);
-    counts(&rt, &index, (2, 2, 0));
+    goes_by_another(&rt, &mut index, 0x248d, 0x4e7b);
 }

@@ -3,7 +3,7 @@ use Rattle.std.specs.List.{find, range_with_len}
 use Rattle.key_index.proofs.table.free_between.Given as goal
 
 -- what is found in the rest is found in the whole
-abbrev pub invariant-loop-slot : goal.invariant-loop-slot
-invariant-loop-slot l =
-    find (λ i. nat_lt (slice_index l.controls i) 2) (range_with_len l.slot (l.fn.to - l.slot))
+abbrev pub invariant-loop-cell : goal.invariant-loop-cell
+invariant-loop-cell l =
+    find (λ i. nat_lt (slice_index l.controls i) 2) (range_with_len l.cell (l.fn.to - l.cell))
     ≡ find (λ i. nat_lt (slice_index l.controls i) 2) (range_with_len l.fn.from (l.fn.to - l.fn.from))

@@ -56,7 +56,7 @@ impl<T: Translator, V: Drop, const P: usize> Index<T, V, P> {
     ghost use Rattle.key_index_parts.specs.Standing.{entries_at, inline_len, new_standings, spilled_in, standing_at};
     ghost use Rattle.key_index_parts.specs.Ahead.{TellsAhead, TellsAt};
 
-    /// An index with no values, whose partitions spill at so many. Takes the slots of all partitions at once, and answers `Memory` where
+    /// An index with no values, whose partitions spill at so many. Takes the room of all partitions at once, and answers `Memory` where
     /// that is refused.
     pub fn with_threshold(
         alloc: Global,
@@ -461,7 +461,7 @@ impl<T: Translator, V: Drop, const P: usize> Factory for Index<T, V, P> {
 
     ghost makes = { (1 ≤ P) × (P ≤ 3) };
 
-    /// Takes the slots of all partitions at once, and answers `Memory` where that is refused. A partition spills at 512 values.
+    /// Takes the room of all partitions at once, and answers `Memory` where that is refused. A partition spills at 512 values.
     fn new(alloc: Global, translator: T) -> Result<Index<T, V, P>, Fault>
         requires { (1 ≤ P) × (P ≤ 3) }
         ensures empty { IfOk result (λ index. (view index).content ≡ []) }

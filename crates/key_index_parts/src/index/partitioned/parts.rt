@@ -48,7 +48,7 @@ fn newly_spilled(was: bool, len: usize) -> usize
 }
 
 impl<T: Translator, V: Drop, X: Part<T, V> + Drop> Parts<T, V, X> {
-    /// So many parts that hold nothing. Takes the memory of their slots at once.
+    /// So many parts that hold nothing. Takes the memory of them all at once.
     pub(super) fn new(alloc: Global, translator: T, count: usize) -> Result<Parts<T, V, X>, Fault>
         requires { count ≤ partition_count 3 }
         ensures parts { IfOk result (λ parts. parts.contents ≡ replicate count []) }
@@ -194,7 +194,7 @@ impl<T: Translator, V: Drop, X: Part<T, V> + Drop> Parts<T, V, X> {
         }
     }
 
-    /// Where the slots took their memory.
+    /// Where the parts took their memory.
     #[inline]
     pub(super) fn alloc(&self) -> Global {
         *self.parts.allocator()

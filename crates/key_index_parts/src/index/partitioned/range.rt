@@ -17,7 +17,7 @@ use super::{PartitionRange, partition_index_and_sub_key};
 use key_index_flat::index::{Fault, IndexCursor, Refused, Runs, Search};
 use key_index_flat::translator::Translator;
 
-/// Some neighbouring partitions of an index, apart from it, with slots for these alone. Its parts are numbered from
+/// Some neighbouring partitions of an index, apart from it, with room for these alone. Its parts are numbered from
 /// 0, and its index keys are those of the index.
 #[derive(Drop)]
 pub struct Range<T: Translator, V: Drop, X: Held<T, V> + Drop, const P: usize> {

@@ -60,7 +60,7 @@ impl<T: Translator, V, X: Held<T, V>, const P: usize> Model for Storage<T, V, X,
 }
 
 impl<T: Translator, V: Drop, X: Part<T, V> + Drop, const P: usize> Storage<T, V, X, P> {
-    /// Takes the slots of so many parts at once, and answers `Memory` where that is refused.
+    /// Takes the room of so many parts at once, and answers `Memory` where that is refused.
     pub(super) fn new(
         alloc: Global,
         translator: T,
@@ -98,7 +98,7 @@ impl<T: Translator, V: Drop, X: Part<T, V> + Drop, const P: usize> Storage<T, V,
         }
     }
 
-    /// Another one with the same translator and threshold, over so many parts that hold nothing. Takes their slots at once.
+    /// Another one with the same translator and threshold, over so many parts that hold nothing. Takes their room at once.
     pub(super) fn new_range(&self, count: usize) -> Result<Storage<T, V, X, P>, Fault>
         requires { count ≤ partition_count P }
         ensures translator { IfOk result (λ s. s.translator ≡ self.now.translator) }

@@ -81,7 +81,7 @@ pub trait Partitioned: Unordered {
         ensures { IsTrue result
             ↔ IsFree Self.Key.cmp (λ k. nat_eq (partition k) number) (Self.view self.now).content };
 
-    /// A range of so many partitions from one on, with nothing in it. It takes slots for these alone.
+    /// A range of so many partitions from one on, with nothing in it. It takes room for these alone.
     fn new_range(&self, offset: usize, count: usize) -> Result<Self::Range, Fault>
         requires { offset + count ≤ partitions }
         ensures empty { IfOk result (λ r. (Self.Range.view r).content ≡ []) }

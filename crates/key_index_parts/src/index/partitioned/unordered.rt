@@ -254,7 +254,7 @@ impl<T: Translator, V: Drop, const P: usize> Factory for Index<T, V, P> {
 
     ghost makes = { (1 ≤ P) × (P ≤ 3) };
 
-    /// Takes the slots of all partitions at once, and answers `Memory` where that is refused.
+    /// Takes the room of all partitions at once, and answers `Memory` where that is refused.
     fn new(alloc: Global, translator: T) -> Result<Index<T, V, P>, Fault> {
         match Storage::new(alloc, translator, 1 << (8 * P), usize::MAX) {
             Ok(storage) => Ok(Index { storage }),

@@ -7,7 +7,7 @@ use Rattle.key_index.proofs.table.CandidatesIterator.next.Goals.{in-Some, in-Non
 pub invariant_of-self : goal.invariant_of-self
 invariant_of-self c =
     elim c.match-next.branch [
-      | in-Some w ↦ All-tail (λ i. i < length c.self.inside.positions.now) w.in-Some.slot c.next.new.self
+      | in-Some w ↦ All-tail (λ i. i < length c.self.inside.positions.now) w.in-Some.cell c.next.new.self
           (subst (λ l. All (λ i. i < length c.self.inside.positions.now) l) w.in-Some.ensures c.self.invariant)
       | in-None w ↦ subst (λ l. All (λ i. i < length c.self.inside.positions.now) l) (sym w.in-None.ensures.1) (All-nil _)
     ]

@@ -3,20 +3,20 @@ use Rattle.std.proofs.lemmas.List.{length-replicate}
 use Rattle.key_index.specs.Table.{is_full}
 use Rattle.key_index.proofs.tables.TableMaps.{full_le_used}
 use Rattle.key_index.proofs.table.Table.remake.Goals as goal
-use Rattle.key_index.proofs.table.Table.remake.Goals.{then-slots-self+in-Some, else-slots-self}
+use Rattle.key_index.proofs.table.Table.remake.Goals.{then-cells-self+in-Some, else-cells-self}
 
 pub returns-clause-room : goal.returns-clause-room
 returns-clause-room g c =
     let used = c.put_all.ensures.used ∙ ap (count_by is_full) c.deref.ensures.value in
-    let long : length c.put_all.new.new_controls.items ≡ c.if-slots-self.slots = c.put_all.ensures.long ∙ ap length c.in-Ok.ensures.0 ∙ length-replicate c.if-slots-self.slots 0 in
+    let long : length c.put_all.new.new_controls.items ≡ c.if-cells-self.cells = c.put_all.ensures.long ∙ ap length c.in-Ok.ensures.0 ∙ length-replicate c.if-cells-self.cells 0 in
     let count = c.self.invariant.counted in
     let room = c.self.invariant.room in
     let marked = c.self.invariant.marked in
     let fewer = full_le_used c.self.inside.controls.items in
-    let slots : c.len-slots.result ≡ length c.self.inside.controls.items = omega (arith, c.len-slots.ensures, c.self.inside.controls.ok) in
-    let enough : c.self.inside.len + 1 < c.if-slots-self.slots =
-    elim c.if-slots-self.branch [
-      | then-slots-self+in-Some w ↦ let more = w.in-Some.ensures.1 in omega (arith, fewer, more, w.slots-is, slots, room, marked, count)
-      | else-slots-self w ↦ omega (arith, w.slots-is, w.if-slots-self.false)
+    let cells : c.len-cells.result ≡ length c.self.inside.controls.items = omega (arith, c.len-cells.ensures, c.self.inside.controls.ok) in
+    let enough : c.self.inside.len + 1 < c.if-cells-self.cells =
+    elim c.if-cells-self.branch [
+      | then-cells-self+in-Some w ↦ let more = w.in-Some.ensures.1 in omega (arith, fewer, more, w.cells-is, cells, room, marked, count)
+      | else-cells-self w ↦ omega (arith, w.cells-is, w.if-cells-self.false)
     ] in
     omega (arith, used, long, count, enough)

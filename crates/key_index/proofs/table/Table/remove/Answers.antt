@@ -6,56 +6,56 @@ use Rattle.key_index.proofs.table.Table.remove.Goals as goal
 
 pub returns-in_default-clause-removed : goal.returns-in_default-clause-removed
 returns-in_default-clause-removed c =
-    let searched = rw (c.deref.ensures.value, c.deref-2.ensures.value) at c.slot_of.ensures in
+    let searched = rw (c.deref.ensures.value, c.deref-2.ensures.value) at c.cell_of.ensures in
     rw (← c.self.view_is)
     (find_contains (slice_index c.self.inside.positions.items) c.args.position (places c.self.inside.controls.items c.args.hash) _ (sym c.in_default.is ∙ searched))
 
 pub index_mut-requires : goal.index_mut-requires
 index_mut-requires c =
-    let searched = rw (c.deref.ensures.value, c.deref-2.ensures.value) at c.slot_of.ensures in
-    let found = find_is (slice_index c.self.inside.positions.items) c.args.position (places c.self.inside.controls.items c.args.hash) c.in-Some.slot (sym searched ∙ c.in-Some.is) in
-    let full : 2 ≤ slice_index c.self.inside.controls.items c.in-Some.slot = places_full c.self.inside.controls.items c.args.hash c.in-Some.slot found.1 in
-    let within = full_within c.self.inside.controls.items c.in-Some.slot full in
+    let searched = rw (c.deref.ensures.value, c.deref-2.ensures.value) at c.cell_of.ensures in
+    let found = find_is (slice_index c.self.inside.positions.items) c.args.position (places c.self.inside.controls.items c.args.hash) c.in-Some.cell (sym searched ∙ c.in-Some.is) in
+    let full : 2 ≤ slice_index c.self.inside.controls.items c.in-Some.cell = places_full c.self.inside.controls.items c.args.hash c.in-Some.cell found.1 in
+    let within = full_within c.self.inside.controls.items c.in-Some.cell full in
     omega (arith, within, c.self.inside.controls.ok)
 
 pub overflow_sub-self : goal.overflow_sub-self
 overflow_sub-self c =
-    let searched = rw (c.deref.ensures.value, c.deref-2.ensures.value) at c.slot_of.ensures in
-    let found = find_is (slice_index c.self.inside.positions.items) c.args.position (places c.self.inside.controls.items c.args.hash) c.in-Some.slot (sym searched ∙ c.in-Some.is) in
-    let full : 2 ≤ slice_index c.self.inside.controls.items c.in-Some.slot = places_full c.self.inside.controls.items c.args.hash c.in-Some.slot found.1 in
-    omega (arith, c.self.invariant.counted, full-removed c.self.inside.controls.items c.in-Some.slot full)
+    let searched = rw (c.deref.ensures.value, c.deref-2.ensures.value) at c.cell_of.ensures in
+    let found = find_is (slice_index c.self.inside.positions.items) c.args.position (places c.self.inside.controls.items c.args.hash) c.in-Some.cell (sym searched ∙ c.in-Some.is) in
+    let full : 2 ≤ slice_index c.self.inside.controls.items c.in-Some.cell = places_full c.self.inside.controls.items c.args.hash c.in-Some.cell found.1 in
+    omega (arith, c.self.invariant.counted, full-removed c.self.inside.controls.items c.in-Some.cell full)
 
 pub invariant_of-self-2 : goal.invariant_of-self-2
 invariant_of-self-2 c =
-    let searched = rw (c.deref.ensures.value, c.deref-2.ensures.value) at c.slot_of.ensures in
-    let found = find_is (slice_index c.self.inside.positions.items) c.args.position (places c.self.inside.controls.items c.args.hash) c.in-Some.slot (sym searched ∙ c.in-Some.is) in
-    let full : 2 ≤ slice_index c.self.inside.controls.items c.in-Some.slot = places_full c.self.inside.controls.items c.args.hash c.in-Some.slot found.1 in
-    let within = full_within c.self.inside.controls.items c.in-Some.slot full in
+    let searched = rw (c.deref.ensures.value, c.deref-2.ensures.value) at c.cell_of.ensures in
+    let found = find_is (slice_index c.self.inside.positions.items) c.args.position (places c.self.inside.controls.items c.args.hash) c.in-Some.cell (sym searched ∙ c.in-Some.is) in
+    let full : 2 ≤ slice_index c.self.inside.controls.items c.in-Some.cell = places_full c.self.inside.controls.items c.args.hash c.in-Some.cell found.1 in
+    let within = full_within c.self.inside.controls.items c.in-Some.cell full in
     let inv = c.self.invariant in
-    let same = length-set c.self.inside.controls.items c.in-Some.slot 1 in
+    let same = length-set c.self.inside.controls.items c.in-Some.cell 1 in
     record {
       sized = inv.sized ∙ sym same;
-      counted = omega (arith, inv.counted, full-removed c.self.inside.controls.items c.in-Some.slot full);
-      marked = inv.marked ∙ sym (used-put_used c.self.inside.controls.items c.in-Some.slot 1 within (omega arith) (omega arith));
+      counted = omega (arith, inv.counted, full-removed c.self.inside.controls.items c.in-Some.cell full);
+      marked = inv.marked ∙ sym (used-put_used c.self.inside.controls.items c.in-Some.cell 1 within (omega arith) (omega arith));
       room = omega (arith, inv.room, same);
     }
 
 pub returns-clause-removed : goal.returns-clause-removed
 returns-clause-removed c =
-    let searched = rw (c.deref.ensures.value, c.deref-2.ensures.value) at c.slot_of.ensures in
+    let searched = rw (c.deref.ensures.value, c.deref-2.ensures.value) at c.cell_of.ensures in
     rw (← c.self.view_is)
     (find_contains (slice_index c.self.inside.positions.items) c.args.position (places c.self.inside.controls.items c.args.hash) _ (sym c.in-Some.is ∙ searched))
 
 pub returns-clause-stored : goal.returns-clause-stored
 returns-clause-stored c = λ m s.
-    let searched = rw (c.deref.ensures.value, c.deref-2.ensures.value) at c.slot_of.ensures in
-    let found = find_is (slice_index c.self.inside.positions.items) c.args.position (places c.self.inside.controls.items c.args.hash) c.in-Some.slot (sym searched ∙ c.in-Some.is) in
-    let full : 2 ≤ slice_index c.self.inside.controls.items c.in-Some.slot = places_full c.self.inside.controls.items c.args.hash c.in-Some.slot found.1 in
-    removed_files c.self.inside.controls.items c.self.inside.positions.items c.in-Some.slot full m c.args.position found.0 (subst (λ t. Stored t m) (sym c.self.view_is) s)
+    let searched = rw (c.deref.ensures.value, c.deref-2.ensures.value) at c.cell_of.ensures in
+    let found = find_is (slice_index c.self.inside.positions.items) c.args.position (places c.self.inside.controls.items c.args.hash) c.in-Some.cell (sym searched ∙ c.in-Some.is) in
+    let full : 2 ≤ slice_index c.self.inside.controls.items c.in-Some.cell = places_full c.self.inside.controls.items c.args.hash c.in-Some.cell found.1 in
+    removed_files c.self.inside.controls.items c.self.inside.positions.items c.in-Some.cell full m c.args.position found.0 (subst (λ t. Stored t m) (sym c.self.view_is) s)
 
 pub returns-clause-count : goal.returns-clause-count
 returns-clause-count c =
-    let searched = rw (c.deref.ensures.value, c.deref-2.ensures.value) at c.slot_of.ensures in
-    let found = find_is (slice_index c.self.inside.positions.items) c.args.position (places c.self.inside.controls.items c.args.hash) c.in-Some.slot (sym searched ∙ c.in-Some.is) in
-    let full : 2 ≤ slice_index c.self.inside.controls.items c.in-Some.slot = places_full c.self.inside.controls.items c.args.hash c.in-Some.slot found.1 in
-    full-removed c.self.inside.controls.items c.in-Some.slot full ∙ ap position_count c.self.view_is
+    let searched = rw (c.deref.ensures.value, c.deref-2.ensures.value) at c.cell_of.ensures in
+    let found = find_is (slice_index c.self.inside.positions.items) c.args.position (places c.self.inside.controls.items c.args.hash) c.in-Some.cell (sym searched ∙ c.in-Some.is) in
+    let full : 2 ≤ slice_index c.self.inside.controls.items c.in-Some.cell = places_full c.self.inside.controls.items c.args.hash c.in-Some.cell found.1 in
+    full-removed c.self.inside.controls.items c.in-Some.cell full ∙ ap position_count c.self.view_is

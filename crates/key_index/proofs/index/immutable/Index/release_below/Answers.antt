@@ -11,6 +11,6 @@ loop-self-preserved g c =
     let on = c.if-not-release.false in
     let start = e.start on in
     record {
-      released = released_more c.args.self.now c.loop-self.self c.release.new.self c.loop-self.invariant.released e.translator (e.slot.0 on) start (e.slots on) (e.keys on) (e.pruned on) (e.removals on);
+      released = released_more c.args.self.now c.loop-self.self c.release.new.self c.loop-self.invariant.released e.translator (e.cell.0 on) start (e.cells on) (e.keys on) (e.pruned on) (e.removals on);
       below = let lt : c.loop-self.self.start < c.args.start = subst (λ t. t.start < c.args.start) c.self.view_is c.loop-self-test.true in omega (arith, lt, start);
     }

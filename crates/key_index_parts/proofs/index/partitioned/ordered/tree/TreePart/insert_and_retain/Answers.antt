@@ -5,7 +5,7 @@ use mir.Val.{bool_byte}
 use Rattle.key_index_flat.specs.Content.{IsLawful, item_count, list_at, with_list}
 use Rattle.key_index_parts.specs.Family.{RetainsWith}
 use Rattle.key_index_parts.specs.Pairs.{list_of}
-use Rattle.key_index_parts.proofs.standing.TreeLemmas.{held_list, no_list, over_same, held_some, edited, emptied, unchanged, lawful_after, left_held, few_held, retained, retained_alone, counted_after, had_within}
+use Rattle.key_index_parts.proofs.standing.TreeLemmas.{held_list, no_list, over_same, held_some, edited, emptied, unchanged, left_held, few_held, retained, retained_alone, had_within, put_back, left_out}
 use Rattle.key_index_parts.proofs.index.partitioned.ordered.tree.TreePart.insert_and_retain.Goals as goal
 use Rattle.key_index_parts.proofs.index.partitioned.ordered.tree.TreePart.insert_and_retain.Goals.{then-left-eq0+in-Some-1, then-left-eq0+in-None-1, else-left-eq0}
 
@@ -33,20 +33,13 @@ insert_first_and_retain-requires-clause-absent g c =
 
 pub invariant_of-self : goal.invariant_of-self
 invariant_of-self g c =
-    let o = g.met.T.Key.Ord.total in
-    let es = c.args.self.now.lists.entries in
-    let lawful = c.args.self.now.lawful in
+    let t = c.args.self.now in
     let old = c.in-Some.values.now in
-    let held = c.in-Some.ensures.value in
-    let list = ap (λ l. length l) (held_list g.T.Key.Ord.cmp c.args.key es old (sym held)) in
     let w = c.push.new.self in
-    let some : 0 < length w.items = omega (arith, held_some o c.args.key es lawful old held, c.push.ensures.lower_bound, old.ok.0, w.ok.0) in
-    let now = edited o c.args.key es lawful old held w (λ _. w.items) refl _ (c.get_mut.follows.holds w).0 some in
+    let some : 0 < length w.items = omega (arith, held_some g.met.T.Key.Ord.total c.args.key t.lists.entries t.lawful old c.in-Some.ensures.value, c.push.ensures.lower_bound, old.ok.0, w.ok.0) in
     let same = ap (λ l. length l) c.in-Err.ensures.items in
-    record {
-      counted = counted_after o c.args.key es lawful c.args.self.now.len _ c.args.self.now.counted refl _ w.items now c.args.self.now.len (omega (arith, list, same));
-      lawful = lawful_after o c.args.key es lawful _ _ now;
-    }
+    let after = put_back g.met.T.Key.Ord.total c.args.key t.lists.entries t.lawful old c.in-Some.ensures.value w t.len _ t.counted (omega (arith, same)) _ (c.get_mut.follows.holds w).0 some in
+    record { counted = after.0; lawful = after.1 }
 
 pub returns-in-Err-clause-refused : goal.returns-in-Err-clause-refused
 returns-in-Err-clause-refused g c =
@@ -83,39 +76,25 @@ overflow_add-self g c =
 
 pub invariant_of-self-then-left-eq0 : goal.invariant_of-self-then-left-eq0
 invariant_of-self-then-left-eq0 g c =
-    let o = g.met.T.Key.Ord.total in
-    let es = c.args.self.now.lists.entries in
-    let lawful = c.args.self.now.lawful in
+    let t = c.args.self.now in
     let old = c.in-Some.values.now in
-    let held = c.in-Some.ensures.value in
-    let list = ap (λ l. length l) (held_list g.T.Key.Ord.cmp c.args.key es old (sym held)) in
-    let v = c.retain_in_turn-stays.new.values in
-    let had = had_within o c.args.key es lawful c.args.self.now.len _ c.args.self.now.counted refl in
-    let none : length v.items ≡ 0 = omega (arith, c.if-left-eq0.true, c.len-left.ensures, v.ok.0) in
-    let now = emptied o c.args.key es lawful old held v (λ _. v.items) refl _ _ (c.get_mut.follows.holds v).0 c.remove.ensures.entries none in
-    record {
-      counted = counted_after o c.args.key es lawful c.args.self.now.len _ c.args.self.now.counted refl _ v.items now _
-          (omega (arith, list, had, c.len-had.ensures, c.len-left.ensures, old.ok.0, v.ok.0));
-      lawful = lawful_after o c.args.key es lawful _ _ now;
-    }
+    let w = c.retain_in_turn-stays.new.values in
+    let none : length w.items ≡ 0 = omega (arith, c.if-left-eq0.true, c.len-left.ensures, w.ok.0) in
+    let list = ap (λ l. length l) (held_list g.T.Key.Ord.cmp c.args.key t.lists.entries old (sym c.in-Some.ensures.value)) in
+    let had = had_within g.met.T.Key.Ord.total c.args.key t.lists.entries t.lawful t.len _ t.counted refl in
+    let after = left_out g.met.T.Key.Ord.total c.args.key t.lists.entries t.lawful old c.in-Some.ensures.value w t.len _ t.counted (omega (arith, list, had, c.len-had.ensures, c.len-left.ensures, old.ok.0, w.ok.0)) _ _ (c.get_mut.follows.holds w).0 c.remove.ensures.entries none in
+    record { counted = after.0; lawful = after.1 }
 
 pub invariant_of-self-else-left-eq0 : goal.invariant_of-self-else-left-eq0
 invariant_of-self-else-left-eq0 g c =
-    let o = g.met.T.Key.Ord.total in
-    let es = c.args.self.now.lists.entries in
-    let lawful = c.args.self.now.lawful in
+    let t = c.args.self.now in
     let old = c.in-Some.values.now in
-    let held = c.in-Some.ensures.value in
-    let list = ap (λ l. length l) (held_list g.T.Key.Ord.cmp c.args.key es old (sym held)) in
-    let v = c.retain_in_turn-stays.new.values in
-    let had = had_within o c.args.key es lawful c.args.self.now.len _ c.args.self.now.counted refl in
-    let some : 0 < length v.items = omega (arith, c.if-left-eq0.false, c.len-left.ensures, v.ok.0) in
-    let now = edited o c.args.key es lawful old held v (λ _. v.items) refl _ (c.get_mut.follows.holds v).0 some in
-    record {
-      counted = counted_after o c.args.key es lawful c.args.self.now.len _ c.args.self.now.counted refl _ v.items now _
-          (omega (arith, list, had, c.len-had.ensures, c.len-left.ensures, old.ok.0, v.ok.0));
-      lawful = lawful_after o c.args.key es lawful _ _ now;
-    }
+    let w = c.retain_in_turn-stays.new.values in
+    let some : 0 < length w.items = omega (arith, c.if-left-eq0.false, c.len-left.ensures, w.ok.0) in
+    let list = ap (λ l. length l) (held_list g.T.Key.Ord.cmp c.args.key t.lists.entries old (sym c.in-Some.ensures.value)) in
+    let had = had_within g.met.T.Key.Ord.total c.args.key t.lists.entries t.lawful t.len _ t.counted refl in
+    let after = put_back g.met.T.Key.Ord.total c.args.key t.lists.entries t.lawful old c.in-Some.ensures.value w t.len _ t.counted (omega (arith, list, had, c.len-had.ensures, c.len-left.ensures, old.ok.0, w.ok.0)) _ (c.get_mut.follows.holds w).0 some in
+    record { counted = after.0; lawful = after.1 }
 
 pub overflow_sub-taken : goal.overflow_sub-taken
 overflow_sub-taken g c =

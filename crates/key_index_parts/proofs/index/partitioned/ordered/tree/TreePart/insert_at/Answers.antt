@@ -4,7 +4,7 @@ use Rattle.std.specs.BTreeMap.{is_at}
 use Rattle.std.specs.Vec.{vec_len}
 use Rattle.key_index_flat.specs.Content.{IsLawful, item_count, list_at}
 use Rattle.key_index_parts.specs.Pairs.{list_of}
-use Rattle.key_index_parts.proofs.standing.TreeLemmas.{held_list, no_list, insert_alone, grown, first_put, present, absent, held_some, edited, unchanged, lawful_after, counted_after}
+use Rattle.key_index_parts.proofs.standing.TreeLemmas.{held_list, no_list, insert_alone, grown, first_put, present, absent, held_some, edited, unchanged, put_back}
 use Rattle.key_index_parts.proofs.index.partitioned.ordered.tree.TreePart.insert_at.Goals as goal
 
 pub insert-requires : goal.insert-requires
@@ -29,38 +29,25 @@ insert_first-requires-clause-absent g c =
 
 pub invariant_of-self : goal.invariant_of-self
 invariant_of-self g c =
-    let o = g.met.T.Key.Ord.total in
-    let es = c.args.self.now.lists.entries in
-    let lawful = c.args.self.now.lawful in
+    let t = c.args.self.now in
     let old = c.in-Some.values.now in
-    let held = c.in-Some.ensures.value in
     let w = c.insert.new.self in
-    let some : 0 < length w.items = omega (arith, held_some o c.args.key es lawful old held, grown (is_ok c.insert.result) (vec_len old) (vec_len w) c.insert.ensures.len, old.ok.0, w.ok.0) in
-    let now = edited o c.args.key es lawful old held w (λ _. w.items) refl _ (c.get_mut.follows.holds w).0 some in
-    let list = ap (λ l. length l) (held_list g.T.Key.Ord.cmp c.args.key es old (sym held)) in
+    let some : 0 < length w.items = omega (arith, held_some g.met.T.Key.Ord.total c.args.key t.lists.entries t.lawful old c.in-Some.ensures.value, grown (is_ok c.insert.result) (vec_len old) (vec_len w) c.insert.ensures.len, old.ok.0, w.ok.0) in
+    let list = ap (λ l. length l) (held_list g.T.Key.Ord.cmp c.args.key t.lists.entries old (sym c.in-Some.ensures.value)) in
     let more = ap (λ l. length l) c.in-Ok.ensures.items in
     let long = length-insert old.items c.args.place c.args.value (omega (arith, list, c.requires)) in
-    record {
-      counted = counted_after o c.args.key es lawful c.args.self.now.len _ c.args.self.now.counted refl _ w.items now _ (omega (arith, list, more, long));
-      lawful = lawful_after o c.args.key es lawful _ _ now;
-    }
+    let after = put_back g.met.T.Key.Ord.total c.args.key t.lists.entries t.lawful old c.in-Some.ensures.value w t.len _ t.counted (omega (arith, more, long)) _ (c.get_mut.follows.holds w).0 some in
+    record { counted = after.0; lawful = after.1 }
 
 pub invariant_of-self-in-Err-1 : goal.invariant_of-self-in-Err-1
 invariant_of-self-in-Err-1 g c =
-    let o = g.met.T.Key.Ord.total in
-    let es = c.args.self.now.lists.entries in
-    let lawful = c.args.self.now.lawful in
+    let t = c.args.self.now in
     let old = c.in-Some.values.now in
-    let held = c.in-Some.ensures.value in
     let w = c.insert.new.self in
-    let some : 0 < length w.items = omega (arith, held_some o c.args.key es lawful old held, grown (is_ok c.insert.result) (vec_len old) (vec_len w) c.insert.ensures.len, old.ok.0, w.ok.0) in
-    let now = edited o c.args.key es lawful old held w (λ _. w.items) refl _ (c.get_mut.follows.holds w).0 some in
-    let list = ap (λ l. length l) (held_list g.T.Key.Ord.cmp c.args.key es old (sym held)) in
+    let some : 0 < length w.items = omega (arith, held_some g.met.T.Key.Ord.total c.args.key t.lists.entries t.lawful old c.in-Some.ensures.value, grown (is_ok c.insert.result) (vec_len old) (vec_len w) c.insert.ensures.len, old.ok.0, w.ok.0) in
     let same = ap (λ l. length l) c.in-Err.ensures.items in
-    record {
-      counted = counted_after o c.args.key es lawful c.args.self.now.len _ c.args.self.now.counted refl _ w.items now c.args.self.now.len (omega (arith, list, same));
-      lawful = lawful_after o c.args.key es lawful _ _ now;
-    }
+    let after = put_back g.met.T.Key.Ord.total c.args.key t.lists.entries t.lawful old c.in-Some.ensures.value w t.len _ t.counted (omega (arith, same)) _ (c.get_mut.follows.holds w).0 some in
+    record { counted = after.0; lawful = after.1 }
 
 pub returns-in-Ok-clause-accepted : goal.returns-in-Ok-clause-accepted
 returns-in-Ok-clause-accepted g c =

@@ -2,7 +2,7 @@ use Rattle.std.proofs.Common.{◌≡◌, ◌<◌, length, map, remove, refl, ap,
 use Rattle.std.proofs.lemmas.Option.{slice_get_read}
 use Rattle.std.specs.List.{slice_get}
 use Rattle.key_index_parts.specs.Pairs.{list_of}
-use Rattle.key_index_parts.proofs.standing.TreeLemmas.{held_list, is_held, lent_at, edited, emptied, lawful_after, counted_after, had_within}
+use Rattle.key_index_parts.proofs.standing.TreeLemmas.{held_list, is_held, lent_at, edited, emptied, had_within, put_back, left_out}
 use Rattle.key_index_parts.proofs.index.partitioned.ordered.tree.TreePart.remove_at.Goals as goal
 use Rattle.key_index_parts.proofs.index.partitioned.ordered.tree.TreePart.remove_at.Goals.{then-left-eq0+in-Some-1, then-left-eq0+in-None-1, else-left-eq0}
 
@@ -27,39 +27,27 @@ overflow_sub-self g c =
 
 pub invariant_of-self : goal.invariant_of-self
 invariant_of-self g c =
-    let o = g.met.T.Key.Ord.total in
-    let es = c.args.self.now.lists.entries in
-    let lawful = c.args.self.now.lawful in
-    let values = c.unwrap-values.result in
-    let held = lent_at g.T.Key.Ord.cmp c.args.key es c.get_mut.result c.get_mut.ensures.value values c.unwrap-values.ensures in
+    let t = c.args.self.now in
+    let old = c.unwrap-values.result.now in
+    let held = lent_at g.T.Key.Ord.cmp c.args.key t.lists.entries c.get_mut.result c.get_mut.ensures.value c.unwrap-values.result c.unwrap-values.ensures in
     let w = c.remove-value.new.self in
-    let list = ap (λ l. length l) (held_list g.T.Key.Ord.cmp c.args.key es values.now (sym held)) in
-    let had = had_within o c.args.key es lawful c.args.self.now.len _ c.args.self.now.counted refl in
     let none : length w.items ≡ 0 = omega (arith, c.if-left-eq0.true, c.len-left.ensures, w.ok.0) in
-    let now = emptied o c.args.key es lawful values.now held w (λ _. w.items) refl _ _ (c.get_mut.follows.holds w).0 c.remove.ensures.entries none in
-    record {
-      counted = counted_after o c.args.key es lawful c.args.self.now.len _ c.args.self.now.counted refl _ w.items now _
-          (omega (arith, list, had, c.requires, c.remove-value.ensures.len, values.now.ok.0, w.ok.0));
-      lawful = lawful_after o c.args.key es lawful _ _ now;
-    }
+    let list = ap (λ l. length l) (held_list g.T.Key.Ord.cmp c.args.key t.lists.entries old (sym held)) in
+    let had = had_within g.met.T.Key.Ord.total c.args.key t.lists.entries t.lawful t.len _ t.counted refl in
+    let after = left_out g.met.T.Key.Ord.total c.args.key t.lists.entries t.lawful old held w t.len _ t.counted (omega (arith, list, had, c.requires, c.remove-value.ensures.len, old.ok.0, w.ok.0)) _ _ (c.get_mut.follows.holds w).0 c.remove.ensures.entries none in
+    record { counted = after.0; lawful = after.1 }
 
 pub invariant_of-self-else-left-eq0 : goal.invariant_of-self-else-left-eq0
 invariant_of-self-else-left-eq0 g c =
-    let o = g.met.T.Key.Ord.total in
-    let es = c.args.self.now.lists.entries in
-    let lawful = c.args.self.now.lawful in
-    let values = c.unwrap-values.result in
-    let held = lent_at g.T.Key.Ord.cmp c.args.key es c.get_mut.result c.get_mut.ensures.value values c.unwrap-values.ensures in
+    let t = c.args.self.now in
+    let old = c.unwrap-values.result.now in
+    let held = lent_at g.T.Key.Ord.cmp c.args.key t.lists.entries c.get_mut.result c.get_mut.ensures.value c.unwrap-values.result c.unwrap-values.ensures in
     let w = c.remove-value.new.self in
-    let list = ap (λ l. length l) (held_list g.T.Key.Ord.cmp c.args.key es values.now (sym held)) in
-    let had = had_within o c.args.key es lawful c.args.self.now.len _ c.args.self.now.counted refl in
     let some : 0 < length w.items = omega (arith, c.if-left-eq0.false, c.len-left.ensures, w.ok.0) in
-    let now = edited o c.args.key es lawful values.now held w (λ _. w.items) refl _ (c.get_mut.follows.holds w).0 some in
-    record {
-      counted = counted_after o c.args.key es lawful c.args.self.now.len _ c.args.self.now.counted refl _ w.items now _
-          (omega (arith, list, had, c.requires, c.remove-value.ensures.len, values.now.ok.0, w.ok.0));
-      lawful = lawful_after o c.args.key es lawful _ _ now;
-    }
+    let list = ap (λ l. length l) (held_list g.T.Key.Ord.cmp c.args.key t.lists.entries old (sym held)) in
+    let had = had_within g.met.T.Key.Ord.total c.args.key t.lists.entries t.lawful t.len _ t.counted refl in
+    let after = put_back g.met.T.Key.Ord.total c.args.key t.lists.entries t.lawful old held w t.len _ t.counted (omega (arith, list, had, c.requires, c.remove-value.ensures.len, old.ok.0, w.ok.0)) _ (c.get_mut.follows.holds w).0 some in
+    record { counted = after.0; lawful = after.1 }
 
 pub returns-clause-value : goal.returns-clause-value
 returns-clause-value g c =

@@ -5,7 +5,7 @@ use Rattle.key_index_flat.proofs.content.EditLemmas.{filtered_none}
 use Rattle.key_index_flat.specs.Content.{IsLawful, item_count}
 use Rattle.key_index_parts.specs.Pairs.{list_of}
 use Rattle.key_index_parts.proofs.family.PartLemmas.{kept_at_most}
-use Rattle.key_index_parts.proofs.standing.TreeLemmas.{held_list, no_list, left_absent, edited, emptied, lawful_after, counted_after, had_within}
+use Rattle.key_index_parts.proofs.standing.TreeLemmas.{held_list, no_list, left_absent, edited, emptied, had_within, put_back, left_out}
 use Rattle.key_index_parts.proofs.index.partitioned.ordered.tree.TreePart.retain.Goals as goal
 
 pub invariant_of-self : goal.invariant_of-self
@@ -41,39 +41,27 @@ overflow_sub-self-2 g c =
 
 pub invariant_of-self-then-left-eq0 : goal.invariant_of-self-then-left-eq0
 invariant_of-self-then-left-eq0 g c =
-    let o = g.met.T.Key.Ord.total in
-    let es = c.args.self.now.lists.entries in
-    let lawful = c.args.self.now.lawful in
+    let t = c.args.self.now in
     let old = c.in-Some.values.now in
-    let v = c.retain.new.self in
-    let list = ap (λ l. length l) (held_list g.T.Key.Ord.cmp c.args.key es old (sym c.in-Some.ensures.value)) in
-    let had = had_within o c.args.key es lawful c.args.self.now.len _ c.args.self.now.counted refl in
-    let few = kept_at_most (CalledAt g.F.FnMut) c.args.should_retain old.items v.items c.retain.ensures.filtered in
-    let none : length v.items ≡ 0 = omega (arith, c.if-left-eq0.true, c.len-left.ensures, v.ok.0) in
-    let now = emptied o c.args.key es lawful old c.in-Some.ensures.value v (λ _. v.items) refl _ _ (c.get_mut.follows.holds v).0 c.remove.ensures.entries none in
-    record {
-      counted = counted_after o c.args.key es lawful c.args.self.now.len _ c.args.self.now.counted refl _ v.items now _
-          (omega (arith, list, had, few, c.len-had.ensures, c.len-left.ensures, old.ok.0, v.ok.0));
-      lawful = lawful_after o c.args.key es lawful _ _ now;
-    }
+    let w = c.retain.new.self in
+    let none : length w.items ≡ 0 = omega (arith, c.if-left-eq0.true, c.len-left.ensures, w.ok.0) in
+    let list = ap (λ l. length l) (held_list g.T.Key.Ord.cmp c.args.key t.lists.entries old (sym c.in-Some.ensures.value)) in
+    let had = had_within g.met.T.Key.Ord.total c.args.key t.lists.entries t.lawful t.len _ t.counted refl in
+    let few = kept_at_most (CalledAt g.F.FnMut) c.args.should_retain old.items w.items c.retain.ensures.filtered in
+    let after = left_out g.met.T.Key.Ord.total c.args.key t.lists.entries t.lawful old c.in-Some.ensures.value w t.len _ t.counted (omega (arith, list, had, few, c.len-had.ensures, c.len-left.ensures, old.ok.0, w.ok.0)) _ _ (c.get_mut.follows.holds w).0 c.remove.ensures.entries none in
+    record { counted = after.0; lawful = after.1 }
 
 pub invariant_of-self-else-left-eq0 : goal.invariant_of-self-else-left-eq0
 invariant_of-self-else-left-eq0 g c =
-    let o = g.met.T.Key.Ord.total in
-    let es = c.args.self.now.lists.entries in
-    let lawful = c.args.self.now.lawful in
+    let t = c.args.self.now in
     let old = c.in-Some.values.now in
-    let v = c.retain.new.self in
-    let list = ap (λ l. length l) (held_list g.T.Key.Ord.cmp c.args.key es old (sym c.in-Some.ensures.value)) in
-    let had = had_within o c.args.key es lawful c.args.self.now.len _ c.args.self.now.counted refl in
-    let few = kept_at_most (CalledAt g.F.FnMut) c.args.should_retain old.items v.items c.retain.ensures.filtered in
-    let some : 0 < length v.items = omega (arith, c.if-left-eq0.false, c.len-left.ensures, v.ok.0) in
-    let now = edited o c.args.key es lawful old c.in-Some.ensures.value v (λ _. v.items) refl _ (c.get_mut.follows.holds v).0 some in
-    record {
-      counted = counted_after o c.args.key es lawful c.args.self.now.len _ c.args.self.now.counted refl _ v.items now _
-          (omega (arith, list, had, few, c.len-had.ensures, c.len-left.ensures, old.ok.0, v.ok.0));
-      lawful = lawful_after o c.args.key es lawful _ _ now;
-    }
+    let w = c.retain.new.self in
+    let some : 0 < length w.items = omega (arith, c.if-left-eq0.false, c.len-left.ensures, w.ok.0) in
+    let list = ap (λ l. length l) (held_list g.T.Key.Ord.cmp c.args.key t.lists.entries old (sym c.in-Some.ensures.value)) in
+    let had = had_within g.met.T.Key.Ord.total c.args.key t.lists.entries t.lawful t.len _ t.counted refl in
+    let few = kept_at_most (CalledAt g.F.FnMut) c.args.should_retain old.items w.items c.retain.ensures.filtered in
+    let after = put_back g.met.T.Key.Ord.total c.args.key t.lists.entries t.lawful old c.in-Some.ensures.value w t.len _ t.counted (omega (arith, list, had, few, c.len-had.ensures, c.len-left.ensures, old.ok.0, w.ok.0)) _ (c.get_mut.follows.holds w).0 some in
+    record { counted = after.0; lawful = after.1 }
 
 pub returns-then-left-eq0-clause-kept : goal.returns-then-left-eq0-clause-kept
 returns-then-left-eq0-clause-kept g c =

@@ -1,7 +1,7 @@
 use Rattle.std.proofs.Common.{◌<◌, length, slice_set, refl, ap, sym, arith}
 use Rattle.std.proofs.lemmas.List.{length-set}
 use Rattle.std.specs.Vec.{with_item}
-use Rattle.key_index_parts.proofs.standing.TreeLemmas.{held_list, is_held, lent_at, edited, held_some, lawful_after, counted_after}
+use Rattle.key_index_parts.proofs.standing.TreeLemmas.{held_list, is_held, lent_at, edited, held_some, put_back}
 use Rattle.key_index_parts.proofs.index.partitioned.ordered.tree.TreePart.set_at.Goals as goal
 
 pub unwrap-values-requires : goal.unwrap-values-requires
@@ -20,20 +20,14 @@ index_mut-requires g c =
 
 pub invariant_of-self : goal.invariant_of-self
 invariant_of-self g c =
-    let o = g.met.T.Key.Ord.total in
-    let es = c.args.self.now.lists.entries in
-    let lawful = c.args.self.now.lawful in
-    let values = c.unwrap-values.result in
-    let held = lent_at g.T.Key.Ord.cmp c.args.key es c.get_mut.result c.get_mut.ensures.value values c.unwrap-values.ensures in
-    let w = with_item values.now c.args.place c.args.value in
-    let some : 0 < length w.items = omega (arith, held_some o c.args.key es lawful values.now held, length-set values.now.items c.args.place c.args.value) in
-    let now = edited o c.args.key es lawful values.now held w (λ _. w.items) refl _ (c.get_mut.follows.holds w).0 some in
-    let list = ap (λ l. length l) (held_list g.T.Key.Ord.cmp c.args.key es values.now (sym held)) in
-    let same = length-set values.now.items c.args.place c.args.value in
-    record {
-      counted = counted_after o c.args.key es lawful c.args.self.now.len _ c.args.self.now.counted refl _ w.items now c.args.self.now.len (omega (arith, list, same));
-      lawful = lawful_after o c.args.key es lawful _ _ now;
-    }
+    let t = c.args.self.now in
+    let old = c.unwrap-values.result.now in
+    let held = lent_at g.T.Key.Ord.cmp c.args.key t.lists.entries c.get_mut.result c.get_mut.ensures.value c.unwrap-values.result c.unwrap-values.ensures in
+    let w = with_item old c.args.place c.args.value in
+    let some : 0 < length w.items = omega (arith, held_some g.met.T.Key.Ord.total c.args.key t.lists.entries t.lawful old held, length-set old.items c.args.place c.args.value) in
+    let same = length-set old.items c.args.place c.args.value in
+    let after = put_back g.met.T.Key.Ord.total c.args.key t.lists.entries t.lawful old held w t.len _ t.counted (omega (arith, same)) _ (c.get_mut.follows.holds w).0 some in
+    record { counted = after.0; lawful = after.1 }
 
 pub returns-clause-content : goal.returns-clause-content
 returns-clause-content g c =
