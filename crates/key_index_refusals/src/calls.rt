@@ -9,7 +9,7 @@ use std::io::Write;
 pub(crate) const TRIES: u32 = 2;
 
 /// A call by key, with what it takes.
-#[derive(Debug, Clone, Copy, PartialEq, Eq)]
+#[derive(Clone, Copy)]
 pub(crate) enum Call {
     Insert(u64),
     InsertAndRetain(u64, u64),

@@ -8,7 +8,7 @@ use std::alloc::Global;
 
 /// How a partition stands: whether it is spilled, how many of its values stand in arrays, how many spills the index had, and how many
 /// values it ever moved.
-#[derive(Debug, Clone, Copy, PartialEq, Eq)]
+#[derive(Clone, Copy, PartialEq)]
 pub(crate) struct Standing {
     pub(crate) spilled: bool,
     pub(crate) inline_len: usize,

@@ -137,17 +137,28 @@ pub(crate) fn install<I: Partitioned<Value = u64> + Drop, W: Write + Drop>(
     mut index: I,
 ) -> Result<(), Stop> {
     let mut kept = Kept::new(alloc)?;
+    let mut beside = Kept::new(alloc)?;
     let Some(mut range) = new_range(report, &index)? else {
         return Ok(());
     };
     for (at, value) in [(2, 1), (3, 2), (1, 3), (4, 4)] {
         fill(report, &mut range, &mut kept, at, value)?;
     }
-    let mut beside = Kept::new(alloc)?;
     if index.insert(key(5), 6).is_ok() {
         beside.push(5, 6)?;
         kept.push(5, 6)?;
     }
+    install_filled(report, &mut index, range, &mut kept, &beside)
+}
+
+/// `install_range`, made again where it was refused.
+fn install_filled<I: Partitioned<Value = u64>, W: Write + Drop>(
+    report: &mut Report<'_, W>,
+    index: &mut I,
+    mut range: I::Range,
+    kept: &mut Kept,
+    beside: &Kept,
+) -> Result<(), Stop> {
     for _ in 0..TRIES {
         if !index.can_install(&range) {
             return Err(Stop::Wrong("free partitions"));
@@ -155,13 +166,13 @@ pub(crate) fn install<I: Partitioned<Value = u64> + Drop, W: Write + Drop>(
         match index.install_range(range) {
             Ok(()) => {
                 report.tells("install_range", true)?;
-                return kept.are_in(&index);
+                return kept.are_in(index);
             }
             Err((back, fault)) => {
                 must(fault == Fault::Memory, "a refusal for memory")?;
                 report.tells("install_range", false)?;
-                beside.are_in(&index)?;
-                stands(&back, &mut kept, &beside)?;
+                beside.are_in(index)?;
+                stands(&back, kept, beside)?;
                 range = back;
             }
         }
@@ -286,6 +297,27 @@ fn came_to<I: Unordered<Value = u64>>(
     let [first, second, edit, other, retain, remove] = outcomes else {
         return Err(Stop::Wrong("one outcome for each command"));
     };
+    came_to_edit(&mut kept, first, second, edit)?;
+    if *other == Outcome::Done {
+        kept.push(4, 5)?;
+    }
+    must(
+        *retain == Outcome::Done || *retain == Outcome::Refused(Fault::Memory),
+        "`retain`",
+    )?;
+    if *remove == Outcome::Done {
+        kept.clear(4);
+    }
+    kept.are_in(index)
+}
+
+/// Those up to the edit.
+fn came_to_edit(
+    kept: &mut Kept,
+    first: &Outcome,
+    second: &Outcome,
+    edit: &Outcome,
+) -> Result<(), Stop> {
     if *first == Outcome::Done {
         kept.push(2, 3)?;
     }
@@ -300,17 +332,7 @@ fn came_to<I: Unordered<Value = u64>>(
             kept.insert(2, 1, 9)?;
         }
     }
-    if *other == Outcome::Done {
-        kept.push(4, 5)?;
-    }
-    must(
-        *retain == Outcome::Done || *retain == Outcome::Refused(Fault::Memory),
-        "`retain`",
-    )?;
-    if *remove == Outcome::Done {
-        kept.clear(4);
-    }
-    kept.are_in(index)
+    Ok(())
 }
 
 /// An index whose batches look ahead.

@@ -224,35 +224,54 @@ pub(crate) fn arrays<W: Write + Drop>(
     let mut partition = Partition::new(alloc);
     let mut wanted = Vec::with_capacity(alloc, 4)?;
     for value in 0..4 {
-        for _ in 0..TRIES {
-            let answer = add(&mut partition, 2, value);
-            report.tells("partition_insert_at", answer.is_ok())?;
-            match answer {
-                Ok(()) => {
-                    push(&mut wanted, value)?;
-                    holds(&partition, &[], wanted.as_slice())?;
-                    break;
-                }
-                Err(refused) => must(
-                    refused.value == value && refused.fault == Fault::Memory,
-                    "a refusal hands the value back",
-                )?,
-            }
-            holds(&partition, &[], wanted.as_slice())?;
-        }
+        grown(report, &mut partition, &mut wanted, value)?;
     }
+    reserved(report, &mut partition, wanted.as_slice())?;
+    drained(report, partition, wanted.as_slice())
+}
+
+/// A value is put in behind those of the key 2, made again where it was refused.
+fn grown<W: Write + Drop>(
+    report: &mut Report<'_, W>,
+    partition: &mut Partition<u16, u64>,
+    wanted: &mut Vec<u64>,
+    value: u64,
+) -> Result<(), Stop> {
+    for _ in 0..TRIES {
+        let answer = add(partition, 2, value);
+        report.tells("partition_insert_at", answer.is_ok())?;
+        match answer {
+            Ok(()) => {
+                push(wanted, value)?;
+                return holds(partition, &[], wanted.as_slice());
+            }
+            Err(refused) => must(
+                refused.value == value && refused.fault == Fault::Memory,
+                "a refusal hands the value back",
+            )?,
+        }
+        holds(partition, &[], wanted.as_slice())?;
+    }
+    Ok(())
+}
+
+/// Room for a hundred pairs, asked for again where it was refused.
+fn reserved<W: Write + Drop>(
+    report: &mut Report<'_, W>,
+    partition: &mut Partition<u16, u64>,
+    wanted: &[u64],
+) -> Result<(), Stop> {
     for _ in 0..TRIES {
         let room = partition.room();
         let answer = partition.reserve(100);
         report.tells("partition_reserve", answer.is_ok())?;
-        holds(&partition, &[], wanted.as_slice())?;
+        holds(partition, &[], wanted)?;
         if answer.is_ok() {
-            must(100 <= partition.room(), "room that was reserved")?;
-            break;
+            return must(100 <= partition.room(), "room that was reserved");
         }
         must(room == partition.room(), "the room behind a refusal")?;
     }
-    drained(report, partition, wanted.as_slice())
+    Ok(())
 }
 
 /// `drain_runs` of arrays with values of the key 2 alone.

@@ -6,7 +6,7 @@ use std::io::{self, BufWriter, Write};
 pub(crate) const USAGE: &str = "usage: key_index_refusals KIND STATE SEED";
 
 /// Why a run ends early.
-#[derive(Debug, Clone, Copy, PartialEq, Eq)]
+#[derive(Clone, Copy)]
 pub(crate) enum Stop {
     /// Something isn't as it has to be.
     Wrong(&'static str),

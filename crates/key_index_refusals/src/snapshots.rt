@@ -161,37 +161,56 @@ pub(crate) fn called<I: Unordered<Value = u64>, W: Write + Drop>(
     let mut kept = Kept::new(alloc)?;
     for value in 1..4 {
         for _ in 0..TRIES {
-            let answer = add(index, key(2), value);
-            report.tells("add", answer.is_ok())?;
-            match answer {
-                Ok(items) => {
-                    let place = if I::INSERT_FIRST {
-                        0
-                    } else {
-                        kept.list(2).len()
-                    };
-                    kept.insert(2, place, value)?;
-                    must(items == kept.list(2).len(), "how many values there are")?;
-                    kept.are_in(index)?;
-                    break;
-                }
-                Err(refused) => must(refused.value == value, "a refusal hands the value back")?,
+            if added(report, index, &mut kept, value)? {
+                break;
             }
-            kept.are_in(index)?;
         }
     }
-    match replace_first(index, key(2), 9) {
+    replaced(report, index, &mut kept)
+}
+
+/// `add`: whether it is accepted.
+fn added<I: Unordered<Value = u64>, W: Write + Drop>(
+    report: &mut Report<'_, W>,
+    index: &mut I,
+    kept: &mut Kept,
+    value: u64,
+) -> Result<bool, Stop> {
+    let answer = add(index, key(2), value);
+    report.tells("add", answer.is_ok())?;
+    let accepted = answer.is_ok();
+    match answer {
+        Ok(items) => {
+            let place = if I::INSERT_FIRST {
+                0
+            } else {
+                kept.list(2).len()
+            };
+            kept.insert(2, place, value)?;
+            must(items == kept.list(2).len(), "how many values there are")?;
+        }
+        Err(refused) => must(refused.value == value, "a refusal hands the value back")?,
+    }
+    kept.are_in(index)?;
+    Ok(accepted)
+}
+
+/// `replace_first`, which sets the first value of a key that has one.
+fn replaced<I: Unordered<Value = u64>, W: Write + Drop>(
+    report: &mut Report<'_, W>,
+    index: &mut I,
+    kept: &mut Kept,
+) -> Result<(), Stop> {
+    let answer = replace_first(index, key(2), 9);
+    report.tells("replace_first", answer.is_ok())?;
+    match answer {
         Ok(had) => {
             must(had == !kept.list(2).is_empty(), "whether a key had a value")?;
-            report.tells("replace_first", true)?;
             if had {
                 kept.set(2, 0, 9)?;
             }
         }
-        Err(fault) => {
-            must(fault == Fault::Memory, "a refusal for memory")?;
-            report.tells("replace_first", false)?;
-        }
+        Err(fault) => must(fault == Fault::Memory, "a refusal for memory")?,
     }
     kept.are_in(index)
 }
