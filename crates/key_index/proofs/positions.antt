@@ -1,5 +1,4 @@
 pub mod ImmutableLemmas
-pub mod KeptLemmas
 pub mod MarkLemmas
 pub mod PositionLemmas
 pub mod PruneLemmas

@@ -32,7 +32,7 @@ use Rattle.key_index_builds.specs.declared.op.Op.{Op}
 use Rattle.key_index_builds.specs.declared.op.Op.TheVariants as op
 use Rattle.key_index_flat.specs.declared.index.command.Step.TheVariants as step
 use Rattle.key_index_builds.proofs.OpLemmas.{IsLawful-after_op}
-use Rattle.key_index.proofs.positions.KeptLemmas.{set_after, none_distinct, empty_kept}
+use Rattle.key_index.proofs.snapshots.KeptLemmas.{set_after, none_distinct, empty_kept}
 use Rattle.key_index.proofs.snapshots.RecordLemmas.{same, swapped, not_both, head_apart, none_apart}
 use Rattle.key_index.proofs.snapshots.SnapshotLemmas.{exact_bytes, get-positions_in}
 use Rattle.key_index.specs.Snapshot.{IsKept, IsOpOf, entries_of, key_of, positions_in, positions_of, position_in}

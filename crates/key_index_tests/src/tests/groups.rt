@@ -141,7 +141,9 @@ where
         Group::Batches => {
             batches::by_place_in_partitions(rt, alloc, &mut fresh::<K, u64>(rt, alloc, kind))
         }
-        Group::ShortKeys => extremes::short_keys(rt, &mut fresh::<K, u64>(rt, alloc, kind)),
+        Group::ShortKeys => {
+            extremes::short_keys(rt, &mut fresh::<K, u64>(rt, alloc, kind), &[4, 3, 2, 1])
+        }
         Group::WorkedRanges => worked_ranges(rt, alloc, kind),
         Group::Ranges(builds) => ranges_beside(rt, alloc, kind, builds),
         _ => on(rt, alloc, kind, group),

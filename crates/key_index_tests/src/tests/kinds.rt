@@ -162,7 +162,7 @@ impl<V: Drop> Kind<V> for PunorderedByTwo {
     }
 }
 
-/// The partitioned ordered index, by one byte and then one more, whose partitions spill at so many values.
+/// The partitioned ordered index, by one byte and then one more, whose partitions spill at 512 values, or at the first or second one.
 pub(super) enum Pordered {
     AtDefault,
     AtOne,

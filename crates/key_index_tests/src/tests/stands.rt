@@ -43,7 +43,9 @@ pub(super) trait StandsWhole: Stands + Drop {
 impl StandsWhole for Small {
     fn spilling_at(rt: &impl Abort, alloc: Global, threshold: usize) -> Small {
         assert!(rt; threshold > 0);
-        Index::with_threshold(alloc, OneCap, threshold).expect(rt, "an index")
+        let index = Index::with_threshold(alloc, OneCap, threshold).expect(rt, "an index");
+        assert_eq!(rt; index.threshold(), threshold);
+        index
     }
 
     fn spilled_count(&self) -> usize {
@@ -73,7 +75,9 @@ impl Stands for Small {
 impl StandsWhole for Wide {
     fn spilling_at(rt: &impl Abort, alloc: Global, threshold: usize) -> Wide {
         assert!(rt; threshold > 0);
-        Index::with_threshold(alloc, TwoCap, threshold).expect(rt, "an index")
+        let index = Index::with_threshold(alloc, TwoCap, threshold).expect(rt, "an index");
+        assert_eq!(rt; index.threshold(), threshold);
+        index
     }
 
     fn spilled_count(&self) -> usize {

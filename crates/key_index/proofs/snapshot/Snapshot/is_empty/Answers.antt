@@ -1,4 +1,4 @@
-use Rattle.key_index.proofs.positions.KeptLemmas.{no_keys}
+use Rattle.key_index.proofs.snapshots.KeptLemmas.{no_keys}
 use Rattle.key_index.proofs.snapshot.Snapshot.is_empty.Goals as goal
 
 pub returns : goal.returns

@@ -1,5 +1,5 @@
 use Rattle.std.proofs.Common.{sym, ◌∙◌}
-use Rattle.key_index.proofs.positions.KeptLemmas.{len_told}
+use Rattle.key_index.proofs.snapshots.KeptLemmas.{len_told}
 use Rattle.key_index.proofs.snapshot.Snapshot.len.Goals as goal
 
 pub returns : goal.returns

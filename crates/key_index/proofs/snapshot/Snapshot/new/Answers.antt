@@ -1,4 +1,4 @@
-use Rattle.key_index.proofs.positions.KeptLemmas.{empty_kept}
+use Rattle.key_index.proofs.snapshots.KeptLemmas.{empty_kept}
 use Rattle.key_index.proofs.snapshot.Snapshot.new.Goals as goal
 
 pub invariant_of-result : goal.invariant_of-result

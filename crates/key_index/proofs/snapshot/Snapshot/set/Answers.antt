@@ -5,7 +5,7 @@ use Rattle.std.specs.FinMap.{get, insert, len}
 use Rattle.std.specs.Option.{option_map}
 use Rattle.key_index_flat.specs.View.{items_in, run_at, run_of, with_edit}
 use Rattle.key_index.specs.Snapshot.{key_of, position_in}
-use Rattle.key_index.proofs.positions.KeptLemmas.{growth_memory, held_told, len_told, put_held, put_new}
+use Rattle.key_index.proofs.snapshots.KeptLemmas.{growth_memory, held_told, len_told, put_held, put_new}
 use Rattle.key_index.proofs.snapshots.SnapshotLemmas.{is_none, place_within}
 use Rattle.key_index.proofs.snapshot.Snapshot.set.Goals as goal
 

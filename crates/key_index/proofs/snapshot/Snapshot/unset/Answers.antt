@@ -4,7 +4,7 @@ use Rattle.std.specs.FinMap.{get, remove}
 use Rattle.std.specs.Str.{bytes_eq}
 use Rattle.key_index_flat.specs.View.{run_of}
 use Rattle.key_index.specs.Snapshot.{key_of}
-use Rattle.key_index.proofs.positions.KeptLemmas.{taken_out, fewer_items}
+use Rattle.key_index.proofs.snapshots.KeptLemmas.{taken_out, fewer_items}
 use Rattle.key_index.proofs.snapshot.Snapshot.unset.Goals as goal
 
 pub invariant_of-self-2 : goal.invariant_of-self-2
