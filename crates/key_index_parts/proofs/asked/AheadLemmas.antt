@@ -1,4 +1,4 @@
--- Lists that wait, each in the slot of its number, and the events of a batch that looks ahead, one after another.
+-- Lists that wait, each in the cell of its number, and the events of a batch that looks ahead, one after another.
 use Rattle.std.proofs.Common.{◌≡◌, ℕ, zero, suc, ◌+◌, ◌<◌, ◌≤◌, ◌%◌, List, [], ◌∷◌, ◌++◌, length, map, take, drop, Option, Some, None, slice_get, slice_set, slice_index_or, refl, sym, ap, subst, ◌∙◌, inl, inr, arith, append_assoc}
 use Rattle.std.proofs.lemmas.Bool.{cases_eq}
 use Rattle.std.proofs.lemmas.Grind.{get_or-set_at}
@@ -23,27 +23,27 @@ get_dropped (suc n) [] = refl
 get_dropped (suc n) (x ∷ l) = get_dropped n l
 
 module _ {K V : Type 0} (run : K → List V) (probes : List (K × ℕ)) where
-  -- the lists of the probes of these numbers wait, each in its slot
+  -- the lists of the probes of these numbers wait, each in its cell
   abbrev pub Waits : List (Option (List V)) → ℕ → ℕ → Type 0
-  Waits slots from to = (i : ℕ) (p : K × ℕ) → from ≤ i → i < to → slice_get probes i ≡ Some p → slice_index_or slots (i % 4) None ≡ Some (run p.0)
+  Waits cells from to = (i : ℕ) (p : K × ℕ) → from ≤ i → i < to → slice_get probes i ≡ Some p → slice_index_or cells (i % 4) None ≡ Some (run p.0)
 
-  -- the one of the next number is put into a slot that none of them needs
-  pub waits_next : (slots : List (Option (List V))) (found : Option (List V)) (from to slot : ℕ) → length slots ≡ 4 → to < from + 4 → slot ≡ to % 4
-      → found ≡ option_map (λ p. run p.0) (slice_get (drop to probes) 0) → Waits slots from to → Waits (slice_set slots slot found) from (to + 1)
-  waits_next slots found from to slot size near at is waits i p low below here =
-      elim (cases_eq i to) as (λ _. slice_index_or (slice_set slots slot found) (i % 4) None ≡ Some (run p.0)) [
-        | inl same ↦ get_or-set_at slots slot (i % 4) found None (omega arith) (omega arith) ∙ is
+  -- the one of the next number is put into a cell that none of them needs
+  pub waits_next : (cells : List (Option (List V))) (found : Option (List V)) (from to cell : ℕ) → length cells ≡ 4 → to < from + 4 → cell ≡ to % 4
+      → found ≡ option_map (λ p. run p.0) (slice_get (drop to probes) 0) → Waits cells from to → Waits (slice_set cells cell found) from (to + 1)
+  waits_next cells found from to cell size near at is waits i p low below here =
+      elim (cases_eq i to) as (λ _. slice_index_or (slice_set cells cell found) (i % 4) None ≡ Some (run p.0)) [
+        | inl same ↦ get_or-set_at cells cell (i % 4) found None (omega arith) (omega arith) ∙ is
             ∙ ap (λ o. option_map (λ p. run p.0) o) (get_dropped to probes ∙ ap (λ n. slice_get probes n) (sym same) ∙ here)
-        | inr other ↦ get_or-set_other slots slot (i % 4) found None (λ (e : i % 4 ≡ slot). omega arith) ∙ waits i p low (omega arith) here
+        | inr other ↦ get_or-set_other cells cell (i % 4) found None (λ (e : i % 4 ≡ cell). omega arith) ∙ waits i p low (omega arith) here
       ]
 
   -- and then the first of them isn't needed
-  pub waits_turn : (slots : List (Option (List V))) (found : Option (List V)) (n : ℕ) → length slots ≡ 4 → found ≡ option_map (λ p. run p.0) (slice_get (drop (n + 4) probes) 0)
-      → Waits slots n (n + 4) → Waits (slice_set slots (n % 4) found) (n + 1) (n + 1 + 4)
-  waits_turn slots found n size is waits =
+  pub waits_turn : (cells : List (Option (List V))) (found : Option (List V)) (n : ℕ) → length cells ≡ 4 → found ≡ option_map (λ p. run p.0) (slice_get (drop (n + 4) probes) 0)
+      → Waits cells n (n + 4) → Waits (slice_set cells (n % 4) found) (n + 1) (n + 1 + 4)
+  waits_turn cells found n size is waits =
       let more : n + 4 + 1 ≡ n + 1 + 4 = omega arith in
-      subst (λ m. Waits (slice_set slots (n % 4) found) (n + 1) m) more
-      (waits_next slots found (n + 1) (n + 4) (n % 4) size (omega arith) (omega arith) is (λ i p low below here. waits i p (omega arith) below here))
+      subst (λ m. Waits (slice_set cells (n % 4) found) (n + 1) m) more
+      (waits_next cells found (n + 1) (n + 4) (n % 4) size (omega arith) (omega arith) is (λ i p low below here. waits i p (omega arith) below here))
 
   module _ {F : Type 0} (R : F → Event V → F → Type 0) where
     -- one finding more, before the first visit

@@ -46,7 +46,7 @@ fn find_next<'a, I: Lists, F: FnMut(Ahead<'a, I::Value>)>(
     Some(values)
 }
 
-/// Takes out the list that waits in the slot of a number, and finds the next one into that slot.
+/// Takes out the list that waits in the cell of a number, and finds the next one into that cell.
 fn take_waiting<'a, I: Lists, F: FnMut(Ahead<'a, I::Value>)>(
     index: &'a I,
     later: &mut slice::Iter<'_, (I::Key, usize)>,
@@ -80,7 +80,7 @@ fn visit<'a, V, F: FnMut(Ahead<'a, V>)>(place: usize, values: Values<'a, V>, on:
 }
 
 /// Visits the values at each index key, in their order, with the place that stands beside it, and keeps the lists of the next four found
-/// ahead: each waits in the slot of its number, and the next one takes that slot before the values are visited.
+/// ahead: each waits in the cell of its number, and the next one takes that cell before the values are visited.
 fn look_ahead<'a, I: Lists, F: FnMut(Ahead<'a, I::Value>)>(
     index: &'a I,
     probes: &[(I::Key, usize)],
@@ -93,8 +93,8 @@ fn look_ahead<'a, I: Lists, F: FnMut(Ahead<'a, I::Value>)>(
 {
     let mut later = probes.iter();
     let mut waiting: [Option<Values<'a, I::Value>>; AHEAD] = [None, None, None, None];
-    for slot in 0..AHEAD {
-        waiting[slot] = find_next(index, &mut later, on);
+    for cell in 0..AHEAD {
+        waiting[cell] = find_next(index, &mut later, on);
     }
     for (number, probe) in probes.iter().enumerate() {
         if let Some(values) = take_waiting(index, &mut later, &mut waiting, number, on) {

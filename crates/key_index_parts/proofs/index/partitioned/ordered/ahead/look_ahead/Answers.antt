@@ -12,33 +12,33 @@ use Rattle.key_index_parts.proofs.asked.AheadLemmas.{Waits, waits_next, waits_tu
 use Rattle.key_index_parts.proofs.index.partitioned.ordered.ahead.look_ahead.Goals as goal
 use Rattle.key_index_parts.proofs.index.partitioned.ordered.ahead.look_ahead.Goals.{in-Some, in_default}
 
-pub loop-slot-preserved : goal.loop-slot-preserved
-loop-slot-preserved g c =
+pub loop-cell-preserved : goal.loop-cell-preserved
+loop-cell-preserved g c =
     let run = run_at g.I.Key.Ord.cmp (g.I.Runs.view c.args.index.now) in
     let probes = c.args.probes.now in
-    let i = c.loop-slot.invariant in
-    let slot = c.loop-slot.slot in
-    let within = c.loop-slot-test.true in (
+    let i = c.loop-cell.invariant in
+    let cell = c.loop-cell.cell in
+    let within = c.loop-cell-test.true in (
       c.find_next.ensures.callable,
-      length-set c.loop-slot.waiting slot c.find_next.result ∙ i.1,
-      c.find_next.ensures.later ∙ ap (λ l. drop 1 l) i.2 ∙ drop-drop 1 slot probes,
-      waits_next run probes c.loop-slot.waiting c.find_next.result 0 slot slot i.1 (omega arith) (omega arith)
+      length-set c.loop-cell.waiting cell c.find_next.result ∙ i.1,
+      c.find_next.ensures.later ∙ ap (λ l. drop 1 l) i.2 ∙ drop-drop 1 cell probes,
+      waits_next run probes c.loop-cell.waiting c.find_next.result 0 cell cell i.1 (omega arith) (omega arith)
           (c.find_next.ensures.found ∙ ap (λ l. option_map (λ p. run p.0) (slice_get l 0)) i.2) i.3,
-      folds_found run probes (TellsAt g.F.FnMut) _ c.loop-slot.on _ slot _ i.2 i.4 c.find_next.ensures.told,
+      folds_found run probes (TellsAt g.F.FnMut) _ c.loop-cell.on _ cell _ i.2 i.4 c.find_next.ensures.told,
     )
 
 pub loop-number-init : goal.loop-number-init
 loop-number-init g c =
     let run = run_at g.I.Key.Ord.cmp (g.I.Runs.view c.args.index.now) in
     let probes = c.args.probes.now in
-    let i = c.loop-slot.invariant in
-    let full : c.loop-slot.slot ≡ 4 = omega arith in (
+    let i = c.loop-cell.invariant in
+    let full : c.loop-cell.cell ≡ 4 = omega arith in (
       i.0,
       i.1,
       i.2 ∙ ap (λ n. drop n probes) full,
-      subst (λ n. Waits run probes c.loop-slot.waiting 0 n) full i.3,
-      λ last h. folds_append (TellsAt g.F.FnMut) c.args.on.now c.loop-slot.on last (map (found_at run) (take 4 probes)) (events_from run (drop 4 probes) probes)
-          (subst (λ n. FoldsTo (TellsAt g.F.FnMut) c.args.on.now (map (found_at run) (take n probes)) c.loop-slot.on) full i.4) h,
+      subst (λ n. Waits run probes c.loop-cell.waiting 0 n) full i.3,
+      λ last h. folds_append (TellsAt g.F.FnMut) c.args.on.now c.loop-cell.on last (map (found_at run) (take 4 probes)) (events_from run (drop 4 probes) probes)
+          (subst (λ n. FoldsTo (TellsAt g.F.FnMut) c.args.on.now (map (found_at run) (take n probes)) c.loop-cell.on) full i.4) h,
     )
 
 pub loop-number-preserved : goal.loop-number-preserved
@@ -70,7 +70,7 @@ loop-number-preserved g c =
       told.0,
       ap (λ l. length l) refilled ∙ length-set waiting (n % 4) put ∙ i.1,
       c.take_waiting.ensures.later ∙ ap (λ l. drop 1 l) i.2 ∙ drop-drop 1 (n + 4) probes ∙ ap (λ m. drop m probes) more,
-      subst (λ slots. Waits run probes slots (n + 1) (n + 1 + 4)) (sym refilled) (waits_turn run probes waiting put n i.1 refl i.3),
+      subst (λ cells. Waits run probes cells (n + 1) (n + 1 + 4)) (sym refilled) (waits_turn run probes waiting put n i.1 refl i.3),
       λ last h. i.4 last (folds_step run probes tells c.loop-number.on mid c.match-take_waiting.on last n probe within c.index-probes-number.is
           (subst (λ l. FoldsTo tells c.loop-number.on (map (found_at run) (take 1 l)) mid) i.2 c.take_waiting.ensures.told) told.1 h),
     )

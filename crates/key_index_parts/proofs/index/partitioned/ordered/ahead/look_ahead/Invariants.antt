@@ -7,14 +7,14 @@ use Rattle.key_index_parts.specs.Ahead.{TellsAt, events_from, events_of, found_a
 use Rattle.key_index_parts.proofs.asked.AheadLemmas.{Waits}
 use Rattle.key_index_parts.proofs.index.partitioned.ordered.ahead.look_ahead.Given as goal
 
-abbrev pub invariant-loop-slot : goal.invariant-loop-slot
-invariant-loop-slot g l =
+abbrev pub invariant-loop-cell : goal.invariant-loop-cell
+invariant-loop-cell g l =
     let run = run_at g.I.Key.Ord.cmp (g.I.Runs.view l.index) in
     always_mut g.F.FnMut l.on
     × (length l.waiting ≡ 4)
-    × (iter_rest l.later ≡ drop l.slot l.probes)
-    × Waits run l.probes l.waiting 0 l.slot
-    × FoldsTo (TellsAt g.F.FnMut) l.fn.on (map (found_at run) (take l.slot l.probes)) l.on
+    × (iter_rest l.later ≡ drop l.cell l.probes)
+    × Waits run l.probes l.waiting 0 l.cell
+    × FoldsTo (TellsAt g.F.FnMut) l.fn.on (map (found_at run) (take l.cell l.probes)) l.on
 
 abbrev pub invariant-loop-number : goal.invariant-loop-number
 invariant-loop-number g l =
