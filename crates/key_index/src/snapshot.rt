@@ -7,7 +7,7 @@ ghost use Rattle.std.specs.Ordering.{eq_by_cmp};
 ghost use Rattle.std.specs.Result.{IsErrOf};
 ghost use Rattle.std.specs.Str.{bytes_eq};
 ghost use Rattle.key_index_builds.specs.Ops.{IsCuts, after_ops};
-ghost use Rattle.key_index_flat.specs.FullKeys.{IsBytes, byte_cmp};
+ghost use Rattle.key_index_flat.specs.FullKeys.{IsBytes};
 ghost use Rattle.key_index.specs.Snapshot.{Positions, key_of, positions_of, next_position, prev_position, positions_in, IsKept, position_in, entries_of, IsOpOf};
 
 mod record;

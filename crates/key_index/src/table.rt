@@ -1,5 +1,5 @@
 //! A table of positions, found by the hashes that they are stored under.
-ghost use Rattle.std.specs.Prelude.{◌≡◌, ◌≢◌, ◌⊎◌, ℕ, ◌+◌, ◌-◌, ◌*◌, ◌^◌, ◌<◌, ◌≤◌, ◌==◌, ◌↔◌, Option, Some, None, IsTrue, OnOk, OnErr, IfOk, IfErr, IfSome, MatchOption, List, [], ◌∷◌, ◌++◌, length, map, min, slice_index, count_by, replicate, nat_lt};
+ghost use Rattle.std.specs.Prelude.{◌≡◌, ℕ, ◌+◌, ◌-◌, ◌*◌, ◌^◌, ◌<◌, ◌≤◌, ◌==◌, ◌↔◌, Option, Some, None, IsTrue, OnOk, OnErr, IfOk, IfErr, IfSome, MatchOption, List, [], ◌∷◌, ◌++◌, length, map, min, slice_index, count_by, replicate, nat_lt};
 ghost use Rattle.std.specs.Bool.{OnTrue, OnFalse};
 ghost use Rattle.std.specs.Iterator.{YieldsFirst, item_count};
 ghost use Rattle.std.specs.List.{All, Contains, find, range_with_len};

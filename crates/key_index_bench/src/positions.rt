@@ -1,5 +1,5 @@
 //! The operations of the immutable index.
-ghost use Rattle.std.specs.Prelude.{◌≡◌, ◌+◌, ◌≤◌, IfOk};
+ghost use Rattle.std.specs.Prelude.{◌≡◌, ◌+◌};
 ghost use Rattle.key_index.specs.Immutable.{end_of};
 
 use crate::flat::Failure;

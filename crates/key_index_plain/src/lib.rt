@@ -2,7 +2,7 @@
 //! and it is the shortest index to read.
 #![tactic(auto)]
 
-ghost use Rattle.std.specs.Prelude.{◌≡◌, ◌<◌, ◌^◌, [], true, false, refl, IsOk, IfOk, IfErr};
+ghost use Rattle.std.specs.Prelude.{◌≡◌, ◌<◌, ◌^◌, [], true, refl, IsOk, IfOk, IfErr};
 ghost use Rattle.key_index_flat.specs.Content.{IsLawful, list_at, item_count};
 ghost use Rattle.key_index_plain.specs.Entries.{listed, content_of};
 ghost use Rattle.key_index_plain.specs.Laws.{IsLawful-content_of};

@@ -1,5 +1,4 @@
 //! Ranges, builds, commands and batches that look ahead.
-ghost use Rattle.std.specs.Prelude.{IsTrue};
 
 use crate::calls::TRIES;
 use crate::kept::{KEYS, Kept, key, push};

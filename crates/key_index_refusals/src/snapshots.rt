@@ -1,5 +1,4 @@
 //! Snapshots, and callers of an index.
-ghost use Rattle.std.specs.Prelude.{◌≡◌, []};
 
 use crate::calls::TRIES;
 use crate::kept::{KEYS, Kept, key, push};

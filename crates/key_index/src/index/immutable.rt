@@ -1,6 +1,6 @@
 //! An index for keys that are set once at rising positions, and retired only by position.
 
-ghost use Rattle.std.specs.Prelude.{◌≡◌, ◌≢◌, ◌↔◌, ℕ, ◌+◌, ◌-◌, ◌^◌, ◌<◌, ◌≤◌, [], length, drop, min, max, Some, None, true, false, is_some, nat_le, slice_get, IsSome, IsTrue, IfOk, IfErr, OnOk, OnErr, if◌then◌else◌};
+ghost use Rattle.std.specs.Prelude.{◌≡◌, ◌≢◌, ◌↔◌, ℕ, ◌+◌, ◌-◌, ◌^◌, ◌<◌, ◌≤◌, length, drop, min, max, Some, None, true, false, is_some, nat_le, slice_get, IsSome, IsTrue, IfOk, IfErr, OnOk, OnErr, if◌then◌else◌};
 ghost use Rattle.std.specs.Iterator.{YieldsFirst, item_count};
 ghost use Rattle.std.specs.Result.{IsErrOf};
 ghost use Rattle.std.specs.VecDeque.{deque_capacity};

@@ -1,11 +1,11 @@
 //! What a flat index keeps, over any map of newest values.
-ghost use Rattle.std.specs.Prelude.{◌≡◌, ◌+◌, ◌<◌, ◌≤◌, [], ◌∷◌, length, true, slice_get, slice_set, insert, remove, Some, MatchOption, IfOk, IfErr, OnOk, OnErr};
+ghost use Rattle.std.specs.Prelude.{◌≡◌, ◌+◌, ◌<◌, ◌≤◌, [], ◌∷◌, length, slice_get, slice_set, insert, remove, Some, IfOk, IfErr, OnOk, OnErr};
 ghost use Rattle.std.specs.Fn.{CalledAt};
 ghost use Rattle.key_index_flat.specs.Content.{item_count, key_count, list_at, IsLawful};
 ghost use Rattle.key_index_flat.specs.Fault.{growth_fault};
 ghost use Rattle.key_index_flat.specs.Neighbours.{first_list, last_list, next_list, prev_list};
 ghost use Rattle.key_index_flat.specs.Storage.{Kept, IsCounted, view_of};
-ghost use Rattle.key_index_flat.specs.View.{run_at, with_run, with_edit, with_pruned, with_slot, after_insert, after_remove, InsertsAndRetains, Retains, RetainsAt};
+ghost use Rattle.key_index_flat.specs.View.{run_at, with_run, with_edit, with_pruned, with_slot, InsertsAndRetains, Retains};
 ghost use Rattle.key_index_flat.specs.Values.{values_of, VisitsEach};
 
 mod chains;

@@ -1,5 +1,5 @@
 //! The flat unordered index.
-ghost use Rattle.std.specs.Prelude.{◌≡◌, [], true, false, refl, IsOk, IfOk, IfErr};
+ghost use Rattle.std.specs.Prelude.{◌≡◌, [], true, refl, IsOk, IfOk, IfErr};
 ghost use Rattle.key_index_flat.specs.Content.{IsLawful};
 ghost use Rattle.key_index_flat.specs.Storage.{view_of};
 

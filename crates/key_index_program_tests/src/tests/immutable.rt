@@ -1,7 +1,5 @@
 //! What an immutable index answers, on examples.
 
-ghost use Rattle.std.specs.Prelude.{◌≡◌};
-
 use key_index::index::immutable::Index;
 use key_index_flat::index::Fault;
 use key_index_flat::translator::{EightCap, Translator, TwoCap};

@@ -1,7 +1,5 @@
 //! What lists of marks come to.
 
-ghost use Rattle.std.specs.Prelude.{◌≡◌};
-
 use super::immutable::{counts, positions};
 use key_index::index::immutable::{Index, Mark, Marked, run_marks};
 use key_index_flat::index::Fault;

@@ -19,7 +19,7 @@ struct Filed {
 
 impl Model for Filed {
     ghost use Rattle.std.specs.Prelude.{◌≡◌, ℕ, List, Option, None, length, slice_index_or};
-    ghost use Rattle.key_index.specs.Table.{Cells, Stored};
+    ghost use Rattle.key_index.specs.Table.{Stored};
 
     ghost Value = { List (Option ℕ) };
 

@@ -1,5 +1,4 @@
 //! Batches: which values are visited with which places, in the order of each index.
-ghost use Rattle.std.specs.Prelude.{◌≡◌};
 
 use super::checks::{fill, push};
 use super::kinds::{Ordered, fresh};

@@ -1,5 +1,4 @@
 //! How the partitions of a partitioned ordered index and of its ranges stand, through one trait, and what the tests assert of it.
-ghost use Rattle.std.specs.Prelude.{◌≤◌};
 
 use key_index_flat::translator::{OneCap, TwoCap};
 use key_index_parts::index::partitioned::PartitionRange;

@@ -1,5 +1,4 @@
 //! What each translator makes of keys, and the hashes of translated keys.
-ghost use Rattle.std.specs.Prelude.{ℕ, List};
 
 use super::checks::{counts, fresh, holds, inserts};
 use key_index_flat::index::{Factory, Runs, Unordered, unordered};

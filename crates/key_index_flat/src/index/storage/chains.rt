@@ -1,6 +1,6 @@
 //! The lists of a flat index: the newest value of each key in one map, and in another the older values of the keys that have any. An
 //! entry whose key has one value then costs that key and that value alone.
-ghost use Rattle.std.specs.Prelude.{◌≡◌, ◌+◌, ◌<◌, ◌≤◌, true, List, [], ◌∷◌, length, reverse, slice_get, slice_set, insert, remove, Some, MatchOption, IfOk, IfErr, OnOk, OnErr};
+ghost use Rattle.std.specs.Prelude.{◌≡◌, ◌+◌, ◌<◌, ◌≤◌, true, List, [], ◌∷◌, length, reverse, slice_get, slice_set, insert, remove, Some, IfOk, IfErr, OnOk, OnErr};
 ghost use Rattle.std.specs.Fn.{CalledAt};
 ghost use Rattle.std.specs.List.Retain.{IsFiltered};
 ghost use Rattle.std.specs.Map.Iter.{deref_pair};

@@ -1,6 +1,6 @@
 //! The partitioned ordered index.
 ghost use Rattle.std.specs.Prelude.{◌≡◌, ◌<◌, ◌≤◌, false, length, IfErr};
-ghost use Rattle.key_index_flat.specs.Content.{IsLawful, item_count};
+ghost use Rattle.key_index_flat.specs.Content.{item_count};
 ghost use Rattle.key_index_parts.specs.Family.{IsIndex, view_of};
 ghost use Rattle.key_index_parts.specs.Gathered.{gathered, pair_cmp, entries_of};
 ghost use Rattle.key_index_parts.specs.Moves.{IsWithin};

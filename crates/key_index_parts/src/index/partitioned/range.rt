@@ -7,7 +7,6 @@ ghost use Rattle.key_index_parts.specs.Family.{IsRange, view_from};
 ghost use Rattle.key_index_parts.specs.Gathered.{gathered, pair_cmp};
 ghost use Rattle.key_index_parts.specs.Joined.{IsSpanKept, is_between};
 ghost use Rattle.key_index_parts.specs.Moves.{IsRangeWithin};
-ghost use Rattle.key_index_parts.specs.Prefix.{partition_count};
 ghost use Rattle.key_index_parts.specs.laws.RangeLaws.{shift};
 ghost use Rattle.key_index_parts.specs.Standing.{LeavesSome, Refuses, Settles, is_reached};
 

@@ -1,8 +1,7 @@
 //! The partitioned unordered index.
-ghost use Rattle.std.specs.Prelude.{◌≡◌, ◌≤◌, true, false, length};
-ghost use Rattle.key_index_flat.specs.Content.{IsLawful};
+ghost use Rattle.std.specs.Prelude.{◌≡◌, ◌≤◌, true};
 ghost use Rattle.key_index_parts.specs.Family.{IsIndex, view_of};
-ghost use Rattle.key_index_parts.specs.Gathered.{gathered, pair_cmp};
+ghost use Rattle.key_index_parts.specs.Gathered.{pair_cmp};
 ghost use Rattle.key_index_parts.specs.Prefix.{partition_count, partition_by, slot_by};
 
 mod boxed;

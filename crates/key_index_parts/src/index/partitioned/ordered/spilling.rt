@@ -1,11 +1,11 @@
 //! A part as sorted arrays or, spilled, as a tree.
-ghost use Rattle.std.specs.Prelude.{◌≡◌, ◌≤◌, ◌<◌, true, false, is_some, [], map, None, IfOk, IsSome, OnOk, OnErr};
+ghost use Rattle.std.specs.Prelude.{◌≡◌, ◌≤◌, ◌<◌, true, false, is_some, [], map, None, IfOk, OnOk, OnErr};
 ghost use Rattle.std.specs.BTreeMap.{get, insert_entry};
 ghost use Rattle.std.specs.List.Sorted.{IsStrictlySortedBy};
 ghost use Rattle.std.specs.Map.{keys_of};
 ghost use Rattle.key_index_flat.specs.Content.{IsLawful, item_count};
 ghost use Rattle.key_index_parts.specs.Family.{stays_spilled};
-ghost use Rattle.key_index_parts.specs.Pairs.{grouped, list_of, room_of, room_for};
+ghost use Rattle.key_index_parts.specs.Pairs.{grouped, list_of};
 ghost use Rattle.key_index_parts.specs.Spilled.{HoldsSome, HoldsSome-prop, held_by};
 
 use super::arrays::Arrays;

@@ -1,4 +1,4 @@
-use Rattle.std.proofs.Common.{subst, ◌<◌, map, length, insert, is_ok, refl, ap, sym, ◌∙◌, arith}
+use Rattle.std.proofs.Common.{subst, ◌<◌, map, length, insert, is_ok, ap, sym, ◌∙◌, arith}
 use Rattle.std.proofs.lemmas.List.Edits.{length-insert}
 use Rattle.std.specs.BTreeMap.{is_at}
 use Rattle.std.specs.Vec.{vec_len}
