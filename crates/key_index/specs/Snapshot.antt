@@ -10,8 +10,8 @@ use Rattle.key_index_flat.specs.FullKeys.{IsFiledIn, byte_cmp}
 use Rattle.key_index_flat.specs.Neighbours.{entries_above, entries_below, first_entry, last_entry}
 use Rattle.key_index_flat.specs.Values.{values_of}
 use Rattle.key_index_flat.specs.View.{View, run_at}
-use Rattle.key_index_builds.specs.declared.op.Op.{Op}
-use Rattle.key_index_builds.specs.declared.op.Op.TheVariants as op
+use Rattle.key_index_parts.specs.declared.index.partitioned.builds.op.Op.{Op}
+use Rattle.key_index_parts.specs.declared.index.partitioned.builds.op.Op.TheVariants as op
 use Rattle.key_index.specs.declared.snapshot.record.Record.{Record}
 
 -- the map

@@ -6,15 +6,14 @@ ghost use Rattle.std.specs.Option.{option_map, MatchOption};
 ghost use Rattle.std.specs.Ordering.{eq_by_cmp};
 ghost use Rattle.std.specs.Result.{IsErrOf};
 ghost use Rattle.std.specs.Str.{bytes_eq};
-ghost use Rattle.key_index_builds.specs.Ops.{IsCuts, after_ops};
+ghost use Rattle.key_index_parts.specs.Ops.{IsCuts, after_ops};
 ghost use Rattle.key_index_flat.specs.FullKeys.{IsBytes};
 ghost use Rattle.key_index.specs.Snapshot.{Positions, key_of, positions_of, next_position, prev_position, positions_in, IsKept, position_in, entries_of, IsOpOf};
 
 mod record;
 
-use key_index_builds::{Op, build_in_ranges};
 use key_index_flat::index::{Fault, Ordered, Runs, Step, Values, resolve_next, resolve_prev};
-use key_index_parts::index::partitioned::Partitioned;
+use key_index_parts::index::partitioned::{Op, Partitioned, build_in_ranges};
 pub use record::Record;
 use std::alloc::Global;
 use std::collections::BTreeMap;

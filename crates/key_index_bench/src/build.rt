@@ -1,13 +1,12 @@
 //! The build of an index in partitions.
 ghost use Rattle.std.specs.Prelude.{◌≡◌, ℕ, ◌+◌, ◌*◌, ◌/◌, ◌<◌, ◌≤◌, length, slice_index, IfSome};
-ghost use Rattle.key_index_builds.specs.Ops.{IsCuts};
+ghost use Rattle.key_index_parts.specs.Ops.{IsCuts};
 
 use crate::flat::Failure;
 use crate::report::Report;
-use key_index_builds::{Op, build_in_ranges};
 use key_index_flat::index::{Factory, Fault, Unordered};
 use key_index_flat::translator::EightCap;
-use key_index_parts::index::partitioned::Partitioned;
+use key_index_parts::index::partitioned::{Op, Partitioned, build_in_ranges};
 use std::alloc::Global;
 use std::io::Write;
 use std::time::Clock;

@@ -4,3 +4,4 @@ pub mod standing
 pub mod bitmap
 pub mod keys
 pub mod asked
+pub mod builds

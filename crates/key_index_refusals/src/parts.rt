@@ -4,10 +4,9 @@ use crate::calls::TRIES;
 use crate::kept::{KEYS, Kept, key, push};
 use crate::kinds::Spilling;
 use crate::report::{Report, Stop, must};
-use key_index_builds::{Op, build_in_ranges};
 use key_index_flat::index::{Command, Fault, Outcome, Step, Unordered, run};
 use key_index_parts::index::partitioned::ordered::Ahead;
-use key_index_parts::index::partitioned::{PartitionRange, Partitioned};
+use key_index_parts::index::partitioned::{Op, PartitionRange, Partitioned, build_in_ranges};
 use std::alloc::Global;
 use std::io::Write;
 

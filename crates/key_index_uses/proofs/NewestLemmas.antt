@@ -14,10 +14,10 @@ use Rattle.key_index_flat.specs.Run.{one_if_absent}
 use Rattle.key_index_flat.specs.View.{View, items_in, run_at}
 use Rattle.key_index_flat.proofs.content.ContentLemmas.{list_at-with_list, tied}
 use Rattle.key_index_parts.specs.Joined.{install_fault}
-use Rattle.key_index_builds.specs.Ops.{after_op, after_ops}
-use Rattle.key_index_builds.specs.Ranges.{built_upto, filled_by, RefusesBuild}
-use Rattle.key_index_builds.proofs.RangeLemmas.{slot-after_ops}
-use Rattle.key_index_builds.specs.declared.op.Op.{Op}
+use Rattle.key_index_parts.specs.Ops.{after_op, after_ops}
+use Rattle.key_index_parts.specs.Ranges.{built_upto, filled_by, RefusesBuild}
+use Rattle.key_index_parts.proofs.builds.RangeLemmas.{slot-after_ops}
+use Rattle.key_index_parts.specs.declared.index.partitioned.builds.op.Op.{Op}
 use Rattle.key_index_uses.specs.Newest.{newest, op_of}
 
 -- the one list, or the other where it has no value

@@ -5,8 +5,8 @@ use Rattle.std.specs.Prelude.{ℕ, List, [], ◌∷◌, if◌then◌else◌, Vec
 use Rattle.std.specs.declared.alloc.Global.{Global}
 use Rattle.std.specs.declared.cmp.Ordering.{Ordering}
 use Rattle.std.specs.Ordering.{eq_by_cmp}
-use Rattle.key_index_builds.specs.declared.op.Op.{Op}
-use Rattle.key_index_builds.specs.declared.op.Op.TheVariants.{GetOrInsert}
+use Rattle.key_index_parts.specs.declared.index.partitioned.builds.op.Op.{Op}
+use Rattle.key_index_parts.specs.declared.index.partitioned.builds.op.Op.TheVariants.{GetOrInsert}
 
 abbrev pub op_of : {V : Type 0} → Vec ℕ Global × V → Op V
 op_of r = GetOrInsert r.0 r.1

@@ -1,12 +1,11 @@
 //! Where the newest record of each key of a log stands, over any index in partitions.
 ghost use Rattle.std.specs.Prelude.{◌≡◌, ◌⊎◌, List, ℕ, [], map, IfOk, IfErr};
-ghost use Rattle.key_index_builds.specs.Ops.{IsCuts};
+ghost use Rattle.key_index_parts.specs.Ops.{IsCuts};
 ghost use Rattle.key_index_flat.specs.View.{run_of};
 ghost use Rattle.key_index_uses.specs.Newest.{newest, op_of};
 
-use key_index_builds::{Op, build_in_ranges};
 use key_index_flat::index::{Fault, Runs};
-use key_index_parts::index::partitioned::Partitioned;
+use key_index_parts::index::partitioned::{Op, Partitioned, build_in_ranges};
 use std::alloc::Global;
 
 /// The ops that put each record's position in where its key has none.

@@ -27,11 +27,11 @@ use Rattle.key_index_flat.specs.Run.{one_if_absent}
 use Rattle.key_index_flat.specs.Values.{values_of}
 use Rattle.key_index_flat.specs.View.{View, run_at, run_of}
 use Rattle.key_index_flat.proofs.content.ContentLemmas.{tied}
-use Rattle.key_index_builds.specs.Ops.{after_op, edit_held}
-use Rattle.key_index_builds.specs.declared.op.Op.{Op}
-use Rattle.key_index_builds.specs.declared.op.Op.TheVariants as op
+use Rattle.key_index_parts.specs.Ops.{after_op, edit_held}
+use Rattle.key_index_parts.specs.declared.index.partitioned.builds.op.Op.{Op}
+use Rattle.key_index_parts.specs.declared.index.partitioned.builds.op.Op.TheVariants as op
 use Rattle.key_index_flat.specs.declared.index.command.Step.TheVariants as step
-use Rattle.key_index_builds.proofs.OpLemmas.{IsLawful-after_op}
+use Rattle.key_index_parts.proofs.builds.OpLemmas.{IsLawful-after_op}
 use Rattle.key_index.proofs.snapshots.KeptLemmas.{set_after, none_distinct, empty_kept}
 use Rattle.key_index.proofs.snapshots.RecordLemmas.{same, swapped, not_both, head_apart, none_apart}
 use Rattle.key_index.proofs.snapshots.SnapshotLemmas.{exact_bytes, get-positions_in}

@@ -9,6 +9,7 @@ ghost use Rattle.key_index_parts.specs.Grouping.{ComparesAs};
 ghost use Rattle.key_index_parts.specs.Prefix.{prefix_number, rest_of, slot_by};
 
 mod bitmap;
+mod builds;
 mod counts;
 pub mod ordered;
 mod part;
@@ -18,6 +19,7 @@ mod storage;
 mod traits;
 pub mod unordered;
 
+pub use builds::{Op, build_in_ranges};
 pub use traits::{PartitionRange, Partitioned};
 
 /// The partition of a key, and the rest of the key: the big-endian number of the first `P` bytes, with zeros behind a shorter key, and

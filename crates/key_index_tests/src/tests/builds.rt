@@ -1,14 +1,13 @@
 //! Indices that are built in ranges, over any index in partitions.
 ghost use Rattle.std.specs.Prelude.{IsTrue};
-ghost use Rattle.key_index_builds.specs.Ops.{IsCuts};
+ghost use Rattle.key_index_parts.specs.Ops.{IsCuts};
 
 use super::checks::{counts, holds, push};
 use super::command_lists::{edit, has_all, key};
 use super::lists::{KeptLists, place};
 use super::numbers::Numbers;
-use key_index_builds::{Op, build_in_ranges};
 use key_index_flat::index::Step;
-use key_index_parts::index::partitioned::Partitioned;
+use key_index_parts::index::partitioned::{Op, Partitioned, build_in_ranges};
 use key_index_uses::builds::newest_positions;
 use std::alloc::Global;
 use std::process::Abort;

@@ -6,9 +6,9 @@ use Rattle.std.specs.Option.{MatchOption}
 use Rattle.std.specs.Ordering.{eq_by_cmp}
 use Rattle.key_index_flat.specs.FullKeys.{IsBytes}
 use Rattle.key_index_flat.specs.Neighbours.{KeepsOrder}
-use Rattle.key_index_builds.specs.Ops.{after_ops}
-use Rattle.key_index_builds.proofs.OpLemmas.{IsLawful-after_ops}
-use Rattle.key_index_builds.proofs.RangeLemmas.{after_ops-append, slot-after_ops}
+use Rattle.key_index_parts.specs.Ops.{after_ops}
+use Rattle.key_index_parts.proofs.builds.OpLemmas.{IsLawful-after_ops}
+use Rattle.key_index_parts.proofs.builds.RangeLemmas.{after_ops-append, slot-after_ops}
 use Rattle.key_index.proofs.snapshots.BuildLemmas.{Filling, cmp_keys, filling_none, filling_step, split_at, unmapped}
 use Rattle.key_index.proofs.snapshot.ops_of.Goals as goal
 

@@ -1,4 +1,4 @@
-use Rattle.key_index_builds.specs.Ops.{after_ops}
+use Rattle.key_index_parts.specs.Ops.{after_ops}
 use Rattle.key_index.proofs.snapshots.BuildLemmas.{Filling}
 use Rattle.key_index.proofs.snapshot.ops_of.Given as goal
 

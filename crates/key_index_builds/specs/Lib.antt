@@ -1,4 +1,0 @@
-pub mod Ops
-pub mod Fill
-pub mod Ranges
-pub mod Accepted

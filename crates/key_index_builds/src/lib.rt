@@ -1,9 +1,0 @@
-//! Builds of an index in ranges of its partitions, by ops.
-#![tactic(auto)]
-
-mod build;
-mod fill;
-mod op;
-
-pub use build::build_in_ranges;
-pub use op::Op;
