@@ -1,12 +1,10 @@
 //! Batches of keys: one by one, at once, and looking ahead.
 use crate::flat::{self, Failure};
-use crate::report::Report;
+use crate::report::Meter;
 use key_index_flat::index::Fault;
 use key_index_flat::translator::EightCap;
 use key_index_parts::index::partitioned::ordered::{self, Ahead};
 use std::alloc::Global;
-use std::io::Write;
-use std::time::Clock;
 
 /// The index that looks ahead.
 type Index = ordered::Index<EightCap, u64, 2>;
@@ -25,12 +23,12 @@ fn sum_ahead(index: &Index, size: usize, keys: &[[u8; 32]]) -> Result<u64, Fault
 }
 
 /// Measures batches of so many keys.
-fn both<C: Clock, W: Write>(
+fn both<M: Meter>(
     index: &Index,
     names: (&str, &str),
     size: usize,
     keys: &[[u8; 32]],
-    report: &mut Report<'_, C, W>,
+    report: &mut M,
 ) -> Result<(), Failure> {
     flat::many(index, names.0, size, keys, report)?;
     let start = report.start()?;
@@ -42,12 +40,12 @@ fn both<C: Clock, W: Write>(
 }
 
 /// Measures the batches of an index of all keys.
-pub(crate) fn run<C: Clock, W: Write>(
+pub(crate) fn run<M: Meter>(
     alloc: Global,
     keys: &[[u8; 32]],
-    report: &mut Report<'_, C, W>,
+    report: &mut M,
 ) -> Result<(), Failure> {
-    let mut index = flat::make::<Index, C, W>(alloc, EightCap, report)?;
+    let mut index = flat::make::<Index, M>(alloc, EightCap, report)?;
     flat::insert(&mut index, keys, report)?;
     flat::get(&index, "get", keys, report)?;
     both(&index, ("many10", "ahead10"), 10, keys, report)?;

@@ -3,13 +3,11 @@ ghost use Rattle.std.specs.Prelude.{◌≡◌, ℕ, ◌+◌, ◌*◌, ◌/◌, �
 ghost use Rattle.key_index_parts.specs.Ops.{IsCuts};
 
 use crate::flat::Failure;
-use crate::report::Report;
+use crate::report::Meter;
 use key_index_flat::index::{Factory, Fault, Unordered};
 use key_index_flat::translator::EightCap;
 use key_index_parts::index::partitioned::{Op, Partitioned, build_in_ranges};
 use std::alloc::Global;
-use std::io::Write;
-use std::time::Clock;
 
 /// The cuts between so many ranges of equal spans, the last of which also takes what is over. `None` where there is no memory.
 pub(crate) fn equal_cuts(alloc: Global, partitions: usize, ranges: usize) -> Option<Vec<usize>>
@@ -58,10 +56,10 @@ fn file<I: Unordered<Value = u64>>(index: &mut I, key: &[u8], value: u64) -> Res
 }
 
 /// Files each record by a call of its own.
-pub(crate) fn one_by_one<I: Factory<Translator = EightCap, Value = u64> + Drop, C: Clock, W: Write>(
+pub(crate) fn one_by_one<I: Factory<Translator = EightCap, Value = u64> + Drop, M: Meter>(
     alloc: Global,
     keys: &[[u8; 32]],
-    report: &mut Report<'_, C, W>,
+    report: &mut M,
 ) -> Result<(), Failure>
     requires { I.makes }
 {
@@ -85,14 +83,13 @@ pub(crate) fn one_by_one<I: Factory<Translator = EightCap, Value = u64> + Drop, 
 /// Files the records by a build in so many ranges. An index of fewer partitions has no line.
 pub(crate) fn in_ranges<
     I: Factory<Translator = EightCap, Value = u64> + Partitioned + Drop,
-    C: Clock,
-    W: Write,
+    M: Meter,
 >(
     alloc: Global,
     name: &str,
     ranges: usize,
     keys: &[[u8; 32]],
-    report: &mut Report<'_, C, W>,
+    report: &mut M,
 ) -> Result<(), Failure>
     requires makes { I.makes }
     requires some { 0 < ranges }

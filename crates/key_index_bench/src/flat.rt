@@ -1,9 +1,8 @@
 //! The operations of an index.
-use crate::report::Report;
+use crate::report::Meter;
 use key_index_flat::index::{Cursor, CursorState, Factory, Fault, Ordered, Unordered};
 use std::alloc::Global;
-use std::io::{self, Write};
-use std::time::Clock;
+use std::io;
 
 /// Why a run ended early.
 #[derive(Debug, Clone, Copy)]
@@ -21,10 +20,10 @@ impl From<io::Error> for Failure {
 }
 
 /// Makes an index, and measures that.
-pub(crate) fn make<I: Factory + Drop, C: Clock, W: Write>(
+pub(crate) fn make<I: Factory + Drop, M: Meter>(
     alloc: Global,
     translator: I::Translator,
-    report: &mut Report<'_, C, W>,
+    report: &mut M,
 ) -> Result<I, Failure>
 where
     I::Translator: Copy,
@@ -40,10 +39,10 @@ where
 }
 
 /// Files value i under key i.
-pub(crate) fn insert<I: Unordered<Value = u64>, C: Clock, W: Write>(
+pub(crate) fn insert<I: Unordered<Value = u64>, M: Meter>(
     index: &mut I,
     keys: &[[u8; 32]],
-    report: &mut Report<'_, C, W>,
+    report: &mut M,
 ) -> Result<(), Failure> {
     let start = report.start()?;
     let mut value = 0u64;
@@ -58,11 +57,11 @@ pub(crate) fn insert<I: Unordered<Value = u64>, C: Clock, W: Write>(
 }
 
 /// The values of each key.
-pub(crate) fn get<I: Unordered<Value = u64>, C: Clock, W: Write>(
+pub(crate) fn get<I: Unordered<Value = u64>, M: Meter>(
     index: &I,
     name: &str,
     keys: &[[u8; 32]],
-    report: &mut Report<'_, C, W>,
+    report: &mut M,
 ) -> Result<(), Failure> {
     let start = report.start()?;
     let mut sum = 0u64;
@@ -79,12 +78,12 @@ pub(crate) fn get<I: Unordered<Value = u64>, C: Clock, W: Write>(
 pub(crate) const BATCH: usize = 1024;
 
 /// The values of each key, by batches of so many.
-pub(crate) fn many<I: Unordered<Value = u64>, C: Clock, W: Write>(
+pub(crate) fn many<I: Unordered<Value = u64>, M: Meter>(
     index: &I,
     name: &str,
     size: usize,
     keys: &[[u8; 32]],
-    report: &mut Report<'_, C, W>,
+    report: &mut M,
 ) -> Result<(), Failure> {
     let start = report.start()?;
     let mut sum = 0u64;
@@ -116,10 +115,10 @@ fn add_one<I: Unordered<Value = u64>>(index: &mut I, key: &[u8]) -> Result<u64, 
 }
 
 /// Adds one to the first value of each key.
-pub(crate) fn update<I: Unordered<Value = u64>, C: Clock, W: Write>(
+pub(crate) fn update<I: Unordered<Value = u64>, M: Meter>(
     index: &mut I,
     keys: &[[u8; 32]],
-    report: &mut Report<'_, C, W>,
+    report: &mut M,
 ) -> Result<(), Failure> {
     let start = report.start()?;
     let mut sum = 0u64;
@@ -131,10 +130,10 @@ pub(crate) fn update<I: Unordered<Value = u64>, C: Clock, W: Write>(
 }
 
 /// The values of the next index key above that of each key.
-pub(crate) fn next<I: Ordered<Value = u64>, C: Clock, W: Write>(
+pub(crate) fn next<I: Ordered<Value = u64>, M: Meter>(
     index: &I,
     keys: &[[u8; 32]],
-    report: &mut Report<'_, C, W>,
+    report: &mut M,
 ) -> Result<(), Failure> {
     let start = report.start()?;
     let mut sum = 0u64;
@@ -150,10 +149,10 @@ pub(crate) fn next<I: Ordered<Value = u64>, C: Clock, W: Write>(
 }
 
 /// The values of the next index key and of the one before, for each of the only keys.
-pub(crate) fn gap<I: Ordered<Value = u64>, C: Clock, W: Write>(
+pub(crate) fn gap<I: Ordered<Value = u64>, M: Meter>(
     index: &mut I,
     keys: &[[u8; 32]],
-    report: &mut Report<'_, C, W>,
+    report: &mut M,
 ) -> Result<(), Failure> {
     for key in keys {
         if let Err(refused) = index.insert(key, 1) {
@@ -179,10 +178,10 @@ pub(crate) fn gap<I: Ordered<Value = u64>, C: Clock, W: Write>(
 }
 
 /// A second and a third value under each key, and then all of its values.
-pub(crate) fn collide<I: Unordered<Value = u64>, C: Clock, W: Write>(
+pub(crate) fn collide<I: Unordered<Value = u64>, M: Meter>(
     index: &mut I,
     keys: &[[u8; 32]],
-    report: &mut Report<'_, C, W>,
+    report: &mut M,
 ) -> Result<(), Failure> {
     let start = report.start()?;
     let mut sum = 0u64;
@@ -203,10 +202,10 @@ pub(crate) fn collide<I: Unordered<Value = u64>, C: Clock, W: Write>(
 }
 
 /// Puts a fourth value under each key, and keeps the newest of the three that it had.
-pub(crate) fn retain<I: Unordered<Value = u64>, C: Clock, W: Write>(
+pub(crate) fn retain<I: Unordered<Value = u64>, M: Meter>(
     index: &mut I,
     keys: &[[u8; 32]],
-    report: &mut Report<'_, C, W>,
+    report: &mut M,
 ) -> Result<(), Failure> {
     let start = report.start()?;
     for key in keys {
@@ -219,10 +218,10 @@ pub(crate) fn retain<I: Unordered<Value = u64>, C: Clock, W: Write>(
 }
 
 /// Takes each key out.
-pub(crate) fn remove<I: Unordered<Value = u64>, C: Clock, W: Write>(
+pub(crate) fn remove<I: Unordered<Value = u64>, M: Meter>(
     index: &mut I,
     keys: &[[u8; 32]],
-    report: &mut Report<'_, C, W>,
+    report: &mut M,
 ) -> Result<(), Failure> {
     let start = report.start()?;
     for key in keys {

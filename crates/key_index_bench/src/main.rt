@@ -20,14 +20,13 @@ use key_index_flat::index::{Factory, Fault, Ordered, ordered, unordered};
 use key_index_flat::translator::{EightCap, Hashed, SeededSha256};
 use key_index_parts::index::partitioned::{self, Partitioned};
 use keys::{ABSENT, PRESENT, keys};
-use report::Report;
+use report::{Meter, Report};
 use std::alloc::Global;
 use std::collections::{BTreeMap, HashMap};
 use std::env;
-use std::io::{BufWriter, Write};
+use std::io::Write;
 use std::process::ExitCode;
 use std::rt::Env;
-use std::time::Clock;
 
 /// The unordered index for keys that an attacker picks.
 type HashedIndex = unordered::Index<Hashed<EightCap, SeededSha256>, u64>;
@@ -119,12 +118,12 @@ fn arguments(words: &[String]) -> Option<(Kind, usize, Measured)> {
 }
 
 /// Measures an index whose keys are in no order.
-fn run_unordered<I: Factory<Value = u64> + Drop, C: Clock, W: Write>(
+fn run_unordered<I: Factory<Value = u64> + Drop, M: Meter>(
     alloc: Global,
     translator: I::Translator,
     present: &[[u8; 32]],
     absent: &[[u8; 32]],
-    report: &mut Report<'_, C, W>,
+    report: &mut M,
 ) -> Result<(), Failure>
 where
     I::Translator: Copy,
@@ -132,7 +131,7 @@ where
 {
     let few = &present[..present.len() / 10];
     let half = &present[..present.len() / 2];
-    let mut index = flat::make::<I, C, W>(alloc, translator, report)?;
+    let mut index = flat::make::<I, M>(alloc, translator, report)?;
     flat::insert(&mut index, present, report)?;
     flat::get(&index, "get", present, report)?;
     flat::many(&index, "many", flat::BATCH, present, report)?;
@@ -144,10 +143,10 @@ where
 }
 
 /// Measures the neighbours of a thousand keys at most, in an index that has no others.
-fn run_gap<I: Factory<Translator = EightCap, Value = u64> + Ordered + Drop, C: Clock, W: Write>(
+fn run_gap<I: Factory<Translator = EightCap, Value = u64> + Ordered + Drop, M: Meter>(
     alloc: Global,
     present: &[[u8; 32]],
-    report: &mut Report<'_, C, W>,
+    report: &mut M,
 ) -> Result<(), Failure>
     requires { I.makes }
 {
@@ -159,18 +158,18 @@ fn run_gap<I: Factory<Translator = EightCap, Value = u64> + Ordered + Drop, C: C
 }
 
 /// Measures an index whose keys are in order.
-fn run_ordered<I: Factory<Translator = EightCap, Value = u64> + Ordered + Drop, C: Clock, W: Write>(
+fn run_ordered<I: Factory<Translator = EightCap, Value = u64> + Ordered + Drop, M: Meter>(
     alloc: Global,
     present: &[[u8; 32]],
     absent: &[[u8; 32]],
-    report: &mut Report<'_, C, W>,
+    report: &mut M,
 ) -> Result<(), Failure>
     requires { I.makes }
 {
     let few = &present[..present.len() / 10];
     let half = &present[..present.len() / 2];
-    run_gap::<I, C, W>(alloc, present, report)?;
-    let mut index = flat::make::<I, C, W>(alloc, EightCap, report)?;
+    run_gap::<I, M>(alloc, present, report)?;
+    let mut index = flat::make::<I, M>(alloc, EightCap, report)?;
     flat::insert(&mut index, present, report)?;
     flat::get(&index, "get", present, report)?;
     flat::many(&index, "many", flat::BATCH, present, report)?;
@@ -183,11 +182,11 @@ fn run_ordered<I: Factory<Translator = EightCap, Value = u64> + Ordered + Drop, 
 }
 
 /// Measures the immutable index.
-fn run_immutable<C: Clock, W: Write>(
+fn run_immutable<M: Meter>(
     alloc: Global,
     present: &[[u8; 32]],
     absent: &[[u8; 32]],
-    report: &mut Report<'_, C, W>,
+    report: &mut M,
 ) -> Result<(), Failure> {
     let start = report.start()?;
     let mut index = match immutable::Index::new(alloc, EightCap, 0, 0) {
@@ -202,11 +201,11 @@ fn run_immutable<C: Clock, W: Write>(
 }
 
 /// Measures the hashed map.
-fn run_std_hash<C: Clock, W: Write>(
+fn run_std_hash<M: Meter>(
     alloc: Global,
     present: &[[u8; 32]],
     absent: &[[u8; 32]],
-    report: &mut Report<'_, C, W>,
+    report: &mut M,
 ) -> Result<(), Failure> {
     let half = &present[..present.len() / 2];
     let mut map: HashMap<u64, u64> = HashMap::new(alloc);
@@ -218,11 +217,11 @@ fn run_std_hash<C: Clock, W: Write>(
 }
 
 /// Measures the ordered map.
-fn run_std_tree<C: Clock, W: Write>(
+fn run_std_tree<M: Meter>(
     alloc: Global,
     present: &[[u8; 32]],
     absent: &[[u8; 32]],
-    report: &mut Report<'_, C, W>,
+    report: &mut M,
 ) -> Result<(), Failure> {
     let few = &present[..present.len() / 10];
     let half = &present[..present.len() / 2];
@@ -236,83 +235,81 @@ fn run_std_tree<C: Clock, W: Write>(
 }
 
 /// Measures the build of an index in partitions.
-fn run_build<
-    I: Factory<Translator = EightCap, Value = u64> + Partitioned + Drop,
-    C: Clock,
-    W: Write,
->(alloc: Global, present: &[[u8; 32]], report: &mut Report<'_, C, W>) -> Result<(), Failure>
+fn run_build<I: Factory<Translator = EightCap, Value = u64> + Partitioned + Drop, M: Meter>(
+    alloc: Global,
+    present: &[[u8; 32]],
+    report: &mut M,
+) -> Result<(), Failure>
     requires { I.makes }
 {
-    build::one_by_one::<I, C, W>(alloc, present, report)?;
-    build::in_ranges::<I, C, W>(alloc, "build1", 1, present, report)?;
-    build::in_ranges::<I, C, W>(alloc, "build4", 4, present, report)?;
-    build::in_ranges::<I, C, W>(alloc, "build16", 16, present, report)
+    build::one_by_one::<I, M>(alloc, present, report)?;
+    build::in_ranges::<I, M>(alloc, "build1", 1, present, report)?;
+    build::in_ranges::<I, M>(alloc, "build4", 4, present, report)?;
+    build::in_ranges::<I, M>(alloc, "build16", 16, present, report)
 }
 
 /// Measures the calls of the partitioned unordered index.
-fn measure_punordered<const P: usize, C: Clock, W: Write>(
+fn measure_punordered<const P: usize, M: Meter>(
     alloc: Global,
     present: &[[u8; 32]],
     absent: &[[u8; 32]],
-    report: &mut Report<'_, C, W>,
+    report: &mut M,
 ) -> Result<(), Failure>
     requires least { 1 ≤ P }
     requires most { P ≤ 3 }
 {
-    run_unordered::<partitioned::unordered::Index<EightCap, u64, P>, C, W>(
+    run_unordered::<partitioned::unordered::Index<EightCap, u64, P>, M>(
         alloc, EightCap, present, absent, report,
     )
 }
 
 /// Measures the calls of the partitioned ordered index.
-fn measure_pordered<const P: usize, C: Clock, W: Write>(
+fn measure_pordered<const P: usize, M: Meter>(
     alloc: Global,
     present: &[[u8; 32]],
     absent: &[[u8; 32]],
-    report: &mut Report<'_, C, W>,
+    report: &mut M,
 ) -> Result<(), Failure>
     requires least { 1 ≤ P }
     requires most { P ≤ 3 }
 {
-    run_ordered::<partitioned::ordered::Index<EightCap, u64, P>, C, W>(
-        alloc, present, absent, report,
-    )
+    run_ordered::<partitioned::ordered::Index<EightCap, u64, P>, M>(alloc, present, absent, report)
 }
 
 /// Measures the calls of a kind.
-fn measure_calls<C: Clock, W: Write>(
+fn measure_calls<M: Meter>(
     alloc: Global,
     kind: Kind,
     present: &[[u8; 32]],
     absent: &[[u8; 32]],
-    report: &mut Report<'_, C, W>,
+    report: &mut M,
 ) -> Result<(), Failure> {
     match kind {
-        Kind::Unordered => run_unordered::<unordered::Index<EightCap, u64>, C, W>(
+        Kind::Unordered => run_unordered::<unordered::Index<EightCap, u64>, M>(
             alloc, EightCap, present, absent, report,
         ),
-        Kind::Hashed => run_unordered::<HashedIndex, C, W>(
+        Kind::Hashed => run_unordered::<HashedIndex, M>(
             alloc,
             Hashed::from_seed(SEED, EightCap),
             present,
             absent,
             report,
         ),
-        Kind::Ordered => run_ordered::<ordered::Index<EightCap, u64>, C, W>(
+        Kind::Ordered => run_ordered::<ordered::Index<EightCap, u64>, M>(
             alloc, present, absent, report,
         ),
         Kind::PartitionedUnordered1 => {
-            measure_punordered::<1, C, W>(alloc, present, absent, report)
+            measure_punordered::<1, M>(alloc, present, absent, report)
         }
         Kind::PartitionedUnordered2 => {
-            measure_punordered::<2, C, W>(alloc, present, absent, report)
+            measure_punordered::<2, M>(alloc, present, absent, report)
         }
         Kind::PartitionedUnordered3 => {
-            measure_punordered::<3, C, W>(alloc, present, absent, report)
+            measure_punordered::<3, M>(alloc, present, absent, report)
         }
-        Kind::PartitionedOrdered1 => { measure_pordered::<1, C, W>(alloc, present, absent, report) }
-        Kind::PartitionedOrdered2 => { measure_pordered::<2, C, W>(alloc, present, absent, report) }
-        Kind::PartitionedOrdered3 => { measure_pordered::<3, C, W>(alloc, present, absent, report) }
+        Kind::PartitionedOrdered1 => { measure_pordered::<1, M>(alloc, present, absent, report) }
+        Kind::PartitionedOrdered2 => { measure_pordered::<2, M>(alloc, present, absent, report) }
+        Kind::PartitionedOrdered3 => { measure_pordered::<3, M>(alloc, present, absent, report) }
         Kind::Immutable => run_immutable(alloc, present, absent, report),
         Kind::StdHash => run_std_hash(alloc, present, absent, report),
         Kind::StdTree => run_std_tree(alloc, present, absent, report),
@@ -320,60 +317,60 @@ fn measure_calls<C: Clock, W: Write>(
 }
 
 /// Measures the builds of the partitioned unordered index.
-fn build_punordered<const P: usize, C: Clock, W: Write>(
+fn build_punordered<const P: usize, M: Meter>(
     alloc: Global,
     present: &[[u8; 32]],
-    report: &mut Report<'_, C, W>,
+    report: &mut M,
 ) -> Result<(), Failure>
     requires least { 1 ≤ P }
     requires most { P ≤ 3 }
 {
-    run_build::<partitioned::unordered::Index<EightCap, u64, P>, C, W>(alloc, present, report)
+    run_build::<partitioned::unordered::Index<EightCap, u64, P>, M>(alloc, present, report)
 }
 
 /// Measures the builds of the partitioned ordered index.
-fn build_pordered<const P: usize, C: Clock, W: Write>(
+fn build_pordered<const P: usize, M: Meter>(
     alloc: Global,
     present: &[[u8; 32]],
-    report: &mut Report<'_, C, W>,
+    report: &mut M,
 ) -> Result<(), Failure>
     requires least { 1 ≤ P }
     requires most { P ≤ 3 }
 {
-    run_build::<partitioned::ordered::Index<EightCap, u64, P>, C, W>(alloc, present, report)
+    run_build::<partitioned::ordered::Index<EightCap, u64, P>, M>(alloc, present, report)
 }
 
 /// Measures the build of a kind. One without partitions has none.
-fn measure_build<C: Clock, W: Write>(
+fn measure_build<M: Meter>(
     alloc: Global,
     kind: Kind,
     present: &[[u8; 32]],
-    report: &mut Report<'_, C, W>,
+    report: &mut M,
 ) -> Result<(), Failure> {
     match kind {
-        Kind::PartitionedUnordered1 => build_punordered::<1, C, W>(alloc, present, report),
-        Kind::PartitionedUnordered2 => build_punordered::<2, C, W>(alloc, present, report),
-        Kind::PartitionedUnordered3 => build_punordered::<3, C, W>(alloc, present, report),
-        Kind::PartitionedOrdered1 => build_pordered::<1, C, W>(alloc, present, report),
-        Kind::PartitionedOrdered2 => build_pordered::<2, C, W>(alloc, present, report),
-        Kind::PartitionedOrdered3 => build_pordered::<3, C, W>(alloc, present, report),
+        Kind::PartitionedUnordered1 => build_punordered::<1, M>(alloc, present, report),
+        Kind::PartitionedUnordered2 => build_punordered::<2, M>(alloc, present, report),
+        Kind::PartitionedUnordered3 => build_punordered::<3, M>(alloc, present, report),
+        Kind::PartitionedOrdered1 => build_pordered::<1, M>(alloc, present, report),
+        Kind::PartitionedOrdered2 => build_pordered::<2, M>(alloc, present, report),
+        Kind::PartitionedOrdered3 => build_pordered::<3, M>(alloc, present, report),
         _ => Ok(()),
     }
 }
 
 /// Measures a snapshot over a kind, or the map of full keys. The other kinds have none.
-fn measure_snapshot<C: Clock, W: Write>(
+fn measure_snapshot<M: Meter>(
     alloc: Global,
     kind: Kind,
     present: &[[u8; 32]],
     absent: &[[u8; 32]],
-    report: &mut Report<'_, C, W>,
+    report: &mut M,
 ) -> Result<(), Failure> {
     match kind {
-        Kind::Ordered => snapshots::run_snapshot::<ordered::Index<EightCap, Record>, C, W>(
+        Kind::Ordered => snapshots::run_snapshot::<ordered::Index<EightCap, Record>, M>(
             alloc, present, absent, report,
         ),
-        Kind::PartitionedOrdered2 => snapshots::run_both::<RecordIndex, C, W>(
+        Kind::PartitionedOrdered2 => snapshots::run_both::<RecordIndex, M>(
             alloc, present, absent, report,
         ),
         Kind::StdTree => snapshots::run_map(alloc, present, absent, report),
@@ -382,11 +379,11 @@ fn measure_snapshot<C: Clock, W: Write>(
 }
 
 /// Measures one partition of a kind that spills. The other kinds have none.
-fn measure_spills<C: Clock, W: Write>(
+fn measure_spills<M: Meter>(
     alloc: Global,
     kind: Kind,
     present: &[[u8; 32]],
-    report: &mut Report<'_, C, W>,
+    report: &mut M,
 ) -> Result<(), Failure> {
     match kind {
         Kind::PartitionedOrdered1 => spills::run(alloc, present, report),
@@ -395,11 +392,11 @@ fn measure_spills<C: Clock, W: Write>(
 }
 
 /// Measures the batches of a kind that looks ahead. The other kinds have none.
-fn measure_batches<C: Clock, W: Write>(
+fn measure_batches<M: Meter>(
     alloc: Global,
     kind: Kind,
     present: &[[u8; 32]],
-    report: &mut Report<'_, C, W>,
+    report: &mut M,
 ) -> Result<(), Failure> {
     match kind {
         Kind::PartitionedOrdered2 => batches::run(alloc, present, report),
@@ -408,30 +405,23 @@ fn measure_batches<C: Clock, W: Write>(
 }
 
 /// Measures a kind over so many keys.
-fn measure<C: Clock, W: Write>(
+fn measure<M: Meter>(
     alloc: Global,
-    clock: &C,
-    output: &mut W,
     kind: Kind,
     count: usize,
     measured: Measured,
+    report: &mut M,
 ) -> Result<(), Failure> {
     let (Some(present), Some(absent)) = (keys(alloc, count, PRESENT), keys(alloc, count, ABSENT))
     else {
         return Err(Failure::Refused(Fault::Memory));
     };
-    let mut report = Report {
-        clock,
-        output,
-        kind: kind.name(),
-        count,
-    };
     match measured {
-        Measured::Calls => measure_calls(alloc, kind, &present, &absent, &mut report),
-        Measured::Build => measure_build(alloc, kind, &present, &mut report),
-        Measured::Snapshot => measure_snapshot(alloc, kind, &present, &absent, &mut report),
-        Measured::Spills => measure_spills(alloc, kind, &present, &mut report),
-        Measured::Batches => measure_batches(alloc, kind, &present, &mut report),
+        Measured::Calls => measure_calls(alloc, kind, &present, &absent, report),
+        Measured::Build => measure_build(alloc, kind, &present, report),
+        Measured::Snapshot => measure_snapshot(alloc, kind, &present, &absent, report),
+        Measured::Spills => measure_spills(alloc, kind, &present, report),
+        Measured::Batches => measure_batches(alloc, kind, &present, report),
     }
 }
 
@@ -452,8 +442,13 @@ fn main(rt: HostRuntime) -> ExitCode {
         );
         return ExitCode::from(2);
     };
-    let mut output = rt.stdout();
-    match measure(rt.alloc(), &rt, &mut output, kind, count, measured) {
+    let mut report = Report {
+        clock: &rt,
+        output: &mut rt.stdout(),
+        kind: kind.name(),
+        count,
+    };
+    match measure(rt.alloc(), kind, count, measured, &mut report) {
         Ok(()) => ExitCode::from(0),
         Err(_) => {
             let _ = writeln!(rt.stderr(), "failed");

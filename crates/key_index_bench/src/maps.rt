@@ -1,12 +1,10 @@
 //! The same operations of the standard library's maps, from the first eight bytes of a key to a value.
 use crate::flat::Failure;
-use crate::report::Report;
+use crate::report::Meter;
 use key_index_flat::index::Fault;
 use key_index_flat::translator::{EightCap, Translator};
 use std::collections::{BTreeMap, HashMap};
-use std::io::Write;
 use std::ops::Bound;
-use std::time::Clock;
 
 /// What both maps can do.
 pub(crate) trait Map {
@@ -77,10 +75,10 @@ impl Map for BTreeMap<u64, u64> {
 }
 
 /// Files value i under key i.
-pub(crate) fn insert<M: Map, C: Clock, W: Write>(
-    map: &mut M,
+pub(crate) fn insert<X: Map, M: Meter>(
+    map: &mut X,
     keys: &[[u8; 32]],
-    report: &mut Report<'_, C, W>,
+    report: &mut M,
 ) -> Result<(), Failure> {
     let start = report.start()?;
     let mut value = 0u64;
@@ -95,11 +93,11 @@ pub(crate) fn insert<M: Map, C: Clock, W: Write>(
 }
 
 /// The value of each key.
-pub(crate) fn get<M: Map, C: Clock, W: Write>(
-    map: &M,
+pub(crate) fn get<X: Map, M: Meter>(
+    map: &X,
     name: &str,
     keys: &[[u8; 32]],
-    report: &mut Report<'_, C, W>,
+    report: &mut M,
 ) -> Result<(), Failure> {
     let start = report.start()?;
     let mut sum = 0u64;
@@ -113,10 +111,10 @@ pub(crate) fn get<M: Map, C: Clock, W: Write>(
 }
 
 /// Adds one to the value of each key.
-pub(crate) fn update<M: Map, C: Clock, W: Write>(
-    map: &mut M,
+pub(crate) fn update<X: Map, M: Meter>(
+    map: &mut X,
     keys: &[[u8; 32]],
-    report: &mut Report<'_, C, W>,
+    report: &mut M,
 ) -> Result<(), Failure> {
     let start = report.start()?;
     let mut sum = 0u64;
@@ -130,10 +128,10 @@ pub(crate) fn update<M: Map, C: Clock, W: Write>(
 }
 
 /// The value of the next key above each key, or else of the first.
-pub(crate) fn next<C: Clock, W: Write>(
+pub(crate) fn next<M: Meter>(
     map: &BTreeMap<u64, u64>,
     keys: &[[u8; 32]],
-    report: &mut Report<'_, C, W>,
+    report: &mut M,
 ) -> Result<(), Failure> {
     let start = report.start()?;
     let mut sum = 0u64;
@@ -153,10 +151,10 @@ pub(crate) fn next<C: Clock, W: Write>(
 }
 
 /// Takes each key out.
-pub(crate) fn remove<M: Map, C: Clock, W: Write>(
-    map: &mut M,
+pub(crate) fn remove<X: Map, M: Meter>(
+    map: &mut X,
     keys: &[[u8; 32]],
-    report: &mut Report<'_, C, W>,
+    report: &mut M,
 ) -> Result<(), Failure> {
     let start = report.start()?;
     for key in keys {

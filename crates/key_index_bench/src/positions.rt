@@ -3,12 +3,10 @@ ghost use Rattle.std.specs.Prelude.{◌≡◌, ◌+◌};
 ghost use Rattle.key_index.specs.Immutable.{end_of};
 
 use crate::flat::Failure;
-use crate::report::Report;
+use crate::report::Meter;
 use key_index::index::immutable::Index;
 use key_index_flat::index::Fault;
 use key_index_flat::translator::Translator;
-use std::io::Write;
-use std::time::Clock;
 
 /// Indexes the keys at the positions from the end on, and tells the end then.
 fn insert_all<T: Translator>(
@@ -30,10 +28,10 @@ fn insert_all<T: Translator>(
 }
 
 /// Indexes key i at position i.
-pub(crate) fn insert<T: Translator, C: Clock, W: Write>(
+pub(crate) fn insert<T: Translator, M: Meter>(
     index: &mut Index<T>,
     keys: &[[u8; 32]],
-    report: &mut Report<'_, C, W>,
+    report: &mut M,
 ) -> Result<(), Failure>
     requires { end_of index.old ≡ 0 }
 {
@@ -46,11 +44,11 @@ pub(crate) fn insert<T: Translator, C: Clock, W: Write>(
 }
 
 /// The positions of each key.
-pub(crate) fn get<T: Translator, C: Clock, W: Write>(
+pub(crate) fn get<T: Translator, M: Meter>(
     index: &Index<T>,
     name: &str,
     keys: &[[u8; 32]],
-    report: &mut Report<'_, C, W>,
+    report: &mut M,
 ) -> Result<(), Failure> {
     let start = report.start()?;
     let mut sum = 0u64;
@@ -64,10 +62,10 @@ pub(crate) fn get<T: Translator, C: Clock, W: Write>(
 }
 
 /// Prunes up to a position, one position at a time.
-pub(crate) fn prune<T: Translator, C: Clock, W: Write>(
+pub(crate) fn prune<T: Translator, M: Meter>(
     index: &mut Index<T>,
     count: usize,
-    report: &mut Report<'_, C, W>,
+    report: &mut M,
 ) -> Result<(), Failure> {
     let start = report.start()?;
     for position in 0..count {

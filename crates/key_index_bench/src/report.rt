@@ -1,5 +1,6 @@
 //! The lines of a run.
-use std::io::{self, Write};
+use crate::flat::Failure;
+use std::io::Write;
 use std::time::{Clock, Duration, Instant};
 
 /// Where the lines of one kind go, and the clock that they are timed by.
@@ -11,24 +12,38 @@ pub(crate) struct Report<'a, C, W> {
     pub(crate) count: usize,
 }
 
-impl<'a, C: Clock, W: Write> Report<'a, C, W> {
+/// What takes the time of operations, and writes it down.
+pub(crate) trait Meter {
     /// The time at which operations start.
-    pub(crate) fn start(&self) -> io::Result<Instant> {
-        Instant::now(self.clock)
-    }
+    fn start(&self) -> Result<Instant, Failure>;
 
     /// Writes what so many operations took since then, and the sum of the values that they found.
-    pub(crate) fn line(
+    fn line(
         &mut self,
         name: &str,
         operations: usize,
         start: Instant,
         sum: u64,
-    ) -> io::Result<()> {
+    ) -> Result<(), Failure>;
+}
+
+impl<'a, C: Clock, W: Write> Meter for Report<'a, C, W> {
+    fn start(&self) -> Result<Instant, Failure> {
+        Ok(Instant::now(self.clock)?)
+    }
+
+    fn line(
+        &mut self,
+        name: &str,
+        operations: usize,
+        start: Instant,
+        sum: u64,
+    ) -> Result<(), Failure> {
         let tenths = tenths_each(start.elapsed(self.clock)?, operations);
         let (kind, count) = (self.kind, self.count);
         let (whole, tenth) = (tenths / 10, tenths % 10);
-        writeln!(self.output, "{kind} {name} {count} {whole}.{tenth} {sum}")
+        writeln!(self.output, "{kind} {name} {count} {whole}.{tenth} {sum}")?;
+        Ok(())
     }
 }
 

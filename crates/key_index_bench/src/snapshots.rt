@@ -2,16 +2,14 @@
 
 use crate::build::equal_cuts;
 use crate::flat::Failure;
-use crate::report::Report;
+use crate::report::Meter;
 use key_index::snapshot::{Record, Snapshot};
 use key_index_flat::index::{Factory, Fault, Ordered};
 use key_index_flat::translator::EightCap;
 use key_index_parts::index::partitioned::Partitioned;
 use std::alloc::Global;
 use std::collections::BTreeMap;
-use std::io::Write;
 use std::ops::Bound;
-use std::time::Clock;
 
 /// In how many ranges an index is built.
 const RANGES: usize = 16;
@@ -68,12 +66,12 @@ impl Positions for BTreeMap<Vec<u8>, u64> {
 }
 
 /// Sets position i of key i.
-fn set<P: Positions, C: Clock, W: Write>(
+fn set<P: Positions, M: Meter>(
     alloc: Global,
     positions: &mut P,
     name: &str,
     keys: &[[u8; 32]],
-    report: &mut Report<'_, C, W>,
+    report: &mut M,
 ) -> Result<(), Failure> {
     let start = report.start()?;
     let mut position = 0u64;
@@ -88,11 +86,11 @@ fn set<P: Positions, C: Clock, W: Write>(
 }
 
 /// The position of each key.
-fn get<P: Positions, C: Clock, W: Write>(
+fn get<P: Positions, M: Meter>(
     positions: &P,
     name: &str,
     keys: &[[u8; 32]],
-    report: &mut Report<'_, C, W>,
+    report: &mut M,
 ) -> Result<(), Failure> {
     let start = report.start()?;
     let mut sum = 0u64;
@@ -113,11 +111,11 @@ fn copies(alloc: Global, keys: &[[u8; 32]]) -> Option<Vec<Vec<u8>>> {
 }
 
 /// The position of the next key above each key.
-fn next<P: Positions, C: Clock, W: Write>(
+fn next<P: Positions, M: Meter>(
     alloc: Global,
     positions: &P,
     keys: &[[u8; 32]],
-    report: &mut Report<'_, C, W>,
+    report: &mut M,
 ) -> Result<(), Failure> {
     let Some(keys) = copies(alloc, keys) else {
         return Err(Failure::Refused(Fault::Memory));
@@ -132,12 +130,12 @@ fn next<P: Positions, C: Clock, W: Write>(
 }
 
 /// Each operation but the build.
-fn calls<P: Positions, C: Clock, W: Write>(
+fn calls<P: Positions, M: Meter>(
     alloc: Global,
     positions: &mut P,
     present: &[[u8; 32]],
     absent: &[[u8; 32]],
-    report: &mut Report<'_, C, W>,
+    report: &mut M,
 ) -> Result<(), Failure> {
     set(alloc, positions, "snapshot_set", present, report)?;
     set(alloc, positions, "snapshot_set_again", present, report)?;
@@ -149,14 +147,8 @@ fn calls<P: Positions, C: Clock, W: Write>(
 /// Measures a snapshot over an index.
 pub(crate) fn run_snapshot<
     I: Factory<Translator = EightCap, Value = Record> + Ordered + Drop,
-    C: Clock,
-    W: Write,
->(
-    alloc: Global,
-    present: &[[u8; 32]],
-    absent: &[[u8; 32]],
-    report: &mut Report<'_, C, W>,
-) -> Result<(), Failure>
+    M: Meter,
+>(alloc: Global, present: &[[u8; 32]], absent: &[[u8; 32]], report: &mut M) -> Result<(), Failure>
     requires { I.makes }
 {
     match I::new(alloc, EightCap) {
@@ -172,11 +164,11 @@ pub(crate) fn run_snapshot<
 }
 
 /// Measures the ordered map of full keys.
-pub(crate) fn run_map<C: Clock, W: Write>(
+pub(crate) fn run_map<M: Meter>(
     alloc: Global,
     present: &[[u8; 32]],
     absent: &[[u8; 32]],
-    report: &mut Report<'_, C, W>,
+    report: &mut M,
 ) -> Result<(), Failure> {
     let mut map: BTreeMap<Vec<u8>, u64> = BTreeMap::new(alloc);
     calls(alloc, &mut map, present, absent, report)
@@ -197,9 +189,8 @@ fn records(alloc: Global, keys: &[[u8; 32]]) -> Option<Vec<Record>> {
 /// Measures the build of a snapshot in ranges of equal spans.
 fn run_build<
     I: Factory<Translator = EightCap, Value = Record> + Ordered + Partitioned + Drop,
-    C: Clock,
-    W: Write,
->(alloc: Global, keys: &[[u8; 32]], report: &mut Report<'_, C, W>) -> Result<(), Failure>
+    M: Meter,
+>(alloc: Global, keys: &[[u8; 32]], report: &mut M) -> Result<(), Failure>
     requires { I.makes }
 {
     let Some(records) = records(alloc, keys) else {
@@ -228,16 +219,10 @@ fn run_build<
 /// Measures a snapshot over an index in partitions, and its build.
 pub(crate) fn run_both<
     I: Factory<Translator = EightCap, Value = Record> + Ordered + Partitioned + Drop,
-    C: Clock,
-    W: Write,
->(
-    alloc: Global,
-    present: &[[u8; 32]],
-    absent: &[[u8; 32]],
-    report: &mut Report<'_, C, W>,
-) -> Result<(), Failure>
+    M: Meter,
+>(alloc: Global, present: &[[u8; 32]], absent: &[[u8; 32]], report: &mut M) -> Result<(), Failure>
     requires { I.makes }
 {
-    run_snapshot::<I, C, W>(alloc, present, absent, report)?;
-    run_build::<I, C, W>(alloc, present, report)
+    run_snapshot::<I, M>(alloc, present, absent, report)?;
+    run_build::<I, M>(alloc, present, report)
 }

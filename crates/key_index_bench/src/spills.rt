@@ -2,13 +2,11 @@
 ghost use Rattle.std.specs.Prelude.{◌≤◌};
 
 use crate::flat::Failure;
-use crate::report::Report;
+use crate::report::Meter;
 use key_index_flat::index::{Cursor, CursorState, Fault, Search, Unordered};
 use key_index_flat::translator::EightCap;
 use key_index_parts::index::partitioned::ordered;
 use std::alloc::Global;
-use std::io::Write;
-use std::time::Clock;
 
 /// The index whose partitions spill.
 type Index = ordered::Index<EightCap, u64, 1>;
@@ -44,12 +42,12 @@ fn insert_all(index: &mut Index, keys: &[[u8; 32]]) -> Result<(), Fault> {
 }
 
 /// Files each key into one partition, which spills at so many values.
-fn flood<C: Clock, W: Write>(
+fn flood<M: Meter>(
     alloc: Global,
     name: &str,
     threshold: usize,
     keys: &[[u8; 32]],
-    report: &mut Report<'_, C, W>,
+    report: &mut M,
 ) -> Result<(), Failure>
     requires { 1 ≤ threshold }
 {
@@ -81,11 +79,7 @@ fn insert_rising(index: &mut Index, number: usize) -> Result<(), Failure> {
 }
 
 /// The insertion at which a partition of so many values spills: time by value.
-fn spill<C: Clock, W: Write>(
-    alloc: Global,
-    count: usize,
-    report: &mut Report<'_, C, W>,
-) -> Result<(), Failure> {
+fn spill<M: Meter>(alloc: Global, count: usize, report: &mut M) -> Result<(), Failure> {
     let mut index = make(alloc, count.max(1))?;
     for number in 1..count {
         insert_rising(&mut index, number)?;
@@ -123,11 +117,11 @@ fn take_rising(index: &mut Index, number: usize, by_cursor: bool) -> Result<(), 
 
 /// Lets a partition grow to the default threshold and shrink below half of it, so often: time by insertion and removal. In place of the
 /// sum stands how many values were moved.
-fn waves<C: Clock, W: Write>(
+fn waves<M: Meter>(
     alloc: Global,
     name: &str,
     by_cursor: bool,
-    report: &mut Report<'_, C, W>,
+    report: &mut M,
 ) -> Result<(), Failure> {
     let mut index = make(alloc, DEFAULT_THRESHOLD)?;
     let left = DEFAULT_THRESHOLD / 2 - 1;
@@ -149,10 +143,10 @@ fn waves<C: Clock, W: Write>(
 }
 
 /// Measures one partition.
-pub(crate) fn run<C: Clock, W: Write>(
+pub(crate) fn run<M: Meter>(
     alloc: Global,
     keys: &[[u8; 32]],
-    report: &mut Report<'_, C, W>,
+    report: &mut M,
 ) -> Result<(), Failure> {
     spill(alloc, keys.len(), report)?;
     flood(alloc, "flood", DEFAULT_THRESHOLD, keys, report)?;

@@ -28,7 +28,7 @@ pub use traits::search::Search;
 pub use traits::unordered::{Factory, Unordered};
 pub use values::Values;
 
-/// Why a call was refused. A refused call changes no content and no count.
+/// Why a call was refused. A refused call changes no content, nor `keys`, `items` and `pruned`.
 #[derive(Debug, Clone, Copy, PartialEq, Eq)]
 pub enum Fault {
     /// A growth found no memory.

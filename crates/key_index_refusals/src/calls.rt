@@ -1,12 +1,7 @@
-//! Calls of an index, each made again where it was refused: a refused one leaves all as it was.
-use crate::kept::{Kept, key, partition};
-use crate::kinds::{Kind, Standing};
-use crate::report::{Report, Stop, must};
+//! Calls of an index, and the same on the lists that are kept beside it.
+use crate::kept::{Kept, key};
+use crate::report::{Stop, must};
 use key_index_flat::index::{Cursor, CursorState, Fault, Refused, Runs, Search, Unordered};
-use std::io::Write;
-
-/// How often a call is made that is refused.
-pub(crate) const TRIES: u32 = 2;
 
 /// A call by key, with what it takes.
 #[derive(Clone, Copy)]
@@ -22,7 +17,7 @@ pub(crate) enum Call {
 }
 
 impl Call {
-    fn name(self) -> &'static str {
+    pub(crate) fn name(self) -> &'static str {
         match self {
             Call::Insert(_) => "insert",
             Call::InsertAndRetain(_, _) => "insert_and_retain",
@@ -36,7 +31,7 @@ impl Call {
     }
 
     /// Whether it may take memory whatever it finds.
-    fn inserts(self) -> bool {
+    pub(crate) fn inserts(self) -> bool {
         match self {
             Call::Retain(_) | Call::Remove | Call::GetMut => false,
             _ => true,
@@ -44,7 +39,7 @@ impl Call {
     }
 
     /// Whether it moves a small partition back to arrays.
-    fn returns(self) -> bool {
+    pub(crate) fn returns(self) -> bool {
         match self {
             Call::InsertAndRetain(_, _) | Call::Retain(_) | Call::Remove => true,
             _ => false,
@@ -52,7 +47,7 @@ impl Call {
     }
 
     /// Whether a partition that is due spills with it.
-    fn settles(self) -> bool {
+    pub(crate) fn settles(self) -> bool {
         match self {
             Call::InsertAt(_) | Call::GetMany => false,
             _ => true,
@@ -259,7 +254,7 @@ fn get_many<I: Unordered<Value = u64>>(
 }
 
 /// One call by key, and the same on the list where it is accepted.
-fn once<I: Unordered<Value = u64>>(
+pub(crate) fn once<I: Unordered<Value = u64>>(
     index: &mut I,
     kept: &mut Kept,
     at: usize,
@@ -275,128 +270,6 @@ fn once<I: Unordered<Value = u64>>(
         Call::GetMut => get_mut(index, kept, at, key(at)),
         Call::GetMany => get_many(index, kept, at),
     }
-}
-
-/// An index holds what is kept, and gives it in order.
-pub(crate) fn agrees<K: Kind>(index: &K::Index, kept: &Kept) -> Result<(), Stop> {
-    kept.are_in(index)?;
-    K::is_in_order(index, kept)
-}
-
-/// How a partition stands once so many values of it were moved into a tree.
-fn spilled(before: Standing, carried: usize) -> Standing {
-    Standing {
-        spilled: true,
-        inline_len: 0,
-        spills: before.spills.saturating_add(1),
-        moved: before.moved.saturating_add(carried as u64),
-    }
-}
-
-/// How a spilled partition of so many values stands once they were moved back to arrays.
-fn moved_back(before: Standing, entries: usize) -> Standing {
-    Standing {
-        spilled: false,
-        inline_len: entries,
-        spills: before.spills,
-        moved: before.moved.saturating_add(entries as u64),
-    }
-}
-
-/// How a partition stands once so many values are left in it.
-fn left_with(before: Standing, entries: usize) -> Standing {
-    let spilled = before.spilled && entries > 0;
-    Standing {
-        spilled,
-        inline_len: if spilled { 0 } else { entries },
-        ..before
-    }
-}
-
-/// How a partition of so many values stands behind an accepted call by key that found it standing so, before it is moved back.
-fn after_call(before: Standing, threshold: usize, entries: usize) -> Standing {
-    let due = !before.spilled && threshold <= before.inline_len;
-    if due {
-        return left_with(spilled(before, before.inline_len), entries);
-    }
-    if !before.spilled && threshold <= entries {
-        return spilled(before, entries);
-    }
-    left_with(before, entries)
-}
-
-/// A partition stands as an accepted call by key leaves it. A call that takes values out moves a small one back, unless the memory for
-/// that is refused.
-fn stands_after<K: Kind, W: Write + Drop>(
-    report: &mut Report<'_, W>,
-    index: &K::Index,
-    kept: &Kept,
-    at: usize,
-    before: Standing,
-    call: Call,
-) -> Result<(), Stop> {
-    if kept.threshold == 0 {
-        return Ok(());
-    }
-    let entries = kept.entries(partition(at));
-    let now = K::standing(index, partition(at));
-    let left = if call.settles() {
-        after_call(before, kept.threshold, entries)
-    } else {
-        left_with(before, entries)
-    };
-    let is_small = left.spilled && entries < kept.threshold.saturating_sub(entries);
-    if !call.returns() || !is_small {
-        return must(now == left, "how a partition stands");
-    }
-    let returns = now == moved_back(left, entries);
-    report.tells("return", returns)?;
-    must(returns || now == left, "how a small partition stands")
-}
-
-/// A partition stands as before a refused call, or it was due and spilled. Of the calls that take memory for a spill alone none is refused
-/// but where one is due.
-fn stands_refused<K: Kind>(
-    index: &K::Index,
-    kept: &Kept,
-    at: usize,
-    before: Standing,
-    call: Call,
-) -> Result<(), Stop> {
-    let due = kept.threshold > 0 && !before.spilled && kept.threshold <= before.inline_len;
-    must(due || call.inserts(), "a refusal where no spill is due")?;
-    let now = K::standing(index, partition(at));
-    if now == before {
-        return Ok(());
-    }
-    must(
-        due && now == spilled(before, before.inline_len),
-        "how a refusal leaves a partition",
-    )
-}
-
-/// A call by key, made again where it is refused.
-pub(crate) fn tries<K: Kind, W: Write + Drop>(
-    report: &mut Report<'_, W>,
-    index: &mut K::Index,
-    kept: &mut Kept,
-    at: usize,
-    call: Call,
-) -> Result<(), Stop> {
-    if !kept.has_room(at) {
-        return Ok(());
-    }
-    for _ in 0..TRIES {
-        let before = K::standing(index, partition(at));
-        let accepted = once(index, kept, at, call)?;
-        report.tells(call.name(), accepted)?;
-        agrees::<K>(index, kept)?;
-        if accepted {
-            return stands_after::<K, W>(report, index, kept, at, before, call);
-        }
-        stands_refused::<K>(index, kept, at, before, call)?;
-    }
-    Ok(())
 }
 
 /// A cursor's `insert`: whether it is accepted. None where the cursor allows no insertion, or a refusal is not for memory, does not hand
@@ -420,7 +293,7 @@ fn insert_by<C: Cursor<Value = u64>>(cursor: &mut C, value: u64) -> Option<bool>
 }
 
 /// A cursor goes behind a value, or past the end, and puts another there: whether that was accepted. None where the key has no values.
-fn put_behind<I: Unordered<Value = u64>>(
+pub(crate) fn put_behind<I: Unordered<Value = u64>>(
     index: &mut I,
     kept: &mut Kept,
     at: usize,
@@ -452,33 +325,8 @@ fn put_behind<I: Unordered<Value = u64>>(
     Ok(Some(accepted))
 }
 
-/// The same, made again where it was refused.
-pub(crate) fn grow<K: Kind, W: Write + Drop>(
-    report: &mut Report<'_, W>,
-    index: &mut K::Index,
-    kept: &mut Kept,
-    at: usize,
-    past: u64,
-    value: u64,
-) -> Result<(), Stop> {
-    if !kept.has_room(at) || kept.list(at).is_empty() {
-        return Ok(());
-    }
-    for _ in 0..TRIES {
-        let Some(accepted) = put_behind(index, kept, at, key(at), past, value)? else {
-            return Ok(());
-        };
-        report.tells("cursor_insert", accepted)?;
-        agrees::<K>(index, kept)?;
-        if accepted {
-            return Ok(());
-        }
-    }
-    Ok(())
-}
-
 /// A cursor takes the first value of a key out.
-fn take_first<I: Unordered<Value = u64>>(
+pub(crate) fn take_first<I: Unordered<Value = u64>>(
     index: &mut I,
     kept: &mut Kept,
     at: usize,
@@ -495,23 +343,4 @@ fn take_first<I: Unordered<Value = u64>>(
         cursor.delete();
     }
     kept.take_first(at)
-}
-
-/// The same, which needs no memory and moves nothing back.
-pub(crate) fn shrink<K: Kind>(
-    index: &mut K::Index,
-    kept: &mut Kept,
-    at: usize,
-) -> Result<(), Stop> {
-    if kept.list(at).is_empty() {
-        return Ok(());
-    }
-    let before = K::standing(index, partition(at));
-    take_first(index, kept, at, key(at))?;
-    agrees::<K>(index, kept)?;
-    let left = left_with(before, kept.entries(partition(at)));
-    must(
-        K::standing(index, partition(at)) == left,
-        "how a cursor leaves a partition",
-    )
 }

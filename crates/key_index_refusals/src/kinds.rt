@@ -1,4 +1,4 @@
-//! The indices over which a state goes.
+//! The kinds of index over which a state goes.
 use crate::kept::Kept;
 use crate::report::Stop;
 use key_index_flat::index::{self, Factory, Fault, ordered, unordered};
@@ -17,17 +17,15 @@ pub(crate) struct Standing {
 }
 
 /// A kind of index.
-pub(crate) trait Kind {
-    type Index: index::Unordered<Value = u64> + Drop;
-
+pub(crate) trait Kind: index::Unordered<Value = u64> + Drop {
     /// An index with no values, whose partitions spill at so many where they do.
-    fn make(alloc: Global, threshold: usize) -> Result<Self::Index, Fault>;
+    fn make(alloc: Global, threshold: usize) -> Result<Self, Fault>;
 
     /// How a partition stands, of an index whose partitions spill.
-    fn standing(index: &Self::Index, partition: usize) -> Standing;
+    fn standing_of(&self, partition: usize) -> Standing;
 
     /// An index with an order gives the neighbours that the lists have.
-    fn is_in_order(index: &Self::Index, kept: &Kept) -> Result<(), Stop>;
+    fn is_in_order(&self, kept: &Kept) -> Result<(), Stop>;
 }
 
 /// Nothing that spills.
@@ -39,95 +37,84 @@ const ARRAYS: Standing = Standing {
 };
 
 /// The flat unordered index.
-pub(crate) struct Unordered;
+pub(crate) type Unordered = unordered::Index<TwoCap, u64>;
 
 impl Kind for Unordered {
-    type Index = unordered::Index<TwoCap, u64>;
-
-    fn make(alloc: Global, _threshold: usize) -> Result<Self::Index, Fault> {
+    fn make(alloc: Global, _threshold: usize) -> Result<Unordered, Fault> {
         Factory::new(alloc, TwoCap)
     }
 
-    fn standing(_index: &Self::Index, _partition: usize) -> Standing {
+    fn standing_of(&self, _partition: usize) -> Standing {
         ARRAYS
     }
 
-    fn is_in_order(_index: &Self::Index, _kept: &Kept) -> Result<(), Stop> {
+    fn is_in_order(&self, _kept: &Kept) -> Result<(), Stop> {
         Ok(())
     }
 }
 
 /// The flat ordered index.
-pub(crate) struct Ordered;
+pub(crate) type Ordered = ordered::Index<TwoCap, u64>;
 
 impl Kind for Ordered {
-    type Index = ordered::Index<TwoCap, u64>;
-
-    fn make(alloc: Global, _threshold: usize) -> Result<Self::Index, Fault> {
+    fn make(alloc: Global, _threshold: usize) -> Result<Ordered, Fault> {
         Factory::new(alloc, TwoCap)
     }
 
-    fn standing(_index: &Self::Index, _partition: usize) -> Standing {
+    fn standing_of(&self, _partition: usize) -> Standing {
         ARRAYS
     }
 
-    fn is_in_order(index: &Self::Index, kept: &Kept) -> Result<(), Stop> {
-        kept.are_in_order(index)
+    fn is_in_order(&self, kept: &Kept) -> Result<(), Stop> {
+        kept.are_in_order(self)
     }
 }
 
 /// The partitioned unordered index.
-pub(crate) struct Punordered;
+pub(crate) type Punordered = partitioned::unordered::Index<OneCap, u64, 1>;
 
 impl Kind for Punordered {
-    type Index = partitioned::unordered::Index<OneCap, u64, 1>;
-
-    fn make(alloc: Global, _threshold: usize) -> Result<Self::Index, Fault> {
+    fn make(alloc: Global, _threshold: usize) -> Result<Punordered, Fault> {
         Factory::new(alloc, OneCap)
     }
 
-    fn standing(_index: &Self::Index, _partition: usize) -> Standing {
+    fn standing_of(&self, _partition: usize) -> Standing {
         ARRAYS
     }
 
-    fn is_in_order(_index: &Self::Index, _kept: &Kept) -> Result<(), Stop> {
+    fn is_in_order(&self, _kept: &Kept) -> Result<(), Stop> {
         Ok(())
     }
 }
 
 /// The partitioned ordered index, whose partitions spill.
-pub(crate) type Spilling = partitioned::ordered::Index<OneCap, u64, 1>;
+pub(crate) type Pordered = partitioned::ordered::Index<OneCap, u64, 1>;
 
 /// At how many values a partition spills where no threshold is given.
 pub(crate) const DEFAULT: usize = 512;
 
-/// The partitioned ordered index.
-pub(crate) struct Pordered;
-
 impl Kind for Pordered {
-    type Index = Spilling;
-
-    fn make(alloc: Global, threshold: usize) -> Result<Self::Index, Fault> {
+    fn make(alloc: Global, threshold: usize) -> Result<Pordered, Fault> {
         if 0 < threshold && threshold < DEFAULT {
-            return Spilling::with_threshold(alloc, OneCap, threshold);
+            return Pordered::with_threshold(alloc, OneCap, threshold);
         }
         Factory::new(alloc, OneCap)
     }
 
-    fn standing(index: &Self::Index, partition: usize) -> Standing {
+    fn standing_of(&self, partition: usize) -> Standing {
         if partition < 256 {
             Standing {
-                spilled: index.is_spilled(partition),
-                inline_len: index.inline_len(partition),
-                spills: index.spills(),
-                moved: index.moved(),
+                spilled: self.is_spilled(partition),
+                inline_len: self.inline_len(partition),
+                spills: self.spills(),
+                moved: self.moved(),
             }
         } else {
             ARRAYS
         }
     }
 
-    fn is_in_order(index: &Self::Index, kept: &Kept) -> Result<(), Stop> {
-        kept.are_in_order(index)
+    fn is_in_order(&self, kept: &Kept) -> Result<(), Stop> {
+        kept.are_in_order(self)
     }
 }

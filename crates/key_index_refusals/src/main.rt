@@ -9,6 +9,8 @@ mod positions;
 mod report;
 mod snapshots;
 mod states;
+mod subject;
+mod tries;
 
 use report::{Report, Stop, USAGE};
 use std::alloc::Global;
@@ -29,9 +31,9 @@ fn go<W: Write + Drop>(alloc: Global, words: &[String], output: W) -> Result<(),
     let Ok(output) = BufWriter::new(alloc, output) else {
         return Err(Stop::Memory);
     };
-    let mut report = Report::new(output, kind, state);
+    let mut report = Report::new(alloc)?;
     let ended = states::go(alloc, &mut report, (kind, state), seed);
-    report.flush()?;
+    report.write(output, kind, state)?;
     ended
 }
 

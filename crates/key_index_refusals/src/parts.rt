@@ -1,14 +1,13 @@
 //! Ranges, builds, commands and batches that look ahead.
 
-use crate::calls::TRIES;
 use crate::kept::{KEYS, Kept, key, push};
-use crate::kinds::Spilling;
+use crate::kinds::Pordered;
 use crate::report::{Report, Stop, must};
+use crate::tries::TRIES;
 use key_index_flat::index::{Command, Fault, Outcome, Step, Unordered, run};
 use key_index_parts::index::partitioned::ordered::Ahead;
 use key_index_parts::index::partitioned::{Op, PartitionRange, Partitioned, build_in_ranges};
 use std::alloc::Global;
-use std::io::Write;
 
 /// The partitions of the range: those of the keys from 1 to 4.
 const FROM: usize = 0x10;
@@ -25,8 +24,8 @@ pub(crate) fn bytes(alloc: Global, at: usize) -> Result<Vec<u8>, Stop> {
 }
 
 /// A range of an index; none where it was refused twice.
-fn new_range<I: Partitioned<Value = u64>, W: Write + Drop>(
-    report: &mut Report<'_, W>,
+fn new_range<I: Partitioned<Value = u64>>(
+    report: &mut Report,
     index: &I,
 ) -> Result<Option<I::Range>, Stop> {
     for _ in 0..TRIES {
@@ -79,8 +78,8 @@ fn agrees<R: PartitionRange<Value = u64>>(range: &R, kept: &Kept) -> Result<(), 
 }
 
 /// `get_mut_or_insert` of a range.
-fn fill<R: PartitionRange<Value = u64>, W: Write + Drop>(
-    report: &mut Report<'_, W>,
+fn fill<R: PartitionRange<Value = u64>>(
+    report: &mut Report,
     range: &mut R,
     kept: &mut Kept,
     at: usize,
@@ -129,9 +128,9 @@ fn stands<R: PartitionRange<Value = u64>>(
 }
 
 /// A range that is filled and then installed beside a value of the index.
-pub(crate) fn install<I: Partitioned<Value = u64> + Drop, W: Write + Drop>(
+pub(crate) fn install<I: Partitioned<Value = u64> + Drop>(
     alloc: Global,
-    report: &mut Report<'_, W>,
+    report: &mut Report,
     mut index: I,
 ) -> Result<(), Stop> {
     let mut kept = Kept::new(alloc)?;
@@ -150,8 +149,8 @@ pub(crate) fn install<I: Partitioned<Value = u64> + Drop, W: Write + Drop>(
 }
 
 /// `install_range`, made again where it was refused.
-fn install_filled<I: Partitioned<Value = u64>, W: Write + Drop>(
-    report: &mut Report<'_, W>,
+fn install_filled<I: Partitioned<Value = u64>>(
+    report: &mut Report,
     index: &mut I,
     mut range: I::Range,
     kept: &mut Kept,
@@ -191,9 +190,9 @@ fn ops(alloc: Global) -> Result<Vec<Op<u64>>, Stop> {
 }
 
 /// A build in two ranges: a refused one leaves no value, or those of the first range alone.
-pub(crate) fn build<I: Partitioned<Value = u64>, W: Write + Drop>(
+pub(crate) fn build<I: Partitioned<Value = u64>>(
     alloc: Global,
-    report: &mut Report<'_, W>,
+    report: &mut Report,
     index: &mut I,
 ) -> Result<(), Stop> {
     let mut kept = Kept::new(alloc)?;
@@ -262,9 +261,9 @@ fn run_all<I: Unordered<Value = u64>, F: Fn(&u64) -> bool + Drop>(
 }
 
 /// A run of commands of which no closure takes a value out: its outcomes say which were refused.
-pub(crate) fn run_commands<I: Unordered<Value = u64>, W: Write + Drop>(
+pub(crate) fn run_commands<I: Unordered<Value = u64>>(
     alloc: Global,
-    report: &mut Report<'_, W>,
+    report: &mut Report,
     index: &mut I,
 ) -> Result<(), Stop> {
     let kept = Kept::new(alloc)?;
@@ -340,7 +339,7 @@ pub(crate) trait LooksAhead: Unordered<Value = u64> {
         requires { F.IsAlwaysCallable on };
 }
 
-impl LooksAhead for Spilling {
+impl LooksAhead for Pordered {
     fn look_ahead<F: FnMut(Ahead<'_, u64>)>(&self, on: F) -> Result<(), Fault> {
         let keys = [key(0), key(1), key(2), key(3), key(4), key(5)];
         self.get_many_ahead(keys.iter().copied(), on)
@@ -348,9 +347,9 @@ impl LooksAhead for Spilling {
 }
 
 /// A batch that looks ahead, of all keys: a refused one tells nothing.
-pub(crate) fn ahead<I: LooksAhead, W: Write + Drop>(
+pub(crate) fn ahead<I: LooksAhead>(
     alloc: Global,
-    report: &mut Report<'_, W>,
+    report: &mut Report,
     index: &mut I,
 ) -> Result<(), Stop> {
     let mut kept = Kept::new(alloc)?;

@@ -1,14 +1,13 @@
 //! The immutable index, marks, and the arrays of a partition.
-use crate::calls::TRIES;
 use crate::kept::{KEYS, key, push};
 use crate::parts::bytes;
 use crate::report::{Report, Stop, must};
+use crate::tries::TRIES;
 use key_index::index::immutable::{Index, Mark, Marked, run_marks};
 use key_index_flat::index::{Fault, Refused};
 use key_index_flat::translator::EightCap;
 use key_index_parts::index::partitioned::ordered::partition::Partition;
 use std::alloc::Global;
-use std::io::Write;
 
 /// Positions are below this.
 const POSITIONS: u64 = 64;
@@ -54,9 +53,9 @@ impl Filed {
 }
 
 /// An index with room for so many positions; none where it was refused twice.
-fn make<W: Write + Drop>(
+fn make(
     alloc: Global,
-    report: &mut Report<'_, W>,
+    report: &mut Report,
     capacity: usize,
 ) -> Result<Option<Index<EightCap>>, Stop> {
     for _ in 0..TRIES {
@@ -75,11 +74,11 @@ fn make<W: Write + Drop>(
 }
 
 /// `insert` at a position.
-fn insert<W: Write + Drop>(
-    report: &mut Report<'_, W>,
+fn insert(
+    report: &mut Report,
     index: &mut Index<EightCap>,
     filed: &mut Filed,
-    name: &str,
+    name: &'static str,
     at: usize,
     position: u64,
 ) -> Result<(), Stop> {
@@ -102,10 +101,7 @@ fn insert<W: Write + Drop>(
 }
 
 /// Positions with gaps, and so many that ring and table are made anew; then a pruning.
-pub(crate) fn indexed<W: Write + Drop>(
-    alloc: Global,
-    report: &mut Report<'_, W>,
-) -> Result<(), Stop> {
+pub(crate) fn indexed(alloc: Global, report: &mut Report) -> Result<(), Stop> {
     let mut filed = Filed::new(alloc)?;
     let Some(mut index) = make(alloc, report, 0)? else {
         return Ok(());
@@ -131,10 +127,7 @@ pub(crate) fn indexed<W: Write + Drop>(
 }
 
 /// An index with room for four positions takes these with no more memory.
-pub(crate) fn has_room<W: Write + Drop>(
-    alloc: Global,
-    report: &mut Report<'_, W>,
-) -> Result<(), Stop> {
+pub(crate) fn has_room(alloc: Global, report: &mut Report) -> Result<(), Stop> {
     let mut filed = Filed::new(alloc)?;
     let Some(mut index) = make(alloc, report, 4)? else {
         return Ok(());
@@ -182,10 +175,7 @@ fn take(filed: &mut Filed, outcomes: &[Marked]) -> Result<(), Stop> {
 }
 
 /// Marks come to what their outcomes say.
-pub(crate) fn marked<W: Write + Drop>(
-    alloc: Global,
-    report: &mut Report<'_, W>,
-) -> Result<(), Stop> {
+pub(crate) fn marked(alloc: Global, report: &mut Report) -> Result<(), Stop> {
     let mut filed = Filed::new(alloc)?;
     let Some(mut index) = make(alloc, report, 0)? else {
         return Ok(());
@@ -217,10 +207,7 @@ fn add(partition: &mut Partition<u16, u64>, key: u16, value: u64) -> Result<(), 
 }
 
 /// Arrays that grow by one, take room, and are drained.
-pub(crate) fn arrays<W: Write + Drop>(
-    alloc: Global,
-    report: &mut Report<'_, W>,
-) -> Result<(), Stop> {
+pub(crate) fn arrays(alloc: Global, report: &mut Report) -> Result<(), Stop> {
     let mut partition = Partition::new(alloc);
     let mut wanted = Vec::with_capacity(alloc, 4)?;
     for value in 0..4 {
@@ -231,8 +218,8 @@ pub(crate) fn arrays<W: Write + Drop>(
 }
 
 /// A value is put in behind those of the key 2, made again where it was refused.
-fn grown<W: Write + Drop>(
-    report: &mut Report<'_, W>,
+fn grown(
+    report: &mut Report,
     partition: &mut Partition<u16, u64>,
     wanted: &mut Vec<u64>,
     value: u64,
@@ -256,8 +243,8 @@ fn grown<W: Write + Drop>(
 }
 
 /// Room for a hundred pairs, asked for again where it was refused.
-fn reserved<W: Write + Drop>(
-    report: &mut Report<'_, W>,
+fn reserved(
+    report: &mut Report,
     partition: &mut Partition<u16, u64>,
     wanted: &[u64],
 ) -> Result<(), Stop> {
@@ -275,8 +262,8 @@ fn reserved<W: Write + Drop>(
 }
 
 /// `drain_runs` of arrays with values of the key 2 alone.
-fn drained<W: Write + Drop>(
-    report: &mut Report<'_, W>,
+fn drained(
+    report: &mut Report,
     mut partition: Partition<u16, u64>,
     wanted: &[u64],
 ) -> Result<(), Stop> {

@@ -1,5 +1,6 @@
-//! The lines of a run, and how it ends.
-use std::alloc::AllocError;
+//! What the calls of a run came to, and how it ends.
+use crate::kept::push;
+use std::alloc::{AllocError, Global};
 use std::io::{self, BufWriter, Write};
 
 /// What the arguments have to be.
@@ -37,34 +38,77 @@ pub(crate) fn must(holds: bool, what: &'static str) -> Result<(), Stop> {
     }
 }
 
-/// Where the lines of one state go.
-#[derive(Drop)]
-pub(crate) struct Report<'a, W: Write + Drop> {
-    output: BufWriter<W>,
-    kind: &'a str,
-    state: &'a str,
+/// How often a call was accepted, and how often refused.
+#[derive(Clone, Copy)]
+struct Count {
+    call: &'static str,
+    accepted: u64,
+    refused: u64,
 }
 
-impl<'a, W: Write + Drop> Report<'a, W> {
-    pub(crate) fn new(output: BufWriter<W>, kind: &'a str, state: &'a str) -> Report<'a, W> {
-        Report {
-            output,
-            kind,
-            state,
+/// How many calls a state may have names for.
+const NAMES: usize = 24;
+
+/// How often each call of a state was accepted and refused. Its memory is taken before the first of them.
+#[derive(Drop)]
+pub(crate) struct Report {
+    counts: Vec<Count>,
+}
+
+impl Report {
+    pub(crate) fn new(alloc: Global) -> Result<Report, Stop> {
+        let counts = Vec::with_capacity(alloc, NAMES)?;
+        Ok(Report { counts })
+    }
+
+    /// The place of a call among the counts.
+    fn place(&mut self, call: &'static str) -> Result<usize, Stop> {
+        if let Some(place) = self
+            .counts
+            .iter()
+            .position(|count: &Count| count.call == call)
+        {
+            return Ok(place);
         }
+        let place = self.counts.len();
+        must(place < NAMES, "a call with room for its counts")?;
+        let count = Count {
+            call,
+            accepted: 0,
+            refused: 0,
+        };
+        push(&mut self.counts, count)?;
+        Ok(place)
     }
 
     /// A call was accepted or refused.
-    pub(crate) fn tells(&mut self, call: &str, accepted: bool) -> Result<(), Stop> {
-        let (kind, state) = (self.kind, self.state);
-        let told = if accepted { "accepted" } else { "refused" };
-        writeln!(self.output, "{kind} {state} {call} {told}")?;
+    pub(crate) fn tells(&mut self, call: &'static str, accepted: bool) -> Result<(), Stop> {
+        let place = self.place(call)?;
+        if let Some(count) = self.counts.get_mut(place) {
+            if accepted {
+                count.accepted = count.accepted.saturating_add(1);
+            } else {
+                count.refused = count.refused.saturating_add(1);
+            }
+        }
         Ok(())
     }
 
-    /// Writes the lines that wait.
-    pub(crate) fn flush(&mut self) -> Result<(), Stop> {
-        self.output.flush()?;
+    /// Writes a line for each call that was made.
+    pub(crate) fn write<W: Write + Drop>(
+        &self,
+        mut output: BufWriter<W>,
+        kind: &str,
+        state: &str,
+    ) -> Result<(), Stop> {
+        for count in self.counts.iter() {
+            let (call, accepted, refused) = (count.call, count.accepted, count.refused);
+            writeln!(
+                output,
+                "{kind} {state} {call} {accepted} accepted {refused} refused"
+            )?;
+        }
+        output.flush()?;
         Ok(())
     }
 }

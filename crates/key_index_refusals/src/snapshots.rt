@@ -1,9 +1,9 @@
 //! Snapshots, and callers of an index.
 
-use crate::calls::TRIES;
 use crate::kept::{KEYS, Kept, key, push};
 use crate::parts::bytes;
 use crate::report::{Report, Stop, must};
+use crate::tries::TRIES;
 use key_index::snapshot::{Record, Snapshot};
 use key_index_flat::index::{Fault, Ordered, Unordered};
 use key_index_flat::translator::EightCap;
@@ -11,7 +11,6 @@ use key_index_parts::index::partitioned::Partitioned;
 use key_index_uses::callers::{add, replace_first};
 use key_index_uses::segments::SegmentedLog;
 use std::alloc::Global;
-use std::io::Write;
 
 /// The position of each key.
 type Positions = [Option<u64>; KEYS];
@@ -51,8 +50,8 @@ fn is_map<I: Ordered<Value = Record>>(
 }
 
 /// Sets the position of a key, or takes it out.
-fn change<I: Ordered<Value = Record>, W: Write + Drop>(
-    report: &mut Report<'_, W>,
+fn change<I: Ordered<Value = Record>>(
+    report: &mut Report,
     snapshot: &mut Snapshot<I>,
     positions: &mut Positions,
     at: usize,
@@ -96,9 +95,9 @@ fn change<I: Ordered<Value = Record>, W: Write + Drop>(
 }
 
 /// Keys that are set, set again and taken out.
-pub(crate) fn changed<I: Ordered<Value = Record> + Drop, W: Write + Drop>(
+pub(crate) fn changed<I: Ordered<Value = Record> + Drop>(
     alloc: Global,
-    report: &mut Report<'_, W>,
+    report: &mut Report,
     index: I,
 ) -> Result<(), Stop> {
     if !index.is_empty() {
@@ -134,9 +133,9 @@ fn records(alloc: Global) -> Result<Vec<Record>, Stop> {
 }
 
 /// A snapshot that is built: a refused one gives none.
-pub(crate) fn built<I: Ordered<Value = Record> + Partitioned + Drop, W: Write + Drop>(
+pub(crate) fn built<I: Ordered<Value = Record> + Partitioned + Drop>(
     alloc: Global,
-    report: &mut Report<'_, W>,
+    report: &mut Report,
     index: I,
 ) -> Result<(), Stop> {
     let records = records(alloc)?;
@@ -152,9 +151,9 @@ pub(crate) fn built<I: Ordered<Value = Record> + Partitioned + Drop, W: Write + 
 }
 
 /// Callers of an index by key.
-pub(crate) fn called<I: Unordered<Value = u64>, W: Write + Drop>(
+pub(crate) fn called<I: Unordered<Value = u64>>(
     alloc: Global,
-    report: &mut Report<'_, W>,
+    report: &mut Report,
     index: &mut I,
 ) -> Result<(), Stop> {
     let mut kept = Kept::new(alloc)?;
@@ -169,8 +168,8 @@ pub(crate) fn called<I: Unordered<Value = u64>, W: Write + Drop>(
 }
 
 /// `add`: whether it is accepted.
-fn added<I: Unordered<Value = u64>, W: Write + Drop>(
-    report: &mut Report<'_, W>,
+fn added<I: Unordered<Value = u64>>(
+    report: &mut Report,
     index: &mut I,
     kept: &mut Kept,
     value: u64,
@@ -195,8 +194,8 @@ fn added<I: Unordered<Value = u64>, W: Write + Drop>(
 }
 
 /// `replace_first`, which sets the first value of a key that has one.
-fn replaced<I: Unordered<Value = u64>, W: Write + Drop>(
-    report: &mut Report<'_, W>,
+fn replaced<I: Unordered<Value = u64>>(
+    report: &mut Report,
     index: &mut I,
     kept: &mut Kept,
 ) -> Result<(), Stop> {
@@ -215,10 +214,7 @@ fn replaced<I: Unordered<Value = u64>, W: Write + Drop>(
 }
 
 /// A log in segments: a refused record changes nothing.
-pub(crate) fn appended<W: Write + Drop>(
-    alloc: Global,
-    report: &mut Report<'_, W>,
-) -> Result<(), Stop> {
+pub(crate) fn appended(alloc: Global, report: &mut Report) -> Result<(), Stop> {
     let Ok(mut log) = SegmentedLog::new(alloc, EightCap) else {
         return report.tells("log_new", false);
     };

@@ -1,32 +1,29 @@
 //! The states, by name.
-use crate::calls::{Call, agrees, grow, shrink, tries};
+use crate::calls::Call;
 use crate::kept::{KEYS, Kept};
 use crate::kinds::{DEFAULT, Kind, Ordered, Pordered, Punordered, Unordered};
 use crate::parts::{LooksAhead, ahead, build, install, run_commands};
 use crate::positions::{arrays, has_room, indexed, marked};
 use crate::report::{Report, Stop, USAGE};
 use crate::snapshots::{appended, built, called, changed};
+use crate::subject::Subject;
+use crate::tries::{grow, shrink, tries};
 use key_index::snapshot::Record;
 use key_index_flat::index::{self, Factory, ordered};
 use key_index_flat::translator::{OneCap, TwoCap};
 use key_index_parts::index::partitioned;
 use key_index_parts::index::partitioned::Partitioned;
 use std::alloc::Global;
-use std::io::Write;
 
 /// An index with no values, of a kind, whose partitions spill at so many where they do; none where that was refused twice.
-fn make<K: Kind, W: Write + Drop>(
-    alloc: Global,
-    report: &mut Report<'_, W>,
-    threshold: usize,
-) -> Result<Option<K::Index>, Stop> {
+fn make<I: Kind>(alloc: Global, report: &mut Report, threshold: usize) -> Result<Option<I>, Stop> {
     let name = if threshold == 0 || threshold == DEFAULT {
         "new"
     } else {
         "with_threshold"
     };
     for _ in 0..2 {
-        match K::make(alloc, threshold) {
+        match I::make(alloc, threshold) {
             Ok(index) => {
                 report.tells(name, true)?;
                 return Ok(Some(index));
@@ -66,16 +63,12 @@ fn call_of(number: u64) -> Call {
 const CALLS: u32 = 500;
 
 /// Calls at random.
-fn random<K: Kind, W: Write + Drop>(
-    alloc: Global,
-    report: &mut Report<'_, W>,
-    threshold: usize,
+fn random<S: Subject>(
+    report: &mut Report,
+    index: &mut S,
+    kept: &mut Kept,
     seed: u64,
 ) -> Result<(), Stop> {
-    let mut kept = Kept::spilling_at(alloc, threshold)?;
-    let Some(mut index) = make::<K, W>(alloc, report, threshold)? else {
-        return Ok(());
-    };
     let mut last = seed.wrapping_mul(0x9e37_79b9_7f4a_7c15) | 1;
     for _ in 0..CALLS {
         let number = next(&mut last);
@@ -83,61 +76,38 @@ fn random<K: Kind, W: Write + Drop>(
         if number % 16 < 3 {
             let place = (number >> 24 & 3) as usize;
             let past = kept.list(at).get(place).copied().unwrap_or(0);
-            grow::<K, W>(report, &mut index, &mut kept, at, past, number >> 32)?;
+            grow(report, index, kept, at, past, number >> 32)?;
         } else {
-            tries::<K, W>(report, &mut index, &mut kept, at, call_of(number >> 4))?;
+            tries(report, index, kept, at, call_of(number >> 4))?;
         }
     }
-    agrees::<K>(&index, &kept)
+    index.agrees(kept)
 }
 
 /// A list of three values, an insertion with retention, three values more behind the first one, and a value of a neighbouring key.
-fn worked<K: Kind, W: Write + Drop>(
-    alloc: Global,
-    report: &mut Report<'_, W>,
-    threshold: usize,
-) -> Result<(), Stop> {
-    let mut kept = Kept::spilling_at(alloc, threshold)?;
-    let Some(mut index) = make::<K, W>(alloc, report, threshold)? else {
-        return Ok(());
-    };
-    tries::<K, W>(report, &mut index, &mut kept, 2, Call::GetOrInsert(3))?;
-    grow::<K, W>(report, &mut index, &mut kept, 2, 3, 1)?;
-    grow::<K, W>(report, &mut index, &mut kept, 2, 1, 2)?;
-    tries::<K, W>(
-        report,
-        &mut index,
-        &mut kept,
-        2,
-        Call::InsertAndRetain(4, 15),
-    )?;
+fn worked<S: Subject>(report: &mut Report, index: &mut S, kept: &mut Kept) -> Result<(), Stop> {
+    tries(report, index, kept, 2, Call::GetOrInsert(3))?;
+    grow(report, index, kept, 2, 3, 1)?;
+    grow(report, index, kept, 2, 1, 2)?;
+    tries(report, index, kept, 2, Call::InsertAndRetain(4, 15))?;
     for value in 7..10 {
-        grow::<K, W>(report, &mut index, &mut kept, 2, 3, value)?;
+        grow(report, index, kept, 2, 3, value)?;
     }
-    tries::<K, W>(report, &mut index, &mut kept, 3, Call::Insert(5))?;
-    tries::<K, W>(
-        report,
-        &mut index,
-        &mut kept,
-        2,
-        Call::InsertAndRetain(6, 5),
-    )?;
-    tries::<K, W>(report, &mut index, &mut kept, 2, Call::GetMany)?;
-    tries::<K, W>(report, &mut index, &mut kept, 2, Call::Remove)
+    tries(report, index, kept, 3, Call::Insert(5))?;
+    tries(report, index, kept, 2, Call::InsertAndRetain(6, 5))?;
+    tries(report, index, kept, 2, Call::GetMany)?;
+    tries(report, index, kept, 2, Call::Remove)
 }
 
-/// Two values that a cursor put into a partition which spills at two, and then each of four calls.
-fn overfull<K: Kind, W: Write + Drop>(
-    alloc: Global,
-    report: &mut Report<'_, W>,
+/// Two values that a cursor put into a partition which spills at two, and then each of five calls.
+fn overfull<S: Subject>(
+    report: &mut Report,
+    index: &mut S,
+    kept: &mut Kept,
     seed: u64,
 ) -> Result<(), Stop> {
-    let mut kept = Kept::spilling_at(alloc, 2)?;
-    let Some(mut index) = make::<K, W>(alloc, report, 2)? else {
-        return Ok(());
-    };
-    tries::<K, W>(report, &mut index, &mut kept, 4, Call::GetOrInsert(1))?;
-    grow::<K, W>(report, &mut index, &mut kept, 4, 1, 2)?;
+    tries(report, index, kept, 4, Call::GetOrInsert(1))?;
+    grow(report, index, kept, 4, 1, 2)?;
     let due = match seed % 5 {
         0 => Call::GetMut,
         1 => Call::Remove,
@@ -145,38 +115,35 @@ fn overfull<K: Kind, W: Write + Drop>(
         3 => Call::Insert(3),
         _ => Call::InsertAndRetain(3, 2),
     };
-    tries::<K, W>(report, &mut index, &mut kept, 4, due)?;
-    tries::<K, W>(report, &mut index, &mut kept, 4, Call::GetMany)
+    tries(report, index, kept, 4, due)?;
+    tries(report, index, kept, 4, Call::GetMany)
 }
 
 /// Puts eight values in a partition, which spills, and takes five of them out by cursors.
-fn grown_and_shrunken<K: Kind, W: Write + Drop>(
-    report: &mut Report<'_, W>,
-    index: &mut K::Index,
+fn grown_and_shrunken<S: Subject>(
+    report: &mut Report,
+    index: &mut S,
     kept: &mut Kept,
 ) -> Result<(), Stop> {
     for value in 1..5 {
-        tries::<K, W>(report, index, kept, 2, Call::Insert(value))?;
-        tries::<K, W>(report, index, kept, 3, Call::Insert(value))?;
+        tries(report, index, kept, 2, Call::Insert(value))?;
+        tries(report, index, kept, 3, Call::Insert(value))?;
     }
     for at in [2, 2, 2, 3, 3] {
-        shrink::<K>(index, kept, at)?;
+        shrink(index, kept, at)?;
     }
     Ok(())
 }
 
 /// Eight values spill a partition, and cursors leave three of them. Each of four calls moves those back, or where that was refused a later
 /// one does, and seven more spill the partition once more.
-fn shrunken<K: Kind, W: Write + Drop>(
-    alloc: Global,
-    report: &mut Report<'_, W>,
+fn shrunken<S: Subject>(
+    report: &mut Report,
+    index: &mut S,
+    kept: &mut Kept,
     seed: u64,
 ) -> Result<(), Stop> {
-    let mut kept = Kept::spilling_at(alloc, 8)?;
-    let Some(mut index) = make::<K, W>(alloc, report, 8)? else {
-        return Ok(());
-    };
-    grown_and_shrunken::<K, W>(report, &mut index, &mut kept)?;
+    grown_and_shrunken(report, index, kept)?;
     let (at, call) = match seed % 4 {
         0 => (1, Call::Remove),
         1 => (3, Call::Remove),
@@ -184,80 +151,85 @@ fn shrunken<K: Kind, W: Write + Drop>(
         _ => (2, Call::InsertAndRetain(5, 2)),
     };
     for (at, call) in [(at, call), (1, Call::Retain(0)), (1, Call::Remove)] {
-        tries::<K, W>(report, &mut index, &mut kept, at, call)?;
+        tries(report, index, kept, at, call)?;
     }
     for value in 6..13 {
-        tries::<K, W>(report, &mut index, &mut kept, 2, Call::Insert(value))?;
+        tries(report, index, kept, 2, Call::Insert(value))?;
     }
-    tries::<K, W>(report, &mut index, &mut kept, 2, Call::GetMany)
+    tries(report, index, kept, 2, Call::GetMany)
+}
+
+/// A state of calls by key and by cursors, over an index of any kind.
+fn go_by_calls<S: Subject>(
+    report: &mut Report,
+    index: &mut S,
+    kept: &mut Kept,
+    state: &str,
+    seed: u64,
+) -> Result<(), Stop> {
+    match (state, kept.threshold) {
+        ("random", _) => random(report, index, kept, seed),
+        ("worked", _) => worked(report, index, kept),
+        ("overfull", 2) => overfull(report, index, kept, seed),
+        ("shrunken", 8) => shrunken(report, index, kept, seed),
+        _ => Err(Stop::Wrong(USAGE)),
+    }
 }
 
 /// A state of one kind of index.
-fn go_over<K: Kind, W: Write + Drop>(
+fn go_over<I: Kind>(
     alloc: Global,
-    report: &mut Report<'_, W>,
+    report: &mut Report,
+    state: &str,
+    threshold: usize,
+    seed: u64,
+) -> Result<(), Stop> {
+    let mut kept = Kept::spilling_at(alloc, threshold)?;
+    let Some(mut index) = make::<I>(alloc, report, threshold)? else {
+        return Ok(());
+    };
+    match state {
+        "run" => run_commands(alloc, report, &mut index),
+        "callers" => called(alloc, report, &mut index),
+        _ => go_by_calls(report, &mut index, &mut kept, state, seed),
+    }
+}
+
+/// A state of a kind in partitions.
+fn go_parted<I: Kind + Partitioned<Value = u64>>(
+    alloc: Global,
+    report: &mut Report,
     state: &str,
     threshold: usize,
     seed: u64,
 ) -> Result<(), Stop> {
     match state {
-        "random" => random::<K, W>(alloc, report, threshold, seed),
-        "worked" => worked::<K, W>(alloc, report, threshold),
-        "run" => match make::<K, W>(alloc, report, threshold)? {
-            Some(mut index) => run_commands(alloc, report, &mut index),
-            None => Ok(()),
-        },
-        "callers" => match make::<K, W>(alloc, report, threshold)? {
-            Some(mut index) => called(alloc, report, &mut index),
-            None => Ok(()),
-        },
-        _ => Err(Stop::Wrong(USAGE)),
-    }
-}
-
-/// A state of a kind in partitions.
-fn go_parted<K: Kind, W: Write + Drop>(
-    alloc: Global,
-    report: &mut Report<'_, W>,
-    state: &str,
-    threshold: usize,
-    seed: u64,
-) -> Result<(), Stop>
-where
-    K::Index: Partitioned<Value = u64>,
-{
-    match state {
-        "range" => match make::<K, W>(alloc, report, threshold)? {
+        "range" => match make::<I>(alloc, report, threshold)? {
             Some(index) => install(alloc, report, index),
             None => Ok(()),
         },
-        "build" => match make::<K, W>(alloc, report, threshold)? {
+        "build" => match make::<I>(alloc, report, threshold)? {
             Some(mut index) => build(alloc, report, &mut index),
             None => Ok(()),
         },
-        _ => go_over::<K, W>(alloc, report, state, threshold, seed),
+        _ => go_over::<I>(alloc, report, state, threshold, seed),
     }
 }
 
-/// A state of a kind whose partitions spill.
-fn go_spilling<K: Kind, W: Write + Drop>(
+/// A state of a kind whose batches look ahead.
+fn go_ahead<I: Kind + Partitioned<Value = u64> + LooksAhead>(
     alloc: Global,
-    report: &mut Report<'_, W>,
+    report: &mut Report,
     state: &str,
     threshold: usize,
     seed: u64,
-) -> Result<(), Stop>
-where
-    K::Index: Partitioned<Value = u64> + LooksAhead,
-{
-    match (state, threshold) {
-        ("ahead", _) => match make::<K, W>(alloc, report, threshold)? {
-            Some(mut index) => ahead(alloc, report, &mut index),
-            None => Ok(()),
-        },
-        ("overfull", 2) => overfull::<K, W>(alloc, report, seed),
-        ("shrunken", 8) => shrunken::<K, W>(alloc, report, seed),
-        _ => go_parted::<K, W>(alloc, report, state, threshold, seed),
+) -> Result<(), Stop> {
+    if state != "ahead" {
+        return go_parted::<I>(alloc, report, state, threshold, seed);
+    }
+    match make::<I>(alloc, report, threshold)? {
+        Some(mut index) => ahead(alloc, report, &mut index),
+        None => Ok(()),
     }
 }
 
@@ -278,9 +250,9 @@ fn parted_records(alloc: Global) -> Result<partitioned::ordered::Index<OneCap, R
 }
 
 /// A snapshot over an index in partitions.
-fn parted_snapshot<I: index::Ordered<Value = Record> + Partitioned + Drop, W: Write + Drop>(
+fn parted_snapshot<I: index::Ordered<Value = Record> + Partitioned + Drop>(
     alloc: Global,
-    report: &mut Report<'_, W>,
+    report: &mut Report,
     state: &str,
     index: I,
 ) -> Result<(), Stop> {
@@ -292,11 +264,7 @@ fn parted_snapshot<I: index::Ordered<Value = Record> + Partitioned + Drop, W: Wr
 }
 
 /// A snapshot over the flat ordered index, or over the partitioned one at a threshold of two.
-fn go_snapshot<W: Write + Drop>(
-    alloc: Global,
-    report: &mut Report<'_, W>,
-    state: &str,
-) -> Result<(), Stop> {
+fn go_snapshot(alloc: Global, report: &mut Report, state: &str) -> Result<(), Stop> {
     match state {
         "flat" => changed(alloc, report, flat_records(alloc)?),
         _ => parted_snapshot(alloc, report, state, parted_records(alloc)?),
@@ -304,32 +272,23 @@ fn go_snapshot<W: Write + Drop>(
 }
 
 /// A state of the partitioned ordered index.
-fn go_pordered<W: Write + Drop>(
+fn go_pordered(
     alloc: Global,
-    report: &mut Report<'_, W>,
+    report: &mut Report,
     state: &str,
     threshold: usize,
     seed: u64,
 ) -> Result<(), Stop> {
-    go_spilling::<Pordered, W>(alloc, report, state, threshold, seed)
+    go_ahead::<Pordered>(alloc, report, state, threshold, seed)
 }
 
 /// A state of the partitioned unordered index.
-fn go_punordered<W: Write + Drop>(
-    alloc: Global,
-    report: &mut Report<'_, W>,
-    state: &str,
-    seed: u64,
-) -> Result<(), Stop> {
-    go_parted::<Punordered, W>(alloc, report, state, 0, seed)
+fn go_punordered(alloc: Global, report: &mut Report, state: &str, seed: u64) -> Result<(), Stop> {
+    go_parted::<Punordered>(alloc, report, state, 0, seed)
 }
 
 /// A state of the immutable index.
-fn go_immutable<W: Write + Drop>(
-    alloc: Global,
-    report: &mut Report<'_, W>,
-    state: &str,
-) -> Result<(), Stop> {
+fn go_immutable(alloc: Global, report: &mut Report, state: &str) -> Result<(), Stop> {
     match state {
         "index" => indexed(alloc, report),
         "room" => has_room(alloc, report),
@@ -340,16 +299,16 @@ fn go_immutable<W: Write + Drop>(
 }
 
 /// Goes through a state of a kind of index.
-pub(crate) fn go<W: Write + Drop>(
+pub(crate) fn go(
     alloc: Global,
-    report: &mut Report<'_, W>,
+    report: &mut Report,
     words: (&str, &str),
     seed: u64,
 ) -> Result<(), Stop> {
     let (kind, state) = words;
     match kind {
-        "unordered" => go_over::<Unordered, W>(alloc, report, state, 0, seed),
-        "ordered" => go_over::<Ordered, W>(alloc, report, state, 0, seed),
+        "unordered" => go_over::<Unordered>(alloc, report, state, 0, seed),
+        "ordered" => go_over::<Ordered>(alloc, report, state, 0, seed),
         "punordered" => go_punordered(alloc, report, state, seed),
         "pordered_at_1" => go_pordered(alloc, report, state, 1, seed),
         "pordered_at_2" => go_pordered(alloc, report, state, 2, seed),

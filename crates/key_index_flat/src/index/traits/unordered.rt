@@ -70,7 +70,7 @@ pub trait Unordered: Search {
 
     /// Puts a value behind those under the key's index key, then asks once on each of these, in list order and so on the new one
     /// last, and takes out those that are answered false. The new one is put behind whatever `INSERT_FIRST` is, and it does not count
-    /// as pruned. All memory that the call may need is taken before anything is asked. A refusal changes nothing and hands
+    /// as pruned. All memory that the call may need is taken before anything is asked. A refusal leaves the view and hands
     /// the value back: `Full` exactly where the index holds `usize::MAX` values, and else `Memory`.
     fn insert_and_retain<F: FnMut(&Self::Value) -> bool>(
         &mut self,
