@@ -4,7 +4,6 @@
 --     at_key, older_at      the values that a map has at a key; those of the map of older values, if there is one
 --     stored                the content that the newest and the older values stand for
 --     value_of              the value that entries have at a key
---     held_at               the list that the two maps have at a key
 --     SameBut, Sets         at each key but k new has what old has; so it is, and it has w at k (None: nothing)
 --     IsLinked              each key with older values has a newest one, and there are as many newest values as keys in the content
 --     Kept                  a flat index as its storage's contracts see it: its translator, what it holds, and how many held values were
@@ -42,10 +41,6 @@ stored cmp eq heads older = content_of cmp heads (older_at eq older)
 
 abbrev pub value_of : {K V : Type 0} → (K → K → Ordering) → List (K × V) → K → Option V
 value_of cmp entries k = lookup (eq_by_cmp cmp k) entries
-
-abbrev pub held_at : {K V A S B : Type 0} → (K → K → Ordering) → (K → K → Bool)
-    → List (K × V) → Option (Box (HashMap K (Vec V A) S) B) → K → List V
-held_at cmp eq heads older k = list_of (value_of cmp heads k) (older_at eq older k)
 
 abbrev pub SameBut : {K X : Type 0} → (K → K → Ordering) → (K → X) → (K → X) → K → Type 0
 SameBut {K} cmp old new k = (q : K) → eq_by_cmp cmp q k ≡ false → new q ≡ old q

@@ -1,4 +1,3 @@
 pub mod EntryLemmas
 pub mod ScanLemmas
 pub mod IndexLemmas
-pub mod PutLemmas

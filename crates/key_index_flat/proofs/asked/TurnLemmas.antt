@@ -5,10 +5,10 @@
 --     turned_first, ..                  at the start, after a value that stays, after one that goes, of the same, and at the end
 --     asked_first, asked_none           a list with one value more in front, and an empty one
 --     asked_newest, asked_same          where the answer and the lists are known by other names
---     asked_alone                       a value that was put where there was none
+--     asked_few                         no more are left than there were
 --     asks_behind, some_taken           a value that was put behind others, where all of these were asked on then
 --     few_kept, count_kept              how many values are left then
-use Rattle.std.proofs.Common.{◌≡◌, ℕ, suc, ◌+◌, ◌<◌, ◌≤◌, Bool, true, false, nat_lt, cond, List, [], ◌∷◌, Option, Some, None, ◌++◌, length, take, refl, sym, ap, subst, ◌∙◌, arith, append-nil, length-append}
+use Rattle.std.proofs.Common.{◌≡◌, ℕ, suc, ◌+◌, ◌<◌, ◌≤◌, Bool, true, false, nat_lt, cond, List, [], ◌∷◌, ◌++◌, length, take, refl, sym, ap, subst, ◌∙◌, arith, append-nil, length-append}
 use Rattle.std.proofs.Math.ListN.{set, get_or}
 use Rattle.std.proofs.lemmas.Bool.{ltb-true, ltb-false}
 use Rattle.std.proofs.lemmas.Grind.{take-set_at}
@@ -16,7 +16,6 @@ use Rattle.std.proofs.lemmas.List.{length-set, take-set-le, take_more_set}
 use Rattle.std.specs.List.{items_where_true, SwappedAt}
 use Rattle.std.specs.List.Retain.{ReturnsInTurn}
 use Rattle.key_index_flat.specs.Retention.{last_answer, AsksBehind, AsksInTurn}
-use Rattle.key_index_flat.specs.Storage.{list_of}
 
 pub last_push : (b : Bool) (bs : List Bool) (x : Bool) → last_answer b (bs ++ x ∷ []) ≡ x
 last_push b [] x = refl
@@ -136,12 +135,12 @@ module _ {F V : Type 0} (step : F → V → Bool → F → Type 0) where
   asked_first f g before v true vs ws stays s h = (true ∷ h.0, h.1, ap (λ n. suc n) h.2, (g, s, h.3), ap (λ l. v ∷ l) h.4, h.5)
   asked_first f g before v false vs ws stays s h = (false ∷ h.0, h.1, ap (λ n. suc n) h.2, (g, s, h.3), h.4, h.5)
 
-  -- where the answer on it, and then the values behind it, are known by other names
-  pub asked_newest : (f g : F) (v : V) (b a : Bool) (vs held ws zs : List V) (stays : Bool) → step f v b g → AsksInTurn step g a held ws stays → held ≡ vs → a ≡ b
-      → cond b (v ∷ ws) ws ≡ zs → AsksInTurn step f true (v ∷ vs) zs stays
-  asked_newest f g v b a vs held ws zs stays s h same said e =
-      subst (λ (l : List V). AsksInTurn step f true (v ∷ vs) l stays) e
-      (asked_first f g true v b vs ws stays s (subst (λ (l : List V). AsksInTurn step g b l ws stays) same (subst (λ (x : Bool). AsksInTurn step g x held ws stays) said h)))
+  -- where the answer on it and the list are known by other names
+  pub asked_newest : (f g : F) (v : V) (a b : Bool) (xs vs ws : List V) (stays : Bool) → step f v a g → AsksInTurn step g a vs ws stays → a ≡ b → xs ≡ v ∷ vs
+      → AsksInTurn step f true xs (cond b (v ∷ ws) ws) stays
+  asked_newest f g v a b xs vs ws stays s h said is =
+      subst (λ (l : List V). AsksInTurn step f true l (cond b (v ∷ ws) ws) stays) (sym is)
+      (subst (λ (x : Bool). AsksInTurn step f true (v ∷ vs) (cond x (v ∷ ws) ws) stays) said (asked_first f g true v a vs ws stays s h))
 
   -- and on other names of the lists
   pub asked_same : (f : F) (before : Bool) (xs ys xs' ys' : List V) (stays : Bool) → AsksInTurn step f before xs ys stays → xs ≡ xs' → ys ≡ ys' → AsksInTurn step f before xs' ys' stays
@@ -152,13 +151,9 @@ module _ {F V : Type 0} (step : F → V → Bool → F → Type 0) where
   pub asked_none : (f : F) (before : Bool) → AsksInTurn step f before [] [] before
   asked_none f before = ([], f, refl, refl, refl, refl)
 
-  -- a value put where there was none
-  pub asked_alone : (f g : F) (v : V) (b : Bool) (newest now : Option V) (older : List V) → newest ≡ None → older ≡ [] → now ≡ cond b (Some v) None → step f v b g
-      → AsksInTurn step f true (list_of newest older ++ v ∷ []) (list_of now older) b
-  asked_alone f g v b newest now older none empty is s =
-      let alone : list_of (cond b (Some v) None) [] ≡ cond b (v ∷ []) [] = elim b as (λ a. list_of (cond a (Some v) None) [] ≡ cond a (v ∷ []) []) [ true ↦ refl | false ↦ refl ] in
-      asked_same f true (v ∷ []) (cond b (v ∷ []) []) _ _ b (asked_first f g true v b [] [] b s (asked_none g b)) (ap (λ w. list_of w older ++ v ∷ []) (sym none))
-      (sym (ap (λ w. list_of w older) is ∙ ap (λ l. list_of (cond b (Some v) None) l) empty ∙ alone))
+  -- no more are left than there were
+  pub asked_few : (f : F) (before : Bool) (xs ys : List V) (stays : Bool) → AsksInTurn step f before xs ys stays → length ys ≤ length xs
+  asked_few f before xs ys stays h = let few = kept_few h.0 xs in let same = ap (λ l. length l) h.4 in omega (arith, few, same)
 
 -- of answers on a list and one value more, those on the list alone
 module _ {V : Type 0} where

@@ -35,12 +35,6 @@ some_value : {V : Type 0} (o : Option V) (d : V) → is_some o ≡ true → Some
 some_value None d e = absurd (subst T (sym e) tt)
 some_value (Some v) d e = refl
 
-same_len : (a b : Bool) → a ≡ b → {n m : ℕ} → n + cond b 1 0 ≡ m + cond a 1 0 → n ≡ m
-same_len true true e h = omega (arith, h)
-same_len true false e h = absurd (subst T e tt)
-same_len false true e h = absurd (subst T (sym e) tt)
-same_len false false e h = omega (arith, h)
-
 not_is : {b c : Bool} → not b ≡ c → b ≡ not c
 not_is {b = true} e = ap not e
 not_is {b = false} e = ap not e
@@ -184,19 +178,6 @@ module _ {K V : Type 0} {cmp : K → K → Ordering} (o : IsTotalOrder cmp) wher
           after (v ∷ reverse (later k)) sets.1 others (ap (λ w. list_of w (later k)) sets.0)
           (λ is. absurd (subst T (ap is_some (sym sets.0) ∙ is) tt))
           ((λ i. length news + entries_for (list_of (some i) (older k))) ∙ omega (arith, more))
-
-      -- any newest and older values
-      module _ (others : (q : K) → eq_by_cmp cmp q k ≡ false → value_of cmp news q ≡ value_of cmp heads q) (others_older : (q : K) → eq_by_cmp cmp q k ≡ false → later q ≡ older q)
-          (len : length news + cond (is_some (value_of cmp heads k)) 1 0 ≡ length heads + cond (is_some (value_of cmp news k)) 1 0) where
-        pub both_changed : (value_of cmp news k ≡ None → later k ≡ []) → StandsFor news later (with_list cmp (content_of cmp heads older) k (list_of (value_of cmp news k) (later k)))
-        both_changed headed =
-            after (list_of (value_of cmp news k) (later k)) others others_older refl (λ is. ap (λ l. length l) (headed (no_value (value_of cmp news k) is)))
-            (ap (λ n. length news + n) (taken_entries (value_of cmp heads k) (older k)) ∙ len ∙ ap (λ n. length heads + n) (sym (taken_entries (value_of cmp news k) (later k))))
-
-        pub both_same : value_of cmp news k ≡ value_of cmp heads k → later k ≡ older k → StandsFor news later (content_of cmp heads older)
-        both_same same same_older =
-            unchanged (everywhere cmp exact (λ q. value_of cmp news q ≡ value_of cmp heads q) k same others) (everywhere cmp exact (λ q. later q ≡ older q) k same_older others_older)
-            (let e = ap (λ w. is_some w) same in same_len (is_some (value_of cmp news k)) (is_some (value_of cmp heads k)) e len)
 
       -- no value
       pub taken_out : Sets cmp heads news k None → length news + cond (is_some (value_of cmp heads k)) 1 0 ≡ length heads

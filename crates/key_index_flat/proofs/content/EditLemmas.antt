@@ -1,5 +1,5 @@
 -- What one edit of a list leaves of newest and older values.
-use Rattle.std.proofs.Common.{◌≡◌, ℕ, ◌+◌, ◌-◌, ◌<◌, ◌≤◌, false, List, [], ◌∷◌, ◌++◌, length, reverse, insert, remove, slice_set, slice_get, cond, is_some, Bool, true, Option, Some, None, Result, Ok, Err, OnOk, OnErr, suc, refl, sym, ap, subst, ◌∙◌, arith, add-zero}
+use Rattle.std.proofs.Common.{◌≡◌, ℕ, ◌+◌, ◌-◌, ◌<◌, ◌≤◌, false, List, [], ◌∷◌, ◌++◌, length, reverse, insert, remove, slice_set, slice_get, cond, is_some, Bool, Option, Some, None, Result, Ok, Err, OnOk, OnErr, refl, sym, ap, subst, ◌∙◌, arith, add-zero}
 use Rattle.std.proofs.lemmas.List.{length-reverse, reverse-append}
 use Rattle.std.proofs.lemmas.Option.{get_or_from_slice_get}
 use Rattle.std.specs.declared.cmp.Ordering.{Ordering}
@@ -7,9 +7,11 @@ use Rattle.std.specs.declared.cmp.Ordering.TheVariants.{Equal}
 use Rattle.std.specs.Ordering.{eq_by_cmp}
 use Rattle.std.specs.Cmp.{IsTotalOrder}
 use Rattle.std.specs.List.Retain.{IsFiltered}
-use Rattle.key_index_flat.specs.Content.{list_at, with_list}
+use Rattle.key_index_flat.specs.Content.{Content, list_at, with_list}
 use Rattle.key_index_flat.specs.Storage.{list_of, content_of}
 use Rattle.key_index_flat.specs.Storage.{value_of, Sets, IsLinked}
+use Rattle.key_index_flat.specs.laws.Laws.{IsLawful-content_of}
+use Rattle.key_index_flat.proofs.content.ContentLemmas.{with_list-twice}
 use Rattle.key_index_flat.proofs.content.ChainLemmas.{StandsFor, everywhere, list_at-content_of, replaced, taken_out, place_older, slice_get-older, slice_get-newest}
 use Rattle.key_index_flat.proofs.neighbours.ReversedLemmas.{set_reversed, remove_reversed, insert_reversed}
 
@@ -44,6 +46,20 @@ module _ {K V : Type 0} {cmp : K → K → Ordering} (o : IsTotalOrder cmp) (exa
   older_edited v some l e others =
       subst (λ (m : List V). StandsFor o exact heads later (with_list cmp (content_of cmp heads older) k m)) e
       (replaced o exact heads heads older later k linked v v some (some, λ q _. refl) (sym (add-zero _)) others)
+
+  pub rest_edited : (v : V) → value_of cmp heads k ≡ Some v → Others → StandsFor o exact heads later (with_list cmp (content_of cmp heads older) k (v ∷ reverse (later k)))
+  rest_edited v some others = older_edited v some (v ∷ reverse (later k)) refl others
+
+  pub list_later : (v : V) → value_of cmp heads k ≡ Some v → list_at cmp (content_of cmp heads later) k ≡ v ∷ reverse (later k)
+  list_later v some = list_at-content_of o exact heads later k ∙ ap (λ w. list_of w (later k)) some
+
+  -- and then the newest value goes
+  pub rest_alone : (v : V) → value_of cmp heads k ≡ Some v → Others → (c : Content K V) → c ≡ with_list cmp (content_of cmp heads later) k (remove (list_at cmp (content_of cmp heads later) k) 0)
+      → c ≡ with_list cmp (content_of cmp heads older) k (reverse (later k))
+  rest_alone v some others c e =
+      e ∙ ap (λ l. with_list cmp (content_of cmp heads later) k (remove l 0)) (list_later v some)
+      ∙ ap (λ d. with_list cmp d k (reverse (later k))) (rest_edited v some others).content
+      ∙ with_list-twice o exact (content_of cmp heads older) k (v ∷ reverse (later k)) (reverse (later k)) (IsLawful-content_of o heads older)
 
   pub set_among_older : (place : ℕ) (x : V) → (place ≡ 0 → ⊥) → place < length list → later k ≡ slice_set (older k) (length (older k) - place) x → Others
       → StandsFor o exact heads later (with_list cmp (content_of cmp heads older) k (slice_set list place x))
@@ -123,11 +139,6 @@ module _ {K V : Type 0} {cmp : K → K → Ordering} (o : IsTotalOrder cmp) (exa
   refused_content (Ok u) refused others = tt
   refused_content (Err e) refused others = (unchanged refused others).content
 
--- a value that f was asked on first
-pub filtered_first : {F V : Type 0} (step : F → V → Bool → F → Type 0) (f g : F) (v : V) (b : Bool) (vs ws : List V) → step f v b g → IsFiltered step g vs ws → IsFiltered step f (v ∷ vs) (cond b (v ∷ ws) ws)
-filtered_first step f g v true vs ws s h = (true ∷ h.0, h.1, ap suc h.2, (g, s, h.3), ap (λ l. v ∷ l) h.4)
-filtered_first step f g v false vs ws s h = (false ∷ h.0, h.1, ap suc h.2, (g, s, h.3), h.4)
-
--- and of no value
+-- a closure that is asked on no value
 pub filtered_none : {F V : Type 0} (step : F → V → Bool → F → Type 0) (f : F) → IsFiltered step f [] []
 filtered_none step f = ([], f, refl, refl, refl)

@@ -5,9 +5,9 @@ ghost use Rattle.std.specs.Fn.{CalledAt};
 ghost use Rattle.std.specs.List.Retain.{IsFiltered};
 ghost use Rattle.std.specs.Map.Iter.{deref_pair};
 ghost use Rattle.std.specs.Option.{option_map};
-ghost use Rattle.key_index_flat.specs.Content.{Content, key_count, list_at, with_list, with_list_by};
+ghost use Rattle.key_index_flat.specs.Content.{Content, key_count, list_at, with_list, with_list_by, IsLawful};
 ghost use Rattle.key_index_flat.specs.Neighbours.{first_list, last_list, next_list, prev_list};
-ghost use Rattle.key_index_flat.specs.Retention.{last_answer, AsksBehind};
+ghost use Rattle.key_index_flat.specs.Retention.{last_answer, AsksBehind, AsksInTurn};
 ghost use Rattle.key_index_flat.specs.Storage.{older_at, stored, IsLinked};
 ghost use Rattle.key_index_flat.specs.Values.{values_of, VisitsEach};
 
@@ -71,7 +71,8 @@ impl<T: Translator, V: Drop, M: Heads<T::Key, V>> Chains<T, V, M> {
 
     #[inline]
     pub(super) fn run_len(&self, slot: T::Key) -> usize
-        ensures { result ≡ length (list_at T.Key.cmp self.now slot) }
+        ensures len { result ≡ length (list_at T.Key.cmp self.now slot) }
+        ensures lawful { IsLawful T.Key.cmp self.now }
     {
         match self.heads.get(&slot) {
             Some(_) => 1 + older_of(&self.older, slot).len(),
@@ -191,12 +192,37 @@ impl<T: Translator, V: Drop, M: Heads<T::Key, V>> Chains<T, V, M> {
         (newest, left + 1)
     }
 
+    /// Asks once on each value of the index key, in list order, and takes out those that are answered false. Tells how many there were,
+    /// how many are left, and the last answer, which is true where there is no value.
+    fn retain_in_turn<F: FnMut(&V) -> bool>(
+        &mut self,
+        slot: T::Key,
+        mut should_retain: F,
+    ) -> (usize, usize, bool)
+        requires callable { F.IsAlwaysCallable should_retain }
+        ensures kept { let old = list_at T.Key.cmp self.old slot in (kept : List V)
+            × AsksInTurn (CalledAt F.FnMut) should_retain true old kept result.2
+            × (self.new ≡ with_list T.Key.cmp self.old slot kept)
+            × (result.1 ≡ length kept) × (result.0 ≡ length old) × (result.1 ≤ result.0) }
+    {
+        let Some(newest) = self.heads.get(&slot) else {
+            return (0, 0, true);
+        };
+        let newest_stays = should_retain(newest);
+        let (had, left, stays) = retain_older(&mut self.older, slot, should_retain, newest_stays);
+        if newest_stays {
+            return (had + 1, left + 1, stays);
+        }
+        self.remove_at(slot, 0);
+        (had + 1, left, stays)
+    }
+
     /// Asks once on each value of the index key, in list order, takes out those that are answered false, and tells how many there were,
     /// and how many are left.
     pub(super) fn retain<F: FnMut(&V) -> bool>(
         &mut self,
         slot: T::Key,
-        mut should_retain: F,
+        should_retain: F,
     ) -> (usize, usize)
         requires callable { F.IsAlwaysCallable should_retain }
         ensures kept { (kept : List V)
@@ -205,16 +231,8 @@ impl<T: Translator, V: Drop, M: Heads<T::Key, V>> Chains<T, V, M> {
             × (result.1 ≡ length kept)
             × (result.0 ≡ length (list_at T.Key.cmp self.old slot)) × (result.1 ≤ result.0) }
     {
-        let Some(newest) = self.heads.get(&slot) else {
-            return (0, 0);
-        };
-        let keeps_newest = should_retain(newest);
-        let (had, left) = retain_older(&mut self.older, slot, should_retain);
-        if keeps_newest {
-            return (had + 1, left + 1);
-        }
-        self.remove_at(slot, 0);
-        (had + 1, left)
+        let (had, left, _) = self.retain_in_turn(slot, should_retain);
+        (had, left)
     }
 
     /// Puts a value in behind those of the index key, which takes all the memory that the call may need, then asks once on each of
@@ -234,11 +252,12 @@ impl<T: Translator, V: Drop, M: Heads<T::Key, V>> Chains<T, V, M> {
         ensures refused { OnErr result (self.new ≡ self.old) }
         ensures returned { IfErr result (λ back. back ≡ value) }
     {
-        let (had, taken, stays) = self
-            .heads
-            .insert_and_retain(self.alloc, &mut self.older, slot, value, should_retain)?;
+        let held = self.run_len(slot);
+        self.insert_at(slot, held, value)?;
+        let (had, left, stays) = self.retain_in_turn(slot, should_retain);
+        let taken = had - left;
         let gone = if stays { taken } else { taken - 1 };
-        Ok((had, gone, stays))
+        Ok((held, gone, stays))
     }
 
     /// How many index keys have values.

@@ -1,19 +1,13 @@
 //! A map from keys to the newest value of each, hashed or in the order of its keys.
-ghost use Rattle.std.specs.Prelude.{◌≡◌, ◌+◌, true, false, List, [], ◌∷◌, ◌++◌, Option, Some, None, IfOk, IfErr, OnOk, OnErr, is_some, unwrap_or, not, if◌then◌else◌, length};
-ghost use Rattle.std.specs.Fn.{CalledAt};
+ghost use Rattle.std.specs.Prelude.{◌≡◌, ◌+◌, List, Option, Some, None, IfOk, IfErr, OnOk, OnErr, is_some, unwrap_or, not, if◌then◌else◌, length};
 ghost use Rattle.std.specs.List.Sorted.{IsStrictlySortedBy};
 ghost use Rattle.std.specs.Map.{keys_of};
 ghost use Rattle.std.specs.Map.Iter.{deref_pair};
 ghost use Rattle.std.specs.Option.{option_copied, option_map};
 ghost use Rattle.std.specs.HashMap.{get, hash_map_len};
-ghost use Rattle.std.specs.BTreeMap.{get as first_at, btree_map_len};
-ghost use Rattle.std.specs.Ordering.{eq_by_cmp};
 ghost use Rattle.key_index_flat.specs.Neighbours.{first_entry, last_entry, entries_above, entries_below};
-ghost use Rattle.key_index_flat.specs.Retention.{AsksInTurn};
-ghost use Rattle.key_index_flat.specs.Storage.{held_at, list_of, older_at, value_of, SameBut, Sets};
+ghost use Rattle.key_index_flat.specs.Storage.{value_of, SameBut, Sets};
 
-use super::older::{Older, insert_and_retain_both};
-use std::alloc::Global;
 use std::collections::hash_map::Entry;
 use std::collections::{BTreeMap, HashMap, btree_map};
 use std::hash::Hash;
@@ -55,36 +49,6 @@ pub(crate) trait Heads<K: Ord + Hash + Copy, V> {
         ensures refused { OnErr result (entries self.new ≡ entries self.old) }
         ensures returned { IfErr result (λ back. back ≡ value) };
 
-    /// Puts a value in behind the newest value of a key and its older ones, which takes all the memory that the call may need, asks
-    /// once on each of them, in list order, and takes out those that are answered false. Tells how many were held, how many are gone
-    /// of them and the new one, and whether the new one stays. A refusal hands it back and changes nothing.
-    fn insert_and_retain<F: FnMut(&V) -> bool>(
-        &mut self,
-        alloc: Global,
-        older: &mut Older<K, V>,
-        key: K,
-        value: V,
-        should_retain: F,
-    ) -> Result<(usize, usize, bool), V>
-    where
-        V: Drop,
-        requires callable { F.IsAlwaysCallable should_retain }
-        requires headed { value_of K.cmp (entries self.old) key ≡ None → older_at K.eq older.old key ≡ [] }
-        ensures asked { IfOk result (λ told. AsksInTurn (CalledAt F.FnMut) should_retain true
-            (held_at K.cmp K.eq (entries self.old) older.old key ++ value ∷ [])
-            (held_at K.cmp K.eq (entries self.new) older.new key) told.2) }
-        ensures had { IfOk result (λ told. told.0 ≡ length (held_at K.cmp K.eq (entries self.old) older.old key)) }
-        ensures gone { IfOk result (λ told.
-            told.0 + 1 ≡ told.1 + length (held_at K.cmp K.eq (entries self.new) older.new key)) }
-        ensures headed { value_of K.cmp (entries self.new) key ≡ None → older_at K.eq older.new key ≡ [] }
-        ensures len { length (entries self.new) + (if is_some (value_of K.cmp (entries self.old) key) then 1 else 0)
-            ≡ length (entries self.old) + (if is_some (value_of K.cmp (entries self.new) key) then 1 else 0) }
-        ensures others { SameBut K.cmp (value_of K.cmp (entries self.old)) (value_of K.cmp (entries self.new)) key }
-        ensures others_older { SameBut K.cmp (older_at K.eq older.old) (older_at K.eq older.new) key }
-        ensures refused { OnErr result (value_of K.cmp (entries self.new) key ≡ value_of K.cmp (entries self.old) key) }
-        ensures refused_older { OnErr result (older_at K.eq older.new key ≡ older_at K.eq older.old key) }
-        ensures returned { IfErr result (λ back. back ≡ value) };
-
     fn remove(&mut self, key: &K) -> Option<V>
         ensures value { result ≡ value_of K.cmp (entries self.old) key.now }
         ensures sets { Sets K.cmp (entries self.old) (entries self.new) key.now None }
@@ -124,21 +88,6 @@ impl<K: Ord + Hash + Copy, V> Heads<K, V> for HashMap<K, V> {
     }
 
     #[inline]
-    fn insert_and_retain<F: FnMut(&V) -> bool>(
-        &mut self,
-        alloc: Global,
-        older: &mut Older<K, V>,
-        key: K,
-        value: V,
-        should_retain: F,
-    ) -> Result<(usize, usize, bool), V>
-    where
-        V: Drop,
-    {
-        put_and_retain(alloc, self, older, key, value, should_retain)
-    }
-
-    #[inline]
     fn remove(&mut self, key: &K) -> Option<V> {
         HashMap::remove(self, key)
     }
@@ -169,64 +118,6 @@ fn put_absent<K: Ord + Hash + Copy, V: Drop>(
         Ok(Entry::Vacant(entry)) => {
             entry.insert(value);
             Ok(true)
-        }
-    }
-}
-
-/// Puts a value in behind the newest value of a key and its older ones, asks once on each of them, and takes out those that are
-/// answered false.
-#[inline]
-fn put_and_retain<K: Ord + Hash + Copy, V: Drop, F: FnMut(&V) -> bool>(
-    alloc: Global,
-    map: &mut HashMap<K, V>,
-    older: &mut Older<K, V>,
-    key: K,
-    value: V,
-    mut should_retain: F,
-) -> Result<(usize, usize, bool), V>
-    requires callable { F.IsAlwaysCallable should_retain }
-    requires headed { get K.eq map.old key ≡ None → older_at K.eq older.old key ≡ [] }
-    ensures asked { IfOk result (λ told. AsksInTurn (CalledAt F.FnMut) should_retain true
-        (list_of (get K.eq map.old key) (older_at K.eq older.old key) ++ value ∷ [])
-        (list_of (get K.eq map.new key) (older_at K.eq older.new key)) told.2) }
-    ensures had { IfOk result (λ told.
-        told.0 ≡ length (list_of (get K.eq map.old key) (older_at K.eq older.old key))) }
-    ensures gone { IfOk result (λ told.
-        told.0 + 1 ≡ told.1 + length (list_of (get K.eq map.new key) (older_at K.eq older.new key))) }
-    ensures headed { get K.eq map.new key ≡ None → older_at K.eq older.new key ≡ [] }
-    ensures len { hash_map_len map.new + (if is_some (get K.eq map.old key) then 1 else 0)
-        ≡ hash_map_len map.old + (if is_some (get K.eq map.new key) then 1 else 0) }
-    ensures others { SameBut K.cmp (get K.eq map.old) (get K.eq map.new) key }
-    ensures others_older { SameBut K.cmp (older_at K.eq older.old) (older_at K.eq older.new) key }
-    ensures refused { OnErr result (get K.eq map.new key ≡ get K.eq map.old key) }
-    ensures refused_older { OnErr result (older_at K.eq older.new key ≡ older_at K.eq older.old key) }
-    ensures returned { IfErr result (λ back. back ≡ value) }
-{
-    match map.entry(key) {
-        Err(_) => Err(value),
-        Ok(Entry::Occupied(mut held)) => {
-            let newest = held.get_mut();
-            let (had, turn) = insert_and_retain_both(
-                alloc,
-                older,
-                key,
-                newest,
-                value,
-                should_retain,
-            )?;
-            if !turn.left {
-                held.remove();
-                return Ok((had, turn.gone, turn.stays));
-            }
-            Ok((had, turn.gone, turn.stays))
-        }
-        Ok(Entry::Vacant(entry)) => {
-            if should_retain(&value) {
-                entry.insert(value);
-                return Ok((0, 0, true));
-            }
-            entry.into_key();
-            Ok((0, 1, false))
         }
     }
 }
@@ -274,80 +165,8 @@ impl<K: Ord + Hash + Copy, V> Heads<K, V> for BTreeMap<K, V> {
     }
 
     #[inline]
-    fn insert_and_retain<F: FnMut(&V) -> bool>(
-        &mut self,
-        alloc: Global,
-        older: &mut Older<K, V>,
-        key: K,
-        value: V,
-        should_retain: F,
-    ) -> Result<(usize, usize, bool), V>
-    where
-        V: Drop,
-    {
-        put_and_retain_in_order(alloc, self, older, key, value, should_retain)
-    }
-
-    #[inline]
     fn remove(&mut self, key: &K) -> Option<V> {
         BTreeMap::remove(self, key)
-    }
-}
-
-/// What `put_and_retain` does, in a map whose keys are in order.
-#[inline]
-fn put_and_retain_in_order<K: Ord + Hash + Copy, V: Drop, F: FnMut(&V) -> bool>(
-    alloc: Global,
-    map: &mut BTreeMap<K, V>,
-    older: &mut Older<K, V>,
-    key: K,
-    value: V,
-    mut should_retain: F,
-) -> Result<(usize, usize, bool), V>
-    requires callable { F.IsAlwaysCallable should_retain }
-    requires headed { first_at K.cmp map.old key ≡ None → older_at K.eq older.old key ≡ [] }
-    ensures asked { IfOk result (λ told. AsksInTurn (CalledAt F.FnMut) should_retain true
-        (list_of (first_at K.cmp map.old key) (older_at K.eq older.old key) ++ value ∷ [])
-        (list_of (first_at K.cmp map.new key) (older_at K.eq older.new key)) told.2) }
-    ensures had { IfOk result (λ told.
-        told.0 ≡ length (list_of (first_at K.cmp map.old key) (older_at K.eq older.old key))) }
-    ensures gone { IfOk result (λ told.
-        told.0 + 1 ≡ told.1 + length (list_of (first_at K.cmp map.new key) (older_at K.eq older.new key))) }
-    ensures headed { first_at K.cmp map.new key ≡ None → older_at K.eq older.new key ≡ [] }
-    ensures len { btree_map_len map.new + (if is_some (first_at K.cmp map.old key) then 1 else 0)
-        ≡ btree_map_len map.old + (if is_some (first_at K.cmp map.new key) then 1 else 0) }
-    ensures others { (q : K) → eq_by_cmp K.cmp key q ≡ false → first_at K.cmp map.new q ≡ first_at K.cmp map.old q }
-    ensures others_older { SameBut K.cmp (older_at K.eq older.old) (older_at K.eq older.new) key }
-    ensures refused { OnErr result (first_at K.cmp map.new key ≡ first_at K.cmp map.old key) }
-    ensures refused_older { OnErr result (older_at K.eq older.new key ≡ older_at K.eq older.old key) }
-    ensures returned { IfErr result (λ back. back ≡ value) }
-{
-    match map.entry(key) {
-        Err(_) => Err(value),
-        Ok(btree_map::Entry::Occupied(mut held)) => {
-            let newest = held.get_mut();
-            let (had, turn) = insert_and_retain_both(
-                alloc,
-                older,
-                key,
-                newest,
-                value,
-                should_retain,
-            )?;
-            if !turn.left {
-                held.remove();
-                return Ok((had, turn.gone, turn.stays));
-            }
-            Ok((had, turn.gone, turn.stays))
-        }
-        Ok(btree_map::Entry::Vacant(entry)) => {
-            let held = entry.insert_entry(value);
-            if should_retain(held.get()) {
-                return Ok((0, 0, true));
-            }
-            held.remove();
-            Ok((0, 1, false))
-        }
     }
 }
 

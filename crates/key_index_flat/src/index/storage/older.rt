@@ -1,10 +1,9 @@
 //! The older values of the keys that have any, the oldest first.
-ghost use Rattle.std.specs.Prelude.{◌≡◌, ◌+◌, ◌-◌, ◌<◌, ◌≤◌, true, false, [], ◌∷◌, ◌++◌, length, reverse, slice_get, slice_set, insert, remove, Some, None, if◌then◌else◌, IfErr, IfNone, IfOk, IfSome, OnOk, OnErr};
+ghost use Rattle.std.specs.Prelude.{◌≡◌, ◌+◌, ◌-◌, ◌<◌, ◌≤◌, [], ◌++◌, length, reverse, slice_get, slice_set, insert, remove, Some, IfErr, IfNone, IfSome, OnOk, OnErr};
 ghost use Rattle.std.specs.Fn.{CalledAt};
-ghost use Rattle.std.specs.List.Retain.{IsFiltered};
 ghost use Rattle.std.specs.Option.{option_map, option_to_list};
 ghost use Rattle.key_index_flat.specs.Retention.{AsksInTurn};
-ghost use Rattle.key_index_flat.specs.Storage.{at_key, list_of, older_at, SameBut};
+ghost use Rattle.key_index_flat.specs.Storage.{at_key, older_at, SameBut};
 
 use crate::index::implement::retain_in_turn;
 use std::alloc::Global;
@@ -206,203 +205,38 @@ pub(super) fn pop_older<K: Ord + Hash + Copy, V: Drop>(
     Some((value, left))
 }
 
-/// Asks once on each of the older values of a key, the newest first, takes out those that are answered false, and tells how many the
-/// key had, and how many it has left.
+/// Asks once on each of the older values of a key, the newest first, and takes out those that are answered false. Tells how many the
+/// key had, how many it has left, and the last answer, which is `before` where there is no value.
 pub(super) fn retain_older<K: Ord + Hash + Copy, V: Drop, F: FnMut(&V) -> bool>(
     older: &mut Older<K, V>,
     key: K,
     should_retain: F,
-) -> (usize, usize)
+    before: bool,
+) -> (usize, usize, bool)
     requires { F.IsAlwaysCallable should_retain }
-    ensures at { IsFiltered (CalledAt F.FnMut) should_retain
-        (reverse (older_at K.eq older.old key)) (reverse (older_at K.eq older.new key)) }
+    ensures asked { AsksInTurn (CalledAt F.FnMut) should_retain before
+        (reverse (older_at K.eq older.old key)) (reverse (older_at K.eq older.new key)) result.2 }
     ensures had { result.0 ≡ length (older_at K.eq older.old key) }
     ensures left { result.1 ≡ length (older_at K.eq older.new key) }
     ensures fits { result.0 < usize.MAX }
-    ensures fewer { result.1 ≤ result.0 }
     ensures others { SameBut K.cmp (older_at K.eq older.old) (older_at K.eq older.new) key }
 {
     let Some(map) = older else {
-        return (0, 0);
+        return (0, 0, before);
     };
     if map.is_empty() {
-        return (0, 0);
+        return (0, 0, before);
     }
     let Some(values) = map.get_mut(&key) else {
-        return (0, 0);
+        return (0, 0, before);
     };
     let had = values.len();
     values.reverse();
-    values.retain(should_retain);
+    let stays = retain_in_turn(values, should_retain, before);
     values.reverse();
     let left = values.len();
     if left == 0 {
         map.remove(&key);
     }
-    (had, left)
-}
-
-/// What a closure that was asked on the values of a key in turn left of them.
-#[derive(Drop)]
-pub(super) struct Turn {
-    /// How many are gone.
-    pub(super) gone: usize,
-    /// The last answer.
-    pub(super) stays: bool,
-    /// Whether any value is left.
-    pub(super) left: bool,
-}
-
-/// Asks once on the newest value of a key and on its older ones, in list order, takes out those that are answered false, and moves
-/// the first of the others to the newest one's place.
-fn retain_both<V: Drop, F: FnMut(&V) -> bool>(
-    newest: &mut V,
-    older: &mut Vec<V>,
-    mut should_retain: F,
-) -> Turn
-    requires { F.IsAlwaysCallable should_retain }
-    ensures asked { AsksInTurn (CalledAt F.FnMut) should_retain true (list_of (Some newest.old) older.old.items)
-        (list_of (if result.left then Some newest.new else None) older.new.items) result.stays }
-    ensures gone { result.gone + length (list_of (if result.left then Some newest.new else None) older.new.items)
-        ≡ 1 + length older.old.items }
-    ensures emptied { result.left ≡ false → older.new.items ≡ [] }
-{
-    let held = older.len();
-    let newest_stays = should_retain(newest);
-    older.reverse();
-    let stays = retain_in_turn(older, should_retain, newest_stays);
-    older.reverse();
-    if newest_stays {
-        let gone = held - older.len();
-        return Turn {
-            gone,
-            stays,
-            left: true,
-        };
-    }
-    match older.pop() {
-        Some(next) => {
-            *newest = next;
-            let gone = held - older.len();
-            Turn {
-                gone,
-                stays,
-                left: true,
-            }
-        }
-        None => {
-            let gone = held + 1;
-            Turn {
-                gone,
-                stays,
-                left: false,
-            }
-        }
-    }
-}
-
-/// `insert_and_retain_both` over the older values of a key.
-fn insert_and_retain_among<V: Drop, F: FnMut(&V) -> bool>(
-    newest: &mut V,
-    older: &mut Vec<V>,
-    value: V,
-    should_retain: F,
-) -> Result<Turn, V>
-    requires { F.IsAlwaysCallable should_retain }
-    ensures asked { IfOk result (λ turn. AsksInTurn (CalledAt F.FnMut) should_retain true
-        (list_of (Some newest.old) older.old.items ++ value ∷ [])
-        (list_of (if turn.left then Some newest.new else None) older.new.items) turn.stays) }
-    ensures gone { IfOk result (λ turn. turn.gone
-        + length (list_of (if turn.left then Some newest.new else None) older.new.items) ≡ 2 + length older.old.items) }
-    ensures emptied { IfOk result (λ turn. turn.left ≡ false → older.new.items ≡ []) }
-    ensures refused { OnErr result (older.new.items ≡ older.old.items) }
-    ensures same { OnErr result (newest.new ≡ newest.old) }
-    ensures returned { IfErr result (λ back. back ≡ value) }
-{
-    match older.insert(0, value) {
-        Ok(()) => Ok(retain_both(newest, older, should_retain)),
-        Err(failed) => Err(failed.value),
-    }
-}
-
-/// `insert_and_retain_both` in a map.
-fn insert_and_retain_in<K: Ord + Hash + Copy, V: Drop, F: FnMut(&V) -> bool>(
-    alloc: Global,
-    map: &mut HashMap<K, Vec<V>>,
-    key: K,
-    newest: &mut V,
-    value: V,
-    should_retain: F,
-) -> Result<(usize, Turn), V>
-    requires { F.IsAlwaysCallable should_retain }
-    ensures asked { IfOk result (λ told. AsksInTurn (CalledAt F.FnMut) should_retain true
-        (list_of (Some newest.old) (at_key K.eq map.old key) ++ value ∷ [])
-        (list_of (if told.1.left then Some newest.new else None) (at_key K.eq map.new key)) told.1.stays) }
-    ensures had { IfOk result (λ told. told.0 ≡ 1 + length (at_key K.eq map.old key)) }
-    ensures gone { IfOk result (λ told. told.0 + 1 ≡ told.1.gone
-        + length (list_of (if told.1.left then Some newest.new else None) (at_key K.eq map.new key))) }
-    ensures emptied { IfOk result (λ told. told.1.left ≡ false → at_key K.eq map.new key ≡ []) }
-    ensures others { SameBut K.cmp (at_key K.eq map.old) (at_key K.eq map.new) key }
-    ensures refused { OnErr result (at_key K.eq map.new key ≡ at_key K.eq map.old key) }
-    ensures same { OnErr result (newest.new ≡ newest.old) }
-    ensures returned { IfErr result (λ back. back ≡ value) }
-{
-    match map.entry(key) {
-        Err(_) => Err(value),
-        Ok(Entry::Occupied(mut entry)) => {
-            let values = entry.get_mut();
-            let had = 1 + values.len();
-            let turn = insert_and_retain_among(newest, values, value, should_retain)?;
-            if values.is_empty() {
-                entry.remove();
-                return Ok((had, turn));
-            }
-            Ok((had, turn))
-        }
-        Ok(Entry::Vacant(entry)) => {
-            let mut values = Vec::new(alloc);
-            let told = insert_and_retain_among(newest, &mut values, value, should_retain);
-            if values.is_empty() {
-                entry.into_key();
-            } else {
-                entry.insert(values);
-            }
-            Ok((1, told?))
-        }
-    }
-}
-
-/// Puts a value in behind the newest value of a key and its older ones, which takes all the memory that the call may need, asks once
-/// on each of them, in list order, takes out those that are answered false, and moves the first of the others to the newest one's
-/// place. Tells how many were held. A refusal hands the value back and changes nothing.
-pub(super) fn insert_and_retain_both<K: Ord + Hash + Copy, V: Drop, F: FnMut(&V) -> bool>(
-    alloc: Global,
-    older: &mut Older<K, V>,
-    key: K,
-    newest: &mut V,
-    value: V,
-    should_retain: F,
-) -> Result<(usize, Turn), V>
-    requires { F.IsAlwaysCallable should_retain }
-    ensures asked { IfOk result (λ told. AsksInTurn (CalledAt F.FnMut) should_retain true
-        (list_of (Some newest.old) (older_at K.eq older.old key) ++ value ∷ [])
-        (list_of (if told.1.left then Some newest.new else None) (older_at K.eq older.new key)) told.1.stays) }
-    ensures had { IfOk result (λ told. told.0 ≡ 1 + length (older_at K.eq older.old key)) }
-    ensures gone { IfOk result (λ told. told.0 + 1 ≡ told.1.gone
-        + length (list_of (if told.1.left then Some newest.new else None) (older_at K.eq older.new key))) }
-    ensures emptied { IfOk result (λ told. told.1.left ≡ false → older_at K.eq older.new key ≡ []) }
-    ensures others { SameBut K.cmp (older_at K.eq older.old) (older_at K.eq older.new) key }
-    ensures refused { OnErr result (older_at K.eq older.new key ≡ older_at K.eq older.old key) }
-    ensures same { OnErr result (newest.new ≡ newest.old) }
-    ensures returned { IfErr result (λ back. back ≡ value) }
-{
-    if let Some(map) = older {
-        return insert_and_retain_in(alloc, map, key, newest, value, should_retain);
-    }
-    let Ok(mut map) = Box::new(alloc, HashMap::new(alloc)) else {
-        return Err(value);
-    };
-    let told = insert_and_retain_in(alloc, &mut map, key, newest, value, should_retain)?;
-    *older = Some(map);
-    Ok(told)
+    (had, left, stays)
 }

@@ -3,8 +3,7 @@ use Rattle.key_index_flat.specs.Content.{IsLawful, list_at}
 use Rattle.key_index_flat.specs.laws.Laws.{IsLawful-with_list}
 use Rattle.key_index_plain.specs.Entries.{listed}
 use Rattle.std.specs.Fn.{CalledAt}
-use Rattle.key_index_flat.proofs.asked.TurnLemmas.{asks_behind, some_taken}
-use Rattle.key_index_plain.proofs.PutLemmas.{asked_put, counts_put, taken_put}
+use Rattle.key_index_flat.proofs.asked.PutLemmas.{asks_put, one_went, taken_put}
 use Rattle.key_index_plain.proofs.entries.insert_and_retain.Goals.{then-stays, else-stays}
 use Rattle.key_index_plain.proofs.entries.insert_and_retain.Goals as goal
 
@@ -22,9 +21,7 @@ overflow_sub-result g c =
     let put = c.in_ok-insert_at.ensures.accepted in
     let stays = c.retain_in_turn-taken.result.1 in
     let taken = c.retain_in_turn-taken.result.0 in
-    let asked = asked_put g.met.K.Ord.total old mid c.args.key c.args.value at end put (CalledAt g.F.FnMut) c.args.should_retain kept.0 stays kept.1 in
-    let counts = counts_put g.met.K.Ord.total old mid c.args.key c.args.value at end put kept.0 taken kept.3 in
-    some_taken (CalledAt g.F.FnMut) c.args.should_retain (list_at g.K.Ord.cmp old c.args.key) c.args.value kept.0 stays taken asked counts c.if-stays.false
+    one_went g.met.K.Ord.total old mid c.args.key c.args.value at end put (CalledAt g.F.FnMut) c.args.should_retain kept.0 stays taken kept.1 kept.3 c.if-stays.false
 
 pub returns-clause-accepted : goal.returns-clause-accepted
 returns-clause-accepted g c =
@@ -32,18 +29,15 @@ returns-clause-accepted g c =
     let kept = c.retain_in_turn-taken.ensures in
     let old = listed c.args.entries.now.items in
     let mid = listed c.insert_at.new.entries.items in
-    let held = list_at g.K.Ord.cmp old c.args.key in
     let at = length c.values_of-end.result.now in
     let put = c.in_ok-insert_at.ensures.accepted in
     let stays = c.retain_in_turn-taken.result.1 in
     let taken = c.retain_in_turn-taken.result.0 in
-    let asked = asked_put g.met.K.Ord.total old mid c.args.key c.args.value at end put (CalledAt g.F.FnMut) c.args.should_retain kept.0 stays kept.1 in
-    let counts = counts_put g.met.K.Ord.total old mid c.args.key c.args.value at end put kept.0 taken kept.3 in
-    let some = some_taken (CalledAt g.F.FnMut) c.args.should_retain held c.args.value kept.0 stays taken asked counts in
+    let some = one_went g.met.K.Ord.total old mid c.args.key c.args.value at end put (CalledAt g.F.FnMut) c.args.should_retain kept.0 stays taken kept.1 kept.3 in
     let most : c.retain_in_turn-taken.result.0 ≡ c.if-stays.result + cond c.retain_in_turn-taken.result.1 0 1 = elim c.if-stays.branch [
       | then-stays w ↦ let s = ap (λ b. c.if-stays.result + cond b 0 1) w.if-stays.true in omega (arith, s, w.result-is)
       | else-stays w ↦ let s = ap (λ b. c.if-stays.result + cond b 0 1) w.if-stays.false in let one = some w.if-stays.false in omega (arith, s, one, w.result-is)
     ] in
     let left = listed c.retain_in_turn-taken.new.entries.items in
     let new = taken_put g.met.K.Ord.total old mid c.args.key c.args.value at end put c.requires.exact c.requires.lawful kept.0 left kept.2 in
-    (kept.0, (asks_behind (CalledAt g.F.FnMut) c.args.should_retain held c.args.value kept.0 stays taken asked counts c.if-stays.result most).0, new)
+    (kept.0, (asks_put g.met.K.Ord.total old mid c.args.key c.args.value at end put (CalledAt g.F.FnMut) c.args.should_retain kept.0 stays taken kept.1 kept.3 c.if-stays.result most).0, new)

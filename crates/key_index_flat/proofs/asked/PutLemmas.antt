@@ -1,0 +1,39 @@
+-- A value that was put behind those of a key, where all of these were asked on then.
+--     list_put      the key's list with the value
+--     taken_put     the content after both
+--     one_went      the new value, answered false, is one of those that went
+--     asks_put      the answers on the values that were held and the new one
+use Rattle.std.proofs.Common.{◌≡◌, ℕ, ◌+◌, ◌≤◌, Bool, true, false, cond, List, [], ◌∷◌, ◌++◌, length, insert, sym, ap, subst, ◌∙◌, length-append}
+use Rattle.std.specs.declared.cmp.Ordering.{Ordering}
+use Rattle.std.specs.declared.cmp.Ordering.TheVariants.{Equal}
+use Rattle.std.specs.Cmp.{IsTotalOrder}
+use Rattle.key_index_flat.specs.Content.{Content, IsLawful, list_at, with_list}
+use Rattle.key_index_flat.specs.Retention.{last_answer, AsksBehind, AsksInTurn}
+use Rattle.key_index_flat.proofs.asked.TurnLemmas.{asks_behind, some_taken}
+use Rattle.key_index_flat.proofs.content.ContentLemmas.{with_list-twice}
+use Rattle.key_index_flat.proofs.runs.CursorLemmas.{list_at_edit}
+use Rattle.key_index_flat.proofs.neighbours.ReversedLemmas.{behind_last}
+
+module _ {K V : Type 0} {cmp : K → K → Ordering} (o : IsTotalOrder cmp) (c mid : Content K V) (k : K) (v : V) (at : ℕ)
+    (end : at ≡ length (list_at cmp c k)) (put : mid ≡ with_list cmp c k (insert (list_at cmp c k) at v)) where
+  list_put : list_at cmp mid k ≡ list_at cmp c k ++ v ∷ []
+  list_put = list_at_edit o _ _ _ _ put ∙ ap (λ n. insert (list_at cmp c k) n v) end ∙ behind_last (list_at cmp c k) v
+
+  pub taken_put : ((x y : K) → cmp x y ≡ Equal → x ≡ y) → IsLawful cmp c → (kept : List V) (new : Content K V) → new ≡ with_list cmp mid k kept → new ≡ with_list cmp c k kept
+  taken_put exact lawful kept new is = is ∙ ap (λ d. with_list cmp d k kept) put ∙ with_list-twice o exact c k (insert (list_at cmp c k) at v) kept lawful
+
+  -- taken: of the held values and the new one
+  module _ {F : Type 0} (R : F → V → Bool → F → Type 0) (f : F) (kept : List V) (stays : Bool) (taken : ℕ)
+      (asked : AsksInTurn R f true (list_at cmp mid k) kept stays) (counts : taken + length kept ≡ length (list_at cmp mid k)) where
+    asked_put : AsksInTurn R f true (list_at cmp c k ++ v ∷ []) kept stays
+    asked_put = subst (λ (l : List V). AsksInTurn R f true l kept stays) list_put asked
+
+    counts_put : length (list_at cmp c k) + 1 ≡ taken + length kept
+    counts_put = sym (counts ∙ ap (λ l. length l) list_put ∙ length-append (list_at cmp c k) (v ∷ []))
+
+    pub one_went : stays ≡ false → 1 ≤ taken
+    one_went = some_taken R f (list_at cmp c k) v kept stays taken asked_put counts_put
+
+    -- gone: of the held values alone
+    pub asks_put : (gone : ℕ) → taken ≡ gone + cond stays 0 1 → (asks : AsksBehind R f (list_at cmp c k) v kept gone) × (stays ≡ last_answer true asks.answers)
+    asks_put = asks_behind R f (list_at cmp c k) v kept stays taken asked_put counts_put
