@@ -1,7 +1,8 @@
 -- On full keys in an index that keeps their order: in a filed content, what a list and its neighbour have is what all lists have.
 --     next_of_filed, prev_of_filed      the candidate is the neighbour among all values
 --     filed_first, filed_rest           the first list of a filed content, and the others
-use Rattle.std.proofs.Common.{◌≡◌, ℕ, Bool, true, false, cond, T, List, [], ◌∷◌, ◌++◌, Option, Some, None, unwrap_or, All, append_assoc, append-nil, refl, sym, ap, subst, ◌∙◌}
+--     least_own                         the least of a list that has one, where another stands behind it
+use Rattle.std.proofs.Common.{◌≡◌, ℕ, Bool, true, false, cond, T, List, [], ◌∷◌, ◌++◌, Option, Some, None, unwrap_or, All, append_assoc, append-nil, length, length-append, arith, refl, sym, ap, subst, ◌∙◌}
 use Rattle.std.proofs.lemmas.Bool.{false≢true}
 use Rattle.std.proofs.lemmas.List.Elements.{All-nil, All-head, All-tail, All-append, All-weaker, All-filter, filter-append}
 use Rattle.std.specs.declared.cmp.Ordering.{Ordering}
@@ -259,3 +260,8 @@ module _ {K V : Type 0} {cmp : K → K → Ordering} (o : IsTotalOrder cmp) (ful
         let own = All-filter (λ v. is_lt (byte_cmp (full_key v) a)) (FiledUnder k) (list_at cmp c k) (f k) in
         subst (λ l. IsLeast (flip_args (cmp_keys full_key)) l r) (sym (below_values c h.0 filed))
         (own_or_last k (below full_key a (list_at cmp c k)) lower_ones (last_entry c) r own (ahead_below k c filed) kept (filed_where (λ x. is_lt (cmp x k)) c filed) least)
+
+-- the least of a list that has one, where another stands behind it
+pub least_own : {V : Type 0} (cmp : V → V → Ordering) (own other : List V) (v : V) → IsLeast cmp own (Some v) → IsLeast cmp (or_list own other) (Some v)
+least_own cmp [] other v least = let none = ap (λ l. length l) least.2 in let some = length-append least.0 (v ∷ least.1) in absurd (omega (arith, none, some))
+least_own cmp (x ∷ xs) other v least = least

@@ -51,6 +51,18 @@ where
     visit
 }
 
+/// `visit_list` for a closure that keeps no reference.
+fn show_list<V, F: FnMut(usize, &V)>(place: usize, values: Values<'_, V>, mut visit: F) -> F
+    requires { F.IsAlwaysCallable visit }
+    ensures again { F.IsAlwaysCallable result }
+    ensures visited { FoldsTo (VisitsAt F.FnMut) visit (map (λ v. (place, v)) values.entry) result }
+{
+    for value in values {
+        visit(place, value);
+    }
+    visit
+}
+
 /// `visit_by_place` for a closure that keeps no reference, which is what a trait's call takes.
 pub fn show_by_place<I: Lists, B: Iterator + Drop, F: FnMut(usize, &I::Value)>(
     index: &I,
@@ -65,7 +77,11 @@ where
     ensures { (last : F) × VisitsByPlace (IsBatch B.next_gives B.Item.items keys) (VisitsAt F.FnMut) visit
         I.Key.cmp (I.view index.now) last }
 {
-    visit_by_place(index, keys, move |place, value| visit(place, value));
+    let mut place = 0;
+    for key in keys {
+        visit = show_list(place, index.list_at(index.slot_of(key.as_slice())), visit);
+        place += 1;
+    }
 }
 
 /// The index keys of a batch of keys, each with its place.
@@ -150,12 +166,27 @@ where
     }
 }
 
+/// `visit_probes` for a closure that keeps no reference.
+fn show_probes<I: Lists, F: FnMut(usize, &I::Value)>(
+    index: &I,
+    probes: Vec<(I::Key, usize)>,
+    mut visit: F,
+) -> F
+    requires { F.IsAlwaysCallable visit }
+    ensures { FoldsTo (VisitsAt F.FnMut) visit (visits_of (run_at I.Key.cmp (I.view index.now)) probes.items) result }
+{
+    'probes: for probe in probes {
+        visit = show_list(probe.1, index.list_at(probe.0), visit);
+    }
+    visit
+}
+
 /// `visit_by_key` for a closure that keeps no reference, which is what a trait's call takes.
 pub fn show_by_key<I: Lists, B: Iterator + Drop, F: FnMut(usize, &I::Value)>(
     alloc: Global,
     index: &I,
     keys: B,
-    mut visit: F,
+    visit: F,
 ) -> Result<(), Fault>
 where
     B::Item: AsSlice<u8> + Drop,
@@ -167,6 +198,6 @@ where
     ensures fault { IfErr result (λ f. f ≡ Fault.Memory) }
 {
     let probes = probes_by_key(alloc, index, keys)?;
-    visit_probes(index, probes, move |place, value| visit(place, value));
+    show_probes(index, probes, visit);
     Ok(())
 }

@@ -1,0 +1,11 @@
+use Rattle.std.proofs.Common.{List, Some, subst}
+use Rattle.std.specs.Ordering.{flip_args}
+use Rattle.key_index_flat.specs.FullKeys.{IsLeast, below, cmp_keys}
+use Rattle.key_index_flat.proofs.neighbours.FullKeyLemmas.{least_own}
+use Rattle.key_index_flat.proofs.index.resolve.prev_candidate.Goals as goal
+
+pub returns-in-Some : goal.returns-in-Some
+returns-in-Some g c =
+    let value = c.in-Some.value.now in
+    let order = flip_args (cmp_keys g.I.Value.Keyed.full_key) in
+    least_own order _ _ value (subst (λ (l : List g.row.I-Value.Denot). IsLeast order (below g.I.Value.Keyed.full_key c.args.key.now l) (Some value)) c.get.ensures c.in-Some.ensures)
