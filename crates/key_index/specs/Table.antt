@@ -56,7 +56,9 @@ abbrev pub position_count : Cells → ℕ
 position_count t = count_by is_full t.controls
 
 abbrev pub stored_at : Cells → ℕ → Bool
-stored_at t p = is_some (find (λ i. is_full (slice_index t.controls i) && (slice_index t.positions i == p)) (range_with_len 0 (length t.controls)))
+stored_at t p =
+    is_some (find (λ i. is_full (slice_index t.controls i) && (slice_index t.positions i == p))
+    (range_with_len 0 (length t.controls)))
 
 abbrev pub with_hash : (ℕ → Option ℕ) → ℕ → ℕ → ℕ → Option ℕ
 with_hash m p h q = if q == p then Some h else m q

@@ -54,4 +54,5 @@ module _ {K V : Type 0} where
 -- index keys of such bytes, in the order cmp
 abbrev pub KeepsOrder : {K : Type 0} → (K → K → Ordering) → (List ℕ → K) → Type 0
 KeepsOrder cmp slot =
-    (a b : List ℕ) → All (λ n. n < 256) a → All (λ n. n < 256) b → IsLeBy (slice_cmp nat_cmp) a b → IsLeBy cmp (slot a) (slot b)
+    (a b : List ℕ) → All (λ n. n < 256) a → All (λ n. n < 256) b → IsLeBy (slice_cmp nat_cmp) a b
+    → IsLeBy cmp (slot a) (slot b)

@@ -15,7 +15,8 @@ module _ {T V K : Type 0} {t : translator.Ghosts T K} {o : ord.Ghosts K} {e : eq
   abbrev pub view : Index T V K t o e p h → View K V
   view index = view_of t.translated index.storage
 
-  -- its content, for the ghost fields of an index that is made of such indices: a ghost field can't name the members of an impl
+  -- its content, for the ghost fields of an index that is made of such indices: a ghost field can't name the members of
+  -- an impl
   abbrev pub held : Index T V K t o e p h → Content K V
   held index = index.storage.content
 

@@ -31,14 +31,18 @@ abbrev pub VisitsAt : {F V : Type 0} → Mut F (ℕ × (Bor V × Unit {0})) (Uni
 VisitsAt {V = V} g f p last = (shown : Bor V) × (shown.now ≡ p.1) × Called g f (p.0, (shown, tt)) tt last
 
 -- bytes: those of an item
-abbrev pub IsBatch : {S A K : Type 0} → (S → Option A → S → Type 0) → (A → List ℕ) → S → (List ℕ → K) → List (K × ℕ) → Type 0
-IsBatch {A = A} steps bytes keys slot probes = (items : List A) × Drains steps keys items × (probes ≡ probes_from slot 0 (map bytes items))
+abbrev pub IsBatch : {S A K : Type 0} → (S → Option A → S → Type 0) → (A → List ℕ) → S → (List ℕ → K) → List (K × ℕ)
+    → Type 0
+IsBatch {A = A} steps bytes keys slot probes =
+    (items : List A) × Drains steps keys items × (probes ≡ probes_from slot 0 (map bytes items))
 
 abbrev pub probe_cmp : {K : Type 0} → (K → K → Ordering) → K × ℕ → K × ℕ → Ordering
 probe_cmp cmp p q = ordering_then (cmp p.0 q.0) (nat_cmp p.1 q.1)
 
-abbrev pub IsSortedBatch : {K V : Type 0} → ((List ℕ → K) → List (K × ℕ) → Type 0) → (K → K → Ordering) → View K V → List (K × ℕ) → Type 0
-IsSortedBatch {K = K} batch cmp s sorted = (probes : List (K × ℕ)) × batch s.slot probes × IsPermutation probes sorted × IsSorted (probe_cmp cmp) sorted
+abbrev pub IsSortedBatch : {K V : Type 0} → ((List ℕ → K) → List (K × ℕ) → Type 0) → (K → K → Ordering) → View K V
+    → List (K × ℕ) → Type 0
+IsSortedBatch {K = K} batch cmp s sorted =
+    (probes : List (K × ℕ)) × batch s.slot probes × IsPermutation probes sorted × IsSorted (probe_cmp cmp) sorted
 
 module _ {F K V : Type 0} (batch : (List ℕ → K) → List (K × ℕ) → Type 0) (visit : F → ℕ × V → F → Type 0) (f : F)
     (cmp : K → K → Ordering) (s : View K V) (last : F) where
@@ -47,7 +51,8 @@ module _ {F K V : Type 0} (batch : (List ℕ → K) → List (K × ℕ) → Type
 
   abbrev pub VisitsByKey : Type 0
   VisitsByKey =
-      (sorted : List (K × ℕ)) × IsSortedBatch batch cmp s sorted × FoldsTo visit f (visits_of (run_at cmp s) sorted) last
+      (sorted : List (K × ℕ)) × IsSortedBatch batch cmp s sorted
+      × FoldsTo visit f (visits_of (run_at cmp s) sorted) last
 
   abbrev pub VisitsInAnyOrder : Type 0
   VisitsInAnyOrder =

@@ -45,9 +45,11 @@ SameVisits K V = (run : K → List V) (probes : List (K × ℕ)) → visits_in (
 
 abbrev pub TellsAt : {F V : Type 0} → Mut F (Ahead V × Unit {0}) (Unit {0}) → F → Event V → F → Type 0
 TellsAt g f (Found place len) last = Called g f (ahead.Found place len, tt) tt last
-TellsAt {V = V} g f (Visit place value) last = (shown : Bor V) × (shown.now ≡ value) × Called g f (ahead.Visit place shown, tt) tt last
+TellsAt {V = V} g f (Visit place value) last =
+    (shown : Bor V) × (shown.now ≡ value) × Called g f (ahead.Visit place shown, tt) tt last
 
 module _ {F K V : Type 0} (batch : (List ℕ → K) → List (K × ℕ) → Type 0) (tell : F → Event V → F → Type 0) (f : F)
     (cmp : K → K → Ordering) (s : View K V) (last : F) where
   abbrev pub TellsAhead : Type 0
-  TellsAhead = (sorted : List (K × ℕ)) × IsSortedBatch batch cmp s sorted × FoldsTo tell f (events_of (run_at cmp s) sorted) last
+  TellsAhead =
+      (sorted : List (K × ℕ)) × IsSortedBatch batch cmp s sorted × FoldsTo tell f (events_of (run_at cmp s) sorted) last

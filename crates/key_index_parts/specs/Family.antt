@@ -109,7 +109,8 @@ pub record Kept (T K V : Type 0) : Type 0 where
   pub standings : Standings
 
 -- no more parts than partitions of p bytes, each a map of lists that are not empty, and so many values and keys in all of them
-pub record IsCounted {K V : Type 0} (cmp : K → K → Ordering) (p : ℕ) (parts : List (Content K V)) (items keys : ℕ) : Type 0 where
+pub record IsCounted {K V : Type 0} (cmp : K → K → Ordering) (p : ℕ) (parts : List (Content K V)) (items keys : ℕ)
+    : Type 0 where
   pub least : 1 ≤ p
   pub greatest : p ≤ 3
   pub sized : length parts ≤ partition_count p

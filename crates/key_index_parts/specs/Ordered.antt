@@ -10,8 +10,8 @@ use Rattle.key_index_parts.specs.declared.index.partitioned.ordered.Index.{Index
 use Rattle.key_index_parts.specs.Family.{view_of}
 use Rattle.key_index_parts.specs.Standing.{Standings}
 
-module _ {T V K : Type 0} {P : ℕ} {t : translator.Ghosts T K} {o : ord.Ghosts K} {e : eq.Ghosts K} {p : partial.Ghosts K}
-    {h : hash.Ghosts K} where
+module _ {T V K : Type 0} {P : ℕ} {t : translator.Ghosts T K} {o : ord.Ghosts K} {e : eq.Ghosts K}
+    {p : partial.Ghosts K} {h : hash.Ghosts K} where
   -- as contracts see it
   abbrev pub view : Index T V P K t o e p h → View (ℕ × K) V
   view index = view_of P t.translated index.storage

@@ -12,8 +12,8 @@ use Rattle.key_index_parts.specs.Family.{view_from}
 use Rattle.key_index_parts.specs.Joined.{is_between}
 use Rattle.key_index_parts.specs.Standing.{Standings}
 
-module _ {T V X K : Type 0} {P : ℕ} {t : translator.Ghosts T K} {o : ord.Ghosts K} {e : eq.Ghosts K} {p : partial.Ghosts K}
-    {h : hash.Ghosts K} {x : parts.Ghosts X T V K} where
+module _ {T V X K : Type 0} {P : ℕ} {t : translator.Ghosts T K} {o : ord.Ghosts K} {e : eq.Ghosts K}
+    {p : partial.Ghosts K} {h : hash.Ghosts K} {x : parts.Ghosts X T V K} where
   -- the first partition that it covers, and how many
   abbrev pub range_offset : Range T V X P K t o e p h x → ℕ
   range_offset range = range.offset

@@ -16,6 +16,7 @@
 --     with_spill            a partition's values moved into a tree, and counted
 --     spilled_if_reached    that, where it has reached the threshold
 --     after_call            a call by key that leaves m values in a partition
+--     IsBelow               a partition has fewer values in arrays than the threshold
 --     Settles, Refuses      what an accepted and a refused call by key leave, of an index of so many values
 --     is_small              a partition is spilled with fewer than half as many values as the threshold (is_small_by: as a limit)
 --     with_return           its values moved back to arrays, and counted
@@ -106,8 +107,11 @@ spilled_if_reached s n = if is_reached s n then with_spill s n else s
 abbrev pub after_call : Standings → ℕ → ℕ → Standings
 after_call s n m = spilled_if_reached (with_entries (spilled_if_reached s n) n m) n
 
+abbrev pub IsBelow : Standings → ℕ → Type 0
+IsBelow s n = inline_len s n < s.threshold
+
 abbrev pub Settles : Standings → ℕ → Standings → Type 0
-Settles old n new = new ≡ after_call old n (entries_at new n)
+Settles old n new = (new ≡ after_call old n (entries_at new n)) × IsBelow new n
 
 abbrev pub is_small_by : ℕ → Standing → Bool
 is_small_by limit p = p.spilled && nat_lt (2 * p.entries) limit
@@ -126,7 +130,7 @@ abbrev pub MovesBack : Standings → ℕ → Standings → Type 0
 MovesBack old n new = (new ≡ old) ⊎ (IsTrue (is_small old n) × (new ≡ with_return old n))
 
 abbrev pub Resettles : Standings → ℕ → Standings → Type 0
-Resettles old n new = MovesBack (after_call old n (entries_at new n)) n new
+Resettles old n new = MovesBack (after_call old n (entries_at new n)) n new × IsBelow new n
 
 -- a full index refuses before anything spills; else a spill that was due may have come before the growth that was refused
 abbrev pub Refuses : ℕ → Standings → ℕ → Standings → Type 0

@@ -7,6 +7,7 @@ use Rattle.key_index_flat.specs.laws.Laws.{IsLawful-with_list}
 use Rattle.key_index_plain.specs.declared.entries.Entry.{Entry}
 use Rattle.key_index_plain.specs.Entries.{content_of}
 
-pub IsLawful-content_of : {K V : Type 0} {cmp : K → K → Ordering} (o : IsTotalOrder cmp) (entries : List (Entry K V)) → IsLawful cmp (content_of cmp entries)
+pub IsLawful-content_of : {K V : Type 0} {cmp : K → K → Ordering} (o : IsTotalOrder cmp) (entries : List (Entry K V))
+    → IsLawful cmp (content_of cmp entries)
 IsLawful-content_of o [] = (tt, tt)
 IsLawful-content_of o (e ∷ es) = IsLawful-with_list o _ e.key e.values.items (IsLawful-content_of o es)

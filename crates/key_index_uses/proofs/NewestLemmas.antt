@@ -1,6 +1,5 @@
 -- The positions that ops make of the records of a log.
 --     answers_newest     the list of each key
---     build_fault        why a build is refused
 use Rattle.std.proofs.Common.{◌≡◌, ◌⊎◌, ℕ, true, false, cond, if◌then◌else◌, nat_lt, List, [], ◌∷◌, map, Vec, refl, sym, ap, ◌∙◌, inl, inr, ◌+◌, ◌-◌, ◌^◌}
 use Rattle.std.specs.declared.alloc.Global.{Global}
 use Rattle.std.specs.declared.cmp.Ordering.{Ordering}
@@ -57,20 +56,3 @@ module _ {K V : Type 0} {cmp : K → K → Ordering} (o : IsTotalOrder cmp) (exa
       ∙ ap (λ f. run_at cmp (after_ops cmp (map op_of records) s) (f key)) (slot-after_ops cmp (map op_of records) s)
       ∙ reads records s key
       ∙ ap (λ c. or_else (list_at cmp c (s.slot key)) (newest cmp s.slot key records)) empty
-
-install_either : (m n : ℕ) → (install_fault m n ≡ Memory) ⊎ (install_fault m n ≡ Full)
-install_either m n =
-    elim (nat_lt (2 ^ 64 - 1) (m + n)) as (λ b. ((if b then Full else Memory) ≡ Memory) ⊎ ((if b then Full else Memory) ≡ Full)) [
-      | true ↦ inr refl
-      | false ↦ inl refl
-    ]
-
-pub build_fault : {K V : Type 0} (cmp : K → K → Ordering) (partition : K → ℕ) (cuts : List ℕ) (ops : List (Op V)) (before after : View K V) (fault : Fault)
-    → RefusesBuild cmp partition cuts ops before after fault → (fault ≡ Memory) ⊎ (fault ≡ Full)
-build_fault cmp partition cuts ops before after fault (inl (same, inl want)) = inl want
-build_fault cmp partition cuts ops before after fault (inl (same, inr full)) = inr full.0
-build_fault cmp partition cuts ops before after fault (inr (n, among, left, why)) =
-    elim (install_either (items_in (built_upto cmp partition cuts ops before n)) (items_in (filled_by cmp partition cuts ops before n ops))) [
-      | inl e ↦ inl (why ∙ e)
-      | inr e ↦ inr (why ∙ e)
-    ]

@@ -13,9 +13,12 @@ module _ {V : Type 0} (full_key : V → List ℕ) where
   has_key a l = list_any (λ v. bytes_eq (full_key v) a) l
 
   abbrev pub IsBetween : Option V → V → Option V → Type 0
-  IsBetween below v above = IfSome below (λ b. byte_cmp (full_key b) (full_key v) ≡ Less) × IfSome above (λ t. byte_cmp (full_key v) (full_key t) ≡ Less)
+  IsBetween below v above =
+      IfSome below (λ b. byte_cmp (full_key b) (full_key v) ≡ Less)
+      × IfSome above (λ t. byte_cmp (full_key v) (full_key t) ≡ Less)
 
-pub record Excludes {V : Type 0} (full_key : V → List ℕ) (l : List V) (a : List ℕ) (below above : Option V) : Type 0 where
+pub record Excludes {V : Type 0} (full_key : V → List ℕ) (l : List V) (a : List ℕ) (below above : Option V)
+    : Type 0 where
   pub absent : has_key full_key a l ≡ false
   pub below_it : IfSome below (λ v. Contains l v × (byte_cmp (full_key v) a ≡ Less))
   pub above_it : IfSome above (λ v. Contains l v × (byte_cmp a (full_key v) ≡ Less))

@@ -8,3 +8,4 @@ pub mod named;
 pub mod records;
 pub mod segments;
 pub mod snapshots;
+pub mod standing;

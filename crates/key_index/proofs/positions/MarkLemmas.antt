@@ -1,5 +1,4 @@
 -- What marks leave of an immutable index, one after another.
---     refusal_is                       why an insertion was refused
 --     MarkedTo                         the marks so far: marked_first, marked_more, marked_all
 --     marks_start, marks_keys          the start and the keys by position at the end
 use Rattle.std.proofs.Common.{◌≡◌, ◌≢◌, ℕ, ◌+◌, ◌^◌, ◌-◌, ◌≤◌, true, false, cond, nat_le, ◌==◌, List, [], ◌∷◌, ◌++◌, length, append_assoc, append-nil, Option, Some, None, ◌↔◌, refl, sym, ap, subst, ◌∙◌, arith}
@@ -14,15 +13,6 @@ use Rattle.key_index.specs.declared.index.immutable.marks.Mark.TheVariants as ma
 use Rattle.key_index.specs.declared.index.immutable.marks.Marked.{Marked}
 use Rattle.key_index.specs.declared.index.immutable.marks.Marked.TheVariants as marked
 use Rattle.key_index.proofs.positions.PruneLemmas.{below_key}
-
-pub refusal_is : (fault : Fault) (n : ℕ) → (fault ≡ TooFar) ↔ (2 ^ 64 - 1 ≤ n) → fault ≢ Full → fault ≡ insertion_fault n
-refusal_is Memory n far other =
-    elim (nat_le (2 ^ 64 - 1) n) as (λ b. nat_le (2 ^ 64 - 1) n ≡ b → Memory ≡ cond b TooFar Memory) [
-      | true ↦ λ t. far.1 (leb-true _ _ t)
-      | false ↦ λ _. refl
-    ] refl
-refusal_is Full n far other = absurd (other refl)
-refusal_is TooFar n far other = sym (ap (λ b. cond b TooFar Memory) (le-leb (2 ^ 64 - 1) n (far.0 refl)))
 
 module _ {T K : Type 0} (translated : T → List ℕ → K) where
   pub record MarkedTo (marks rest : List Mark) (outcomes : List Marked) (s now : Log T K) : Type 0 where

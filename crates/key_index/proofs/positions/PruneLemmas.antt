@@ -3,7 +3,7 @@
 --     released_none, released_more   no cell goes, and one more
 --     jumped_log                     the start may be raised once it is reached or no cell is left
 --     Pruned                         what a pruning changes
---     jumped, not_pruned             it does so, and where the start is passed already too
+--     jumped                         it does so
 use Rattle.std.proofs.Common.{◌≡◌, ℕ, suc, zero, ◌+◌, ◌-◌, ◌^◌, ◌<◌, ◌≤◌, ◌⊎◌, min, max, Bool, true, false, cond, ◌&&◌, [], length, drop, slice_get, nat_le, nat_eq, None, is_some, refl, sym, ap, ◌∙◌, inl, inr, arith, count_by, length-drop}
 use Rattle.std.specs.List.{range_with_len}
 use Rattle.std.specs.Option.{option_map}
@@ -89,21 +89,6 @@ module _ {T K : Type 0} where
     pub end : end_of u ≡ max (end_of s) start
     pub pruned : u.pruned ≡ min (s.pruned + indexed_count s s.start (start - s.start)) (2 ^ 64 - 1)
     pub removals : u.cells.removals ≡ min (s.cells.removals + (min (end_of s) start - s.start)) (2 ^ 64 - 1)
-
-  pub not_pruned : (hashed : T → K → ℕ) (s : Log T K) (start : ℕ) → IsLog hashed s → start ≤ s.start → Pruned s start s
-  not_pruned hashed s start l le =
-      let zero_long : start - s.start ≡ 0 = omega arith in
-      let none : indexed_count s s.start (start - s.start) ≡ 0 = ap (indexed_count s s.start) zero_long in
-      record {
-        keys = λ p. elim (nat_le start p) as (λ b. nat_le start p ≡ b → key_at s p ≡ cond b (key_at s p) None) [
-          | true ↦ λ _. refl
-          | false ↦ λ t. let lt : p < start = leb-false _ _ t in below_key s p (omega arith)
-        ] refl;
-        start_is = omega arith;
-        end = omega arith;
-        pruned = let f = l.pruned_fits in omega (arith, none, f);
-        removals = let f = l.removals_fit in omega (arith, f, le);
-      }
 
   module _ (s t : Log T K) (start : ℕ) (below : t.start ≤ start) (reached : 0 < length t.keys → t.start ≡ start) where
     either : (t.start ≡ start) ⊎ (length t.keys ≡ 0)

@@ -1,9 +1,9 @@
 -- Cells that are made anew, and how many positions cells have.
 --     Copied                    the positions of the first cells stand in new ones, of which no other is used
---     Copied-none, Copied-past, Copied-put     before the first cell, past one without a position, and with a position more
+--     Copied-past, Copied-put     before the first cell, past one without a position, and with a position more
 --     copied_keeps              what the new cells keep of a map, with a position more
 --     copied_files              once all are copied, the new cells file the same map
---     put_stored, put_count, put_empty, put_used     what a position put in leaves, into an empty cell or another
+--     put_stored, put_count, put_used     what a position put in leaves, into an empty cell or another
 --     put_copies, put_kept      the same of new cells
 --     files_size                a map that cells file has as many positions as cells are full
 use Rattle.std.proofs.Common.{◌≡◌, ◌≢◌, ℕ, suc, zero, ◌+◌, ◌<◌, ◌≤◌, Bool, true, false, cond, List, [], ◌∷◌, length, slice_index, slice_set, nat_lt, nat_eq, map, take, Option, Some, None, IsSome, refl, sym, ap, subst, ◌∙◌, inl, inr, arith, count_by, replicate, get_or-set_same, get_or-set_other}
@@ -34,18 +34,6 @@ no_marks zero = (refl, refl)
 no_marks (suc n) =
     let r = no_marks n in
     (omega (arith, r.0, sum_by-cons (λ x. cond {A = ℕ} (is_full x) 1 0) 0 (replicate n 0)), omega (arith, r.1, sum_by-cons (λ x. cond {A = ℕ} (is_used x) 1 0) 0 (replicate n 0)))
-
-pub Copied-none : (cs ps ds qs : List ℕ) (n : ℕ) → length qs ≡ length ds → ds ≡ replicate n 0 → Copied cs ps ds qs 0
-Copied-none cs ps ds qs n s e =
-    let at : (j : ℕ) → slice_index ds j ≡ 0 = λ j. ap (λ l. slice_index l j) e ∙ zeros n j in
-    record {
-      sized = s;
-      full = ap (count_by is_full) e ∙ (no_marks n).0;
-      used = ap (count_by is_used) e ∙ (no_marks n).1;
-      clean = λ j z. let a = at j in omega (arith, a, z);
-      origin = λ j f. let a = at j in absurd (omega (arith, a, f));
-      target = λ i b f. absurd (omega arith);
-    }
 
 pub Copied-past : (cs ps ds qs : List ℕ) (n : ℕ) → n < length cs → slice_index cs n < 2 → Copied cs ps ds qs n → Copied cs ps ds qs (n + 1)
 Copied-past cs ps ds qs n b f s =
@@ -145,16 +133,6 @@ module _ (cs ps : List ℕ) (h p : ℕ) (es rs : List ℕ) (b : Bool) (put : IsP
 
   pub put_long : length es ≡ length cs
   put_long = ap length put.controls ∙ length-set cs put.cell (control_of h)
-
-  pub put_empty : (len used : ℕ) → AreCells cs ps len used → used + 1 < length cs → b ≡ true → AreCells es rs (len + 1) (used + 1)
-  put_empty len used s room t =
-      let zero : slice_index cs put.cell ≡ 0 = eqb-true _ _ (sym put.was_empty ∙ t) in
-      record {
-        sized = put_sized s.sized;
-        counted = omega (arith, s.counted, put_count);
-        marked = omega (arith, s.marked, ap (count_by is_used) put.controls, used-put_empty cs put.cell (control_of h) put.within zero (omega arith));
-        room = omega (arith, room, put_long);
-      }
 
   pub put_used : (len used : ℕ) → AreCells cs ps len used → b ≡ false → AreCells es rs (len + 1) used
   put_used len used s t =

@@ -1,6 +1,6 @@
 -- Searches of the cells of a table.
---     range_step, range_end             a range of numbers by its first, and one without any
---     find_here, find_past, find_out    what is found in a range, by its first
+--     range_step             a range of numbers by its first
+--     find_past    what is found in a range, by its first
 --     marked_end, marked_past, marked_here     what is marked among cells, by the first of them
 --     free_exists                       where fewer cells are used than there are, one is free
 use Rattle.std.proofs.Common.{◌≡◌, ◌≢◌, ℕ, suc, zero, ◌+◌, ◌-◌, ◌<◌, ◌≤◌, Bool, true, false, cond, List, [], ◌∷◌, ◌++◌, length, slice_index, nat_lt, nat_eq, ◌==◌, Some, None, refl, sym, ap, ◌∙◌, arith, count_by}
@@ -16,21 +16,9 @@ range_step i n h =
     let e : n - i ≡ suc (n - (i + 1)) = omega arith in
     ap (range_with_len i) e
 
-pub range_end : (i n : ℕ) → n ≤ i → range_with_len i (n - i) ≡ []
-range_end i n h =
-    let e : n - i ≡ 0 = omega arith in
-    ap (range_with_len i) e
-
-pub find_here : (q : ℕ → Bool) (i n : ℕ) → i < n → q i ≡ true → find q (range_with_len i (n - i)) ≡ Some i
-find_here q i n h t =
-    ap (find q) (range_step i n h) ∙ ap (λ b. cond b (Some i) (find q (range_with_len (i + 1) (n - (i + 1))))) t
-
 pub find_past : (q : ℕ → Bool) (i n : ℕ) → i < n → q i ≡ false → find q (range_with_len (i + 1) (n - (i + 1))) ≡ find q (range_with_len i (n - i))
 find_past q i n h t =
     sym (ap (find q) (range_step i n h) ∙ ap (λ b. cond b (Some i) (find q (range_with_len (i + 1) (n - (i + 1))))) t)
-
-pub find_out : (q : ℕ → Bool) (i n : ℕ) → n ≤ i → find q (range_with_len i (n - i)) ≡ None
-find_out q i n h = ap (find q) (range_end i n h)
 
 module _ (cs : List ℕ) (c : ℕ) where
   marked_by : (x : ℕ) (xs : List ℕ) → marked cs c (x ∷ xs) ≡ filter (λ i. slice_index cs i == c) (cond (is_used (slice_index cs x)) (x ∷ take_while (λ i. is_used (slice_index cs i)) xs) [])

@@ -1,8 +1,7 @@
 -- The places that stand for the bits of words, under a summary of which words have one.
-use Rattle.std.proofs.Common.{◌≡◌, ◌≢◌, ℕ, zero, ◌+◌, ◌*◌, ◌/◌, ◌%◌, ◌^◌, ◌<◌, ◌≤◌, Bool, true, false, not, All, List, length, map, replicate, get_or, Some, slice_get, slice_index, slice_set, refl, sym, ap, ◌∙◌, arith, inl, inr, ◌==◌}
+use Rattle.std.proofs.Common.{◌≡◌, ◌≢◌, ℕ, zero, ◌+◌, ◌*◌, ◌/◌, ◌%◌, ◌^◌, ◌<◌, ◌≤◌, Bool, true, false, not, List, length, replicate, get_or, slice_index, slice_set, refl, sym, ap, ◌∙◌, arith, inl, inr, ◌==◌}
 use Rattle.std.proofs.lemmas.Bool.{cases_lt, cases_eq, true≢false, eqb-true, not-false}
-use Rattle.std.proofs.lemmas.List.{get_or-set_same, get_or-set_other, get_or-replicate, get_or_past, get_or-map, length-map, length-replicate, ext_get_or}
-use Rattle.std.proofs.lemmas.Option.{slice_get_cases, slice_get_within, slice_get-get_or}
+use Rattle.std.proofs.lemmas.List.{get_or-set_same, get_or-set_other, get_or-replicate, get_or_past, length-replicate}
 use Rattle.std.proofs.lemmas.List.FromFn.{length-map-range_with_len, get_or-map-range_with_len, fill_by_all}
 use Rattle.std.proofs.Math.ListN.{length-set}
 use Rattle.key_index_parts.specs.Bitmap.{IsFirst, IsLast, word_has, words_have, flags_of, flag_at}
@@ -33,14 +32,6 @@ module _ (words : List ℕ) (summary : ℕ → Bool) (exact : (place : ℕ) → 
   unsummed : (p : ℕ) → summary (p / 64) ≡ false → words_have words p ≡ false
   unsummed p none =
       in_empty_word words p (eqb-true (slice_index words (p / 64)) 0 (not-false _ (sym (exact (p / 64)) ∙ none)))
-
-  -- a word that the summary names is one of the words
-  pub summed_within : (place : ℕ) → summary place ≡ true → place < length words
-  summed_within place some =
-      elim (cases_lt place (length words)) as (λ _. place < length words) [
-        | inl within ↦ within
-        | inr past ↦ absurd (true≢false (sym some ∙ exact place ∙ ap (λ w. not (w == 0)) (get_or_past words place 0 past)))
-      ]
 
   -- and has a bit
   pub summed_has_one : (place word : ℕ) → summary place ≡ true → word ≡ slice_index words place → word < 2 ^ 64
@@ -206,30 +197,3 @@ flags_set old new count place fills within here elsewhere =
           ∙ get_or-set_same (flags_of old count) place fills false (omega (arith, sized)) ∙ sym here ∙ ap (words_have new) (sym e)
       | inr other ↦ get_or-set_other (flags_of old count) place p fills false other ∙ flag_within old count p below ∙ sym (elsewhere p other)
     ])
-
--- flags that tell of each part whether it passes a test
-module _ {X : Type 0} (test : X → Bool) (parts : List X) where
-  pub part_of_flag : (p : ℕ) → flag_at (map test parts) p ≡ true → (x : X) × (slice_get parts p ≡ Some x) × (test x ≡ true)
-  part_of_flag p set =
-      elim ((slice_get_cases parts p).1) as (λ _. (x : X) × (slice_get parts p ≡ Some x) × (test x ≡ true)) [
-        | inl here ↦ (here.0, here.2, ap test (sym here.3) ∙ sym (get_or-map test parts p here.0 false here.1) ∙ set)
-        | inr past ↦ let sized = length-map parts test in
-            absurd (true≢false (sym set ∙ get_or_past (map test parts) p false (omega (arith, sized, past.0))))
-      ]
-
-  pub flag_of_part : (p : ℕ) (x : X) → slice_get parts p ≡ Some x → flag_at (map test parts) p ≡ test x
-  flag_of_part p x here =
-      let within = slice_get_within parts p x here in
-      let read : Some (get_or parts p x) ≡ Some x = sym (slice_get-get_or parts p x within) ∙ here in
-      let same : get_or parts p x ≡ x = cc in
-      get_or-map test parts p x false within ∙ ap test same
-
-  pub flags_of_failing : All (λ x. test x ≡ false) parts → map test parts ≡ replicate (length parts) false
-  flags_of_failing fails =
-      let sized = length-map parts test in
-      ext_get_or false (map test parts) (replicate (length parts) false) (sized ∙ sym (length-replicate (length parts) false)) (λ p below.
-      let within : p < length parts = omega arith in
-      elim ((slice_get_cases parts p).1) as (λ _. get_or (map test parts) p false ≡ get_or (replicate (length parts) false) p false) [
-        | inl here ↦ get_or-map test parts p here.0 false within ∙ fails p here.0 within ∙ sym (get_or-replicate (length parts) p false false within)
-        | inr past ↦ absurd (omega (arith, past.0))
-      ])

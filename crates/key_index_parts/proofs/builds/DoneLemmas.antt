@@ -1,10 +1,9 @@
 -- A list of which some items are done and the others are left.
 --     take_done             those that are done, as the first of all
---     shorter               where one is left, not all are done
 --     split_more, split_all one more is done; all are
 --     get_done              the next one
 --     take_whole            all items are the first of a list
-use Rattle.std.proofs.Common.{◌≡◌, ◌<◌, List, [], ◌∷◌, ◌++◌, Some, length, slice_get, take, append-nil, append_assoc, length-append, refl, sym, ap, ◌∙◌, arith}
+use Rattle.std.proofs.Common.{◌≡◌, List, [], ◌∷◌, ◌++◌, Some, length, slice_get, take, append-nil, append_assoc, refl, sym, ap, ◌∙◌}
 
 module _ {A : Type 0} where
   pub take_done : (xs ys : List A) → take (length xs) (xs ++ ys) ≡ xs
@@ -18,12 +17,6 @@ module _ {A : Type 0} where
   here : (xs ys : List A) (y : A) → slice_get (xs ++ y ∷ ys) (length xs) ≡ Some y
   here [] ys y = refl
   here (x ∷ xs) ys y = here xs ys y
-
-  pub shorter : (xs ys all : List A) (y : A) → xs ++ y ∷ ys ≡ all → length xs < length all
-  shorter xs ys all y e =
-      let sum = length-append xs (y ∷ ys) in
-      let same : length (xs ++ y ∷ ys) ≡ length all = ap (λ l. length l) e in
-      omega (arith, sum, same)
 
   pub split_more : (done rest left all : List A) (x : A) → rest ≡ x ∷ left → done ++ rest ≡ all → (done ++ x ∷ []) ++ left ≡ all
   split_more done rest left all x e was = append_assoc done (x ∷ []) left ∙ ap (λ l. done ++ l) (sym e) ∙ was

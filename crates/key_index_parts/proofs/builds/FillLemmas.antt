@@ -1,11 +1,8 @@
 -- What a filling is made of, step by step.
 --     FillTo                      the steps so far: fill_first, fill_more, fill_all, fill_stops
---     fill_done, fill_refused     what the steps leave of the index that the cursor was made on, and why they are refused
---     insert_refused              why a call that puts one value in is refused
 --     absent_left                 what they leave where the key has no value
-use Rattle.std.proofs.Common.{◌≡◌, ℕ, ◌+◌, ◌-◌, ◌^◌, ◌<◌, true, false, if◌then◌else◌, nat_eq, List, [], ◌∷◌, ◌++◌, length, take, zero-add, refl, sym, ap, subst, ◌∙◌, inl, inr, arith}
+use Rattle.std.proofs.Common.{◌≡◌, ℕ, ◌+◌, ◌<◌, List, [], ◌∷◌, ◌++◌, length, take, refl, sym, ap, subst, ◌∙◌, arith}
 use Rattle.std.specs.Prelude.{Result, Ok, Err, IfErr, IsErrAnd}
-use Rattle.std.proofs.lemmas.Bool.{eqb-true}
 use Rattle.std.specs.declared.cmp.Ordering.{Ordering}
 use Rattle.std.specs.declared.cmp.Ordering.TheVariants.{Equal}
 use Rattle.std.specs.Cmp.{IsTotalOrder}
@@ -13,23 +10,19 @@ use Rattle.std.specs.declared.cmp.Ord as ord
 use Rattle.std.specs.declared.cmp.PartialEq as eq
 use Rattle.std.specs.declared.cmp.PartialOrd as partial
 use Rattle.key_index_flat.specs.declared.index.Fault.{Fault}
-use Rattle.key_index_flat.specs.declared.index.Fault.TheVariants.{Memory, Full}
 use Rattle.key_index_flat.specs.declared.index.command.Step.{Step}
 use Rattle.key_index_flat.specs.declared.index.index_cursor.IndexCursor.{IndexCursor}
 use Rattle.key_index_flat.specs.declared.index.traits.runs.Runs as runs
 use Rattle.key_index_flat.specs.Content.{IsLawful}
-use Rattle.key_index_flat.specs.Fault.{growth_fault}
-use Rattle.key_index_flat.specs.View.{View, items_in, growth_fault_in, run_at, with_run, with_pruned}
-use Rattle.key_index_flat.specs.Cursor.{NeedNext}
+use Rattle.key_index_flat.specs.View.{View, growth_fault_in, run_at, with_run, with_pruned}
 use Rattle.key_index_flat.specs.CursorRun.{edited_at, EditsBy}
-use Rattle.key_index_flat.specs.IndexCursor.{cursor_place}
 use Rattle.key_index_flat.specs.Run.{edit_start}
 use Rattle.key_index_flat.specs.Steps.{Edited, after_step}
 use Rattle.key_index_flat.proofs.content.ContentLemmas.{with_list-same}
 use Rattle.key_index_flat.proofs.runs.CursorLemmas.{pruned_none}
 use Rattle.key_index_flat.proofs.runs.RunLemmas.{stays_edits, edits_more, none_more}
 use Rattle.key_index_parts.specs.Ops.{after_steps, edit_held, edited_by}
-use Rattle.key_index_parts.specs.Fill.{RefusesStep, IsFillFault}
+use Rattle.key_index_parts.specs.Fill.{RefusesStep}
 use Rattle.key_index_parts.proofs.builds.DoneLemmas.{take_done, split_more, split_all}
 
 sum_more : (n a b : ℕ) → n + (a + b) ≡ n + a + b
@@ -44,10 +37,6 @@ module _ {V : Type 0} where
   after_steps-append : (xs : List (Step V)) (x : Step V) (s : Edited V) → after_steps (xs ++ x ∷ []) s ≡ after_step x (after_steps xs s)
   after_steps-append [] x s = refl
   after_steps-append (y ∷ ys) x s = after_steps-append ys x (after_step y s)
-
-  held_edit : (steps : List (Step V)) (l : List V) → 0 < length l → edit_held steps l ≡ after_steps steps (edit_start l)
-  held_edit steps [] h = absurd (omega (arith, h))
-  held_edit steps (v ∷ vs) h = refl
 
   no_edit : (steps : List (Step V)) (l : List V) → ¬ (0 < length l) → edit_held steps l ≡ edit_start l
   no_edit steps [] h = refl
@@ -90,35 +79,6 @@ module _ {I V K : Type 0} {r : runs.Ghosts I V K} {o : ord.Ghosts K} {e : eq.Gho
 
   pub fill_all : (steps rest : List (Step V)) (now : IndexCursor I V K r o e p) → rest ≡ [] → FillTo steps rest old now → EditsBy (after_steps steps) old now
   fill_all steps rest now none was = subst (λ l. EditsBy (after_steps l) old now) (split_all was.done rest steps none was.split) was.edits
-
-module _ {K V : Type 0} where
-  fault_of : {fault : Fault} (n : ℕ) (begun : ℕ → View K V) (m : ℕ) → fault ≡ growth_fault m → m ≡ items_in (begun n) → IsFillFault fault begun
-  fault_of {fault = fault} n begun m why same =
-      elim (nat_eq m (2 ^ 64 - 1)) as (λ b. nat_eq m (2 ^ 64 - 1) ≡ b → IsFillFault fault begun) [
-        | true ↦ λ e. inr (why ∙ ap (λ b. if b then Full else Memory) e, n, sym same ∙ eqb-true m (2 ^ 64 - 1) e)
-        | false ↦ λ e. inl (why ∙ ap (λ b. if b then Full else Memory) e)
-      ] refl
-
-  -- why a call that puts one value in is refused
-  pub insert_refused : (s : View K V) (fault : Fault) → fault ≡ growth_fault_in s → IsFillFault fault (λ n. s)
-  insert_refused s fault why = fault_of 0 (λ n. s) (items_in s) why refl
-
-module _ {I V K : Type 0} {r : runs.Ghosts I V K} {o : ord.Ghosts K} {e : eq.Ghosts K} {p : partial.Ghosts K} where
-  -- what the steps leave of an index, as the cursor found it
-  pub fill_done : (steps : List (Step V)) (old new : IndexCursor I V K r o e p) (x y : I) (k : K) → old.index.now ≡ x → new.index.now ≡ y → old.slot ≡ k → cursor_place old ≡ NeedNext 0
-      → 0 < length (run_at o.cmp (r.view x) k) → EditsBy (after_steps steps) old new → r.view y ≡ edited_by o.cmp steps k (r.view x)
-  fill_done steps old new x y k from into key place held done =
-      let start : edited_at old 0 ≡ edit_start (run_at o.cmp (r.view x) k) = λ i. record { items = run_at o.cmp (r.view (from i)) (key i); place = place i; taken = 0 } in
-      let ends : edited_at new done.taken ≡ edit_held steps (run_at o.cmp (r.view x) k) =
-      ap (λ m. edited_at new m) (sym (zero-add done.taken)) ∙ done.gives 0 ∙ ap (λ s. after_steps steps s) start ∙ sym (held_edit steps (run_at o.cmp (r.view x) k) held) in
-      ap (λ z. r.view z) (sym into) ∙ done.edits.changed ∙ (λ i. with_pruned (with_run o.cmp (r.view (from i)) (key i) (ends i).items) (ends i).taken)
-
-  -- why the steps are refused, as the cursor found the index
-  pub fill_refused : (steps : List (Step V)) (old : IndexCursor I V K r o e p) (x : I) (k : K) (fault : Fault) → old.index.now ≡ x → old.slot ≡ k → cursor_place old ≡ NeedNext 0
-      → 0 < length (run_at o.cmp (r.view x) k) → RefusesStep steps old fault → IsFillFault fault (λ n. edited_by o.cmp (take n steps) k (r.view x))
-  fill_refused steps old x k fault from key place held was =
-      fault_of was.count (λ n. edited_by o.cmp (take n steps) k (r.view x)) (items_in (r.view was.at.index.now)) was.why
-      (ap (λ s. items_in s) (fill_done (take was.count steps) old was.at x was.at.index.now k from refl key place held was.edits))
 
 module _ {K V : Type 0} {cmp : K → K → Ordering} (total : IsTotalOrder cmp) (exact : (x y : K) → cmp x y ≡ Equal → x ≡ y) where
   -- a key that has no value is not edited

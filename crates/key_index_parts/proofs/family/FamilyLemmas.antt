@@ -14,14 +14,13 @@
 --     none_refused, refused_so   what is said of a refusal, of an outcome that is known
 --     spills_so                  a part of which a spill would move values is of a kind that spills
 --     due_told, due_none         how many values are due to spill, by how many a spill would move
---     small_told, all_told       a small part, by how many values stand in its tree, and that these are all
 --     counted_parts              each part stands with as many values as it holds
 --     left_fewer                 no more values of a part once its list became no longer
-use Rattle.std.proofs.Common.{◌≡◌, ℕ, zero, suc, ◌*◌, ◌<◌, Bool, true, false, not, nat_le, nat_lt, List, [], ◌∷◌, ◌++◌, map, insert, take, drop, replicate, All, set, length, refl, sym, ap, subst, ◌∙◌, ◌≤◌, ◌&&◌, arith, lt_of_not-le, slice_index_or}
-use Rattle.std.proofs.lemmas.Bool.{le-leb, lt-leb, lt-ltb}
+use Rattle.std.proofs.Common.{◌≡◌, ℕ, zero, suc, ◌<◌, Bool, true, false, not, nat_le, List, [], ◌∷◌, ◌++◌, map, insert, take, drop, replicate, All, set, length, refl, sym, ap, subst, ◌∙◌, ◌≤◌, ◌&&◌, arith, lt_of_not-le, slice_index_or}
+use Rattle.std.proofs.lemmas.Bool.{le-leb, lt-leb}
 use Rattle.std.proofs.lemmas.List.{get_or-map, get_or-set_same, map-set, get_or_past, length-map}
 use Rattle.std.specs.Cmp.{IsTotalOrder}
-use Rattle.std.specs.Prelude.{if◌then◌else◌, IsTrue, Result, Ok, Err, OnErr}
+use Rattle.std.specs.Prelude.{if◌then◌else◌, Result, Ok, Err, OnErr}
 use Rattle.std.proofs.lemmas.List.Elements.{All-head, All-tail}
 use Rattle.std.proofs.Math.Seq.{map-set_same}
 use Rattle.std.specs.declared.cmp.Ordering.{Ordering}
@@ -214,16 +213,6 @@ due_none true false limit entries values is few =
     ap (λ b. if b then entries else 0) (sym (lt-leb limit entries (omega (arith, is, few))))
 due_none true true limit entries values is few = refl
 due_none false spilled limit entries values is few = refl
-
--- a part of which so many values stand in a tree
-pub small_told : (spilled : Bool) (limit entries values : ℕ) → values ≡ (if spilled then entries else 0) → 0 < values → 2 * values < limit
-    → IsTrue (spilled && nat_lt (2 * entries) limit)
-small_told true limit entries values is some few = lt-ltb (2 * entries) limit (omega (arith, is, few))
-small_told false limit entries values is some few = absurd (omega (arith, is, some))
-
-pub all_told : (spilled : Bool) (entries values : ℕ) → values ≡ (if spilled then entries else 0) → 0 < values → values ≡ entries
-all_told true entries values is some = is
-all_told false entries values is some = absurd (omega (arith, is, some))
 
 -- each part stands with as many values as it holds
 pub counted_parts : {X K V : Type 0} (f : X → Content K V) (s : X → Bool) (xs : List X) → AreCounted (map f xs) (map (λ x. stands (f x) (s x)) xs)

@@ -3,7 +3,6 @@
 --     list_at-past         and empty past the last part
 --     with_list-gathered     one part with another list at a key is the whole with it at the pair
 --     item_count-gathered, key_count-gathered    the counts are sums
---     gathered-none          parts that hold nothing
 use Rattle.std.proofs.Common.{◌≡◌, ℕ, zero, suc, ◌+◌, ◌<◌, ◌≤◌, T, cond, List, [], ◌∷◌, ◌++◌, map, get_or, set, length, sum_by, All, Some, None, unwrap_or, add-zero, zero-add, refl, sym, ap, subst, ◌∙◌, arith}
 use Rattle.std.proofs.lemmas.List.{get_or-set_same, get_or-set_other, get_or_past}
 use Rattle.std.proofs.lemmas.List.Elements.{All-get_or, All-set, All-head, All-tail}
@@ -107,6 +106,3 @@ module _ {K V : Type 0} where
   gathered_from-none f p [] h = refl
   gathered_from-none f p (x ∷ xs) h =
       ap (λ c. tagged p c ++ gathered_from (suc p) (map f xs)) (All-head (λ y. f y ≡ []) x xs h) ∙ gathered_from-none f (suc p) xs (All-tail (λ y. f y ≡ []) x xs h)
-
-  pub gathered-none : {X : Type 0} (f : X → Content K V) (xs : List X) → All (λ x. f x ≡ []) xs → gathered (map f xs) ≡ []
-  gathered-none f xs h = gathered_from-none f 0 xs h

@@ -3,9 +3,9 @@
 --     IsLawful-joined             lawful where the second is
 --     item_count-joined, key_count-joined     the counts add, that of keys where no key is in both
 --     joined-with_list, with_list-joined      a list put on one side
---     joined-empty, joined-commutes, joined-assoc
+--     joined-empty
 --     IsFree-with_list            a list put at a key that is not among those
-use Rattle.std.proofs.Common.{◌≡◌, ◌+◌, Bool, true, false, cond, not, T, List, [], ◌∷◌, ◌++◌, Some, unwrap_or, append_assoc, append-nil, length-append, refl, sym, ap, subst, ◌∙◌, ◌⊎◌, inl, inr, arith}
+use Rattle.std.proofs.Common.{◌≡◌, ◌+◌, Bool, true, false, cond, not, T, List, [], ◌∷◌, ◌++◌, Some, unwrap_or, append-nil, length-append, refl, sym, ap, subst, ◌∙◌, ◌⊎◌, inl, inr, arith}
 use Rattle.std.specs.declared.cmp.Ordering.{Ordering}
 use Rattle.std.specs.declared.cmp.Ordering.TheVariants.{Equal}
 use Rattle.std.specs.Ordering.{eq_by_cmp}
@@ -116,26 +116,6 @@ module _ {K V : Type 0} {cmp : K → K → Ordering} (o : IsTotalOrder cmp) wher
 
     pub joined-empty : (c : Content K V) → IsLawful cmp c → joined cmp c [] ≡ c
     joined-empty c g = same_content o exact _ _ (IsLawful-joined c [] (tt, tt)) g (λ q. list_at-joined c [] q g ∙ append-nil (list_at cmp c q))
-
-    pub joined-commutes : (c d : Content K V) → IsLawful cmp c → IsLawful cmp d → IsApart cmp c d → joined cmp c d ≡ joined cmp d c
-    joined-commutes c d g h apart =
-        same_content o exact _ _ (IsLawful-joined c d h) (IsLawful-joined d c g) (λ q.
-        list_at-joined c d q g
-        ∙ elim (apart q) [
-          | inl z ↦ ap (λ l. l ++ list_at cmp d q) z ∙ sym (ap (λ l. list_at cmp d q ++ l) z ∙ append-nil (list_at cmp d q))
-          | inr z ↦ ap (λ l. list_at cmp c q ++ l) z ∙ append-nil (list_at cmp c q) ∙ sym (ap (λ l. l ++ list_at cmp c q) z)
-        ]
-        ∙ sym (list_at-joined d c q h))
-
-    pub joined-assoc : (b c d : Content K V) → IsLawful cmp b → IsLawful cmp c → IsLawful cmp d → joined cmp (joined cmp b c) d ≡ joined cmp b (joined cmp c d)
-    joined-assoc b c d f g h =
-        let inner = IsLawful-joined b c g in
-        same_content o exact _ _ (IsLawful-joined (joined cmp b c) d h) (IsLawful-joined b (joined cmp c d) (IsLawful-joined c d h)) (λ q.
-        list_at-joined (joined cmp b c) d q inner
-        ∙ ap (λ l. l ++ list_at cmp d q) (list_at-joined b c q f)
-        ∙ append_assoc (list_at cmp b q) (list_at cmp c q) (list_at cmp d q)
-        ∙ ap (λ l. list_at cmp b q ++ l) (sym (list_at-joined c d q g))
-        ∙ sym (list_at-joined b (joined cmp c d) q f))
 
     pub IsFree-with_list : (p : K → Bool) (c : Content K V) (k : K) (l : List V) → p k ≡ false → IsFree cmp p c → IsFree cmp p (with_list cmp c k l)
     IsFree-with_list p c k l out free q in_p =

@@ -33,10 +33,6 @@ module _ {K V : Type 0} {cmp : K → K → Ordering} (o : IsTotalOrder cmp) wher
   put_first : (k : K) (l : List V) (f : K) (m : List V) (c : Content K V) (r : Ordering) → cmp k f ≡ r → put cmp k l ((f, m) ∷ c) ≡ by_order r ((k, l) ∷ (f, m) ∷ c) ((f, l) ∷ c) ((f, m) ∷ put cmp k l c)
   put_first k l f m c r e = ap (λ r. by_order r ((k, l) ∷ (f, m) ∷ c) ((f, l) ∷ c) ((f, m) ∷ put cmp k l c)) e
 
-  -- after a first pair, m more of its run
-  abbrev pub first_key : K × V → List (K × V) → K → K
-  first_key e es d = get_or (keys_of (e ∷ es)) (length (run_of cmp es e.0)) d
-
   abbrev FirstRun : K × V → List (K × V) → Content K V → K → List V → Type 0
   FirstRun e es c d r =
       (c ≡ (get_or (keys_of (e ∷ es)) (length r) d, e.1 ∷ r) ∷ grouped cmp (drop (length r) es)) × (cmp e.0 (get_or (keys_of (e ∷ es)) (length r) d) ≡ Equal)

@@ -3,18 +3,18 @@
 --     length-filter-point     a partition point is a count
 --     lower_partitions, upper_partitions     what a binary search asks for
 --     Rises, rises, sorted    that keys never fall, by recursion
---     IsSorted-remove_range, IsSorted-slice_range     it stays so without some of them
+--     IsSorted-remove_range     it stays so without some of them
 --     first_lowest, last_highest     no key is below the first, nor above the last
 --     counted, uncounted      whether a place is below the count of those that pass
 --     count_behind, count_before     that count by those from a place on, and by those up to one
 --     count_within            it is no more than all
---     below_upto, first_counted, last_uncounted     the counts of a key, of the first and of the last
+--     below_upto, last_uncounted     the counts of a key, and of the last
 use Rattle.std.proofs.Common.{◌≡◌, ℕ, suc, ◌+◌, ◌<◌, ◌≤◌, Bool, true, false, cond, T, List, [], ◌∷◌, length, ◌⊎◌, All, take, drop, inl, inr, refl, sym, ap, subst, ◌∙◌, arith, zero, get_or, ◌-◌, slice_get, Some}
 use Rattle.std.specs.declared.cmp.Ordering.{Ordering}
 use Rattle.std.specs.declared.cmp.Ordering.TheVariants.{Less, Equal, Greater}
 use Rattle.std.specs.Ordering.{is_lt, is_le, ordering_reverse}
 use Rattle.std.specs.Cmp.{IsTotalOrder, alike_right, tied_itself}
-use Rattle.std.specs.List.{filter, slice_range, remove_range}
+use Rattle.std.specs.List.{filter, remove_range}
 use Rattle.std.specs.List.Sorted.{IsSorted, IsPartitionedBy, IsPartitionPoint}
 use Rattle.std.proofs.lemmas.List.Sorted.{ranks_by, sorted_far}
 use Rattle.std.proofs.lemmas.Option.{get_or_from_slice_get, slice_get_within}
@@ -127,9 +127,6 @@ module _ {K : Type 0} {cmp : K → K → Ordering} (o : IsTotalOrder cmp) where
   Rises-take (suc n) [] h = tt
   Rises-take (suc n) (k ∷ ks) h = (All-take (λ x. is_lt (cmp x k) ≡ false) n ks h.0, Rises-take n ks h.1)
 
-  pub IsSorted-slice_range : (ks : List K) (i j : ℕ) → IsSorted cmp ks → IsSorted cmp (slice_range ks i j)
-  IsSorted-slice_range ks i j h = sorted (slice_range ks i j) (Rises-take (j - i) (drop i ks) (Rises-drop i ks (rises ks h)))
-
   -- no key is below the first, nor above the last
   pub first_lowest : (ks : List K) (k : K) → IsSorted cmp ks → slice_get ks 0 ≡ Some k → All (λ x. is_lt (cmp x k) ≡ false) ks
   first_lowest ks k h at j d b =
@@ -234,11 +231,6 @@ module _ {K : Type 0} {cmp : K → K → Ordering} (o : IsTotalOrder cmp) where
         | Equal ↦ omega (arith, rest)
         | Greater ↦ omega (arith, rest)
       ]
-
-  -- the first key is not above itself, and the last not below
-  pub first_counted : (ks : List K) (k d : K) → IsSorted cmp ks → 0 < length ks → get_or ks 0 d ≡ k → 0 < count_upto cmp ks k
-  first_counted ks k d h l at =
-      counted (λ x. is_le (cmp x k)) ks 0 d (upper_partitions o ks k h) l (ap (λ x. is_le (cmp x k)) at ∙ ap is_le (tied_itself o k))
 
   pub last_uncounted : (ks : List K) (k : K) → IsSorted cmp ks → slice_get ks (length ks - 1) ≡ Some k → count_below cmp ks k < length ks
   last_uncounted ks k h at =

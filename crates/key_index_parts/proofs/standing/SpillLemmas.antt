@@ -6,8 +6,7 @@
 --     moved, no_keys              one run more is moved to its key; no keys are left
 --     keys_of-append              the keys of two lists of entries
 --     keys-room, keys-list        the keys of runs, by their room and by their lists
---     some_held                   a content with values is filled
-use Rattle.std.proofs.Common.{◌≡◌, ◌<◌, true, cond, T, List, [], ◌∷◌, ◌++◌, length, map, drop, get_or, Some, append_assoc, refl, sym, ap, ◌∙◌, arith}
+use Rattle.std.proofs.Common.{◌≡◌, cond, T, List, [], ◌∷◌, ◌++◌, length, map, drop, get_or, Some, append_assoc, refl, sym, ap, ◌∙◌, arith}
 use Rattle.std.specs.List.{AllByRecursion}
 use Rattle.std.specs.List.Sorted.{IsStrictlySortedBy}
 use Rattle.std.specs.Map.{keys_of, lookup}
@@ -18,7 +17,7 @@ use Rattle.std.specs.declared.cmp.Ordering.{Ordering}
 use Rattle.std.specs.declared.cmp.Ordering.TheVariants.{Less, Greater}
 use Rattle.std.specs.Ordering.{is_eq, match_ordering, ordering_reverse}
 use Rattle.std.specs.declared.vec.Vec.{Vec}
-use Rattle.key_index_flat.specs.Content.{Content, is_filled, item_count}
+use Rattle.key_index_flat.specs.Content.{Content}
 use Rattle.key_index_flat.specs.laws.Laws.{first, second}
 use Rattle.key_index_flat.proofs.content.ContentLemmas.{less}
 use Rattle.key_index_parts.specs.Pairs.{list_of, room_of, room_for}
@@ -107,7 +106,3 @@ module _ {K V A : Type 0} where
 
   pub keys-list : (runs : List (K × Vec V A)) (c : Content K V) → map list_of runs ≡ c → keys_of runs ≡ keys_of c
   keys-list runs c e = sym (list_keys runs) ∙ ap keys_of e
-
-pub some_held : {K V : Type 0} (c : Content K V) → 0 < item_count c → is_filled c ≡ true
-some_held [] h = absurd (omega (arith, h))
-some_held (e ∷ es) h = refl

@@ -18,6 +18,7 @@ use Rattle.key_index_parts.specs.Counts.{one_if}
 use Rattle.key_index_flat.specs.Content.{item_count}
 use Rattle.key_index_parts.specs.Family.{Kept, IsLeft, settled_in}
 use Rattle.key_index_parts.specs.Gathered.{gathered}
+use Rattle.key_index_parts.specs.laws.StandingLaws.{settles_by, resettles_by}
 use Rattle.key_index_parts.specs.Standing.{Standing, Standings, GrowsIn, Leaves, LeavesSome, MovesBack, Refuses, Resettles, Settles, after_call, due_in, entries_at, grown, is_reached, is_reached_by, is_small, left_with, moved_since, spilled_if_reached, spilled_since, standing_at, standing_in, with_entries, with_inline, with_left, with_spill, with_spilled}
 
 pub none_more : (n : ℕ) → pruned_after n 0 ≡ n
@@ -101,7 +102,7 @@ module _ (s : Standings) (n : ℕ) (inside : n < length s.parts) (least : 1 ≤ 
   pub settles_edit : (new : Standings) → Leaves mid n new → entries_at new n ≤ entries_at mid n → Settles s n new
   settles_edit new left fewer =
       let same : entries_at mid n ≡ entries_at s n = ap (λ p. p.entries) (at_raised s n inside) ∙ raised_entries s.threshold (standing_at s n) in
-      left ∙ sym (unless (with_entries mid n (entries_at new n)) n (stays_below (entries_at new n) (omega (arith, fewer, same))))
+      settles_by s new n inside least (left ∙ sym (unless (with_entries mid n (entries_at new n)) n (stays_below (entries_at new n) (omega (arith, fewer, same)))))
 
   still : (p : Standing) → (IsTrue p.spilled → 0 < p.entries) → left_with p p.entries ≡ p
   still p some =
@@ -212,10 +213,11 @@ call_size s n m inside =
     let last = raised_size (with_entries (spilled_if_reached s n) n m) n (omega (arith, first, left, inside)) in
     omega (arith, first, left, last, inside)
 
-pub resettles : (old between new : Standings) (n : ℕ) → n < length old.parts → Settles old n between → MovesBack between n new → Resettles old n new
-resettles old between new n inside settles back =
+pub resettles : (old between new : Standings) (n : ℕ) → n < length old.parts → 1 ≤ old.threshold → between ≡ after_call old n (entries_at between n)
+    → MovesBack between n new → Resettles old n new
+resettles old between new n inside least settles back =
     let size = subst (λ s. n < length s.parts) (sym settles) (call_size old n (entries_at between n) inside) in
-    subst (λ s. MovesBack s n new) (settles ∙ ap (λ m. after_call old n m) (sym (as_many_values size back))) back
+    resettles_by old new n inside least (subst (λ s. MovesBack s n new) (settles ∙ ap (λ m. after_call old n m) (sym (as_many_values size back))) back)
   where
     as_many_values : n < length between.parts → MovesBack between n new → entries_at new n ≡ entries_at between n
     as_many_values size (inl same) = ap (λ s. entries_at s n) same

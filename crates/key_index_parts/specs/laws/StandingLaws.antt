@@ -5,17 +5,19 @@
 --     call_spills      a spill is counted exactly where it stood inline and had reached the threshold, or reaches it by the call
 --     call_moved       a spill before the call moves what the partition held, and one behind it what it is left with
 --     call_inline      it has fewer values in arrays than the threshold
+--     settles_by       so that is a part of what an accepted call by key leaves
 --     call_others      every other partition stands as before
 --     back_stands      after a call that takes values out it stands so too, or a small one stands in arrays: what was moved back is counted
 --     back_spills      that is no spill
 --     back_inline      it has fewer values in arrays than the threshold
+--     resettles_by     so that is a part of what such a call leaves
 --     back_others      every other partition stands as before
 use Rattle.std.proofs.Common.{◌≡◌, ◌≢◌, ◌⊎◌, inl, inr, ℕ, ◌*◌, ◌<◌, ◌≤◌, Bool, true, false, not, ◌&&◌, ◌||◌, nat_lt, nat_le, if◌then◌else◌, T, length, set, get_or, refl, sym, ap, subst, ◌∙◌, arith}
 use Rattle.std.proofs.lemmas.Bool.Decides.{nat_tests}
 use Rattle.std.proofs.lemmas.List.{length-set, get_or-set_same, get_or-set_other}
 use Rattle.std.specs.Prelude.{IsTrue}
 use Rattle.key_index_flat.specs.View.{pruned_after}
-use Rattle.key_index_parts.specs.Standing.{Standings, MovesBack, Resettles, standing_at, entries_at, inline_len, is_reached, is_small, with_spill, with_entries, spilled_if_reached, after_call}
+use Rattle.key_index_parts.specs.Standing.{Standings, IsBelow, MovesBack, Resettles, Settles, standing_at, entries_at, is_reached, is_small, with_spill, with_entries, spilled_if_reached, after_call}
 
 pub inline_filled : (n : ℕ) → IsTrue false → 0 < n
 inline_filled n h = absurd (subst T (sym h) tt)
@@ -62,10 +64,6 @@ gathered_tests t m false least = grind (arith, nat_tests)
 not_reached : (t m : ℕ) (x : Bool) → x ≡ true → 1 ≤ t → (not (x && nat_lt 0 m) && nat_le t m) ≡ false
 not_reached t m true e least = grind (arith, nat_tests)
 not_reached t m false e least = grind (arith, nat_tests)
-
-new_reached : (t m : ℕ) (x : Bool) → 1 ≤ t → (not (x && nat_lt 0 m) && nat_le t m) ≡ (not x && nat_le t m)
-new_reached t m true least = grind (arith, nat_tests)
-new_reached t m false least = refl
 
 module _ (s : Standings) (n m : ℕ) (inside : n < length s.parts) (least : 1 ≤ s.threshold) where
   a_inside : n < length (spilled_if_reached s n).parts
@@ -154,15 +152,22 @@ module _ (s : Standings) (n m : ℕ) (inside : n < length s.parts) (least : 1 �
   few true = grind (arith, nat_tests, least)
   few false = grind (arith, nat_tests, least)
 
-  pub call_inline : inline_len (after_call s n m) n < s.threshold
+  pub call_inline : IsBelow (after_call s n m) n
   call_inline =
-      subst (λ p. (if p.spilled then 0 else p.entries) < s.threshold) (sym call_stands)
+      subst (λ t. (if (standing_at (after_call s n m) n).spilled then 0 else entries_at (after_call s n m) n) < t) (sym same_limit)
+      (subst (λ p. (if p.spilled then 0 else p.entries) < s.threshold) (sym call_stands)
       (subst (λ b. (if b && nat_lt 0 m then 0 else m) < s.threshold) (apart (standing_at s n).spilled (nat_le s.threshold (entries_at s n)) (nat_le s.threshold m))
-      (few ((standing_at s n).spilled || nat_le s.threshold (entries_at s n))))
+      (few ((standing_at s n).spilled || nat_le s.threshold (entries_at s n)))))
     where
+      same_limit : (after_call s n m).threshold ≡ s.threshold
+      same_limit = same_threshold (with_entries (spilled_if_reached s n) n m) n ∙ same_threshold s n
+
       apart : (a b c : Bool) → ((a || b) || c) ≡ (a || b || c)
       apart true b c = refl
       apart false b c = refl
+
+pub settles_by : (s new : Standings) (n : ℕ) → n < length s.parts → 1 ≤ s.threshold → new ≡ after_call s n (entries_at new n) → Settles s n new
+settles_by s new n inside least is = (is, subst (λ x. IsBelow x n) (sym is) (call_inline s n (entries_at new n) inside least))
 
 -- every other partition stands as before
 module _ (n j : ℕ) (other : j ≢ n) where
@@ -180,7 +185,7 @@ module _ (n j : ℕ) (other : j ≢ n) where
       others_spilled (with_entries (spilled_if_reached s n) n m) ∙ others_left (spilled_if_reached s n) m ∙ others_spilled s
 
 -- a call that takes values out, and moves a partition that it leaves small back to arrays where there is memory for it
-module _ (s new : Standings) (n : ℕ) (told : Resettles s n new) where
+module _ (s new : Standings) (n : ℕ) (told : MovesBack (after_call s n (entries_at new n)) n new) where
   abbrev called : Standings
   called = after_call s n (entries_at new n)
 
@@ -202,6 +207,12 @@ module _ (s new : Standings) (n : ℕ) (told : Resettles s n new) where
     as_left : entries_at called n ≡ entries_at new n
     as_left = ap (λ p. p.entries) (call_stands s n (entries_at new n) inside least)
 
+    still_inside : n < length called.parts
+    still_inside =
+        let still = as_many (with_entries (spilled_if_reached s n) n (entries_at new n)) n in
+        let within = b_inside s n (entries_at new n) inside least in
+        omega (arith, still, within)
+
     pub back_stands : ((standing_at new n ≡ standing_at called n) × (new.moved ≡ called.moved))
         ⊎ (IsTrue (is_small called n) × (standing_at new n ≡ record { entries = entries_at new n; spilled = false })
         × (new.moved ≡ pruned_after called.moved (entries_at new n)))
@@ -211,27 +222,24 @@ module _ (s new : Standings) (n : ℕ) (told : Resettles s n new) where
           × (new.moved ≡ pruned_after called.moved (entries_at new n)))
       by (inl same) = inl (ap (λ r. standing_at r n) same, ap (λ r. r.moved) same)
       by (inr back) =
-          let still = as_many (with_entries (spilled_if_reached s n) n (entries_at new n)) n in
-          let within = b_inside s n (entries_at new n) inside least in
           inr (
             back.0,
-            ap (λ r. standing_at r n) back.1 ∙ at_set called n (omega (arith, still, within)) (entries_at called n) false ∙ ap (λ m. record { entries = m; spilled = false }) as_left,
+            ap (λ r. standing_at r n) back.1 ∙ at_set called n still_inside (entries_at called n) false ∙ ap (λ m. record { entries = m; spilled = false }) as_left,
             ap (λ r. r.moved) back.1 ∙ ap (λ m. pruned_after called.moved m) as_left,
           )
 
-    pub back_inline : inline_len new n < s.threshold
-    back_inline = by back_stands where
-      same_limit : called.threshold ≡ s.threshold
-      same_limit = same_threshold (with_entries (spilled_if_reached s n) n (entries_at new n)) n ∙ same_threshold s n
-
+    pub back_inline : IsBelow new n
+    back_inline = by told where
       few_left : (spilled : Bool) (limit m : ℕ) → IsTrue (spilled && nat_lt (2 * m) limit) → m < limit
       few_left true limit m small = grind (arith, nat_tests)
       few_left false limit m small = grind (arith, nat_tests)
 
-      by : ((standing_at new n ≡ standing_at called n) × (new.moved ≡ called.moved))
-          ⊎ (IsTrue (is_small called n) × (standing_at new n ≡ record { entries = entries_at new n; spilled = false })
-          × (new.moved ≡ pruned_after called.moved (entries_at new n))) → inline_len new n < s.threshold
-      by (inl same) = subst (λ p. (if p.spilled then 0 else p.entries) < s.threshold) (sym same.0) (call_inline s n (entries_at new n) inside least)
+      by : MovesBack called n new → IsBelow new n
+      by (inl same) = subst (λ x. IsBelow x n) (sym same) (call_inline s n (entries_at new n) inside least)
       by (inr back) =
           let few = few_left (standing_at called n).spilled called.threshold (entries_at called n) back.0 in
-          subst (λ p. (if p.spilled then 0 else p.entries) < s.threshold) (sym back.1) (omega (arith, few, as_left, same_limit))
+          subst (λ x. IsBelow x n) (sym back.1)
+          (subst (λ p. (if p.spilled then 0 else p.entries) < called.threshold) (sym (at_set called n still_inside (entries_at called n) false)) few)
+
+pub resettles_by : (s new : Standings) (n : ℕ) → n < length s.parts → 1 ≤ s.threshold → MovesBack (after_call s n (entries_at new n)) n new → Resettles s n new
+resettles_by s new n inside least told = (told, back_inline s new n told inside least)

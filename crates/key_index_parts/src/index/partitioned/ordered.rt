@@ -46,7 +46,7 @@ pub struct Index<T: Translator, V: Drop, const P: usize> {
 }
 
 impl<T: Translator, V: Drop, const P: usize> Index<T, V, P> {
-    ghost use Rattle.std.specs.Prelude.{◌≡◌, ◌+◌, ◌*◌, ◌<◌, ◌≤◌, [], IfErr, IfOk, OnOk};
+    ghost use Rattle.std.specs.Prelude.{◌≡◌, ◌+◌, ◌*◌, ◌<◌, ◌≤◌, [], IfErr, IfOk, IsTrue, OnOk};
     ghost use Rattle.std.specs.Iterator.{UpTo};
     ghost use Rattle.std.specs.List.{sum_by};
     ghost use Rattle.key_index_flat.specs.View.{items_in};
@@ -78,9 +78,10 @@ impl<T: Translator, V: Drop, const P: usize> Index<T, V, P> {
         }
     }
 
-    /// At how many values a partition spills.
+    /// At how many values a partition spills, at least 1.
     pub fn threshold(&self) -> usize
-        ensures { result ≡ (standings self.now).threshold }
+        ensures count { result ≡ (standings self.now).threshold }
+        ensures least { 1 ≤ result }
     {
         self.storage.threshold()
     }
@@ -112,10 +113,12 @@ impl<T: Translator, V: Drop, const P: usize> Index<T, V, P> {
         self.storage.spilled_count()
     }
 
-    /// Whether a partition is spilled.
+    /// Whether a partition is spilled, which it never is without values.
     pub fn is_spilled(&self, partition: usize) -> bool
         requires { partition < partition_count P }
-        ensures { result ≡ (standing_at (standings self.now) partition).spilled }
+        ensures spilled { result ≡ (standing_at (standings self.now) partition).spilled }
+        ensures filled { IsTrue result → 0 < entries_at (standings self.now) partition }
+        ensures listed { partition < length (standings self.now).parts }
     {
         self.storage.is_spilled(partition)
     }
@@ -126,6 +129,7 @@ impl<T: Translator, V: Drop, const P: usize> Index<T, V, P> {
         ensures len { result ≡ inline_len (standings self.now) partition }
         ensures entries { entries_at (standings self.now) partition
             ≡ item_count (entries_of (view self.now).content partition) }
+        ensures listed { partition < length (standings self.now).parts }
     {
         self.storage.inline_len(partition)
     }
@@ -205,10 +209,14 @@ impl<T: Translator, V: Drop, const P: usize> RangeIndex<T, V, P> {
         self.storage.moved()
     }
 
-    /// Whether a partition that the range covers is spilled.
+    /// Whether a partition that the range covers is spilled, which it never is without values.
     pub fn is_spilled(&self, partition: usize) -> bool
         requires { IsTrue (is_covered self.now partition) }
-        ensures { result ≡ (standing_at (range_standings self.now) (partition - range_offset self.now)).spilled }
+        ensures spilled { result
+            ≡ (standing_at (range_standings self.now) (partition - range_offset self.now)).spilled }
+        ensures filled { IsTrue result
+            → 0 < entries_at (range_standings self.now) (partition - range_offset self.now) }
+        ensures listed { partition - range_offset self.now < length (range_standings self.now).parts }
     {
         self.storage.is_spilled(partition - self.offset)
     }
@@ -219,6 +227,7 @@ impl<T: Translator, V: Drop, const P: usize> RangeIndex<T, V, P> {
         ensures len { result ≡ inline_len (range_standings self.now) (partition - range_offset self.now) }
         ensures entries { entries_at (range_standings self.now) (partition - range_offset self.now)
             ≡ item_count (entries_of (range_view self.now).content partition) }
+        ensures listed { partition - range_offset self.now < length (range_standings self.now).parts }
     {
         self.storage.inline_len(partition - self.offset)
     }
@@ -537,12 +546,14 @@ impl<T: Translator, V: Drop, const P: usize> Partitioned for Index<T, V, P> {
         self.storage.is_free(range.offset, range.storage.len())
     }
 
-    /// It takes no memory. Each partition stands as in the range, and the range's spills are added.
+    /// It takes no memory, and is refused only where the index would hold more than `usize::MAX` values. Each partition stands as in the
+    /// range, and the range's spills are added.
     fn install_range(
         &mut self,
         range: RangeIndex<T, V, P>,
     ) -> Result<(), (RangeIndex<T, V, P>, Fault)>
         requires { IsFree (pair_cmp T.Key.cmp) (range_view range).admitted (view self.old).content }
+        ensures fits { IfErr result (λ _. usize.MAX < items_in (view self.old) + items_in (range_view range)) }
         ensures accepted { OnOk result (view self.new
             ≡ joined_view (pair_cmp T.Key.cmp) (view self.old) (range_view range)) }
         ensures standing { OnOk result (standings self.new

@@ -98,6 +98,7 @@ impl<T: Translator, V: Drop, X: Part<T, V> + Drop> Parts<T, V, X> {
             (part_at self.now.contents number) }
         ensures entries { (standing_in self.now.standing number).entries
             ≡ item_count (part_at self.now.contents number) }
+        ensures listed { number < length self.now.standing }
     {
         self.parts[number].inline_len()
     }
@@ -105,7 +106,9 @@ impl<T: Translator, V: Drop, X: Part<T, V> + Drop> Parts<T, V, X> {
     #[inline]
     pub(super) fn is_spilled(&self, number: usize) -> bool
         requires { number < length self.now.contents }
-        ensures { result ≡ (standing_in self.now.standing number).spilled }
+        ensures spilled { result ≡ (standing_in self.now.standing number).spilled }
+        ensures filled { IsTrue result → 0 < (standing_in self.now.standing number).entries }
+        ensures listed { number < length self.now.standing }
     {
         self.parts[number].is_spilled()
     }

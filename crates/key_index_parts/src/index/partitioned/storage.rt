@@ -167,6 +167,7 @@ impl<T: Translator, V: Drop, X: Part<T, V> + Drop, const P: usize> Storage<T, V,
         requires { number < length self.now.parts }
         ensures len { IsTrue X.SPILLS → result ≡ inline_len self.now.standings number }
         ensures entries { entries_at self.now.standings number ≡ item_count (part_at self.now.parts number) }
+        ensures listed { number < length self.now.standings.parts }
     {
         self.parts.inline_len(number)
     }
@@ -174,7 +175,9 @@ impl<T: Translator, V: Drop, X: Part<T, V> + Drop, const P: usize> Storage<T, V,
     #[inline]
     pub(super) fn is_spilled(&self, number: usize) -> bool
         requires { number < length self.now.parts }
-        ensures { result ≡ (standing_at self.now.standings number).spilled }
+        ensures spilled { result ≡ (standing_at self.now.standings number).spilled }
+        ensures filled { IsTrue result → 0 < entries_at self.now.standings number }
+        ensures listed { number < length self.now.standings.parts }
     {
         self.parts.is_spilled(number)
     }
@@ -188,7 +191,8 @@ impl<T: Translator, V: Drop, X: Part<T, V> + Drop, const P: usize> Storage<T, V,
 
     #[inline]
     pub(super) fn threshold(&self) -> usize
-        ensures { result ≡ self.now.standings.threshold }
+        ensures count { result ≡ self.now.standings.threshold }
+        ensures least { 1 ≤ result }
     {
         self.threshold
     }

@@ -1,4 +1,4 @@
-use Rattle.std.proofs.Common.{rules, ◌+◌, ◌-◌, ◌^◌, ◌≤◌, ap, sym, subst, ◌∙◌, arith, true≢false}
+use Rattle.std.proofs.Common.{rules, ◌+◌, ◌-◌, ◌^◌, ◌<◌, ◌≤◌, ap, sym, subst, ◌∙◌, arith, true≢false, lt_of_not-le}
 use Rattle.key_index_flat.specs.Content.{item_count}
 use Rattle.key_index_parts.specs.Gathered.{gathered}
 use Rattle.key_index_parts.specs.Joined.{install_fault}
@@ -12,6 +12,13 @@ returns-then-not-has_room-clause-fault g c =
     let range = c.args.range in
     refused_fault own (item_count (gathered range.storage.parts)) (λ h. true≢false (sym (c.has_room.ensures.1 h) ∙ c.if-not-has_room.true))
     ∙ ap (λ n. install_fault own n) (items_from range.offset range.storage.parts)
+
+pub returns-then-not-has_room-clause-fits : goal.returns-then-not-has_room-clause-fits
+returns-then-not-has_room-clause-fits g c =
+    let own = item_count (gathered c.args.self.now.storage.parts) in
+    let range = c.args.range in
+    let more : 2 ^ 64 - 1 < own + item_count (gathered range.storage.parts) = lt_of_not-le (λ h. true≢false (sym (c.has_room.ensures.1 h) ∙ c.if-not-has_room.true)) in
+    subst (λ n. 2 ^ 64 - 1 < own + n) (items_from range.offset range.storage.parts) more
 
 pub install-requires : goal.install-requires
 install-requires g c =

@@ -1,6 +1,9 @@
 use Rattle.std.proofs.Common.{rules, ◌<◌, ◌^◌, refl, ap, ◌∙◌, arith}
 use Rattle.key_index_flat.specs.Content.{item_count}
+use Rattle.key_index_parts.specs.Family.{settled_in}
 use Rattle.key_index_parts.specs.Gathered.{gathered}
+use Rattle.key_index_parts.specs.Standing.{entries_at, with_entries}
+use Rattle.key_index_parts.specs.laws.StandingLaws.{settles_by}
 use Rattle.key_index_parts.proofs.family.StorageLemmas.{keeps_all, memory_fault}
 use Rattle.key_index_parts.proofs.index.partitioned.storage.Storage.insert.Goals as goal
 
@@ -20,6 +23,15 @@ returns-in-Err-clause-fault g c =
     let was = c.self.invariant.counted in
     let small : c.self.inside.counts.items < 2 ^ 64 = search rules in
     c.memory-in-Err.ensures.fault ∙ memory_fault (item_count (gathered c.args.self.now.parts)) (omega (arith, full, was, c.if-self.false, small))
+
+pub returns-in-Ok-put-clause-settled : goal.returns-in-Ok-put-clause-settled
+returns-in-Ok-put-clause-settled g c = λ is.
+    let old = c.args.self.now.standings in
+    let new = c.put.new.self.standings in
+    let n = c.args.slot.0 in
+    let mid = ap (λ s. s.standings) c.in-Ok.ensures.settled ∙ ap (λ b. settled_in b old n) is in
+    settles_by old new n c.in-Ok.ensures.within c.in-Ok.ensures.least
+    (c.in-Ok-put.ensures.standing ∙ (λ i. settled_in (is i) (with_entries (mid i) n (entries_at new n)) n))
 
 pub returns-in-Ok-put-clause-bound : goal.returns-in-Ok-put-clause-bound
 returns-in-Ok-put-clause-bound g c = λ before. c.put.ensures.bound (c.settle.ensures.bound before)

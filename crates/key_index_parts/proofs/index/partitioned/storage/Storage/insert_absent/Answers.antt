@@ -3,6 +3,7 @@ use Rattle.key_index_flat.specs.Content.{item_count}
 use Rattle.key_index_parts.specs.Family.{GrowsTo, settled_in}
 use Rattle.key_index_parts.specs.Gathered.{gathered}
 use Rattle.key_index_parts.specs.Standing.{Settles, entries_at, with_entries}
+use Rattle.key_index_parts.specs.laws.StandingLaws.{settles_by}
 use Rattle.key_index_parts.proofs.family.StorageLemmas.{keeps_all, memory_fault}
 use Rattle.key_index_parts.proofs.index.partitioned.storage.Storage.insert_absent.Goals as goal
 
@@ -30,7 +31,8 @@ returns-in-Ok-put_absent-clause-settled g c = λ is.
     let new = c.put_absent.new.self in
     let mid = ap (λ s. s.standings) c.in-Ok.ensures.settled ∙ ap (λ b. settled_in b old n) is in
     elim c.in-Ok-put_absent.len as (λ len. (0 < len → new ≡ c.settle.new.self) → (len ≡ 0 → GrowsTo g.X.Part.SPILLS c.settle.new.self n new) → Settles old n new.standings) [
-      | zero ↦ λ found grown. grown refl ∙ (λ i. settled_in (is i) (with_entries (mid i) n (entries_at new.standings n)) n)
+      | zero ↦ λ found grown. settles_by old new.standings n c.in-Ok.ensures.within c.in-Ok.ensures.least
+          (grown refl ∙ (λ i. settled_in (is i) (with_entries (mid i) n (entries_at new.standings n)) n))
       | suc len ↦ λ found grown. subst (λ s. Settles old n s.standings) (sym (found (omega arith))) (c.in-Ok.ensures.settles is)
     ] c.in-Ok-put_absent.ensures.found c.in-Ok-put_absent.ensures.standing
 

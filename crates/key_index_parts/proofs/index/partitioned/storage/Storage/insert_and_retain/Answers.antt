@@ -40,7 +40,7 @@ returns-in-Ok-put_and_retain-clause-settled g c = λ is.
     let left = c.put_and_retain.new.self.standings in
     let n = c.args.slot.0 in
     let raised = ap (λ s. s.standings) c.in-Ok.ensures.settled ∙ ap (λ b. settled_in b old n) is in
-    resettles old left c.move_back.new.self.standings n c.in-Ok.ensures.within
+    resettles old left c.move_back.new.self.standings n c.in-Ok.ensures.within c.in-Ok.ensures.least
     (c.in-Ok-put_and_retain.ensures.standing ∙ (λ i. settled_in (is i) (with_entries (raised i) n (entries_at left n)) n))
     c.move_back.ensures.back
 

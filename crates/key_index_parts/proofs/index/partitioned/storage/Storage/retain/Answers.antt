@@ -22,10 +22,10 @@ returns-in-Ok-clause-settled g c = λ is.
     let left = c.retain_in_part.new.self.standings in
     let n = c.args.slot.0 in
     let raised = ap (λ s. s.standings) c.in-Ok.ensures.settled ∙ ap (λ b. settled_in b old n) is in
-    resettles old left c.move_back.new.self.standings n c.in-Ok.ensures.within
+    resettles old left c.move_back.new.self.standings n c.in-Ok.ensures.within c.in-Ok.ensures.least
     (settles_edit old n c.in-Ok.ensures.within c.in-Ok.ensures.least left
     (subst (λ s. Leaves s n left) raised c.retain_in_part.ensures.standing)
-    (subst (λ s. entries_at left n ≤ entries_at s n) raised c.retain_in_part.ensures.fewer))
+    (subst (λ s. entries_at left n ≤ entries_at s n) raised c.retain_in_part.ensures.fewer)).0
     c.move_back.ensures.back
 
 pub returns-in-Ok-clause-kept : goal.returns-in-Ok-clause-kept
