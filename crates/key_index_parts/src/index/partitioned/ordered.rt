@@ -117,7 +117,7 @@ impl<T: Translator, V: Drop, const P: usize> Index<T, V, P> {
     pub fn is_spilled(&self, partition: usize) -> bool
         requires { partition < partition_count P }
         ensures spilled { result ≡ (standing_at (standings self.now) partition).spilled }
-        ensures filled { IsTrue result → 0 < entries_at (standings self.now) partition }
+        ensures filled { IsTrue result → 0 < item_count (entries_of (view self.now).content partition) }
         ensures listed { partition < length (standings self.now).parts }
     {
         self.storage.is_spilled(partition)
@@ -214,8 +214,7 @@ impl<T: Translator, V: Drop, const P: usize> RangeIndex<T, V, P> {
         requires { IsTrue (is_covered self.now partition) }
         ensures spilled { result
             ≡ (standing_at (range_standings self.now) (partition - range_offset self.now)).spilled }
-        ensures filled { IsTrue result
-            → 0 < entries_at (range_standings self.now) (partition - range_offset self.now) }
+        ensures filled { IsTrue result → 0 < item_count (entries_of (range_view self.now).content partition) }
         ensures listed { partition - range_offset self.now < length (range_standings self.now).parts }
     {
         self.storage.is_spilled(partition - self.offset)

@@ -107,7 +107,7 @@ impl<T: Translator, V: Drop, X: Part<T, V> + Drop> Parts<T, V, X> {
     pub(super) fn is_spilled(&self, number: usize) -> bool
         requires { number < length self.now.contents }
         ensures spilled { result ≡ (standing_in self.now.standing number).spilled }
-        ensures filled { IsTrue result → 0 < (standing_in self.now.standing number).entries }
+        ensures filled { IsTrue result → 0 < item_count (part_at self.now.contents number) }
         ensures listed { number < length self.now.standing }
     {
         self.parts[number].is_spilled()

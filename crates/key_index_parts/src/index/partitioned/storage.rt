@@ -176,7 +176,7 @@ impl<T: Translator, V: Drop, X: Part<T, V> + Drop, const P: usize> Storage<T, V,
     pub(super) fn is_spilled(&self, number: usize) -> bool
         requires { number < length self.now.parts }
         ensures spilled { result ≡ (standing_at self.now.standings number).spilled }
-        ensures filled { IsTrue result → 0 < entries_at self.now.standings number }
+        ensures filled { IsTrue result → 0 < item_count (part_at self.now.parts number) }
         ensures listed { number < length self.now.standings.parts }
     {
         self.parts.is_spilled(number)
