@@ -1,7 +1,11 @@
 //! Calls of an index, and the same on the lists that are kept beside it.
+ghost use Rattle.key_index_flat.specs.View.{Admits};
+
 use crate::kept::{Kept, key};
 use crate::report::{Stop, must};
-use key_index_flat::index::{Cursor, CursorState, Fault, Refused, Runs, Search, Unordered};
+use key_index_flat::index::{
+    Cursor, CursorState, Fault, IndexCursor, Refused, Runs, Search, Unordered,
+};
 
 /// A call by key, with what it takes.
 #[derive(Clone, Copy)]
@@ -11,6 +15,8 @@ pub(crate) enum Call {
     Retain(u64),
     Remove,
     InsertAt(u64),
+    /// Behind a value, or last, by a cursor that no call by key gave.
+    InsertByCursor(u64, u64),
     GetOrInsert(u64),
     GetMut,
     GetMany,
@@ -24,9 +30,18 @@ impl Call {
             Call::Retain(_) => "retain",
             Call::Remove => "remove",
             Call::InsertAt(_) => "insert_at",
+            Call::InsertByCursor(_, _) => "insert_by_cursor",
             Call::GetOrInsert(_) => "get_mut_or_insert",
             Call::GetMut => "get_mut",
             Call::GetMany => "get_many",
+        }
+    }
+
+    /// Whether it is made only where the key has values.
+    pub(crate) fn needs_values(self) -> bool {
+        match self {
+            Call::InsertByCursor(_, _) => true,
+            _ => false,
         }
     }
 
@@ -49,7 +64,7 @@ impl Call {
     /// Whether a partition that is due spills with it.
     pub(crate) fn settles(self) -> bool {
         match self {
-            Call::InsertAt(_) | Call::GetMany => false,
+            Call::InsertAt(_) | Call::InsertByCursor(_, _) | Call::GetMany => false,
             _ => true,
         }
     }
@@ -150,7 +165,7 @@ fn remove<I: Unordered<Value = u64>>(
 }
 
 /// `insert_at` behind the values of a key.
-fn insert_at<I: Runs<Value = u64>>(
+pub(crate) fn insert_at<I: Runs<Value = u64>>(
     index: &mut I,
     kept: &mut Kept,
     at: usize,
@@ -173,14 +188,32 @@ fn insert_at<I: Runs<Value = u64>>(
     }
 }
 
+/// A cursor that is made at an index key goes behind a value, or past the end, and puts another there.
+pub(crate) fn insert_by_cursor<I: Runs<Value = u64>>(
+    index: &mut I,
+    kept: &mut Kept,
+    at: usize,
+    past: u64,
+    value: u64,
+) -> Result<bool, Stop> {
+    let slot = index.slot_of(key(at));
+    if !index.admits(slot) || index.run_len(slot) == 0 {
+        return Err(Stop::Wrong("an index key with values"));
+    }
+    let mut cursor = IndexCursor::new(index, slot);
+    goes_and_puts(&mut cursor, kept, at, past, value)
+}
+
 /// `get_mut_or_insert`.
-fn get_or_insert<I: Unordered<Value = u64>>(
+pub(crate) fn get_or_insert<I: Search<Value = u64>>(
     index: &mut I,
     kept: &mut Kept,
     at: usize,
     bytes: &[u8],
     value: u64,
-) -> Result<bool, Stop> {
+) -> Result<bool, Stop>
+    requires { Admits (I.view index.old) bytes.now }
+{
     match index.get_mut_or_insert(bytes, value) {
         Ok(None) => {
             must(kept.list(at).is_empty(), "a cursor at a held key")?;
@@ -203,12 +236,14 @@ fn get_or_insert<I: Unordered<Value = u64>>(
 }
 
 /// `get_mut`.
-fn get_mut<I: Unordered<Value = u64>>(
+pub(crate) fn get_mut<I: Search<Value = u64>>(
     index: &mut I,
     kept: &Kept,
     at: usize,
     bytes: &[u8],
-) -> Result<bool, Stop> {
+) -> Result<bool, Stop>
+    requires { Admits (I.view index.old) bytes.now }
+{
     match index.get_mut(bytes) {
         Ok(found) => {
             must(
@@ -266,6 +301,7 @@ pub(crate) fn once<I: Unordered<Value = u64>>(
         Call::Retain(answers) => retain(index, kept, at, answers),
         Call::Remove => remove(index, kept, at),
         Call::InsertAt(value) => insert_at(index, kept, at, value),
+        Call::InsertByCursor(past, value) => insert_by_cursor(index, kept, at, past, value),
         Call::GetOrInsert(value) => get_or_insert(index, kept, at, key(at), value),
         Call::GetMut => get_mut(index, kept, at, key(at)),
         Call::GetMany => get_many(index, kept, at),
@@ -292,18 +328,14 @@ fn insert_by<C: Cursor<Value = u64>>(cursor: &mut C, value: u64) -> Option<bool>
     }
 }
 
-/// A cursor goes behind a value, or past the end, and puts another there: whether that was accepted. None where the key has no values.
-pub(crate) fn put_behind<I: Unordered<Value = u64>>(
-    index: &mut I,
+/// A cursor goes behind a value, or past the end, and puts another there: whether that was accepted.
+pub(crate) fn goes_and_puts<C: Cursor<Value = u64>>(
+    cursor: &mut C,
     kept: &mut Kept,
     at: usize,
-    bytes: &[u8],
     past: u64,
     value: u64,
-) -> Result<Option<bool>, Stop> {
-    let Ok(Some(mut cursor)) = index.get_mut(bytes) else {
-        return Ok(None);
-    };
+) -> Result<bool, Stop> {
     let goes = cursor.find(|found: &u64| *found == past);
     let found = kept.list(at).iter().position(|found: &u64| *found == past);
     must(goes == found.is_some(), "what a cursor found")?;
@@ -311,7 +343,7 @@ pub(crate) fn put_behind<I: Unordered<Value = u64>>(
         Some(place) => place.saturating_add(1),
         None => kept.list(at).len(),
     };
-    let Some(accepted) = insert_by(&mut cursor, value) else {
+    let Some(accepted) = insert_by(cursor, value) else {
         return Err(Stop::Wrong("a cursor's `insert`"));
     };
     if accepted {
@@ -322,16 +354,38 @@ pub(crate) fn put_behind<I: Unordered<Value = u64>>(
             "where a refused insertion leaves a cursor",
         )?;
     }
-    Ok(Some(accepted))
+    Ok(accepted)
 }
 
-/// A cursor takes the first value of a key out.
-pub(crate) fn take_first<I: Unordered<Value = u64>>(
+/// The same by a cursor that `get_mut` gives. None where the key has no values.
+pub(crate) fn put_behind<I: Search<Value = u64>>(
     index: &mut I,
     kept: &mut Kept,
     at: usize,
     bytes: &[u8],
-) -> Result<(), Stop> {
+    past: u64,
+    value: u64,
+) -> Result<Option<bool>, Stop>
+    requires { Admits (I.view index.old) bytes.now }
+{
+    let Ok(Some(mut cursor)) = index.get_mut(bytes) else {
+        return Ok(None);
+    };
+    match goes_and_puts(&mut cursor, kept, at, past, value) {
+        Ok(accepted) => Ok(Some(accepted)),
+        Err(stop) => Err(stop),
+    }
+}
+
+/// A cursor takes the first value of a key out.
+pub(crate) fn take_first<I: Search<Value = u64>>(
+    index: &mut I,
+    kept: &mut Kept,
+    at: usize,
+    bytes: &[u8],
+) -> Result<(), Stop>
+    requires { Admits (I.view index.old) bytes.now }
+{
     let Ok(Some(mut cursor)) = index.get_mut(bytes) else {
         return Err(Stop::Wrong("a cursor at a held key"));
     };
