@@ -201,7 +201,10 @@ pub(crate) fn insert_by_cursor<I: Runs<Value = u64>>(
         return Err(Stop::Wrong("an index key with values"));
     }
     let mut cursor = IndexCursor::new(index, slot);
-    goes_and_puts(&mut cursor, kept, at, past, value)
+    match goes_and_puts(&mut cursor, kept, at, past, value) {
+        Some(accepted) => Ok(accepted),
+        None => Err(CURSOR),
+    }
 }
 
 /// `get_mut_or_insert`.
@@ -328,34 +331,36 @@ fn insert_by<C: Cursor<Value = u64>>(cursor: &mut C, value: u64) -> Option<bool>
     }
 }
 
-/// A cursor goes behind a value, or past the end, and puts another there: whether that was accepted.
+/// A cursor goes behind a value, or past the end, and puts another there: whether that was accepted. None where it answers otherwise
+/// than the list.
 pub(crate) fn goes_and_puts<C: Cursor<Value = u64>>(
     cursor: &mut C,
     kept: &mut Kept,
     at: usize,
     past: u64,
     value: u64,
-) -> Result<bool, Stop> {
+) -> Option<bool> {
     let goes = cursor.find(|found: &u64| *found == past);
     let found = kept.list(at).iter().position(|found: &u64| *found == past);
-    must(goes == found.is_some(), "what a cursor found")?;
     let place = match found {
         Some(place) => place.saturating_add(1),
         None => kept.list(at).len(),
     };
-    let Some(accepted) = insert_by(cursor, value) else {
-        return Err(Stop::Wrong("a cursor's `insert`"));
-    };
-    if accepted {
-        kept.insert(at, place, value)?;
+    let accepted = insert_by(cursor, value)?;
+    let agrees = if accepted {
+        kept.insert(at, place, value).is_ok()
     } else {
-        must(
-            cursor.next().copied() == kept.list(at).get(place).copied(),
-            "where a refused insertion leaves a cursor",
-        )?;
+        cursor.next().copied() == kept.list(at).get(place).copied()
+    };
+    if agrees && goes == found.is_some() {
+        Some(accepted)
+    } else {
+        None
     }
-    Ok(accepted)
 }
+
+/// Why a run ends where a cursor answers otherwise than the list.
+pub(crate) const CURSOR: Stop = Stop::Wrong("a cursor's `insert`");
 
 /// The same by a cursor that `get_mut` gives. None where the key has no values.
 pub(crate) fn put_behind<I: Search<Value = u64>>(
@@ -372,8 +377,8 @@ pub(crate) fn put_behind<I: Search<Value = u64>>(
         return Ok(None);
     };
     match goes_and_puts(&mut cursor, kept, at, past, value) {
-        Ok(accepted) => Ok(Some(accepted)),
-        Err(stop) => Err(stop),
+        Some(accepted) => Ok(Some(accepted)),
+        None => Err(CURSOR),
     }
 }
 

@@ -1,5 +1,5 @@
 //! Ranges that are filled, and installed as they stand.
-use crate::calls::{Call, goes_and_puts};
+use crate::calls::{CURSOR, Call, goes_and_puts};
 use crate::kept::Kept;
 use crate::kinds::{Kind, Standing, Stands};
 use crate::report::{Report, Stop, must};
@@ -71,7 +71,10 @@ fn put_under_longer<R: PartitionRange<Value = u64>>(
             return Err(Stop::Wrong("a key of the range"));
         }
         let accepted = match range.get_mut_or_insert(bytes, 4) {
-            Ok(Some(mut cursor)) => goes_and_puts(&mut cursor, kept, 5, 4, 4)?,
+            Ok(Some(mut cursor)) => match goes_and_puts(&mut cursor, kept, 5, 4, 4) {
+                Some(accepted) => accepted,
+                None => return Err(CURSOR),
+            },
             Ok(None) => return Err(Stop::Wrong("a cursor at a held key")),
             Err(refused) => {
                 must(
