@@ -296,6 +296,7 @@ pub(crate) fn once<I: Unordered<Value = u64>>(
     index: &mut I,
     kept: &mut Kept,
     at: usize,
+    bytes: &[u8],
     call: Call,
 ) -> Result<bool, Stop> {
     match call {
@@ -305,8 +306,8 @@ pub(crate) fn once<I: Unordered<Value = u64>>(
         Call::Remove => remove(index, kept, at),
         Call::InsertAt(value) => insert_at(index, kept, at, value),
         Call::InsertByCursor(past, value) => insert_by_cursor(index, kept, at, past, value),
-        Call::GetOrInsert(value) => get_or_insert(index, kept, at, key(at), value),
-        Call::GetMut => get_mut(index, kept, at, key(at)),
+        Call::GetOrInsert(value) => get_or_insert(index, kept, at, bytes, value),
+        Call::GetMut => get_mut(index, kept, at, bytes),
         Call::GetMany => get_many(index, kept, at),
     }
 }
@@ -382,15 +383,25 @@ pub(crate) fn put_behind<I: Search<Value = u64>>(
     }
 }
 
-/// A cursor takes the first value of a key out.
-pub(crate) fn take_first<I: Search<Value = u64>>(
+/// The same of an index, which admits each key.
+pub(crate) fn put_behind_in_index<I: Unordered<Value = u64>>(
     index: &mut I,
     kept: &mut Kept,
     at: usize,
     bytes: &[u8],
-) -> Result<(), Stop>
-    requires { Admits (I.view index.old) bytes.now }
-{
+    past: u64,
+    value: u64,
+) -> Result<Option<bool>, Stop> {
+    put_behind(index, kept, at, bytes, past, value)
+}
+
+/// A cursor takes the first value of a key out.
+pub(crate) fn take_first<I: Unordered<Value = u64>>(
+    index: &mut I,
+    kept: &mut Kept,
+    at: usize,
+    bytes: &[u8],
+) -> Result<(), Stop> {
     let Ok(Some(mut cursor)) = index.get_mut(bytes) else {
         return Err(Stop::Wrong("a cursor at a held key"));
     };

@@ -1,6 +1,7 @@
 //! An index as the states see it: a trait with no others above it, so that what goes over it is quickly proved.
 use crate::calls::{
-    Call, get_mut, get_or_insert, insert_at, insert_by_cursor, once, put_behind, take_first,
+    Call, get_mut, get_or_insert, insert_at, insert_by_cursor, once, put_behind,
+    put_behind_in_index, take_first,
 };
 use crate::kept::{KEYS, Kept, key};
 use crate::kinds::{Kind, Standing, Stands};
@@ -34,7 +35,7 @@ pub(crate) trait Subject {
 
 impl<I: Kind> Subject for I {
     fn call(&mut self, kept: &mut Kept, at: usize, call: Call) -> Result<bool, Stop> {
-        once(self, kept, at, call)
+        once(self, kept, at, key(at), call)
     }
 
     fn put_behind(
@@ -44,7 +45,7 @@ impl<I: Kind> Subject for I {
         past: u64,
         value: u64,
     ) -> Result<Option<bool>, Stop> {
-        put_behind(self, kept, at, key(at), past, value)
+        put_behind_in_index(self, kept, at, key(at), past, value)
     }
 
     fn take_first(&mut self, kept: &mut Kept, at: usize) -> Result<(), Stop> {
@@ -86,12 +87,8 @@ impl<R: PartitionRange<Value = u64> + Stands + Drop> Subject for Ranged<R> {
         put_behind(&mut self.range, kept, at, bytes, past, value)
     }
 
-    fn take_first(&mut self, kept: &mut Kept, at: usize) -> Result<(), Stop> {
-        let bytes = key(at);
-        if !self.range.holds(bytes) {
-            return Err(Stop::Wrong("a key of the range"));
-        }
-        take_first(&mut self.range, kept, at, bytes)
+    fn take_first(&mut self, _kept: &mut Kept, _at: usize) -> Result<(), Stop> {
+        Err(Stop::Wrong("a call of a range"))
     }
 
     fn agrees(&self, kept: &Kept) -> Result<(), Stop> {

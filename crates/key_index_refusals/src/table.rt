@@ -1,5 +1,6 @@
 //! The table of positions, by itself.
 ghost use Rattle.std.specs.Prelude.{◌≡◌, ◌<◌, None, slice_index_or, unwrap_or, vec_len};
+ghost use Rattle.key_index.specs.Table.{Stored};
 
 use crate::report::{Report, Stop, must};
 use crate::tries::TRIES;
@@ -39,19 +40,24 @@ impl Listed {
     /// A table with room for so many positions; none where it was refused twice.
     fn new(alloc: Global, report: &mut Report, capacity: usize) -> Result<Option<Listed>, Stop> {
         for _ in 0..TRIES {
-            let hashes = vec![in alloc; None; POSITIONS]?;
-            match Table::with_capacity(alloc, capacity) {
-                Ok(table) => {
-                    report.tells("table_with_capacity", true)?;
-                    return Ok(Some(Listed { table, hashes }));
-                }
-                Err(fault) => {
-                    must(fault == Fault::Memory, "a refusal for memory")?;
-                    report.tells("table_with_capacity", false)?;
-                }
+            let answer = Table::with_capacity(alloc, capacity);
+            report.tells("table_with_capacity", answer.is_ok())?;
+            match answer {
+                Ok(table) => return Ok(Some(Listed::of_table(alloc, table)?)),
+                Err(fault) => must(fault == Fault::Memory, "a refusal for memory")?,
             }
         }
         Ok(None)
+    }
+
+    /// A table that stores nothing.
+    fn of_table(alloc: Global, table: Table) -> Result<Listed, Stop>
+        requires { Stored table (λ _. None) }
+    {
+        let Ok(hashes) = Vec::from_array(alloc, [None; POSITIONS]) else {
+            return Err(Stop::Memory);
+        };
+        Ok(Listed { table, hashes })
     }
 
     /// Whether a position is stored.
