@@ -1,7 +1,11 @@
 //! Calls of an index, and the same on the lists that are kept beside it.
+ghost use Rattle.key_index_flat.specs.View.{Admits};
+
 use crate::kept::{Kept, key};
 use crate::report::{Stop, must};
-use key_index_flat::index::{Cursor, CursorState, Fault, Refused, Runs, Search, Unordered};
+use key_index_flat::index::{
+    Cursor, CursorState, Fault, IndexCursor, Refused, Runs, Search, Unordered,
+};
 
 /// A call by key, with what it takes.
 #[derive(Clone, Copy)]
@@ -11,6 +15,8 @@ pub(crate) enum Call {
     Retain(u64),
     Remove,
     InsertAt(u64),
+    /// Behind a value, or last, by a cursor that no call by key gave.
+    InsertByCursor(u64, u64),
     GetOrInsert(u64),
     GetMut,
     GetMany,
@@ -24,9 +30,18 @@ impl Call {
             Call::Retain(_) => "retain",
             Call::Remove => "remove",
             Call::InsertAt(_) => "insert_at",
+            Call::InsertByCursor(_, _) => "insert_by_cursor",
             Call::GetOrInsert(_) => "get_mut_or_insert",
             Call::GetMut => "get_mut",
             Call::GetMany => "get_many",
+        }
+    }
+
+    /// Whether it is made only where the key has values.
+    pub(crate) fn needs_values(self) -> bool {
+        match self {
+            Call::InsertByCursor(_, _) => true,
+            _ => false,
         }
     }
 
@@ -49,7 +64,7 @@ impl Call {
     /// Whether a partition that is due spills with it.
     pub(crate) fn settles(self) -> bool {
         match self {
-            Call::InsertAt(_) | Call::GetMany => false,
+            Call::InsertAt(_) | Call::InsertByCursor(_, _) | Call::GetMany => false,
             _ => true,
         }
     }
@@ -150,7 +165,7 @@ fn remove<I: Unordered<Value = u64>>(
 }
 
 /// `insert_at` behind the values of a key.
-fn insert_at<I: Runs<Value = u64>>(
+pub(crate) fn insert_at<I: Runs<Value = u64>>(
     index: &mut I,
     kept: &mut Kept,
     at: usize,
@@ -173,14 +188,35 @@ fn insert_at<I: Runs<Value = u64>>(
     }
 }
 
+/// A cursor that is made at an index key goes behind a value, or past the end, and puts another there.
+pub(crate) fn insert_by_cursor<I: Runs<Value = u64>>(
+    index: &mut I,
+    kept: &mut Kept,
+    at: usize,
+    past: u64,
+    value: u64,
+) -> Result<bool, Stop> {
+    let slot = index.slot_of(key(at));
+    if !index.admits(slot) || index.run_len(slot) == 0 {
+        return Err(Stop::Wrong("an index key with values"));
+    }
+    let mut cursor = IndexCursor::new(index, slot);
+    match goes_and_puts(&mut cursor, kept, at, past, value) {
+        Some(accepted) => Ok(accepted),
+        None => Err(CURSOR),
+    }
+}
+
 /// `get_mut_or_insert`.
-fn get_or_insert<I: Unordered<Value = u64>>(
+pub(crate) fn get_or_insert<I: Search<Value = u64>>(
     index: &mut I,
     kept: &mut Kept,
     at: usize,
     bytes: &[u8],
     value: u64,
-) -> Result<bool, Stop> {
+) -> Result<bool, Stop>
+    requires { Admits (I.view index.old) bytes.now }
+{
     match index.get_mut_or_insert(bytes, value) {
         Ok(None) => {
             must(kept.list(at).is_empty(), "a cursor at a held key")?;
@@ -203,12 +239,14 @@ fn get_or_insert<I: Unordered<Value = u64>>(
 }
 
 /// `get_mut`.
-fn get_mut<I: Unordered<Value = u64>>(
+pub(crate) fn get_mut<I: Search<Value = u64>>(
     index: &mut I,
     kept: &Kept,
     at: usize,
     bytes: &[u8],
-) -> Result<bool, Stop> {
+) -> Result<bool, Stop>
+    requires { Admits (I.view index.old) bytes.now }
+{
     match index.get_mut(bytes) {
         Ok(found) => {
             must(
@@ -258,6 +296,7 @@ pub(crate) fn once<I: Unordered<Value = u64>>(
     index: &mut I,
     kept: &mut Kept,
     at: usize,
+    bytes: &[u8],
     call: Call,
 ) -> Result<bool, Stop> {
     match call {
@@ -266,8 +305,9 @@ pub(crate) fn once<I: Unordered<Value = u64>>(
         Call::Retain(answers) => retain(index, kept, at, answers),
         Call::Remove => remove(index, kept, at),
         Call::InsertAt(value) => insert_at(index, kept, at, value),
-        Call::GetOrInsert(value) => get_or_insert(index, kept, at, key(at), value),
-        Call::GetMut => get_mut(index, kept, at, key(at)),
+        Call::InsertByCursor(past, value) => insert_by_cursor(index, kept, at, past, value),
+        Call::GetOrInsert(value) => get_or_insert(index, kept, at, bytes, value),
+        Call::GetMut => get_mut(index, kept, at, bytes),
         Call::GetMany => get_many(index, kept, at),
     }
 }
@@ -292,8 +332,59 @@ fn insert_by<C: Cursor<Value = u64>>(cursor: &mut C, value: u64) -> Option<bool>
     }
 }
 
-/// A cursor goes behind a value, or past the end, and puts another there: whether that was accepted. None where the key has no values.
-pub(crate) fn put_behind<I: Unordered<Value = u64>>(
+/// A cursor goes behind a value, or past the end, and puts another there: whether that was accepted. None where it answers otherwise
+/// than the list.
+pub(crate) fn goes_and_puts<C: Cursor<Value = u64>>(
+    cursor: &mut C,
+    kept: &mut Kept,
+    at: usize,
+    past: u64,
+    value: u64,
+) -> Option<bool> {
+    let goes = cursor.find(|found: &u64| *found == past);
+    let found = kept.list(at).iter().position(|found: &u64| *found == past);
+    let place = match found {
+        Some(place) => place.saturating_add(1),
+        None => kept.list(at).len(),
+    };
+    let accepted = insert_by(cursor, value)?;
+    let agrees = if accepted {
+        kept.insert(at, place, value).is_ok()
+    } else {
+        cursor.next().copied() == kept.list(at).get(place).copied()
+    };
+    if agrees && goes == found.is_some() {
+        Some(accepted)
+    } else {
+        None
+    }
+}
+
+/// Why a run ends where a cursor answers otherwise than the list.
+pub(crate) const CURSOR: Stop = Stop::Wrong("a cursor's `insert`");
+
+/// The same by a cursor that `get_mut` gives. None where the key has no values.
+pub(crate) fn put_behind<I: Search<Value = u64>>(
+    index: &mut I,
+    kept: &mut Kept,
+    at: usize,
+    bytes: &[u8],
+    past: u64,
+    value: u64,
+) -> Result<Option<bool>, Stop>
+    requires { Admits (I.view index.old) bytes.now }
+{
+    let Ok(Some(mut cursor)) = index.get_mut(bytes) else {
+        return Ok(None);
+    };
+    match goes_and_puts(&mut cursor, kept, at, past, value) {
+        Some(accepted) => Ok(Some(accepted)),
+        None => Err(CURSOR),
+    }
+}
+
+/// The same of an index, which admits each key.
+pub(crate) fn put_behind_in_index<I: Unordered<Value = u64>>(
     index: &mut I,
     kept: &mut Kept,
     at: usize,
@@ -301,28 +392,7 @@ pub(crate) fn put_behind<I: Unordered<Value = u64>>(
     past: u64,
     value: u64,
 ) -> Result<Option<bool>, Stop> {
-    let Ok(Some(mut cursor)) = index.get_mut(bytes) else {
-        return Ok(None);
-    };
-    let goes = cursor.find(|found: &u64| *found == past);
-    let found = kept.list(at).iter().position(|found: &u64| *found == past);
-    must(goes == found.is_some(), "what a cursor found")?;
-    let place = match found {
-        Some(place) => place.saturating_add(1),
-        None => kept.list(at).len(),
-    };
-    let Some(accepted) = insert_by(&mut cursor, value) else {
-        return Err(Stop::Wrong("a cursor's `insert`"));
-    };
-    if accepted {
-        kept.insert(at, place, value)?;
-    } else {
-        must(
-            cursor.next().copied() == kept.list(at).get(place).copied(),
-            "where a refused insertion leaves a cursor",
-        )?;
-    }
-    Ok(Some(accepted))
+    put_behind(index, kept, at, bytes, past, value)
 }
 
 /// A cursor takes the first value of a key out.

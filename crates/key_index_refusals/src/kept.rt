@@ -4,7 +4,7 @@ use key_index_flat::index::{Ordered, Unordered, Values};
 use std::alloc::Global;
 
 /// How many keys there are.
-pub(crate) const KEYS: usize = 6;
+pub(crate) const KEYS: usize = 9;
 
 /// How many values a list may have.
 pub(crate) const LONGEST: usize = 16;
@@ -17,6 +17,9 @@ pub(crate) fn key(at: usize) -> &'static [u8] {
         2 => b"\x10\x01",
         3 => b"\x10\x02",
         4 => b"\x40\x01",
+        5 => b"\x80\x01",
+        6 => b"\x80\x02",
+        7 => b"\x81\x07",
         _ => b"\x90\x01",
     }
 }
@@ -27,6 +30,8 @@ pub(crate) fn partition(at: usize) -> usize {
         0 => 0,
         1 | 2 | 3 => 0x10,
         4 => 0x40,
+        5 | 6 => 0x80,
+        7 => 0x81,
         _ => 0x90,
     }
 }
@@ -133,11 +138,25 @@ impl Kept {
         }
     }
 
-    /// Forgets a list.
-    pub(crate) fn clear_uncounted(&mut self, at: usize) {
+    /// Takes all values of a list out but those that equal one.
+    pub(crate) fn keep_equal(&mut self, at: usize, wanted: u64) {
         if let Some(list) = self.lists.get_mut(at) {
-            list.clear();
+            let held = list.len();
+            list.retain(|value: &u64| *value == wanted);
+            let taken = held.saturating_sub(list.len());
+            self.pruned = self.pruned.saturating_add(taken as u64);
         }
+    }
+
+    /// Puts the values of other lists behind these, and adds how many were taken out there.
+    pub(crate) fn join(&mut self, other: &Kept) -> Result<(), Stop> {
+        for at in 0..KEYS {
+            for value in other.list(at) {
+                self.push(at, *value)?;
+            }
+        }
+        self.pruned = self.pruned.saturating_add(other.pruned);
+        Ok(())
     }
 
     /// No ask yet.

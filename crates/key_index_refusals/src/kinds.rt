@@ -3,7 +3,7 @@ use crate::kept::Kept;
 use crate::report::Stop;
 use key_index_flat::index::{self, Factory, Fault, ordered, unordered};
 use key_index_flat::translator::{OneCap, TwoCap};
-use key_index_parts::index::partitioned;
+use key_index_parts::index::partitioned::{self, PartitionRange};
 use std::alloc::Global;
 
 /// How a partition stands: whether it is spilled, how many of its values stand in arrays, how many spills the index had, and how many
@@ -16,13 +16,19 @@ pub(crate) struct Standing {
     pub(crate) moved: u64,
 }
 
+/// An index or a range of one.
+pub(crate) trait Stands {
+    /// How a partition stands, where partitions spill.
+    fn standing_of(&self, partition: usize) -> Standing;
+}
+
 /// A kind of index.
-pub(crate) trait Kind: index::Unordered<Value = u64> + Drop {
+pub(crate) trait Kind: index::Unordered<Value = u64> + Stands + Drop {
     /// An index with no values, whose partitions spill at so many where they do.
     fn make(alloc: Global, threshold: usize) -> Result<Self, Fault>;
 
-    /// How a partition stands, of an index whose partitions spill.
-    fn standing_of(&self, partition: usize) -> Standing;
+    /// How many partitions are spilled.
+    fn spilled(&self) -> usize;
 
     /// An index with an order gives the neighbours that the lists have.
     fn is_in_order(&self, kept: &Kept) -> Result<(), Stop>;
@@ -39,13 +45,19 @@ const ARRAYS: Standing = Standing {
 /// The flat unordered index.
 pub(crate) type Unordered = unordered::Index<TwoCap, u64>;
 
+impl Stands for Unordered {
+    fn standing_of(&self, _partition: usize) -> Standing {
+        ARRAYS
+    }
+}
+
 impl Kind for Unordered {
     fn make(alloc: Global, _threshold: usize) -> Result<Unordered, Fault> {
         Factory::new(alloc, TwoCap)
     }
 
-    fn standing_of(&self, _partition: usize) -> Standing {
-        ARRAYS
+    fn spilled(&self) -> usize {
+        0
     }
 
     fn is_in_order(&self, _kept: &Kept) -> Result<(), Stop> {
@@ -56,13 +68,19 @@ impl Kind for Unordered {
 /// The flat ordered index.
 pub(crate) type Ordered = ordered::Index<TwoCap, u64>;
 
+impl Stands for Ordered {
+    fn standing_of(&self, _partition: usize) -> Standing {
+        ARRAYS
+    }
+}
+
 impl Kind for Ordered {
     fn make(alloc: Global, _threshold: usize) -> Result<Ordered, Fault> {
         Factory::new(alloc, TwoCap)
     }
 
-    fn standing_of(&self, _partition: usize) -> Standing {
-        ARRAYS
+    fn spilled(&self) -> usize {
+        0
     }
 
     fn is_in_order(&self, kept: &Kept) -> Result<(), Stop> {
@@ -73,13 +91,28 @@ impl Kind for Ordered {
 /// The partitioned unordered index.
 pub(crate) type Punordered = partitioned::unordered::Index<OneCap, u64, 1>;
 
+impl Stands for Punordered {
+    fn standing_of(&self, _partition: usize) -> Standing {
+        ARRAYS
+    }
+}
+
+/// A range of it.
+type PunorderedRange = partitioned::unordered::RangeIndex<OneCap, u64, 1>;
+
+impl Stands for PunorderedRange {
+    fn standing_of(&self, _partition: usize) -> Standing {
+        ARRAYS
+    }
+}
+
 impl Kind for Punordered {
     fn make(alloc: Global, _threshold: usize) -> Result<Punordered, Fault> {
         Factory::new(alloc, OneCap)
     }
 
-    fn standing_of(&self, _partition: usize) -> Standing {
-        ARRAYS
+    fn spilled(&self) -> usize {
+        0
     }
 
     fn is_in_order(&self, _kept: &Kept) -> Result<(), Stop> {
@@ -93,14 +126,7 @@ pub(crate) type Pordered = partitioned::ordered::Index<OneCap, u64, 1>;
 /// At how many values a partition spills where no threshold is given.
 pub(crate) const DEFAULT: usize = 512;
 
-impl Kind for Pordered {
-    fn make(alloc: Global, threshold: usize) -> Result<Pordered, Fault> {
-        if 0 < threshold && threshold < DEFAULT {
-            return Pordered::with_threshold(alloc, OneCap, threshold);
-        }
-        Factory::new(alloc, OneCap)
-    }
-
+impl Stands for Pordered {
     fn standing_of(&self, partition: usize) -> Standing {
         if partition < 256 {
             Standing {
@@ -112,6 +138,38 @@ impl Kind for Pordered {
         } else {
             ARRAYS
         }
+    }
+}
+
+/// A range of it.
+type PorderedRange = partitioned::ordered::RangeIndex<OneCap, u64, 1>;
+
+impl Stands for PorderedRange {
+    fn standing_of(&self, partition: usize) -> Standing {
+        let offset = self.offset();
+        if offset <= partition && partition - offset < self.count() {
+            Standing {
+                spilled: self.is_spilled(partition),
+                inline_len: self.inline_len(partition),
+                spills: self.spills(),
+                moved: self.moved(),
+            }
+        } else {
+            ARRAYS
+        }
+    }
+}
+
+impl Kind for Pordered {
+    fn make(alloc: Global, threshold: usize) -> Result<Pordered, Fault> {
+        if 0 < threshold && threshold < DEFAULT {
+            return Pordered::with_threshold(alloc, OneCap, threshold);
+        }
+        Factory::new(alloc, OneCap)
+    }
+
+    fn spilled(&self) -> usize {
+        self.spilled_count()
     }
 
     fn is_in_order(&self, kept: &Kept) -> Result<(), Stop> {

@@ -6,10 +6,12 @@ mod kept;
 mod kinds;
 mod parts;
 mod positions;
+mod ranges;
 mod report;
 mod snapshots;
 mod states;
 mod subject;
+mod table;
 mod tries;
 
 use report::{Report, Stop, USAGE};

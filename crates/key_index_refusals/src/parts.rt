@@ -1,4 +1,4 @@
-//! Ranges, builds, commands and batches that look ahead.
+//! Builds, commands and batches that look ahead.
 
 use crate::kept::{KEYS, Kept, key, push};
 use crate::kinds::Pordered;
@@ -6,13 +6,8 @@ use crate::report::{Report, Stop, must};
 use crate::tries::TRIES;
 use key_index_flat::index::{Command, Fault, Outcome, Step, Unordered, run};
 use key_index_parts::index::partitioned::ordered::Ahead;
-use key_index_parts::index::partitioned::{Op, PartitionRange, Partitioned, build_in_ranges};
+use key_index_parts::index::partitioned::{Op, Partitioned, build_in_ranges};
 use std::alloc::Global;
-
-/// The partitions of the range: those of the keys from 1 to 4.
-const FROM: usize = 0x10;
-
-const COUNT: usize = 0x40;
 
 /// A key in memory of its own.
 pub(crate) fn bytes(alloc: Global, at: usize) -> Result<Vec<u8>, Stop> {
@@ -23,177 +18,38 @@ pub(crate) fn bytes(alloc: Global, at: usize) -> Result<Vec<u8>, Stop> {
     Ok(bytes)
 }
 
-/// A range of an index; none where it was refused twice.
-fn new_range<I: Partitioned<Value = u64>>(
-    report: &mut Report,
-    index: &I,
-) -> Result<Option<I::Range>, Stop> {
-    for _ in 0..TRIES {
-        if index.partition_count() < FROM + COUNT {
-            return Err(Stop::Wrong("how many partitions there are"));
-        }
-        match index.new_range(FROM, COUNT) {
-            Ok(range) => {
-                report.tells("new_range", true)?;
-                return Ok(Some(range));
-            }
-            Err(fault) => {
-                must(fault == Fault::Memory, "a refusal for memory")?;
-                report.tells("new_range", false)?;
-            }
-        }
-    }
-    Ok(None)
+/// A key of three bytes, with the index key of 9001.
+fn longer(alloc: Global) -> Result<Vec<u8>, Stop> {
+    let mut bytes = bytes(alloc, 8)?;
+    push(&mut bytes, 0x05)?;
+    Ok(bytes)
 }
 
-/// A range holds the lists, and has their counts.
-fn agrees<R: PartitionRange<Value = u64>>(range: &R, kept: &Kept) -> Result<(), Stop> {
-    let mut keys = 0usize;
-    let mut items = 0usize;
-    for at in 1..5 {
-        let list = kept.list(at);
-        let slot = range.slot_of(key(at));
-        must(
-            range.run_len(slot) == list.len(),
-            "how many values a key of a range has",
-        )?;
-        for place in 0..list.len() {
-            if range.run_len(slot) <= place {
-                return Err(Stop::Wrong("how many values a key of a range has"));
-            }
-            must(
-                list.get(place) == Some(range.value_at(slot, place)),
-                "a value of a range",
-            )?;
-        }
-        keys = keys.saturating_add(usize::from(!list.is_empty()));
-        items = items.saturating_add(list.len());
-    }
-    must(range.keys() == keys, "how many keys a range has")?;
-    must(range.items() == items, "how many values a range has")?;
-    must(
-        range.pruned() == 0,
-        "how many values of a range were taken out",
-    )
-}
-
-/// `get_mut_or_insert` of a range.
-fn fill<R: PartitionRange<Value = u64>>(
-    report: &mut Report,
-    range: &mut R,
-    kept: &mut Kept,
-    at: usize,
-    value: u64,
-) -> Result<(), Stop> {
-    for _ in 0..TRIES {
-        let bytes = key(at);
-        if !range.holds(bytes) {
-            return Err(Stop::Wrong("a key of the range"));
-        }
-        let accepted = match range.get_mut_or_insert(bytes, value) {
-            Ok(found) => {
-                must(found.is_none(), "a key of a range that has no value yet")?;
-                kept.push(at, value)?;
-                true
-            }
-            Err(refused) => {
-                must(
-                    refused.fault == Fault::Memory && refused.value == value,
-                    "a refusal",
-                )?;
-                false
-            }
-        };
-        report.tells("range_get_mut_or_insert", accepted)?;
-        agrees(range, kept)?;
-        if accepted {
-            return Ok(());
-        }
-    }
-    Ok(())
-}
-
-/// A range that was handed back holds what it held, without what stands in the index beside it.
-fn stands<R: PartitionRange<Value = u64>>(
-    range: &R,
-    kept: &mut Kept,
-    beside: &Kept,
-) -> Result<(), Stop> {
-    kept.clear_uncounted(5);
-    agrees(range, kept)?;
-    for value in beside.list(5) {
-        kept.push(5, *value)?;
-    }
-    Ok(())
-}
-
-/// A range that is filled and then installed beside a value of the index.
-pub(crate) fn install<I: Partitioned<Value = u64> + Drop>(
-    alloc: Global,
-    report: &mut Report,
-    mut index: I,
-) -> Result<(), Stop> {
-    let mut kept = Kept::new(alloc)?;
-    let mut beside = Kept::new(alloc)?;
-    let Some(mut range) = new_range(report, &index)? else {
-        return Ok(());
-    };
-    for (at, value) in [(2, 1), (3, 2), (1, 3), (4, 4)] {
-        fill(report, &mut range, &mut kept, at, value)?;
-    }
-    if index.insert(key(5), 6).is_ok() {
-        beside.push(5, 6)?;
-        kept.push(5, 6)?;
-    }
-    install_filled(report, &mut index, range, &mut kept, &beside)
-}
-
-/// `install_range`, made again where it was refused.
-fn install_filled<I: Partitioned<Value = u64>>(
-    report: &mut Report,
-    index: &mut I,
-    mut range: I::Range,
-    kept: &mut Kept,
-    beside: &Kept,
-) -> Result<(), Stop> {
-    for _ in 0..TRIES {
-        if !index.can_install(&range) {
-            return Err(Stop::Wrong("free partitions"));
-        }
-        match index.install_range(range) {
-            Ok(()) => {
-                report.tells("install_range", true)?;
-                return kept.are_in(index);
-            }
-            Err((back, fault)) => {
-                must(fault == Fault::Memory, "a refusal for memory")?;
-                report.tells("install_range", false)?;
-                beside.are_in(index)?;
-                stands(&back, kept, beside)?;
-                range = back;
-            }
-        }
-    }
-    Ok(())
-}
-
-/// The ops of a build: two values of one key, and one of another.
+/// The ops of a build: 1 and 3 under 1001, and under 9001 a value that is taken out, and another one.
 fn ops(alloc: Global) -> Result<Vec<Op<u64>>, Stop> {
-    let mut steps = Vec::with_capacity(alloc, 2)?;
-    push(&mut steps, Step::Next)?;
-    push(&mut steps, Step::Insert(3))?;
-    let mut ops = Vec::with_capacity(alloc, 3)?;
+    let mut insert = Vec::with_capacity(alloc, 2)?;
+    push(&mut insert, Step::Next)?;
+    push(&mut insert, Step::Insert(3))?;
+    let mut replace = Vec::with_capacity(alloc, 4)?;
+    push(&mut replace, Step::Next)?;
+    push(&mut replace, Step::Delete)?;
+    push(&mut replace, Step::Next)?;
+    push(&mut replace, Step::Insert(5))?;
+    let mut ops = Vec::with_capacity(alloc, 5)?;
     push(&mut ops, Op::GetOrInsert(bytes(alloc, 2)?, 1))?;
-    push(&mut ops, Op::GetOrInsert(bytes(alloc, 5)?, 2))?;
-    push(&mut ops, Op::Edit(bytes(alloc, 2)?, steps))?;
+    push(&mut ops, Op::GetOrInsert(bytes(alloc, 8)?, 2))?;
+    push(&mut ops, Op::Edit(bytes(alloc, 2)?, insert))?;
+    push(&mut ops, Op::GetOrInsert(longer(alloc)?, 4))?;
+    push(&mut ops, Op::Edit(bytes(alloc, 8)?, replace))?;
     Ok(ops)
 }
 
-/// A build in two ranges: a refused one leaves no value, or those of the first range alone.
+/// A build in two ranges: a refused one leaves no value, or of an index whose partitions spill those of the first range alone.
 pub(crate) fn build<I: Partitioned<Value = u64>>(
     alloc: Global,
     report: &mut Report,
     index: &mut I,
+    threshold: usize,
 ) -> Result<(), Stop> {
     let mut kept = Kept::new(alloc)?;
     for _ in 0..TRIES {
@@ -207,12 +63,13 @@ pub(crate) fn build<I: Partitioned<Value = u64>>(
             Ok(()) => {
                 kept.push(2, 1)?;
                 kept.push(2, 3)?;
-                kept.push(5, 2)?;
+                kept.push(8, 5)?;
+                kept.pruned = 1;
                 return kept.are_in(index);
             }
             Err(fault) => must(fault == Fault::Memory, "a refusal for memory")?,
         }
-        if !index.is_empty() {
+        if threshold > 0 && !index.is_empty() {
             kept.push(2, 1)?;
             kept.push(2, 3)?;
             return kept.are_in(index);
@@ -222,7 +79,106 @@ pub(crate) fn build<I: Partitioned<Value = u64>>(
     Ok(())
 }
 
-/// The commands of a run.
+/// A run of six commands: a value, one of another key, an edit of which the first step isn't allowed, and then the other key is removed,
+/// what differs from 8 is taken out, and the removed key is edited.
+fn edits<F: Fn(&u64) -> bool + Drop>(
+    alloc: Global,
+    is_eight: F,
+) -> Result<Vec<Command<u64, F>>, Stop> {
+    let mut steps = Vec::with_capacity(alloc, 4)?;
+    push(&mut steps, Step::Update(9))?;
+    push(&mut steps, Step::Next)?;
+    push(&mut steps, Step::Update(8))?;
+    push(&mut steps, Step::Insert(7))?;
+    let mut last = Vec::with_capacity(alloc, 1)?;
+    push(&mut last, Step::Next)?;
+    let mut commands = Vec::with_capacity(alloc, 6)?;
+    push(&mut commands, Command::Insert(bytes(alloc, 2)?, 1))?;
+    push(&mut commands, Command::GetOrInsert(bytes(alloc, 4)?, 4))?;
+    push(&mut commands, Command::Edit(bytes(alloc, 2)?, steps))?;
+    push(&mut commands, Command::Remove(bytes(alloc, 4)?))?;
+    push(&mut commands, Command::Retain(bytes(alloc, 2)?, is_eight))?;
+    push(&mut commands, Command::Edit(bytes(alloc, 4)?, last))?;
+    Ok(commands)
+}
+
+/// Whether a command that isn't an edit was done. Else it was refused for memory.
+fn is_done(outcome: &Outcome) -> Result<bool, Stop> {
+    match outcome {
+        Outcome::Done => Ok(true),
+        Outcome::Refused(fault) => {
+            must(*fault == Fault::Memory, "a refusal for memory")?;
+            Ok(false)
+        }
+        Outcome::Edited(_) => Err(Stop::Wrong("the outcome of an edit")),
+    }
+}
+
+/// The flags of an edit, none where it was refused for memory.
+fn flags(outcome: &Outcome) -> Result<&[bool], Stop> {
+    match outcome {
+        Outcome::Edited(flags) => Ok(flags.as_slice()),
+        Outcome::Refused(fault) => {
+            must(*fault == Fault::Memory, "a refusal for memory")?;
+            Ok(&[])
+        }
+        Outcome::Done => Err(Stop::Wrong("the outcome of another command")),
+    }
+}
+
+/// What the edit of four steps did to the list of its key.
+fn edited(kept: &mut Kept, flags: &[bool]) -> Result<(), Stop> {
+    let held = !kept.list(2).is_empty();
+    let inserted = match flags {
+        [] => return Ok(()),
+        [false, next, update, insert] => {
+            must(*next == held && *update == held, "the steps of an edit")?;
+            *insert
+        }
+        _ => return Err(Stop::Wrong("the flags of an edit")),
+    };
+    if held {
+        kept.set(2, 0, 8)?;
+    }
+    if inserted {
+        must(held, "an insertion where there is no value")?;
+        kept.push(2, 7)?;
+    }
+    Ok(())
+}
+
+/// The content is the fold of the six commands, as far as they were accepted.
+fn came_to_edits<I: Unordered<Value = u64>>(
+    alloc: Global,
+    index: &I,
+    outcomes: &[Outcome],
+) -> Result<(), Stop> {
+    let mut kept = Kept::new(alloc)?;
+    let [insert, other, edit, remove, retain, last] = outcomes else {
+        return Err(Stop::Wrong("one outcome for each command"));
+    };
+    if is_done(insert)? {
+        kept.push(2, 1)?;
+    }
+    if is_done(other)? {
+        kept.push(4, 4)?;
+    }
+    edited(&mut kept, flags(edit)?)?;
+    if is_done(remove)? {
+        kept.clear(4);
+    }
+    if is_done(retain)? {
+        kept.keep_equal(2, 8);
+    }
+    let found = flags(last)?;
+    must(
+        found.is_empty() || found == [!kept.list(4).is_empty()].as_slice(),
+        "the last edit",
+    )?;
+    kept.are_in(index)
+}
+
+/// The commands of another run.
 fn commands<F: Fn(&u64) -> bool + Drop + Copy>(
     alloc: Global,
     stays: F,
@@ -244,11 +200,6 @@ fn commands<F: Fn(&u64) -> bool + Drop + Copy>(
     Ok(commands)
 }
 
-/// Whether the values of a key are some of two lists.
-fn is_one_of<I: Unordered<Value = u64>>(index: &I, at: usize, lists: &[&[u64]]) -> bool {
-    lists.iter().any(|list: &&[u64]| index.get(key(at)).copied().eq(list.iter().copied()))
-}
-
 /// `run` of commands whose closures may be called.
 fn run_all<I: Unordered<Value = u64>, F: Fn(&u64) -> bool + Drop>(
     alloc: Global,
@@ -260,7 +211,39 @@ fn run_all<I: Unordered<Value = u64>, F: Fn(&u64) -> bool + Drop>(
     run(alloc, index, commands)
 }
 
-/// A run of commands of which no closure takes a value out: its outcomes say which were refused.
+/// The outcomes of a run, none where it was refused.
+fn ran(
+    report: &mut Report,
+    answer: Result<Vec<Outcome>, Fault>,
+) -> Result<Option<Vec<Outcome>>, Stop> {
+    report.tells("run", answer.is_ok())?;
+    match answer {
+        Ok(outcomes) => Ok(Some(outcomes)),
+        Err(fault) => {
+            must(fault == Fault::Memory, "a refusal for memory")?;
+            Ok(None)
+        }
+    }
+}
+
+/// A run of commands: its outcomes say which were refused.
+pub(crate) fn run_edits<I: Unordered<Value = u64>>(
+    alloc: Global,
+    report: &mut Report,
+    index: &mut I,
+) -> Result<(), Stop> {
+    let kept = Kept::new(alloc)?;
+    for _ in 0..TRIES {
+        let commands = edits(alloc, |value: &u64| *value == 8)?;
+        if let Some(outcomes) = ran(report, run_all(alloc, index, commands))? {
+            return came_to_edits(alloc, index, outcomes.as_slice());
+        }
+        kept.are_in(index)?;
+    }
+    Ok(())
+}
+
+/// Another one, of which no closure takes a value out.
 pub(crate) fn run_commands<I: Unordered<Value = u64>>(
     alloc: Global,
     report: &mut Report,
@@ -269,17 +252,10 @@ pub(crate) fn run_commands<I: Unordered<Value = u64>>(
     let kept = Kept::new(alloc)?;
     for _ in 0..TRIES {
         let commands = commands(alloc, |_value: &u64| true)?;
-        match run_all(alloc, index, commands) {
-            Ok(outcomes) => {
-                report.tells("run", true)?;
-                return came_to(alloc, index, outcomes.as_slice());
-            }
-            Err(fault) => {
-                must(fault == Fault::Memory, "a refusal for memory")?;
-                report.tells("run", false)?;
-                kept.are_in(index)?;
-            }
+        if let Some(outcomes) = ran(report, run_all(alloc, index, commands))? {
+            return came_to(alloc, index, outcomes.as_slice());
         }
+        kept.are_in(index)?;
     }
     Ok(())
 }
@@ -341,7 +317,17 @@ pub(crate) trait LooksAhead: Unordered<Value = u64> {
 
 impl LooksAhead for Pordered {
     fn look_ahead<F: FnMut(Ahead<'_, u64>)>(&self, on: F) -> Result<(), Fault> {
-        let keys = [key(0), key(1), key(2), key(3), key(4), key(5)];
+        let keys = [
+            key(0),
+            key(1),
+            key(2),
+            key(3),
+            key(4),
+            key(5),
+            key(6),
+            key(7),
+            key(8),
+        ];
         self.get_many_ahead(keys.iter().copied(), on)
     }
 }
@@ -353,7 +339,7 @@ pub(crate) fn ahead<I: LooksAhead>(
     index: &mut I,
 ) -> Result<(), Stop> {
     let mut kept = Kept::new(alloc)?;
-    for (at, value) in [(2, 1), (3, 2), (5, 3)] {
+    for (at, value) in [(2, 1), (3, 2), (8, 3)] {
         if index.insert(key(at), value).is_ok() {
             kept.push(at, value)?;
         }

@@ -108,7 +108,7 @@ pub(crate) fn changed<I: Ordered<Value = Record> + Drop>(
     let changes = [
         (2, Some(7)),
         (3, Some(8)),
-        (5, Some(9)),
+        (8, Some(9)),
         (2, Some(10)),
         (0, Some(11)),
         (1, Some(12)),
@@ -125,7 +125,7 @@ pub(crate) fn changed<I: Ordered<Value = Record> + Drop>(
 /// Records of a log: two of one key.
 fn records(alloc: Global) -> Result<Vec<Record>, Stop> {
     let mut records = Vec::with_capacity(alloc, 4)?;
-    for (at, position) in [(2, 1), (5, 2), (2, 3), (0, 4)] {
+    for (at, position) in [(2, 1), (8, 2), (2, 3), (0, 4)] {
         let key = bytes(alloc, at)?;
         push(&mut records, Record { key, position })?;
     }
@@ -145,7 +145,20 @@ pub(crate) fn built<I: Ordered<Value = Record> + Partitioned + Drop>(
     let answer = Snapshot::build(alloc, index, &[0, 0x80, 256], records);
     report.tells("snapshot_build", answer.is_ok())?;
     match answer {
-        Ok(snapshot) => is_map(&snapshot, &[Some(4), None, Some(3), None, None, Some(2)]),
+        Ok(snapshot) => is_map(
+            &snapshot,
+            &[
+                Some(4),
+                None,
+                Some(3),
+                None,
+                None,
+                None,
+                None,
+                None,
+                Some(2),
+            ],
+        ),
         Err(fault) => must(fault == Fault::Memory, "a refusal for memory"),
     }
 }

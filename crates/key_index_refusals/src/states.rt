@@ -1,13 +1,15 @@
 //! The states, by name.
 use crate::calls::Call;
 use crate::kept::{KEYS, Kept};
-use crate::kinds::{DEFAULT, Kind, Ordered, Pordered, Punordered, Unordered};
-use crate::parts::{LooksAhead, ahead, build, install, run_commands};
+use crate::kinds::{DEFAULT, Kind, Ordered, Pordered, Punordered, Standing, Stands, Unordered};
+use crate::parts::{LooksAhead, ahead, build, run_commands, run_edits};
 use crate::positions::{arrays, has_room, indexed, marked};
-use crate::report::{Report, Stop, USAGE};
+use crate::ranges::ranged;
+use crate::report::{Report, Stop, USAGE, must};
 use crate::snapshots::{appended, built, called, changed};
 use crate::subject::Subject;
-use crate::tries::{grow, shrink, tries};
+use crate::table::stored;
+use crate::tries::{TRIES, grow, shrink, tries};
 use key_index::snapshot::Record;
 use key_index_flat::index::{self, Factory, ordered};
 use key_index_flat::translator::{OneCap, TwoCap};
@@ -55,6 +57,7 @@ fn call_of(number: u64) -> Call {
         6 => Call::InsertAt(value),
         7 | 8 => Call::GetOrInsert(value),
         9 => Call::GetMut,
+        10 => Call::InsertByCursor(0, value),
         _ => Call::GetMany,
     }
 }
@@ -84,12 +87,12 @@ fn random<S: Subject>(
     index.agrees(kept)
 }
 
-/// A list of three values, an insertion with retention, three values more behind the first one, and a value of a neighbouring key.
+/// A list of three values, an insertion with retention that takes the second one out, three values more behind the first one, and a value of a neighbouring key.
 fn worked<S: Subject>(report: &mut Report, index: &mut S, kept: &mut Kept) -> Result<(), Stop> {
     tries(report, index, kept, 2, Call::GetOrInsert(3))?;
     grow(report, index, kept, 2, 3, 1)?;
     grow(report, index, kept, 2, 1, 2)?;
-    tries(report, index, kept, 2, Call::InsertAndRetain(4, 15))?;
+    tries(report, index, kept, 2, Call::InsertAndRetain(4, 0b1101))?;
     for value in 7..10 {
         grow(report, index, kept, 2, 3, value)?;
     }
@@ -97,6 +100,31 @@ fn worked<S: Subject>(report: &mut Report, index: &mut S, kept: &mut Kept) -> Re
     tries(report, index, kept, 2, Call::InsertAndRetain(6, 5))?;
     tries(report, index, kept, 2, Call::GetMany)?;
     tries(report, index, kept, 2, Call::Remove)
+}
+
+/// A value in arrays, and the insertion of a second one, of another key, which spills them at two: a refused one leaves them as they are.
+fn second<S: Subject>(report: &mut Report, index: &mut S, kept: &mut Kept) -> Result<(), Stop> {
+    tries(report, index, kept, 2, Call::Insert(1))?;
+    if kept.list(2).is_empty() {
+        return Ok(());
+    }
+    for _ in 0..TRIES {
+        let accepted = index.call(kept, 3, Call::Insert(2))?;
+        report.tells("second_insert", accepted)?;
+        index.agrees(kept)?;
+        let stands = index.standing(0x10)
+            == Standing {
+                spilled: accepted,
+                inline_len: if accepted { 0 } else { 1 },
+                spills: u64::from(accepted),
+                moved: if accepted { 2 } else { 0 },
+            };
+        must(stands, "how a second value leaves a partition")?;
+        if accepted {
+            return Ok(());
+        }
+    }
+    Ok(())
 }
 
 /// Two values that a cursor put into a partition which spills at two, and then each of five calls.
@@ -170,6 +198,7 @@ fn go_by_calls<S: Subject>(
     match (state, kept.threshold) {
         ("random", _) => random(report, index, kept, seed),
         ("worked", _) => worked(report, index, kept),
+        ("second", 2) => second(report, index, kept),
         ("overfull", 2) => overfull(report, index, kept, seed),
         ("shrunken", 8) => shrunken(report, index, kept, seed),
         _ => Err(Stop::Wrong(USAGE)),
@@ -189,6 +218,7 @@ fn go_over<I: Kind>(
         return Ok(());
     };
     match state {
+        "run" if seed == 0 => run_edits(alloc, report, &mut index),
         "run" => run_commands(alloc, report, &mut index),
         "callers" => called(alloc, report, &mut index),
         _ => go_by_calls(report, &mut index, &mut kept, state, seed),
@@ -202,14 +232,17 @@ fn go_parted<I: Kind + Partitioned<Value = u64>>(
     state: &str,
     threshold: usize,
     seed: u64,
-) -> Result<(), Stop> {
+) -> Result<(), Stop>
+where
+    I::Range: Stands,
+{
     match state {
         "range" => match make::<I>(alloc, report, threshold)? {
-            Some(index) => install(alloc, report, index),
+            Some(index) => ranged(alloc, report, index, threshold, seed),
             None => Ok(()),
         },
         "build" => match make::<I>(alloc, report, threshold)? {
-            Some(mut index) => build(alloc, report, &mut index),
+            Some(mut index) => build(alloc, report, &mut index, threshold),
             None => Ok(()),
         },
         _ => go_over::<I>(alloc, report, state, threshold, seed),
@@ -223,7 +256,10 @@ fn go_ahead<I: Kind + Partitioned<Value = u64> + LooksAhead>(
     state: &str,
     threshold: usize,
     seed: u64,
-) -> Result<(), Stop> {
+) -> Result<(), Stop>
+where
+    I::Range: Stands,
+{
     if state != "ahead" {
         return go_parted::<I>(alloc, report, state, threshold, seed);
     }
@@ -288,9 +324,9 @@ fn go_punordered(alloc: Global, report: &mut Report, state: &str, seed: u64) -> 
 }
 
 /// A state of the immutable index.
-fn go_immutable(alloc: Global, report: &mut Report, state: &str) -> Result<(), Stop> {
+fn go_immutable(alloc: Global, report: &mut Report, state: &str, seed: u64) -> Result<(), Stop> {
     match state {
-        "index" => indexed(alloc, report),
+        "index" => indexed(alloc, report, seed),
         "room" => has_room(alloc, report),
         "marks" => marked(alloc, report),
         "log" => appended(alloc, report),
@@ -314,8 +350,9 @@ pub(crate) fn go(
         "pordered_at_2" => go_pordered(alloc, report, state, 2, seed),
         "pordered_at_8" => go_pordered(alloc, report, state, 8, seed),
         "pordered" => go_pordered(alloc, report, state, DEFAULT, seed),
-        "immutable" => go_immutable(alloc, report, state),
+        "immutable" => go_immutable(alloc, report, state, seed),
         "arrays" => arrays(alloc, report),
+        "table" => stored(alloc, report),
         "snapshot" => go_snapshot(alloc, report, state),
         _ => Err(Stop::Wrong(USAGE)),
     }

@@ -95,7 +95,7 @@ fn stands_refused<S: Subject>(
         return Ok(());
     }
     must(
-        due && now == spilled(before, before.inline_len),
+        due && call.settles() && now == spilled(before, before.inline_len),
         "how a refusal leaves a partition",
     )
 }
@@ -108,7 +108,7 @@ pub(crate) fn tries<S: Subject>(
     at: usize,
     call: Call,
 ) -> Result<(), Stop> {
-    if !kept.has_room(at) {
+    if !kept.has_room(at) || call.needs_values() && kept.list(at).is_empty() {
         return Ok(());
     }
     for _ in 0..TRIES {

@@ -271,7 +271,7 @@ pub(super) fn session<R: Read + Drop>(
 
 #[test]
 fn sessions_are_answered(rt: HostRuntime) -> Result<(), Fail> {
-    let sessions: [(&str, &[u8], &[u8], &[u8], u8); 30] = [
+    let sessions: [(&str, &[u8], &[u8], &[u8], u8); 33] = [
         (
             "unordered",
             b"insert 0b02 1\ninsert 0bff 2\nget 0b\nremove 0b77\ncounts\n",
@@ -412,6 +412,9 @@ fn sessions_are_answered(rt: HostRuntime) -> Result<(), Fail> {
         ("ordered", b"insert 0 1\n", b"", b"bad line 1\n", 1),
         ("ordered", b"insert  0b 1\n", b"", b"bad line 1\n", 1),
         ("ordered", b"insert 0g 1\n", b"", b"bad line 1\n", 1),
+        ("ordered", b"prune 1\n", b"", b"bad line 1\n", 1),
+        ("ordered", b"insert 0b 1\r\n", b"", b"bad line 1\n", 1),
+        ("ordered", b"", b"", b"", 0),
     ];
     for (kind, input, output, faults, status) in sessions {
         let ended = session(rt.alloc(), &[kind], input)?;
@@ -525,7 +528,7 @@ fn failed_reads_end_the_program(rt: HostRuntime) -> Result<(), Fail> {
         (b"insert 0b 1\nge", b"ok\n"),
     ];
     for (bytes, output) in inputs {
-        let ended = session(rt.alloc(), &["unordered"], FailingReader { bytes })?;
+        let ended = session(rt.alloc(), &["ordered"], FailingReader { bytes })?;
         assert_eq!(rt; ended.0.as_slice(), output, "{bytes:?}");
         assert_eq!(rt; ended.1.as_slice(), b"failed\n".as_slice());
         assert_eq!(rt; ended.2, 1);
@@ -554,7 +557,7 @@ fn interrupted_reads_are_tried_again(rt: HostRuntime) -> Result<(), Fail> {
 
 #[test]
 fn failed_writes_end_the_program(rt: HostRuntime) -> Result<(), Fail> {
-    let words = arguments(rt.alloc(), &["unordered"])?;
+    let words = arguments(rt.alloc(), &["ordered"])?;
     let lines = b"counts\n".repeat(rt.alloc(), 1000)?;
     // At the first write, at one in mid-stream, and at the last flush.
     for (count, room) in [(7, 0), (7000, 0), (7000, 10000), (7, 23), (14, 24)] {

@@ -212,6 +212,18 @@ pub(super) fn inserted_and_retained<I: Unordered<Value = u64>>(
     );
 }
 
+/// `retain` of a key that has the list 3, 1, 2, by a closure that changes its mind at each ask.
+pub(super) fn retained_in_turn<I: Unordered<Value = u64>>(
+    rt: &impl Abort,
+    alloc: Global,
+    index: &mut I,
+) {
+    fill(rt, index, b"\x0b", &[3, 1, 2]);
+    retains(rt, alloc, index, b"\x0b", 0b101, &[3, 1, 2]);
+    holds(rt, index, b"\x0b", &[3, 2]);
+    counts(rt, index, (1, 2, 1));
+}
+
 /// `insert_and_retain` puts its value behind the held ones, in each index; of an absent key it asks on the new value alone.
 pub(super) fn inserted_behind<I: Unordered<Value = u64>>(
     rt: &impl Abort,

@@ -143,6 +143,26 @@ fn takes_only_value<I: Unordered<Value = u64>>(rt: &impl Abort, index: &mut I) {
     has_no_cursor(rt, index, b"j");
 }
 
+/// A cursor that is dropped after it put 6 behind 5, the only value of the index.
+pub(super) fn dropped_behind_only_value<I: Unordered<Value = u64>>(rt: &impl Abort, index: &mut I) {
+    fill(rt, index, b"k", &[5]);
+    let mut cursor = cursor_at(rt, index, b"k");
+    goes_to(rt, &mut cursor, 5);
+    puts(rt, &mut cursor, 6);
+    holds(rt, index, b"k", &[5, 6]);
+    counts(rt, index, (1, 2, 0));
+}
+
+/// A cursor that is dropped after it took 5, the only value of the index, out.
+pub(super) fn dropped_without_any_value<I: Unordered<Value = u64>>(rt: &impl Abort, index: &mut I) {
+    fill(rt, index, b"k", &[5]);
+    let mut cursor = cursor_at(rt, index, b"k");
+    goes_to(rt, &mut cursor, 5);
+    cursor.delete();
+    holds(rt, index, b"k", &[]);
+    counts(rt, index, (0, 0, 1));
+}
+
 /// A key that lost its only value to a cursor, and takes a value again.
 pub(super) fn dropped_without_values<I: Unordered<Value = u64>>(rt: &impl Abort, index: &mut I) {
     fill(rt, index, b"k", &[3, 1, 2]);

@@ -57,6 +57,7 @@ fn each_call<K: Kind<u64>>(rt: &impl Abort, alloc: Global, kind: &K) {
             pruned,
         );
     }
+    calls::retained_in_turn(rt, alloc, &mut fresh::<K, u64>(rt, alloc, kind));
     calls::inserted_behind(rt, alloc, &mut fresh::<K, u64>(rt, alloc, kind));
     callers::added(rt, &mut fresh::<K, u64>(rt, alloc, kind));
     callers::replaced(rt, &mut fresh::<K, u64>(rt, alloc, kind));
@@ -73,6 +74,8 @@ fn each_edit<K: Kind<u64>>(rt: &impl Abort, alloc: Global, kind: &K) {
     cursors::found(rt, alloc, &mut fresh::<K, u64>(rt, alloc, kind));
     cursors::dropped(rt, &mut fresh::<K, u64>(rt, alloc, kind));
     cursors::dropped_without_values(rt, &mut fresh::<K, u64>(rt, alloc, kind));
+    cursors::dropped_behind_only_value(rt, &mut fresh::<K, u64>(rt, alloc, kind));
+    cursors::dropped_without_any_value(rt, &mut fresh::<K, u64>(rt, alloc, kind));
     let neighbour = if K::WIDTH == 1 { 0x11 } else { 0x10 };
     extremes::cut_at_each_step(
         rt,

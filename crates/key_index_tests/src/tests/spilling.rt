@@ -6,7 +6,9 @@ use super::checks::{
     inserts_and_retains, puts, puts_last, removes, retains,
 };
 use super::neighbours::{next_has, prev_has, same_end};
-use super::stands::{Small, Stands, StandsWhole, has_moved, has_spilled, is_inline, is_spilled};
+use super::stands::{
+    Small, Stands, StandsWhole, has_moved, has_spilled, is_inline, is_spilled, moves_within,
+};
 use super::{calls, ranges};
 use key_index_flat::index::{Cursor, Ordered, Unordered, Values};
 use key_index_flat::translator::OneCap;
@@ -288,6 +290,7 @@ fn moved_back_by_remove<I: Unordered<Value = u64> + StandsWhole>(rt: &impl Abort
     is_inline(rt, index, 0x10, 3);
     has_moved(rt, index, 11, 1);
     counts(rt, index, (3, 3, 5));
+    moves_within(rt, index, 21);
     for number in 6..=8 {
         holds(rt, index, key_at(number).as_slice(), &[u64::from(number)]);
     }
@@ -313,6 +316,7 @@ fn moved_back_by_the_next_call<I: Unordered<Value = u64> + StandsWhole>(
     is_inline(rt, index, 0x10, 3);
     has_moved(rt, index, 11, 1);
     counts(rt, index, (3, 3, 5));
+    moves_within(rt, index, 21);
 }
 
 /// At a threshold of 3 a partition spills, is moved back, and spills again.
@@ -328,12 +332,14 @@ fn moved_back_and_spilled_again<I: Unordered<Value = u64> + StandsWhole>(
     is_inline(rt, index, 0x10, 1);
     has_moved(rt, index, 4, 1);
     counts(rt, index, (1, 1, 2));
+    moves_within(rt, index, 8);
     inserts(rt, index, b"\x10\x01", 1);
     is_inline(rt, index, 0x10, 2);
     inserts(rt, index, b"\x10\x02", 2);
     is_spilled(rt, index, 0x10);
     has_moved(rt, index, 7, 2);
     counts(rt, index, (3, 3, 2));
+    moves_within(rt, index, 12);
 }
 
 /// At a threshold of 8 a cursor lets a list grow to nine values, and one call spills all nine and moves the two that it keeps back.
@@ -361,6 +367,7 @@ fn spilled_and_moved_back<I: Unordered<Value = u64> + StandsWhole>(
     is_inline(rt, index, 0x10, 2);
     has_moved(rt, index, 11, 1);
     counts(rt, index, (1, 2, 8));
+    moves_within(rt, index, 28);
     holds(rt, index, b"\x10\x01", &[8, 9]);
 }
 
@@ -405,6 +412,7 @@ where
     is_inline(rt, index, 0x10, 2);
     has_moved(rt, index, 4, 1);
     counts(rt, index, (2, 2, 0));
+    moves_within(rt, index, 4);
 }
 
 /// Neighbours at a threshold of 2, where the partitions 10 and 30 are spilled and 20 between them is not.

@@ -1,5 +1,6 @@
 //! How the partitions of a partitioned ordered index and of its ranges stand, through one trait, and what the tests assert of it.
 
+use key_index_flat::index::Unordered;
 use key_index_flat::translator::{OneCap, TwoCap};
 use key_index_parts::index::partitioned::PartitionRange;
 use key_index_parts::index::partitioned::ordered::{Index, RangeIndex};
@@ -145,4 +146,17 @@ pub(super) fn has_spilled<S: StandsWhole>(rt: &impl Abort, index: &S, count: usi
 /// So many values were moved, in so many spills and what returned of them.
 pub(super) fn has_moved<S: Stands>(rt: &impl Abort, stands: &S, moved: u64, spills: u64) {
     assert_eq!(rt; (stands.moved(), stands.spills()), (moved, spills));
+}
+
+/// The bound of the values that were ever moved, two for each value that is held and three for each that was taken out, is this number,
+/// and no more were moved.
+pub(super) fn moves_within<I: Unordered<Value = u64> + Stands>(
+    rt: &impl Abort,
+    index: &I,
+    bound: u64,
+) {
+    let held = (index.items() as u64).saturating_mul(2);
+    let taken = index.pruned().saturating_mul(3);
+    assert_eq!(rt; held.saturating_add(taken), bound);
+    assert!(rt; index.moved() <= bound);
 }
