@@ -1,0 +1,5 @@
+//! A key-value store on a log: records are appended to the log, and an index in memory keeps their positions alone.
+#![tactic(auto)]
+
+pub mod checksum;
+pub mod record;
