@@ -2,15 +2,16 @@
 --     read_again      what was encoded is read, whatever follows it
 --     read_more       more bytes behind whole ones change nothing
 --     found           what is read was encoded
-use Rattle.std.proofs.Common.{◌≡◌, ℕ, zero, suc, ◌+◌, ◌^◌, ◌<◌, ◌≤◌, Bool, true, false, cond, not, ◌||◌, List, [], ◌∷◌, ◌++◌, length, take, drop, slice_index_or, Option, Some, None, inl, inr, refl, sym, ap, subst, ◌∙◌, append_assoc, length-append, length-drop, length-take, arith}
+use Rattle.std.proofs.Common.{◌≡◌, ℕ, zero, suc, ◌+◌, ◌^◌, ◌<◌, ◌≤◌, Bool, true, false, cond, not, ◌||◌, List, [], ◌∷◌, ◌++◌, length, take, drop, slice_index_or, Option, Some, None, Result, Ok, Err, inl, inr, refl, sym, ap, subst, ◌∙◌, append_assoc, length-append, length-drop, length-take, arith}
 use Rattle.std.specs.Int.{w32, from_le_bytes}
+use Rattle.std.specs.Result.{IfErr, OnErr, OnOk, is_err}
 use Rattle.std.specs.Str.{bytes_eq}
 use Rattle.std.proofs.lemmas.Bool.{false≢true, cases_lt, le-ltb, ltb-false}
 use Rattle.std.proofs.lemmas.List.{take_at, drop_at, take-append-drop, take-append-le, drop-append-le, drop-drop, get_or-drop, get_or-take, get_or_past}
 use Rattle.std.proofs.lemmas.Nat.{le_bytes_4, from_le_bytes-to_le_bytes_4}
 use Rattle.std.proofs.lemmas.Slice.Eq.{bytes_eq-Decides}
 use Rattle.key_index_store.specs.Checksum.{crc32}
-use Rattle.key_index_store.specs.Record.{Entry, Fits, Outcome, Complete, Torn, Damaged, mark_of, bytes_of, number, number_at, body, encoded, body_length, is_torn, marked, fields_of, checked, reading, IsFound}
+use Rattle.key_index_store.specs.Record.{Entry, Fits, Outcome, Complete, Torn, Damaged, mark_of, bytes_of, number, number_at, body, encoded, body_length, is_torn, marked, fields_of, checked, reading, IsFound, IsWithin}
 
 neither : (a b : Bool) → (a || b) ≡ false → (a ≡ false) × (b ≡ false)
 neither true b e = absurd (false≢true (sym e))
@@ -58,6 +59,10 @@ pub checked_front : (bytes : List ℕ) → is_torn bytes ≡ false → bytes_eq 
 checked_front bytes whole fits =
     let n = body_length bytes in
     ap (λ t. cond t Torn (checked (take n bytes) (drop n bytes))) whole ∙ ap (λ t. cond t (fields_of (take n bytes)) Damaged) fits
+
+pub on_ok_told : {A E : Type 0} {P : Type 0} (r : Result A E) → is_err r ≡ false → OnOk r P → P
+on_ok_told (Ok x) e h = h
+on_ok_told (Err x) e h = absurd (false≢true (sym e))
 
 pub was_equal : (b : Bool) → not b ≡ false → b ≡ true
 was_equal true e = refl
@@ -220,3 +225,40 @@ pub found : (bytes : List ℕ) (o : Outcome) → AreBytes bytes → o ≡ readin
 found bytes (Complete r) fits e = found_complete bytes r fits (sym e)
 found bytes Torn fits e = tt
 found bytes Damaged fits e = tt
+
+-- ---- a record in a longer log
+
+pub found_front : (a b : List ℕ) (o : Outcome) → IsFound a o → IsFound (a ++ b) o
+found_front a b (Complete r) h =
+    let n = length (encoded r) in
+    let long : n ≤ length a = omega (arith, ap (λ l. length l) h.1, length-append (encoded r) (drop n a)) in
+    (h.0, ap (λ l. l ++ b) h.1 ∙ append_assoc (encoded r) (drop n a) b ∙ ap (λ l. encoded r ++ l) (sym (drop-append-le n a b long)))
+found_front a b Torn h = tt
+found_front a b Damaged h = tt
+
+pub within_found : (n : ℕ) (a : List ℕ) (o : Outcome) → IsFound a o → length a ≤ n → IsWithin n o
+within_found n a (Complete r) h le = (h.0, omega (arith, ap (λ l. length l) h.1, length-append (encoded r) (drop (length (encoded r)) a), le))
+within_found n a Torn h le = tt
+within_found n a Damaged h le = tt
+
+-- the bytes that the first nine count are enough to read
+pub read_piece : (bytes : List ℕ) → 9 ≤ length bytes → body_length (take 9 bytes) + 4 ≤ length bytes
+    → reading (take (body_length (take 9 bytes) + 4) bytes) ≡ reading bytes
+read_piece bytes nine enough =
+    let n = body_length (take 9 bytes) + 4 in
+    let piece = take n bytes in
+    let rest = drop n bytes in
+    let head_long : 9 ≤ length (take 9 bytes) = omega (arith, length-take 9 bytes, nine) in
+    let long : length piece ≡ n = omega (arith, length-take n bytes, enough) in
+    let same : body_length piece ≡ body_length (take 9 bytes) =
+    sym (length_front piece rest (omega (arith, long))) ∙ ap body_length (take-append-drop n bytes ∙ sym (take-append-drop 9 bytes))
+    ∙ length_front (take 9 bytes) (drop 9 bytes) head_long in
+    sym (read_more piece rest (not_torn piece (omega (arith, long)) (omega (arith, long, same)))) ∙ ap reading (take-append-drop n bytes)
+
+pub if_err_never : {A E : Type 0} {P : Type 0} (Q : E → Type 0) (r : Result A E) → (P → ⊥) → OnErr r P → IfErr r Q
+if_err_never Q (Ok x) never h = tt
+if_err_never Q (Err x) never h = absurd (never h)
+
+pub if_err_all : {A E : Type 0} (Q : E → Type 0) (r : Result A E) → ((e : E) → Q e) → IfErr r Q
+if_err_all Q (Ok x) h = tt
+if_err_all Q (Err x) h = h x

@@ -3,7 +3,7 @@
 --     encoded                its bytes: mark, the two lengths, key, value, and the checksum of all that
 --     Outcome                what reading finds: a complete record, a torn one, or a damaged one
 --     reading, IsFound       what stands at the front of some bytes;  a complete record does
-use Rattle.std.specs.Prelude.{◌≡◌, ℕ, zero, suc, ◌+◌, ◌^◌, ◌<◌, Bool, ◌||◌, nat_lt, if◌then◌else◌, List, [], ◌∷◌, ◌++◌, length, take, drop, Option, Some, None, option_map}
+use Rattle.std.specs.Prelude.{◌≡◌, ℕ, zero, suc, ◌+◌, ◌^◌, ◌<◌, ◌≤◌, Bool, ◌||◌, nat_lt, if◌then◌else◌, List, [], ◌∷◌, ◌++◌, length, take, drop, Option, Some, None, option_map}
 use Rattle.std.specs.Int.{w32, to_le_bytes, from_le_bytes}
 use Rattle.std.specs.Str.{bytes_eq}
 use Rattle.key_index_store.specs.Checksum.{crc32}
@@ -76,6 +76,18 @@ abbrev pub IsFound : List ℕ → Outcome → Type 0
 IsFound bytes (Complete r) = Fits r × (bytes ≡ encoded r ++ drop (length (encoded r)) bytes)
 IsFound bytes Torn = Unit {0}
 IsFound bytes Damaged = Unit {0}
+
+-- no complete record stands there
+abbrev pub Stops : Outcome → Type 0
+Stops (Complete r) = ⊥
+Stops Torn = Unit {0}
+Stops Damaged = Unit {0}
+
+-- a complete record takes no more than n bytes
+abbrev pub IsWithin : ℕ → Outcome → Type 0
+IsWithin n (Complete r) = Fits r × (length (encoded r) ≤ n)
+IsWithin n Torn = Unit {0}
+IsWithin n Damaged = Unit {0}
 
 -- ---- the code's records as entries
 

@@ -2,4 +2,7 @@
 #![tactic(auto)]
 
 pub mod checksum;
+pub mod log;
+pub mod memory_log;
 pub mod record;
+pub mod store;

@@ -4,7 +4,7 @@
 //! value, and the CRC-32 of all that. Lengths and checksum are four bytes each, the lowest first.
 ghost use Rattle.std.specs.Prelude.{◌≡◌, ℕ, ◌+◌, ◌≤◌, List, ◌++◌, length, drop, take, option_map, IfOk};
 ghost use Rattle.std.specs.Int.{w32, from_le_bytes};
-ghost use Rattle.key_index_store.specs.Record.{Entry, Fits, encoded, body_length, reading, fields_of, outcome_of, Complete, IsFound};
+ghost use Rattle.key_index_store.specs.Record.{Entry, Fits, encoded, body_length, reading, fields_of, entry_of, outcome_of, Complete, IsFound};
 
 use crate::checksum::crc32;
 use std::alloc::{AllocError, Global};
@@ -20,6 +20,20 @@ const SUM: usize = 4;
 pub struct Record {
     pub key: Vec<u8>,
     pub value: Option<Vec<u8>>,
+}
+
+impl Record {
+    /// How many bytes the record takes.
+    pub fn length(&self) -> u64
+        requires { Fits (entry_of self.now) }
+        ensures { result ≡ length (encoded (entry_of self.now)) }
+    {
+        let value_length = match &self.value {
+            Some(value) => value.len(),
+            None => 0,
+        };
+        (HEAD + SUM) as u64 + self.key.len() as u64 + value_length as u64
+    }
 }
 
 /// What stands at the front of some bytes.
