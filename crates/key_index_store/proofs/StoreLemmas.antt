@@ -4,7 +4,7 @@
 --     left_same, left_front      after a refused call
 --     open_held, open_end        a log that is opened
 --     remove_absent              a key without a value is taken out
-use Rattle.std.proofs.Common.{◌≡◌, ℕ, ◌≤◌, Bool, true, false, cond, List, [], ◌++◌, length, take, drop, Option, Some, None, is_some, refl, sym, ap, subst, ◌∙◌, length-append, length-take, take-append-drop, arith}
+use Rattle.std.proofs.Common.{◌≡◌, ℕ, ◌≤◌, Bool, true, false, cond, List, [], ◌++◌, length, take, drop, Option, Some, None, is_some, All, refl, sym, ap, subst, ◌∙◌, length-append, length-take, take-append-drop, arith}
 use Rattle.std.proofs.lemmas.List.{append-nil, take_all, take-append-le}
 use Rattle.std.proofs.lemmas.List.Elements.{All-weaker}
 use Rattle.std.proofs.lemmas.Bool.{false≢true}
@@ -26,7 +26,7 @@ use Rattle.key_index_store.specs.declared.store.Fault.{Fault}
 use Rattle.key_index_store.specs.declared.store.Fault.TheVariants as fault
 use Rattle.key_index_store.proofs.EntryLemmas.{exact_bytes, same}
 use Rattle.key_index_store.proofs.IndexLemmas.{IsAt, filed}
-use Rattle.key_index_store.proofs.LogLemmas.{entries_there, held_more, spelled_records}
+use Rattle.key_index_store.proofs.LogLemmas.{entries_there, held_more, live_more, spelled_records}
 
 module _ {K : Type 0} (cmp : K → K → Ordering) where
   pub looked_up : (log : List ℕ) (end : ℕ) (s : View K ℕ) (key : List ℕ) → Indexes cmp (take end log) s → value_in log key (run_of cmp s key) ≡ get (held_by (take end log)) key
@@ -35,6 +35,11 @@ module _ {K : Type 0} (cmp : K → K → Ordering) where
       let run = run_of cmp s key in
       let live = All-weaker (λ p. IsLive front p × (s.slot (key_at front p) ≡ s.slot key)) (IsLive front) (λ p q. q.0) run (h.live (s.slot key)) in
       ap (λ l. value_in l key run) (sym (take-append-drop end log)) ∙ ap (find byte_cmp key) (entries_there front (drop end log) run live) ∙ h.found key
+
+  pub live_whole : (front back log : List ℕ) (s : View K ℕ) (key : List ℕ) → log ≡ front ++ back → Indexes cmp front s → All (IsLive log) (run_of cmp s key)
+  live_whole front back log s key whole h =
+      All-weaker (λ p. IsLive front p × (s.slot (key_at front p) ≡ s.slot key)) (IsLive log)
+      (λ p q. subst (λ l. IsLive l p) (sym whole) (live_more front back p q.0)) (run_of cmp s key) (h.live (s.slot key))
 
 -- a store whose log is its records alone, and what it is after one more
 pub record Written {K : Type 0} (cmp : K → K → Ordering) (old new : List ℕ) (before end : ℕ) (r : Entry) (t : View K ℕ) : Type 0 where

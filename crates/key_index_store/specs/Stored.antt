@@ -7,19 +7,22 @@
 --     with_record         after a record was appended
 --     without_tail        after what stands behind them was cut off
 --     Leaves              after a call that would have appended some bytes was refused
+--     MayRead, MayRefuse  why a call may be refused
 --     opened              a store on a log that is opened
 --     tail_of             what stands behind the last complete record
-use Rattle.std.specs.Prelude.{◌≡◌, ℕ, zero, suc, List, [], ◌∷◌, ◌++◌, length, take, drop, Option, Some, None}
-use Rattle.std.specs.FinMap.{FinMap, empty, insert, remove}
+use Rattle.std.specs.Prelude.{◌≡◌, ◌⊎◌, ◌<◌, ◌-◌, ◌^◌, ℕ, zero, suc, List, [], ◌∷◌, ◌++◌, length, take, drop, Option, Some, None}
+use Rattle.std.specs.FinMap.{FinMap, empty, get, insert, len, remove}
 use Rattle.std.specs.List.{flat_map, fold}
 use Rattle.key_index_flat.specs.FullKeys.{byte_cmp}
+use Rattle.key_index_flat.specs.declared.index.Fault as index
+use Rattle.key_index_flat.specs.declared.index.Fault.TheVariants as index_fault
 use Rattle.key_index_store.specs.Log.{IsBegun}
 use Rattle.key_index_store.specs.declared.store.Fault.{Fault}
-use Rattle.key_index_store.specs.declared.store.Fault.TheVariants.{WriteFailed}
+use Rattle.key_index_store.specs.declared.store.Fault.TheVariants as fault
 use Rattle.key_index_store.specs.declared.store.Tail.{Tail}
 use Rattle.key_index_store.specs.declared.store.Tail.TheVariants.{Nothing}
 use Rattle.key_index_store.specs.declared.store.Tail.TheVariants as tail
-use Rattle.key_index_store.specs.Record.{Entry, Outcome, Complete, Torn, Damaged, encoded, reading}
+use Rattle.key_index_store.specs.Record.{Entry, Fits, Outcome, Complete, Torn, Damaged, encoded, reading}
 
 abbrev pub Values : Type 0
 Values = FinMap byte_cmp (List ℕ)
@@ -68,11 +71,31 @@ without_tail s = record { log = take s.end s.log; end = s.end }
 
 -- a failed write may have appended some of the bytes; another refusal leaves the log
 abbrev pub LeavesLog : Fault → List ℕ → List ℕ → List ℕ → Type 0
-LeavesLog WriteFailed old bytes new = IsBegun old bytes new
-LeavesLog fault old bytes new = new ≡ old
+LeavesLog fault.WriteFailed old bytes new = IsBegun old bytes new
+LeavesLog f old bytes new = new ≡ old
 
 abbrev pub Leaves : Fault → Stored → List ℕ → Stored → Type 0
-Leaves fault old bytes new = (new.end ≡ old.end) × LeavesLog fault old.log bytes new.log
+Leaves f old bytes new = (new.end ≡ old.end) × LeavesLog f old.log bytes new.log
+
+-- what the index refused
+abbrev pub refusal_of : index.Fault → Fault
+refusal_of index_fault.Memory = fault.Memory
+refusal_of index_fault.Full = fault.Full
+refusal_of index_fault.TooFar = fault.Full
+
+-- why a call may be refused that only reads
+abbrev pub MayRead : Fault → Type 0
+MayRead f = (f ≡ fault.Memory) ⊎ (f ≡ fault.ReadFailed)
+
+-- why a call may be refused that would append a record. Each of the others may come at any time
+abbrev pub MayRefuse : Stored → Entry → Fault → Type 0
+MayRefuse s r fault.TooLong = ¬ Fits r
+MayRefuse s r fault.Tail = s.end < length s.log
+MayRefuse s r fault.Full = (get (held s) r.key ≡ None) × (len (held s) ≡ 2 ^ 64 - 1)
+MayRefuse s r fault.Changed = ⊥
+MayRefuse s r fault.Memory = Unit {0}
+MayRefuse s r fault.ReadFailed = Unit {0}
+MayRefuse s r fault.WriteFailed = Unit {0}
 
 -- by what is read at the front of the rest of a log
 abbrev pub tail_by : List ℕ → Outcome → Tail

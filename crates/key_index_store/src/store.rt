@@ -1,11 +1,11 @@
 //! The store.
-ghost use Rattle.std.specs.Prelude.{◌≡◌, ◌⊎◌, ◌<◌, ◌≤◌, ◌^◌, ◌-◌, ℕ, List, [], ◌++◌, if◌then◌else◌, length, take, drop, slice_get, false, Some, None, is_some, IsSome, IfSome, IfOk, IfErr, OnOk, OnErr};
+ghost use Rattle.std.specs.Prelude.{◌≡◌, ◌⊎◌, ◌<◌, ◌≤◌, ◌^◌, ◌-◌, ℕ, List, [], ◌++◌, if◌then◌else◌, length, take, drop, slice_get, false, Some, None, is_some, All, IsSome, IfSome, IfOk, IfErr, OnOk, OnErr};
 ghost use Rattle.std.specs.FinMap as map;
 ghost use Rattle.std.specs.Option.{option_map};
-ghost use Rattle.key_index_flat.specs.View.{run_of, with_edit, with_pruned};
+ghost use Rattle.key_index_flat.specs.View.{growth_fault_in, run_of, with_edit, with_pruned};
 ghost use Rattle.key_index_store.specs.Indexed.{Indexes, IsLive, KeepsLists, Settles, key_at, value_in, without_newest};
 ghost use Rattle.key_index_store.specs.Record.{Complete, Fits, IsFound, IsWithin, Stops, encoded, entry_of, outcome_of, reading};
-ghost use Rattle.key_index_store.specs.Stored.{Leaves, LeavesLog, held, held_by, opened, tail_of, with_record, without_tail};
+ghost use Rattle.key_index_store.specs.Stored.{Leaves, LeavesLog, MayRead, MayRefuse, refusal_of, held, held_by, opened, tail_of, with_record, without_tail};
 
 use crate::log::Log;
 use crate::record::{HEAD, Reading, Record, decode, encode, record_length};
@@ -70,7 +70,7 @@ pub struct Store<L: Log, I: Unordered<Value = u64>> {
 fn read_bytes<L: Log>(alloc: Global, log: &L, position: u64, count: u64) -> Result<Vec<u8>, Fault>
     ensures told { L.is_honest → IfOk result (λ v. v.items ≡ take count (drop position (L.content log.now))) }
     ensures counted { IfOk result (λ v. length v.items ≡ count) }
-    ensures fault { IfErr result (λ f. (f ≡ Fault.Memory) ⊎ (f ≡ Fault.ReadFailed)) }
+    ensures fault { IfErr result MayRead }
 {
     let mut bytes = vec![in alloc; 0; count as usize]?;
     match log.read(position, bytes.as_mut_slice()) {
@@ -99,7 +99,7 @@ fn read_record<L: Log>(alloc: Global, log: &L, position: u64, len: u64) -> Resul
     ensures found { L.is_honest → len ≡ length (L.content log.now)
         → IfOk result (λ r. IsFound (drop position (L.content log.now)) (outcome_of r)) }
     ensures within { IfOk result (λ r. IsWithin (len - position) (outcome_of r)) }
-    ensures fault { IfErr result (λ f. (f ≡ Fault.Memory) ⊎ (f ≡ Fault.ReadFailed)) }
+    ensures fault { IfErr result MayRead }
 {
     let rest = len.saturating_sub(position);
     if rest < HEAD as u64 {
@@ -124,8 +124,10 @@ fn live_record<L: Log>(
     position: u64,
     len: u64,
 ) -> Result<(Vec<u8>, Vec<u8>), Fault>
-    ensures { L.is_honest → len ≡ length (L.content log.now) → IfOk result (λ r.
+    ensures told { L.is_honest → len ≡ length (L.content log.now) → IfOk result (λ r.
         reading (drop position (L.content log.now)) ≡ Complete (record { key = r.0.items; value = Some r.1.items })) }
+    ensures fault { L.is_honest → len ≡ length (L.content log.now)
+        → IsLive (L.content log.now) position → IfErr result MayRead }
 {
     let Reading::Complete(record) = read_record(alloc, log, position, len)? else {
         return Err(Fault::Changed);
@@ -150,6 +152,7 @@ fn find<L: Log>(
     ensures at { L.is_honest → IfOk result (λ o. IfSome o (λ f.
         option_map (key_at (L.content log.now)) (slice_get positions.entry f.place) ≡ Some key.now)) }
     ensures within { IfOk result (λ o. IfSome o (λ f. f.place < length positions.entry)) }
+    ensures fault { L.is_honest → All (IsLive (L.content log.now)) positions.entry → IfErr result MayRead }
 {
     let len = log.len();
     let mut place = 0;
@@ -176,6 +179,7 @@ fn settle<I: Unordered<Value = u64>>(
         (I.view index.old) key.now has_value place position (I.view index.new)) }
     ensures refused { OnErr result (I.view index.new ≡ I.view index.old) }
     ensures sure { OnErr result (place ≡ None) }
+    ensures fault { IfErr result (λ f. f ≡ refusal_of (growth_fault_in (I.view index.old))) }
 {
     let slot = index.slot_of(key);
     match place {
@@ -194,7 +198,9 @@ fn settle<I: Unordered<Value = u64>>(
 }
 
 /// Why the store refuses what the index refused.
-fn fault_of(refused: Refused<u64>) -> Fault {
+fn fault_of(refused: Refused<u64>) -> Fault
+    ensures { result ≡ refusal_of refused.fault }
+{
     match refused.fault {
         index::Fault::Memory => Fault::Memory,
         index::Fault::Full | index::Fault::TooFar => Fault::Full,
@@ -224,7 +230,9 @@ fn file<L: Log, I: Unordered<Value = u64>>(
     entry: &Record,
     position: u64,
 ) -> Result<(), Fault>
-    ensures { (front back : List ℕ) → L.is_honest → L.content log.now ≡ front ++ back → position ≡ length front
+    ensures fault { (front back : List ℕ) → L.is_honest → L.content log.now ≡ front ++ back
+        → Indexes I.Key.cmp front (I.view index.old) → IfErr result (λ f. MayRead f ⊎ (f ≡ Fault.Full)) }
+    ensures filed { (front back : List ℕ) → L.is_honest → L.content log.now ≡ front ++ back → position ≡ length front
         → Fits (entry_of entry.now) → Indexes I.Key.cmp front (I.view index.old)
         → OnOk result (Indexes I.Key.cmp (front ++ encoded (entry_of entry.now)) (I.view index.new)) }
 {
@@ -251,6 +259,8 @@ fn write<L: Log, I: Unordered<Value = u64>>(
     ensures settled { OnOk result (Settles I.Key.cmp I.INSERT_FIRST
         (I.view index.old) key.now has_value place position (I.view index.new)) }
     ensures refused { OnErr result (KeepsLists (I.view index.old) (I.view index.new)) }
+    ensures fault { IfErr result (λ f. (f ≡ Fault.WriteFailed)
+        ⊎ ((place ≡ None) × (f ≡ refusal_of (growth_fault_in (I.view index.old))))) }
 {
     if place.is_none() {
         settle(index, key, has_value, place, position)?;
@@ -278,6 +288,7 @@ fn replay<L: Log, I: Unordered<Value = u64>>(
     ensures end { L.is_honest → IfOk result (λ r. r.0 ≤ length (L.content log.now)) }
     ensures tail { L.is_honest → IfOk result (λ r. r.1 ≡ tail_of (drop r.0 (L.content log.now))) }
     ensures stops { L.is_honest → IfOk result (λ r. Stops (reading (drop r.0 (L.content log.now)))) }
+    ensures fault { L.is_honest → IfErr result (λ f. MayRead f ⊎ (f ≡ Fault.Full)) }
 {
     let len = log.len();
     let mut end = 0;
@@ -315,6 +326,7 @@ impl<L: Log, I: Unordered<Value = u64>> Store<L, I> {
         ensures opened { L.is_honest → IfOk result (λ r. r.0 ≡ opened (L.content log)) }
         ensures held { L.is_honest → IfOk result (λ r. held r.0 ≡ held_by (L.content log)) }
         ensures tail { L.is_honest → IfOk result (λ r. r.1 ≡ tail_of (drop r.0.end (L.content log))) }
+        ensures fault { L.is_honest → IfErr result (λ f. MayRead f ⊎ (f ≡ Fault.Full)) }
     {
         let (end, tail) = replay(alloc, &log, &mut index)?;
         Ok((
@@ -337,7 +349,9 @@ impl<L: Log, I: Unordered<Value = u64>> Store<L, I> {
 
     /// The value of a key.
     pub fn get(&self, key: &[u8]) -> Result<Option<Vec<u8>>, Fault>
-        ensures { L.is_honest → IfOk result (λ o. option_map (λ v. v.items) o ≡ map.get (held self.now) key.now) }
+        ensures value { L.is_honest → IfOk result (λ o.
+            option_map (λ v. v.items) o ≡ map.get (held self.now) key.now) }
+        ensures fault { L.is_honest → IfErr result MayRead }
     {
         match find(self.alloc, &self.log, self.index.get(key), key)? {
             Some(found) => Ok(Some(found.value)),
@@ -353,6 +367,8 @@ impl<L: Log, I: Unordered<Value = u64>> Store<L, I> {
         ensures refused { L.is_honest → OnErr result (held self.new ≡ held self.old) }
         ensures left { L.is_honest → IfErr result (λ f.
             Leaves f self.old (encoded (record { key = key.now; value = Some value.now })) self.new) }
+        ensures fault { L.is_honest → IfErr result
+            (MayRefuse self.old (record { key = key.now; value = Some value.now })) }
     {
         if key.len() > u32::MAX as usize || value.len() > u32::MAX as usize {
             return Err(Fault::TooLong);
@@ -385,6 +401,7 @@ impl<L: Log, I: Unordered<Value = u64>> Store<L, I> {
         ensures refused { L.is_honest → OnErr result (held self.new ≡ held self.old) }
         ensures left { L.is_honest → IfErr result (λ f.
             Leaves f self.old (encoded (record { key = key.now; value = None })) self.new) }
+        ensures fault { L.is_honest → IfErr result (MayRefuse self.old (record { key = key.now; value = None })) }
     {
         if key.len() > u32::MAX as usize {
             return Err(Fault::TooLong);

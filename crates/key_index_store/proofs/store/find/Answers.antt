@@ -14,7 +14,7 @@ returns-then-eq-clause-found g c = λ h.
     let road = YieldsList-from_first (λ x. x.now) (λ values. values) all refl in
     let turn = YieldsList-turn road c.loop-position.yielded _ c.loop-position.yielded_by _ _ c.in-Some.position c.in-Some.is c.next.ensures.steps in
     let so_far = YieldsList-so_far road c.loop-position.yielded _ c.loop-position.yielded_by in
-    let entry = ap parts_of (c.in_ok-full_key.ensures h (c.len-len.ensures h)) in
+    let entry = ap parts_of (c.in_ok-full_key.ensures.told h (c.len-len.ensures h)) in
     let own = ap (λ e. bytes_eq e.0 key) entry ∙ (λ i. bytes_eq (sym c.as_slice.ensures.value i) key) ∙ sym c.eq.ensures ∙ c.if-eq.true in
     let found = found_at (entry_at log) key all (length c.loop-position.yielded) c.in-Some.position.now turn.0 turn.1 (ap (value_in log key) (sym so_far) ∙ c.loop-position.invariant.none h) own in
     sym (ap (value_in log key) (sym c.into_iter-position-iterator.ensures.into_iter_gives) ∙ found ∙ ap (λ e. Some e.1) entry)
@@ -26,7 +26,7 @@ returns-then-eq-clause-at g c = λ h.
     let all = c.into_iter-position-iterator.result in
     let road = YieldsList-from_first (λ x. x.now) (λ values. values) all refl in
     let turn = YieldsList-turn road c.loop-position.yielded _ c.loop-position.yielded_by _ _ c.in-Some.position c.in-Some.is c.next.ensures.steps in
-    let entry = ap parts_of (c.in_ok-full_key.ensures h (c.len-len.ensures h)) in
+    let entry = ap parts_of (c.in_ok-full_key.ensures.told h (c.len-len.ensures h)) in
     let own = ap (λ e. bytes_eq e.0 key) entry ∙ (λ i. bytes_eq (sym c.as_slice.ensures.value i) key) ∙ sym c.eq.ensures ∙ c.if-eq.true in
     (λ i. option_map (key_at log) (slice_get (sym c.into_iter-position-iterator.ensures.into_iter_gives i) (c.loop-position.invariant.counted i)))
     ∙ key_told (entry_at log) key all (length c.loop-position.yielded) c.in-Some.position.now turn.0 turn.1 own
@@ -47,7 +47,7 @@ loop-position-preserved g c =
     record {
       counted = omega (arith, long, c.loop-position.invariant.counted);
       none = λ h.
-          let entry = ap parts_of (c.in_ok-full_key.ensures h (c.len-len.ensures h)) in
+          let entry = ap parts_of (c.in_ok-full_key.ensures.told h (c.len-len.ensures h)) in
           passed_by (entry_at log) (λ p. p.now) key c.loop-position.yielded c.in-Some.position (c.loop-position.invariant.none h)
           (ap (λ e. bytes_eq e.0 key) entry ∙ (λ i. bytes_eq (sym c.as_slice.ensures.value i) key) ∙ sym c.eq.ensures ∙ c.if-eq.false);
     }

@@ -1,4 +1,4 @@
-use Rattle.std.proofs.Common.{◌≡◌, ◌+◌, ◌-◌, length, take, drop, sym, ap, subst, ◌∙◌, take-append-drop, length-take, arith}
+use Rattle.std.proofs.Common.{rules, ◌≡◌, ◌+◌, ◌-◌, length, take, drop, sym, ap, subst, ◌∙◌, take-append-drop, length-take, arith}
 use Rattle.key_index_store.specs.Indexed.{Indexes}
 use Rattle.key_index_store.specs.Record.{IsFound, IsWithin, entry_of, outcome_of}
 use Rattle.key_index_store.proofs.IndexLemmas.{indexes_none}
@@ -26,7 +26,7 @@ loop-end-preserved-in_ok-file-in-Complete g c =
           let counted = c.loop-end.invariant.counted h in
           let found = subst (IsFound (drop end content)) is (c.in_ok-record.ensures.found h counted) in
           let front : end ≡ length (take end content) = omega (arith, length-take end content, counted, c.loop-end.invariant.below) in
-          let more = c.in_ok-file-in-Complete.ensures (take end content) (drop end content) h (sym (take-append-drop end content)) front found.0 (c.loop-end.invariant.indexed h) in
+          let more = c.in_ok-file-in-Complete.ensures.filed (take end content) (drop end content) h (sym (take-append-drop end content)) front found.0 (c.loop-end.invariant.indexed h) in
           subst (λ l. Indexes g.I.Key.Ord.cmp l (g.I.Runs.view c.file.new.index))
           (sym (ap (λ n. take (end + n) content) c.length-length.ensures ∙ one_read content end r front found)) more;
     }
@@ -45,7 +45,14 @@ loop-end-preserved g c =
           let counted = c.loop-end.invariant.counted h in
           let found = subst (IsFound (drop end content)) is (c.in_ok-record.ensures.found h counted) in
           let front : end ≡ length (take end content) = omega (arith, length-take end content, counted, c.loop-end.invariant.below) in
-          let more = c.in_ok-file-in-Complete.ensures (take end content) (drop end content) h (sym (take-append-drop end content)) front found.0 (c.loop-end.invariant.indexed h) in
+          let more = c.in_ok-file-in-Complete.ensures.filed (take end content) (drop end content) h (sym (take-append-drop end content)) front found.0 (c.loop-end.invariant.indexed h) in
           subst (λ l. Indexes g.I.Key.Ord.cmp l (g.I.Runs.view c.file.new.index))
           (sym (ap (λ n. take (end + n) content) c.length-length.ensures ∙ one_read content end r front found)) more;
     }
+
+pub returns-in_err-file-in-Complete-clause-fault : goal.returns-in_err-file-in-Complete-clause-fault
+returns-in_err-file-in-Complete-clause-fault g c = λ h.
+    let content = g.L.Log.content c.args.log.now in
+    let end = c.loop-end.end in
+    let may = c.in_err-file-in-Complete.ensures.fault (take end content) (drop end content) h (sym (take-append-drop end content)) (c.loop-end.invariant.indexed h) in
+    search (rules, may)
