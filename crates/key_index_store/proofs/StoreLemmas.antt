@@ -1,0 +1,118 @@
+-- On a store: what it holds before and after a call.
+--     looked_up      the value of a key, by the positions in the index
+--     written        after a record was appended and its position filed
+--     left_same, left_front      after a refused call
+--     open_held, open_end        a log that is opened
+--     remove_absent              a key without a value is taken out
+use Rattle.std.proofs.Common.{◌≡◌, ℕ, ◌≤◌, Bool, true, false, cond, List, [], ◌++◌, length, take, drop, Option, Some, None, is_some, All, refl, sym, ap, subst, ◌∙◌, length-append, length-take, take-append-drop, arith}
+use Rattle.std.proofs.lemmas.List.{append-nil, take_all, take-append-le}
+use Rattle.std.proofs.lemmas.List.Elements.{All-weaker}
+use Rattle.std.proofs.lemmas.Bool.{false≢true}
+use Rattle.std.specs.Cmp.{IsTotalOrder}
+use Rattle.std.specs.Cmp.Lexicographic.{nat_list_cmp_total}
+use Rattle.std.specs.FinMap.{empty, find, get, remove, get-remove, same_map}
+use Rattle.std.specs.List.{flat_map, fold}
+use Rattle.std.specs.Option.{option_map}
+use Rattle.std.specs.declared.cmp.Ordering.{Ordering}
+use Rattle.std.specs.declared.cmp.Ordering.TheVariants.{Equal}
+use Rattle.key_index_flat.specs.Content.{IsLawful}
+use Rattle.key_index_flat.specs.FullKeys.{byte_cmp}
+use Rattle.key_index_flat.specs.View.{View, run_of}
+use Rattle.key_index_flat.proofs.content.ContentLemmas.{tied}
+use Rattle.key_index_store.specs.Indexed.{Indexes, IsLive, Settles, entry_at, key_at, value_in}
+use Rattle.key_index_store.specs.Record.{Entry, Fits, Stops, encoded, reading}
+use Rattle.key_index_store.specs.Stored.{LeavesLog, Stored, Values, after_record, opened, records_of, held_by, with_value}
+use Rattle.key_index_store.specs.declared.store.Fault.{Fault}
+use Rattle.key_index_store.specs.declared.store.Fault.TheVariants as fault
+use Rattle.key_index_store.proofs.EntryLemmas.{exact_bytes, same}
+use Rattle.key_index_store.proofs.IndexLemmas.{IsAt, filed}
+use Rattle.key_index_store.proofs.LogLemmas.{entries_there, held_more, live_more, spelled_records}
+
+module _ {K : Type 0} (cmp : K → K → Ordering) where
+  pub looked_up : (log : List ℕ) (end : ℕ) (s : View K ℕ) (key : List ℕ) → Indexes cmp (take end log) s → value_in log key (run_of cmp s key) ≡ get (held_by (take end log)) key
+  looked_up log end s key h =
+      let front = take end log in
+      let run = run_of cmp s key in
+      let live = All-weaker (λ p. IsLive front p × (s.slot (key_at front p) ≡ s.slot key)) (IsLive front) (λ p q. q.0) run (h.live (s.slot key)) in
+      ap (λ l. value_in l key run) (sym (take-append-drop end log)) ∙ ap (find byte_cmp key) (entries_there front (drop end log) run live) ∙ h.found key
+
+  pub live_whole : (front back log : List ℕ) (s : View K ℕ) (key : List ℕ) → log ≡ front ++ back → Indexes cmp front s → All (IsLive log) (run_of cmp s key)
+  live_whole front back log s key whole h =
+      All-weaker (λ p. IsLive front p × (s.slot (key_at front p) ≡ s.slot key)) (IsLive log)
+      (λ p q. subst (λ l. IsLive l p) (sym whole) (live_more front back p q.0)) (run_of cmp s key) (h.live (s.slot key))
+
+-- a store whose log is its records alone, and what it is after one more
+pub record Written {K : Type 0} (cmp : K → K → Ordering) (old new : List ℕ) (before end : ℕ) (r : Entry) (t : View K ℕ) : Type 0 where
+  pub within : end ≤ length new
+  pub indexed : Indexes cmp (take end new) t
+  pub held : held_by (take end new) ≡ with_value (held_by (take before old)) r.key r.value
+  pub logged : ◌≡◌ {A = Stored} (record { log = new; end = end }) (record { log = old ++ encoded r; end = length (old ++ encoded r) })
+
+module _ {K : Type 0} {cmp : K → K → Ordering} (o : IsTotalOrder cmp) (exact : (x y : K) → cmp x y ≡ Equal → x ≡ y) (first : Bool) where
+  pub written : (old new : List ℕ) (end newer : ℕ) (r : Entry) (fits : Fits r) (s t : View K ℕ) → IsLawful cmp s.content → IsLawful cmp t.content → Indexes cmp (take end old) s → end ≡ length old
+      → (positions : List ℕ) → positions ≡ run_of cmp s r.key → (b : Bool) → b ≡ is_some r.value → (place : Option ℕ) → IsAt (entry_at old) r.key positions place
+      → Settles cmp first s r.key b place end t → new ≡ old ++ encoded r → newer ≡ length new → Written cmp old new end newer r t
+  written old new end newer r fits s t hs ht h none positions run b has place at is appended length_is =
+      let all : take end old ≡ old = take_all end old (omega (arith, none)) in
+      let indexed : Indexes cmp old s = subst (λ l. Indexes cmp l s) all h in
+      let longer = filed o exact first old [] old r fits s t hs ht indexed (sym (append-nil old)) r.key positions refl run b has place at end none is in
+      let whole : take newer new ≡ old ++ encoded r = take_all newer new (omega (arith, length_is)) ∙ appended in
+      record {
+        within = omega (arith, length_is);
+        indexed = subst (λ l. Indexes cmp l t) (sym whole) longer;
+        held = ap held_by whole ∙ held_more old r (record { spelled = indexed.spelled; fit = indexed.fit }) fits ∙ ap (λ l. with_value (held_by l) r.key r.value) (sym all);
+        logged = λ i. record { log = appended i; end = (length_is ∙ ap (λ l. length l) appended) i };
+      }
+
+-- ---- a refused call
+
+pub left_same : (f : Fault) (old bytes : List ℕ) → LeavesLog f old bytes old
+left_same fault.Memory old bytes = refl
+left_same fault.Full old bytes = refl
+left_same fault.TooLong old bytes = refl
+left_same fault.ReadFailed old bytes = refl
+left_same fault.WriteFailed old bytes = (0, sym (append-nil old))
+left_same fault.Tail old bytes = refl
+left_same fault.Changed old bytes = refl
+
+-- the log begins as before
+pub left_front : (f : Fault) (old bytes new : List ℕ) (end : ℕ) → end ≤ length old → LeavesLog f old bytes new → (end ≤ length new) × (take end new ≡ take end old)
+left_front fault.Memory old bytes new end le h = (omega (arith, ap (λ l. length l) h, le), ap (take end) h)
+left_front fault.Full old bytes new end le h = (omega (arith, ap (λ l. length l) h, le), ap (take end) h)
+left_front fault.TooLong old bytes new end le h = (omega (arith, ap (λ l. length l) h, le), ap (take end) h)
+left_front fault.ReadFailed old bytes new end le h = (omega (arith, ap (λ l. length l) h, le), ap (take end) h)
+left_front fault.WriteFailed old bytes new end le h =
+    (omega (arith, ap (λ l. length l) h.1, length-append old (take h.0 bytes), le), ap (take end) h.1 ∙ take-append-le end old (take h.0 bytes) le)
+left_front fault.Tail old bytes new end le h = (omega (arith, ap (λ l. length l) h, le), ap (take end) h)
+left_front fault.Changed old bytes new end le h = (omega (arith, ap (λ l. length l) h, le), ap (take end) h)
+
+-- ---- a key that has no value
+
+pub remove_absent : (m : Values) (k : List ℕ) → get m k ≡ None → m ≡ remove m k
+remove_absent m k none = same_map nat_list_cmp_total exact_bytes m (remove m k) (λ a.
+    elim (same a k) as (λ b. same a k ≡ b → get m a ≡ cond b None (get m a)) [
+      | true ↦ λ e. ap (get m) (exact_bytes a k (tied _ e)) ∙ none
+      | false ↦ λ e. refl
+    ] refl
+    ∙ sym (get-remove nat_list_cmp_total m k a))
+
+pub mapped_none : {A B : Type 0} (f : A → B) (o : Option A) → is_some (option_map f o) ≡ false → o ≡ None
+mapped_none f None e = refl
+mapped_none f (Some x) e = absurd (false≢true (sym e))
+
+-- ---- a log that is opened
+
+module _ {K : Type 0} (cmp : K → K → Ordering) (log : List ℕ) (end : ℕ) (s : View K ℕ) (within : end ≤ length log) (h : Indexes cmp (take end log) s) (stops : Stops (reading (drop end log))) where
+  open_records : records_of log ≡ records_of (take end log)
+  open_records =
+      ap records_of (sym (take-append-drop end log) ∙ ap (λ l. l ++ drop end log) (sym h.spelled))
+      ∙ spelled_records (records_of (take end log)) (drop end log) h.fit stops
+
+  pub open_held : held_by (take end log) ≡ held_by log
+  open_held = ap (fold after_record empty) (sym open_records)
+
+  pub open_end : ◌≡◌ {A = Stored} (record { log = log; end = end }) (opened log)
+  open_end =
+      let size : end ≡ length (flat_map encoded (records_of log)) =
+      sym (ap (λ rs. length (flat_map encoded rs)) open_records ∙ ap (λ l. length l) h.spelled ∙ omega (arith, length-take end log, within)) in
+      λ i. record { log = log; end = size i }

@@ -1,0 +1,7 @@
+use Rattle.std.proofs.Common.{◌≡◌, take}
+use Rattle.std.specs.List.{fold}
+use Rattle.key_index_store.specs.Checksum.{after_byte}
+use Rattle.key_index_store.proofs.checksum.crc32.Given as goal
+
+abbrev pub invariant-loop-byte : goal.invariant-loop-byte
+invariant-loop-byte l = l.register ≡ fold after_byte 0xFFFFFFFF (take l.byte-index l.bytes)

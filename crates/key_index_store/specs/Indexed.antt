@@ -1,0 +1,59 @@
+-- An index of positions in a log. A position is live where the log has a complete record with a value.
+--     entry_at, key_at      the key and the value of the record at a position
+--     IsLive                a position is live
+--     value_in              the value of the first record in a list of positions that has a key
+--     Indexes               the log is complete records, and the index has the position of each key's newest one that has a value, once,
+--                           under the index key of the key
+--     Settles               after the position of a key's newest record was filed: in the place of the older one, or as a new one
+--     KeepsLists            no list is another
+use Rattle.std.specs.Prelude.{◌≡◌, ◌-◌, ℕ, Bool, true, false, List, [], map, length, drop, remove, slice_set, Option, Some, None, All}
+use Rattle.std.specs.FinMap.{find, get, len}
+use Rattle.std.specs.List.{flat_map, IsDistinct}
+use Rattle.std.specs.Ordering.{eq_by_cmp}
+use Rattle.std.specs.declared.cmp.Ordering.{Ordering}
+use Rattle.key_index_flat.specs.FullKeys.{byte_cmp}
+use Rattle.key_index_flat.specs.View.{View, after_insert, items_in, run_at, run_of, with_edit, with_pruned}
+use Rattle.key_index_store.specs.Record.{Fits, Outcome, Complete, Torn, Damaged, bytes_of, encoded, reading}
+use Rattle.key_index_store.specs.Stored.{held_by, records_of}
+
+abbrev pub parts_of : Outcome → List ℕ × List ℕ
+parts_of (Complete r) = (r.key, bytes_of r.value)
+parts_of Torn = ([], [])
+parts_of Damaged = ([], [])
+
+module _ (log : List ℕ) where
+  abbrev pub entry_at : ℕ → List ℕ × List ℕ
+  entry_at p = parts_of (reading (drop p log))
+
+  abbrev pub key_at : ℕ → List ℕ
+  key_at p = (entry_at p).0
+
+  abbrev pub IsLive : ℕ → Type 0
+  IsLive p = reading (drop p log) ≡ Complete (record { key = (entry_at p).0; value = Some ((entry_at p).1) })
+
+  abbrev pub value_in : List ℕ → List ℕ → Option (List ℕ)
+  value_in key ps = find byte_cmp key (map entry_at ps)
+
+module _ {K : Type 0} (cmp : K → K → Ordering) where
+  pub record Indexes (log : List ℕ) (s : View K ℕ) : Type 0 where
+    pub spelled : flat_map encoded (records_of log) ≡ log
+    pub fit : All Fits (records_of log)
+    pub live : (k : K) → All (λ p. IsLive log p × (s.slot (key_at log p) ≡ k)) (run_at cmp s k)
+    pub once : (k : K) → IsDistinct (eq_by_cmp byte_cmp) (map (key_at log) (run_at cmp s k))
+    pub found : (key : List ℕ) → value_in log key (run_of cmp s key) ≡ get (held_by log) key
+    pub counted : items_in s ≡ len (held_by log)
+
+  -- has_value: the record is no deletion
+  abbrev pub Settles : Bool → View K ℕ → List ℕ → Bool → Option ℕ → ℕ → View K ℕ → Type 0
+  Settles first s key true (Some place) position t = t ≡ with_edit cmp s (s.slot key) (λ l. slice_set l place position)
+  Settles first s key true None position t = t ≡ after_insert cmp first s key position
+  Settles first s key false (Some place) position t = t ≡ with_pruned (with_edit cmp s (s.slot key) (λ l. remove l place)) 1
+  Settles first s key false None position t = t ≡ s
+
+-- without the newest position of a list
+abbrev pub without_newest : Bool → List ℕ → List ℕ
+without_newest true l = remove l 0
+without_newest false l = remove l (length l - 1)
+
+abbrev pub KeepsLists : {K : Type 0} → View K ℕ → View K ℕ → Type 0
+KeepsLists s t = (t.content ≡ s.content) × (t.slot ≡ s.slot)
