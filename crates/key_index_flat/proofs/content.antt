@@ -3,3 +3,5 @@ pub mod ChainLemmas
 pub mod KeyLemmas
 pub mod EditLemmas
 pub mod ValueLemmas
+pub mod PairLemmas
+pub mod TagLemmas

@@ -11,14 +11,15 @@ ghost use Rattle.key_index_flat.specs.Values.{values_of, VisitsEach};
 mod chains;
 mod heads;
 mod older;
+mod small_map;
 
 use super::implement::Retained;
 use super::{Refused, Values};
 use crate::translator::Translator;
 use chains::Chains;
 use heads::{Heads, OrderedHeads};
+pub(crate) use small_map::SmallMap;
 use std::alloc::Global;
-use std::collections::HashMap;
 use std::marker::Model;
 
 /// A flat index over any map of newest values: a translator, the chains, and the counts. Contracts see all of it but the count of
@@ -56,7 +57,7 @@ impl<T: Translator, V: Drop, M: Heads<T::Key, V>> Storage<T, V, M> {
         }
     }
 
-    #[inline]
+    #[inline(always)]
     pub(crate) fn slot_of(&self, key: &[u8]) -> T::Key
         ensures { result ≡ T.translated self.now.translator key.now }
     {
@@ -78,7 +79,7 @@ impl<T: Translator, V: Drop, M: Heads<T::Key, V>> Storage<T, V, M> {
         self.chains.value_at(slot, place)
     }
 
-    #[inline]
+    #[inline(always)]
     pub(crate) fn list_at(&self, slot: T::Key) -> Values<'_, V>
         ensures { result ≡ list_at T.Key.cmp self.now.content slot }
     {
@@ -322,7 +323,7 @@ impl<T: Translator, V: Drop, M: OrderedHeads<T::Key, V>> Storage<T, V, M> {
     }
 }
 
-impl<T: Translator, V: Drop> Storage<T, V, HashMap<T::Key, V>> {
+impl<T: Translator, V: Drop> Storage<T, V, SmallMap<T::Key, V>> {
     /// Calls a closure once on each value.
     #[inline]
     pub(crate) fn for_each_value<F: FnMut(&V)>(&self, visit: &mut F)

@@ -15,6 +15,7 @@ use super::heads::{Heads, OrderedHeads};
 use super::older::{
     Older, insert_older, older_of, pop_older, remove_older, retain_older, set_older, take_older,
 };
+use super::small_map::SmallMap;
 use crate::index::Values;
 use crate::index::values::visit_in_turn;
 use crate::translator::Translator;
@@ -59,7 +60,7 @@ impl<T: Translator, V: Drop, M: Heads<T::Key, V>> Chains<T, V, M> {
         self.alloc
     }
 
-    #[inline]
+    #[inline(always)]
     pub(super) fn get(&self, slot: T::Key) -> Values<'_, V>
         ensures { result ≡ list_at T.Key.cmp self.now slot }
     {
@@ -343,7 +344,24 @@ fn visit_all<K: Ord + Hash + Copy, V, F: FnMut(&V)>(
     }
 }
 
-impl<T: Translator, V: Drop> Chains<T, V, HashMap<T::Key, V>> {
+/// What `visit_all` does, of newest values in an array.
+fn visit_few<K: Ord + Hash + Copy, V, F: FnMut(&V)>(
+    heads: &[(K, V)],
+    older: &Older<K, V>,
+    visit: &mut F,
+)
+    requires callable { F.IsAlwaysCallable visit.old }
+    requires linked { IsLinked K.cmp heads.now (older_at K.eq older.now) }
+    ensures visits { VisitsEach (CalledAt F.FnMut) visit.old
+        (values_of (stored K.cmp K.eq heads.now older.now)) visit.new }
+    ensures callable { F.IsAlwaysCallable visit.new }
+{
+    for (key, newest) in heads.iter() {
+        visit_in_turn(Values::newest_first(newest, older_of(older, *key)), visit);
+    }
+}
+
+impl<T: Translator, V: Drop> Chains<T, V, SmallMap<T::Key, V>> {
     /// Calls a closure once on each value.
     #[inline]
     pub(super) fn for_each_value<F: FnMut(&V)>(&self, visit: &mut F)
@@ -351,6 +369,9 @@ impl<T: Translator, V: Drop> Chains<T, V, HashMap<T::Key, V>> {
         ensures visits { VisitsEach (CalledAt F.FnMut) visit.old (values_of self.now) visit.new }
         ensures callable { F.IsAlwaysCallable visit.new }
     {
-        visit_all(&self.heads, &self.older, visit);
+        match &self.heads.many {
+            Some(map) => visit_all(map, &self.older, visit),
+            None => visit_few(self.heads.few.as_slice(), &self.older, visit),
+        }
     }
 }

@@ -26,6 +26,8 @@ pub(crate) trait Heads<K: Ord + Hash + Copy, V> {
     /// Puts a value at a key, and answers the one that stood there. A refusal, which comes at an absent key alone, hands the
     /// value back.
     fn insert(&mut self, key: K, value: V) -> Result<Option<V>, V>
+    where
+        V: Drop,
         ensures old { IfOk result (λ old. old ≡ value_of K.cmp (entries self.old) key) }
         ensures sets { OnOk result (Sets K.cmp (entries self.old) (entries self.new) key (Some value)) }
         ensures len { IfOk result (λ old.
@@ -63,13 +65,16 @@ impl<K: Ord + Hash + Copy, V> Heads<K, V> for HashMap<K, V> {
         HashMap::len(self)
     }
 
-    #[inline]
+    #[inline(always)]
     fn get(&self, key: &K) -> Option<&V> {
         HashMap::get(self, key)
     }
 
     #[inline]
-    fn insert(&mut self, key: K, value: V) -> Result<Option<V>, V> {
+    fn insert(&mut self, key: K, value: V) -> Result<Option<V>, V>
+    where
+        V: Drop,
+    {
         match HashMap::insert(self, key, value) {
             Ok(old) => Ok(old),
             Err(failed) => {
@@ -136,7 +141,10 @@ impl<K: Ord + Hash + Copy, V> Heads<K, V> for BTreeMap<K, V> {
     }
 
     #[inline]
-    fn insert(&mut self, key: K, value: V) -> Result<Option<V>, V> {
+    fn insert(&mut self, key: K, value: V) -> Result<Option<V>, V>
+    where
+        V: Drop,
+    {
         match BTreeMap::insert(self, key, value) {
             Ok(old) => Ok(old),
             Err(failed) => {

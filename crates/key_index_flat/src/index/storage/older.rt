@@ -28,7 +28,7 @@ fn values_in<K: Ord + Hash + Copy, V>(map: &HashMap<K, Vec<V>>, key: K) -> &[V]
 }
 
 /// The older values of a key, the oldest first. Where no key has any, it looks nothing up.
-#[inline]
+#[inline(always)]
 pub(super) fn older_of<K: Ord + Hash + Copy, V>(older: &Older<K, V>, key: K) -> &[V]
     ensures values { result.now ≡ older_at K.eq older.now key }
     ensures small { length result.now < usize.MAX }

@@ -175,7 +175,7 @@ impl<T: Translator, V: Drop, X: Part<T, V> + Drop> Parts<T, V, X> {
         }
     }
 
-    #[inline]
+    #[inline(always)]
     pub(super) fn get(&self, slot: (usize, T::Key)) -> Values<'_, V>
         requires { slot.0 < length self.now.contents }
         ensures { result ≡ list_in T.Key.cmp self.now.contents slot }

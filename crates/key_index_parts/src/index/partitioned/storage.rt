@@ -245,7 +245,7 @@ impl<T: Translator, V: Drop, X: Part<T, V> + Drop, const P: usize> Storage<T, V,
         self.moves.move_back(moved);
     }
 
-    #[inline]
+    #[inline(always)]
     pub(super) fn slot_of(&self, key: &[u8]) -> (usize, T::Key)
         ensures slot { result ≡ slot_by P (T.translated self.now.translator) key.now }
         ensures within { result.0 < partition_count P }
@@ -292,7 +292,7 @@ impl<T: Translator, V: Drop, X: Part<T, V> + Drop, const P: usize> Storage<T, V,
         self.parts.list_at(slot)
     }
 
-    #[inline]
+    #[inline(always)]
     pub(super) fn get(&self, slot: (usize, T::Key)) -> Values<'_, V>
         requires { slot.0 < length self.now.parts }
         ensures { result ≡ held_at T.Key.cmp self.now.parts slot }

@@ -74,7 +74,7 @@ impl<T: Translator, V: Drop, const P: usize> Runs for Index<T, V, P> {
 
     ghost exact = { exact_pairs nat_cmp T.Key.cmp exact_unsigned T.exact };
 
-    #[inline]
+    #[inline(always)]
     fn slot_of(&self, key: &[u8]) -> (usize, T::Key) {
         self.storage.slot_of(key)
     }
@@ -174,7 +174,7 @@ impl<T: Translator, V: Drop, const P: usize> Unordered for Index<T, V, P> {
 
     ghost reaches = { λ _ b h. prefix_reaches P b h };
 
-    #[inline]
+    #[inline(always)]
     fn get(&self, key: &[u8]) -> Values<'_, V> {
         self.storage.get(self.storage.slot_of(key))
     }

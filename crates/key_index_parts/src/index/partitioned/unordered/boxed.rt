@@ -116,7 +116,7 @@ impl<T: Translator, V: Drop> Part<T, V> for Boxed<T, V> {
         Ok(())
     }
 
-    #[inline]
+    #[inline(always)]
     fn get(&self, key: T::Key) -> Values<'_, V> {
         match &self.index {
             Some(index) => index.list_at(key),
