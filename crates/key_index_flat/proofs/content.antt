@@ -5,3 +5,4 @@ pub mod EditLemmas
 pub mod ValueLemmas
 pub mod PairLemmas
 pub mod TagLemmas
+pub mod MoveLemmas

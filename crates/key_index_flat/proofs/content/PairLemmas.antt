@@ -28,7 +28,7 @@ module _ {K V : Type 0} (eq : K → K → Bool) (k : K) where
   none_found pairs place past none = lookup-none (eq k) pairs (absent pairs (λ i e below at. none i e (omega arith) at))
 
 module _ {K V : Type 0} (test : K → Bool) where
-  apart : (pairs : List (K × V)) → AllByRecursion (λ y. test y ≡ false) (keys_of pairs) → NonePasses test pairs
+  pub apart : (pairs : List (K × V)) → AllByRecursion (λ y. test y ≡ false) (keys_of pairs) → NonePasses test pairs
   apart [] h = tt
   apart (e ∷ es) h = (h.0, apart es h.1)
 
@@ -68,7 +68,7 @@ module _ {K V : Type 0} {eq : K → K → Bool} (laws : IsEquivalence eq) where
     pub others : (q : K) → eq k q ≡ false → lookup (eq q) new ≡ lookup (eq q) old
     pub distinct : IsDistinct eq (keys_of new)
 
-  same_lookup : (k x : K) → eq k x ≡ true → (pairs : List (K × V)) → lookup (eq k) pairs ≡ lookup (eq x) pairs
+  pub same_lookup : (k x : K) → eq k x ≡ true → (pairs : List (K × V)) → lookup (eq k) pairs ≡ lookup (eq x) pairs
   same_lookup k x is pairs = ap (λ (t : K → Bool). lookup t pairs) (λ i y. laws.congr k x y is i)
 
   module _ (pairs : List (K × V)) (differ : IsDistinct eq (keys_of pairs)) where
@@ -93,7 +93,7 @@ module _ {K V : Type 0} {eq : K → K → Bool} (laws : IsEquivalence eq) where
       distinct = subst (IsDistinct eq) (sym (map-append (λ (e : K × V). e.0) pairs ((k, v) ∷ []))) (IsDistinct-push laws (keys_of pairs) k differ (sym (is_some-lookup (eq k) pairs) ∙ ap is_some none));
     }
 
-  distinct_permuted : (xs ys : List (K × V)) → IsDistinct eq (keys_of xs) → IsPermutation xs ys → IsDistinct eq (keys_of ys)
+  pub distinct_permuted : (xs ys : List (K × V)) → IsDistinct eq (keys_of xs) → IsPermutation xs ys → IsDistinct eq (keys_of ys)
   distinct_permuted xs ys differ moved = IsDistinct-IsPermutation eq laws.symm (keys_of xs) (keys_of ys) (IsPermutation-map (λ (e : K × V). e.0) xs ys moved) differ
 
   present : (q : K) (xs ys : List (K × V)) (v : V) → IsDistinct eq (keys_of ys) → IsPermutation xs ys → lookup (eq q) xs ≡ Some v → lookup (eq q) ys ≡ Some v
@@ -131,6 +131,9 @@ pub none_differ : {K V : Type 0} (eq : K → K → Bool) (pairs : List (K × V))
 unfolding IsDistinct
 none_differ {K} {V} eq pairs none = subst (λ (l : List (K × V)). IsDistinct eq (keys_of l)) (sym none) tt
 
+pub by_eq : {K V : Type 0} (eq : K → K → Bool) (cmp : K → K → Ordering) → ((x y : K) → eq x y ≡ eq_by_cmp cmp x y) → (pairs : List (K × V)) (k : K) → lookup (eq k) pairs ≡ value_of cmp pairs k
+by_eq eq cmp ties pairs k = value_by_eq eq cmp ties pairs k (lookup (eq k) pairs) refl
+
 module _ {K V : Type 0} {eq : K → K → Bool} {cmp : K → K → Ordering} (ties : (x y : K) → eq x y ≡ eq_by_cmp cmp x y) (o : IsTotalOrder cmp) (laws : IsEquivalence eq)
     (pairs now : List (K × V)) (is_now : pairs ≡ now) (differ : IsDistinct eq (keys_of pairs)) where
   sets_from : (new : List (K × V)) (k : K) (w : Option V) → Edits laws pairs new k w → Sets cmp now new k w
@@ -167,9 +170,9 @@ module _ {K V : Type 0} {eq : K → K → Bool} {cmp : K → K → Ordering} (ti
     pub differ_taken : IsDistinct eq (keys_of (swap_remove pairs place e))
     differ_taken = taking.distinct
 
-  module _ (k : K) (v : V) (none : lookup (eq k) now ≡ None) where
+  module _ (k : K) (v : V) (none : value_of cmp now k ≡ None) where
     pushing : Edits laws pairs (pairs ++ (k, v) ∷ []) k (Some v)
-    pushing = after_push laws pairs differ k v (ap (λ l. lookup (eq k) l) is_now ∙ none)
+    pushing = after_push laws pairs differ k v (ap (λ l. lookup (eq k) l) is_now ∙ by_eq eq cmp ties now k ∙ none)
 
     pub sets_pushed : Sets cmp now (pairs ++ (k, v) ∷ []) k (Some v)
     sets_pushed = sets_from _ k (Some v) pushing

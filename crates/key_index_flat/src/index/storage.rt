@@ -8,18 +8,18 @@ ghost use Rattle.key_index_flat.specs.Storage.{Kept, IsCounted, view_of};
 ghost use Rattle.key_index_flat.specs.View.{run_at, with_run, with_edit, with_pruned, with_slot, InsertsAndRetains, Retains};
 ghost use Rattle.key_index_flat.specs.Values.{values_of, VisitsEach};
 
-mod chains;
-mod heads;
+pub mod chains;
+pub mod heads;
 mod older;
-mod small_map;
+pub mod small_map;
 
 use super::implement::Retained;
 use super::{Refused, Values};
 use crate::translator::Translator;
 use chains::Chains;
 use heads::{Heads, OrderedHeads};
-pub(crate) use small_map::SmallMap;
 use std::alloc::Global;
+use std::collections::HashMap;
 use std::marker::Model;
 
 /// A flat index over any map of newest values: a translator, the chains, and the counts. Contracts see all of it but the count of
@@ -323,7 +323,7 @@ impl<T: Translator, V: Drop, M: OrderedHeads<T::Key, V>> Storage<T, V, M> {
     }
 }
 
-impl<T: Translator, V: Drop> Storage<T, V, SmallMap<T::Key, V>> {
+impl<T: Translator, V: Drop> Storage<T, V, HashMap<T::Key, V>> {
     /// Calls a closure once on each value.
     #[inline]
     pub(crate) fn for_each_value<F: FnMut(&V)>(&self, visit: &mut F)

@@ -4,10 +4,11 @@ ghost use Rattle.key_index_flat.specs.Content.{IsLawful};
 ghost use Rattle.key_index_flat.specs.Storage.{view_of};
 
 use super::implement::{Lists, Retained, show_by_place, visit_by_place};
-use super::storage::{SmallMap, Storage};
+use super::storage::Storage;
 use super::{Factory, Fault, IndexCursor, Refused, Runs, Search, Unordered, Values};
 use crate::translator::Translator;
 use std::alloc::Global;
+use std::collections::HashMap;
 use std::convert::AsSlice;
 
 /// An index over a hashed map from translated key to newest value, and another from translated key to the older values of the keys
@@ -16,7 +17,7 @@ use std::convert::AsSlice;
 /// `insert` puts a value in front of those of its key. `remove` takes no memory and never refuses.
 #[derive(Drop)]
 pub struct Index<T: Translator, V> {
-    storage: Storage<T, V, SmallMap<T::Key, V>>,
+    storage: Storage<T, V, HashMap<T::Key, V>>,
     ghost lawful: { IsLawful T.Key.cmp storage.content },
 }
 
@@ -337,7 +338,7 @@ impl<T: Translator, V: Drop> Factory for Index<T, V> {
         ensures fault { IfErr result (λ f. f ≡ Fault.Memory) }
     {
         Ok(Index {
-            storage: Storage::new(alloc, translator, SmallMap::new(alloc)),
+            storage: Storage::new(alloc, translator, HashMap::new(alloc)),
         })
     }
 }

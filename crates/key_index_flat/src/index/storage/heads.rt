@@ -14,7 +14,7 @@ use std::hash::Hash;
 use std::ops::Bound;
 
 /// A map from keys to the newest value of each.
-pub(crate) trait Heads<K: Ord + Hash + Copy, V> {
+pub trait Heads<K: Ord + Hash + Copy, V> {
     ghost entries: { Self → List (K × V) };
 
     fn len(&self) -> usize
@@ -179,7 +179,7 @@ impl<K: Ord + Hash + Copy, V> Heads<K, V> for BTreeMap<K, V> {
 }
 
 /// A map of newest values whose keys are in order. Each call takes a number of comparisons that is logarithmic in the keys.
-pub(crate) trait OrderedHeads<K: Ord + Hash + Copy, V>: Heads<K, V> {
+pub trait OrderedHeads<K: Ord + Hash + Copy, V>: Heads<K, V> {
     fn first(&self) -> Option<(&K, &V)>
         ensures entry { option_map deref_pair result ≡ first_entry (Self.entries self.now) }
         ensures rises { IsStrictlySortedBy K.cmp (keys_of (Self.entries self.now)) };

@@ -2,7 +2,7 @@
 ghost use Rattle.std.specs.Prelude.{◌≡◌, ◌+◌, ◌<◌, ◌≤◌, ◌≢◌, ℕ, [], ◌∷◌, ◌++◌, None, Some, IfOk, IfErr, IfSome, IfNone, OnOk, OnErr, List, length, slice_index, is_some, if◌then◌else◌};
 ghost use Rattle.std.specs.HashMap.{get, hash_map_len, spare};
 ghost use Rattle.std.specs.List.{IsDistinct};
-ghost use Rattle.std.specs.Map.{keys_of, lookup};
+ghost use Rattle.std.specs.Map.{keys_of, lookup, update};
 ghost use Rattle.std.specs.Option.{option_copied};
 ghost use Rattle.key_index_flat.specs.SmallMap.{tag_of, IsAt, AreTagged, AreTaggedBut, NoneBefore, entries_in};
 ghost use Rattle.key_index_flat.specs.Storage.{value_of, Sets};
@@ -73,7 +73,20 @@ fn retag<K: Hash + Copy, V>(tags: &mut [u8; 16], pairs: &[(K, V)], place: usize)
     }
 }
 
-/// Puts pairs into a hashed map that has room for them.
+/// Puts the value of a key that has none into a hashed map that has room for it.
+fn put_new<K: Ord + Hash + Copy, V: Drop>(map: &mut HashMap<K, V>, key: K, value: V)
+    requires room { 0 < spare map.old }
+    requires absent { get K.eq map.old key ≡ None }
+    ensures values { (q : K) → get K.eq map.new q ≡ update K.eq (get K.eq map.old) key (Some value) q }
+    ensures len { hash_map_len map.new ≡ hash_map_len map.old + 1 }
+    ensures room { spare map.old ≤ spare map.new + 1 }
+{
+    let Ok(None) = map.insert(key, value) else {
+        unreachable!()
+    };
+}
+
+/// Moves pairs of keys that differ into a hashed map that has room for them.
 fn move_into<K: Ord + Hash + Copy, V: Drop>(pairs: &mut Vec<(K, V)>, map: &mut HashMap<K, V>)
     requires distinct { IsDistinct K.eq (keys_of pairs.old.items) }
     requires empty { map.old.entries ≡ [] }
@@ -81,17 +94,17 @@ fn move_into<K: Ord + Hash + Copy, V: Drop>(pairs: &mut Vec<(K, V)>, map: &mut H
     ensures values { (q : K) → get K.eq map.new q ≡ lookup (K.eq q) pairs.old.items }
     ensures len { hash_map_len map.new ≡ length pairs.old.items }
     ensures room { spare map.old ≤ spare map.new + length pairs.old.items }
+    ensures moved { pairs.new.items ≡ [] }
 {
-    while let Some((key, value)) = pairs.pop() {
-        let Ok(_) = map.insert(key, value) else {
-            unreachable!()
-        };
+    while let Some(pair) = pairs.pop() {
+        let (key, value) = pair;
+        put_new(map, key, value);
     }
 }
 
 /// Up to 32 pairs of keys that differ, in no order, with a tag of each of the first sixteen keys. Contracts see the pairs.
 #[derive(Drop)]
-pub(super) struct Pairs<K: Ord + Hash + Copy, V> {
+pub struct Pairs<K: Ord + Hash + Copy, V> {
     tags: [u8; 16],
     pairs: Vec<(K, V)>,
 }
@@ -132,7 +145,7 @@ impl<K: Ord + Hash + Copy, V> Pairs<K, V> {
     #[inline(always)]
     fn place_of(&self, key: &K) -> Option<usize>
         ensures found { IfSome result (λ place. IsAt K.eq self.now place key.now) }
-        ensures none { IfNone result (lookup (K.eq key.now) self.now ≡ None) }
+        ensures none { IfNone result (value_of K.cmp self.now key.now ≡ None) }
     {
         place_from(&self.pairs, first_tagged(&self.tags, tag_of(*key)), key)
     }
@@ -161,7 +174,7 @@ impl<K: Ord + Hash + Copy, V> Pairs<K, V> {
     /// Puts in the value of a key that has none.
     #[inline]
     fn push(&mut self, key: K, value: V) -> Result<(), V>
-        requires absent { lookup (K.eq key) self.old ≡ None }
+        requires absent { value_of K.cmp self.old key ≡ None }
         requires room { length self.old < 32 }
         ensures sets { OnOk result (Sets K.cmp self.old self.new key (Some value)) }
         ensures len { OnOk result (length self.new ≡ length self.old + 1) }
@@ -193,17 +206,40 @@ impl<K: Ord + Hash + Copy, V> Pairs<K, V> {
         retag(&mut self.tags, &self.pairs, place);
         Some(value)
     }
+
+    /// The pairs, and the value of a key that has none, in a hashed map. All its memory is taken before the first pair moves.
+    #[inline(never)]
+    fn spill(&mut self, key: K, value: V) -> Result<Box<HashMap<K, V>>, V>
+    where
+        V: Drop,
+        requires { value_of K.cmp self.old key ≡ None }
+        ensures sets { IfOk result (λ map. Sets K.cmp self.old map.value.entries key (Some value)) }
+        ensures len { IfOk result (λ map. hash_map_len map.value ≡ length self.old + 1) }
+        ensures refused { OnErr result (self.new ≡ self.old) }
+        ensures returned { IfErr result (λ back. back ≡ value) }
+    {
+        let alloc = *self.pairs.allocator();
+        let Ok(map) = HashMap::with_capacity(alloc, 2 * MOST) else {
+            return Err(value);
+        };
+        let Ok(mut map) = Box::new(alloc, map) else {
+            return Err(value);
+        };
+        move_into(&mut self.pairs, &mut map);
+        put_new(&mut map, key, value);
+        Ok(map)
+    }
 }
 
 /// Keys that differ with a value each: in one array while they are few, and then in a hashed map.
 #[derive(Drop)]
-pub(crate) struct SmallMap<K: Ord + Hash + Copy, V> {
+pub struct SmallMap<K: Ord + Hash + Copy, V> {
     pub(super) few: Pairs<K, V>,
     pub(super) many: Option<Box<HashMap<K, V>>>,
 }
 
 impl<K: Ord + Hash + Copy, V> SmallMap<K, V> {
-    pub(crate) fn new(alloc: Global) -> SmallMap<K, V>
+    pub fn new(alloc: Global) -> SmallMap<K, V>
         ensures { entries_in result.few result.many ≡ [] }
     {
         SmallMap {
@@ -212,40 +248,13 @@ impl<K: Ord + Hash + Copy, V> SmallMap<K, V> {
         }
     }
 
-    /// Puts in the value of a key that has none, with all pairs in a hashed map, whose memory is taken before any of them is moved.
-    #[inline(never)]
-    fn spill(&mut self, key: K, value: V) -> Result<(), V>
-    where
-        V: Drop,
-        requires few { self.old.many ≡ None }
-        requires absent { lookup (K.eq key) self.old.few ≡ None }
-        ensures sets { OnOk result (Sets K.cmp self.old.few (entries_in self.new.few self.new.many) key (Some value)) }
-        ensures len { OnOk result (length (entries_in self.new.few self.new.many) ≡ length self.old.few + 1) }
-        ensures refused { OnErr result (entries_in self.new.few self.new.many ≡ self.old.few) }
-        ensures returned { IfErr result (λ back. back ≡ value) }
-    {
-        let alloc = *self.few.pairs.allocator();
-        let Ok(map) = HashMap::with_capacity(alloc, 2 * MOST) else {
-            return Err(value);
-        };
-        let Ok(mut map) = Box::new(alloc, map) else {
-            return Err(value);
-        };
-        move_into(&mut self.few.pairs, &mut map);
-        let Ok(_) = map.insert(key, value) else {
-            unreachable!()
-        };
-        self.many = Some(map);
-        Ok(())
-    }
-
     /// Puts in the value of a key that has none.
     #[inline]
     fn put(&mut self, key: K, value: V) -> Result<(), V>
     where
         V: Drop,
         requires few { self.old.many ≡ None }
-        requires absent { lookup (K.eq key) self.old.few ≡ None }
+        requires absent { value_of K.cmp self.old.few key ≡ None }
         ensures sets { OnOk result (Sets K.cmp self.old.few (entries_in self.new.few self.new.many) key (Some value)) }
         ensures len { OnOk result (length (entries_in self.new.few self.new.many) ≡ length self.old.few + 1) }
         ensures refused { OnErr result (entries_in self.new.few self.new.many ≡ self.old.few) }
@@ -254,7 +263,31 @@ impl<K: Ord + Hash + Copy, V> SmallMap<K, V> {
         if self.few.len() < MOST {
             return self.few.push(key, value);
         }
-        self.spill(key, value)
+        let map = self.few.spill(key, value)?;
+        self.many = Some(map);
+        Ok(())
+    }
+
+    /// `insert` while the pairs stand in the array.
+    fn insert_few(&mut self, key: K, value: V) -> Result<Option<V>, V>
+    where
+        V: Drop,
+        requires { self.old.many ≡ None }
+        ensures old { IfOk result (λ old. old ≡ value_of K.cmp self.old.few key) }
+        ensures sets { OnOk result (Sets K.cmp self.old.few (entries_in self.new.few self.new.many) key (Some value)) }
+        ensures len { IfOk result (λ old. length (entries_in self.new.few self.new.many)
+            ≡ length self.old.few + (if is_some old then 0 else 1)) }
+        ensures absent { OnErr result (value_of K.cmp self.old.few key ≡ None) }
+        ensures refused { OnErr result (entries_in self.new.few self.new.many ≡ self.old.few) }
+        ensures returned { IfErr result (λ back. back ≡ value) }
+    {
+        if let Some(place) = self.few.place_of(&key) {
+            return Ok(Some(self.few.set(place, key, value)));
+        }
+        match self.put(key, value) {
+            Ok(()) => Ok(None),
+            Err(value) => Err(value),
+        }
     }
 }
 
@@ -277,7 +310,7 @@ impl<K: Ord + Hash + Copy, V> Heads<K, V> for SmallMap<K, V> {
         }
     }
 
-    #[inline]
+    #[inline(always)]
     fn insert(&mut self, key: K, value: V) -> Result<Option<V>, V>
     where
         V: Drop,
@@ -285,16 +318,10 @@ impl<K: Ord + Hash + Copy, V> Heads<K, V> for SmallMap<K, V> {
         if let Some(map) = &mut self.many {
             return Heads::insert(&mut **map, key, value);
         }
-        if let Some(place) = self.few.place_of(&key) {
-            return Ok(Some(self.few.set(place, key, value)));
-        }
-        match self.put(key, value) {
-            Ok(()) => Ok(None),
-            Err(value) => Err(value),
-        }
+        self.insert_few(key, value)
     }
 
-    #[inline]
+    #[inline(always)]
     fn insert_absent(&mut self, key: K, value: V) -> Result<bool, V>
     where
         V: Drop,
@@ -302,7 +329,7 @@ impl<K: Ord + Hash + Copy, V> Heads<K, V> for SmallMap<K, V> {
         if let Some(map) = &mut self.many {
             return Heads::insert_absent(&mut **map, key, value);
         }
-        if self.few.place_of(&key).is_some() {
+        if self.few.get(&key).is_some() {
             return Ok(false);
         }
         match self.put(key, value) {
@@ -311,7 +338,7 @@ impl<K: Ord + Hash + Copy, V> Heads<K, V> for SmallMap<K, V> {
         }
     }
 
-    #[inline]
+    #[inline(always)]
     fn remove(&mut self, key: &K) -> Option<V> {
         match &mut self.many {
             Some(map) => Heads::remove(&mut **map, key),

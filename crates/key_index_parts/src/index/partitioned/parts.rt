@@ -200,7 +200,7 @@ impl<T: Translator, V: Drop, X: Part<T, V> + Drop> Parts<T, V, X> {
         *self.parts.allocator()
     }
 
-    #[inline]
+    #[inline(always)]
     pub(super) fn run_len(&self, slot: (usize, T::Key)) -> usize
         ensures { result ≡ length (list_in T.Key.cmp self.now.contents slot) }
     {
@@ -210,7 +210,7 @@ impl<T: Translator, V: Drop, X: Part<T, V> + Drop> Parts<T, V, X> {
         }
     }
 
-    #[inline]
+    #[inline(always)]
     pub(super) fn value_at(&self, slot: (usize, T::Key), place: usize) -> &V
         requires { place < length (list_in T.Key.cmp self.now.contents slot) }
         ensures { slice_get (list_in T.Key.cmp self.now.contents slot) place ≡ Some result.now }

@@ -269,14 +269,14 @@ impl<T: Translator, V: Drop, X: Part<T, V> + Drop, const P: usize> Storage<T, V,
         self.parts.alloc()
     }
 
-    #[inline]
+    #[inline(always)]
     pub(super) fn run_len(&self, slot: (usize, T::Key)) -> usize
         ensures { result ≡ length (held_at T.Key.cmp self.now.parts slot) }
     {
         self.parts.run_len(slot)
     }
 
-    #[inline]
+    #[inline(always)]
     pub(super) fn value_at(&self, slot: (usize, T::Key), place: usize) -> &V
         requires { place < length (held_at T.Key.cmp self.now.parts slot) }
         ensures { slice_get (held_at T.Key.cmp self.now.parts slot) place ≡ Some result.now }

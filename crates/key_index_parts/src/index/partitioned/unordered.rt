@@ -4,12 +4,12 @@ ghost use Rattle.key_index_parts.specs.Family.{IsIndex, view_of};
 ghost use Rattle.key_index_parts.specs.Gathered.{pair_cmp};
 ghost use Rattle.key_index_parts.specs.Prefix.{partition_count, partition_by, slot_by};
 
-mod boxed;
+mod chained;
 
 use super::range::Range;
 use super::storage::Storage;
 use super::{Partitioned, partition_index_and_sub_key};
-use boxed::Boxed;
+use chained::Chained;
 use key_index_flat::index::implement::{Lists, show_by_place, visit_by_place};
 use key_index_flat::index::{
     Factory, Fault, IndexCursor, Refused, Runs, Search, Unordered, Values,
@@ -25,7 +25,7 @@ use std::convert::AsSlice;
 /// up in the flat index of one partition.
 #[derive(Drop)]
 pub struct Index<T: Translator, V: Drop, const P: usize> {
-    storage: Storage<T, V, Boxed<T, V>, P>,
+    storage: Storage<T, V, Chained<T, V>, P>,
     ghost is_index: { IsIndex T.Key.cmp P storage.parts },
 }
 
@@ -58,7 +58,7 @@ impl<T: Translator, V: Drop, const P: usize> Index<T, V, P> {
 }
 
 /// Some neighbouring partitions of a partitioned unordered index, apart from it.
-pub type RangeIndex<T, V, const P: usize> = Range<T, V, Boxed<T, V>, P>;
+pub type RangeIndex<T, V, const P: usize> = Range<T, V, Chained<T, V>, P>;
 
 impl<T: Translator, V: Drop, const P: usize> Runs for Index<T, V, P> {
     ghost use Rattle.std.proofs.lemmas.Map.Lookups.{exact_pairs, exact_unsigned};

@@ -1,12 +1,16 @@
-use Rattle.std.proofs.Common.{◌≡◌, ◌+◌, ◌≤◌, ◌++◌, None, length}
-use Rattle.std.specs.HashMap.{get, hash_map_len, spare}
-use Rattle.std.specs.Option.{option_or}
-use Rattle.std.specs.Map.{lookup}
-use Rattle.key_index_flat.specs.SmallMap.{Moved}
+use Rattle.std.proofs.Common.{◌+◌, ◌≤◌, length}
+use Rattle.std.specs.HashMap.{spare}
+use Rattle.key_index_flat.proofs.content.MoveLemmas.{Moving}
 use Rattle.key_index_flat.proofs.index.storage.small_map.move_into.Given as goal
 
-abbrev pub invariant-loop-key : goal.invariant-loop-key
-invariant-loop-key g l = ?
+-- the pairs that are left fit into the map, which has the others
+abbrev pub invariant-loop-pair : goal.invariant-loop-pair
+invariant-loop-pair g l =
+    record {
+      moving : Moving g.met.K.Eq.laws l.fn.pairs.items l.pairs.items l.map.entries;
+      fits : length l.pairs.items ≤ spare l.map;
+      room : spare l.fn.map + length l.pairs.items ≤ spare l.map + length l.fn.pairs.items;
+    }
 
-abbrev pub decreases-loop-key : goal.decreases-loop-key
-decreases-loop-key g l = length l.pairs.items
+abbrev pub decreases-loop-pair : goal.decreases-loop-pair
+decreases-loop-pair g l = length l.pairs.items
