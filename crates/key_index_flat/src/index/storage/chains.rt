@@ -250,6 +250,7 @@ impl<T: Translator, V: Drop, M: Heads<T::Key, V>> Chains<T, V, M> {
             × (asks : AsksBehind (CalledAt F.FnMut) should_retain (list_at T.Key.cmp self.old slot) value kept told.1)
             × (self.new ≡ with_list T.Key.cmp self.old slot kept) × (told.2 ≡ last_answer true asks.answers)) }
         ensures had { IfOk result (λ told. told.0 ≡ length (list_at T.Key.cmp self.old slot)) }
+        ensures fits { IfOk result (λ told. told.0 < usize.MAX) }
         ensures refused { OnErr result (self.new ≡ self.old) }
         ensures returned { IfErr result (λ back. back ≡ value) }
     {
