@@ -220,11 +220,7 @@ impl<T: Translator, V: Drop, M: Heads<T::Key, V>> Chains<T, V, M> {
 
     /// Asks once on each value of the index key, in list order, takes out those that are answered false, and tells how many there were,
     /// and how many are left.
-    pub fn retain<F: FnMut(&V) -> bool>(
-        &mut self,
-        slot: T::Key,
-        should_retain: F,
-    ) -> (usize, usize)
+    pub fn retain<F: FnMut(&V) -> bool>(&mut self, slot: T::Key, should_retain: F) -> (usize, usize)
         requires callable { F.IsAlwaysCallable should_retain }
         ensures kept { (kept : List V)
             × IsFiltered (CalledAt F.FnMut) should_retain (list_at T.Key.cmp self.old slot) kept

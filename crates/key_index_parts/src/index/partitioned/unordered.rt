@@ -18,11 +18,11 @@ use key_index_flat::translator::Translator;
 use std::alloc::Global;
 use std::convert::AsSlice;
 
-/// A flat unordered index for each of `256^P` partitions that a value was ever put into. The translator shortens what follows the first
-/// `P` bytes of a key.
+/// The lists of a flat index for each of `256^P` partitions, whose newest values stand in one array up to 32 keys. The translator
+/// shortens what follows the first `P` bytes of a key.
 ///
 /// `insert` puts a value in front of those of its key. `remove` takes no memory and never refuses. A call by key looks its index key
-/// up in the flat index of one partition.
+/// up among those of one partition.
 #[derive(Drop)]
 pub struct Index<T: Translator, V: Drop, const P: usize> {
     storage: Storage<T, V, Chained<T, V>, P>,

@@ -19,8 +19,7 @@ pub invariant_of-self : goal.invariant_of-self
 invariant_of-self g c =
     let pairs = c.self.inside.pairs.items in
     let items = c.in-Ok.ensures.items in
-    let differ = differ_pushed g.met.K.Ord.matches_eq g.met.K.Ord.total g.met.K.Eq.laws pairs c.args.self.now c.self.view_is c.self.invariant.1 c.args.key c.args.value c.requires.absent in
-    (
+    let differ = differ_pushed g.met.K.Ord.matches_eq g.met.K.Ord.total g.met.K.Eq.laws pairs c.args.self.now c.self.view_is c.self.invariant.1 c.args.key c.args.value c.requires.absent in (
       omega (arith, c.requires.room, ap length c.self.view_is, c.in-Ok.ensures.len, c.self.inside.pairs.ok.0, c.push.new.self.ok.0),
       subst (λ l. IsDistinct g.K.PartialEq.eq (keys_of l)) (sym items) differ,
       subst (λ l. AreTagged g.K.Hash.hash_input c.retag.new.tags l) c.deref.ensures.value c.retag.ensures,

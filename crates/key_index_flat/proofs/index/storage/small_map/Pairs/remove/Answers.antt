@@ -20,8 +20,7 @@ pub invariant_of-self : goal.invariant_of-self
 invariant_of-self g c =
     let pairs = c.self.inside.pairs.items in
     let removed = c.swap_remove-value.ensures in
-    let differ = differ_taken g.met.K.Ord.matches_eq g.met.K.Ord.total g.met.K.Eq.laws pairs c.args.self.now c.self.view_is c.self.invariant.1 c.args.key.now c.in_ok-place.place c.in_ok-place.ensures.found c.swap_remove-value.result removed.value in
-    (
+    let differ = differ_taken g.met.K.Ord.matches_eq g.met.K.Ord.total g.met.K.Eq.laws pairs c.args.self.now c.self.view_is c.self.invariant.1 c.args.key.now c.in_ok-place.place c.in_ok-place.ensures.found c.swap_remove-value.result removed.value in (
       omega (arith, c.self.invariant.0, removed.len),
       subst (λ l. IsDistinct g.K.PartialEq.eq (keys_of l)) (sym removed.items) differ,
       subst (λ l. AreTagged g.K.Hash.hash_input c.retag.new.tags l) c.deref.ensures.value c.retag.ensures,

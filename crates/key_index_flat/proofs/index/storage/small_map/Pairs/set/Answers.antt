@@ -10,8 +10,7 @@ invariant_of-self g c =
     let pairs = c.self.inside.pairs.items in
     let e = c.index_mut.result.now in
     let w = c.replace.new.dest in
-    let at = pair_at g.met.K.Ord.matches_eq g.met.K.Ord.total g.met.K.Eq.laws pairs c.args.self.now c.self.view_is c.self.invariant.1 c.args.key c.args.place c.requires e c.index_mut.ensures.value in
-    (
+    let at = pair_at g.met.K.Ord.matches_eq g.met.K.Ord.total g.met.K.Eq.laws pairs c.args.self.now c.self.view_is c.self.invariant.1 c.args.key c.args.place c.requires e c.index_mut.ensures.value in (
       omega (arith, length-set pairs c.args.place (e.0, w), c.self.invariant.0),
       differ_at g.met.K.Ord.matches_eq g.met.K.Ord.total g.met.K.Eq.laws pairs c.args.self.now c.self.view_is c.self.invariant.1 c.args.key c.args.place c.requires e c.index_mut.ensures.value w,
       tags_set g.K.Hash.hash_input c.self.inside.tags pairs c.self.invariant.2 c.args.place e w at,
