@@ -3,3 +3,6 @@ pub mod ChainLemmas
 pub mod KeyLemmas
 pub mod EditLemmas
 pub mod ValueLemmas
+pub mod PairLemmas
+pub mod TagLemmas
+pub mod MoveLemmas

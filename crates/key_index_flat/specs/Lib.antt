@@ -3,6 +3,7 @@ pub mod Hashing
 pub mod Content
 pub mod Fault
 pub mod Storage
+pub mod SmallMap
 pub mod Cursor
 pub mod View
 pub mod IndexCursor

@@ -10,4 +10,4 @@ pub mod InstallLemmas
 pub mod PartLemmas
 pub mod StorageLemmas
 pub mod SpreadLemmas
-pub mod BoxedLemmas
+pub mod ChainedLemmas

@@ -8,9 +8,10 @@ ghost use Rattle.key_index_flat.specs.Storage.{Kept, IsCounted, view_of};
 ghost use Rattle.key_index_flat.specs.View.{run_at, with_run, with_edit, with_pruned, with_slot, InsertsAndRetains, Retains};
 ghost use Rattle.key_index_flat.specs.Values.{values_of, VisitsEach};
 
-mod chains;
-mod heads;
+pub mod chains;
+pub mod heads;
 mod older;
+pub mod small_map;
 
 use super::implement::Retained;
 use super::{Refused, Values};
@@ -56,7 +57,7 @@ impl<T: Translator, V: Drop, M: Heads<T::Key, V>> Storage<T, V, M> {
         }
     }
 
-    #[inline]
+    #[inline(always)]
     pub(crate) fn slot_of(&self, key: &[u8]) -> T::Key
         ensures { result ≡ T.translated self.now.translator key.now }
     {
@@ -78,7 +79,7 @@ impl<T: Translator, V: Drop, M: Heads<T::Key, V>> Storage<T, V, M> {
         self.chains.value_at(slot, place)
     }
 
-    #[inline]
+    #[inline(always)]
     pub(crate) fn list_at(&self, slot: T::Key) -> Values<'_, V>
         ensures { result ≡ list_at T.Key.cmp self.now.content slot }
     {

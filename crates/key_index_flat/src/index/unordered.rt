@@ -155,7 +155,7 @@ impl<T: Translator, V: Drop> Runs for Index<T, V> {
 
     ghost exact = { T.exact };
 
-    #[inline]
+    #[inline(always)]
     fn slot_of(&self, key: &[u8]) -> T::Key {
         self.storage.slot_of(key)
     }
@@ -245,7 +245,7 @@ impl<T: Translator, V: Drop> Unordered for Index<T, V> {
 
     ghost reaches = { λ _ _ _. refl };
 
-    #[inline]
+    #[inline(always)]
     fn get(&self, key: &[u8]) -> Values<'_, V> {
         self.storage.list_at(self.slot_of(key))
     }

@@ -29,7 +29,7 @@ impl<'a, V> Model for Values<'a, V> {
 
 impl<'a, V> Values<'a, V> {
     /// The items of a slice, in its order.
-    #[inline]
+    #[inline(always)]
     pub fn of_slice(values: &'a [V]) -> Values<'a, V>
         ensures { result ≡ values.now }
     {
@@ -41,7 +41,7 @@ impl<'a, V> Values<'a, V> {
     }
 
     /// The newest value, and then the older ones, which stand oldest first, from their end.
-    #[inline]
+    #[inline(always)]
     pub(crate) fn newest_first(newest: &'a V, older: &'a [V]) -> Values<'a, V>
         requires { length older.now < usize.MAX }
         ensures { result ≡ newest.now ∷ reverse older.now }

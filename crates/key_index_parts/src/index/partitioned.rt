@@ -24,7 +24,7 @@ pub use traits::{PartitionRange, Partitioned};
 
 /// The partition of a key, and the rest of the key: the big-endian number of the first `P` bytes, with zeros behind a shorter key, and
 /// the bytes behind them. It reads `P` bytes and copies none.
-#[inline]
+#[inline(always)]
 pub fn partition_index_and_sub_key<const P: usize>(key: &[u8]) -> (usize, &[u8])
     requires least { 1 ≤ P }
     requires greatest { P ≤ 3 }

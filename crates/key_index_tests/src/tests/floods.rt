@@ -4,7 +4,9 @@ use super::lists::grow_beside;
 use super::neighbours::{next_has, same_neighbour};
 use super::numbers::Numbers;
 use super::stands::{StandsWhole, Wide, has_spilled, is_inline, is_spilled};
-use key_index_flat::index::{Ordered, Unordered, Values};
+use key_index_flat::index::{Factory, Ordered, Unordered, Values};
+use key_index_flat::translator::TwoCap;
+use key_index_parts::index::partitioned::unordered;
 use std::alloc::Global;
 use std::process::Abort;
 
@@ -137,6 +139,28 @@ fn many_by_cursor<I: Ordered<Value = u64> + StandsWhole>(
     counts(rt, index, (1, 1001, 0));
 }
 
+/// So many keys of one partition come and go, the first one first. All of them are looked up after each call.
+fn come_and_go<I: Unordered<Value = u64>>(rt: &impl Abort, index: &mut I, keys: u16) {
+    for number in 0..keys {
+        inserts(rt, index, key_of(number).as_slice(), u64::from(number));
+        for held in 0..=number {
+            holds(rt, index, key_of(held).as_slice(), &[u64::from(held)]);
+        }
+        holds(rt, index, key_of(keys).as_slice(), &[]);
+    }
+    counts(rt, index, (keys.into(), keys.into(), 0));
+    for number in 0..keys {
+        removes(rt, index, key_of(number).as_slice());
+        holds(rt, index, key_of(number).as_slice(), &[]);
+        for held in number..keys {
+            if held > number {
+                holds(rt, index, key_of(held).as_slice(), &[u64::from(held)]);
+            }
+        }
+    }
+    counts(rt, index, (0, 0, keys.into()));
+}
+
 /// The thresholds that floods are tried at.
 const THRESHOLDS: [usize; 6] = [1, 2, 3, 7, 512, usize::MAX];
 
@@ -193,4 +217,12 @@ fn floods_of_keys_stand(rt: HostRuntime) {
 #[test]
 fn floods_of_values_stand(rt: HostRuntime) {
     on_wide(&rt, rt.alloc(), Flood::Values)
+}
+
+#[test]
+fn punordered_keys_come_and_go(rt: HostRuntime) {
+    for keys in [1, 16, 17, 32, 33, 70] {
+        let made = unordered::Index::<TwoCap, u64, 1>::new(rt.alloc(), TwoCap);
+        come_and_go(&rt, &mut made.expect(&rt, "new"), keys);
+    }
 }

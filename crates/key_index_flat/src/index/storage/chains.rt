@@ -15,6 +15,7 @@ use super::heads::{Heads, OrderedHeads};
 use super::older::{
     Older, insert_older, older_of, pop_older, remove_older, retain_older, set_older, take_older,
 };
+use super::small_map::SmallMap;
 use crate::index::Values;
 use crate::index::values::visit_in_turn;
 use crate::translator::Translator;
@@ -26,7 +27,7 @@ use std::marker::Model;
 /// The newest value of each index key in `heads`, and in `older` the older values of those that have any, the oldest first.
 /// Contracts see the content that they stand for.
 #[derive(Drop)]
-pub(crate) struct Chains<T: Translator, V, M: Heads<T::Key, V>> {
+pub struct Chains<T: Translator, V, M: Heads<T::Key, V>> {
     heads: M,
     older: Older<T::Key, V>,
     alloc: Global,
@@ -42,7 +43,7 @@ impl<T: Translator, V, M: Heads<T::Key, V>> Model for Chains<T, V, M> {
 
 impl<T: Translator, V: Drop, M: Heads<T::Key, V>> Chains<T, V, M> {
     /// No values, over an empty map of newest values.
-    pub(super) fn new(alloc: Global, heads: M) -> Chains<T, V, M>
+    pub fn new(alloc: Global, heads: M) -> Chains<T, V, M>
         requires { M.entries heads ≡ [] }
         ensures content { result ≡ [] }
     {
@@ -55,12 +56,12 @@ impl<T: Translator, V: Drop, M: Heads<T::Key, V>> Chains<T, V, M> {
 
     /// Where the lists take their memory.
     #[inline]
-    pub(super) fn alloc(&self) -> Global {
+    pub fn alloc(&self) -> Global {
         self.alloc
     }
 
-    #[inline]
-    pub(super) fn get(&self, slot: T::Key) -> Values<'_, V>
+    #[inline(always)]
+    pub fn get(&self, slot: T::Key) -> Values<'_, V>
         ensures { result ≡ list_at T.Key.cmp self.now slot }
     {
         match self.heads.get(&slot) {
@@ -69,8 +70,8 @@ impl<T: Translator, V: Drop, M: Heads<T::Key, V>> Chains<T, V, M> {
         }
     }
 
-    #[inline]
-    pub(super) fn run_len(&self, slot: T::Key) -> usize
+    #[inline(always)]
+    pub fn run_len(&self, slot: T::Key) -> usize
         ensures len { result ≡ length (list_at T.Key.cmp self.now slot) }
         ensures lawful { IsLawful T.Key.cmp self.now }
     {
@@ -80,8 +81,8 @@ impl<T: Translator, V: Drop, M: Heads<T::Key, V>> Chains<T, V, M> {
         }
     }
 
-    #[inline]
-    pub(super) fn value_at(&self, slot: T::Key, place: usize) -> &V
+    #[inline(always)]
+    pub fn value_at(&self, slot: T::Key, place: usize) -> &V
         requires { place < length (list_at T.Key.cmp self.now slot) }
         ensures { slice_get (list_at T.Key.cmp self.now slot) place ≡ Some result.now }
     {
@@ -95,7 +96,7 @@ impl<T: Translator, V: Drop, M: Heads<T::Key, V>> Chains<T, V, M> {
     /// Puts a value in front of the list at an index key. The one look-up that finds the key also puts the value there; a newest
     /// value that finds no room among the older ones then goes back to its place, which takes no memory.
     #[inline]
-    pub(super) fn insert(&mut self, slot: T::Key, value: V) -> Result<(), V>
+    pub fn insert(&mut self, slot: T::Key, value: V) -> Result<(), V>
         ensures accepted { OnOk result (self.new ≡ with_list_by T.Key.cmp self.old slot (λ l. value ∷ l)) }
         ensures refused { OnErr result (self.new ≡ self.old) }
         ensures returned { IfErr result (λ back. back ≡ value) }
@@ -117,7 +118,7 @@ impl<T: Translator, V: Drop, M: Heads<T::Key, V>> Chains<T, V, M> {
     /// Puts a value under an index key that has none, and tells how many values the index key had. The one look-up that finds no key
     /// also makes its place.
     #[inline]
-    pub(super) fn insert_absent(&mut self, slot: T::Key, value: V) -> Result<usize, V>
+    pub fn insert_absent(&mut self, slot: T::Key, value: V) -> Result<usize, V>
         ensures found { IfOk result (λ n. 0 < n → self.new ≡ self.old) }
         ensures inserted { IfOk result (λ n. n ≡ 0 → self.new ≡ with_list T.Key.cmp self.old slot (value ∷ [])) }
         ensures len { IfOk result (λ n. n ≡ length (list_at T.Key.cmp self.old slot)) }
@@ -132,7 +133,7 @@ impl<T: Translator, V: Drop, M: Heads<T::Key, V>> Chains<T, V, M> {
 
     /// Takes an index key out, and tells how many values it had.
     #[inline]
-    pub(super) fn remove(&mut self, slot: T::Key) -> usize
+    pub fn remove(&mut self, slot: T::Key) -> usize
         ensures content { self.new ≡ with_list T.Key.cmp self.old slot [] }
         ensures taken { result ≡ length (list_at T.Key.cmp self.old slot) }
     {
@@ -144,7 +145,7 @@ impl<T: Translator, V: Drop, M: Heads<T::Key, V>> Chains<T, V, M> {
 
     /// Puts another value at a place of the index key's list.
     #[inline]
-    pub(super) fn set_at(&mut self, slot: T::Key, place: usize, value: V)
+    pub fn set_at(&mut self, slot: T::Key, place: usize, value: V)
         requires place { place < length (list_at T.Key.cmp self.old slot) }
         ensures content { self.new ≡ with_list_by T.Key.cmp self.old slot (λ l. slice_set l place value) }
     {
@@ -159,7 +160,7 @@ impl<T: Translator, V: Drop, M: Heads<T::Key, V>> Chains<T, V, M> {
 
     /// Puts a value in at a place of the index key's list, or behind its last one.
     #[inline]
-    pub(super) fn insert_at(&mut self, slot: T::Key, place: usize, value: V) -> Result<(), V>
+    pub fn insert_at(&mut self, slot: T::Key, place: usize, value: V) -> Result<(), V>
         requires place { place ≤ length (list_at T.Key.cmp self.old slot) }
         ensures accepted { OnOk result (self.new ≡ with_list_by T.Key.cmp self.old slot (λ l. insert l place value)) }
         ensures refused { OnErr result (self.new ≡ self.old) }
@@ -173,7 +174,7 @@ impl<T: Translator, V: Drop, M: Heads<T::Key, V>> Chains<T, V, M> {
 
     /// Takes the value at a place of the index key's list out, and tells how many are left.
     #[inline]
-    pub(super) fn remove_at(&mut self, slot: T::Key, place: usize) -> (V, usize)
+    pub fn remove_at(&mut self, slot: T::Key, place: usize) -> (V, usize)
         requires place { place < length (list_at T.Key.cmp self.old slot) }
         ensures value { slice_get (list_at T.Key.cmp self.old slot) place ≡ Some result.0 }
         ensures content { self.new ≡ with_list_by T.Key.cmp self.old slot (λ l. remove l place) }
@@ -219,11 +220,7 @@ impl<T: Translator, V: Drop, M: Heads<T::Key, V>> Chains<T, V, M> {
 
     /// Asks once on each value of the index key, in list order, takes out those that are answered false, and tells how many there were,
     /// and how many are left.
-    pub(super) fn retain<F: FnMut(&V) -> bool>(
-        &mut self,
-        slot: T::Key,
-        should_retain: F,
-    ) -> (usize, usize)
+    pub fn retain<F: FnMut(&V) -> bool>(&mut self, slot: T::Key, should_retain: F) -> (usize, usize)
         requires callable { F.IsAlwaysCallable should_retain }
         ensures kept { (kept : List V)
             × IsFiltered (CalledAt F.FnMut) should_retain (list_at T.Key.cmp self.old slot) kept
@@ -238,7 +235,7 @@ impl<T: Translator, V: Drop, M: Heads<T::Key, V>> Chains<T, V, M> {
     /// Puts a value in behind those of the index key, which takes all the memory that the call may need, then asks once on each of
     /// them, in list order, and takes out those that are answered false. Tells how many were held, how many of these are gone, and
     /// whether the new one stays.
-    pub(super) fn insert_and_retain<F: FnMut(&V) -> bool>(
+    pub fn insert_and_retain<F: FnMut(&V) -> bool>(
         &mut self,
         slot: T::Key,
         value: V,
@@ -249,6 +246,7 @@ impl<T: Translator, V: Drop, M: Heads<T::Key, V>> Chains<T, V, M> {
             × (asks : AsksBehind (CalledAt F.FnMut) should_retain (list_at T.Key.cmp self.old slot) value kept told.1)
             × (self.new ≡ with_list T.Key.cmp self.old slot kept) × (told.2 ≡ last_answer true asks.answers)) }
         ensures had { IfOk result (λ told. told.0 ≡ length (list_at T.Key.cmp self.old slot)) }
+        ensures fits { IfOk result (λ told. told.0 < usize.MAX) }
         ensures refused { OnErr result (self.new ≡ self.old) }
         ensures returned { IfErr result (λ back. back ≡ value) }
     {
@@ -262,7 +260,7 @@ impl<T: Translator, V: Drop, M: Heads<T::Key, V>> Chains<T, V, M> {
 
     /// How many index keys have values.
     #[inline]
-    pub(super) fn keys(&self) -> usize
+    pub fn keys(&self) -> usize
         ensures { result ≡ key_count self.now }
     {
         self.heads.len()
@@ -286,21 +284,21 @@ fn values_of<'a, K: Ord + Hash + Copy, V>(
 
 impl<T: Translator, V: Drop, M: OrderedHeads<T::Key, V>> Chains<T, V, M> {
     #[inline]
-    pub(super) fn first(&self) -> Option<Values<'_, V>>
+    pub fn first(&self) -> Option<Values<'_, V>>
         ensures { result ≡ first_list self.now }
     {
         values_of(&self.older, self.heads.first())
     }
 
     #[inline]
-    pub(super) fn last(&self) -> Option<Values<'_, V>>
+    pub fn last(&self) -> Option<Values<'_, V>>
         ensures { result ≡ last_list self.now }
     {
         values_of(&self.older, self.heads.last())
     }
 
     #[inline]
-    pub(super) fn next(&self, slot: T::Key) -> Option<(Values<'_, V>, bool)>
+    pub fn next(&self, slot: T::Key) -> Option<(Values<'_, V>, bool)>
         ensures { result ≡ next_list T.Key.cmp self.now slot }
     {
         match values_of(&self.older, self.heads.above(&slot)) {
@@ -313,7 +311,7 @@ impl<T: Translator, V: Drop, M: OrderedHeads<T::Key, V>> Chains<T, V, M> {
     }
 
     #[inline]
-    pub(super) fn prev(&self, slot: T::Key) -> Option<(Values<'_, V>, bool)>
+    pub fn prev(&self, slot: T::Key) -> Option<(Values<'_, V>, bool)>
         ensures { result ≡ prev_list T.Key.cmp self.now slot }
     {
         match values_of(&self.older, self.heads.below(&slot)) {
@@ -343,14 +341,45 @@ fn visit_all<K: Ord + Hash + Copy, V, F: FnMut(&V)>(
     }
 }
 
+/// What `visit_all` does, of newest values in an array.
+fn visit_few<K: Ord + Hash + Copy, V, F: FnMut(&V)>(
+    heads: &[(K, V)],
+    older: &Older<K, V>,
+    visit: &mut F,
+)
+    requires callable { F.IsAlwaysCallable visit.old }
+    requires linked { IsLinked K.cmp heads.now (older_at K.eq older.now) }
+    ensures visits { VisitsEach (CalledAt F.FnMut) visit.old
+        (values_of (stored K.cmp K.eq heads.now older.now)) visit.new }
+    ensures callable { F.IsAlwaysCallable visit.new }
+{
+    for (key, newest) in heads.iter() {
+        visit_in_turn(Values::newest_first(newest, older_of(older, *key)), visit);
+    }
+}
+
 impl<T: Translator, V: Drop> Chains<T, V, HashMap<T::Key, V>> {
     /// Calls a closure once on each value.
     #[inline]
-    pub(super) fn for_each_value<F: FnMut(&V)>(&self, visit: &mut F)
+    pub fn for_each_value<F: FnMut(&V)>(&self, visit: &mut F)
         requires { F.IsAlwaysCallable visit.old }
         ensures visits { VisitsEach (CalledAt F.FnMut) visit.old (values_of self.now) visit.new }
         ensures callable { F.IsAlwaysCallable visit.new }
     {
         visit_all(&self.heads, &self.older, visit);
+    }
+}
+
+impl<T: Translator, V: Drop> Chains<T, V, SmallMap<T::Key, V>> {
+    /// Calls a closure once on each value.
+    pub fn visit_values<F: FnMut(&V)>(&self, visit: &mut F)
+        requires { F.IsAlwaysCallable visit.old }
+        ensures visits { VisitsEach (CalledAt F.FnMut) visit.old (values_of self.now) visit.new }
+        ensures callable { F.IsAlwaysCallable visit.new }
+    {
+        match &self.heads.many {
+            Some(map) => visit_all(map, &self.older, visit),
+            None => visit_few(self.heads.few.as_slice(), &self.older, visit),
+        }
     }
 }

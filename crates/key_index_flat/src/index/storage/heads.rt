@@ -14,7 +14,7 @@ use std::hash::Hash;
 use std::ops::Bound;
 
 /// A map from keys to the newest value of each.
-pub(crate) trait Heads<K: Ord + Hash + Copy, V> {
+pub trait Heads<K: Ord + Hash + Copy, V> {
     ghost entries: { Self → List (K × V) };
 
     fn len(&self) -> usize
@@ -26,6 +26,8 @@ pub(crate) trait Heads<K: Ord + Hash + Copy, V> {
     /// Puts a value at a key, and answers the one that stood there. A refusal, which comes at an absent key alone, hands the
     /// value back.
     fn insert(&mut self, key: K, value: V) -> Result<Option<V>, V>
+    where
+        V: Drop,
         ensures old { IfOk result (λ old. old ≡ value_of K.cmp (entries self.old) key) }
         ensures sets { OnOk result (Sets K.cmp (entries self.old) (entries self.new) key (Some value)) }
         ensures len { IfOk result (λ old.
@@ -63,13 +65,16 @@ impl<K: Ord + Hash + Copy, V> Heads<K, V> for HashMap<K, V> {
         HashMap::len(self)
     }
 
-    #[inline]
+    #[inline(always)]
     fn get(&self, key: &K) -> Option<&V> {
         HashMap::get(self, key)
     }
 
     #[inline]
-    fn insert(&mut self, key: K, value: V) -> Result<Option<V>, V> {
+    fn insert(&mut self, key: K, value: V) -> Result<Option<V>, V>
+    where
+        V: Drop,
+    {
         match HashMap::insert(self, key, value) {
             Ok(old) => Ok(old),
             Err(failed) => {
@@ -136,7 +141,10 @@ impl<K: Ord + Hash + Copy, V> Heads<K, V> for BTreeMap<K, V> {
     }
 
     #[inline]
-    fn insert(&mut self, key: K, value: V) -> Result<Option<V>, V> {
+    fn insert(&mut self, key: K, value: V) -> Result<Option<V>, V>
+    where
+        V: Drop,
+    {
         match BTreeMap::insert(self, key, value) {
             Ok(old) => Ok(old),
             Err(failed) => {
@@ -171,7 +179,7 @@ impl<K: Ord + Hash + Copy, V> Heads<K, V> for BTreeMap<K, V> {
 }
 
 /// A map of newest values whose keys are in order. Each call takes a number of comparisons that is logarithmic in the keys.
-pub(crate) trait OrderedHeads<K: Ord + Hash + Copy, V>: Heads<K, V> {
+pub trait OrderedHeads<K: Ord + Hash + Copy, V>: Heads<K, V> {
     fn first(&self) -> Option<(&K, &V)>
         ensures entry { option_map deref_pair result ≡ first_entry (Self.entries self.now) }
         ensures rises { IsStrictlySortedBy K.cmp (keys_of (Self.entries self.now)) };

@@ -28,7 +28,7 @@ fn values_in<K: Ord + Hash + Copy, V>(map: &HashMap<K, Vec<V>>, key: K) -> &[V]
 }
 
 /// The older values of a key, the oldest first. Where no key has any, it looks nothing up.
-#[inline]
+#[inline(always)]
 pub(super) fn older_of<K: Ord + Hash + Copy, V>(older: &Older<K, V>, key: K) -> &[V]
     ensures values { result.now ≡ older_at K.eq older.now key }
     ensures small { length result.now < usize.MAX }
@@ -114,7 +114,22 @@ pub(super) fn insert_older<K: Ord + Hash + Copy, V: Drop>(
     Ok(())
 }
 
-/// Takes the older values of a key out, and tells how many there were.
+/// Takes the values of a key out of a map, and tells how many there were.
+#[inline(never)]
+fn take_from<K: Ord + Hash + Copy, V: Drop>(map: &mut HashMap<K, Vec<V>>, key: K) -> usize
+    ensures taken { result ≡ length (at_key K.eq map.old key) }
+    ensures fits { result < usize.MAX }
+    ensures at { at_key K.eq map.new key ≡ [] }
+    ensures others { SameBut K.cmp (at_key K.eq map.old) (at_key K.eq map.new) key }
+{
+    match map.remove(&key) {
+        Some(values) => values.len(),
+        None => 0,
+    }
+}
+
+/// Takes the older values of a key out, and tells how many there were. Where no key has any, it looks nothing up.
+#[inline(always)]
 pub(super) fn take_older<K: Ord + Hash + Copy, V: Drop>(older: &mut Older<K, V>, key: K) -> usize
     ensures taken { result ≡ length (older_at K.eq older.old key) }
     ensures fits { result < usize.MAX }
@@ -127,10 +142,7 @@ pub(super) fn take_older<K: Ord + Hash + Copy, V: Drop>(older: &mut Older<K, V>,
     if map.is_empty() {
         return 0;
     }
-    match map.remove(&key) {
-        Some(values) => values.len(),
-        None => 0,
-    }
+    take_from(map, key)
 }
 
 /// Puts another value in the place of an older value of a key, where 1 is the newest of them, and answers the one that stood there.

@@ -178,7 +178,7 @@ impl<T: Translator, V: Drop, X: Part<T, V> + Drop> Parts<T, V, X> {
         }
     }
 
-    #[inline]
+    #[inline(always)]
     pub(super) fn get(&self, slot: (usize, T::Key)) -> Values<'_, V>
         requires { slot.0 < length self.now.contents }
         ensures { result ≡ list_in T.Key.cmp self.now.contents slot }
@@ -203,7 +203,7 @@ impl<T: Translator, V: Drop, X: Part<T, V> + Drop> Parts<T, V, X> {
         *self.parts.allocator()
     }
 
-    #[inline]
+    #[inline(always)]
     pub(super) fn run_len(&self, slot: (usize, T::Key)) -> usize
         ensures { result ≡ length (list_in T.Key.cmp self.now.contents slot) }
     {
@@ -213,7 +213,7 @@ impl<T: Translator, V: Drop, X: Part<T, V> + Drop> Parts<T, V, X> {
         }
     }
 
-    #[inline]
+    #[inline(always)]
     pub(super) fn value_at(&self, slot: (usize, T::Key), place: usize) -> &V
         requires { place < length (list_in T.Key.cmp self.now.contents slot) }
         ensures { slice_get (list_in T.Key.cmp self.now.contents slot) place ≡ Some result.now }

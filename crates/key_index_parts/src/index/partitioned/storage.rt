@@ -249,7 +249,7 @@ impl<T: Translator, V: Drop, X: Part<T, V> + Drop, const P: usize> Storage<T, V,
         self.moves.move_back(moved);
     }
 
-    #[inline]
+    #[inline(always)]
     pub(super) fn slot_of(&self, key: &[u8]) -> (usize, T::Key)
         ensures slot { result ≡ slot_by P (T.translated self.now.translator) key.now }
         ensures within { result.0 < partition_count P }
@@ -273,14 +273,14 @@ impl<T: Translator, V: Drop, X: Part<T, V> + Drop, const P: usize> Storage<T, V,
         self.parts.alloc()
     }
 
-    #[inline]
+    #[inline(always)]
     pub(super) fn run_len(&self, slot: (usize, T::Key)) -> usize
         ensures { result ≡ length (held_at T.Key.cmp self.now.parts slot) }
     {
         self.parts.run_len(slot)
     }
 
-    #[inline]
+    #[inline(always)]
     pub(super) fn value_at(&self, slot: (usize, T::Key), place: usize) -> &V
         requires { place < length (held_at T.Key.cmp self.now.parts slot) }
         ensures { slice_get (held_at T.Key.cmp self.now.parts slot) place ≡ Some result.now }
@@ -296,7 +296,7 @@ impl<T: Translator, V: Drop, X: Part<T, V> + Drop, const P: usize> Storage<T, V,
         self.parts.list_at(slot)
     }
 
-    #[inline]
+    #[inline(always)]
     pub(super) fn get(&self, slot: (usize, T::Key)) -> Values<'_, V>
         requires { slot.0 < length self.now.parts }
         ensures { result ≡ held_at T.Key.cmp self.now.parts slot }

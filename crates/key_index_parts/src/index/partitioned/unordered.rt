@@ -4,12 +4,12 @@ ghost use Rattle.key_index_parts.specs.Family.{IsIndex, view_of};
 ghost use Rattle.key_index_parts.specs.Gathered.{pair_cmp};
 ghost use Rattle.key_index_parts.specs.Prefix.{partition_count, partition_by, slot_by};
 
-mod boxed;
+mod chained;
 
 use super::range::Range;
 use super::storage::Storage;
 use super::{Partitioned, partition_index_and_sub_key};
-use boxed::Boxed;
+use chained::Chained;
 use key_index_flat::index::implement::{Lists, show_by_place, visit_by_place};
 use key_index_flat::index::{
     Factory, Fault, IndexCursor, Refused, Runs, Search, Unordered, Values,
@@ -18,14 +18,14 @@ use key_index_flat::translator::Translator;
 use std::alloc::Global;
 use std::convert::AsSlice;
 
-/// A flat unordered index for each of `256^P` partitions that a value was ever put into. The translator shortens what follows the first
-/// `P` bytes of a key.
+/// The lists of a flat index for each of `256^P` partitions, whose newest values stand in one array up to 32 keys. The translator
+/// shortens what follows the first `P` bytes of a key.
 ///
 /// `insert` puts a value in front of those of its key. `remove` takes no memory and never refuses. A call by key looks its index key
-/// up in the flat index of one partition.
+/// up among those of one partition.
 #[derive(Drop)]
 pub struct Index<T: Translator, V: Drop, const P: usize> {
-    storage: Storage<T, V, Boxed<T, V>, P>,
+    storage: Storage<T, V, Chained<T, V>, P>,
     ghost is_index: { IsIndex T.Key.cmp P storage.parts },
 }
 
@@ -58,7 +58,7 @@ impl<T: Translator, V: Drop, const P: usize> Index<T, V, P> {
 }
 
 /// Some neighbouring partitions of a partitioned unordered index, apart from it.
-pub type RangeIndex<T, V, const P: usize> = Range<T, V, Boxed<T, V>, P>;
+pub type RangeIndex<T, V, const P: usize> = Range<T, V, Chained<T, V>, P>;
 
 impl<T: Translator, V: Drop, const P: usize> Runs for Index<T, V, P> {
     ghost use Rattle.std.proofs.lemmas.Map.Lookups.{exact_pairs, exact_unsigned};
@@ -74,7 +74,7 @@ impl<T: Translator, V: Drop, const P: usize> Runs for Index<T, V, P> {
 
     ghost exact = { exact_pairs nat_cmp T.Key.cmp exact_unsigned T.exact };
 
-    #[inline]
+    #[inline(always)]
     fn slot_of(&self, key: &[u8]) -> (usize, T::Key) {
         self.storage.slot_of(key)
     }
@@ -174,7 +174,7 @@ impl<T: Translator, V: Drop, const P: usize> Unordered for Index<T, V, P> {
 
     ghost reaches = { λ _ b h. prefix_reaches P b h };
 
-    #[inline]
+    #[inline(always)]
     fn get(&self, key: &[u8]) -> Values<'_, V> {
         self.storage.get(self.storage.slot_of(key))
     }

@@ -1,4 +1,6 @@
-use Rattle.std.proofs.Common.{◌≡◌, ◌+◌, ◌-◌, length, cond, ap, arith}
+use Rattle.std.proofs.Common.{rules, ◌≡◌, ◌+◌, ◌-◌, ◌<◌, ◌^◌, length, cond, ap, arith}
+use Rattle.std.proofs.lemmas.List.Edits.{length-insert}
+use Rattle.key_index_flat.proofs.runs.CursorLemmas.{list_at_edit}
 use Rattle.std.specs.Fn.{CalledAt}
 use Rattle.key_index_flat.specs.Content.{list_at}
 use Rattle.key_index_flat.proofs.asked.PutLemmas.{asks_put, one_went, taken_put}
@@ -31,3 +33,13 @@ returns-clause-accepted g c =
     ] in
     let asks = asks_put g.met.T.Key.Ord.total old mid c.args.slot c.args.value c.run_len-held.result c.run_len-held.ensures.len put (CalledAt g.F.FnMut) c.args.should_retain told.0 stays (had - left) told.1 counts c.if-stays.gone most in
     (told.0, asks.0, taken_put g.met.T.Key.Ord.total old mid c.args.slot c.args.value c.run_len-held.result c.run_len-held.ensures.len put g.met.T.Translator.exact c.run_len-held.ensures.lawful told.0 _ told.2, asks.1)
+
+pub returns-clause-fits : goal.returns-clause-fits
+returns-clause-fits g c =
+    let list = list_at g.T.Key.Ord.cmp c.args.self.now c.args.slot in
+    let held = c.run_len-held.result in
+    let told = c.retain_in_turn-had.ensures.kept in
+    let small : c.retain_in_turn-had.result.0 < 2 ^ 64 = search rules in
+    let now = ap (λ l. length l) (list_at_edit g.met.T.Key.Ord.total _ _ _ _ c.in_ok-insert_at.ensures.accepted) in
+    let more = length-insert list held c.args.value (omega (arith, c.run_len-held.ensures.len)) in
+    omega (arith, small, told.4, now, more, c.run_len-held.ensures.len)

@@ -1,0 +1,348 @@
+//! A map of newest values that has its keys in one array while they are few, and in a hashed map once they are many.
+ghost use Rattle.std.specs.Prelude.{◌≡◌, ◌+◌, ◌<◌, ◌≤◌, ◌≢◌, ℕ, [], ◌∷◌, ◌++◌, None, Some, IfOk, IfErr, IfSome, IfNone, OnOk, OnErr, List, length, slice_index, is_some, if◌then◌else◌};
+ghost use Rattle.std.specs.HashMap.{get, hash_map_len, spare};
+ghost use Rattle.std.specs.List.{IsDistinct};
+ghost use Rattle.std.specs.Map.{keys_of, lookup, update};
+ghost use Rattle.std.specs.Option.{option_copied};
+ghost use Rattle.key_index_flat.specs.SmallMap.{tag_of, IsAt, AreTagged, AreTaggedBut, NoneBefore, entries_in};
+ghost use Rattle.key_index_flat.specs.Storage.{value_of, Sets};
+
+use super::heads::Heads;
+use std::alloc::Global;
+use std::collections::HashMap;
+use std::hash::{BuildHasher, BuildHasherDefault, FoldHasher, Hash};
+use std::marker::Model;
+use std::mem::replace;
+use std::simd::prelude::*;
+
+/// How many pairs an array has at the most.
+const MOST: usize = 32;
+
+/// How many places have a tag.
+const TAGGED: usize = 16;
+
+/// A byte of a key's hash, which equal keys share.
+#[inline(always)]
+fn tag_of<K: Hash + Copy>(key: K) -> u8
+    ensures { result ≡ tag_of (K.hash_input key) }
+{
+    (BuildHasherDefault::<FoldHasher>::new().hash_one(key) >> 56) as u8
+}
+
+/// The first place with a tag, or 16. All are compared at once.
+#[inline(always)]
+fn first_tagged(tags: &[u8; 16], tag: u8) -> usize
+    ensures within { result ≤ 16 }
+    ensures before { (k : ℕ) → k < result → slice_index tags.now k ≢ tag }
+{
+    let same = u8x16::from_array(*tags)
+        .simd_eq(u8x16::splat(tag))
+        .to_bitmask();
+    if same == 0 {
+        TAGGED
+    } else {
+        same.trailing_zeros() as usize
+    }
+}
+
+/// The place of a key, which is no earlier than the start.
+#[inline(always)]
+fn place_from<K: Hash + Copy, V>(pairs: &[(K, V)], start: usize, key: &K) -> Option<usize>
+    requires { NoneBefore K.eq pairs.now start key.now }
+    ensures found { IfSome result (λ place. IsAt K.eq pairs.now place key.now) }
+    ensures none { IfNone result (lookup (K.eq key.now) pairs.now ≡ None) }
+{
+    let mut place = start;
+    while place < pairs.len() {
+        if *key == pairs[place].0 {
+            return Some(place);
+        }
+        place += 1;
+    }
+    None
+}
+
+/// Gives the pair at a place its tag, where it is one of the first sixteen.
+#[inline(always)]
+fn retag<K: Hash + Copy, V>(tags: &mut [u8; 16], pairs: &[(K, V)], place: usize)
+    requires { AreTaggedBut K.hash_input tags.old pairs.now place }
+    ensures { AreTagged K.hash_input tags.new pairs.now }
+{
+    if place < TAGGED && place < pairs.len() {
+        tags[place] = tag_of(pairs[place].0);
+    }
+}
+
+/// Puts the value of a key that has none into a hashed map that has room for it.
+fn put_new<K: Ord + Hash + Copy, V: Drop>(map: &mut HashMap<K, V>, key: K, value: V)
+    requires room { 0 < spare map.old }
+    requires absent { get K.eq map.old key ≡ None }
+    ensures values { (q : K) → get K.eq map.new q ≡ update K.eq (get K.eq map.old) key (Some value) q }
+    ensures len { hash_map_len map.new ≡ hash_map_len map.old + 1 }
+    ensures room { spare map.old ≤ spare map.new + 1 }
+{
+    let Ok(None) = map.insert(key, value) else {
+        unreachable!()
+    };
+}
+
+/// Moves pairs of keys that differ into a hashed map that has room for them.
+fn move_into<K: Ord + Hash + Copy, V: Drop>(pairs: &mut Vec<(K, V)>, map: &mut HashMap<K, V>)
+    requires distinct { IsDistinct K.eq (keys_of pairs.old.items) }
+    requires empty { map.old.entries ≡ [] }
+    requires room { length pairs.old.items ≤ spare map.old }
+    ensures values { (q : K) → get K.eq map.new q ≡ lookup (K.eq q) pairs.old.items }
+    ensures len { hash_map_len map.new ≡ length pairs.old.items }
+    ensures room { spare map.old ≤ spare map.new + length pairs.old.items }
+    ensures moved { pairs.new.items ≡ [] }
+{
+    while let Some(pair) = pairs.pop() {
+        let (key, value) = pair;
+        put_new(map, key, value);
+    }
+}
+
+/// Up to 32 pairs of keys that differ, in no order, with a tag of each of the first sixteen keys. Contracts see the pairs.
+#[derive(Drop)]
+pub struct Pairs<K: Ord + Hash + Copy, V> {
+    tags: [u8; 16],
+    pairs: Vec<(K, V)>,
+}
+
+impl<K: Ord + Hash + Copy, V> Model for Pairs<K, V> {
+    ghost Value = { List (K × V) };
+
+    ghost view = { λ p. p.pairs.items };
+
+    ghost invariant = { λ p. (length p.pairs.items ≤ 32) × IsDistinct K.eq (keys_of p.pairs.items)
+        × AreTagged K.hash_input p.tags p.pairs.items };
+}
+
+impl<K: Ord + Hash + Copy, V> Pairs<K, V> {
+    fn new(alloc: Global) -> Pairs<K, V>
+        ensures { result ≡ [] }
+    {
+        Pairs {
+            tags: [0; 16],
+            pairs: Vec::new(alloc),
+        }
+    }
+
+    #[inline(always)]
+    fn len(&self) -> usize
+        ensures { result ≡ length self.now }
+    {
+        self.pairs.len()
+    }
+
+    #[inline]
+    pub(super) fn as_slice(&self) -> &[(K, V)]
+        ensures { result.now ≡ self.now }
+    {
+        self.pairs.as_slice()
+    }
+
+    #[inline(always)]
+    fn place_of(&self, key: &K) -> Option<usize>
+        ensures found { IfSome result (λ place. IsAt K.eq self.now place key.now) }
+        ensures none { IfNone result (value_of K.cmp self.now key.now ≡ None) }
+    {
+        place_from(&self.pairs, first_tagged(&self.tags, tag_of(*key)), key)
+    }
+
+    #[inline(always)]
+    fn get(&self, key: &K) -> Option<&V>
+        ensures { option_copied result ≡ value_of K.cmp self.now key.now }
+    {
+        match self.place_of(key) {
+            Some(place) => Some(&self.pairs[place].1),
+            None => None,
+        }
+    }
+
+    /// Puts another value at the place of a key.
+    #[inline]
+    fn set(&mut self, place: usize, key: K, value: V) -> V
+        requires { IsAt K.eq self.old place key }
+        ensures old { Some result ≡ value_of K.cmp self.old key }
+        ensures sets { Sets K.cmp self.old self.new key (Some value) }
+        ensures len { length self.new ≡ length self.old }
+    {
+        replace(&mut self.pairs[place].1, value)
+    }
+
+    /// Puts in the value of a key that has none.
+    #[inline]
+    fn push(&mut self, key: K, value: V) -> Result<(), V>
+        requires absent { value_of K.cmp self.old key ≡ None }
+        requires room { length self.old < 32 }
+        ensures sets { OnOk result (Sets K.cmp self.old self.new key (Some value)) }
+        ensures len { OnOk result (length self.new ≡ length self.old + 1) }
+        ensures refused { OnErr result (self.new ≡ self.old) }
+        ensures returned { IfErr result (λ back. back ≡ value) }
+    {
+        let place = self.pairs.len();
+        match self.pairs.push((key, value)) {
+            Ok(()) => {
+                retag(&mut self.tags, &self.pairs, place);
+                Ok(())
+            }
+            Err(failed) => {
+                let (_, value) = failed.value;
+                Err(value)
+            }
+        }
+    }
+
+    /// The last pair takes the place of the one that goes.
+    #[inline]
+    fn remove(&mut self, key: &K) -> Option<V>
+        ensures value { result ≡ value_of K.cmp self.old key.now }
+        ensures sets { Sets K.cmp self.old self.new key.now None }
+        ensures len { length self.new + (if is_some result then 1 else 0) ≡ length self.old }
+    {
+        let place = self.place_of(key)?;
+        let (_, value) = self.pairs.swap_remove(place);
+        retag(&mut self.tags, &self.pairs, place);
+        Some(value)
+    }
+
+    /// The pairs, and the value of a key that has none, in a hashed map. All its memory is taken before the first pair moves.
+    #[inline(never)]
+    fn spill(&mut self, key: K, value: V) -> Result<Box<HashMap<K, V>>, V>
+    where
+        V: Drop,
+        requires { value_of K.cmp self.old key ≡ None }
+        ensures sets { IfOk result (λ map. Sets K.cmp self.old map.value.entries key (Some value)) }
+        ensures len { IfOk result (λ map. hash_map_len map.value ≡ length self.old + 1) }
+        ensures refused { OnErr result (self.new ≡ self.old) }
+        ensures returned { IfErr result (λ back. back ≡ value) }
+    {
+        let alloc = *self.pairs.allocator();
+        let Ok(map) = HashMap::with_capacity(alloc, 2 * MOST) else {
+            return Err(value);
+        };
+        let Ok(mut map) = Box::new(alloc, map) else {
+            return Err(value);
+        };
+        move_into(&mut self.pairs, &mut map);
+        put_new(&mut map, key, value);
+        Ok(map)
+    }
+}
+
+/// Keys that differ with a value each: in one array while they are few, and then in a hashed map.
+#[derive(Drop)]
+pub struct SmallMap<K: Ord + Hash + Copy, V> {
+    pub(super) few: Pairs<K, V>,
+    pub(super) many: Option<Box<HashMap<K, V>>>,
+}
+
+impl<K: Ord + Hash + Copy, V> SmallMap<K, V> {
+    pub fn new(alloc: Global) -> SmallMap<K, V>
+        ensures { entries_in result.few result.many ≡ [] }
+    {
+        SmallMap {
+            few: Pairs::new(alloc),
+            many: None,
+        }
+    }
+
+    /// Puts in the value of a key that has none.
+    #[inline]
+    fn put(&mut self, key: K, value: V) -> Result<(), V>
+    where
+        V: Drop,
+        requires few { self.old.many ≡ None }
+        requires absent { value_of K.cmp self.old.few key ≡ None }
+        ensures sets { OnOk result (Sets K.cmp self.old.few (entries_in self.new.few self.new.many) key (Some value)) }
+        ensures len { OnOk result (length (entries_in self.new.few self.new.many) ≡ length self.old.few + 1) }
+        ensures refused { OnErr result (entries_in self.new.few self.new.many ≡ self.old.few) }
+        ensures returned { IfErr result (λ back. back ≡ value) }
+    {
+        if self.few.len() < MOST {
+            return self.few.push(key, value);
+        }
+        let map = self.few.spill(key, value)?;
+        self.many = Some(map);
+        Ok(())
+    }
+
+    /// `insert` while the pairs stand in the array.
+    fn insert_few(&mut self, key: K, value: V) -> Result<Option<V>, V>
+    where
+        V: Drop,
+        requires { self.old.many ≡ None }
+        ensures old { IfOk result (λ old. old ≡ value_of K.cmp self.old.few key) }
+        ensures sets { OnOk result (Sets K.cmp self.old.few (entries_in self.new.few self.new.many) key (Some value)) }
+        ensures len { IfOk result (λ old. length (entries_in self.new.few self.new.many)
+            ≡ length self.old.few + (if is_some old then 0 else 1)) }
+        ensures absent { OnErr result (value_of K.cmp self.old.few key ≡ None) }
+        ensures refused { OnErr result (entries_in self.new.few self.new.many ≡ self.old.few) }
+        ensures returned { IfErr result (λ back. back ≡ value) }
+    {
+        if let Some(place) = self.few.place_of(&key) {
+            return Ok(Some(self.few.set(place, key, value)));
+        }
+        match self.put(key, value) {
+            Ok(()) => Ok(None),
+            Err(value) => Err(value),
+        }
+    }
+}
+
+impl<K: Ord + Hash + Copy, V> Heads<K, V> for SmallMap<K, V> {
+    ghost entries = { λ map. entries_in map.few map.many };
+
+    #[inline]
+    fn len(&self) -> usize {
+        match &self.many {
+            Some(map) => map.len(),
+            None => self.few.len(),
+        }
+    }
+
+    #[inline(always)]
+    fn get(&self, key: &K) -> Option<&V> {
+        match &self.many {
+            Some(map) => Heads::get(&**map, key),
+            None => self.few.get(key),
+        }
+    }
+
+    #[inline(always)]
+    fn insert(&mut self, key: K, value: V) -> Result<Option<V>, V>
+    where
+        V: Drop,
+    {
+        if let Some(map) = &mut self.many {
+            return Heads::insert(&mut **map, key, value);
+        }
+        self.insert_few(key, value)
+    }
+
+    #[inline(always)]
+    fn insert_absent(&mut self, key: K, value: V) -> Result<bool, V>
+    where
+        V: Drop,
+    {
+        if let Some(map) = &mut self.many {
+            return Heads::insert_absent(&mut **map, key, value);
+        }
+        if self.few.get(&key).is_some() {
+            return Ok(false);
+        }
+        match self.put(key, value) {
+            Ok(()) => Ok(true),
+            Err(value) => Err(value),
+        }
+    }
+
+    #[inline(always)]
+    fn remove(&mut self, key: &K) -> Option<V> {
+        match &mut self.many {
+            Some(map) => Heads::remove(&mut **map, key),
+            None => self.few.remove(key),
+        }
+    }
+}

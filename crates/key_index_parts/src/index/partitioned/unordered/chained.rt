@@ -1,0 +1,135 @@
+//! A part as the lists of a flat unordered index, in the part's own place.
+ghost use Rattle.std.specs.Prelude.{◌≡◌, ◌≤◌, true, false, not, length, insert, IfOk, IfErr, OnOk, OnErr};
+ghost use Rattle.key_index_flat.specs.Content.{IsLawful, is_filled, item_count, list_at, with_list_by};
+
+use crate::index::partitioned::part::{Held, Part};
+use key_index_flat::index::Values;
+use key_index_flat::index::implement::{Chains, Retained, SmallMap};
+use key_index_flat::translator::Translator;
+use std::alloc::{AllocError, Global};
+
+/// A part as lists whose newest values stand in one array while they are few.
+#[derive(Drop)]
+pub struct Chained<T: Translator, V> {
+    chains: Chains<T, V, SmallMap<T::Key, V>>,
+    ghost lawful: { IsLawful T.Key.cmp chains },
+}
+
+impl<T: Translator, V> Held<T, V> for Chained<T, V> {
+    ghost use Rattle.key_index_parts.specs.laws.StandingLaws.{inline_filled};
+
+    ghost content = { λ part. part.chains };
+
+    ghost spilled = { λ _. false };
+
+    ghost lawful = { λ part. part.lawful };
+
+    ghost filled = { λ part h. inline_filled (item_count part.chains) h };
+}
+
+impl<T: Translator, V: Drop> Part<T, V> for Chained<T, V> {
+    ghost FIRST = { true };
+
+    ghost SPILLS = { false };
+
+    fn new(alloc: Global, _translator: T) -> Chained<T, V> {
+        Chained {
+            chains: Chains::new(alloc, SmallMap::new(alloc)),
+        }
+    }
+
+    #[inline]
+    fn is_empty(&self) -> bool {
+        self.chains.keys() == 0
+    }
+
+    #[inline]
+    fn inline_len(&self) -> usize {
+        0
+    }
+
+    #[inline]
+    fn is_spilled(&self) -> bool {
+        false
+    }
+
+    fn spill(&mut self) -> Result<(), AllocError> {
+        Ok(())
+    }
+
+    #[inline]
+    fn spilled_len(&self) -> usize {
+        0
+    }
+
+    fn move_back(&mut self) -> Result<(), AllocError> {
+        Ok(())
+    }
+
+    #[inline(always)]
+    fn get(&self, key: T::Key) -> Values<'_, V> {
+        self.chains.get(key)
+    }
+
+    #[inline(always)]
+    fn run_len(&self, key: T::Key) -> usize {
+        self.chains.run_len(key)
+    }
+
+    #[inline(always)]
+    fn value_at(&self, key: T::Key, place: usize) -> &V {
+        self.chains.value_at(key, place)
+    }
+
+    #[inline]
+    fn set_at(&mut self, key: T::Key, place: usize, value: V) {
+        self.chains.set_at(key, place, value);
+    }
+
+    fn insert_at(&mut self, key: T::Key, place: usize, value: V) -> Result<bool, V> {
+        let keys = self.chains.keys();
+        self.chains.insert_at(key, place, value)?;
+        Ok(keys < self.chains.keys())
+    }
+
+    #[inline]
+    fn insert(&mut self, key: T::Key, value: V, _limit: usize) -> Result<bool, V> {
+        let keys = self.chains.keys();
+        self.chains.insert(key, value)?;
+        Ok(keys < self.chains.keys())
+    }
+
+    fn insert_absent(&mut self, key: T::Key, value: V, _limit: usize) -> Result<usize, V> {
+        self.chains.insert_absent(key, value)
+    }
+
+    #[inline]
+    fn remove_at(&mut self, key: T::Key, place: usize) -> (V, usize) {
+        self.chains.remove_at(key, place)
+    }
+
+    fn retain<F: FnMut(&V) -> bool>(&mut self, key: T::Key, should_retain: F) -> (usize, usize) {
+        self.chains.retain(key, should_retain)
+    }
+
+    fn insert_and_retain<F: FnMut(&V) -> bool>(
+        &mut self,
+        key: T::Key,
+        value: V,
+        should_retain: F,
+        _limit: usize,
+    ) -> Result<Retained, V> {
+        let (had, taken, stays) = self.chains.insert_and_retain(key, value, should_retain)?;
+        let added = if stays { 1 } else { 0 };
+        let left = had - taken + added;
+        Ok(Retained { had, left, taken })
+    }
+
+    fn remove(&mut self, key: T::Key) -> usize {
+        self.chains.remove(key)
+    }
+
+    fn for_each_value<F: FnMut(&V)>(&self, visit: &mut F) {
+        self.chains.visit_values(visit);
+    }
+}
