@@ -3,7 +3,8 @@
 --     taken_put     the content after both
 --     one_went      the new value, answered false, is one of those that went
 --     asks_put      the answers on the values that were held and the new one
-use Rattle.std.proofs.Common.{◌≡◌, ℕ, ◌+◌, ◌≤◌, Bool, true, false, cond, List, [], ◌∷◌, ◌++◌, length, insert, sym, ap, subst, ◌∙◌, length-append}
+--     asks_alone    and on the new one, where none were held
+use Rattle.std.proofs.Common.{◌≡◌, ℕ, ◌+◌, ◌-◌, ◌≤◌, Bool, true, false, cond, List, [], ◌∷◌, ◌++◌, length, insert, refl, sym, ap, subst, ◌∙◌, arith, length-append}
 use Rattle.std.specs.declared.cmp.Ordering.{Ordering}
 use Rattle.std.specs.declared.cmp.Ordering.TheVariants.{Equal}
 use Rattle.std.specs.Cmp.{IsTotalOrder}
@@ -37,3 +38,14 @@ module _ {K V : Type 0} {cmp : K → K → Ordering} (o : IsTotalOrder cmp) (c m
     -- gone: of the held values alone
     pub asks_put : (gone : ℕ) → taken ≡ gone + cond stays 0 1 → (asks : AsksBehind R f (list_at cmp c k) v kept gone) × (stays ≡ last_answer true asks.answers)
     asks_put = asks_behind R f (list_at cmp c k) v kept stays taken asked_put counts_put
+
+    least_gone : (stays : Bool) (taken : ℕ) → (stays ≡ false → 1 ≤ taken) → taken ≡ taken - cond stays 0 1 + cond stays 0 1
+    least_gone true taken some = omega arith
+    least_gone false taken some = let one = some refl in omega (arith, one)
+
+    -- where no value was held
+    pub asks_alone : 0 ≡ length (list_at cmp c k) → (asks : AsksBehind R f (list_at cmp c k) v kept 0) × (stays ≡ last_answer true asks.answers)
+    asks_alone none =
+        let asks = asks_put (taken - cond stays 0 1) (least_gone stays taken one_went) in
+        let gone : taken - cond stays 0 1 ≡ 0 = let sum = asks.0.taken in omega (arith, sum, none) in
+        subst (λ n. (asks : AsksBehind R f (list_at cmp c k) v kept n) × (stays ≡ last_answer true asks.answers)) gone asks

@@ -1,6 +1,6 @@
 //! The lists of a flat index: the newest value of each key in one map, and in another the older values of the keys that have any. An
 //! entry whose key has one value then costs that key and that value alone.
-ghost use Rattle.std.specs.Prelude.{◌≡◌, ◌+◌, ◌<◌, ◌≤◌, true, List, [], ◌∷◌, length, reverse, slice_get, slice_set, insert, remove, Some, IfOk, IfErr, OnOk, OnErr};
+ghost use Rattle.std.specs.Prelude.{◌≡◌, ◌+◌, ◌<◌, ◌≤◌, true, false, if◌then◌else◌, List, [], ◌∷◌, length, reverse, slice_get, slice_set, insert, remove, Some, IfOk, IfErr, OnOk, OnErr};
 ghost use Rattle.std.specs.Fn.{CalledAt};
 ghost use Rattle.std.specs.List.Retain.{IsFiltered};
 ghost use Rattle.std.specs.Map.Iter.{deref_pair};
@@ -13,7 +13,8 @@ ghost use Rattle.key_index_flat.specs.Values.{values_of, VisitsEach};
 
 use super::heads::{Heads, OrderedHeads};
 use super::older::{
-    Older, insert_older, older_of, pop_older, remove_older, retain_older, set_older, take_older,
+    Older, insert_and_retain_older, insert_older, older_of, pop_older, remove_older, retain_older,
+    set_older, take_older,
 };
 use super::small_map::SmallMap;
 use crate::index::Values;
@@ -198,7 +199,7 @@ impl<T: Translator, V: Drop, M: Heads<T::Key, V>> Chains<T, V, M> {
     fn retain_in_turn<F: FnMut(&V) -> bool>(
         &mut self,
         slot: T::Key,
-        mut should_retain: F,
+        should_retain: F,
     ) -> (usize, usize, bool)
         requires callable { F.IsAlwaysCallable should_retain }
         ensures kept { let old = list_at T.Key.cmp self.old slot in (kept : List V)
@@ -209,8 +210,12 @@ impl<T: Translator, V: Drop, M: Heads<T::Key, V>> Chains<T, V, M> {
         let Some(newest) = self.heads.get(&slot) else {
             return (0, 0, true);
         };
-        let newest_stays = should_retain(newest);
-        let (had, left, stays) = retain_older(&mut self.older, slot, should_retain, newest_stays);
+        let (newest_stays, had, left, stays) = retain_older(
+            &mut self.older,
+            slot,
+            newest,
+            should_retain,
+        );
         if newest_stays {
             return (had + 1, left + 1, stays);
         }
@@ -250,12 +255,24 @@ impl<T: Translator, V: Drop, M: Heads<T::Key, V>> Chains<T, V, M> {
         ensures refused { OnErr result (self.new ≡ self.old) }
         ensures returned { IfErr result (λ back. back ≡ value) }
     {
-        let held = self.run_len(slot);
-        self.insert_at(slot, held, value)?;
-        let (had, left, stays) = self.retain_in_turn(slot, should_retain);
-        let taken = had - left;
-        let gone = if stays { taken } else { taken - 1 };
-        Ok((held, gone, stays))
+        let Some(newest) = self.heads.get(&slot) else {
+            self.insert(slot, value)?;
+            let (_, _, stays) = self.retain_in_turn(slot, should_retain);
+            return Ok((0, 0, stays));
+        };
+        let (newest_stays, held, left, stays) = insert_and_retain_older(
+            self.alloc,
+            &mut self.older,
+            slot,
+            value,
+            newest,
+            should_retain,
+        )?;
+        if newest_stays {
+            return Ok((held, gone_of(held - left, stays), stays));
+        }
+        self.remove_at(slot, 0);
+        Ok((held, gone_of(held + 1 - left, stays), stays))
     }
 
     /// How many index keys have values.
@@ -265,6 +282,15 @@ impl<T: Translator, V: Drop, M: Heads<T::Key, V>> Chains<T, V, M> {
     {
         self.heads.len()
     }
+}
+
+/// How many of the held values are removed, where so many of them and of a new value are, and the new one stays or not.
+#[inline]
+fn gone_of(removed: usize, stays: bool) -> usize
+    requires { stays ≡ false → 1 ≤ removed }
+    ensures { removed ≡ result + (if stays then 0 else 1) }
+{
+    if stays { removed } else { removed - 1 }
 }
 
 /// The values of a key with its newest value.

@@ -1,8 +1,8 @@
 //! The older values of the keys that have any, the oldest first.
-ghost use Rattle.std.specs.Prelude.{◌≡◌, ◌+◌, ◌-◌, ◌<◌, ◌≤◌, [], ◌++◌, length, reverse, slice_get, slice_set, insert, remove, Some, IfErr, IfNone, IfSome, OnOk, OnErr};
+ghost use Rattle.std.specs.Prelude.{◌≡◌, ◌+◌, ◌-◌, ◌<◌, ◌≤◌, [], ◌∷◌, ◌++◌, length, slice_get, slice_set, insert, remove, Some, IfErr, IfNone, IfOk, IfSome, OnOk, OnErr};
 ghost use Rattle.std.specs.Fn.{CalledAt};
 ghost use Rattle.std.specs.Option.{option_map, option_to_list};
-ghost use Rattle.key_index_flat.specs.Retention.{AsksInTurn};
+ghost use Rattle.key_index_flat.specs.Retention.{RetainsFrom};
 ghost use Rattle.key_index_flat.specs.Storage.{at_key, older_at, SameBut};
 
 use crate::index::implement::retain_in_turn;
@@ -217,38 +217,158 @@ pub(super) fn pop_older<K: Ord + Hash + Copy, V: Drop>(
     Some((value, left))
 }
 
-/// Asks once on each of the older values of a key, the newest first, and takes out those that are answered false. Tells how many the
-/// key had, how many it has left, and the last answer, which is `before` where there is no value.
-pub(super) fn retain_older<K: Ord + Hash + Copy, V: Drop, F: FnMut(&V) -> bool>(
-    older: &mut Older<K, V>,
-    key: K,
-    should_retain: F,
-    before: bool,
-) -> (usize, usize, bool)
+/// Calls the closure once on the newest value of a key and then on each older one, the newest first, and removes the older ones for
+/// which it returns false. Tells its first answer, how many older values there were, how many are left, and its last answer.
+fn retain_behind<V: Drop, F: FnMut(&V) -> bool>(
+    newest: &V,
+    older: &mut Vec<V>,
+    mut should_retain: F,
+) -> (bool, usize, usize, bool)
     requires { F.IsAlwaysCallable should_retain }
-    ensures asked { AsksInTurn (CalledAt F.FnMut) should_retain before
-        (reverse (older_at K.eq older.old key)) (reverse (older_at K.eq older.new key)) result.2 }
-    ensures had { result.0 ≡ length (older_at K.eq older.old key) }
-    ensures left { result.1 ≡ length (older_at K.eq older.new key) }
-    ensures fits { result.0 < usize.MAX }
-    ensures others { SameBut K.cmp (older_at K.eq older.old) (older_at K.eq older.new) key }
+    ensures asked { RetainsFrom (CalledAt F.FnMut) should_retain newest.now
+        older.old.items older.new.items result.0 result.3 }
+    ensures had { result.1 ≡ length older.old.items }
+    ensures left { result.2 ≡ length older.new.items }
 {
-    let Some(map) = older else {
-        return (0, 0, before);
-    };
-    if map.is_empty() {
-        return (0, 0, before);
-    }
-    let Some(values) = map.get_mut(&key) else {
-        return (0, 0, before);
-    };
-    let had = values.len();
-    values.reverse();
-    let stays = retain_in_turn(values, should_retain, before);
-    values.reverse();
-    let left = values.len();
+    let newest_stays = should_retain(newest);
+    let had = older.len();
+    older.reverse();
+    let stays = retain_in_turn(older, should_retain, newest_stays);
+    older.reverse();
+    (newest_stays, had, older.len(), stays)
+}
+
+/// `retain_behind`, where there are no older values.
+#[inline]
+fn retain_alone<V, F: FnMut(&V) -> bool>(
+    newest: &V,
+    mut should_retain: F,
+) -> (bool, usize, usize, bool)
+    requires { F.IsAlwaysCallable should_retain }
+    ensures asked { RetainsFrom (CalledAt F.FnMut) should_retain newest.now [] [] result.0 result.3 }
+    ensures had { result.1 ≡ 0 }
+    ensures left { result.2 ≡ 0 }
+{
+    let stays = should_retain(newest);
+    (stays, 0, 0, stays)
+}
+
+/// Removes a key that so many values are left of, where that is none.
+fn remove_empty<K: Ord + Hash + Copy, V: Drop>(map: &mut HashMap<K, Vec<V>>, key: K, left: usize)
+    requires { left ≡ length (at_key K.eq map.old key) }
+    ensures at { at_key K.eq map.new key ≡ at_key K.eq map.old key }
+    ensures others { SameBut K.cmp (at_key K.eq map.old) (at_key K.eq map.new) key }
+{
     if left == 0 {
         map.remove(&key);
     }
-    (had, left, stays)
+}
+
+/// `retain_behind`, of the older values of a key.
+pub(super) fn retain_older<K: Ord + Hash + Copy, V: Drop, F: FnMut(&V) -> bool>(
+    older: &mut Older<K, V>,
+    key: K,
+    newest: &V,
+    should_retain: F,
+) -> (bool, usize, usize, bool)
+    requires { F.IsAlwaysCallable should_retain }
+    ensures asked { RetainsFrom (CalledAt F.FnMut) should_retain newest.now
+        (older_at K.eq older.old key) (older_at K.eq older.new key) result.0 result.3 }
+    ensures had { result.1 ≡ length (older_at K.eq older.old key) }
+    ensures left { result.2 ≡ length (older_at K.eq older.new key) }
+    ensures fits { result.1 < usize.MAX }
+    ensures others { SameBut K.cmp (older_at K.eq older.old) (older_at K.eq older.new) key }
+{
+    let Some(map) = older else {
+        return retain_alone(newest, should_retain);
+    };
+    if map.is_empty() {
+        return retain_alone(newest, should_retain);
+    }
+    let Some(values) = map.get_mut(&key) else {
+        return retain_alone(newest, should_retain);
+    };
+    let told = retain_behind(newest, values, should_retain);
+    remove_empty(map, key, told.2);
+    told
+}
+
+/// `insert_and_retain_older` in a map.
+fn insert_and_retain_in<K: Ord + Hash + Copy, V: Drop, F: FnMut(&V) -> bool>(
+    alloc: Global,
+    map: &mut HashMap<K, Vec<V>>,
+    key: K,
+    value: V,
+    newest: &V,
+    should_retain: F,
+) -> Result<(bool, usize, usize, bool), V>
+    requires { F.IsAlwaysCallable should_retain }
+    ensures asked { IfOk result (λ told. RetainsFrom (CalledAt F.FnMut) should_retain newest.now
+        (value ∷ at_key K.eq map.old key) (at_key K.eq map.new key) told.0 told.3) }
+    ensures had { IfOk result (λ told. told.1 ≡ length (at_key K.eq map.old key) + 1) }
+    ensures left { IfOk result (λ told. told.2 ≡ length (at_key K.eq map.new key)) }
+    ensures others { SameBut K.cmp (at_key K.eq map.old) (at_key K.eq map.new) key }
+    ensures refused { OnErr result (at_key K.eq map.new key ≡ at_key K.eq map.old key) }
+    ensures returned { IfErr result (λ back. back ≡ value) }
+{
+    match map.entry(key) {
+        Err(_) => Err(value),
+        Ok(Entry::Occupied(entry)) => {
+            let values = entry.into_mut();
+            match values.insert(0, value) {
+                Ok(()) => {
+                    let told = retain_behind(newest, values, should_retain);
+                    remove_empty(map, key, told.2);
+                    Ok(told)
+                }
+                Err(failed) => Err(failed.value),
+            }
+        }
+        Ok(Entry::Vacant(entry)) => {
+            let mut values = Vec::new(alloc);
+            match values.push(value) {
+                Ok(()) => {
+                    let values = entry.insert(values);
+                    let told = retain_behind(newest, values, should_retain);
+                    remove_empty(map, key, told.2);
+                    Ok(told)
+                }
+                Err(failed) => {
+                    entry.into_key();
+                    Err(failed.value)
+                }
+            }
+        }
+    }
+}
+
+/// Puts a value in behind the older values of a key, which takes all the memory that the call may need, and then `retain_behind`. A
+/// refusal hands the value back and changes none of them.
+pub(super) fn insert_and_retain_older<K: Ord + Hash + Copy, V: Drop, F: FnMut(&V) -> bool>(
+    alloc: Global,
+    older: &mut Older<K, V>,
+    key: K,
+    value: V,
+    newest: &V,
+    should_retain: F,
+) -> Result<(bool, usize, usize, bool), V>
+    requires { F.IsAlwaysCallable should_retain }
+    ensures asked { IfOk result (λ told. RetainsFrom (CalledAt F.FnMut) should_retain newest.now
+        (value ∷ older_at K.eq older.old key) (older_at K.eq older.new key) told.0 told.3) }
+    ensures had { IfOk result (λ told. told.1 ≡ length (older_at K.eq older.old key) + 1) }
+    ensures left { IfOk result (λ told. told.2 ≡ length (older_at K.eq older.new key)) }
+    ensures fits { IfOk result (λ told. told.1 < usize.MAX) }
+    ensures others { SameBut K.cmp (older_at K.eq older.old) (older_at K.eq older.new) key }
+    ensures refused { OnErr result (older_at K.eq older.new key ≡ older_at K.eq older.old key) }
+    ensures returned { IfErr result (λ back. back ≡ value) }
+{
+    if let Some(map) = older {
+        return insert_and_retain_in(alloc, map, key, value, newest, should_retain);
+    }
+    let Ok(mut map) = Box::new(alloc, HashMap::new(alloc)) else {
+        return Err(value);
+    };
+    let told = insert_and_retain_in(alloc, &mut map, key, value, newest, should_retain)?;
+    *older = Some(map);
+    Ok(told)
 }
