@@ -5,7 +5,6 @@ use Rattle.std.specs.declared.cmp.PartialOrd as partial
 use Rattle.std.specs.declared.hash.Hash as hash
 use Rattle.key_index_flat.specs.declared.index.unordered.Index.{Index}
 use Rattle.key_index_flat.specs.declared.translator.Translator as translator
-use Rattle.key_index_flat.specs.Content.{Content, IsLawful}
 use Rattle.key_index_flat.specs.Storage.{view_of}
 use Rattle.key_index_flat.specs.View.{View}
 
@@ -14,12 +13,3 @@ module _ {T V K : Type 0} {t : translator.Ghosts T K} {o : ord.Ghosts K} {e : eq
   -- as contracts see it
   abbrev pub view : Index T V K t o e p h → View K V
   view index = view_of t.translated index.storage
-
-  -- its content, for the ghost fields of an index that is made of such indices: a ghost field can't name the members of
-  -- an impl
-  abbrev pub held : Index T V K t o e p h → Content K V
-  held index = index.storage.content
-
-  -- the law `lawful`
-  pub IsLawful-held : (index : Index T V K t o e p h) → IsLawful o.cmp (held index)
-  IsLawful-held index = index.lawful

@@ -4,7 +4,7 @@
 --     Turned                            what a loop has done up to a place
 --     turned_first, ..                  at the start, after a value that stays, after one that goes, of the same, and at the end
 --     asked_first, asked_none           a list with one value more in front, and an empty one
---     asked_newest, asked_same          where the answer and the lists are known by other names
+--     asked_same                        where the lists are known by other names
 --     asked_few                         no more are left than there were
 --     asks_behind, some_taken           a value that was put behind others, where all of these were asked on then
 --     few_kept, count_kept              how many values are left then
@@ -134,13 +134,6 @@ module _ {F V : Type 0} (step : F → V → Bool → F → Type 0) where
       → AsksInTurn step f before (v ∷ vs) (cond b (v ∷ ws) ws) stays
   asked_first f g before v true vs ws stays s h = (true ∷ h.0, h.1, ap (λ n. suc n) h.2, (g, s, h.3), ap (λ l. v ∷ l) h.4, h.5)
   asked_first f g before v false vs ws stays s h = (false ∷ h.0, h.1, ap (λ n. suc n) h.2, (g, s, h.3), h.4, h.5)
-
-  -- where the answer on it and the list are known by other names
-  pub asked_newest : (f g : F) (v : V) (a b : Bool) (xs vs ws : List V) (stays : Bool) → step f v a g → AsksInTurn step g a vs ws stays → a ≡ b → xs ≡ v ∷ vs
-      → AsksInTurn step f true xs (cond b (v ∷ ws) ws) stays
-  asked_newest f g v a b xs vs ws stays s h said is =
-      subst (λ (l : List V). AsksInTurn step f true l (cond b (v ∷ ws) ws) stays) (sym is)
-      (subst (λ (x : Bool). AsksInTurn step f true (v ∷ vs) (cond x (v ∷ ws) ws) stays) said (asked_first f g true v a vs ws stays s h))
 
   -- and on other names of the lists
   pub asked_same : (f : F) (before : Bool) (xs ys xs' ys' : List V) (stays : Bool) → AsksInTurn step f before xs ys stays → xs ≡ xs' → ys ≡ ys' → AsksInTurn step f before xs' ys' stays

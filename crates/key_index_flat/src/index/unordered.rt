@@ -3,7 +3,7 @@ ghost use Rattle.std.specs.Prelude.{◌≡◌, [], true, refl, IsOk, IfOk, IfErr
 ghost use Rattle.key_index_flat.specs.Content.{IsLawful};
 ghost use Rattle.key_index_flat.specs.Storage.{view_of};
 
-use super::implement::{Lists, Retained, show_by_place, visit_by_place};
+use super::implement::{Lists, show_by_place, visit_by_place};
 use super::storage::Storage;
 use super::{Factory, Fault, IndexCursor, Refused, Runs, Search, Unordered, Values};
 use crate::translator::Translator;
@@ -23,81 +23,12 @@ pub struct Index<T: Translator, V> {
 
 impl<T: Translator, V: Drop> Index<T, V> {
     ghost use Rattle.key_index_flat.specs.Unordered.{view};
-    ghost use Rattle.std.specs.Prelude.{◌≡◌, ◌+◌, ◌<◌, [], ◌∷◌, length, slice_get, remove, Some, IsOk, IfOk, IfErr, OnOk, OnErr};
+    ghost use Rattle.std.specs.Prelude.{◌≡◌, IsOk};
     ghost use Rattle.std.specs.Iterator.{UpTo};
-    ghost use Rattle.key_index_flat.specs.View.{growth_fault_in, items_in, run_at, with_run, with_edit, with_pruned, with_slot, Retains, InsertsAndRetains};
+    ghost use Rattle.key_index_flat.specs.View.{with_slot};
     ghost use Rattle.key_index_flat.specs.Values.{values_of, VisitsEach};
     ghost use Rattle.key_index_flat.specs.Visits.{IsBatch, VisitsAt, VisitsByPlace};
     ghost use Rattle.std.specs.Fn.{CalledAt};
-
-    /// What `reach_or_insert` does, at an index key: puts the value in where the index key has none, and tells how many values it
-    /// had. It looks the index key up once.
-    pub fn reach_or_insert_at(&mut self, slot: T::Key, value: V) -> Result<usize, Refused<V>>
-        ensures found { IfOk result (λ n. 0 < n → view self.new ≡ view self.old) }
-        ensures inserted { IfOk result (λ n. n ≡ 0 →
-            view self.new ≡ with_run T.Key.cmp (view self.old) slot (value ∷ [])) }
-        ensures len { IfOk result (λ n. n ≡ length (run_at T.Key.cmp (view self.old) slot)) }
-        ensures refused { OnErr result (view self.new ≡ view self.old) }
-        ensures room { OnOk result (items_in (view self.old) < usize.MAX) }
-        ensures returned { IfErr result (λ r. r.value ≡ value) }
-        ensures fault { IfErr result (λ r. r.fault ≡ growth_fault_in (view self.old)) }
-    {
-        self.storage.insert_absent(slot, value)
-    }
-
-    /// What `remove_at` does. Tells how many values the index key has left, too.
-    pub fn take_at(&mut self, slot: T::Key, place: usize) -> (V, usize)
-        requires { place < length (run_at T.Key.cmp (view self.old) slot) }
-        ensures value { slice_get (run_at T.Key.cmp (view self.old) slot) place ≡ Some result.0 }
-        ensures edited { view self.new
-            ≡ with_pruned (with_edit T.Key.cmp (view self.old) slot (λ l. remove l place)) 1 }
-        ensures left { result.1 + 1 ≡ length (run_at T.Key.cmp (view self.old) slot) }
-    {
-        self.storage.remove_at(slot, place)
-    }
-
-    /// What `remove` does, at an index key. Tells how many values it had.
-    pub fn remove_all_at(&mut self, slot: T::Key) -> usize
-        ensures removed { view self.new ≡ with_pruned (with_run T.Key.cmp (view self.old) slot [])
-            (length (run_at T.Key.cmp (view self.old) slot)) }
-        ensures taken { result ≡ length (run_at T.Key.cmp (view self.old) slot) }
-    {
-        self.storage.remove(slot)
-    }
-
-    /// What `retain` does, at an index key. Tells how many values it had, and how many it has left.
-    pub fn retain_at<F: FnMut(&V) -> bool>(
-        &mut self,
-        slot: T::Key,
-        should_retain: F,
-    ) -> (usize, usize)
-        requires { F.IsAlwaysCallable should_retain }
-        ensures kept { Retains T.Key.cmp (CalledAt F.FnMut) should_retain (view self.old) slot (view self.new) }
-        ensures had { result.0 ≡ length (run_at T.Key.cmp (view self.old) slot) }
-        ensures left { result.1 ≡ length (run_at T.Key.cmp (view self.new) slot) }
-    {
-        self.storage.retain(slot, should_retain)
-    }
-
-    /// What `insert_and_retain` does, at an index key. Tells what it found and left there.
-    pub fn insert_and_retain_at<F: FnMut(&V) -> bool>(
-        &mut self,
-        slot: T::Key,
-        value: V,
-        should_retain: F,
-    ) -> Result<Retained, Refused<V>>
-        requires { F.IsAlwaysCallable should_retain }
-        ensures accepted { IfOk result (λ told. InsertsAndRetains T.Key.cmp (CalledAt F.FnMut) should_retain
-            (view self.old) slot value told.taken (view self.new)) }
-        ensures had { IfOk result (λ told. told.had ≡ length (run_at T.Key.cmp (view self.old) slot)) }
-        ensures left { IfOk result (λ told. told.left ≡ length (run_at T.Key.cmp (view self.new) slot)) }
-        ensures refused { OnErr result (view self.new ≡ view self.old) }
-        ensures room { OnOk result (items_in (view self.old) < usize.MAX) }
-        ensures returned { IfErr result (λ r. r.value ≡ value) }
-        ensures fault { IfErr result (λ r. r.fault ≡ growth_fault_in (view self.old)) }
-    {
-        self.storage.insert_and_retain(slot, value, should_retain)
-    }
 
     /// Visits the values of each key of a batch with the key's place in it, from 0, by place. What it visits may be kept as long as the
     /// index is borrowed. Takes no memory, and never refuses.
@@ -124,16 +55,7 @@ impl<T: Translator, V: Drop> Index<T, V> {
         requires { F.IsAlwaysCallable visit }
         ensures { (last : F) × VisitsEach (CalledAt F.FnMut) visit (values_of (view self.now).content) last }
     {
-        self.visit_values(&mut visit);
-    }
-
-    /// What `for_each_value` does, with a closure that the caller keeps.
-    pub fn visit_values<F: FnMut(&V)>(&self, visit: &mut F)
-        requires { F.IsAlwaysCallable visit.old }
-        ensures visits { VisitsEach (CalledAt F.FnMut) visit.old (values_of (view self.now).content) visit.new }
-        ensures callable { F.IsAlwaysCallable visit.new }
-    {
-        self.storage.for_each_value(visit);
+        self.storage.for_each_value(&mut visit);
     }
 
     /// Takes another translator, which the calls by key use from then on. The values that are held stay under their index keys.
@@ -206,7 +128,7 @@ impl<T: Translator, V: Drop> Search for Index<T, V> {
 
     fn reach_or_insert(&mut self, key: &[u8], value: V) -> Result<(T::Key, usize), Refused<V>> {
         let slot = self.slot_of(key);
-        let len = self.reach_or_insert_at(slot, value)?;
+        let len = self.storage.insert_absent(slot, value)?;
         Ok((slot, len))
     }
 
