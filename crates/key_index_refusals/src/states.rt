@@ -187,6 +187,39 @@ fn shrunken<S: Subject>(
     tries(report, index, kept, 2, Call::GetMany)
 }
 
+/// Puts a key in, with its number as its value, and once more where that was refused. Tells whether it is in.
+fn puts<I: Kind>(report: &mut Report, index: &mut I, number: u8) -> Result<bool, Stop> {
+    for _ in 0..2 {
+        match index.insert(&[7, number], number.into()) {
+            Ok(()) => {
+                report.tells("insert", true)?;
+                return Ok(true);
+            }
+            Err(refused) => {
+                must(refused.value == number.into(), "the refused value")?;
+                report.tells("insert", false)?;
+            }
+        }
+    }
+    Ok(false)
+}
+
+/// Forty keys of one partition, each of which is looked up after each insertion.
+fn crowded<I: Kind>(report: &mut Report, index: &mut I) -> Result<(), Stop> {
+    for number in 0..40 {
+        let keys = u8::from(puts(report, index, number)?) + number;
+        must(index.keys() == keys.into(), "the keys that were put in")?;
+        for held in 0..keys {
+            let value = index.get(&[7, held]).copied();
+            must(value.eq([u64::from(held)]), "the value of each key")?;
+        }
+        if keys == number {
+            return Ok(());
+        }
+    }
+    Ok(())
+}
+
 /// A state of calls by key and by cursors, over an index of any kind.
 fn go_by_calls<S: Subject>(
     report: &mut Report,
@@ -320,7 +353,13 @@ fn go_pordered(
 
 /// A state of the partitioned unordered index.
 fn go_punordered(alloc: Global, report: &mut Report, state: &str, seed: u64) -> Result<(), Stop> {
-    go_parted::<Punordered>(alloc, report, state, 0, seed)
+    if state != "crowded" {
+        return go_parted::<Punordered>(alloc, report, state, 0, seed);
+    }
+    match make::<Punordered>(alloc, report, 0)? {
+        Some(mut index) => crowded(report, &mut index),
+        None => Ok(()),
+    }
 }
 
 /// A state of the immutable index.

@@ -1,4 +1,4 @@
-use Rattle.std.proofs.Common.{◌≡◌, ◌+◌, [], ◌∷◌, ◌++◌, length, reverse, take, sym, ap, subst, ◌∙◌, arith}
+use Rattle.std.proofs.Common.{◌≡◌, ◌+◌, [], ◌∷◌, ◌++◌, reverse, take, sym, ap, subst, ◌∙◌, arith}
 use Rattle.std.specs.Fn.{CalledAt}
 use Rattle.std.proofs.lemmas.List.{take_more, take_all}
 use Rattle.key_index_flat.specs.Storage.{older_at}

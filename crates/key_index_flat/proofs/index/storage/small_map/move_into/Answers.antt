@@ -1,6 +1,6 @@
-use Rattle.std.proofs.Common.{◌≡◌, ◌+◌, ◌≤◌, ◌∷◌, [], ◌++◌, length, sym, ap, subst, ◌∙◌, arith}
+use Rattle.std.proofs.Common.{◌∷◌, [], length, ap, subst, ◌∙◌, arith}
 use Rattle.std.proofs.lemmas.List.{length-append}
-use Rattle.key_index_flat.proofs.content.MoveLemmas.{Moving, all_left, new_key, one_less, all_moved}
+use Rattle.key_index_flat.proofs.content.MoveLemmas.{Moving, new_key, one_less}
 use Rattle.key_index_flat.proofs.index.storage.small_map.move_into.Goals as goal
 
 pub put_new-requires-clause-absent : goal.put_new-requires-clause-absent

@@ -1,4 +1,4 @@
-use Rattle.std.proofs.Common.{◌≡◌, sym, subst, ◌∙◌}
+use Rattle.std.proofs.Common.{sym, subst, ◌∙◌}
 use Rattle.key_index_flat.specs.SmallMap.{NoneBefore}
 use Rattle.key_index_flat.proofs.content.TagLemmas.{before_tag}
 use Rattle.key_index_flat.proofs.index.storage.small_map.Pairs.place_of.Goals as goal

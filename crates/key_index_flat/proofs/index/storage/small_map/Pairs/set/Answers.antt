@@ -1,4 +1,4 @@
-use Rattle.std.proofs.Common.{Some, ◌∙◌, ap, sym, subst, length, slice_set, arith}
+use Rattle.std.proofs.Common.{Some, ◌∙◌, ap, subst, slice_set, arith}
 use Rattle.std.proofs.lemmas.List.{length-set}
 use Rattle.key_index_flat.specs.Storage.{Sets}
 use Rattle.key_index_flat.proofs.content.PairLemmas.{pair_at, value_at, sets_at, differ_at}

@@ -1,4 +1,4 @@
-use Rattle.std.proofs.Common.{◌≡◌, ◌+◌, length, ap, ◌∙◌, arith}
+use Rattle.std.proofs.Common.{◌+◌, length, ap, ◌∙◌}
 use Rattle.std.specs.HashMap.{get, hash_map_len}
 use Rattle.std.specs.Map.{lookup}
 use Rattle.key_index_flat.proofs.content.MoveLemmas.{set_new}

@@ -1,4 +1,4 @@
-use Rattle.std.proofs.Common.{◌∷◌, length, arith}
+use Rattle.std.proofs.Common.{◌∷◌, arith}
 use Rattle.key_index_flat.specs.Content.{list_at}
 use Rattle.key_index_parts.proofs.family.ChainedLemmas.{absent_key, lawful_put}
 use Rattle.key_index_parts.proofs.index.partitioned.unordered.chained.ChainedPart.insert.Goals as goal

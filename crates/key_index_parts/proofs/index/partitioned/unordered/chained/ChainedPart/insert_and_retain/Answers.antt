@@ -1,4 +1,4 @@
-use Rattle.std.proofs.Common.{rules, ◌≡◌, ◌+◌, ◌-◌, ◌<◌, ◌≤◌, ◌^◌, cond, length, ap, sym, ◌∙◌, arith}
+use Rattle.std.proofs.Common.{◌≡◌, ◌≤◌, cond, ap, sym, ◌∙◌, arith}
 use Rattle.std.proofs.lemmas.Result.{IfOk-weaker}
 use Rattle.key_index_flat.proofs.asked.TurnLemmas.{count_kept}
 use Rattle.key_index_parts.proofs.index.partitioned.unordered.chained.ChainedPart.insert_and_retain.Goals.{then-stays, else-stays}

@@ -1,4 +1,4 @@
-use Rattle.std.proofs.Common.{insert, length, arith}
+use Rattle.std.proofs.Common.{insert, arith}
 use Rattle.std.proofs.lemmas.List.Edits.{length-insert}
 use Rattle.key_index_flat.specs.Content.{list_at}
 use Rattle.key_index_parts.proofs.family.ChainedLemmas.{absent_key, lawful_put}
