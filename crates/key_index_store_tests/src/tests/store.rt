@@ -140,6 +140,110 @@ fn turns<K: Kind>(rt: &impl Abort, alloc: Global) {
     }
 }
 
+/// A store on a log with room for so many bytes more.
+fn on_failing<K: Kind>(rt: &impl Abort, alloc: Global, room: usize) -> Store<FailingLog, K::Index> {
+    let log = FailingLog {
+        log: MemoryLog::new(alloc),
+        room,
+        unreadable: u64::MAX,
+    };
+    open::<K, FailingLog>(rt, alloc, log).0
+}
+
+/// A log that is full refuses, keeps what was there, and says so until its tail is cut off.
+fn fills<K: Kind>(rt: &impl Abort, alloc: Global) {
+    // The first record takes 18 bytes, and so would the second one.
+    for room in 18..36 {
+        let mut store = on_failing::<K>(rt, alloc, room);
+        store.put(b"same", b"1").expect(rt, "a put");
+        assert_eq!(rt; store.put(b"same", b"2"), Err(Fault::WriteFailed));
+        let wanted = if room == 18 {
+            Fault::WriteFailed
+        } else {
+            Fault::Tail
+        };
+        assert_eq!(rt; store.put(b"more", b"3"), Err(wanted));
+        assert_eq!(rt; answer(rt, &store, b"same"), Some(b'1'));
+        assert_eq!(rt; store.len(), 1);
+        store.cut_tail().expect(rt, "a cut");
+        let (store, tail) = open::<K, MemoryLog>(rt, alloc, store.into_log().log);
+        assert_eq!(rt; tail, Tail::Nothing);
+        assert_eq!(rt; store.len(), 1);
+    }
+}
+
+/// A read that fails within a record: a log is not opened, and no value is made up.
+fn misses<K: Kind>(rt: &impl Abort, alloc: Global) {
+    let (log, steps) = session::<K>(rt, alloc);
+    let len = log.len();
+    for step in &steps {
+        let log = FailingLog {
+            log: log_of(rt, alloc, log.bytes.as_slice()),
+            room: 0,
+            unreadable: step.end,
+        };
+        let index = K::make(alloc).expect(rt, "an index");
+        match Store::open(alloc, log, index) {
+            Ok(_) => assert_eq!(rt; step.end, len),
+            Err(fault) => assert_eq!(rt; fault, Fault::ReadFailed),
+        }
+    }
+}
+
+/// So many random calls beside a list, over a log that is opened anew each thousand of them.
+fn runs<K: Kind>(rt: &impl Abort, alloc: Global, calls: u64) {
+    let mut values: Vec<Option<u8>> = vec![in alloc; None; 64].expect(rt, "values");
+    let (mut store, _) = open::<K, MemoryLog>(rt, alloc, MemoryLog::new(alloc));
+    let mut random = 0x9e37_79b9_7f4a_7c15u64;
+    for call in 0..calls {
+        random ^= random << 13;
+        random ^= random >> 7;
+        random ^= random << 17;
+        let number = random % 64;
+        let key = [
+            b's',
+            b'a',
+            b'm',
+            b'e',
+            b's',
+            b'a',
+            b'm',
+            (number % 16) as u8,
+            (number / 16) as u8,
+        ];
+        let Some(value) = values.get_mut(number as usize) else {
+            return;
+        };
+        one_call(rt, &mut store, &key, value, random);
+        if call % 1000 == 999 {
+            let (again, tail) = open::<K, MemoryLog>(rt, alloc, store.into_log());
+            assert_eq!(rt; tail, Tail::Nothing);
+            store = again;
+        }
+    }
+}
+
+/// A call that a random number names, at a key with this value.
+fn one_call<L: Log, I: Unordered<Value = u64>>(
+    rt: &impl Abort,
+    store: &mut Store<L, I>,
+    key: &[u8],
+    value: &mut Option<u8>,
+    random: u64,
+) {
+    if random >> 60 < 5 {
+        let had = store.delete(key).expect(rt, "a deletion");
+        assert_eq!(rt; had, value.is_some());
+        *value = None;
+    } else if random >> 60 < 12 {
+        let byte = (random >> 32 & 0xff) as u8;
+        store.put(key, &[byte]).expect(rt, "a put");
+        *value = Some(byte);
+    } else {
+        assert_eq!(rt; answer(rt, store, key), *value);
+    }
+}
+
 /// All cases over a kind.
 fn all<K: Kind>(rt: &impl Abort, alloc: Global) {
     cuts::<K>(rt, alloc);
