@@ -4,13 +4,13 @@
 --     left_same, left_front      after a refused call
 --     open_held, open_end        a log that is opened
 --     remove_absent              a key without a value is taken out
-use Rattle.std.proofs.Common.{◌≡◌, ℕ, ◌≤◌, Bool, true, false, cond, List, [], ◌++◌, length, take, drop, Option, Some, None, is_some, All, refl, sym, ap, subst, ◌∙◌, length-append, length-take, take-append-drop, arith}
+use Rattle.std.proofs.Common.{◌≡◌, ◌==◌, ◌↔◌, ℕ, ◌≤◌, Bool, true, false, cond, List, [], ◌++◌, length, take, drop, Option, Some, None, is_some, All, refl, sym, ap, subst, ◌∙◌, length-append, length-take, take-append-drop, arith}
 use Rattle.std.proofs.lemmas.List.{append-nil, take_all, take-append-le}
 use Rattle.std.proofs.lemmas.List.Elements.{All-weaker}
-use Rattle.std.proofs.lemmas.Bool.{false≢true}
+use Rattle.std.proofs.lemmas.Bool.{eq-eqb, eqb-true, false≢true}
 use Rattle.std.specs.Cmp.{IsTotalOrder}
 use Rattle.std.specs.Cmp.Lexicographic.{nat_list_cmp_total}
-use Rattle.std.specs.FinMap.{empty, find, get, remove, get-remove, same_map}
+use Rattle.std.specs.FinMap.{empty, empty_of_len, find, get, len, len-empty, remove, get-remove, same_map}
 use Rattle.std.specs.List.{flat_map, fold}
 use Rattle.std.specs.Option.{option_map}
 use Rattle.std.specs.declared.cmp.Ordering.{Ordering}
@@ -116,3 +116,6 @@ module _ {K : Type 0} (cmp : K → K → Ordering) (log : List ℕ) (end : ℕ) 
       let size : end ≡ length (flat_map encoded (records_of log)) =
       sym (ap (λ rs. length (flat_map encoded rs)) open_records ∙ ap (λ l. length l) h.spelled ∙ omega (arith, length-take end log, within)) in
       λ i. record { log = log; end = size i }
+
+pub no_keys : (m : Values) (n : ℕ) → n ≡ len m → (n == 0 ≡ true) ↔ (m ≡ empty)
+no_keys m n is = ((λ t. empty_of_len m (sym is ∙ eqb-true n 0 t)), (λ none. eq-eqb n 0 (is ∙ ap (λ x. len x) none ∙ len-empty byte_cmp (List ℕ))))

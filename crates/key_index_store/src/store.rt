@@ -1,5 +1,5 @@
 //! The store.
-ghost use Rattle.std.specs.Prelude.{◌≡◌, ◌⊎◌, ◌<◌, ◌≤◌, ◌^◌, ◌-◌, ℕ, List, [], ◌++◌, if◌then◌else◌, length, take, drop, slice_get, false, Some, None, is_some, All, IsSome, IfSome, IfOk, IfErr, OnOk, OnErr};
+ghost use Rattle.std.specs.Prelude.{◌≡◌, ◌↔◌, ◌⊎◌, ◌<◌, ◌≤◌, ◌^◌, ◌-◌, ℕ, List, [], ◌++◌, if◌then◌else◌, length, take, drop, slice_get, false, Some, None, is_some, All, IsSome, IsTrue, IfSome, IfOk, IfErr, OnOk, OnErr};
 ghost use Rattle.std.specs.FinMap as map;
 ghost use Rattle.std.specs.Option.{option_map};
 ghost use Rattle.key_index_flat.specs.View.{growth_fault_in, run_of, with_edit, with_pruned};
@@ -270,7 +270,8 @@ fn write<L: Log, I: Unordered<Value = u64>>(
         }
         return Ok(());
     }
-    if log.append(bytes).is_err() {
+    let appended = log.append(bytes);
+    if appended.is_err() {
         return Err(Fault::WriteFailed);
     }
     settle(index, key, has_value, place, position)
@@ -345,6 +346,19 @@ impl<L: Log, I: Unordered<Value = u64>> Store<L, I> {
         ensures { L.is_honest → result ≡ map.len (held self.now) }
     {
         self.index.items()
+    }
+
+    pub fn is_empty(&self) -> bool
+        ensures { L.is_honest → (IsTrue result ↔ (held self.now ≡ map.empty)) }
+    {
+        self.len() == 0
+    }
+
+    /// How many bytes of the log its complete records take.
+    pub fn end(&self) -> u64
+        ensures { result ≡ self.now.end }
+    {
+        self.end
     }
 
     /// The value of a key.

@@ -1,2 +1,5 @@
+//! The store on a log: a record's bytes, and what a store answers.
+mod kinds;
+mod logs;
 mod records;
 mod store;
