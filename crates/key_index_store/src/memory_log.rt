@@ -1,10 +1,11 @@
 //! A log in memory.
-ghost use Rattle.std.specs.Prelude.{◌≡◌, []};
+ghost use Rattle.std.specs.Prelude.{◌≡◌, ◌↔◌, ◌+◌, ◌≤◌, [], length, take, drop, is_ok, IsTrue, OnOk};
 
 use crate::log::{Failed, Log};
 use std::alloc::Global;
 
-/// A log in memory. An append fails where there is no room, and then leaves all as it was.
+/// A log in memory. An append fails where there is no room, and then leaves all as it was; a read fails exactly where there are fewer
+/// bytes.
 #[derive(Debug, Drop)]
 pub struct MemoryLog {
     pub bytes: Vec<u8>,
@@ -37,7 +38,10 @@ impl Log for MemoryLog {
         }
     }
 
-    fn read(&self, position: u64, buffer: &mut [u8]) -> Result<(), Failed> {
+    fn read(&self, position: u64, buffer: &mut [u8]) -> Result<(), Failed>
+        ensures read { OnOk result (buffer.new ≡ take (length buffer.old) (drop position self.now.bytes.items)) }
+        ensures within { IsTrue (is_ok result) ↔ (position + length buffer.old ≤ length self.now.bytes.items) }
+    {
         let bytes = self.bytes.as_slice();
         if (bytes.len() as u64) < position {
             return Err(Failed);

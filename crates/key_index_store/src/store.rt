@@ -1,4 +1,4 @@
-//! The store.
+//! A key-value store on a log. The index keeps positions alone: it gives those that a shortened key may mean, and the log confirms.
 ghost use Rattle.std.specs.Prelude.{◌≡◌, ◌↔◌, ◌⊎◌, ◌<◌, ◌≤◌, ◌^◌, ◌-◌, ℕ, List, [], ◌++◌, if◌then◌else◌, length, take, drop, slice_get, false, Some, None, is_some, All, IsSome, IsTrue, IfSome, IfOk, IfErr, OnOk, OnErr};
 ghost use Rattle.std.specs.FinMap as map;
 ghost use Rattle.std.specs.Option.{option_map};
@@ -42,11 +42,14 @@ impl From<AllocError> for Fault {
     }
 }
 
-/// What stands behind the last whole record.
+/// What stands behind the last whole record of a log.
 #[derive(Clone, Copy, Debug, PartialEq, Eq)]
 pub enum Tail {
+    /// The end of the log.
     Nothing,
+    /// Fewer bytes than a record's lengths say, or than lengths take.
     Torn,
+    /// Bytes that are no record's.
     Damaged,
 }
 
@@ -57,7 +60,10 @@ struct Found {
     value: Vec<u8>,
 }
 
-/// Records on a log, with an index of their positions.
+/// Records on a log, with an index of their positions. Contracts see the log's bytes, how many of them its complete records take,
+/// and by these the map that the records leave.
+///
+/// A call at a key reads each record whole whose position the index gives for it.
 #[derive(Drop)]
 pub struct Store<L: Log, I: Unordered<Value = u64>> {
     alloc: Global,
@@ -318,7 +324,8 @@ fn place_of(found: &Option<Found>) -> Option<usize>
 }
 
 impl<L: Log, I: Unordered<Value = u64>> Store<L, I> {
-    /// A store on a log, over an empty index, with what stands behind the last whole record of the log.
+    /// A store on a log, over an empty index, with what stands behind the last whole record of the log. It reads the log once, from
+    /// its front, and nothing behind the first place where no whole record stands.
     pub fn open(alloc: Global, log: L, mut index: I) -> Result<(Store<L, I>, Tail), Fault>
     where
         L: Drop,
@@ -341,7 +348,7 @@ impl<L: Log, I: Unordered<Value = u64>> Store<L, I> {
         ))
     }
 
-    /// How many keys have a value.
+    /// How many keys have a value. It reads nothing.
     pub fn len(&self) -> usize
         ensures { L.is_honest → result ≡ map.len (held self.now) }
     {
@@ -361,7 +368,7 @@ impl<L: Log, I: Unordered<Value = u64>> Store<L, I> {
         self.end
     }
 
-    /// The value of a key.
+    /// The value of a key, copied.
     pub fn get(&self, key: &[u8]) -> Result<Option<Vec<u8>>, Fault>
         ensures value { L.is_honest → IfOk result (λ o.
             option_map (λ v. v.items) o ≡ map.get (held self.now) key.now) }
@@ -373,7 +380,7 @@ impl<L: Log, I: Unordered<Value = u64>> Store<L, I> {
         }
     }
 
-    /// Sets the value of a key.
+    /// Sets the value of a key, by a record behind the others. A key and a value have fewer than 2^32 bytes each.
     pub fn put(&mut self, key: &[u8], value: &[u8]) -> Result<(), Fault>
         ensures set { L.is_honest → OnOk result (held self.new ≡ map.insert (held self.old) key.now value.now) }
         ensures logged { L.is_honest → OnOk result
@@ -406,7 +413,7 @@ impl<L: Log, I: Unordered<Value = u64>> Store<L, I> {
         Ok(())
     }
 
-    /// Takes a key out, and tells whether it had a value.
+    /// Takes a key out, and tells whether it had a value. A key without a value needs no record, and gets none.
     pub fn delete(&mut self, key: &[u8]) -> Result<bool, Fault>
         ensures removed { L.is_honest → OnOk result (held self.new ≡ map.remove (held self.old) key.now) }
         ensures was_there { L.is_honest → IfOk result (λ had. had ≡ is_some (map.get (held self.old) key.now)) }
@@ -442,7 +449,7 @@ impl<L: Log, I: Unordered<Value = u64>> Store<L, I> {
         Ok(true)
     }
 
-    /// Cuts off what stands behind the last whole record.
+    /// Cuts off what stands behind the last whole record. `put` and `delete` are then answered again.
     pub fn cut_tail(&mut self) -> Result<(), Fault>
         ensures held { L.is_honest → held self.new ≡ held self.old }
         ensures cut { L.is_honest → OnOk result (self.new ≡ without_tail self.old) }
@@ -455,7 +462,7 @@ impl<L: Log, I: Unordered<Value = u64>> Store<L, I> {
         }
     }
 
-    /// The log.
+    /// The log, to be opened anew.
     pub fn into_log(self) -> L
     where
         I: Drop,

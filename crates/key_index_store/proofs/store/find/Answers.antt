@@ -1,9 +1,9 @@
-use Rattle.std.proofs.Common.{[], ◌∷◌, length, Some, refl, sym, ap, slice_get, ◌∙◌, length-append, arith}
+use Rattle.std.proofs.Common.{◌≡◌, ◌<◌, [], ◌∷◌, length, Some, refl, sym, ap, slice_get, ◌∙◌, length-append, arith}
 use Rattle.std.proofs.lemmas.Iterator.Consumers.{YieldsList-turn, YieldsList-so_far, YieldsList-from_first}
 use Rattle.std.specs.Option.{option_map}
 use Rattle.std.specs.Str.{bytes_eq}
 use Rattle.key_index_store.specs.Indexed.{entry_at, key_at, parts_of, value_in}
-use Rattle.key_index_store.proofs.EntryLemmas.{found_at, key_told, passed_by}
+use Rattle.key_index_store.proofs.EntryLemmas.{found_at, key_told, passed_by, within_all}
 use Rattle.key_index_store.proofs.store.find.Goals as goal
 
 pub returns-then-eq-clause-found : goal.returns-then-eq-clause-found
@@ -36,8 +36,9 @@ returns-then-eq-clause-within g c =
     let all = c.into_iter-position-iterator.result in
     let road = YieldsList-from_first (λ x. x.now) (λ values. values) all refl in
     let turn = YieldsList-turn road c.loop-position.yielded _ c.loop-position.yielded_by _ _ c.in-Some.position c.in-Some.is c.next.ensures.steps in
-    let long = ap (λ l. length l) c.into_iter-position-iterator.ensures.into_iter_gives in
-    omega (arith, turn.0, long, c.loop-position.invariant.counted)
+    let here : length c.loop-position.yielded < length all = turn.0 in
+    let long : length all ≡ length c.args.positions = ap (λ l. length l) c.into_iter-position-iterator.ensures.into_iter_gives in
+    within_all _ _ _ _ c.loop-position.invariant.counted here long
 
 pub loop-position-preserved : goal.loop-position-preserved
 loop-position-preserved g c =
