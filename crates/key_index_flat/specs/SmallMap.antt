@@ -21,10 +21,12 @@ abbrev pub NoneBefore : {K V : Type 0} → (K → K → Bool) → List (K × V) 
 NoneBefore {K} {V} eq pairs place k = (i : ℕ) (e : K × V) → i < place → slice_get pairs i ≡ Some e → eq k e.0 ≡ false
 
 abbrev pub AreTagged : {K V : Type 0} → (K → List (List ℕ)) → List ℕ → List (K × V) → Type 0
-AreTagged {K} {V} input tags pairs = (i : ℕ) (e : K × V) → i < 16 → slice_get pairs i ≡ Some e → slice_index tags i ≡ tag_of (input e.0)
+AreTagged {K} {V} input tags pairs =
+    (i : ℕ) (e : K × V) → i < 16 → slice_get pairs i ≡ Some e → slice_index tags i ≡ tag_of (input e.0)
 
 abbrev pub AreTaggedBut : {K V : Type 0} → (K → List (List ℕ)) → List ℕ → List (K × V) → ℕ → Type 0
-AreTaggedBut {K} {V} input tags pairs place = (i : ℕ) (e : K × V) → i < 16 → i ≢ place → slice_get pairs i ≡ Some e → slice_index tags i ≡ tag_of (input e.0)
+AreTaggedBut {K} {V} input tags pairs place =
+    (i : ℕ) (e : K × V) → i < 16 → i ≢ place → slice_get pairs i ≡ Some e → slice_index tags i ≡ tag_of (input e.0)
 
 abbrev pub entries_in : {K V S B : Type 0} → List (K × V) → Option (Box (HashMap K V S) B) → List (K × V)
 entries_in pairs None = pairs

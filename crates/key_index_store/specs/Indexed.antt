@@ -47,7 +47,8 @@ module _ {K : Type 0} (cmp : K → K → Ordering) where
   abbrev pub Settles : Bool → View K ℕ → List ℕ → Bool → Option ℕ → ℕ → View K ℕ → Type 0
   Settles first s key true (Some place) position t = t ≡ with_edit cmp s (s.slot key) (λ l. slice_set l place position)
   Settles first s key true None position t = t ≡ after_insert cmp first s key position
-  Settles first s key false (Some place) position t = t ≡ with_pruned (with_edit cmp s (s.slot key) (λ l. remove l place)) 1
+  Settles first s key false (Some place) position t =
+      t ≡ with_pruned (with_edit cmp s (s.slot key) (λ l. remove l place)) 1
   Settles first s key false None position t = t ≡ s
 
 -- without the newest position of a list

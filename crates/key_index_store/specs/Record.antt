@@ -62,14 +62,16 @@ marked (suc zero ∷ rest) key value = Complete (record { key = key; value = Som
 marked head key value = Damaged
 
 abbrev pub fields_of : List ℕ → Outcome
-fields_of bytes = marked (take 9 bytes) (take (number_at 1 bytes) (drop 9 bytes)) (drop (number_at 1 bytes) (drop 9 bytes))
+fields_of bytes =
+    marked (take 9 bytes) (take (number_at 1 bytes) (drop 9 bytes)) (drop (number_at 1 bytes) (drop 9 bytes))
 
 -- by a body, and the bytes that stand behind it
 abbrev pub checked : List ℕ → List ℕ → Outcome
 checked bytes rest = if bytes_eq (take 4 rest) (number (crc32 bytes)) then fields_of bytes else Damaged
 
 abbrev pub reading : List ℕ → Outcome
-reading bytes = if is_torn bytes then Torn else checked (take (body_length bytes) bytes) (drop (body_length bytes) bytes)
+reading bytes =
+    if is_torn bytes then Torn else checked (take (body_length bytes) bytes) (drop (body_length bytes) bytes)
 
 -- what is read was encoded: it stands at the front of the bytes
 abbrev pub IsFound : List ℕ → Outcome → Type 0
