@@ -14,8 +14,8 @@ ghost use Rattle.key_index_uses.specs.Exclusion.{has_key, Excludes};
 use key_index_flat::index::implement::{Lists, visit_by_place};
 use key_index_flat::index::unordered::Index;
 use key_index_flat::index::{
-    Cursor, Factory, Fault, IndexCursor, Keyed, Ordered, Refused, Runs, Unordered, Values,
-    resolve_next, resolve_prev,
+    Command, Cursor, Factory, Fault, IndexCursor, Keyed, Ordered, Outcome, Refused, Runs, Search,
+    Unordered, Values, resolve_next, resolve_prev, run,
 };
 use key_index_flat::translator::{OneCap, TwoCap};
 use key_index_parts::index::partitioned::{self, grouping_and_order};
@@ -28,6 +28,33 @@ pub fn newest(alloc: Global) -> Result<Option<u64>, Fault> {
         index.insert(key, position)?;
     }
     Ok(index.get(b"\x0b").next().copied())
+}
+
+/// Removes a position from the list of a key. Tells whether it was there.
+pub fn forget(index: &mut Index<OneCap, u64>, key: &[u8], position: u64) -> Result<bool, Fault> {
+    let Some(mut cursor) = index.get_mut(key)? else {
+        return Ok(false);
+    };
+    let found = cursor.find(|held| *held == position);
+    if found {
+        cursor.delete();
+    }
+    Ok(found)
+}
+
+/// Removes a key and files a position under another one, as one list of commands. Gives what each came to.
+pub fn move_to(
+    alloc: Global,
+    index: &mut Index<OneCap, u64>,
+    from: Vec<u8>,
+    to: Vec<u8>,
+    position: u64,
+) -> Result<Vec<Outcome>, Fault> {
+    let commands: Vec<Command<u64, fn(&u64) -> bool>> = Vec::from_array(
+        alloc,
+        [Command::Remove(from), Command::Insert(to, position)],
+    )?;
+    run(alloc, index, commands)
 }
 
 /// Adds a value under a key, and tells how many values the index then holds.
