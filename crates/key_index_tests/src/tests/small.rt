@@ -1,8 +1,8 @@
-//! The constants of each index, the values of a slice, the texts of faults, and the first use of the repository's page.
-use key_index_flat::index::{Fault, Unordered, Values, ordered, unordered};
+//! The constants of each index, the values of a slice, the texts of faults, and the uses of the repository's page.
+use key_index_flat::index::{Factory, Fault, Outcome, Unordered, Values, ordered, unordered};
 use key_index_flat::translator::OneCap;
 use key_index_parts::index::partitioned;
-use key_index_uses::callers::newest;
+use key_index_uses::callers::{forget, move_to, newest};
 use std::test::Fail;
 
 #[test]
@@ -43,4 +43,24 @@ fn insert_order_and_warmth(rt: HostRuntime) {
 #[test]
 fn newest_is_given(rt: HostRuntime) {
     assert_eq!(&rt; newest(rt.alloc()).expect(&rt, "newest"), Some(2));
+}
+
+#[test]
+fn positions_are_forgotten_and_moved(rt: HostRuntime) {
+    let alloc = rt.alloc();
+    let mut index =
+        unordered::Index::<OneCap, u64>::new(alloc, OneCap).expect(&rt, "an index");
+    for position in [1, 2, 3] {
+        index.insert(b"\x0b", position).expect(&rt, "insert");
+    }
+    assert!(&rt; forget(&mut index, b"\x0b\x77", 2).expect(&rt, "forget"));
+    assert!(&rt; !forget(&mut index, b"\x0b", 2).expect(&rt, "forget"));
+    assert!(&rt; !forget(&mut index, b"\x1c", 1).expect(&rt, "forget"));
+    assert!(&rt; index.get(b"\x0b").copied().eq([3, 1]));
+    let from = Vec::from_array(alloc, [0x0b]).expect(&rt, "a key");
+    let to = Vec::from_array(alloc, [0x1c, 0]).expect(&rt, "a key");
+    let outcomes = move_to(alloc, &mut index, from, to, 7).expect(&rt, "run");
+    assert_eq!(&rt; outcomes.as_slice(), &[Outcome::Done, Outcome::Done]);
+    assert!(&rt; index.get(b"\x0b").is_empty());
+    assert!(&rt; index.get(b"\x1c").copied().eq([7]));
 }
