@@ -3,7 +3,7 @@
 --     copied_none, copied_more     before the first one, and after one more
 --     copied_all                   where none is left
 --     next_fits, next_there, room  of an entry that is copied: it fits; there is one; the copy isn't full
-use Rattle.std.proofs.Common.{◌≡◌, ℕ, suc, ◌+◌, ◌<◌, ◌≤◌, Bool, true, false, cond, T, List, [], ◌∷◌, ◌++◌, length, map, take, Option, Some, None, is_some, All, refl, sym, ap, subst, ◌∙◌, append-nil, append_assoc, length-append, arith}
+use Rattle.std.proofs.Common.{rules, ◌≡◌, ◌⊎◌, ℕ, suc, ◌+◌, ◌-◌, ◌^◌, ◌<◌, ◌≤◌, Bool, true, false, cond, T, List, [], ◌∷◌, ◌++◌, length, map, take, Option, Some, None, is_some, All, refl, sym, ap, subst, ◌∙◌, append-nil, append_assoc, length-append, arith}
 use Rattle.std.proofs.lemmas.Bool.{false≢true}
 use Rattle.std.proofs.lemmas.Grind.{flat_map-append}
 use Rattle.std.proofs.lemmas.List.{map-append, take_all}
@@ -23,7 +23,9 @@ use Rattle.key_index_flat.specs.laws.Laws.{first, second}
 use Rattle.key_index_flat.specs.Neighbours.{entries_above, first_entry}
 use Rattle.key_index_flat.proofs.content.ContentLemmas.{less, tied}
 use Rattle.key_index_store.specs.Record.{Entry, Fits, encoded}
-use Rattle.key_index_store.specs.Stored.{Stored, Values, after_record, compacted, held, entries_behind, held_by, put_of, records_of, with_record}
+use Rattle.key_index_store.specs.Stored.{MayRead, MayRefuse, Stored, Values, after_record, compacted, held, entries_behind, held_by, put_of, records_of, with_record}
+use Rattle.key_index_store.specs.declared.store.Fault.{Fault}
+use Rattle.key_index_store.specs.declared.store.Fault.TheVariants as fault
 use Rattle.key_index_store.proofs.EntryLemmas.{exact_bytes, same}
 use Rattle.key_index_store.proofs.IndexLemmas.{get_with}
 use Rattle.key_index_store.proofs.LogLemmas.{spelled_records}
@@ -123,6 +125,10 @@ fits_held (r ∷ rs) m all fit k v at =
       | false ↦ λ t is. fit q w is
     ] refl (sym (get_with m r.key r.value q) ∙ there)) k v at
 
+pub nothing : {X : Type 0} (l : List X) → length l ≡ 0 → l ≡ []
+nothing [] e = refl
+nothing (x ∷ xs) e = absurd (omega (arith, e))
+
 -- ---- a copy
 
 abbrev pub copy_of : List Pair → Stored
@@ -162,6 +168,9 @@ module _ (m : Values) (last : Option (List ℕ)) (n : ℕ) (copy : Stored) (h : 
       let none = len-empty byte_cmp (List ℕ) in
       omega (arith, ap (λ x. len x) held_is, least, none, h.counted)
 
+  pub ends : copy.end ≡ length copy.log
+  ends = ap (λ s. s.end) h.copied ∙ sym (ap (λ s. length s.log) h.copied)
+
   pub next_there : n < len m → is_some (first_entry (entries_behind last m)) ≡ true
   next_there less = there h.rest h.left
     where
@@ -172,12 +181,8 @@ module _ (m : Values) (last : Option (List ℕ)) (n : ℕ) (copy : Stored) (h : 
   pub copied_all : n ≡ len m → (copy ≡ compacted m) × (held copy ≡ m)
   copied_all full =
       let long = ap (λ l. length l) h.split ∙ length-append h.done h.rest in
-      let all : entries m ≡ h.done = h.split ∙ ap (λ l. h.done ++ l) (no_more h.rest (omega (arith, long, len-entries m, h.counted, full))) ∙ append-nil h.done in
+      let all : entries m ≡ h.done = h.split ∙ ap (λ l. h.done ++ l) (nothing h.rest (omega (arith, long, len-entries m, h.counted, full))) ∙ append-nil h.done in
       (h.copied ∙ ap copy_of (sym all), held_is ∙ ap (λ es. fold after_record empty (map put_of es)) (sym all) ∙ put_all_map m)
-    where
-      no_more : (l : List Pair) → length l ≡ 0 → l ≡ []
-      no_more [] e = refl
-      no_more (x ∷ xs) e = absurd (omega (arith, e))
 
   module _ (e : Pair) (is : Some e ≡ first_entry (entries_behind last m)) where
     found : (more : List Pair) × (entries_behind last m ≡ e ∷ more)
@@ -208,6 +213,16 @@ module _ (m : Values) (last : Option (List ℕ)) (n : ℕ) (copy : Stored) (h : 
           copied = after ∙ ap (λ s. with_record s (put_of e)) h.copied ∙ (λ i. record { log = log i; end = length (log i) });
         }
 
+-- why a record is refused that fits, where there is room for it
+pub may_copy : (s : Stored) (r : Entry) (f : Fault) (X : Type 0) → Fits r → s.end ≡ length s.log → len (held s) < 2 ^ 64 - 1 → MayRefuse s r f → MayRead f ⊎ (f ≡ fault.WriteFailed) ⊎ X
+may_copy s r fault.Memory X fits ends room may = search rules
+may_copy s r fault.Full X fits ends room may = absurd (omega (arith, may.1, room))
+may_copy s r fault.TooLong X fits ends room may = absurd (may fits)
+may_copy s r fault.ReadFailed X fits ends room may = search rules
+may_copy s r fault.WriteFailed X fits ends room may = search rules
+may_copy s r fault.Tail X fits ends room may = absurd (omega (arith, may, ends))
+may_copy s r fault.Changed X fits ends room may = absurd may
+
 pub next_fits : (log : List ℕ) → All Fits (records_of log) → (k v : List ℕ) → get (held_by log) k ≡ Some v → Fits (put_of (k, v))
 next_fits log fit k v at = fits_held (records_of log) empty fit (λ q w none. absurd (false≢true (ap is_some (sym (get-empty byte_cmp q) ∙ none)))) k v at
 
@@ -233,7 +248,7 @@ all_above : (es : List Pair) → find byte_cmp [] es ≡ None → entries_above 
 all_above [] none = refl
 all_above (e ∷ es) none =
     elim (e.0) as (λ k. cond (is_eq (byte_cmp [] k)) (Some e.1) (find byte_cmp [] es) ≡ None
-        → ◌≡◌ {A = List Pair} (cond (is_lt (byte_cmp [] k)) ((k, e.1) ∷ entries_above byte_cmp es []) (entries_above byte_cmp es [])) ((k, e.1) ∷ es)) [
+    → ◌≡◌ {A = List Pair} (cond (is_lt (byte_cmp [] k)) ((k, e.1) ∷ entries_above byte_cmp es []) (entries_above byte_cmp es [])) ((k, e.1) ∷ es)) [
       | [] ↦ λ is. absurd (false≢true (sym (ap is_some is)))
       | x ∷ xs ↦ λ is. ap (λ l. (x ∷ xs, e.1) ∷ l) (all_above es is)
     ] none

@@ -11,11 +11,10 @@ ghost use Rattle.key_index_store.specs.Stored.{Leaves, LeavesLog, MayRead, MayRe
 mod compact;
 mod neighbours;
 
-pub use neighbours::Gap;
-
 use crate::log::Log;
 use crate::record::{HEAD, Reading, Record, decode, encode, record_length};
 use key_index_flat::index::{self, Refused, Unordered, Values};
+pub use neighbours::Gap;
 use std::alloc::{AllocError, Global};
 use std::marker::Model;
 
