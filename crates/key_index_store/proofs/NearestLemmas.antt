@@ -8,7 +8,7 @@ use Rattle.std.proofs.lemmas.List.Elements.{All-cons, All-filter, All-head, All-
 use Rattle.std.specs.BTreeMap.Range.{IsLeBy}
 use Rattle.std.specs.Cmp.{IsTotalOrder, on_total, tied_itself}
 use Rattle.std.specs.FinMap.{entries, find, get-entries, is_sorted}
-use Rattle.std.specs.List.{filter, last_or}
+use Rattle.std.specs.List.{last_or}
 use Rattle.std.specs.Option.{IfSome, option_map, unwrap_or}
 use Rattle.std.specs.Ordering.{flip_args, is_eq, is_lt, on}
 use Rattle.std.specs.declared.cmp.Ordering.{Ordering}

@@ -19,7 +19,7 @@ use Rattle.key_index_flat.specs.Content.{IsLawful}
 use Rattle.key_index_flat.specs.FullKeys.{IsBytes, byte_cmp}
 use Rattle.key_index_flat.specs.View.{View, run_of}
 use Rattle.key_index_flat.proofs.content.ContentLemmas.{tied}
-use Rattle.key_index_store.specs.Indexed.{Indexes, IsLive, IsUnder, Settles, entry_at, key_at, value_in}
+use Rattle.key_index_store.specs.Indexed.{Indexes, IsLive, IsUnder, Settles, entry_at, value_in}
 use Rattle.key_index_store.specs.Record.{Entry, Fits, Stops, encoded, reading}
 use Rattle.key_index_store.specs.Stored.{LeavesLog, Stored, Values, after_record, opened, records_of, held_by, with_value}
 use Rattle.key_index_store.specs.declared.store.Fault.{Fault}

@@ -1,4 +1,4 @@
-use Rattle.std.proofs.Common.{◌≡◌, List, Option, Some, None, Vec, Global, [], sym, ap, ◌∙◌}
+use Rattle.std.proofs.Common.{◌≡◌, Some, None, [], sym, ap, ◌∙◌}
 use Rattle.std.specs.FinMap.{entries, get}
 use Rattle.std.specs.Option.{option_map}
 use Rattle.key_index_flat.specs.Neighbours.{first_entry}
