@@ -16,13 +16,15 @@ use key_index_store::store::{Store, Tail};
 use order::{Order, With, Without};
 use session::run_lines;
 use std::env;
-use std::io::{BufReader, BufWriter, Write};
+use std::io::{BufReader, BufWriter, ErrorKind, Write};
 use std::process::ExitCode;
 
-/// The arguments without the program's name.
+/// The arguments without the program's name. One that is no text names no file and no kind.
 fn words(rt: &HostRuntime) -> Result<Vec<String>, Failure> {
-    let Ok(args) = env::args(rt) else {
-        return Err(Failure::Usage);
+    let args = match env::args(rt) {
+        Ok(args) => args,
+        Err(error) if error.kind() == ErrorKind::InvalidData => return Err(Failure::Usage),
+        Err(_) => return Err(Failure::Failed),
     };
     match args.skip(1).collect(rt.alloc()) {
         Ok(words) => Ok(words),

@@ -67,7 +67,12 @@ fn answer<I: Factory<Translator = EightCap, Value = u64> + Drop, O: Order<I>, W:
 }
 
 /// Runs the commands of the input's lines, to its end.
-pub fn run_lines<I: Factory<Translator = EightCap, Value = u64> + Drop, O: Order<I>, R: BufRead, W: Write>(
+pub fn run_lines<
+    I: Factory<Translator = EightCap, Value = u64> + Drop,
+    O: Order<I>,
+    R: BufRead,
+    W: Write,
+>(
     rt: &HostRuntime,
     store: &mut Store<FileLog, I>,
     input: &mut R,
