@@ -3,10 +3,10 @@
 --     passed_by, found_at, key_told        a walk along the list
 --     put_look, set_look, out_look         what each key has after one went in, took the place of another, or went out
 --     put_distinct, set_keys, out_distinct      still no two have one key
-use Rattle.std.proofs.Common.{◌≡◌, ℕ, zero, suc, ◌<◌, Bool, true, false, cond, ◌||◌, T, List, [], ◌∷◌, ◌++◌, length, map, take, Option, Some, None, is_some, slice_get, slice_set, slice_index_or, All, refl, sym, ap, subst, ◌∙◌, arith}
+use Rattle.std.proofs.Common.{◌≡◌, ℕ, zero, suc, ◌<◌, Bool, true, false, cond, ◌||◌, T, List, [], ◌∷◌, ◌++◌, length, map, take, Option, Some, None, is_some, slice_get, slice_set, slice_index_or, get_or, Fits, w8, All, refl, sym, ap, subst, ◌∙◌, arith}
 use Rattle.std.proofs.lemmas.Bool.{false≢true}
 use Rattle.std.proofs.lemmas.List.{map-append}
-use Rattle.std.proofs.lemmas.List.Elements.{All-nil, All-cons, All-head, All-tail, All-append}
+use Rattle.std.proofs.lemmas.List.Elements.{All-nil, All-cons, All-head, All-tail, All-append, All-from_get_or}
 use Rattle.std.proofs.lemmas.Map.Keys.{IsDistinct-head, IsDistinct-tail, IsDistinct-cons, IsDistinct-push}
 use Rattle.std.proofs.lemmas.Slice.Eq.{bytes_eq-Decides}
 use Rattle.std.specs.Cmp.{eq_by_cmp_equiv, tied_itself}
@@ -18,12 +18,16 @@ use Rattle.std.specs.Prelude.{remove}
 use Rattle.std.specs.Option.{option_map, unwrap_or}
 use Rattle.std.specs.Ordering.{eq_by_cmp, is_eq}
 use Rattle.std.specs.Str.{bytes_eq}
-use Rattle.key_index_flat.specs.FullKeys.{byte_cmp}
+use Rattle.key_index_flat.specs.FullKeys.{IsBytes, byte_cmp}
 use Rattle.key_index_flat.specs.View.{put_value}
 use Rattle.key_index_flat.proofs.content.ContentLemmas.{tied}
 
 pub exact_bytes : IsAntisymmetric byte_cmp
 exact_bytes = slice_cmp-IsAntisymmetric nat_cmp-IsAntisymmetric
+
+-- what stands behind a reference to bytes
+pub bytes_in : (b : List ℕ) → ((i : ℕ) → Fits w8 (get_or b i 0)) → IsBytes b
+bytes_in b h = All-from_get_or (λ n. n < 256) b 0 (λ i within. let fits = h i in omega (arith, fits))
 
 abbrev pub same : List ℕ → List ℕ → Bool
 same a b = eq_by_cmp byte_cmp a b

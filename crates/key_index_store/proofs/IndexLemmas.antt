@@ -16,11 +16,11 @@ use Rattle.std.specs.Prelude.{remove}
 use Rattle.std.specs.declared.cmp.Ordering.{Ordering}
 use Rattle.std.specs.declared.cmp.Ordering.TheVariants.{Equal}
 use Rattle.key_index_flat.specs.Content.{Content, item_count, list_at, with_list, IsLawful}
-use Rattle.key_index_flat.specs.FullKeys.{byte_cmp}
+use Rattle.key_index_flat.specs.FullKeys.{IsBytes, byte_cmp}
 use Rattle.key_index_flat.specs.View.{View, after_insert, put_value, run_at, run_of, with_edit, with_pruned}
 use Rattle.key_index_flat.proofs.content.ContentLemmas.{item_count-with_list, list_at-with_list, tied, with_list-same, with_list-twice}
 use Rattle.key_index_flat.proofs.runs.ViewLemmas.{same_content, same_slot}
-use Rattle.key_index_store.specs.Indexed.{Indexes, IsLive, KeepsLists, Settles, entry_at, key_at, parts_of, value_in, without_newest}
+use Rattle.key_index_store.specs.Indexed.{Indexes, IsLive, IsUnder, KeepsLists, Settles, entry_at, key_at, parts_of, value_in, without_newest}
 use Rattle.key_index_store.specs.Record.{Entry, Fits, Complete, bytes_of, encoded}
 use Rattle.key_index_store.specs.declared.store.Found.{Found}
 use Rattle.key_index_store.specs.Stored.{Values, held_by, with_value}
@@ -72,14 +72,14 @@ place_below e key (x ∷ xs) (suc i) at = let rest = place_below e key xs i at i
 
 -- ---- maps
 
-get_with : (m : Values) (k : List ℕ) (o : Option (List ℕ)) (a : List ℕ) → get (with_value m k o) a ≡ cond (same a k) o (get m a)
+pub get_with : (m : Values) (k : List ℕ) (o : Option (List ℕ)) (a : List ℕ) → get (with_value m k o) a ≡ cond (same a k) o (get m a)
 get_with m k None a = get-remove nat_list_cmp_total m k a
 get_with m k (Some v) a = get-insert nat_list_cmp_total m k v a
 
 -- ---- one record more
 
 module _ {K : Type 0} {cmp : K → K → Ordering} (o : IsTotalOrder cmp) (exact : (x y : K) → cmp x y ≡ Equal → x ≡ y) (first : Bool) where
-  module _ (log : List ℕ) (r : Entry) (fits : Fits r) (s t : View K ℕ) (hs : IsLawful cmp s.content) (ht : IsLawful cmp t.content) (h : Indexes cmp log s) where
+  module _ (log : List ℕ) (r : Entry) (fits : Fits r) (bytes : IsBytes r.key) (s t : View K ℕ) (hs : IsLawful cmp s.content) (ht : IsLawful cmp t.content) (h : Indexes cmp log s) where
     abbrev longer : List ℕ
     longer = log ++ encoded r
 
@@ -90,20 +90,24 @@ module _ {K : Type 0} {cmp : K → K → Ordering} (o : IsTotalOrder cmp) (exact
     run = run_at cmp s slot
 
     abbrev Under : K → ℕ → Type 0
-    Under k p = IsLive longer p × (s.slot (key_at longer p) ≡ k)
+    Under k p = IsUnder longer s.slot k p
 
     spelling : Spelled log
     spelling = record { spelled = h.spelled; fit = h.fit }
 
     live_in : (k : K) → All (IsLive log) (run_at cmp s k)
-    live_in k = All-weaker (λ p. IsLive log p × (s.slot (key_at log p) ≡ k)) (IsLive log) (λ p q. q.0) (run_at cmp s k) (h.live k)
+    live_in k = All-weaker (IsUnder log s.slot k) (IsLive log) (λ p q. q.0) (run_at cmp s k) (h.live k)
 
     entries : (k : K) → map (entry_at longer) (run_at cmp s k) ≡ map (entry_at log) (run_at cmp s k)
     entries k = entries_there log (encoded r) (run_at cmp s k) (live_in k)
 
     under : (k : K) → All (Under k) (run_at cmp s k)
-    under k = All-weaker (λ p. IsLive log p × (s.slot (key_at log p) ≡ k)) (Under k)
-        (λ p q. (live_more log (encoded r) p q.0, ap (λ (e : List ℕ × List ℕ). s.slot e.0) (entry_there log (encoded r) p q.0) ∙ q.1)) (run_at cmp s k) (h.live k)
+    under k = All-weaker (IsUnder log s.slot k) (Under k)
+        (λ p q. (
+          live_more log (encoded r) p q.0,
+          subst (λ (e : List ℕ × List ℕ). IsBytes e.0) (sym (entry_there log (encoded r) p q.0)) q.1,
+          ap (λ (e : List ℕ × List ℕ). s.slot e.0) (entry_there log (encoded r) p q.0) ∙ q.2,
+        )) (run_at cmp s k) (h.live k)
 
     keys_in : (e : ℕ → List ℕ × List ℕ) (l : List ℕ) → map (λ p. (e p).0) l ≡ map (λ (x : List ℕ × List ℕ). x.0) (map e l)
     keys_in e [] = refl
@@ -126,8 +130,8 @@ module _ {K : Type 0} {cmp : K → K → Ordering} (o : IsTotalOrder cmp) (exact
       list_after : (k : K) → run_at cmp t k ≡ cond (eq_by_cmp cmp k slot) l (run_at cmp s k)
       list_after k = ap (λ c. list_at cmp c k) content ∙ list_at-with_list o s.content slot l k
 
-      live_after : (k : K) → All (λ p. IsLive longer p × (t.slot (key_at longer p) ≡ k)) (run_at cmp t k)
-      live_after k = subst (λ f. All (λ p. IsLive longer p × (f (key_at longer p) ≡ k)) (run_at cmp t k)) (sym slots) (subst (All (Under k)) (sym (list_after k))
+      live_after : (k : K) → All (IsUnder longer t.slot k) (run_at cmp t k)
+      live_after k = subst (λ f. All (IsUnder longer f k) (run_at cmp t k)) (sym slots) (subst (All (Under k)) (sym (list_after k))
           (elim (eq_by_cmp cmp k slot) as (λ b. eq_by_cmp cmp k slot ≡ b → All (Under k) (cond b l (run_at cmp s k))) [
             | true ↦ λ e. subst (λ q. All (Under q) l) (sym (exact k slot (tied _ e))) live
             | false ↦ λ e. under k
@@ -193,7 +197,8 @@ module _ {K : Type 0} {cmp : K → K → Ordering} (o : IsTotalOrder cmp) (exact
           ∙ (λ i. Complete (record { key = (sym last_entry i).0; value = Some ((sym last_entry i).1) }))
 
       last_under : Under slot last
-      last_under = (last_live, ap (λ (e : List ℕ × List ℕ). s.slot e.0) last_entry)
+      last_under =
+          (last_live, subst (λ (e : List ℕ × List ℕ). IsBytes e.0) (sym last_entry) bytes, ap (λ (e : List ℕ × List ℕ). s.slot e.0) last_entry)
 
       own_key : key_at longer last ≡ r.key
       own_key = ap (λ (e : List ℕ × List ℕ). e.0) last_entry
@@ -266,14 +271,14 @@ module _ {K : Type 0} {cmp : K → K → Ordering} (o : IsTotalOrder cmp) (exact
     at_in more place at = at_along (entry_at (log ++ more)) (entry_at longer) r.key run place (entries_there log more run (live_in slot) ∙ sym (entries slot)) at
 
   -- by the whole log, and by what the code has
-  pub filed : (front back content : List ℕ) (r : Entry) (fits : Fits r) (s t : View K ℕ) → IsLawful cmp s.content → IsLawful cmp t.content → Indexes cmp front s → content ≡ front ++ back
+  pub filed : (front back content : List ℕ) (r : Entry) (fits : Fits r) → IsBytes r.key → (s t : View K ℕ) → IsLawful cmp s.content → IsLawful cmp t.content → Indexes cmp front s → content ≡ front ++ back
       → (key positions : List ℕ) → key ≡ r.key → positions ≡ run_of cmp s key → (b : Bool) → b ≡ is_some r.value → (place : Option ℕ) → IsAt (entry_at content) key positions place
       → (position : ℕ) → position ≡ length front → Settles cmp first s key b place position t → Indexes cmp (front ++ encoded r) t
-  filed front back content r fits s t hs ht h whole key positions own run b has place at position end is =
+  filed front back content r fits bytes s t hs ht h whole key positions own run b has place at position end is =
       let listed : positions ≡ run_of cmp s r.key = run ∙ ap (run_of cmp s) own in
       let found : IsAt (entry_at (front ++ back)) r.key (run_of cmp s r.key) place =
       subst (λ (x : List ℕ × List ℕ × List ℕ). IsAt (entry_at x.0) x.1 x.2 place) (λ i. (whole i, own i, listed i)) at in
-      settled front r fits s t hs ht h b has place (at_in front r fits s t hs ht h back place found)
+      settled front r fits bytes s t hs ht h b has place (at_in front r fits bytes s t hs ht h back place found)
       (subst (λ (x : List ℕ × ℕ). Settles cmp first s x.0 b place x.1 t) (λ i. (own i, end i)) is)
 
   -- ---- a position that goes in and out again
@@ -325,7 +330,7 @@ module _ {K : Type 0} (cmp : K → K → Ordering) where
   indexes_none s none = record {
     spelled = spelled_none.spelled;
     fit = spelled_none.fit;
-    live = λ k. subst (λ c. All (λ p. IsLive [] p × (s.slot (key_at [] p) ≡ k)) (list_at cmp c k)) (sym none) (All-nil (λ p. IsLive [] p × (s.slot (key_at [] p) ≡ k)));
+    live = λ k. subst (λ c. All (IsUnder [] s.slot k) (list_at cmp c k)) (sym none) (All-nil (IsUnder [] s.slot k));
     once = λ k. subst (λ c. IsDistinct same (map (key_at []) (list_at cmp c k))) (sym none) none_distinct;
     found = λ a. ap (λ c. value_in [] a (list_at cmp c (s.slot a))) none ∙ sym (ap (λ m. get m a) held_none ∙ get-empty byte_cmp a);
     counted = ap item_count none ∙ sym (ap (λ m. len m) held_none ∙ len-empty byte_cmp (List ℕ));
@@ -338,7 +343,7 @@ module _ {K : Type 0} (cmp : K → K → Ordering) where
   indexes_kept log s t h same = record {
     spelled = h.spelled;
     fit = h.fit;
-    live = λ k. subst (λ (p : Content K ℕ × (List ℕ → K)). All (λ n. IsLive log n × (p.1 (key_at log n) ≡ k)) (list_at cmp p.0 k)) (sym (pair same)) (h.live k);
+    live = λ k. subst (λ (p : Content K ℕ × (List ℕ → K)). All (IsUnder log p.1 k) (list_at cmp p.0 k)) (sym (pair same)) (h.live k);
     once = λ k. subst (λ c. IsDistinct (eq_by_cmp byte_cmp) (map (key_at log) (list_at cmp c k))) (sym same.0) (h.once k);
     found = λ a. (λ i. value_in log a (list_at cmp (same.0 i) (same.1 i a))) ∙ h.found a;
     counted = ap item_count same.0 ∙ h.counted;

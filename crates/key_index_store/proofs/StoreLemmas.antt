@@ -16,10 +16,10 @@ use Rattle.std.specs.Option.{option_map}
 use Rattle.std.specs.declared.cmp.Ordering.{Ordering}
 use Rattle.std.specs.declared.cmp.Ordering.TheVariants.{Equal}
 use Rattle.key_index_flat.specs.Content.{IsLawful}
-use Rattle.key_index_flat.specs.FullKeys.{byte_cmp}
+use Rattle.key_index_flat.specs.FullKeys.{IsBytes, byte_cmp}
 use Rattle.key_index_flat.specs.View.{View, run_of}
 use Rattle.key_index_flat.proofs.content.ContentLemmas.{tied}
-use Rattle.key_index_store.specs.Indexed.{Indexes, IsLive, Settles, entry_at, key_at, value_in}
+use Rattle.key_index_store.specs.Indexed.{Indexes, IsLive, IsUnder, Settles, entry_at, value_in}
 use Rattle.key_index_store.specs.Record.{Entry, Fits, Stops, encoded, reading}
 use Rattle.key_index_store.specs.Stored.{LeavesLog, Stored, Values, after_record, opened, records_of, held_by, with_value}
 use Rattle.key_index_store.specs.declared.store.Fault.{Fault}
@@ -33,12 +33,12 @@ module _ {K : Type 0} (cmp : K → K → Ordering) where
   looked_up log end s key h =
       let front = take end log in
       let run = run_of cmp s key in
-      let live = All-weaker (λ p. IsLive front p × (s.slot (key_at front p) ≡ s.slot key)) (IsLive front) (λ p q. q.0) run (h.live (s.slot key)) in
+      let live = All-weaker (IsUnder front s.slot (s.slot key)) (IsLive front) (λ p q. q.0) run (h.live (s.slot key)) in
       ap (λ l. value_in l key run) (sym (take-append-drop end log)) ∙ ap (find byte_cmp key) (entries_there front (drop end log) run live) ∙ h.found key
 
   pub live_whole : (front back log : List ℕ) (s : View K ℕ) (key : List ℕ) → log ≡ front ++ back → Indexes cmp front s → All (IsLive log) (run_of cmp s key)
   live_whole front back log s key whole h =
-      All-weaker (λ p. IsLive front p × (s.slot (key_at front p) ≡ s.slot key)) (IsLive log)
+      All-weaker (IsUnder front s.slot (s.slot key)) (IsLive log)
       (λ p q. subst (λ l. IsLive l p) (sym whole) (live_more front back p q.0)) (run_of cmp s key) (h.live (s.slot key))
 
 -- a store whose log is its records alone, and what it is after one more
@@ -49,13 +49,13 @@ pub record Written {K : Type 0} (cmp : K → K → Ordering) (old new : List ℕ
   pub logged : ◌≡◌ {A = Stored} (record { log = new; end = end }) (record { log = old ++ encoded r; end = length (old ++ encoded r) })
 
 module _ {K : Type 0} {cmp : K → K → Ordering} (o : IsTotalOrder cmp) (exact : (x y : K) → cmp x y ≡ Equal → x ≡ y) (first : Bool) where
-  pub written : (old new : List ℕ) (end newer : ℕ) (r : Entry) (fits : Fits r) (s t : View K ℕ) → IsLawful cmp s.content → IsLawful cmp t.content → Indexes cmp (take end old) s → end ≡ length old
+  pub written : (old new : List ℕ) (end newer : ℕ) (r : Entry) (fits : Fits r) → IsBytes r.key → (s t : View K ℕ) → IsLawful cmp s.content → IsLawful cmp t.content → Indexes cmp (take end old) s → end ≡ length old
       → (positions : List ℕ) → positions ≡ run_of cmp s r.key → (b : Bool) → b ≡ is_some r.value → (place : Option ℕ) → IsAt (entry_at old) r.key positions place
       → Settles cmp first s r.key b place end t → new ≡ old ++ encoded r → newer ≡ length new → Written cmp old new end newer r t
-  written old new end newer r fits s t hs ht h none positions run b has place at is appended length_is =
+  written old new end newer r fits bytes s t hs ht h none positions run b has place at is appended length_is =
       let all : take end old ≡ old = take_all end old (omega (arith, none)) in
       let indexed : Indexes cmp old s = subst (λ l. Indexes cmp l s) all h in
-      let longer = filed o exact first old [] old r fits s t hs ht indexed (sym (append-nil old)) r.key positions refl run b has place at end none is in
+      let longer = filed o exact first old [] old r fits bytes s t hs ht indexed (sym (append-nil old)) r.key positions refl run b has place at end none is in
       let whole : take newer new ≡ old ++ encoded r = take_all newer new (omega (arith, length_is)) ∙ appended in
       record {
         within = omega (arith, length_is);

@@ -4,16 +4,24 @@
 --     held_by             the map that they leave, from the empty one on
 --     Stored              a log, and how many of its bytes the complete records take that a store knows of
 --     held                the map of a store
+--     entry_after, entry_before  the entry with the least key strictly above one, and with the greatest strictly below
+--     gap_in              of a key without a value both of them
+--     entries_behind      the entries with keys above one, or all where none is given
+--     in_bytes            an entry that the code has
 --     with_record         after a record was appended
 --     without_tail        after what stands behind them was cut off
 --     Leaves              after a call that would have appended some bytes was refused
 --     MayRead, MayRefuse  why a call may be refused
 --     opened              a store on a log that is opened
+--     compacted           a store whose log has a record of each entry of a map, in the order of the keys, and nothing else
 --     tail_of             what stands behind the last complete record
-use Rattle.std.specs.Prelude.{◌≡◌, ◌⊎◌, ◌<◌, ◌-◌, ◌^◌, ℕ, zero, suc, List, [], ◌∷◌, ◌++◌, length, take, drop, Option, Some, None}
-use Rattle.std.specs.FinMap.{FinMap, empty, get, insert, len, remove}
+use Rattle.std.specs.Prelude.{◌≡◌, ◌⊎◌, ◌<◌, ◌-◌, ◌^◌, ℕ, zero, suc, List, [], ◌∷◌, ◌++◌, length, map, take, drop, Option, Some, None, is_some, if◌then◌else◌, Vec}
+use Rattle.std.specs.FinMap.{FinMap, empty, entries, get, insert, len, remove}
 use Rattle.std.specs.List.{flat_map, fold}
+use Rattle.std.specs.Option.{option_map}
+use Rattle.std.specs.declared.alloc.Global.{Global}
 use Rattle.key_index_flat.specs.FullKeys.{byte_cmp}
+use Rattle.key_index_flat.specs.Neighbours.{entries_above, entries_below, first_entry, last_entry}
 use Rattle.key_index_flat.specs.declared.index.Fault as index
 use Rattle.key_index_flat.specs.declared.index.Fault.TheVariants as index_fault
 use Rattle.key_index_store.specs.Log.{IsBegun}
@@ -59,11 +67,34 @@ pub record Stored : Type 0 where
 abbrev pub held : Stored → Values
 held s = held_by (take s.end s.log)
 
+abbrev pub entry_after : Values → List ℕ → Option (List ℕ × List ℕ)
+entry_after m key = first_entry (entries_above byte_cmp (entries m) key)
+
+abbrev pub entry_before : Values → List ℕ → Option (List ℕ × List ℕ)
+entry_before m key = last_entry (entries_below byte_cmp (entries m) key)
+
+abbrev pub gap_in : Values → List ℕ → Option (Option (List ℕ × List ℕ) × Option (List ℕ × List ℕ))
+gap_in m key = if is_some (get m key) then None else Some (entry_before m key, entry_after m key)
+
+abbrev pub entries_behind : Option (List ℕ) → Values → List (List ℕ × List ℕ)
+entries_behind None m = entries m
+entries_behind (Some key) m = entries_above byte_cmp (entries m) key
+
+abbrev pub in_bytes : Option (Vec ℕ Global × Vec ℕ Global) → Option (List ℕ × List ℕ)
+in_bytes o = option_map (λ e. (e.0.items, e.1.items)) o
+
 abbrev pub with_record : Stored → Entry → Stored
 with_record s r = record { log = s.log ++ encoded r; end = length (s.log ++ encoded r) }
 
 abbrev pub opened : List ℕ → Stored
 opened bytes = record { log = bytes; end = length (flat_map encoded (records_of bytes)) }
+
+-- the record of an entry
+abbrev pub put_of : List ℕ × List ℕ → Entry
+put_of e = record { key = e.0; value = Some e.1 }
+
+abbrev pub compacted : Values → Stored
+compacted m = let bytes = flat_map encoded (map put_of (entries m)) in record { log = bytes; end = length bytes }
 
 -- without what stands behind the records
 abbrev pub without_tail : Stored → Stored

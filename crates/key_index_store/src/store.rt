@@ -2,14 +2,19 @@
 ghost use Rattle.std.specs.Prelude.{◌≡◌, ◌↔◌, ◌⊎◌, ◌<◌, ◌≤◌, ◌^◌, ◌-◌, ℕ, List, [], ◌++◌, if◌then◌else◌, length, take, drop, slice_get, false, Some, None, is_some, All, IsSome, IsTrue, IfSome, IfOk, IfErr, OnOk, OnErr};
 ghost use Rattle.std.specs.FinMap as map;
 ghost use Rattle.std.specs.Option.{option_map};
+ghost use Rattle.key_index_flat.specs.FullKeys.{IsBytes};
 ghost use Rattle.key_index_flat.specs.View.{growth_fault_in, run_of, with_edit, with_pruned};
 ghost use Rattle.key_index_store.specs.Indexed.{Indexes, IsLive, KeepsLists, Settles, key_at, value_in, without_newest};
 ghost use Rattle.key_index_store.specs.Record.{Complete, Fits, IsFound, IsWithin, Stops, encoded, entry_of, outcome_of, reading};
 ghost use Rattle.key_index_store.specs.Stored.{Leaves, LeavesLog, MayRead, MayRefuse, refusal_of, held, held_by, opened, tail_of, with_record, without_tail};
 
+mod compact;
+mod neighbours;
+
 use crate::log::Log;
 use crate::record::{HEAD, Reading, Record, decode, encode, record_length};
 use key_index_flat::index::{self, Refused, Unordered, Values};
+pub use neighbours::Gap;
 use std::alloc::{AllocError, Global};
 use std::marker::Model;
 
@@ -228,6 +233,14 @@ fn withdraw<I: Unordered<Value = u64>>(index: &mut I, key: &[u8])
     index.remove_at(slot, place);
 }
 
+/// The positions that may be those of a key, whose items are bytes.
+fn positions_of<'a, I: Unordered<Value = u64>>(index: &'a I, key: &[u8]) -> Values<'a, u64>
+    ensures run { result ≡ run_of I.Key.cmp (I.view index.now) key.now }
+    ensures bytes { IsBytes key.now }
+{
+    index.get(key)
+}
+
 /// Files the record that stands at a position of a log.
 fn file<L: Log, I: Unordered<Value = u64>>(
     alloc: Global,
@@ -243,7 +256,7 @@ fn file<L: Log, I: Unordered<Value = u64>>(
         → OnOk result (Indexes I.Key.cmp (front ++ encoded (entry_of entry.now)) (I.view index.new)) }
 {
     let key = entry.key.as_slice();
-    let found = find(alloc, log, index.get(key), key)?;
+    let found = find(alloc, log, positions_of(index, key), key)?;
     let place = place_of(&found);
     settle(index, key, entry.value.is_some(), place, position)
 }

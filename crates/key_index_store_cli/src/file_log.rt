@@ -1,13 +1,25 @@
 //! A log over a file.
 
 use key_index_store::log::{Failed, Log};
-use std::fs::{File, OpenFile};
+use std::fs::{File, OpenFile, OpenOptions};
 use std::os::unix::fs::FileExt;
 
 /// A log over a file. No contract says what a file gives back, so nothing is said of its bytes.
 #[derive(Drop)]
 pub struct FileLog {
     pub file: File,
+}
+
+impl FileLog {
+    /// The log of the file at a path, which it makes where there is none.
+    pub fn open(rt: &HostRuntime, path: &str) -> Option<FileLog> {
+        let mut how = OpenOptions::new();
+        how.read(true).write(true).create(true);
+        match how.open(rt, path) {
+            Ok(file) => Some(FileLog { file }),
+            Err(_) => None,
+        }
+    }
 }
 
 impl Log for FileLog {

@@ -10,6 +10,17 @@ pub enum Command {
     Get(Vec<u8>),
     Delete(Vec<u8>),
     Count,
+    InOrder(InOrder),
+}
+
+/// A command that asks for the order of the keys.
+#[derive(Debug, Drop)]
+pub enum InOrder {
+    Next(Vec<u8>),
+    Prev(Vec<u8>),
+    Absent(Vec<u8>),
+    /// With the name of a file.
+    Compact(Vec<u8>),
 }
 
 /// The value of a hexadecimal digit of either case.
@@ -49,52 +60,49 @@ fn bytes_of(alloc: Global, word: &[u8]) -> Result<Option<Vec<u8>>, AllocError> {
 pub fn parse(alloc: Global, line: &[u8]) -> Result<Option<Command>, AllocError> {
     let mut words = line.split(|byte| *byte == b' ');
     let (first, second, third, fourth) = (words.next(), words.next(), words.next(), words.next());
-    let key = match second {
-        Some(word) => bytes_of(alloc, word)?,
-        None => None,
-    };
-    let value = match third {
-        Some(word) => bytes_of(alloc, word)?,
-        None => None,
+    let Some(name) = first else {
+        return Ok(None);
     };
     if fourth.is_some() {
         return Ok(None);
     }
-    let Some(name) = first else {
-        return Ok(None);
-    };
-    Ok(command_of(name, key, value, second.is_some(), third.is_some()))
-}
-
-/// The command of a name with its key and its value.
-fn command_of(
-    name: &[u8],
-    key: Option<Vec<u8>>,
-    value: Option<Vec<u8>>,
-    has_second: bool,
-    has_third: bool,
-) -> Option<Command> {
-    if !has_second {
-        return if name == b"count".as_slice() {
+    let Some(second) = second else {
+        return Ok(if name == b"count".as_slice() {
             Some(Command::Count)
         } else {
             None
-        };
+        });
+    };
+    let Some(third) = third else {
+        return one_word(alloc, name, second);
+    };
+    let (key, value) = (bytes_of(alloc, second)?, bytes_of(alloc, third)?);
+    match (key, value) {
+        (Some(key), Some(value)) if name == b"put".as_slice() => Ok(Some(Command::Put(key, value))),
+        _ => Ok(None),
     }
-    let key = key?;
-    if has_third {
-        let value = value?;
-        return if name == b"put".as_slice() {
-            Some(Command::Put(key, value))
-        } else {
-            None
-        };
+}
+
+/// The command of a name with one word.
+fn one_word(alloc: Global, name: &[u8], word: &[u8]) -> Result<Option<Command>, AllocError> {
+    if name == b"compact".as_slice() {
+        let path = Vec::from_slice(alloc, word)?;
+        return Ok(Some(Command::InOrder(InOrder::Compact(path))));
     }
-    if name == b"get".as_slice() {
+    let Some(key) = bytes_of(alloc, word)? else {
+        return Ok(None);
+    };
+    Ok(if name == b"get".as_slice() {
         Some(Command::Get(key))
     } else if name == b"delete".as_slice() {
         Some(Command::Delete(key))
+    } else if name == b"next".as_slice() {
+        Some(Command::InOrder(InOrder::Next(key)))
+    } else if name == b"prev".as_slice() {
+        Some(Command::InOrder(InOrder::Prev(key)))
+    } else if name == b"absent".as_slice() {
+        Some(Command::InOrder(InOrder::Absent(key)))
     } else {
         None
-    }
+    })
 }

@@ -4,6 +4,7 @@
 mod failure;
 mod file_log;
 mod line;
+mod order;
 mod session;
 
 use failure::Failure;
@@ -12,16 +13,18 @@ use key_index_flat::index::{Factory, ordered, unordered};
 use key_index_flat::translator::EightCap;
 use key_index_parts::index::partitioned;
 use key_index_store::store::{Store, Tail};
+use order::{Order, With, Without};
 use session::run_lines;
 use std::env;
-use std::fs::OpenOptions;
-use std::io::{BufReader, BufWriter, Write};
+use std::io::{BufReader, BufWriter, ErrorKind, Write};
 use std::process::ExitCode;
 
-/// The arguments without the program's name.
+/// The arguments without the program's name. One that is no text names no file and no kind.
 fn words(rt: &HostRuntime) -> Result<Vec<String>, Failure> {
-    let Ok(args) = env::args(rt) else {
-        return Err(Failure::Usage);
+    let args = match env::args(rt) {
+        Ok(args) => args,
+        Err(error) if error.kind() == ErrorKind::InvalidData => return Err(Failure::Usage),
+        Err(_) => return Err(Failure::Failed),
     };
     match args.skip(1).collect(rt.alloc()) {
         Ok(words) => Ok(words),
@@ -29,25 +32,17 @@ fn words(rt: &HostRuntime) -> Result<Vec<String>, Failure> {
     }
 }
 
-/// Opens the file, and makes it where there is none.
-fn open_file(rt: &HostRuntime, path: &str) -> Result<FileLog, Failure> {
-    let mut how = OpenOptions::new();
-    how.read(true).write(true).create(true);
-    match how.open(rt, path) {
-        Ok(file) => Ok(FileLog { file }),
-        Err(_) => Err(Failure::Failed),
-    }
-}
-
 /// Runs the commands on the file at a path, over an index of a kind. What stands behind the last whole record is cut off.
-fn over<I: Factory<Translator = EightCap, Value = u64> + Drop>(
+fn over<I: Factory<Translator = EightCap, Value = u64> + Drop, O: Order<I>>(
     rt: &HostRuntime,
     path: &str,
 ) -> Result<(), Failure>
     requires { I.makes }
 {
     let alloc = rt.alloc();
-    let log = open_file(rt, path)?;
+    let Some(log) = FileLog::open(rt, path) else {
+        return Err(Failure::Failed);
+    };
     let Ok(index) = I::new(alloc, EightCap) else {
         return Err(Failure::Failed);
     };
@@ -68,7 +63,7 @@ fn over<I: Factory<Translator = EightCap, Value = u64> + Drop>(
     let Ok(mut output) = BufWriter::new(alloc, rt.stdout()) else {
         return Err(Failure::Failed);
     };
-    let ended = run_lines(alloc, &mut store, &mut input, &mut output);
+    let ended = run_lines::<I, O, _, _>(rt, &mut store, &mut input, &mut output);
     match output.flush() {
         Ok(()) => ended,
         Err(_) => Err(Failure::Failed),
@@ -84,10 +79,10 @@ fn run(rt: &HostRuntime) -> Result<(), Failure> {
         _ => return Err(Failure::Usage),
     };
     match kind {
-        "unordered" => over::<unordered::Index<EightCap, u64>>(rt, path),
-        "ordered" => over::<ordered::Index<EightCap, u64>>(rt, path),
-        "punordered" => over::<partitioned::unordered::Index<EightCap, u64, 1>>(rt, path),
-        "pordered" => over::<partitioned::ordered::Index<EightCap, u64, 1>>(rt, path),
+        "unordered" => over::<unordered::Index<EightCap, u64>, Without>(rt, path),
+        "ordered" => over::<ordered::Index<EightCap, u64>, With>(rt, path),
+        "punordered" => over::<partitioned::unordered::Index<EightCap, u64, 1>, Without>(rt, path),
+        "pordered" => over::<partitioned::ordered::Index<EightCap, u64, 1>, With>(rt, path),
         _ => Err(Failure::Usage),
     }
 }

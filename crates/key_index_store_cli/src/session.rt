@@ -1,15 +1,16 @@
 //! A session: commands, and a line that answers each.
 
 use crate::failure::Failure;
+use crate::file_log::FileLog;
 use crate::line::{Command, parse};
-use key_index_flat::index::Unordered;
-use key_index_store::log::Log;
+use crate::order::Order;
+use key_index_flat::index::Factory;
+use key_index_flat::translator::EightCap;
 use key_index_store::store::{Fault, Store};
-use std::alloc::Global;
 use std::io::{self, BufRead, Write};
 
 /// The line that answers a refused command.
-fn refusal(fault: Fault) -> &'static str {
+pub fn refusal(fault: Fault) -> &'static str {
     match fault {
         Fault::Memory => "refused memory",
         Fault::Full => "refused full",
@@ -21,30 +22,37 @@ fn refusal(fault: Fault) -> &'static str {
     }
 }
 
-fn write_value<W: Write>(value: &[u8], output: &mut W) -> io::Result<()> {
-    write!(output, "value ")?;
-    if value.is_empty() {
+/// Writes two hexadecimal digits for each byte, or `-` for none.
+pub fn write_bytes<W: Write>(bytes: &[u8], output: &mut W) -> io::Result<()> {
+    if bytes.is_empty() {
         write!(output, "-")?;
     }
-    for byte in value {
+    for byte in bytes {
         write!(output, "{byte:02x}")?;
     }
-    writeln!(output, "")
+    Ok(())
 }
 
 /// Runs one command, and writes its answer.
-fn answer<L: Log, I: Unordered<Value = u64>, W: Write>(
-    store: &mut Store<L, I>,
+fn answer<I: Factory<Translator = EightCap, Value = u64> + Drop, O: Order<I>, W: Write>(
+    rt: &HostRuntime,
+    store: &mut Store<FileLog, I>,
     command: &Command,
     output: &mut W,
-) -> io::Result<()> {
+) -> io::Result<()>
+    requires { I.makes }
+{
     match command {
         Command::Put(key, value) => match store.put(key.as_slice(), value.as_slice()) {
             Ok(()) => writeln!(output, "ok"),
             Err(fault) => writeln!(output, "{}", refusal(fault)),
         },
         Command::Get(key) => match store.get(key.as_slice()) {
-            Ok(Some(value)) => write_value(value.as_slice(), output),
+            Ok(Some(value)) => {
+                write!(output, "value ")?;
+                write_bytes(value.as_slice(), output)?;
+                writeln!(output, "")
+            }
             Ok(None) => writeln!(output, "none"),
             Err(fault) => writeln!(output, "{}", refusal(fault)),
         },
@@ -54,16 +62,25 @@ fn answer<L: Log, I: Unordered<Value = u64>, W: Write>(
             Err(fault) => writeln!(output, "{}", refusal(fault)),
         },
         Command::Count => writeln!(output, "count {}", store.len()),
+        Command::InOrder(command) => O::answer(rt, store, command, output),
     }
 }
 
 /// Runs the commands of the input's lines, to its end.
-pub fn run_lines<L: Log, I: Unordered<Value = u64>, R: BufRead, W: Write>(
-    alloc: Global,
-    store: &mut Store<L, I>,
+pub fn run_lines<
+    I: Factory<Translator = EightCap, Value = u64> + Drop,
+    O: Order<I>,
+    R: BufRead,
+    W: Write,
+>(
+    rt: &HostRuntime,
+    store: &mut Store<FileLog, I>,
     input: &mut R,
     output: &mut W,
-) -> Result<(), Failure> {
+) -> Result<(), Failure>
+    requires { I.makes }
+{
+    let alloc = rt.alloc();
     let mut line = Vec::new(alloc);
     for number in 1..u64::MAX {
         line.clear();
@@ -81,7 +98,7 @@ pub fn run_lines<L: Log, I: Unordered<Value = u64>, R: BufRead, W: Write>(
         let Some(command) = parsed else {
             return Err(Failure::BadLine(number));
         };
-        if answer(store, &command, output).is_err() {
+        if answer::<I, O, W>(rt, store, &command, output).is_err() {
             return Err(Failure::Failed);
         }
     }

@@ -25,10 +25,12 @@ impl Kind for FlatUnordered {
     }
 }
 
+pub(super) type FlatOrderedIndex = ordered::Index<EightCap, u64>;
+
 pub(super) struct FlatOrdered;
 
 impl Kind for FlatOrdered {
-    type Index = ordered::Index<EightCap, u64>;
+    type Index = FlatOrderedIndex;
 
     fn make(alloc: Global) -> Result<Self::Index, Fault> {
         Factory::new(alloc, EightCap)
@@ -45,10 +47,12 @@ impl Kind for PartitionedUnordered {
     }
 }
 
+pub(super) type PartitionedOrderedIndex = partitioned::ordered::Index<EightCap, u64, 1>;
+
 pub(super) struct PartitionedOrdered;
 
 impl Kind for PartitionedOrdered {
-    type Index = partitioned::ordered::Index<EightCap, u64, 1>;
+    type Index = PartitionedOrderedIndex;
 
     fn make(alloc: Global) -> Result<Self::Index, Fault> {
         Factory::new(alloc, EightCap)

@@ -190,12 +190,39 @@ fn misses<K: Kind>(rt: &impl Abort, alloc: Global) {
     }
 }
 
-/// So many random calls beside a list, over a log that is opened anew each thousand of them.
-fn runs<K: Kind>(rt: &impl Abort, alloc: Global, calls: u64) {
+/// A read that fails in the middle of a call, at the second of three keys alike: the call says so, and the map stays.
+fn stumbles<K: Kind>(rt: &impl Abort, alloc: Global) {
+    // A record of these keys takes 24 bytes.
+    let log = FailingLog {
+        log: MemoryLog::new(alloc),
+        room: 1000,
+        unreadable: 24,
+    };
+    let (mut store, _) = open::<K, FailingLog>(rt, alloc, log);
+    for (key, value) in [
+        (b"same firs1", b"1"),
+        (b"same firs2", b"2"),
+        (b"same firs3", b"3"),
+    ] {
+        if let Err(fault) = store.put(key, value) {
+            assert_eq!(rt; fault, Fault::ReadFailed);
+        }
+    }
+    assert!(rt; store.end() == 48);
+    assert_eq!(rt; store.get(b"same firs2"), Err(Fault::ReadFailed));
+    assert_eq!(rt; store.put(b"same firs2", b"4"), Err(Fault::ReadFailed));
+    assert_eq!(rt; store.delete(b"same firs2"), Err(Fault::ReadFailed));
+    assert_eq!(rt; store.get(b"other"), Ok(None));
+    assert_eq!(rt; store.len(), 2);
+    assert_eq!(rt; store.end(), 48);
+}
+
+/// Ten thousand random calls beside a list, over a log that is opened anew each thousand of them.
+fn runs<K: Kind>(rt: &impl Abort, alloc: Global, seed: u64) {
     let mut values: Vec<Option<u8>> = vec![in alloc; None; 64].expect(rt, "values");
     let (mut store, _) = open::<K, MemoryLog>(rt, alloc, MemoryLog::new(alloc));
-    let mut random = 0x9e37_79b9_7f4a_7c15u64;
-    for call in 0..calls {
+    let mut random = seed;
+    for call in 0..10_000u64 {
         random ^= random << 13;
         random ^= random >> 7;
         random ^= random << 17;
@@ -208,8 +235,9 @@ fn runs<K: Kind>(rt: &impl Abort, alloc: Global, calls: u64) {
             b's',
             b'a',
             b'm',
-            (number % 16) as u8,
-            (number / 16) as u8,
+            (number / 8) as u8,
+            0,
+            (number % 8) as u8,
         ];
         let Some(value) = values.get_mut(number as usize) else {
             return;
@@ -250,7 +278,10 @@ fn all<K: Kind>(rt: &impl Abort, alloc: Global) {
     turns::<K>(rt, alloc);
     fills::<K>(rt, alloc);
     misses::<K>(rt, alloc);
-    runs::<K>(rt, alloc, 4_000);
+    stumbles::<K>(rt, alloc);
+    for seed in 1..=10u64 {
+        runs::<K>(rt, alloc, seed << 32 | seed);
+    }
 }
 
 #[test]

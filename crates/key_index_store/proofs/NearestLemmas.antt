@@ -1,0 +1,218 @@
+-- On the nearest entry of some positions, as one position after another is looked at.
+--     passed, came_first, came_nearer, came_behind      one more, by what was told of its key
+--     next_found, prev_found                            on an index of positions: the nearest entry is that of the map
+use Rattle.std.proofs.Common.{◌≡◌, ℕ, Bool, true, false, List, [], ◌∷◌, ◌++◌, cond, map, take, drop, take-append-drop, T, All, Vec, Global, Result, IfOk, Option, Some, None, is_some, refl, sym, ap, subst, ◌∙◌, append-nil}
+use Rattle.std.proofs.lemmas.Bool.{false≢true}
+use Rattle.std.proofs.lemmas.Result.{IfOk-weaker}
+use Rattle.std.proofs.lemmas.List.Elements.{All-cons, All-filter, All-head, All-nil, All-tail, All-weaker, filter-append}
+use Rattle.std.specs.BTreeMap.Range.{IsLeBy}
+use Rattle.std.specs.Cmp.{IsTotalOrder, on_total, tied_itself}
+use Rattle.std.specs.FinMap.{entries, find, get-entries, is_sorted}
+use Rattle.std.specs.List.{last_or}
+use Rattle.std.specs.Option.{IfSome, option_map, unwrap_or}
+use Rattle.std.specs.Ordering.{flip_args, is_eq, is_lt, on}
+use Rattle.std.specs.declared.cmp.Ordering.{Ordering}
+use Rattle.std.specs.declared.cmp.Ordering.TheVariants.{Less, Equal, Greater}
+use Rattle.key_index_flat.specs.Content.{Content, IsLawful, list_at}
+use Rattle.key_index_flat.specs.FullKeys.{IsBytes, IsFiled, IsLeast, IsNextCandidate, IsPrevCandidate, byte_cmp, or_list, unflagged}
+use Rattle.key_index_flat.specs.Neighbours.{KeepsOrder, entries_above, entries_below, first_entry, last_entry, next_list, or_cycled, prev_list}
+use Rattle.key_index_flat.specs.Values.{values_of}
+use Rattle.key_index_flat.specs.laws.Laws.{first, second}
+use Rattle.key_index_flat.specs.View.{View, run_at, run_of}
+use Rattle.key_index_flat.proofs.content.ContentLemmas.{absent}
+use Rattle.key_index_flat.proofs.neighbours.FullKeyLemmas.{least_own, next_of_filed, prev_of_filed}
+use Rattle.key_index_flat.proofs.neighbours.LeastLemmas.{pushed_keeps, pushed_takes}
+use Rattle.key_index_store.specs.Indexed.{Indexes, IsLive, IsNearest, IsUnder, beyond, entry_at, is_behind, key_at}
+use Rattle.key_index_store.specs.Stored.{Values, entry_after, entry_before, held_by, in_bytes}
+use Rattle.key_index_store.proofs.LogLemmas.{entry_there, live_more}
+use Rattle.key_index_store.proofs.MapLemmas.{next_told, own_list, prev_told}
+use Rattle.key_index_store.proofs.StoreLemmas.{looked_up}
+
+abbrev pub Pair : Type 0
+Pair = List ℕ × List ℕ
+
+-- what the code has, as an entry
+pub shown_some : (o : Option (Vec ℕ Global × Vec ℕ Global)) → is_some (in_bytes o) ≡ is_some o
+shown_some None = refl
+shown_some (Some e) = refl
+
+pub told_ok : {E : Type 0} (r : Result (Option (Vec ℕ Global × Vec ℕ Global)) E) (answer : Option Pair) (P : Option Pair → Type 0) → ((f : Option Pair) → P f → f ≡ answer) → IfOk r (λ o. P (in_bytes o)) → IfOk r (λ o. in_bytes o ≡ answer)
+told_ok r answer P say h = IfOk-weaker r (λ o. P (in_bytes o)) (λ o. in_bytes o ≡ answer) (λ o p. say (in_bytes o) p) h
+
+none_mapped : (f : ℕ → Pair) (o : Option ℕ) → None ≡ option_map f o → o ≡ None
+none_mapped f None e = refl
+none_mapped f (Some x) e = absurd (false≢true (ap is_some e))
+
+module _ (log : List ℕ) {S : List ℕ → List ℕ → Ordering} (o : IsTotalOrder S) (after : Option (List ℕ)) (ps : List ℕ) (p : ℕ) (e : Pair) (at : entry_at log p ≡ e) where
+  -- the positions so far, and with one more
+  abbrev before : List ℕ
+  before = beyond log S after ps
+
+  abbrev now : List ℕ
+  now = beyond log S after (ps ++ p ∷ [])
+
+  told_at : (b : Bool) → b ≡ is_behind S after e.0 → is_behind S after (key_at log p) ≡ b
+  told_at b told = ap (λ (x : Pair). is_behind S after x.0) at ∙ sym told
+
+  grown : (a : Option (List ℕ)) → is_behind S a (key_at log p) ≡ true → beyond log S a (ps ++ p ∷ []) ≡ beyond log S a ps ++ p ∷ []
+  grown None t = refl
+  grown (Some a) t = filter-append (λ q. is_lt (S a (key_at log q))) ps (p ∷ []) ∙ ap (λ b. beyond log S (Some a) ps ++ cond b (p ∷ []) []) t
+
+  kept : (a : Option (List ℕ)) → is_behind S a (key_at log p) ≡ false → beyond log S a (ps ++ p ∷ []) ≡ beyond log S a ps
+  kept None t = absurd (false≢true (sym t))
+  kept (Some a) t = filter-append (λ q. is_lt (S a (key_at log q))) ps (p ∷ []) ∙ ap (λ b. beyond log S (Some a) ps ++ cond b (p ∷ []) []) t ∙ append-nil (beyond log S (Some a) ps)
+
+  pub passed : (n : Option Pair) → false ≡ is_behind S after e.0 → IsNearest log S before n → IsNearest log S now n
+  passed n told h = subst (λ l. IsNearest log S l n) (sym (kept after (told_at false told))) h
+
+  module _ (told : true ≡ is_behind S after e.0) where
+    longer : now ≡ before ++ p ∷ []
+    longer = grown after (told_at true told)
+
+    pub came_first : IsNearest log S before None → IsNearest log S now (Some e)
+    came_first h =
+        let Keys : ℕ → ℕ → Ordering = on (key_at log) S in
+        let none : before ≡ [] = subst (λ x. IsLeast Keys before x) (none_mapped (entry_at log) h.0 h.2) h.1 in
+        (Some p, ([], [], longer ∙ ap (λ l. l ++ p ∷ []) none, All-nil (λ w. Keys p w ≡ Less), All-nil (λ w. IsLeBy Keys p w)), ap (λ x. Some x) (sym at))
+
+    -- the one so far
+    module _ (f : Pair) (h : IsNearest log S before (Some f)) where
+      found : (q : Option ℕ) → IsLeast (on (key_at log) S) before q → Some f ≡ option_map (entry_at log) q → (x : ℕ) × IsLeast (on (key_at log) S) before (Some x) × (f ≡ entry_at log x)
+      found None least is = absurd (false≢true (sym (ap is_some is)))
+      found (Some x) least is = (x, least, ap (λ m. unwrap_or m f) is)
+
+      pub came_nearer : true ≡ is_lt (S e.0 f.0) → IsNearest log S now (Some e)
+      came_nearer less =
+          let one = found h.0 h.1 h.2 in
+          let test : is_lt (S (key_at log p) (key_at log one.0)) ≡ true = (λ i. is_lt (S (at i).0 (sym one.2 i).0)) ∙ sym less in
+          (Some p, subst (λ l. IsLeast (on (key_at log) S) l (Some p)) (sym longer) (pushed_takes (on_total (key_at log) o) before one.0 p one.1 test), ap (λ x. Some x) (sym at))
+
+      pub came_behind : false ≡ is_lt (S e.0 f.0) → IsNearest log S now (Some f)
+      came_behind less =
+          let one = found h.0 h.1 h.2 in
+          let test : is_lt (S (key_at log p) (key_at log one.0)) ≡ false = (λ i. is_lt (S (at i).0 (sym one.2 i).0)) ∙ sym less in
+          (Some one.0, subst (λ l. IsLeast (on (key_at log) S) l (Some one.0)) (sym longer) (pushed_keeps (on_total (key_at log) o) before one.0 p one.1 test), ap (λ x. Some x) one.2)
+
+-- ---- the nearest entry of a list, or else of another
+
+module _ (log : List ℕ) (S : List ℕ → List ℕ → Ordering) (own other : List ℕ) (answer : Option Pair) (told : (o : Option ℕ) → IsLeast (on (key_at log) S) (or_list own other) o → option_map (entry_at log) o ≡ answer) where
+  own_told : (o : Option ℕ) → IsLeast (on (key_at log) S) own o → is_some (option_map (entry_at log) o) ≡ true → option_map (entry_at log) o ≡ answer
+  own_told None h some = absurd (false≢true some)
+  own_told (Some p) h some = told (Some p) (least_own (on (key_at log) S) own other p h)
+
+  own_found : (e : Option Pair) → IsNearest log S own e → is_some e ≡ true → e ≡ answer
+  own_found e h some = h.2 ∙ own_told h.0 h.1 (sym (ap is_some h.2) ∙ some)
+
+  own_none : (e : Option Pair) → IsNearest log S own e → is_some e ≡ false → own ≡ []
+  own_none e h none = empty h.0 h.1 (sym (ap is_some h.2) ∙ none)
+    where
+      empty : (o : Option ℕ) → IsLeast (on (key_at log) S) own o → is_some (option_map (entry_at log) o) ≡ false → own ≡ []
+      empty None h none = h
+      empty (Some p) h none = absurd (false≢true (sym none))
+
+  other_found : (e f : Option Pair) → IsNearest log S own e → is_some e ≡ false → IsNearest log S other f → f ≡ answer
+  other_found e f h none g =
+      g.2 ∙ told g.0 (subst (λ l. IsLeast (on (key_at log) S) (or_list l other) g.0) (sym (own_none e h none)) g.1)
+
+-- ---- what holds of each list of a content holds of a neighbour's
+
+first_has : {E : Type 0} (Q : E → Type 0) (es : List E) → All Q es → IfSome (first_entry es) Q
+first_has Q [] h = tt
+first_has Q (e ∷ es) h = All-head Q e es h
+
+last_has : {E : Type 0} (Q : E → Type 0) (so_far : Option E) (es : List E) → IfSome so_far Q → All Q es → IfSome (last_or so_far es) Q
+last_has Q so_far [] h all = h
+last_has Q so_far (e ∷ es) h all = last_has Q (Some e) es (All-head Q e es all) (All-tail Q e es all)
+
+live_unflagged : {K : Type 0} (P : ℕ → Type 0) (found other : Option (K × List ℕ)) → IfSome found (λ e. All P e.1) → All P (unflagged (option_map (λ n. (n.0.1, n.1)) (or_cycled found other)))
+live_unflagged P (Some e) other h = h
+live_unflagged P None None h = All-nil P
+live_unflagged P None (Some e) h = All-nil P
+
+module _ {K V : Type 0} {cmp : K → K → Ordering} (o : IsTotalOrder cmp) (P : V → Type 0) where
+  lists_have : (c : Content K V) → T (is_sorted cmp c) → ((k : K) → All P (list_at cmp c k)) → All (λ (e : K × List V). All P e.1) c
+  lists_have [] h all = All-nil (λ (e : K × List V). All P e.1)
+  lists_have (e ∷ es) h all =
+      All-cons (λ (e : K × List V). All P e.1) e es
+      (subst (λ r. All P (unwrap_or (cond (is_eq r) (Some e.1) (find cmp e.0 es)) [])) (tied_itself o e.0) (all e.0))
+      (lists_have es (second _ _ h) (λ k.
+      elim (cmp k e.0) as (λ r. cmp k e.0 ≡ r → All P (unwrap_or (cond (is_eq r) (Some e.1) (find cmp k es)) []) → All P (list_at cmp es k)) [
+        | Less ↦ λ p x. x
+        | Equal ↦ λ p x. subst (All P) (sym (absent o k e.0 es (λ y q. o.congr k e.0 y p ∙ q) (first _ _ h))) (All-nil P)
+        | Greater ↦ λ p x. x
+      ] refl (all k)))
+
+-- ---- on an index
+
+module _ {K : Type 0} {cmp : K → K → Ordering} (o : IsTotalOrder cmp) (log : List ℕ) (end : ℕ) (s : View K ℕ) (keeps : KeepsOrder cmp s.slot) (lawful : IsLawful cmp s.content) (h : Indexes cmp (take end log) s) (key : List ℕ) (bytes : IsBytes key) where
+  abbrev front : List ℕ
+  front = take end log
+
+  abbrev m : Values
+  m = held_by front
+
+  there : (p : ℕ) → IsLive front p → entry_at log p ≡ entry_at front p
+  there p live = ap (λ l. entry_at l p) (sym (take-append-drop end log)) ∙ entry_there front (drop end log) p live
+
+  filed : IsFiled (key_at log) cmp s.slot s.content
+  filed k = All-weaker (IsUnder front s.slot k) (λ p. IsBytes (key_at log p) × (s.slot (key_at log p) ≡ k))
+      (λ p q. (subst (λ (x : Pair). IsBytes x.0) (sym (there p q.0)) q.1, ap (λ (x : Pair). s.slot x.0) (there p q.0) ∙ q.2)) (run_at cmp s k) (h.live k)
+
+  looks : (q : List ℕ) → find byte_cmp q (entries m) ≡ find byte_cmp q (map (entry_at log) (values_of s.content))
+  looks q = sym (get-entries m q) ∙ sym (looked_up cmp log end s q h) ∙ sym (own_list (entry_at log) o s.slot q s.content lawful.0 filed)
+
+  above_told : (r : Option ℕ) → IsNextCandidate (key_at log) cmp s.content (s.slot key) key r → option_map (entry_at log) r ≡ entry_after m key
+  above_told r c = next_told (entry_at log) (values_of s.content) m looks key r (next_of_filed o (key_at log) s.slot keeps key bytes s.content r lawful filed c)
+
+  below_told : (r : Option ℕ) → IsPrevCandidate (key_at log) cmp s.content (s.slot key) key r → option_map (entry_at log) r ≡ entry_before m key
+  below_told r c = prev_told (entry_at log) (values_of s.content) m looks key r (prev_of_filed o (key_at log) s.slot keeps key bytes s.content r lawful filed c)
+
+  -- the lists of neighbours are live
+  live_at : (k : K) → All (IsLive log) (run_at cmp s k)
+  live_at k = All-weaker (IsUnder front s.slot k) (IsLive log) (λ p q. subst (λ l. IsLive l p) (take-append-drop end log) (live_more front (drop end log) p q.0)) (run_at cmp s k) (h.live k)
+
+  pub live_above : All (IsLive log) (unflagged (next_list cmp s.content (s.slot key)))
+  live_above =
+      let es = entries_above cmp s.content (s.slot key) in
+      live_unflagged (IsLive log) (first_entry es) (first_entry s.content)
+      (first_has (λ (e : K × List ℕ). All (IsLive log) e.1) es (All-filter (λ e. is_lt (cmp (s.slot key) e.0)) (λ (e : K × List ℕ). All (IsLive log) e.1) s.content (lists_have o (IsLive log) s.content lawful.0 live_at)))
+
+  pub live_below : All (IsLive log) (unflagged (prev_list cmp s.content (s.slot key)))
+  live_below =
+      let es = entries_below cmp s.content (s.slot key) in
+      live_unflagged (IsLive log) (last_entry es) (last_entry s.content)
+      (last_has (λ (e : K × List ℕ). All (IsLive log) e.1) None es tt (All-filter (λ e. is_lt (cmp e.0 (s.slot key))) (λ (e : K × List ℕ). All (IsLive log) e.1) s.content (lists_have o (IsLive log) s.content lawful.0 live_at)))
+
+  module _ (run : List ℕ) (is : run ≡ run_of cmp s key) (e : Option Pair) where
+    module _ (least : IsNearest log byte_cmp (beyond log byte_cmp (Some key) run) e) where
+      over : List ℕ
+      over = unflagged (next_list cmp s.content (s.slot key))
+
+      own_above : IsNearest log byte_cmp (beyond log byte_cmp (Some key) (run_of cmp s key)) e
+      own_above = subst (λ l. IsNearest log byte_cmp (beyond log byte_cmp (Some key) l) e) is least
+
+      pub next_own : is_some e ≡ true → e ≡ entry_after m key
+      unfolding over
+      next_own some = own_found log byte_cmp (beyond log byte_cmp (Some key) (run_of cmp s key)) over (entry_after m key) above_told e own_above some
+
+      pub next_other : is_some e ≡ false → (found : Option (List ℕ × Bool)) → found ≡ next_list cmp s.content (s.slot key) → (f : Option Pair) → IsNearest log byte_cmp (unflagged found) f → f ≡ entry_after m key
+      unfolding over
+      next_other none found same f g = other_found log byte_cmp (beyond log byte_cmp (Some key) (run_of cmp s key)) over (entry_after m key) above_told e f own_above none (subst (λ x. IsNearest log byte_cmp (unflagged x) f) same g)
+
+    module _ (least : IsNearest log (flip_args byte_cmp) (beyond log (flip_args byte_cmp) (Some key) run) e) where
+      abbrev down : List ℕ → List ℕ → Ordering
+      down = flip_args byte_cmp
+
+      under : List ℕ
+      under = unflagged (prev_list cmp s.content (s.slot key))
+
+      own_below : IsNearest log down (beyond log down (Some key) (run_of cmp s key)) e
+      own_below = subst (λ l. IsNearest log down (beyond log down (Some key) l) e) is least
+
+      pub prev_own : is_some e ≡ true → e ≡ entry_before m key
+      unfolding under
+      prev_own some = own_found log down (beyond log down (Some key) (run_of cmp s key)) under (entry_before m key) below_told e own_below some
+
+      pub prev_other : is_some e ≡ false → (found : Option (List ℕ × Bool)) → found ≡ prev_list cmp s.content (s.slot key) → (f : Option Pair) → IsNearest log down (unflagged found) f → f ≡ entry_before m key
+      unfolding under
+      prev_other none found same f g = other_found log down (beyond log down (Some key) (run_of cmp s key)) under (entry_before m key) below_told e f own_below none (subst (λ x. IsNearest log down (unflagged x) f) same g)
