@@ -1,12 +1,13 @@
 //! The program: that a line can be read, the printed texts, and whole sessions.
 
 use key_index::program::fault::ServeError;
-use key_index::program::kind::{Kind, kind_of};
+use key_index::program::kind::kind_of;
 use key_index::program::line::{Command, LineFault, OrderedCommand, parse, parse_ordered};
 use key_index::program::serve::{serve, write_refusal};
 use key_index_flat::index::Fault;
 use std::alloc::{AllocError, Global};
 use std::io::{self, Error, ErrorKind, Read, Write};
+use std::process::Abort;
 use std::test::Fail;
 
 #[test]
@@ -94,49 +95,41 @@ fn faults_are_printed(rt: HostRuntime) -> Result<(), Fail> {
     Ok(())
 }
 
-/// Arguments that name no kind, with `|` between them, and `,` between the words of each.
-const NO_KINDS: &str =
-    "pordered,0|pordered,00|pordered,18446744073709551616|pordered,18446744073709551617|pordered,|\
-    pordered,+2|pordered,-2|pordered,2 |pordered, 2|pordered,0x2|pordered,2.0|pordered,٢|pordered,two|\
-    pordered,pordered|pordered,2,2|pordered,2,|pordered 2|2,pordered|ordered,2|unordered,512|\
-    punordered,2|immutable,2|unordered,ordered|512|Pordered";
+/// Arguments with the kind that they name, with `|` between them, and `,` between the words of each.
+const ARGUMENTS: &str = "\
+    unordered=Some(Unordered)|ordered=Some(Ordered)|punordered=Some(PartitionedUnordered)|\
+    immutable=Some(Immutable)|pordered=Some(PartitionedOrdered(512))|pordered,1=Some(PartitionedOrdered(1))|\
+    pordered,512=Some(PartitionedOrdered(512))|pordered,0010=Some(PartitionedOrdered(10))|\
+    pordered,18446744073709551615=Some(PartitionedOrdered(18446744073709551615))|pordered,0=None|\
+    pordered,00=None|pordered,18446744073709551616=None|pordered,18446744073709551617=None|pordered,=None|\
+    pordered,+2=None|pordered,-2=None|pordered,2 =None|pordered, 2=None|pordered,0x2=None|pordered,2.0=None|\
+    pordered,٢=None|pordered,two=None|pordered,pordered=None|pordered,2,2=None|pordered,2,=None|\
+    pordered 2=None|2,pordered=None|ordered,2=None|unordered,512=None|punordered,2=None|immutable,2=None|\
+    unordered,ordered=None|512=None|Pordered=None";
 
-/// The kind that arguments name, with `,` between their words.
-fn kind_named(alloc: Global, texts: &str) -> Result<Option<Kind>, AllocError> {
+/// Arguments name the kind that stands behind them.
+fn is_read(rt: &impl Abort, alloc: Global, row: &str) -> Result<(), AllocError> {
+    let Some((texts, wanted)) = row.split_once('=') else {
+        panic!(rt; "{row:?} has two fields")
+    };
     let mut words = Vec::new(alloc);
     for text in texts.split(',') {
         words.push(String::from_str(alloc, text)?)?;
     }
-    Ok(kind_of(&words))
+    let kind = kind_of(&words);
+    let told = format!(in alloc; "{kind:?}")?;
+    assert_eq!(rt; told.as_str(), wanted, "{texts:?}");
+    Ok(())
 }
 
 #[test]
 fn arguments_are_read(rt: HostRuntime) -> Result<(), Fail> {
-    let named = [
-        ("unordered", Kind::Unordered),
-        ("ordered", Kind::Ordered),
-        ("punordered", Kind::PartitionedUnordered),
-        ("immutable", Kind::Immutable),
-        ("pordered", Kind::PartitionedOrdered(512)),
-        ("pordered,1", Kind::PartitionedOrdered(1)),
-        ("pordered,512", Kind::PartitionedOrdered(512)),
-        ("pordered,0010", Kind::PartitionedOrdered(10)),
-        (
-            "pordered,18446744073709551615",
-            Kind::PartitionedOrdered(usize::MAX),
-        ),
-    ];
-    for (texts, kind) in named {
-        let found = kind_named(rt.alloc(), texts)?;
-        assert_eq!(rt; found, Some(kind), "{texts:?}");
-    }
     let mut count = 0u64;
-    for texts in NO_KINDS.split('|') {
-        let found = kind_named(rt.alloc(), texts)?;
-        assert!(rt; found.is_none(), "{texts:?}");
+    for row in ARGUMENTS.split('|') {
+        is_read(&rt, rt.alloc(), row)?;
         count = count.saturating_add(1);
     }
-    assert_eq!(rt; count, 25);
+    assert_eq!(rt; count, 34);
     assert!(rt; kind_of(&[]).is_none());
     Ok(())
 }
@@ -297,25 +290,24 @@ const SESSIONS: &str = "\
     ordered|insert 0b 1\r\n||bad line 1\n|1#\
     ordered||||0";
 
-/// The next of some texts.
-fn next_of<'a, I: Iterator<Item = &'a str>>(texts: &mut I) -> &'a str {
-    texts.next().unwrap_or("")
+/// A session of these is answered so.
+fn is_answered(rt: &impl Abort, alloc: Global, row: &str) -> Result<(), AllocError> {
+    let fields: Vec<&str> = row.split('|').collect(alloc)?;
+    let [kind, input, output, faults, status] = fields.as_slice() else {
+        panic!(rt; "{row:?} has five fields")
+    };
+    let ended = session(alloc, &[*kind], input.as_bytes())?;
+    assert_eq!(rt; ended.0.as_slice(), output.as_bytes(), "{row:?}");
+    assert_eq!(rt; ended.1.as_slice(), faults.as_bytes(), "{row:?}");
+    assert_eq!(rt; ended.2, u8::from(*status == "1"), "{row:?}");
+    Ok(())
 }
 
 #[test]
 fn sessions_are_answered(rt: HostRuntime) -> Result<(), Fail> {
     let mut count = 0u64;
     for row in SESSIONS.split('#') {
-        let mut fields = row.split('|');
-        let kind = next_of(&mut fields);
-        let input = next_of(&mut fields);
-        let output = next_of(&mut fields);
-        let faults = next_of(&mut fields);
-        let failed = next_of(&mut fields) == "1";
-        let ended = session(rt.alloc(), &[kind], input.as_bytes())?;
-        assert_eq!(rt; ended.0.as_slice(), output.as_bytes(), "{kind} {input:?}");
-        assert_eq!(rt; ended.1.as_slice(), faults.as_bytes(), "{kind} {input:?}");
-        assert_eq!(rt; ended.2, u8::from(failed), "{kind} {input:?}");
+        is_answered(&rt, rt.alloc(), row)?;
         count = count.saturating_add(1);
     }
     assert_eq!(rt; count, 33);
