@@ -197,19 +197,23 @@ fn floods_of_values<I: Tested + InOrder + StandsWhole>(rt: &impl Abort, alloc: G
     }
 }
 
+fn on_wide(rt: &impl Abort, alloc: Global, flood: Flood) {
+    on::<Wide>(rt, alloc, flood)
+}
+
 #[test]
 fn floods_spill(rt: HostRuntime) {
-    on::<Wide>(&rt, rt.alloc(), Flood::Both)
+    on_wide(&rt, rt.alloc(), Flood::Both)
 }
 
 #[test]
 fn floods_of_keys_stand(rt: HostRuntime) {
-    on::<Wide>(&rt, rt.alloc(), Flood::Keys)
+    on_wide(&rt, rt.alloc(), Flood::Keys)
 }
 
 #[test]
 fn floods_of_values_stand(rt: HostRuntime) {
-    on::<Wide>(&rt, rt.alloc(), Flood::Values)
+    on_wide(&rt, rt.alloc(), Flood::Values)
 }
 
 #[test]

@@ -179,69 +179,114 @@ fn worked_ahead<K: SubjectAhead>(rt: &impl Abort, alloc: Global, kind: &K) {
     ahead::found_records(rt, alloc, &mut kind.ahead(rt, alloc));
 }
 
+fn on_unordered(rt: &impl Abort, alloc: Global, group: Group) {
+    on(rt, alloc, &Unordered, group)
+}
+
+fn on_unordered_by_hash(rt: &impl Abort, alloc: Global, group: Group) {
+    on(rt, alloc, &UnorderedByHash, group)
+}
+
+fn on_ordered(rt: &impl Abort, alloc: Global, group: Group) {
+    in_order(rt, alloc, &Ordered, group)
+}
+
+fn on_ordered_by_eight(rt: &impl Abort, alloc: Global, group: Group) {
+    in_order(rt, alloc, &OrderedByEight, group)
+}
+
+fn on_ordered_by_arrays(rt: &impl Abort, alloc: Global, group: Group) {
+    in_order(rt, alloc, &OrderedByArrays, group)
+}
+
+fn on_punordered(rt: &impl Abort, alloc: Global, group: Group) {
+    in_partitions(rt, alloc, &Punordered, group)
+}
+
+fn on_punordered_by_two(rt: &impl Abort, alloc: Global, group: Group) {
+    in_partitions(rt, alloc, &PunorderedByTwo, group)
+}
+
+fn on_pordered(rt: &impl Abort, alloc: Global, kind: &Pordered, group: Group) {
+    in_ordered_partitions(rt, alloc, kind, group)
+}
+
+fn on_pordered_by_two(rt: &impl Abort, alloc: Global, group: Group) {
+    in_ordered_partitions(rt, alloc, &PorderedByTwo, group)
+}
+
+fn on_plain(rt: &impl Abort, alloc: Global, group: Group) {
+    in_order(rt, alloc, &Plain, group)
+}
+
+/// The records next to full keys, in partitions.
+fn pordered_by_records(rt: &impl Abort, alloc: Global, kind: &Pordered) {
+    resolves(rt, alloc, kind)
+}
+
 #[test]
 fn unordered_answers_each_call(rt: HostRuntime) {
-    on(&rt, rt.alloc(), &Unordered, Group::Calls)
+    on_unordered(&rt, rt.alloc(), Group::Calls)
 }
 
 #[test]
 fn unordered_is_edited_by_cursors(rt: HostRuntime) {
-    on(&rt, rt.alloc(), &Unordered, Group::Cursors)
+    on_unordered(&rt, rt.alloc(), Group::Cursors)
 }
 
 #[test]
 fn unordered_runs_commands(rt: HostRuntime) {
-    on(&rt, rt.alloc(), &Unordered, Group::Commands)
+    on_unordered(&rt, rt.alloc(), Group::Commands)
 }
 
 #[test]
 fn unordered_keeps_lists(rt: HostRuntime) {
-    on(&rt, rt.alloc(), &Unordered, Group::Lists)
+    on_unordered(&rt, rt.alloc(), Group::Lists)
 }
 
 #[test]
 fn unordered_by_hash_answers_each_call(rt: HostRuntime) {
-    on(&rt, rt.alloc(), &UnorderedByHash, Group::Calls)
+    on_unordered_by_hash(&rt, rt.alloc(), Group::Calls)
 }
 
 #[test]
 fn unordered_by_hash_keeps_lists(rt: HostRuntime) {
-    on(&rt, rt.alloc(), &UnorderedByHash, Group::Lists)
+    on_unordered_by_hash(&rt, rt.alloc(), Group::Lists)
 }
 
 #[test]
 fn ordered_answers_each_call(rt: HostRuntime) {
-    in_order(&rt, rt.alloc(), &Ordered, Group::Calls)
+    on_ordered(&rt, rt.alloc(), Group::Calls)
 }
 
 #[test]
 fn ordered_is_edited_by_cursors(rt: HostRuntime) {
-    in_order(&rt, rt.alloc(), &Ordered, Group::Cursors)
+    on_ordered(&rt, rt.alloc(), Group::Cursors)
 }
 
 #[test]
 fn ordered_runs_commands(rt: HostRuntime) {
-    in_order(&rt, rt.alloc(), &Ordered, Group::Commands)
+    on_ordered(&rt, rt.alloc(), Group::Commands)
 }
 
 #[test]
 fn ordered_keeps_lists(rt: HostRuntime) {
-    in_order(&rt, rt.alloc(), &Ordered, Group::Lists)
+    on_ordered(&rt, rt.alloc(), Group::Lists)
 }
 
 #[test]
 fn ordered_by_eight_keeps_lists(rt: HostRuntime) {
-    in_order(&rt, rt.alloc(), &OrderedByEight, Group::Lists)
+    on_ordered_by_eight(&rt, rt.alloc(), Group::Lists)
 }
 
 #[test]
 fn ordered_by_arrays_answers_each_call(rt: HostRuntime) {
-    in_order(&rt, rt.alloc(), &OrderedByArrays, Group::Calls)
+    on_ordered_by_arrays(&rt, rt.alloc(), Group::Calls)
 }
 
 #[test]
 fn ordered_by_arrays_keeps_lists(rt: HostRuntime) {
-    in_order(&rt, rt.alloc(), &OrderedByArrays, Group::Lists)
+    on_ordered_by_arrays(&rt, rt.alloc(), Group::Lists)
 }
 
 #[test]
@@ -251,172 +296,172 @@ fn ordered_resolves(rt: HostRuntime) {
 
 #[test]
 fn punordered_answers_each_call(rt: HostRuntime) {
-    in_partitions(&rt, rt.alloc(), &Punordered, Group::Calls);
-    in_partitions(&rt, rt.alloc(), &PunorderedByTwo, Group::Calls);
+    on_punordered(&rt, rt.alloc(), Group::Calls);
+    on_punordered_by_two(&rt, rt.alloc(), Group::Calls);
 }
 
 #[test]
 fn punordered_is_edited_by_cursors(rt: HostRuntime) {
-    in_partitions(&rt, rt.alloc(), &Punordered, Group::Cursors);
-    in_partitions(&rt, rt.alloc(), &PunorderedByTwo, Group::Cursors);
+    on_punordered(&rt, rt.alloc(), Group::Cursors);
+    on_punordered_by_two(&rt, rt.alloc(), Group::Cursors);
 }
 
 #[test]
 fn punordered_runs_commands(rt: HostRuntime) {
-    in_partitions(&rt, rt.alloc(), &Punordered, Group::Commands);
-    in_partitions(&rt, rt.alloc(), &PunorderedByTwo, Group::Commands);
+    on_punordered(&rt, rt.alloc(), Group::Commands);
+    on_punordered_by_two(&rt, rt.alloc(), Group::Commands);
 }
 
 #[test]
 fn punordered_keeps_lists(rt: HostRuntime) {
-    in_partitions(&rt, rt.alloc(), &Punordered, Group::Lists);
-    in_partitions(&rt, rt.alloc(), &PunorderedByTwo, Group::Lists);
+    on_punordered(&rt, rt.alloc(), Group::Lists);
+    on_punordered_by_two(&rt, rt.alloc(), Group::Lists);
 }
 
 #[test]
 fn punordered_is_built_in_ranges(rt: HostRuntime) {
-    in_partitions(&rt, rt.alloc(), &Punordered, Group::WorkedRanges);
-    in_partitions(&rt, rt.alloc(), &Punordered, Group::Ranges(2000));
+    on_punordered(&rt, rt.alloc(), Group::WorkedRanges);
+    on_punordered(&rt, rt.alloc(), Group::Ranges(2000));
 }
 
 #[test]
 fn punordered_by_two_is_built_in_ranges(rt: HostRuntime) {
-    in_partitions(&rt, rt.alloc(), &PunorderedByTwo, Group::Ranges(100))
+    on_punordered_by_two(&rt, rt.alloc(), Group::Ranges(100))
 }
 
 #[test]
 fn pordered_answers_each_call(rt: HostRuntime) {
-    in_ordered_partitions(&rt, rt.alloc(), &Pordered::AtDefault, Group::Calls);
-    in_ordered_partitions(&rt, rt.alloc(), &PorderedByTwo, Group::Calls);
+    on_pordered(&rt, rt.alloc(), &Pordered::AtDefault, Group::Calls);
+    on_pordered_by_two(&rt, rt.alloc(), Group::Calls);
 }
 
 #[test]
 fn pordered_is_edited_by_cursors(rt: HostRuntime) {
-    in_ordered_partitions(&rt, rt.alloc(), &Pordered::AtDefault, Group::Cursors);
-    in_ordered_partitions(&rt, rt.alloc(), &PorderedByTwo, Group::Cursors);
+    on_pordered(&rt, rt.alloc(), &Pordered::AtDefault, Group::Cursors);
+    on_pordered_by_two(&rt, rt.alloc(), Group::Cursors);
 }
 
 #[test]
 fn pordered_runs_commands(rt: HostRuntime) {
-    in_ordered_partitions(&rt, rt.alloc(), &Pordered::AtDefault, Group::Commands);
-    in_ordered_partitions(&rt, rt.alloc(), &PorderedByTwo, Group::Commands);
+    on_pordered(&rt, rt.alloc(), &Pordered::AtDefault, Group::Commands);
+    on_pordered_by_two(&rt, rt.alloc(), Group::Commands);
 }
 
 #[test]
 fn pordered_keeps_lists(rt: HostRuntime) {
-    in_ordered_partitions(&rt, rt.alloc(), &Pordered::AtDefault, Group::Lists);
-    in_ordered_partitions(&rt, rt.alloc(), &PorderedByTwo, Group::Lists);
+    on_pordered(&rt, rt.alloc(), &Pordered::AtDefault, Group::Lists);
+    on_pordered_by_two(&rt, rt.alloc(), Group::Lists);
 }
 
 #[test]
 fn pordered_is_built_in_ranges(rt: HostRuntime) {
-    in_ordered_partitions(&rt, rt.alloc(), &Pordered::AtDefault, Group::WorkedRanges);
-    in_ordered_partitions(&rt, rt.alloc(), &Pordered::AtDefault, Group::Ranges(2000));
+    on_pordered(&rt, rt.alloc(), &Pordered::AtDefault, Group::WorkedRanges);
+    on_pordered(&rt, rt.alloc(), &Pordered::AtDefault, Group::Ranges(2000));
 }
 
 #[test]
 fn pordered_by_two_is_built_in_ranges(rt: HostRuntime) {
-    in_ordered_partitions(&rt, rt.alloc(), &PorderedByTwo, Group::Ranges(100))
+    on_pordered_by_two(&rt, rt.alloc(), Group::Ranges(100))
 }
 
 #[test]
 fn pordered_looks_ahead(rt: HostRuntime) {
-    in_ordered_partitions(&rt, rt.alloc(), &Pordered::AtDefault, Group::WorkedAhead);
-    in_ordered_partitions(&rt, rt.alloc(), &Pordered::AtDefault, Group::Ahead);
-    in_ordered_partitions(&rt, rt.alloc(), &PorderedByTwo, Group::Ahead);
+    on_pordered(&rt, rt.alloc(), &Pordered::AtDefault, Group::WorkedAhead);
+    on_pordered(&rt, rt.alloc(), &Pordered::AtDefault, Group::Ahead);
+    on_pordered_by_two(&rt, rt.alloc(), Group::Ahead);
 }
 
 #[test]
 fn pordered_at_two_looks_ahead(rt: HostRuntime) {
-    in_ordered_partitions(&rt, rt.alloc(), &Pordered::AtTwo, Group::WorkedAhead);
-    in_ordered_partitions(&rt, rt.alloc(), &Pordered::AtTwo, Group::Ahead);
+    on_pordered(&rt, rt.alloc(), &Pordered::AtTwo, Group::WorkedAhead);
+    on_pordered(&rt, rt.alloc(), &Pordered::AtTwo, Group::Ahead);
 }
 
 #[test]
 fn pordered_resolves(rt: HostRuntime) {
-    resolves(&rt, rt.alloc(), &Pordered::AtDefault)
+    pordered_by_records(&rt, rt.alloc(), &Pordered::AtDefault)
 }
 
 #[test]
 fn pordered_at_one_answers_each_call(rt: HostRuntime) {
-    in_ordered_partitions(&rt, rt.alloc(), &Pordered::AtOne, Group::Calls)
+    on_pordered(&rt, rt.alloc(), &Pordered::AtOne, Group::Calls)
 }
 
 #[test]
 fn pordered_at_one_is_edited_by_cursors(rt: HostRuntime) {
-    in_ordered_partitions(&rt, rt.alloc(), &Pordered::AtOne, Group::Cursors)
+    on_pordered(&rt, rt.alloc(), &Pordered::AtOne, Group::Cursors)
 }
 
 #[test]
 fn pordered_at_one_runs_commands(rt: HostRuntime) {
-    in_ordered_partitions(&rt, rt.alloc(), &Pordered::AtOne, Group::Commands)
+    on_pordered(&rt, rt.alloc(), &Pordered::AtOne, Group::Commands)
 }
 
 #[test]
 fn pordered_at_one_keeps_lists(rt: HostRuntime) {
-    in_ordered_partitions(&rt, rt.alloc(), &Pordered::AtOne, Group::Lists)
+    on_pordered(&rt, rt.alloc(), &Pordered::AtOne, Group::Lists)
 }
 
 #[test]
 fn pordered_at_one_is_built_in_ranges(rt: HostRuntime) {
-    in_ordered_partitions(&rt, rt.alloc(), &Pordered::AtOne, Group::WorkedRanges);
-    in_ordered_partitions(&rt, rt.alloc(), &Pordered::AtOne, Group::Ranges(2000));
+    on_pordered(&rt, rt.alloc(), &Pordered::AtOne, Group::WorkedRanges);
+    on_pordered(&rt, rt.alloc(), &Pordered::AtOne, Group::Ranges(2000));
 }
 
 #[test]
 fn pordered_at_one_resolves(rt: HostRuntime) {
-    resolves(&rt, rt.alloc(), &Pordered::AtOne)
+    pordered_by_records(&rt, rt.alloc(), &Pordered::AtOne)
 }
 
 #[test]
 fn pordered_at_two_answers_each_call(rt: HostRuntime) {
-    in_ordered_partitions(&rt, rt.alloc(), &Pordered::AtTwo, Group::Calls)
+    on_pordered(&rt, rt.alloc(), &Pordered::AtTwo, Group::Calls)
 }
 
 #[test]
 fn pordered_at_two_is_edited_by_cursors(rt: HostRuntime) {
-    in_ordered_partitions(&rt, rt.alloc(), &Pordered::AtTwo, Group::Cursors)
+    on_pordered(&rt, rt.alloc(), &Pordered::AtTwo, Group::Cursors)
 }
 
 #[test]
 fn pordered_at_two_runs_commands(rt: HostRuntime) {
-    in_ordered_partitions(&rt, rt.alloc(), &Pordered::AtTwo, Group::Commands)
+    on_pordered(&rt, rt.alloc(), &Pordered::AtTwo, Group::Commands)
 }
 
 #[test]
 fn pordered_at_two_keeps_lists(rt: HostRuntime) {
-    in_ordered_partitions(&rt, rt.alloc(), &Pordered::AtTwo, Group::Lists)
+    on_pordered(&rt, rt.alloc(), &Pordered::AtTwo, Group::Lists)
 }
 
 #[test]
 fn pordered_at_two_is_built_in_ranges(rt: HostRuntime) {
-    in_ordered_partitions(&rt, rt.alloc(), &Pordered::AtTwo, Group::WorkedRanges);
-    in_ordered_partitions(&rt, rt.alloc(), &Pordered::AtTwo, Group::Ranges(2000));
+    on_pordered(&rt, rt.alloc(), &Pordered::AtTwo, Group::WorkedRanges);
+    on_pordered(&rt, rt.alloc(), &Pordered::AtTwo, Group::Ranges(2000));
 }
 
 #[test]
 fn pordered_at_two_resolves(rt: HostRuntime) {
-    resolves(&rt, rt.alloc(), &Pordered::AtTwo)
+    pordered_by_records(&rt, rt.alloc(), &Pordered::AtTwo)
 }
 
 #[test]
 fn plain_answers_each_call(rt: HostRuntime) {
-    in_order(&rt, rt.alloc(), &Plain, Group::Calls)
+    on_plain(&rt, rt.alloc(), Group::Calls)
 }
 
 #[test]
 fn plain_is_edited_by_cursors(rt: HostRuntime) {
-    in_order(&rt, rt.alloc(), &Plain, Group::Cursors)
+    on_plain(&rt, rt.alloc(), Group::Cursors)
 }
 
 #[test]
 fn plain_runs_commands(rt: HostRuntime) {
-    in_order(&rt, rt.alloc(), &Plain, Group::Commands)
+    on_plain(&rt, rt.alloc(), Group::Commands)
 }
 
 #[test]
 fn plain_keeps_lists(rt: HostRuntime) {
-    in_order(&rt, rt.alloc(), &Plain, Group::Lists)
+    on_plain(&rt, rt.alloc(), Group::Lists)
 }
 
 #[test]
@@ -431,28 +476,28 @@ fn ordered_gives_neighbours(rt: HostRuntime) {
 
 #[test]
 fn unordered_batch_goes_by_place(rt: HostRuntime) {
-    on(&rt, rt.alloc(), &Unordered, Group::Batches)
+    on_unordered(&rt, rt.alloc(), Group::Batches)
 }
 
 #[test]
 fn ordered_batch_goes_by_key(rt: HostRuntime) {
-    in_order(&rt, rt.alloc(), &Ordered, Group::Batches)
+    on_ordered(&rt, rt.alloc(), Group::Batches)
 }
 
 #[test]
 fn punordered_batch_goes_by_place(rt: HostRuntime) {
-    in_partitions(&rt, rt.alloc(), &Punordered, Group::Batches)
+    on_punordered(&rt, rt.alloc(), Group::Batches)
 }
 
 #[test]
 fn pordered_batch_goes_by_partition(rt: HostRuntime) {
-    in_ordered_partitions(&rt, rt.alloc(), &Pordered::AtDefault, Group::Batches);
-    in_ordered_partitions(&rt, rt.alloc(), &Pordered::AtOne, Group::Batches);
-    in_ordered_partitions(&rt, rt.alloc(), &Pordered::AtTwo, Group::Batches);
+    on_pordered(&rt, rt.alloc(), &Pordered::AtDefault, Group::Batches);
+    on_pordered(&rt, rt.alloc(), &Pordered::AtOne, Group::Batches);
+    on_pordered(&rt, rt.alloc(), &Pordered::AtTwo, Group::Batches);
 }
 
 #[test]
 fn short_keys_share_partitions(rt: HostRuntime) {
-    in_partitions(&rt, rt.alloc(), &PunorderedByTwo, Group::ShortKeys);
-    in_ordered_partitions(&rt, rt.alloc(), &PorderedByTwo, Group::ShortKeys);
+    on_punordered_by_two(&rt, rt.alloc(), Group::ShortKeys);
+    on_pordered_by_two(&rt, rt.alloc(), Group::ShortKeys);
 }

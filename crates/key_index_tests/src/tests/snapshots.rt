@@ -438,6 +438,10 @@ fn over_partitions<K: SubjectOfSnapshots + SubjectOfBuilds>(
     }
 }
 
+fn over_pordered(rt: &impl Abort, alloc: Global, kind: &Pordered) {
+    over_partitions(rt, alloc, kind)
+}
+
 #[test]
 fn snapshot_over_ordered(rt: HostRuntime) {
     over(&rt, rt.alloc(), &kinds::Ordered)
@@ -455,15 +459,15 @@ fn snapshot_over_ordered_by_eight_bytes(rt: HostRuntime) {
 
 #[test]
 fn snapshot_over_partitioned_ordered(rt: HostRuntime) {
-    over_partitions(&rt, rt.alloc(), &Pordered::AtDefault)
+    over_pordered(&rt, rt.alloc(), &Pordered::AtDefault)
 }
 
 #[test]
 fn snapshot_over_partitions_that_spill_at_one(rt: HostRuntime) {
-    over_partitions(&rt, rt.alloc(), &Pordered::AtOne)
+    over_pordered(&rt, rt.alloc(), &Pordered::AtOne)
 }
 
 #[test]
 fn snapshot_over_partitions_that_spill_at_two(rt: HostRuntime) {
-    over_partitions(&rt, rt.alloc(), &Pordered::AtTwo)
+    over_pordered(&rt, rt.alloc(), &Pordered::AtTwo)
 }

@@ -591,9 +591,13 @@ where
     }
 }
 
+fn on_small(rt: &impl Abort, alloc: Global, case: Case) {
+    on::<Small>(rt, alloc, case)
+}
+
 #[test]
 fn insertions_spill(rt: HostRuntime) {
-    on::<Small>(&rt, rt.alloc(), Case::Insertions)
+    on_small(&rt, rt.alloc(), Case::Insertions)
 }
 
 #[test]
@@ -604,7 +608,7 @@ fn short_keys_spill(rt: HostRuntime) {
 
 #[test]
 fn each_call_spills_what_is_due(rt: HostRuntime) {
-    on::<Small>(&rt, rt.alloc(), Case::Calls)
+    on_small(&rt, rt.alloc(), Case::Calls)
 }
 
 #[test]
@@ -615,20 +619,20 @@ fn default_threshold_is_512(rt: HostRuntime) {
 
 #[test]
 fn spilled_partitions_live(rt: HostRuntime) {
-    on::<Small>(&rt, rt.alloc(), Case::Lives)
+    on_small(&rt, rt.alloc(), Case::Lives)
 }
 
 #[test]
 fn small_partitions_move_back(rt: HostRuntime) {
-    on::<Small>(&rt, rt.alloc(), Case::Returns)
+    on_small(&rt, rt.alloc(), Case::Returns)
 }
 
 #[test]
 fn neighbours_stand_across_arrays_and_trees(rt: HostRuntime) {
-    on::<Small>(&rt, rt.alloc(), Case::Neighbours)
+    on_small(&rt, rt.alloc(), Case::Neighbours)
 }
 
 #[test]
 fn ranges_spill(rt: HostRuntime) {
-    on::<Small>(&rt, rt.alloc(), Case::Ranges)
+    on_small(&rt, rt.alloc(), Case::Ranges)
 }

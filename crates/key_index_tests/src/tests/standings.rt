@@ -511,32 +511,36 @@ where
     stands_beside(rt, alloc, &mut index, others.as_slice());
 }
 
+fn at(rt: &impl Abort, alloc: Global, threshold: usize) {
+    stands_at::<Small>(rt, alloc, threshold)
+}
+
 #[test]
 fn partitions_stand_at_1(rt: HostRuntime) {
-    stands_at::<Small>(&rt, rt.alloc(), 1);
+    at(&rt, rt.alloc(), 1);
 }
 
 #[test]
 fn partitions_stand_at_2(rt: HostRuntime) {
-    stands_at::<Small>(&rt, rt.alloc(), 2);
+    at(&rt, rt.alloc(), 2);
 }
 
 #[test]
 fn partitions_stand_at_3(rt: HostRuntime) {
-    stands_at::<Small>(&rt, rt.alloc(), 3);
+    at(&rt, rt.alloc(), 3);
 }
 
 #[test]
 fn partitions_stand_at_8(rt: HostRuntime) {
-    stands_at::<Small>(&rt, rt.alloc(), 8);
+    at(&rt, rt.alloc(), 8);
 }
 
 #[test]
 fn partitions_stand_at_64(rt: HostRuntime) {
-    stands_at::<Small>(&rt, rt.alloc(), 64);
+    at(&rt, rt.alloc(), 64);
 }
 
 #[test]
 fn partitions_stand_at_512(rt: HostRuntime) {
-    stands_at::<Small>(&rt, rt.alloc(), 512);
+    at(&rt, rt.alloc(), 512);
 }
