@@ -71,9 +71,46 @@ impl Call {
 }
 
 /// A refusal is for memory, and hands the value back.
-fn is_returned(refused: Refused<u64>, value: u64) -> Result<(), Stop> {
-    must(refused.fault == Fault::Memory, "a refusal for memory")?;
-    must(refused.value == value, "the value of a refusal")
+fn is_returned(refused: &Refused<u64>, value: u64) -> bool {
+    refused.fault == Fault::Memory && refused.value == value
+}
+
+/// Whether a call that takes a value was accepted. A refusal is for memory, and hands the value back.
+fn is_accepted(answer: Result<(), Refused<u64>>, value: u64) -> Result<bool, Stop> {
+    match answer {
+        Ok(()) => Ok(true),
+        Err(refused) => {
+            must(is_returned(&refused, value), "a refusal")?;
+            Ok(false)
+        }
+    }
+}
+
+/// Whether a call that takes none was accepted. A refusal is for memory.
+fn is_made(answer: Result<(), Fault>) -> Result<bool, Stop> {
+    match answer {
+        Ok(()) => Ok(true),
+        Err(fault) => {
+            must(fault == Fault::Memory, "a refusal for memory")?;
+            Ok(false)
+        }
+    }
+}
+
+/// What `insert` came to, on the list.
+fn inserted(
+    kept: &mut Kept,
+    at: usize,
+    value: u64,
+    is_first: bool,
+    answer: Result<(), Refused<u64>>,
+) -> Result<bool, Stop> {
+    if !is_accepted(answer, value)? {
+        return Ok(false);
+    }
+    let place = if is_first { 0 } else { kept.list(at).len() };
+    kept.insert(at, place, value)?;
+    Ok(true)
 }
 
 /// `insert`: whether it is accepted.
@@ -83,24 +120,29 @@ fn insert<I: Unordered<Value = u64>>(
     at: usize,
     value: u64,
 ) -> Result<bool, Stop> {
-    match index.insert(key(at), value) {
-        Ok(()) => {
-            let place = if I::INSERT_FIRST {
-                0
-            } else {
-                kept.list(at).len()
-            };
-            kept.insert(at, place, value)?;
-            Ok(true)
-        }
-        Err(refused) => {
-            is_returned(refused, value)?;
-            Ok(false)
-        }
-    }
+    let answer = index.insert(key(at), value);
+    inserted(kept, at, value, I::INSERT_FIRST, answer)
 }
 
-/// `insert_and_retain`, which asks nothing where it is refused.
+/// What `insert_and_retain` came to, on the list. It asks nothing where it is refused.
+fn inserted_and_retained(
+    kept: &mut Kept,
+    at: usize,
+    value: u64,
+    answers: u64,
+    answer: Result<(), Refused<u64>>,
+) -> Result<bool, Stop> {
+    if !is_accepted(answer, value)? {
+        must(kept.is_unasked(), "a refused call asks nothing")?;
+        return Ok(false);
+    }
+    let held = kept.list(at).len();
+    kept.push(at, value)?;
+    kept.retain(at, answers, held)?;
+    Ok(true)
+}
+
+/// `insert_and_retain`.
 fn insert_and_retain<I: Unordered<Value = u64>>(
     index: &mut I,
     kept: &mut Kept,
@@ -109,19 +151,24 @@ fn insert_and_retain<I: Unordered<Value = u64>>(
     answers: u64,
 ) -> Result<bool, Stop> {
     kept.ask_anew();
-    match index.insert_and_retain(key(at), value, |asked: &u64| kept.ask(answers, *asked)) {
-        Ok(()) => {
-            let held = kept.list(at).len();
-            kept.push(at, value)?;
-            kept.retain(at, answers, held)?;
-            Ok(true)
-        }
-        Err(refused) => {
-            is_returned(refused, value)?;
-            must(kept.is_unasked(), "a refused call asks nothing")?;
-            Ok(false)
-        }
+    let answer = index.insert_and_retain(key(at), value, |asked: &u64| kept.ask(answers, *asked));
+    inserted_and_retained(kept, at, value, answers, answer)
+}
+
+/// What `retain` came to, on the list. It asks nothing where it is refused.
+fn retained(
+    kept: &mut Kept,
+    at: usize,
+    answers: u64,
+    answer: Result<(), Fault>,
+) -> Result<bool, Stop> {
+    if !is_made(answer)? {
+        must(kept.is_unasked(), "a refused call asks nothing")?;
+        return Ok(false);
     }
+    let held = kept.list(at).len();
+    kept.retain(at, answers, held)?;
+    Ok(true)
 }
 
 /// `retain`.
@@ -132,18 +179,17 @@ fn retain<I: Unordered<Value = u64>>(
     answers: u64,
 ) -> Result<bool, Stop> {
     kept.ask_anew();
-    match index.retain(key(at), |asked: &u64| kept.ask(answers, *asked)) {
-        Ok(()) => {
-            let held = kept.list(at).len();
-            kept.retain(at, answers, held)?;
-            Ok(true)
-        }
-        Err(fault) => {
-            must(fault == Fault::Memory, "a refusal for memory")?;
-            must(kept.is_unasked(), "a refused call asks nothing")?;
-            Ok(false)
-        }
+    let answer = index.retain(key(at), |asked: &u64| kept.ask(answers, *asked));
+    retained(kept, at, answers, answer)
+}
+
+/// What `remove` came to, on the list.
+fn removed(kept: &mut Kept, at: usize, answer: Result<(), Fault>) -> Result<bool, Stop> {
+    let accepted = is_made(answer)?;
+    if accepted {
+        kept.clear(at);
     }
+    Ok(accepted)
 }
 
 /// `remove`.
@@ -152,16 +198,8 @@ fn remove<I: Unordered<Value = u64>>(
     kept: &mut Kept,
     at: usize,
 ) -> Result<bool, Stop> {
-    match index.remove(key(at)) {
-        Ok(()) => {
-            kept.clear(at);
-            Ok(true)
-        }
-        Err(fault) => {
-            must(fault == Fault::Memory, "a refusal for memory")?;
-            Ok(false)
-        }
-    }
+    let answer = index.remove(key(at));
+    removed(kept, at, answer)
 }
 
 /// `insert_at` behind the values of a key.
@@ -176,16 +214,8 @@ pub(crate) fn insert_at<I: Runs<Value = u64>>(
         return Err(Stop::Wrong("an index key of the index"));
     }
     let place = index.run_len(slot);
-    match index.insert_at(slot, place, value) {
-        Ok(()) => {
-            kept.push(at, value)?;
-            Ok(true)
-        }
-        Err(refused) => {
-            is_returned(refused, value)?;
-            Ok(false)
-        }
-    }
+    let answer = index.insert_at(slot, place, value);
+    inserted(kept, at, value, false, answer)
 }
 
 /// A cursor that is made at an index key goes behind a value, or past the end, and puts another there.
@@ -207,6 +237,40 @@ pub(crate) fn insert_by_cursor<I: Runs<Value = u64>>(
     }
 }
 
+/// What `get_mut_or_insert` or `get_mut` came to: a value that was put in or no value, a cursor that is new or not, or a refusal.
+enum Found {
+    None,
+    Cursor(bool),
+    Refused(bool),
+}
+
+/// The same, on the list. A value is put in where one is given.
+fn got(kept: &mut Kept, at: usize, value: Option<u64>, got: Found) -> Result<bool, Stop> {
+    let is_held = !kept.list(at).is_empty();
+    match got {
+        Found::None => {
+            must(!is_held, "a cursor at a held key")?;
+            if let Some(value) = value {
+                kept.push(at, value)?;
+            }
+            Ok(true)
+        }
+        Found::Cursor(is_new) => {
+            must(is_held && is_new, "a new cursor, and none at an absent key")?;
+            Ok(true)
+        }
+        Found::Refused(is_returned) => {
+            must(is_returned, "a refusal")?;
+            Ok(false)
+        }
+    }
+}
+
+/// Whether a cursor is new.
+fn is_new<C: Cursor<Value = u64>>(cursor: &C) -> bool {
+    cursor.state() == CursorState::NeedNext
+}
+
 /// `get_mut_or_insert`.
 pub(crate) fn get_or_insert<I: Search<Value = u64>>(
     index: &mut I,
@@ -217,57 +281,50 @@ pub(crate) fn get_or_insert<I: Search<Value = u64>>(
 ) -> Result<bool, Stop>
     requires { Admits (I.view index.old) bytes.now }
 {
-    match index.get_mut_or_insert(bytes, value) {
-        Ok(None) => {
-            must(kept.list(at).is_empty(), "a cursor at a held key")?;
-            kept.push(at, value)?;
-            Ok(true)
-        }
-        Ok(Some(cursor)) => {
-            must(
-                cursor.state() == CursorState::NeedNext,
-                "a cursor that is new",
-            )?;
-            must(!kept.list(at).is_empty(), "no cursor at an absent key")?;
-            Ok(true)
-        }
-        Err(refused) => {
-            is_returned(refused, value)?;
-            Ok(false)
-        }
-    }
+    let came_to = match index.get_mut_or_insert(bytes, value) {
+        Ok(None) => Found::None,
+        Ok(Some(cursor)) => Found::Cursor(is_new(&cursor)),
+        Err(refused) => Found::Refused(is_returned(&refused, value)),
+    };
+    got(kept, at, Some(value), came_to)
 }
 
 /// `get_mut`.
 pub(crate) fn get_mut<I: Search<Value = u64>>(
     index: &mut I,
-    kept: &Kept,
+    kept: &mut Kept,
     at: usize,
     bytes: &[u8],
 ) -> Result<bool, Stop>
     requires { Admits (I.view index.old) bytes.now }
 {
-    match index.get_mut(bytes) {
-        Ok(found) => {
-            must(
-                found.is_some() == !kept.list(at).is_empty(),
-                "a cursor at a held key",
-            )?;
-            Ok(true)
-        }
-        Err(fault) => {
-            must(fault == Fault::Memory, "a refusal for memory")?;
-            Ok(false)
-        }
-    }
+    let came_to = match index.get_mut(bytes) {
+        Ok(None) => Found::None,
+        Ok(Some(cursor)) => Found::Cursor(is_new(&cursor)),
+        Err(fault) => Found::Refused(fault == Fault::Memory),
+    };
+    got(kept, at, None, came_to)
+}
+
+/// The visits of a batch of a key and of the empty one are those of the lists, or none where it was refused.
+fn visited(
+    kept: &Kept,
+    at: usize,
+    visits: [usize; 2],
+    answer: Result<(), Fault>,
+) -> Result<bool, Stop> {
+    let accepted = is_made(answer)?;
+    let wanted = if accepted {
+        [kept.list(at).len(), kept.list(0).len()]
+    } else {
+        [0, 0]
+    };
+    must(visits == wanted, "the visits of a batch")?;
+    Ok(accepted)
 }
 
 /// `get_many` of a key and of the empty one.
-fn get_many<I: Unordered<Value = u64>>(
-    index: &I,
-    kept: &mut Kept,
-    at: usize,
-) -> Result<bool, Stop> {
+fn get_many<I: Unordered<Value = u64>>(index: &I, kept: &Kept, at: usize) -> Result<bool, Stop> {
     let mut visits = [0usize; 2];
     let keys = [key(at), key(0)];
     let answer = index.get_many(keys.iter().copied(), |place, _value: &u64| {
@@ -275,20 +332,7 @@ fn get_many<I: Unordered<Value = u64>>(
             *count = count.saturating_add(1);
         }
     });
-    match answer {
-        Ok(()) => {
-            must(
-                visits == [kept.list(at).len(), kept.list(0).len()],
-                "the visits of a batch",
-            )?;
-            Ok(true)
-        }
-        Err(fault) => {
-            must(fault == Fault::Memory, "a refusal for memory")?;
-            must(visits == [0, 0], "a refused batch visits nothing")?;
-            Ok(false)
-        }
-    }
+    visited(kept, at, visits, answer)
 }
 
 /// One call by key, and the same on the list where it is accepted.
