@@ -42,7 +42,7 @@ fn limit(cells: usize) -> usize
     requires { 0 < cells }
     ensures { result + 1 ≤ cells }
 {
-    cells / 8 * 7
+    cells / 4 * 3
 }
 
 /// The first cell in a range that holds no position.
@@ -122,8 +122,11 @@ impl<'a> Places<'a> {
     fn next(&mut self) -> Option<usize>
         ensures { MatchOption result ((self.old ≡ []) × (self.new ≡ [])) (λ cell. self.old ≡ cell ∷ self.new) }
     {
-        while self.next < self.end || 0 < self.rest {
+        loop {
             if self.next == self.end {
+                if self.rest == 0 {
+                    return None;
+                }
                 self.next = 0;
                 self.end = self.rest;
                 self.rest = 0;
@@ -141,7 +144,6 @@ impl<'a> Places<'a> {
                 return Some(cell);
             }
         }
-        None
     }
 }
 
@@ -211,7 +213,7 @@ fn put_all<F: Fn(u64) -> u64>(
 fn cells_for(capacity: usize) -> Option<usize>
     ensures { IfSome result (λ cells. 0 < cells) }
 {
-    let cells = capacity.checked_add(capacity / 7 + 1)?;
+    let cells = capacity.checked_add(capacity / 3 + 1)?;
     Some(cells.checked_next_power_of_two()?.max(LEAST_CELLS))
 }
 

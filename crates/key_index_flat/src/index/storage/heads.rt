@@ -135,9 +135,18 @@ impl<K: Ord + Hash + Copy, V> Heads<K, V> for BTreeMap<K, V> {
         BTreeMap::len(self)
     }
 
+    // A range's walk down the tree asks one thing of each key that it passes, and `get` of the map two.
     #[inline]
     fn get(&self, key: &K) -> Option<&V> {
-        BTreeMap::get(self, key)
+        match self.range(*key..).next() {
+            Some((found, value)) => {
+                if found.cmp(key).is_eq() {
+                    return Some(value);
+                }
+                None
+            }
+            None => None,
+        }
     }
 
     #[inline]
