@@ -217,12 +217,12 @@ fn stumbles<K: Kind>(rt: &impl Abort, alloc: Global) {
     assert_eq!(rt; store.end(), 48);
 }
 
-/// Ten thousand random calls beside a list, over a log that is opened anew each thousand of them.
+/// Five thousand random calls beside a list, over a log that is opened anew each thousand of them.
 fn runs<K: Kind>(rt: &impl Abort, alloc: Global, seed: u64) {
     let mut values: Vec<Option<u8>> = vec![in alloc; None; 64].expect(rt, "values");
     let (mut store, _) = open::<K, MemoryLog>(rt, alloc, MemoryLog::new(alloc));
     let mut random = seed;
-    for call in 0..10_000u64 {
+    for call in 0..5_000u64 {
         random ^= random << 13;
         random ^= random >> 7;
         random ^= random << 17;
@@ -279,7 +279,7 @@ fn all<K: Kind>(rt: &impl Abort, alloc: Global) {
     fills::<K>(rt, alloc);
     misses::<K>(rt, alloc);
     stumbles::<K>(rt, alloc);
-    for seed in 1..=10u64 {
+    for seed in 1..=20u64 {
         runs::<K>(rt, alloc, seed << 32 | seed);
     }
 }
