@@ -190,7 +190,7 @@ fn misses<K: Kind>(rt: &impl Abort, alloc: Global) {
     }
 }
 
-/// A read that fails in the middle of a call, at the second of three keys alike: the call says so, and the map stays.
+/// A read that fails in the middle of a call, at the second of two keys alike: the call says so, and the map stays.
 fn stumbles<K: Kind>(rt: &impl Abort, alloc: Global) {
     // A record of these keys takes 24 bytes.
     let log = FailingLog {
@@ -199,15 +199,8 @@ fn stumbles<K: Kind>(rt: &impl Abort, alloc: Global) {
         unreadable: 24,
     };
     let (mut store, _) = open::<K, FailingLog>(rt, alloc, log);
-    for (key, value) in [
-        (b"same firs1", b"1"),
-        (b"same firs2", b"2"),
-        (b"same firs3", b"3"),
-    ] {
-        if let Err(fault) = store.put(key, value) {
-            assert_eq!(rt; fault, Fault::ReadFailed);
-        }
-    }
+    store.put(b"same firs1", b"1").expect(rt, "a put");
+    store.put(b"same firs2", b"2").expect(rt, "a put");
     assert!(rt; store.end() == 48);
     assert_eq!(rt; store.get(b"same firs2"), Err(Fault::ReadFailed));
     assert_eq!(rt; store.put(b"same firs2", b"4"), Err(Fault::ReadFailed));
