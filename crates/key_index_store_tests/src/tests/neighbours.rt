@@ -152,7 +152,7 @@ fn beside_a_list<I: Ordered<Value = u64> + Factory<Translator = EightCap> + Drop
                 .compact(MemoryLog::new(alloc), index)
                 .expect(rt, "a copy");
             // A record of a key of ten bytes and a value of one takes 24.
-            assert_eq!(rt; copy.end(), store.len() as u64 * 24);
+            assert_eq!(rt; copy.end(), (store.len() as u64).saturating_mul(24));
             answers(rt, &copy, values.as_slice());
             store = open::<I, MemoryLog>(rt, alloc, copy.into_log());
         }

@@ -190,7 +190,7 @@ fn misses<K: Kind>(rt: &impl Abort, alloc: Global) {
     }
 }
 
-/// A read that fails in the middle of a call, at the second of three keys alike: the call says so, and the map stays.
+/// A read that fails in the middle of a call, at the second of two keys alike: the call says so, and the map stays.
 fn stumbles<K: Kind>(rt: &impl Abort, alloc: Global) {
     // A record of these keys takes 24 bytes.
     let log = FailingLog {
@@ -199,15 +199,8 @@ fn stumbles<K: Kind>(rt: &impl Abort, alloc: Global) {
         unreadable: 24,
     };
     let (mut store, _) = open::<K, FailingLog>(rt, alloc, log);
-    for (key, value) in [
-        (b"same firs1", b"1"),
-        (b"same firs2", b"2"),
-        (b"same firs3", b"3"),
-    ] {
-        if let Err(fault) = store.put(key, value) {
-            assert_eq!(rt; fault, Fault::ReadFailed);
-        }
-    }
+    store.put(b"same firs1", b"1").expect(rt, "a put");
+    store.put(b"same firs2", b"2").expect(rt, "a put");
     assert!(rt; store.end() == 48);
     assert_eq!(rt; store.get(b"same firs2"), Err(Fault::ReadFailed));
     assert_eq!(rt; store.put(b"same firs2", b"4"), Err(Fault::ReadFailed));
@@ -217,12 +210,12 @@ fn stumbles<K: Kind>(rt: &impl Abort, alloc: Global) {
     assert_eq!(rt; store.end(), 48);
 }
 
-/// Ten thousand random calls beside a list, over a log that is opened anew each thousand of them.
+/// Five thousand random calls beside a list, over a log that is opened anew each thousand of them.
 fn runs<K: Kind>(rt: &impl Abort, alloc: Global, seed: u64) {
     let mut values: Vec<Option<u8>> = vec![in alloc; None; 64].expect(rt, "values");
     let (mut store, _) = open::<K, MemoryLog>(rt, alloc, MemoryLog::new(alloc));
     let mut random = seed;
-    for call in 0..10_000u64 {
+    for call in 0..5_000u64 {
         random ^= random << 13;
         random ^= random >> 7;
         random ^= random << 17;
@@ -279,7 +272,7 @@ fn all<K: Kind>(rt: &impl Abort, alloc: Global) {
     fills::<K>(rt, alloc);
     misses::<K>(rt, alloc);
     stumbles::<K>(rt, alloc);
-    for seed in 1..=10u64 {
+    for seed in 1..=20u64 {
         runs::<K>(rt, alloc, seed << 32 | seed);
     }
 }
