@@ -7,22 +7,14 @@ use Rattle.key_index_parts.specs.laws.StandingLaws.{settles_by}
 use Rattle.key_index_parts.proofs.family.StorageLemmas.{keeps_all, memory_fault}
 use Rattle.key_index_parts.proofs.index.partitioned.storage.Storage.insert.Goals as goal
 
-pub returns-then-self-clause-kept : goal.returns-then-self-clause-kept
-returns-then-self-clause-kept g c = rw (← c.self.view_is) (keeps_all c.self.invariant _ refl)
+pub returns-then-is_full-clause-kept : goal.returns-then-is_full-clause-kept
+returns-then-is_full-clause-kept g c = rw (← c.self.view_is) (keeps_all c.self.invariant _ refl)
 
 pub returns-in-Ok-put-clause-room : goal.returns-in-Ok-put-clause-room
-returns-in-Ok-put-clause-room g c =
-    let full = ap (λ s. item_count (gathered s.parts)) c.self.view_is in
-    let was = c.self.invariant.counted in
-    let small : c.self.inside.counts.items < 2 ^ 64 = search rules in
-    omega (arith, full, was, c.if-self.false, small)
+returns-in-Ok-put-clause-room g c = c.is_full.ensures.room c.if-is_full.false
 
 pub returns-in-Err-clause-fault : goal.returns-in-Err-clause-fault
-returns-in-Err-clause-fault g c =
-    let full = ap (λ s. item_count (gathered s.parts)) c.self.view_is in
-    let was = c.self.invariant.counted in
-    let small : c.self.inside.counts.items < 2 ^ 64 = search rules in
-    c.memory-in-Err.ensures.fault ∙ memory_fault (item_count (gathered c.args.self.now.parts)) (omega (arith, full, was, c.if-self.false, small))
+returns-in-Err-clause-fault g c = c.memory-in-Err.ensures.fault ∙ memory_fault _ (c.is_full.ensures.room c.if-is_full.false)
 
 pub returns-in-Ok-put-clause-settled : goal.returns-in-Ok-put-clause-settled
 returns-in-Ok-put-clause-settled g c = λ is.
@@ -32,9 +24,3 @@ returns-in-Ok-put-clause-settled g c = λ is.
     let mid = ap (λ s. s.standings) c.in-Ok.ensures.settled ∙ ap (λ b. settled_in b old n) is in
     settles_by old new n c.in-Ok.ensures.within c.in-Ok.ensures.least
     (c.in-Ok-put.ensures.standing ∙ (λ i. settled_in (is i) (with_entries (mid i) n (entries_at new n)) n))
-
-pub returns-in-Ok-put-clause-bound : goal.returns-in-Ok-put-clause-bound
-returns-in-Ok-put-clause-bound g c = λ before. c.put.ensures.bound (c.settle.ensures.bound before)
-
-pub returns-in-Err-clause-bound : goal.returns-in-Err-clause-bound
-returns-in-Err-clause-bound g c = λ before. c.put.ensures.bound (c.settle.ensures.bound before)
