@@ -119,7 +119,8 @@ impl<T: Translator, V: Drop, X: Bucket<T, V> + Drop> Directory<T, V, X> {
         requires within { number < length self.old.contents }
         requires least { 1 ≤ limit }
         ensures contents { self.new.contents ≡ self.old.contents }
-        ensures standing { IfOk result (λ moved. SpillsIn X.SPILLS limit self.old.standing number moved self.new.standing) }
+        ensures standing { IfOk result (λ moved.
+            SpillsIn X.SPILLS limit self.old.standing number moved self.new.standing) }
         ensures refused { OnErr result (self.new ≡ self.old) }
         ensures due { OnErr result (IsTrue
             (X.SPILLS && is_reached_by limit (standing_in self.old.standing number))) }
@@ -250,14 +251,18 @@ impl<T: Translator, V: Drop, X: Bucket<T, V> + Drop> Directory<T, V, X> {
         ensures accepted { IfOk result (λ told.
             (self.new.contents ≡ with_edit_in T.Key.cmp self.old.contents slot (put_value X.FIRST value))
             × (told.0 ≡ not (is_filled (list_in T.Key.cmp self.old.contents slot)))) }
-        ensures standing { IfOk result (λ told. GrowsIn X.SPILLS limit self.old.standing slot.0 told.1 self.new.standing) }
+        ensures standing { IfOk result (λ told.
+            GrowsIn X.SPILLS limit self.old.standing slot.0 told.1 self.new.standing) }
         ensures refused { OnErr result (self.new ≡ self.old) }
         ensures returned { IfErr result (λ back. back ≡ value) }
         ensures counted { AreCounted self.new.contents self.new.standing }
     {
-        let told = self.buckets[slot.0].insert(slot.1, value, limit)?;
-        self.filled.set(slot.0, true);
-        Ok(told)
+        let (absent, moved) = self.buckets[slot.0].insert(slot.1, value, limit)?;
+        if absent {
+            self.filled.set(slot.0, true);
+            return Ok((absent, moved));
+        }
+        Ok((absent, moved))
     }
 
     /// Puts a value under a slot that has none, and tells how many values the slot had, and how many its bucket moved to a tree: it
@@ -348,7 +353,8 @@ impl<T: Translator, V: Drop, X: Bucket<T, V> + Drop> Directory<T, V, X> {
         ensures accepted { IfOk result (λ told. RetainsWith (CalledAt F.FnMut) should_retain
             (list_in T.Key.cmp self.old.contents slot) value told.0.had told.0.left told.0.taken
             (λ l. self.new.contents ≡ with_list_in T.Key.cmp self.old.contents slot l)) }
-        ensures standing { IfOk result (λ told. GrowsIn X.SPILLS limit self.old.standing slot.0 told.1 self.new.standing) }
+        ensures standing { IfOk result (λ told.
+            GrowsIn X.SPILLS limit self.old.standing slot.0 told.1 self.new.standing) }
         ensures refused { OnErr result (self.new ≡ self.old) }
         ensures returned { IfErr result (λ back. back ≡ value) }
         ensures counted { AreCounted self.new.contents self.new.standing }

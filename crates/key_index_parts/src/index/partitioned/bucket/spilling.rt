@@ -367,7 +367,8 @@ impl<T: Translator, V: Drop> Bucket<T, V> for Spilling<T, V> {
             drop_emptied(&mut self.arrays, &mut self.tree);
             return Ok((told, 0));
         }
-        if self.arrays.len() < limit - 1 {
+        let len = self.arrays.len();
+        if len < limit - 1 {
             let told = self.arrays.insert_and_retain(key, value, should_retain)?;
             return Ok((told, 0));
         }

@@ -15,12 +15,12 @@ returns-then-len-limit-clause-standing g c =
     let told = c.in_ok-told-2.told in
     let few = retained g.met.T.Key.Ord.total (CalledAt g.F.FnMut) c.args.should_retain (grouped g.T.Key.Ord.cmp pairs) (grouped g.T.Key.Ord.cmp c.insert_and_retain-then-len-limit.new.self.pairs.pairs)
     c.args.key c.args.value told.had told.left told.taken (IsLawful-grouped g.met.T.Key.Ord.total pairs) c.in_ok-told-2.ensures.accepted in
-    rw c.in_default.is (below c.args.limit _ (omega (arith, few, c.len.ensures, c.if-len-limit.true)))
+    rw c.in_default.is (below c.args.limit _ (omega (arith, few, c.len-len.ensures, c.if-len-limit.true)))
 
 pub lower-requires-clause-room : goal.lower-requires-clause-room
 lower-requires-clause-room g c =
     let told = c.len-left.ensures ∙ ap (λ t. item_count (map list_of t.lists.entries)) c.deref.ensures in
-    omega (arith, told, c.len.ensures, c.if-len-limit.false, c.if-left-limit.true, c.in-Ok.ensures.spare.1)
+    omega (arith, told, c.len-len.ensures, c.if-len-limit.false, c.if-left-limit.true, c.in-Ok.ensures.spare.1)
 
 pub returns-then-left-limit-clause-standing : goal.returns-then-left-limit-clause-standing
 returns-then-left-limit-clause-standing g c =
