@@ -129,6 +129,7 @@ impl<T: Translator, V: Drop, X: Bucket<T, V> + Drop, const P: usize> Storage<T, 
     fn is_full(&self) -> bool
         ensures full { IsTrue result → item_count (gathered self.now.buckets) ≡ usize.MAX }
         ensures room { result ≡ false → item_count (gathered self.now.buckets) < usize.MAX }
+        ensures kept { KeepsBuckets T.Key.cmp self.now.buckets self.now.buckets }
     {
         self.counts.items == usize::MAX
     }

@@ -24,8 +24,8 @@ invariant_of-self-then-absent g c =
     c.set.ensures ∙ flags_edited cmp bucket c.self.inside.filled c.insert.new.self true c.self.invariant
     (sym (ap is_filled c.in_ok-absent.ensures.accepted.0 ∙ filled_put cmp (f x) k (list_at cmp (f x) k) g.X.Bucket.FIRST c.args.value))
 
-pub invariant_of-self-2 : goal.invariant_of-self-2
-invariant_of-self-2 g c =
+pub invariant_of-self-else-absent : goal.invariant_of-self-else-absent
+invariant_of-self-else-absent g c =
     let cmp = g.T.Key.Ord.cmp in
     let x = c.index_mut.result.now in
     let k = c.args.slot.1 in

@@ -1,17 +1,21 @@
-use Rattle.std.proofs.Common.{rules, ◌<◌, ◌^◌, refl, ap, ◌∙◌, arith}
+use Rattle.std.proofs.Common.{inr, rules, ◌<◌, ◌^◌, refl, ap, ◌∙◌, arith}
 use Rattle.key_index_flat.specs.Content.{item_count}
 use Rattle.key_index_parts.specs.Family.{settled_in}
 use Rattle.key_index_parts.specs.Gathered.{gathered}
 use Rattle.key_index_parts.specs.Standing.{entries_at, with_entries}
 use Rattle.key_index_parts.specs.laws.StandingLaws.{settles_by}
-use Rattle.key_index_parts.proofs.family.StorageLemmas.{keeps_all, memory_fault}
+use Rattle.key_index_parts.proofs.family.StorageLemmas.{memory_fault}
 use Rattle.key_index_parts.proofs.index.partitioned.storage.Storage.insert.Goals as goal
 
 pub returns-then-is_full-clause-kept : goal.returns-then-is_full-clause-kept
-returns-then-is_full-clause-kept g c = rw (← c.self.view_is) (keeps_all c.self.invariant _ refl)
+returns-then-is_full-clause-kept g c = c.is_full.ensures.kept
 
 pub returns-in-Ok-put-clause-room : goal.returns-in-Ok-put-clause-room
 returns-in-Ok-put-clause-room g c = c.is_full.ensures.room c.if-is_full.false
+
+pub returns-in-Err-clause-left : goal.returns-in-Err-clause-left
+returns-in-Err-clause-left g c =
+    inr (c.is_full.ensures.room c.if-is_full.false, c.in-Err.ensures.refused ∙ c.in-Ok.ensures.settled)
 
 pub returns-in-Err-clause-fault : goal.returns-in-Err-clause-fault
 returns-in-Err-clause-fault g c = c.memory-in-Err.ensures.fault ∙ memory_fault _ (c.is_full.ensures.room c.if-is_full.false)

@@ -1,4 +1,4 @@
-use Rattle.std.proofs.Common.{rules, ◌≡◌, ℕ, subst, sym, ◌<◌, ◌^◌, refl, ap, ◌∙◌, arith}
+use Rattle.std.proofs.Common.{inr, rules, ◌≡◌, ℕ, subst, sym, ◌<◌, ◌^◌, refl, ap, ◌∙◌, arith}
 use Rattle.std.specs.Fn.{CalledAt}
 use Rattle.key_index_flat.specs.Content.{item_count}
 use Rattle.key_index_flat.specs.View.{View, InsertsAndRetains}
@@ -6,14 +6,18 @@ use Rattle.key_index_parts.specs.Family.{Kept, settled_in, view_of}
 use Rattle.key_index_parts.specs.Gathered.{gathered, pair_cmp}
 use Rattle.key_index_parts.specs.Standing.{entries_at, with_entries}
 use Rattle.key_index_parts.proofs.standing.StandingLemmas.{resettles}
-use Rattle.key_index_parts.proofs.family.StorageLemmas.{keeps_all, kept_twice, memory_fault}
+use Rattle.key_index_parts.proofs.family.StorageLemmas.{kept_twice, memory_fault}
 use Rattle.key_index_parts.proofs.index.partitioned.storage.Storage.insert_and_retain.Goals as goal
 
 pub returns-then-is_full-clause-kept : goal.returns-then-is_full-clause-kept
-returns-then-is_full-clause-kept g c = rw (← c.self.view_is) (keeps_all c.self.invariant _ refl)
+returns-then-is_full-clause-kept g c = c.is_full.ensures.kept
 
 pub returns-in-Ok-put_and_retain-clause-room : goal.returns-in-Ok-put_and_retain-clause-room
 returns-in-Ok-put_and_retain-clause-room g c = c.is_full.ensures.room c.if-is_full.false
+
+pub returns-in-Err-clause-left : goal.returns-in-Err-clause-left
+returns-in-Err-clause-left g c =
+    inr (c.is_full.ensures.room c.if-is_full.false, c.in-Err.ensures.refused ∙ c.in-Ok.ensures.settled)
 
 pub returns-in-Err-clause-fault : goal.returns-in-Err-clause-fault
 returns-in-Err-clause-fault g c = c.memory-in-Err.ensures.fault ∙ memory_fault _ (c.is_full.ensures.room c.if-is_full.false)

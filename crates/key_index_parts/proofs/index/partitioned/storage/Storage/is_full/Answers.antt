@@ -1,7 +1,8 @@
-use Rattle.std.proofs.Common.{rules, ◌<◌, ◌^◌, ap, lt_of_not-le, ◌-◌, sym, true≢false, ◌∙◌, arith}
+use Rattle.std.proofs.Common.{rules, ◌<◌, ◌^◌, refl, ap, lt_of_not-le, ◌-◌, sym, true≢false, ◌∙◌, arith}
 use Rattle.std.proofs.lemmas.Bool.{eqb-true, eq-eqb}
 use Rattle.key_index_flat.specs.Content.{item_count}
 use Rattle.key_index_parts.specs.Gathered.{gathered}
+use Rattle.key_index_parts.proofs.family.StorageLemmas.{keeps_all}
 use Rattle.key_index_parts.proofs.index.partitioned.storage.Storage.is_full.Goals as goal
 
 pub returns-clause-full : goal.returns-clause-full
@@ -17,3 +18,6 @@ returns-clause-room g c = λ h.
     let was = c.self.invariant.counted in
     let small : c.self.inside.counts.items < 2 ^ 64 = search rules in
     lt_of_not-le (λ most. true≢false (sym (eq-eqb c.self.inside.counts.items (2 ^ 64 - 1) (omega (arith, most, full, was, small))) ∙ h))
+
+pub returns-clause-kept : goal.returns-clause-kept
+returns-clause-kept g c = rw (← c.self.view_is) (keeps_all c.self.invariant _ refl)
