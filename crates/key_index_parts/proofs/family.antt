@@ -7,7 +7,7 @@ pub mod JoinedLemmas
 pub mod ShiftedLemmas
 pub mod ReachLemmas
 pub mod InstallLemmas
-pub mod PartLemmas
+pub mod BucketLemmas
 pub mod StorageLemmas
 pub mod SpreadLemmas
 pub mod ChainedLemmas

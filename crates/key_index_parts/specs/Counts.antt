@@ -1,4 +1,4 @@
--- The counts of what parts hold.
+-- The counts of what buckets hold.
 use Rattle.std.specs.Prelude.{ℕ, Bool, ◌+◌, ◌-◌, ◌^◌, ◌≤◌, nat_lt, if◌then◌else◌}
 
 abbrev pub one_if : Bool → ℕ

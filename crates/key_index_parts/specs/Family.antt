@@ -1,28 +1,28 @@
--- A family of parts by what each holds, listed by their numbers. A slot is a part's number and a key of that part.
---     part_at                     what the part of a number holds, and nothing past the last one
+-- A family of buckets by what each holds, listed by their numbers. A slot is a bucket's number and a key of that bucket.
+--     bucket_at                     what the bucket of a number holds, and nothing past the last one
 --     list_in                     the list at a slot
 --     with_list_in, with_edit_in  with this list at a slot, and with what f makes of the list there
---     filled_parts                of each part, whether it holds anything
+--     filled_buckets                of each bucket, whether it holds anything
 --     held_at                     the list at a slot of the whole
---     KeepsParts                  other parts are as many, and a map of lists that are not empty
---     IsIndex, IsRange            parts for all partitions of p bytes, and for some from a first one on
---     Family                      what each part holds, and how it stands
---     AreCounted                  each part stands with as many values as it holds
---     stands, stays_spilled       how a part stands, and whether a spilled one that is left with this content is spilled still
---     grows_spilled               whether a part is spilled once a value was put in, of a kind that spills at so many values or doesn't
---     inline_in                   how many values of a part a spill would move
+--     KeepsBuckets                  other buckets are as many, and a map of lists that are not empty
+--     IsIndex, IsRange            buckets for all partitions of p bytes, and for some from a first one on
+--     Family                      what each bucket holds, and how it stands
+--     AreCounted                  each bucket stands with as many values as it holds
+--     stands, stays_spilled       how a bucket stands, and whether a spilled one that is left with this content is spilled still
+--     Grows                       what an insertion that moved so many values to a tree leaves of a bucket that was spilled or not
+--     inline_in                   how many values of a bucket a spill would move
 --     Kept, IsCounted             what the storage of an index keeps, and its counts
---     settled_in, settled_at      a partition spilled if it has reached the threshold, of parts that spill or don't
+--     settled_in, settled_at      a partition spilled if it has reached the threshold, of buckets that spill or don't
 --     GrowsTo                     what an insertion leaves of how the partitions stand, done in a partition as it stands
 --     SameContent                 how its partitions stand may differ, and nothing else
 --     IsLeft                      what a refused insertion leaves
---     KeepsWithin, KeepsRange     the bound on moved values still holds of an index, and of a range
+--     KeepsRange                  the bound on moved values still holds of a range
 --     RetainsWith                 what an insertion with retention makes of a list
 --     view_of                     the view of it, by what its translator makes of a key
 --     Edits, Prunes               another view has what f makes of the list at a slot, and with n values more taken out
---     view_from                  the same of a range's storage, whose parts are numbered from `first`
+--     view_from                  the same of a range's storage, whose buckets are numbered from `first`
 --     with_items_from             with other items in the place of those from a number on
---     with_parts_from, AreFree    the same of parts; so many from there hold nothing
+--     with_buckets_from, AreFree    the same of buckets; so many from there hold nothing
 use Rattle.std.specs.Prelude.{◌≡◌, ◌⊎◌, ℕ, ◌+◌, ◌-◌, ◌^◌, ◌<◌, ◌≤◌, Bool, not, ◌&&◌, ◌||◌, if◌then◌else◌, nat_lt, nat_le, List, [], ◌++◌, length, map, take, drop, All, slice_index_or, slice_set}
 use Rattle.std.specs.declared.cmp.Ordering.{Ordering}
 use Rattle.key_index_flat.specs.Retention.{AsksBehind}
@@ -30,54 +30,54 @@ use Rattle.key_index_flat.specs.Content.{Content, is_filled, IsLawful, list_at, 
 use Rattle.key_index_flat.specs.View.{View, with_edit, with_pruned}
 use Rattle.key_index_parts.specs.Gathered.{gathered, gathered_from, pair_cmp}
 use Rattle.key_index_parts.specs.Joined.{is_between}
-use Rattle.key_index_parts.specs.Moves.{IsRangeWithin, IsWithin}
+use Rattle.key_index_parts.specs.Moves.{IsRangeWithin}
 use Rattle.key_index_parts.specs.Prefix.{partition_count, slot_by}
-use Rattle.key_index_parts.specs.Standing.{Standing, Standings, entries_at, spilled_if_reached, with_entries}
+use Rattle.key_index_parts.specs.Standing.{Spills, Standing, Standings, entries_at, spilled_if_reached, with_entries}
 
 abbrev pub with_items_from : {A : Type 0} → List A → ℕ → List A → List A
 with_items_from items n others = take n items ++ (others ++ drop (n + length others) items)
 
 module _ {K V : Type 0} where
-  abbrev pub part_at : List (Content K V) → ℕ → Content K V
-  part_at parts n = slice_index_or parts n []
+  abbrev pub bucket_at : List (Content K V) → ℕ → Content K V
+  bucket_at buckets n = slice_index_or buckets n []
 
-  abbrev pub with_parts_from : List (Content K V) → ℕ → List (Content K V) → List (Content K V)
-  with_parts_from parts n others = with_items_from parts n others
+  abbrev pub with_buckets_from : List (Content K V) → ℕ → List (Content K V) → List (Content K V)
+  with_buckets_from buckets n others = with_items_from buckets n others
 
   abbrev pub AreFree : List (Content K V) → ℕ → ℕ → Type 0
-  AreFree parts first count = (n : ℕ) → first ≤ n → n < first + count → part_at parts n ≡ []
+  AreFree buckets first count = (n : ℕ) → first ≤ n → n < first + count → bucket_at buckets n ≡ []
 
-  abbrev pub filled_parts : List (Content K V) → List Bool
-  filled_parts parts = map is_filled parts
+  abbrev pub filled_buckets : List (Content K V) → List Bool
+  filled_buckets buckets = map is_filled buckets
 
 module _ {K V : Type 0} (cmp : K → K → Ordering) where
   abbrev pub list_in : List (Content K V) → ℕ × K → List V
-  list_in parts slot = list_at cmp (part_at parts slot.0) slot.1
+  list_in buckets slot = list_at cmp (bucket_at buckets slot.0) slot.1
 
   abbrev pub with_list_in : List (Content K V) → ℕ × K → List V → List (Content K V)
-  with_list_in parts slot l = slice_set parts slot.0 (with_list cmp (part_at parts slot.0) slot.1 l)
+  with_list_in buckets slot l = slice_set buckets slot.0 (with_list cmp (bucket_at buckets slot.0) slot.1 l)
 
   abbrev pub with_edit_in : List (Content K V) → ℕ × K → (List V → List V) → List (Content K V)
-  with_edit_in parts slot f = with_list_in parts slot (f (list_in parts slot))
+  with_edit_in buckets slot f = with_list_in buckets slot (f (list_in buckets slot))
 
   abbrev pub held_at : List (Content K V) → ℕ × K → List V
-  held_at parts slot = list_at (pair_cmp cmp) (gathered parts) slot
+  held_at buckets slot = list_at (pair_cmp cmp) (gathered buckets) slot
 
-  pub record KeepsParts (old new : List (Content K V)) : Type 0 where
+  pub record KeepsBuckets (old new : List (Content K V)) : Type 0 where
     pub lawful : IsLawful (pair_cmp cmp) (gathered new)
     pub sized : length new ≡ length old
 
-  pub record IsIndex (p : ℕ) (parts : List (Content K V)) : Type 0 where
+  pub record IsIndex (p : ℕ) (buckets : List (Content K V)) : Type 0 where
     pub least : 1 ≤ p
     pub greatest : p ≤ 3
-    pub lawful : IsLawful (pair_cmp cmp) (gathered parts)
-    pub whole : length parts ≡ partition_count p
+    pub lawful : IsLawful (pair_cmp cmp) (gathered buckets)
+    pub whole : length buckets ≡ partition_count p
 
-  pub record IsRange (p first : ℕ) (parts : List (Content K V)) : Type 0 where
+  pub record IsRange (p first : ℕ) (buckets : List (Content K V)) : Type 0 where
     pub least : 1 ≤ p
     pub greatest : p ≤ 3
-    pub lawful : IsLawful (pair_cmp cmp) (gathered parts)
-    pub within : first + length parts ≤ partition_count p
+    pub lawful : IsLawful (pair_cmp cmp) (gathered buckets)
+    pub within : first + length buckets ≤ partition_count p
 
 pub record Family (K V : Type 0) : Type 0 where
   pub contents : List (Content K V)
@@ -93,30 +93,29 @@ module _ {K V : Type 0} where
   abbrev pub stays_spilled : Bool → Content K V → Bool
   stays_spilled spilled c = spilled && nat_lt 0 (item_count c)
 
-  abbrev pub grows_spilled : Bool → ℕ → Bool → Content K V → Bool
-  grows_spilled spills limit spilled c =
-      (spilled || (spills && nat_le limit (item_count c))) && nat_lt 0 (item_count c)
+  abbrev pub Grows : Bool → ℕ → Bool → ℕ → Content K V → Bool → Type 0
+  Grows spills limit was moved c is = Spills spills limit (stands c (stays_spilled was c)) moved (stands c is)
 
   abbrev pub inline_in : Bool → Bool → Content K V → ℕ
   inline_in spills spilled c = if spills && not spilled then item_count c else 0
 
--- an index as its storage's contracts see it: its translator, what its parts hold, how many held values were ever taken out, and how
+-- an index as its storage's contracts see it: its translator, what its buckets hold, how many held values were ever taken out, and how
 -- its partitions stand
 pub record Kept (T K V : Type 0) : Type 0 where
   pub translator : T
-  pub parts : List (Content K V)
+  pub buckets : List (Content K V)
   pub pruned : ℕ
   pub standings : Standings
 
--- no more parts than partitions of p bytes, each a map of lists that are not empty, and so many values and keys in all of them
-pub record IsCounted {K V : Type 0} (cmp : K → K → Ordering) (p : ℕ) (parts : List (Content K V)) (items keys : ℕ)
+-- no more buckets than partitions of p bytes, each a map of lists that are not empty, and so many values and keys in all of them
+pub record IsCounted {K V : Type 0} (cmp : K → K → Ordering) (p : ℕ) (buckets : List (Content K V)) (items keys : ℕ)
     : Type 0 where
   pub least : 1 ≤ p
   pub greatest : p ≤ 3
-  pub sized : length parts ≤ partition_count p
-  pub each : All (IsLawful cmp) parts
-  pub counted : items ≡ item_count (gathered parts)
-  pub keyed : keys ≡ key_count (gathered parts)
+  pub sized : length buckets ≤ partition_count p
+  pub each : All (IsLawful cmp) buckets
+  pub counted : items ≡ item_count (gathered buckets)
+  pub keyed : keys ≡ key_count (gathered buckets)
 
 abbrev pub settled_in : Bool → Standings → ℕ → Standings
 settled_in spills s n = if spills then spilled_if_reached s n else s
@@ -124,9 +123,6 @@ settled_in spills s n = if spills then spilled_if_reached s n else s
 module _ {T K V : Type 0} where
   abbrev pub settled_at : Bool → Kept T K V → ℕ → Kept T K V
   settled_at spills s n = record s { standings = settled_in spills s.standings n }
-
-  abbrev pub KeepsWithin : Kept T K V → Kept T K V → Type 0
-  KeepsWithin old new = IsWithin old.standings old.pruned → IsWithin new.standings new.pruned
 
   abbrev pub KeepsRange : Kept T K V → Kept T K V → Type 0
   KeepsRange old new = IsRangeWithin old.standings old.pruned → IsRangeWithin new.standings new.pruned
@@ -141,11 +137,11 @@ module _ {T K V : Type 0} where
 
   abbrev pub IsLeft : Bool → Kept T K V → ℕ → Kept T K V → Type 0
   IsLeft spills old n new =
-      (new ≡ old) ⊎ ((item_count (gathered old.parts) < 2 ^ 64 - 1) × (new ≡ settled_at spills old n))
+      (new ≡ old) ⊎ ((item_count (gathered old.buckets) < 2 ^ 64 - 1) × (new ≡ settled_at spills old n))
 
 abbrev pub view_of : {T K V : Type 0} → ℕ → (T → List ℕ → K) → Kept T K V → View (ℕ × K) V
 view_of p translated s = record {
-  content = gathered s.parts;
+  content = gathered s.buckets;
   pruned = s.pruned;
   slot = slot_by p (translated s.translator);
   admitted = λ slot. nat_lt slot.0 (partition_count p);
@@ -153,8 +149,8 @@ view_of p translated s = record {
 
 abbrev pub view_from : {T K V : Type 0} → ℕ → (T → List ℕ → K) → ℕ → Kept T K V → View (ℕ × K) V
 view_from p translated first s = record (view_of p translated s) {
-  content = gathered_from first s.parts;
-  admitted = λ slot. is_between first (first + length s.parts) slot.0;
+  content = gathered_from first s.buckets;
+  admitted = λ slot. is_between first (first + length s.buckets) slot.0;
 }
 
 module _ {T K V : Type 0} (cmp : K → K → Ordering) (p : ℕ) (translated : T → List ℕ → K) where

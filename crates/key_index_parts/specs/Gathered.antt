@@ -1,8 +1,8 @@
--- The content of a family of parts, which are listed by their numbers.
---     pair_cmp      pairs of a part's number and a key of its own, ordered as pairs
---     tagged        the entries of the part of number p, at such pairs
---     gathered      the content of the whole: the entries of each part in turn
---     entries_of    the entries of one part
+-- The content of a family of buckets, which are listed by their numbers.
+--     pair_cmp      pairs of a bucket's number and a key of its own, ordered as pairs
+--     tagged        the entries of the bucket of number p, at such pairs
+--     gathered      the content of the whole: the entries of each bucket in turn
+--     entries_of    the entries of one bucket
 use Rattle.std.specs.Prelude.{ℕ, suc, List, [], ◌∷◌, ◌++◌}
 use Rattle.std.specs.Bool.{◌==◌}
 use Rattle.std.specs.List.{filter}

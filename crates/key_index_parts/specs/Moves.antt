@@ -11,7 +11,7 @@ use Rattle.std.specs.List.{sum_by}
 use Rattle.key_index_parts.specs.Standing.{Standing, Standings}
 
 abbrev pub entries_in : Standings → ℕ
-entries_in s = sum_by (λ p. p.entries) s.parts
+entries_in s = sum_by (λ p. p.entries) s.buckets
 
 abbrev pub credit : ℕ → Standing → ℕ
 credit threshold p = if p.spilled then min p.entries (threshold - p.entries) else 2 * p.entries - threshold
@@ -20,7 +20,7 @@ abbrev pub range_credit : Standing → ℕ
 range_credit p = if p.spilled then p.entries else 2 * p.entries
 
 abbrev pub IsPaid : (Standing → ℕ) → Standings → ℕ → Type 0
-IsPaid owed s pruned = pruned < 2 ^ 64 - 1 → s.moved + sum_by owed s.parts ≤ 2 * entries_in s + 3 * pruned
+IsPaid owed s pruned = pruned < 2 ^ 64 - 1 → s.moved + sum_by owed s.buckets ≤ 2 * entries_in s + 3 * pruned
 
 abbrev pub IsWithin : Standings → ℕ → Type 0
 IsWithin s pruned = IsPaid (credit s.threshold) s pruned

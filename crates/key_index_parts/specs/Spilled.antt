@@ -1,4 +1,4 @@
--- A part that stands as a tree in a box, if it has one, and else as arrays.
+-- A bucket that stands as a tree in a box, if it has one, and else as arrays.
 --     held_by             what it holds, by what a tree and the arrays hold
 --     HoldsSome           a tree that it has holds something
 --     HoldsSome-prop      which has one proof at most

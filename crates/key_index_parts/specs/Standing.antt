@@ -3,15 +3,16 @@
 --     Standing              how many values a partition holds, and whether it is spilled
 --     Standings             the threshold, the partitions by their numbers, how many spills there ever were, and how many values were
 --                           ever moved by spills and by returns to arrays
+--     standings_of          the four of them
 --     standing_in           a partition; past the last one, one that holds nothing
 --     inline_len            how many values of a partition stand in arrays: all of them, or none where it is spilled
 --     is_reached            it stands inline with as many values as the threshold or more (is_reached_by: as a limit)
 --     left_with             a partition once a call has left m values there; without values it isn't spilled
 --     with_left             the partitions after that
---     due_in                how many values of a part are due to spill, of a kind that spills at so many values or doesn't
---     grown                 a part once a value was put in and m were left, of a kind that spills at so many values or doesn't
---     LeavesIn, GrowsIn     what the one and the other leave of the parts
---     spilled_since         whether a part spilled meanwhile, and moved_since, how many values that moved
+--     due_in                how many values of a bucket are due to spill, of a kind that spills at so many values or doesn't
+--     spilled_by            a bucket once so many of its values were moved to a tree
+--     Spills, SpillsIn      it spills where it is due, and so one of the buckets; what that moved
+--     LeavesIn, GrowsIn     what a call that spills none leaves of the buckets, and an insertion, with how many values that moved
 --     with_entries          `with_left`, of the whole
 --     with_spill            a partition's values moved into a tree, and counted
 --     spilled_if_reached    that, where it has reached the threshold
@@ -35,15 +36,18 @@ pub record Standing : Type 0 where
 
 pub record Standings : Type 0 where
   pub threshold : ℕ
-  pub parts : List Standing
+  pub buckets : List Standing
   pub spills : ℕ
   pub moved : ℕ
 
+abbrev pub standings_of : ℕ → List Standing → ℕ → ℕ → Standings
+standings_of threshold buckets spills moved = record { threshold = threshold; buckets = buckets; spills = spills; moved = moved }
+
 abbrev pub standing_in : List Standing → ℕ → Standing
-standing_in parts n = slice_index_or parts n (record { entries = 0; spilled = false })
+standing_in buckets n = slice_index_or buckets n (record { entries = 0; spilled = false })
 
 abbrev pub standing_at : Standings → ℕ → Standing
-standing_at s n = standing_in s.parts n
+standing_at s n = standing_in s.buckets n
 
 abbrev pub entries_at : Standings → ℕ → ℕ
 entries_at s n = (standing_at s n).entries
@@ -64,38 +68,34 @@ abbrev pub left_with : Standing → ℕ → Standing
 left_with p m = record { entries = m; spilled = p.spilled && nat_lt 0 m }
 
 abbrev pub with_left : List Standing → ℕ → ℕ → List Standing
-with_left parts n m = slice_set parts n (left_with (standing_in parts n) m)
+with_left buckets n m = slice_set buckets n (left_with (standing_in buckets n) m)
 
--- a part of a kind that spills at so many values or doesn't, once a value was put in and m were left
-abbrev pub grown : Bool → ℕ → Standing → ℕ → Standing
-grown spills limit p m = record {
-  entries = m;
-  spilled = (p.spilled || (spills && nat_le limit m)) && nat_lt 0 m;
-}
+abbrev pub spilled_by : ℕ → Standing → Standing
+spilled_by moved p = record { entries = p.entries; spilled = nat_lt 0 moved || p.spilled }
+
+abbrev pub Spills : Bool → ℕ → Standing → ℕ → Standing → Type 0
+Spills spills limit old moved new = (moved ≡ due_in spills limit old) × (new ≡ spilled_by moved old)
+
+abbrev pub SpillsIn : Bool → ℕ → List Standing → ℕ → ℕ → List Standing → Type 0
+SpillsIn spills limit old n moved new =
+    (moved ≡ due_in spills limit (standing_in old n)) × (new ≡ slice_set old n (spilled_by moved (standing_in old n)))
 
 abbrev pub LeavesIn : List Standing → ℕ → List Standing → Type 0
 LeavesIn old n new = new ≡ with_left old n (standing_in new n).entries
 
-abbrev pub GrowsIn : Bool → ℕ → List Standing → ℕ → List Standing → Type 0
-GrowsIn spills limit old n new =
-    new ≡ slice_set old n (grown spills limit (standing_in old n) (standing_in new n).entries)
-
--- whether the part spilled meanwhile
-abbrev pub spilled_since : List Standing → ℕ → List Standing → Bool
-spilled_since old n new = not (standing_in old n).spilled && (standing_in new n).spilled
-
-abbrev pub moved_since : List Standing → ℕ → List Standing → ℕ
-moved_since old n new = if spilled_since old n new then (standing_in new n).entries else 0
+-- an insertion: the bucket is left with more, or with fewer where it asks a closure, and spills where that is due
+abbrev pub GrowsIn : Bool → ℕ → List Standing → ℕ → ℕ → List Standing → Type 0
+GrowsIn spills limit old n moved new = SpillsIn spills limit (with_left old n (standing_in new n).entries) n moved new
 
 abbrev pub with_entries : Standings → ℕ → ℕ → Standings
-with_entries s n m = record s { parts = with_left s.parts n m }
+with_entries s n m = record s { buckets = with_left s.buckets n m }
 
 abbrev pub with_spilled : List Standing → ℕ → List Standing
-with_spilled parts n = slice_set parts n (record { entries = (standing_in parts n).entries; spilled = true })
+with_spilled buckets n = slice_set buckets n (record { entries = (standing_in buckets n).entries; spilled = true })
 
 abbrev pub with_spill : Standings → ℕ → Standings
 with_spill s n = record s {
-  parts = with_spilled s.parts n;
+  buckets = with_spilled s.buckets n;
   spills = pruned_after s.spills 1;
   moved = pruned_after s.moved (entries_at s n);
 }
@@ -120,10 +120,10 @@ abbrev pub is_small : Standings → ℕ → Bool
 is_small s n = is_small_by s.threshold (standing_at s n)
 
 abbrev pub with_inline : List Standing → ℕ → List Standing
-with_inline parts n = slice_set parts n (record { entries = (standing_in parts n).entries; spilled = false })
+with_inline buckets n = slice_set buckets n (record { entries = (standing_in buckets n).entries; spilled = false })
 
 abbrev pub with_return : Standings → ℕ → Standings
-with_return s n = record s { parts = with_inline s.parts n; moved = pruned_after s.moved (entries_at s n) }
+with_return s n = record s { buckets = with_inline s.buckets n; moved = pruned_after s.moved (entries_at s n) }
 
 -- where the memory for its arrays is refused, it stays as it is
 abbrev pub MovesBack : Standings → ℕ → Standings → Type 0
@@ -144,7 +144,7 @@ LeavesSome old new = (n : ℕ) × Leaves old n new
 
 abbrev pub joined_standings : Standings → ℕ → Standings → Standings
 joined_standings s first range = record s {
-  parts = take first s.parts ++ (range.parts ++ drop (first + length range.parts) s.parts);
+  buckets = take first s.buckets ++ (range.buckets ++ drop (first + length range.buckets) s.buckets);
   spills = pruned_after s.spills range.spills;
   moved = pruned_after s.moved range.moved;
 }
@@ -152,10 +152,10 @@ joined_standings s first range = record s {
 abbrev pub new_standings : ℕ → ℕ → Standings
 new_standings threshold count = record {
   threshold = threshold;
-  parts = replicate count (record { entries = 0; spilled = false });
+  buckets = replicate count (record { entries = 0; spilled = false });
   spills = 0;
   moved = 0;
 }
 
 abbrev pub spilled_in : List Standing → ℕ
-spilled_in parts = length (filter (λ p. p.spilled) parts)
+spilled_in buckets = length (filter (λ p. p.spilled) buckets)

@@ -1,4 +1,4 @@
-//! Key indices in partitions: the first bytes of a key choose the part of the index that serves it.
+//! Key indices in partitions: the first bytes of a key choose the bucket of the index that serves it.
 #![tactic(auto)]
 
 pub mod index;

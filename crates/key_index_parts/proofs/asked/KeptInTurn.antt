@@ -27,9 +27,9 @@ module _ {F V : Type 0} (R : F → V → Bool → F → Type 0) where
       → KeptInTurn f before xs next false front back
   turn_less f now next before stays xs front back x said kept bs last e h = kept (false ∷ bs) last (ap (λ n. suc n) e) (next, said, h)
 
-  pub turn_parts : (f now : F) (before stays : Bool) (xs front front' back back' : List V) → front ≡ front' → back ≡ back' → KeptInTurn f before xs now stays front back
+  pub turn_buckets : (f now : F) (before stays : Bool) (xs front front' back back' : List V) → front ≡ front' → back ≡ back' → KeptInTurn f before xs now stays front back
       → KeptInTurn f before xs now stays front' back'
-  turn_parts f now before stays xs front front' back back' e h kept =
+  turn_buckets f now before stays xs front front' back back' e h kept =
       subst (λ (b : List V). KeptInTurn f before xs now stays front' b) h (subst (λ (a : List V). KeptInTurn f before xs now stays a back) e kept)
 
   pub turn_stays : (f now : F) (before stays stays' : Bool) (xs front back : List V) → stays ≡ stays' → KeptInTurn f before xs now stays front back → KeptInTurn f before xs now stays' front back

@@ -1,4 +1,4 @@
--- On the lists of a flat index as a part.
+-- On the lists of a flat index as a bucket.
 --     absent_key                               whether a key that a list was put under had none, by how many keys there were and are
 --     lawful_put, lawful_absent, lawful_kept   an insertion leaves a lawful content
 use Rattle.std.proofs.Common.{◌≡◌, ℕ, zero, suc, ◌+◌, ◌<◌, not, nat_lt, List, [], ◌∷◌, length, Result, Ok, Err, IfOk, OnOk, OnErr, refl, sym, ap, subst, arith}

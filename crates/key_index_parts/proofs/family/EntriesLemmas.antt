@@ -1,10 +1,10 @@
--- On the entries of one part in the content of them all.
---     counts                   there are as many values as the part holds, of parts that are numbered from n
---     item_count-entries_of    there are as many values as the part holds
+-- On the entries of one bucket in the content of them all.
+--     counts                   there are as many values as the bucket holds, of buckets that are numbered from n
+--     item_count-entries_of    there are as many values as the bucket holds
 use Rattle.std.proofs.Common.{◌≡◌, ℕ, zero, suc, ◌+◌, ◌<◌, cond, List, [], ◌∷◌, ◌++◌, get_or, length, add-zero, zero-add, refl, sym, ap, ◌∙◌, arith}
 use Rattle.std.proofs.lemmas.Bool.{eq-eqb, ne_eqb}
 use Rattle.key_index_flat.specs.Content.{Content, item_count}
-use Rattle.key_index_parts.specs.Family.{part_at}
+use Rattle.key_index_parts.specs.Family.{bucket_at}
 use Rattle.key_index_parts.specs.Gathered.{tagged, gathered_from, gathered, entries_of}
 
 module _ {K V : Type 0} where
@@ -36,5 +36,5 @@ module _ {K V : Type 0} where
       ap (λ d. item_count d) (none_other n (n + suc p) c (gathered_from (suc n) cs) (λ e. omega (arith, e)))
       ∙ ap (λ m. item_count (entries_of (gathered_from (suc n) cs) m)) one_on ∙ counts (suc n) cs p
 
-  pub item_count-entries_of : (parts : List (Content K V)) (n : ℕ) → item_count (entries_of (gathered parts) n) ≡ item_count (part_at parts n)
-  item_count-entries_of parts n = ap (λ m. item_count (entries_of (gathered parts) m)) (sym (zero-add n)) ∙ counts 0 parts n
+  pub item_count-entries_of : (buckets : List (Content K V)) (n : ℕ) → item_count (entries_of (gathered buckets) n) ≡ item_count (bucket_at buckets n)
+  item_count-entries_of buckets n = ap (λ m. item_count (entries_of (gathered buckets) m)) (sym (zero-add n)) ∙ counts 0 buckets n

@@ -1,8 +1,8 @@
--- The neighbours of a slot among the parts of a family, by which of them are filled.
---     flag_told, flag_within       the flag of a part, and a flag that is set is of one
---     first_of, first_none         the first list of the parts from a number on, by the first of them that is filled, and where none is
---     last_of, last_none           the last list of the parts below a number, by the last of them that is filled, and where none is
---     next_own, next_later, ..     the next list of a slot: in its own part, in a later one, and past the end
+-- The neighbours of a slot among the buckets of a family, by which of them are filled.
+--     flag_told, flag_within       the flag of a bucket, and a flag that is set is of one
+--     first_of, first_none         the first list of the buckets from a number on, by the first of them that is filled, and where none is
+--     last_of, last_none           the last list of the buckets below a number, by the last of them that is filled, and where none is
+--     next_own, next_later, ..     the next list of a slot: in its own bucket, in a later one, and past the end
 --     prev_own, prev_earlier, ..   the same before it
 use Rattle.std.proofs.Common.{◌≡◌, ℕ, zero, suc, ◌+◌, ◌-◌, ◌<◌, ◌≤◌, nat_lt, true, false, T, List, [], ◌∷◌, ◌++◌, get_or, take, drop, length, Option, Some, None, append-nil, refl, sym, ap, subst, ◌∙◌, arith}
 use Rattle.std.proofs.lemmas.Bool.{ltb-true, ltb-false}
@@ -12,7 +12,7 @@ use Rattle.std.specs.Option.{option_map}
 use Rattle.std.specs.declared.cmp.Ordering.{Ordering}
 use Rattle.key_index_flat.specs.Content.{Content, is_filled}
 use Rattle.key_index_flat.specs.Neighbours.{first_entry, last_entry, or_cycled, entries_above, entries_below, first_list, last_list, next_list, prev_list}
-use Rattle.key_index_parts.specs.Family.{part_at, filled_parts}
+use Rattle.key_index_parts.specs.Family.{bucket_at, filled_buckets}
 use Rattle.key_index_parts.specs.Bitmap.{IsFirst, IsLast, flag_at}
 use Rattle.key_index_parts.specs.Gathered.{pair_cmp, tagged, gathered_from, gathered}
 use Rattle.key_index_parts.proofs.family.GatheredNeighbours.{above-gathered, below-gathered}
@@ -22,13 +22,13 @@ last_or-append o [] y ys = refl
 last_or-append o (x ∷ xs) y ys = last_or-append (Some x) xs y ys
 
 module _ {K V : Type 0} where
-  -- the flag of a part
-  pub flag_told : (parts : List (Content K V)) (n : ℕ) → flag_at (filled_parts parts) n ≡ is_filled (part_at parts n)
+  -- the flag of a bucket
+  pub flag_told : (buckets : List (Content K V)) (n : ℕ) → flag_at (filled_buckets buckets) n ≡ is_filled (bucket_at buckets n)
   flag_told [] n = refl
   flag_told (c ∷ cs) zero = refl
   flag_told (c ∷ cs) (suc n) = flag_told cs n
 
-  pub flag_within : (parts : List (Content K V)) (n : ℕ) → flag_at (filled_parts parts) n ≡ true → n < length parts
+  pub flag_within : (buckets : List (Content K V)) (n : ℕ) → flag_at (filled_buckets buckets) n ≡ true → n < length buckets
   flag_within [] n h = absurd (subst T (sym h) tt)
   flag_within (c ∷ cs) zero h = omega arith
   flag_within (c ∷ cs) (suc n) h = let l = flag_within cs n h in omega (arith, l)
@@ -63,21 +63,21 @@ module _ {K V : Type 0} where
       ap (λ d. first_list (tagged m d ++ gathered_from (suc m) cs)) (unfilled c (before 0 (omega arith)))
       ∙ first_from (suc m) cs j h (λ i l. before (suc i) (omega (arith, l)))
 
-  module _ (parts : List (Content K V)) (start : ℕ) where
-    from_start : (i : ℕ) → get_or (drop start parts) i [] ≡ part_at parts (start + i)
-    from_start i = get_or-drop start parts i []
+  module _ (buckets : List (Content K V)) (start : ℕ) where
+    from_start : (i : ℕ) → get_or (drop start buckets) i [] ≡ bucket_at buckets (start + i)
+    from_start i = get_or-drop start buckets i []
 
-    pub first_of : (n : ℕ) → IsFirst (flag_at (filled_parts parts)) start n → first_list (gathered_from start (drop start parts)) ≡ first_list (part_at parts n)
+    pub first_of : (n : ℕ) → IsFirst (flag_at (filled_buckets buckets)) start n → first_list (gathered_from start (drop start buckets)) ≡ first_list (bucket_at buckets n)
     first_of n first =
         let from = first.from in
         let j : (i : ℕ) × (start + i ≡ n) = (n - start, omega (arith, from)) in
-        let here = from_start j.0 ∙ ap (λ m. part_at parts m) j.1 in
-        first_from start (drop start parts) j.0 (ap is_filled here ∙ sym (flag_told parts n) ∙ first.here)
-        (λ i l. ap is_filled (from_start i) ∙ sym (flag_told parts (start + i)) ∙ first.before (start + i) (omega arith) (omega (arith, l, j.1)))
+        let here = from_start j.0 ∙ ap (λ m. bucket_at buckets m) j.1 in
+        first_from start (drop start buckets) j.0 (ap is_filled here ∙ sym (flag_told buckets n) ∙ first.here)
+        (λ i l. ap is_filled (from_start i) ∙ sym (flag_told buckets (start + i)) ∙ first.before (start + i) (omega arith) (omega (arith, l, j.1)))
         ∙ ap (λ c. first_list c) here
 
-    pub first_none : ((p : ℕ) → start ≤ p → flag_at (filled_parts parts) p ≡ false) → first_list (gathered_from start (drop start parts)) ≡ None
-    first_none h = ap (λ c. first_list c) (none_from start (drop start parts) (λ i. ap is_filled (from_start i) ∙ sym (flag_told parts (start + i)) ∙ h (start + i) (omega arith)))
+    pub first_none : ((p : ℕ) → start ≤ p → flag_at (filled_buckets buckets) p ≡ false) → first_list (gathered_from start (drop start buckets)) ≡ None
+    first_none h = ap (λ c. first_list c) (none_from start (drop start buckets) (λ i. ap is_filled (from_start i) ∙ sym (flag_told buckets (start + i)) ∙ h (start + i) (omega arith)))
 
   -- ---- below a number
 
@@ -109,30 +109,30 @@ module _ {K V : Type 0} where
       let rest = last_from (suc m) cs j h (λ i l. behind (suc i) (omega (arith, l))) in
       last-append (tagged m c) (gathered_from (suc m) cs) some.0 (rest ∙ some.1) ∙ sym some.1
 
-  module _ (parts : List (Content K V)) (end : ℕ) where
-    up_to : (i : ℕ) → end ≤ i → get_or (take end parts) i [] ≡ []
-    up_to i h = get_or_past (take end parts) i [] (let l = at_most end parts in omega (arith, l, h))
+  module _ (buckets : List (Content K V)) (end : ℕ) where
+    up_to : (i : ℕ) → end ≤ i → get_or (take end buckets) i [] ≡ []
+    up_to i h = get_or_past (take end buckets) i [] (let l = at_most end buckets in omega (arith, l, h))
       where
         at_most : (n : ℕ) (cs : List (Content K V)) → length (take n cs) ≤ n
         at_most zero cs = omega arith
         at_most (suc n) [] = omega arith
         at_most (suc n) (c ∷ cs) = let l = at_most n cs in omega (arith, l)
 
-    below_end : (i : ℕ) → ((i < end) → flag_at (filled_parts parts) i ≡ false) → is_filled (get_or (take end parts) i []) ≡ false
+    below_end : (i : ℕ) → ((i < end) → flag_at (filled_buckets buckets) i ≡ false) → is_filled (get_or (take end buckets) i []) ≡ false
     below_end i h =
-        elim (nat_lt i end) as (λ b. nat_lt i end ≡ b → is_filled (get_or (take end parts) i []) ≡ false) [
-          | true ↦ λ e. let l = ltb-true i end e in ap is_filled (get_or-take end parts i [] l) ∙ sym (flag_told parts i) ∙ h l
+        elim (nat_lt i end) as (λ b. nat_lt i end ≡ b → is_filled (get_or (take end buckets) i []) ≡ false) [
+          | true ↦ λ e. let l = ltb-true i end e in ap is_filled (get_or-take end buckets i [] l) ∙ sym (flag_told buckets i) ∙ h l
           | false ↦ λ e. ap is_filled (up_to i (ltb-false i end e))
         ] refl
 
-    pub last_of : (n : ℕ) → IsLast (flag_at (filled_parts parts)) end n → last_list (gathered (take end parts)) ≡ last_list (part_at parts n)
+    pub last_of : (n : ℕ) → IsLast (flag_at (filled_buckets buckets)) end n → last_list (gathered (take end buckets)) ≡ last_list (bucket_at buckets n)
     last_of n last =
-        let here = get_or-take end parts n [] last.below in
-        last_from 0 (take end parts) n (ap is_filled here ∙ sym (flag_told parts n) ∙ last.here) (λ i l. below_end i (λ b. last.behind i l b))
+        let here = get_or-take end buckets n [] last.below in
+        last_from 0 (take end buckets) n (ap is_filled here ∙ sym (flag_told buckets n) ∙ last.here) (λ i l. below_end i (λ b. last.behind i l b))
         ∙ ap (λ c. last_list c) here
 
-    pub last_none : ((p : ℕ) → p < end → flag_at (filled_parts parts) p ≡ false) → last_list (gathered (take end parts)) ≡ None
-    last_none h = ap (λ c. last_list c) (none_from 0 (take end parts) (λ i. below_end i (h i)))
+    pub last_none : ((p : ℕ) → p < end → flag_at (filled_buckets buckets) p ≡ false) → last_list (gathered (take end buckets)) ≡ None
+    last_none h = ap (λ c. last_list c) (none_from 0 (take end buckets) (λ i. below_end i (h i)))
 
 -- ---- neighbours
 
@@ -141,59 +141,59 @@ cycled (Some e) p = refl
 cycled None (Some e) = refl
 cycled None None = refl
 
-module _ {K V : Type 0} (cmp : K → K → Ordering) (parts : List (Content K V)) (slot : ℕ × K) where
+module _ {K V : Type 0} (cmp : K → K → Ordering) (buckets : List (Content K V)) (slot : ℕ × K) where
   abbrev own_above : Content K V
-  own_above = entries_above cmp (part_at parts slot.0) slot.1
+  own_above = entries_above cmp (bucket_at buckets slot.0) slot.1
 
   abbrev own_below : Content K V
-  own_below = entries_below cmp (part_at parts slot.0) slot.1
+  own_below = entries_below cmp (bucket_at buckets slot.0) slot.1
 
   abbrev later : Content (ℕ × K) V
-  later = gathered_from (slot.0 + 1) (drop (slot.0 + 1) parts)
+  later = gathered_from (slot.0 + 1) (drop (slot.0 + 1) buckets)
 
   abbrev earlier : Content (ℕ × K) V
-  earlier = gathered (take slot.0 parts)
+  earlier = gathered (take slot.0 buckets)
 
-  all_above : entries_above (pair_cmp cmp) (gathered parts) slot ≡ tagged slot.0 own_above ++ later
+  all_above : entries_above (pair_cmp cmp) (gathered buckets) slot ≡ tagged slot.0 own_above ++ later
   all_above =
       let next : suc slot.0 ≡ slot.0 + 1 = omega arith in
-      above-gathered cmp parts slot.0 slot.1 ∙ ap (λ n. tagged slot.0 own_above ++ gathered_from n (drop n parts)) next
+      above-gathered cmp buckets slot.0 slot.1 ∙ ap (λ n. tagged slot.0 own_above ++ gathered_from n (drop n buckets)) next
 
-  above_none : first_list own_above ≡ None → entries_above (pair_cmp cmp) (gathered parts) slot ≡ later
+  above_none : first_list own_above ≡ None → entries_above (pair_cmp cmp) (gathered buckets) slot ≡ later
   above_none h = all_above ∙ ap (λ c. tagged slot.0 c ++ later) (none_first own_above h)
 
-  next_by : (o : Option (List V)) → first_list (entries_above (pair_cmp cmp) (gathered parts) slot) ≡ o → next_list (pair_cmp cmp) (gathered parts) slot ≡ or_cycled o (first_list (gathered parts))
-  next_by o h = cycled (first_entry (entries_above (pair_cmp cmp) (gathered parts) slot)) (first_entry (gathered parts)) ∙ ap (λ p. or_cycled p (first_list (gathered parts))) h
+  next_by : (o : Option (List V)) → first_list (entries_above (pair_cmp cmp) (gathered buckets) slot) ≡ o → next_list (pair_cmp cmp) (gathered buckets) slot ≡ or_cycled o (first_list (gathered buckets))
+  next_by o h = cycled (first_entry (entries_above (pair_cmp cmp) (gathered buckets) slot)) (first_entry (gathered buckets)) ∙ ap (λ p. or_cycled p (first_list (gathered buckets))) h
 
-  pub next_own : (l : List V) → first_list own_above ≡ Some l → next_list (pair_cmp cmp) (gathered parts) slot ≡ Some (l, false)
+  pub next_own : (l : List V) → first_list own_above ≡ Some l → next_list (pair_cmp cmp) (gathered buckets) slot ≡ Some (l, false)
   next_own l h = next_by (Some l) (ap (λ c. first_list c) all_above ∙ first-append slot.0 own_above later l h)
 
-  pub next_later : (l : List V) → first_list own_above ≡ None → first_list later ≡ Some l → next_list (pair_cmp cmp) (gathered parts) slot ≡ Some (l, false)
+  pub next_later : (l : List V) → first_list own_above ≡ None → first_list later ≡ Some l → next_list (pair_cmp cmp) (gathered buckets) slot ≡ Some (l, false)
   next_later l h k = next_by (Some l) (ap (λ c. first_list c) (above_none h) ∙ k)
 
-  pub next_cycled : (o : Option (List V)) → first_list own_above ≡ None → first_list later ≡ None → first_list (gathered parts) ≡ o
-      → next_list (pair_cmp cmp) (gathered parts) slot ≡ option_map (λ l. (l, true)) o
+  pub next_cycled : (o : Option (List V)) → first_list own_above ≡ None → first_list later ≡ None → first_list (gathered buckets) ≡ o
+      → next_list (pair_cmp cmp) (gathered buckets) slot ≡ option_map (λ l. (l, true)) o
   next_cycled o h k f = next_by None (ap (λ c. first_list c) (above_none h) ∙ k) ∙ ap (λ p. option_map (λ l. (l, true)) p) f
 
-  all_below : entries_below (pair_cmp cmp) (gathered parts) slot ≡ earlier ++ tagged slot.0 own_below
-  all_below = below-gathered cmp parts slot.0 slot.1
+  all_below : entries_below (pair_cmp cmp) (gathered buckets) slot ≡ earlier ++ tagged slot.0 own_below
+  all_below = below-gathered cmp buckets slot.0 slot.1
 
   none_last : (c : Content K V) → last_list c ≡ None → c ≡ []
   none_last [] h = refl
   none_last (e ∷ es) h = let some = last_some (e ∷ es) refl in cc
 
-  below_none : last_list own_below ≡ None → entries_below (pair_cmp cmp) (gathered parts) slot ≡ earlier
+  below_none : last_list own_below ≡ None → entries_below (pair_cmp cmp) (gathered buckets) slot ≡ earlier
   below_none h = all_below ∙ ap (λ c. earlier ++ tagged slot.0 c) (none_last own_below h) ∙ append-nil earlier
 
-  prev_by : (o : Option (List V)) → last_list (entries_below (pair_cmp cmp) (gathered parts) slot) ≡ o → prev_list (pair_cmp cmp) (gathered parts) slot ≡ or_cycled o (last_list (gathered parts))
-  prev_by o h = cycled (last_entry (entries_below (pair_cmp cmp) (gathered parts) slot)) (last_entry (gathered parts)) ∙ ap (λ p. or_cycled p (last_list (gathered parts))) h
+  prev_by : (o : Option (List V)) → last_list (entries_below (pair_cmp cmp) (gathered buckets) slot) ≡ o → prev_list (pair_cmp cmp) (gathered buckets) slot ≡ or_cycled o (last_list (gathered buckets))
+  prev_by o h = cycled (last_entry (entries_below (pair_cmp cmp) (gathered buckets) slot)) (last_entry (gathered buckets)) ∙ ap (λ p. or_cycled p (last_list (gathered buckets))) h
 
-  pub prev_own : (l : List V) → last_list own_below ≡ Some l → prev_list (pair_cmp cmp) (gathered parts) slot ≡ Some (l, false)
+  pub prev_own : (l : List V) → last_list own_below ≡ Some l → prev_list (pair_cmp cmp) (gathered buckets) slot ≡ Some (l, false)
   prev_own l h = prev_by (Some l) (ap (λ c. last_list c) all_below ∙ last-append earlier (tagged slot.0 own_below) l (last-tagged slot.0 own_below ∙ h))
 
-  pub prev_earlier : (l : List V) → last_list own_below ≡ None → last_list earlier ≡ Some l → prev_list (pair_cmp cmp) (gathered parts) slot ≡ Some (l, false)
+  pub prev_earlier : (l : List V) → last_list own_below ≡ None → last_list earlier ≡ Some l → prev_list (pair_cmp cmp) (gathered buckets) slot ≡ Some (l, false)
   prev_earlier l h k = prev_by (Some l) (ap (λ c. last_list c) (below_none h) ∙ k)
 
-  pub prev_cycled : (o : Option (List V)) → last_list own_below ≡ None → last_list earlier ≡ None → last_list (gathered parts) ≡ o
-      → prev_list (pair_cmp cmp) (gathered parts) slot ≡ option_map (λ l. (l, true)) o
+  pub prev_cycled : (o : Option (List V)) → last_list own_below ≡ None → last_list earlier ≡ None → last_list (gathered buckets) ≡ o
+      → prev_list (pair_cmp cmp) (gathered buckets) slot ≡ option_map (λ l. (l, true)) o
   prev_cycled o h k f = prev_by None (ap (λ c. last_list c) (below_none h) ∙ k) ∙ ap (λ p. option_map (λ l. (l, true)) p) f

@@ -1,7 +1,7 @@
--- On the content of a family of parts.
---     list_at-gathered       a pair's list is that of the part at its key
---     list_at-past         and empty past the last part
---     with_list-gathered     one part with another list at a key is the whole with it at the pair
+-- On the content of a family of buckets.
+--     list_at-gathered       a pair's list is that of the bucket at its key
+--     list_at-past         and empty past the last bucket
+--     with_list-gathered     one bucket with another list at a key is the whole with it at the pair
 --     item_count-gathered, key_count-gathered    the counts are sums
 use Rattle.std.proofs.Common.{◌≡◌, ℕ, zero, suc, ◌+◌, ◌<◌, ◌≤◌, T, cond, List, [], ◌∷◌, ◌++◌, map, get_or, set, length, sum_by, All, Some, None, unwrap_or, add-zero, zero-add, refl, sym, ap, subst, ◌∙◌, arith}
 use Rattle.std.proofs.lemmas.List.{get_or-set_same, get_or-set_other, get_or_past}

@@ -1,6 +1,6 @@
--- What stands above and below a pair in the content of a family of parts: for the neighbours of a key in an ordered index over parts.
---     above-gathered     what its own part has above its key, and then the later parts
---     below-gathered     the earlier parts, and then what its own part has below its key
+-- What stands above and below a pair in the content of a family of buckets: for the neighbours of a key in an ordered index over buckets.
+--     above-gathered     what its own bucket has above its key, and then the later buckets
+--     below-gathered     the earlier buckets, and then what its own bucket has below its key
 use Rattle.std.proofs.Common.{◌≡◌, ℕ, zero, suc, ◌+◌, ◌<◌, cond, List, [], ◌∷◌, ◌++◌, get_or, take, drop, add-zero, zero-add, append_assoc, append-nil, true, false, refl, sym, ap, subst, ◌∙◌, arith}
 use Rattle.std.specs.declared.cmp.Ordering.{Ordering}
 use Rattle.std.specs.Ordering.{ordering_then, is_lt}
@@ -16,7 +16,7 @@ module _ {K V : Type 0} (cmp : K → K → Ordering) where
   abbrev below : Content (ℕ × K) V → ℕ → K → Content (ℕ × K) V
   below es p k = entries_below (pair_cmp cmp) es (p, k)
 
-  -- in front of d: the own part, an earlier one, a later one
+  -- in front of d: the own bucket, an earlier one, a later one
   above_own : (p : ℕ) (k : K) (c : Content K V) (d : Content (ℕ × K) V) → above (tagged p c ++ d) p k ≡ tagged p (entries_above cmp c k) ++ above d p k
   above_own p k [] d = refl
   above_own p k (e ∷ es) d =

@@ -1,8 +1,8 @@
--- On parts that are put in the place of others.
---     put_more, put_none         one part more, and none left; no_items: of an empty list
---     free_none, free_far, free_near    whether so many parts hold nothing, by the first that is filled
---     free_in, free_parts        that they do, and that the whole is free of their keys
---     keeps, counted, seen_joined    the parts after it, where the places held nothing, their counts, and the index as it is seen
+-- On buckets that are put in the place of others.
+--     put_more, put_none         one bucket more, and none left; no_items: of an empty list
+--     free_none, free_far, free_near    whether so many buckets hold nothing, by the first that is filled
+--     free_in, free_buckets        that they do, and that the whole is free of their keys
+--     keeps, counted, seen_joined    the buckets after it, where the places held nothing, their counts, and the index as it is seen
 --     refused_fault              why a range is refused
 --     fits_inside, room_inside, free_inside    the same of what two storages keep
 use Rattle.std.proofs.Common.{◌≡◌, ℕ, suc, ◌+◌, ◌-◌, ◌^◌, ◌<◌, ◌≤◌, true, false, not, ◌&&◌, nat_lt, nat_eq, T, if◌then◌else◌, List, [], ◌∷◌, ◌++◌, get_or, set, take, drop, length, All, length-append, append_assoc, append-nil, add-zero, refl, sym, ap, subst, ◌∙◌, arith, lt_of_not-le, ◌⊎◌, inl, inr}
@@ -18,7 +18,7 @@ use Rattle.key_index_flat.specs.declared.index.Fault.TheVariants.{Memory, Full}
 use Rattle.key_index_flat.specs.Content.{Content, is_filled, IsLawful, list_at, item_count, key_count}
 use Rattle.key_index_flat.proofs.content.ContentLemmas.{same_content}
 use Rattle.key_index_flat.specs.View.{pruned_after}
-use Rattle.key_index_parts.specs.Family.{Kept, IsCounted, KeepsParts, AreFree, part_at, with_items_from, with_parts_from, filled_parts, view_of, view_from}
+use Rattle.key_index_parts.specs.Family.{Kept, IsCounted, KeepsBuckets, AreFree, bucket_at, with_items_from, with_buckets_from, filled_buckets, view_of, view_from}
 use Rattle.key_index_parts.specs.Bitmap.{IsFirst, flag_at}
 use Rattle.key_index_parts.specs.Standing.{new_standings}
 use Rattle.key_index_parts.specs.Gathered.{pair_cmp, gathered_from, gathered}
@@ -31,34 +31,34 @@ use Rattle.key_index_parts.proofs.family.JoinedLemmas.{IsApart, apart_by, list_a
 use Rattle.key_index_parts.proofs.family.ShiftedLemmas.{list_from}
 
 module _ {A : Type 0} where
-  pub put_more : (parts : List A) (n : ℕ) (c : A) (cs : List A) → n < length parts
-      → with_items_from (set parts n c) (n + 1) cs ≡ with_items_from parts n (c ∷ cs)
-  put_more parts n c cs h =
+  pub put_more : (buckets : List A) (n : ℕ) (c : A) (cs : List A) → n < length buckets
+      → with_items_from (set buckets n c) (n + 1) cs ≡ with_items_from buckets n (c ∷ cs)
+  put_more buckets n c cs h =
       let more : n + 1 + length cs ≡ n + length (c ∷ cs) = omega arith in
-      (λ i. take_more_set parts n c h i ++ (cs ++ drop-set-lt (n + 1 + length cs) parts n c (omega arith) i))
-      ∙ append_assoc (take n parts) (c ∷ []) (cs ++ drop (n + 1 + length cs) parts)
-      ∙ ap (λ m. take n parts ++ (c ∷ cs ++ drop m parts)) more
+      (λ i. take_more_set buckets n c h i ++ (cs ++ drop-set-lt (n + 1 + length cs) buckets n c (omega arith) i))
+      ∙ append_assoc (take n buckets) (c ∷ []) (cs ++ drop (n + 1 + length cs) buckets)
+      ∙ ap (λ m. take n buckets ++ (c ∷ cs ++ drop m buckets)) more
 
-  pub put_none : (parts : List A) (n : ℕ) → with_items_from parts n [] ≡ parts
-  put_none parts n = ap (λ m. take n parts ++ drop m parts) (add-zero n) ∙ take-append-drop n parts
+  pub put_none : (buckets : List A) (n : ℕ) → with_items_from buckets n [] ≡ buckets
+  put_none buckets n = ap (λ m. take n buckets ++ drop m buckets) (add-zero n) ∙ take-append-drop n buckets
 
 module _ {K V : Type 0} where
-  module _ (parts : List (Content K V)) (start count : ℕ) where
-    unset : (n : ℕ) → flag_at (filled_parts parts) n ≡ false → part_at parts n ≡ []
-    unset n h = unfilled (part_at parts n) (sym (flag_told parts n) ∙ h)
+  module _ (buckets : List (Content K V)) (start count : ℕ) where
+    unset : (n : ℕ) → flag_at (filled_buckets buckets) n ≡ false → bucket_at buckets n ≡ []
+    unset n h = unfilled (bucket_at buckets n) (sym (flag_told buckets n) ∙ h)
 
-    pub free_none : ((p : ℕ) → start ≤ p → flag_at (filled_parts parts) p ≡ false) → AreFree parts start count
+    pub free_none : ((p : ℕ) → start ≤ p → flag_at (filled_buckets buckets) p ≡ false) → AreFree buckets start count
     free_none h n from upto = unset n (h n from)
 
-    module _ (n : ℕ) (first : IsFirst (flag_at (filled_parts parts)) start n) where
-      pub free_far : count ≤ n - start → AreFree parts start count
+    module _ (n : ℕ) (first : IsFirst (flag_at (filled_buckets buckets)) start n) where
+      pub free_far : count ≤ n - start → AreFree buckets start count
       free_far far p low high = let from = first.from in unset p (first.before p low (omega (arith, high, far, from)))
 
-      pub free_near : AreFree parts start count → count ≤ n - start
+      pub free_near : AreFree buckets start count → count ≤ n - start
       free_near free =
           let from = first.from in
           let far : count < suc (n - start) = lt_of_not-le (λ near.
-          subst T (sym first.here ∙ flag_told parts n ∙ ap is_filled (free n from (omega (arith, near, from)))) tt) in
+          subst T (sym first.here ∙ flag_told buckets n ∙ ap is_filled (free n from (omega (arith, near, from)))) tt) in
           omega (arith, far)
 
 pub within : (a b n : ℕ) → is_between a b n ≡ true → (a ≤ n) × (n < b)
@@ -90,29 +90,29 @@ without a b n =
     ] refl
 
 module _ {K V : Type 0} {cmp : K → K → Ordering} (o : IsTotalOrder cmp) (exact : (x y : K) → cmp x y ≡ Equal → x ≡ y) where
-  pub free_in : (parts : List (Content K V)) (start count : ℕ) → AreFree parts start count → IsFree (pair_cmp cmp) (λ slot. is_between start (start + count) slot.0) (gathered parts)
-  free_in parts start count free slot h =
+  pub free_in : (buckets : List (Content K V)) (start count : ℕ) → AreFree buckets start count → IsFree (pair_cmp cmp) (λ slot. is_between start (start + count) slot.0) (gathered buckets)
+  free_in buckets start count free slot h =
       let at = within start (start + count) slot.0 h in
-      list_at-gathered cmp parts slot.0 slot.1 ∙ ap (λ c. list_at cmp c slot.1) (free slot.0 at.0 at.1)
+      list_at-gathered cmp buckets slot.0 slot.1 ∙ ap (λ c. list_at cmp c slot.1) (free slot.0 at.0 at.1)
 
-  each_at : (parts : List (Content K V)) (m : ℕ) → All (IsLawful cmp) parts → IsLawful cmp (part_at parts m)
-  each_at parts m each =
-      elim (nat_lt m (length parts)) as (λ b. nat_lt m (length parts) ≡ b → IsLawful cmp (part_at parts m)) [
-        | true ↦ λ e. All-get_or (IsLawful cmp) parts m [] (ltb-true m (length parts) e) each
-        | false ↦ λ e. subst (λ c. IsLawful cmp c) (sym (get_or_past parts m [] (ltb-false m (length parts) e))) (tt, tt)
+  each_at : (buckets : List (Content K V)) (m : ℕ) → All (IsLawful cmp) buckets → IsLawful cmp (bucket_at buckets m)
+  each_at buckets m each =
+      elim (nat_lt m (length buckets)) as (λ b. nat_lt m (length buckets) ≡ b → IsLawful cmp (bucket_at buckets m)) [
+        | true ↦ λ e. All-get_or (IsLawful cmp) buckets m [] (ltb-true m (length buckets) e) each
+        | false ↦ λ e. subst (λ c. IsLawful cmp c) (sym (get_or_past buckets m [] (ltb-false m (length buckets) e))) (tt, tt)
       ] refl
 
-  pub free_parts : (parts : List (Content K V)) (start count : ℕ) → All (IsLawful cmp) parts
-      → IsFree (pair_cmp cmp) (λ slot. is_between start (start + count) slot.0) (gathered parts) → AreFree parts start count
-  free_parts parts start count each free n from upto =
-      same_content o exact (part_at parts n) [] (each_at parts n each) (tt, tt)
-      (λ k. sym (list_at-gathered cmp parts n k) ∙ free (n, k) (between start (start + count) n from upto))
+  pub free_buckets : (buckets : List (Content K V)) (start count : ℕ) → All (IsLawful cmp) buckets
+      → IsFree (pair_cmp cmp) (λ slot. is_between start (start + count) slot.0) (gathered buckets) → AreFree buckets start count
+  free_buckets buckets start count each free n from upto =
+      same_content o exact (bucket_at buckets n) [] (each_at buckets n each) (tt, tt)
+      (λ k. sym (list_at-gathered cmp buckets n k) ∙ free (n, k) (between start (start + count) n from upto))
 
   module _ {p : ℕ} {own other : List (Content K V)} {items keys more_items more_keys : ℕ} (h : IsCounted cmp p own items keys) (k : IsCounted cmp p other more_items more_keys)
       (start : ℕ) (fits : start + length other ≤ length own)
       (free : IsFree (pair_cmp cmp) (λ slot. is_between start (start + length other) slot.0) (gathered own)) where
     abbrev new : List (Content K V)
-    new = with_parts_from own start other
+    new = with_buckets_from own start other
 
     abbrev behind : List (Content K V)
     behind = drop (start + length other) own
@@ -120,7 +120,7 @@ module _ {K V : Type 0} {cmp : K → K → Ordering} (o : IsTotalOrder cmp) (exa
     front_size : length (take start own) ≡ start
     front_size = length-take-le start own (omega (arith, fits))
 
-    sized : length (with_parts_from own start other) ≡ length own
+    sized : length (with_buckets_from own start other) ≡ length own
     sized =
         let front = front_size in
         let all = length-append (take start own) (other ++ behind) in
@@ -132,7 +132,7 @@ module _ {K V : Type 0} {cmp : K → K → Ordering} (o : IsTotalOrder cmp) (exa
         All-append (IsLawful cmp) (take start own) (other ++ behind) (All-take (IsLawful cmp) start own h.each)
         (All-append (IsLawful cmp) other behind k.each (All-drop (IsLawful cmp) (start + length other) own h.each))
 
-    lawful : IsLawful (pair_cmp cmp) (gathered (with_parts_from own start other))
+    lawful : IsLawful (pair_cmp cmp) (gathered (with_buckets_from own start other))
     lawful = IsLawful-gathered cmp new each_new
 
     lawful_own : IsLawful (pair_cmp cmp) (gathered own)
@@ -141,39 +141,39 @@ module _ {K V : Type 0} {cmp : K → K → Ordering} (o : IsTotalOrder cmp) (exa
     lawful_other : IsLawful (pair_cmp cmp) (gathered_from start other)
     lawful_other = IsLawful-gathered_from cmp start other (IsLawful-gathered cmp other k.each)
 
-    at_other : (j : ℕ) → j < length other → part_at new (start + j) ≡ part_at other j
+    at_other : (j : ℕ) → j < length other → bucket_at new (start + j) ≡ bucket_at other j
     at_other j inside =
         let front = front_size in
         ap (λ n. get_or new (n + j) []) (sym front) ∙ get_or-append-add (take start own) (other ++ behind) j []
         ∙ get_or_append_left other behind [] j inside
 
-    at_front : (n : ℕ) → n < start → part_at new n ≡ part_at own n
+    at_front : (n : ℕ) → n < start → bucket_at new n ≡ bucket_at own n
     at_front n below =
         let front = front_size in
         get_or_append_left (take start own) (other ++ behind) [] n (omega (arith, below, front)) ∙ get_or-take start own n [] below
 
-    at_behind : (j : ℕ) → part_at new (start + (length other + j)) ≡ part_at own (start + length other + j)
+    at_behind : (j : ℕ) → bucket_at new (start + (length other + j)) ≡ bucket_at own (start + length other + j)
     at_behind j =
         let front = front_size in
         ap (λ n. get_or new (n + (length other + j)) []) (sym front) ∙ get_or-append-add (take start own) (other ++ behind) (length other + j) []
         ∙ get_or-append-add other behind j [] ∙ get_or-drop (start + length other) own j []
 
-    at_outside : (n : ℕ) → is_between start (start + length other) n ≡ false → part_at new n ≡ part_at own n
+    at_outside : (n : ℕ) → is_between start (start + length other) n ≡ false → bucket_at new n ≡ bucket_at own n
     at_outside n out = elim (without start (start + length other) n out) [
       | inl below ↦ at_front n below
       | inr above ↦
           let j : (i : ℕ) × (start + length other + i ≡ n) = (n - (start + length other), omega (arith, above)) in
           let same : start + (length other + j.0) ≡ n = omega (arith, j.1) in
-          ap (λ m. part_at new m) (sym same) ∙ at_behind j.0 ∙ ap (λ m. part_at own m) j.1
+          ap (λ m. bucket_at new m) (sym same) ∙ at_behind j.0 ∙ ap (λ m. bucket_at own m) j.1
     ]
 
-    list_other : (slot : ℕ × K) → is_between start (start + length other) slot.0 ≡ true → list_at (pair_cmp cmp) (gathered_from start other) slot ≡ list_at cmp (part_at new slot.0) slot.1
+    list_other : (slot : ℕ × K) → is_between start (start + length other) slot.0 ≡ true → list_at (pair_cmp cmp) (gathered_from start other) slot ≡ list_at cmp (bucket_at new slot.0) slot.1
     list_other slot is =
         let at = within start (start + length other) slot.0 is in
         let j : (i : ℕ) × (start + i ≡ slot.0) = (slot.0 - start, omega (arith, at.0)) in
         ap (λ n. list_at (pair_cmp cmp) (gathered_from start other) (n, slot.1)) (sym j.1)
         ∙ list_from cmp start other (j.0, slot.1) ∙ list_at-gathered cmp other j.0 slot.1
-        ∙ ap (λ c. list_at cmp c slot.1) (sym (at_other j.0 (omega (arith, at.1, j.1))) ∙ ap (λ n. part_at new n) j.1)
+        ∙ ap (λ c. list_at cmp c slot.1) (sym (at_other j.0 (omega (arith, at.1, j.1))) ∙ ap (λ n. bucket_at new n) j.1)
 
     pair_exact : (x y : ℕ × K) → pair_cmp cmp x y ≡ Equal → x ≡ y
     pair_exact = exact_pairs nat_cmp cmp exact_unsigned exact
@@ -181,12 +181,12 @@ module _ {K V : Type 0} {cmp : K → K → Ordering} (o : IsTotalOrder cmp) (exa
     apart : IsApart (pair_cmp cmp) (gathered own) (gathered_from start other)
     apart = apart_by (pair_cmp cmp) (λ slot. is_between start (start + length other) slot.0) (gathered own) (gathered_from start other) free (gathered_from-covers cmp start other)
 
-    joined_by : gathered (with_parts_from own start other) ≡ joined (pair_cmp cmp) (gathered own) (gathered_from start other)
+    joined_by : gathered (with_buckets_from own start other) ≡ joined (pair_cmp cmp) (gathered own) (gathered_from start other)
     joined_by =
         same_content (pair_total o) pair_exact _ _ lawful (IsLawful-joined (pair_total o) (gathered own) (gathered_from start other) lawful_other) (λ slot.
         list_at-gathered cmp new slot.0 slot.1
         ∙ elim (is_between start (start + length other) slot.0) as (λ b. is_between start (start + length other) slot.0 ≡ b
-        → list_at cmp (part_at new slot.0) slot.1 ≡ list_at (pair_cmp cmp) (gathered own) slot ++ list_at (pair_cmp cmp) (gathered_from start other) slot) [
+        → list_at cmp (bucket_at new slot.0) slot.1 ≡ list_at (pair_cmp cmp) (gathered own) slot ++ list_at (pair_cmp cmp) (gathered_from start other) slot) [
           | true ↦ λ is. sym (list_other slot is) ∙ ap (λ l. l ++ list_at (pair_cmp cmp) (gathered_from start other) slot) (sym (free slot is))
           | false ↦ λ is.
               ap (λ c. list_at cmp c slot.1) (at_outside slot.0 is) ∙ sym (list_at-gathered cmp own slot.0 slot.1) ∙ sym (append-nil (list_at (pair_cmp cmp) (gathered own) slot))
@@ -194,11 +194,11 @@ module _ {K V : Type 0} {cmp : K → K → Ordering} (o : IsTotalOrder cmp) (exa
         ] refl
         ∙ sym (list_at-joined (pair_total o) pair_exact (gathered own) (gathered_from start other) slot lawful_own))
 
-    module _ (parts : List (Content K V)) (is : parts ≡ with_parts_from own start other) where
-      pub keeps : KeepsParts cmp own parts
+    module _ (buckets : List (Content K V)) (is : buckets ≡ with_buckets_from own start other) where
+      pub keeps : KeepsBuckets cmp own buckets
       keeps = record { lawful = subst (λ cs. IsLawful (pair_cmp cmp) (gathered cs)) (sym is) lawful; sized = ap (λ cs. length cs) is ∙ sized }
 
-      pub counted : (a b : ℕ) → a ≡ items + more_items → b ≡ keys + more_keys → IsCounted cmp p parts a b
+      pub counted : (a b : ℕ) → a ≡ items + more_items → b ≡ keys + more_keys → IsCounted cmp p buckets a b
       counted a b items_told keys_told =
           let size = ap (λ cs. length cs) is ∙ sized in
           let most = h.sized in
@@ -218,12 +218,12 @@ module _ {K V : Type 0} {cmp : K → K → Ordering} (o : IsTotalOrder cmp) (exa
 
       -- of the index as it is seen
       pub seen_joined : {T : Type 0} (translated : T → List ℕ → K) (t u : T) (pruned others more : ℕ) → more ≡ pruned_after pruned others
-          → view_of p translated (record { translator = t; parts = parts; pruned = more; standings = new_standings 0 0 })
-          ≡ joined_view (pair_cmp cmp) (view_of p translated (record { translator = t; parts = own; pruned = pruned; standings = new_standings 0 0 }))
-          (view_from p translated start (record { translator = u; parts = other; pruned = others; standings = new_standings 0 0 }))
+          → view_of p translated (record { translator = t; buckets = buckets; pruned = more; standings = new_standings 0 0 })
+          ≡ joined_view (pair_cmp cmp) (view_of p translated (record { translator = t; buckets = own; pruned = pruned; standings = new_standings 0 0 }))
+          (view_from p translated start (record { translator = u; buckets = other; pruned = others; standings = new_standings 0 0 }))
       seen_joined translated t u pruned others more sum =
           let content = ap (λ cs. gathered cs) is ∙ joined_by in
-          λ i. record (view_of p translated (record { translator = t; parts = own; pruned = pruned; standings = new_standings 0 0 })) { content = content i; pruned = sum i }
+          λ i. record (view_of p translated (record { translator = t; buckets = own; pruned = pruned; standings = new_standings 0 0 })) { content = content i; pruned = sum i }
 
 pub refused_fault : (m n : ℕ) → (m + n ≤ 2 ^ 64 - 1 → ⊥) → Full ≡ install_fault m n
 refused_fault m n full =
@@ -235,14 +235,14 @@ no_items (x ∷ xs) h = absurd (omega (arith, h))
 
 -- of what two storages keep
 module _ {T K V : Type 0} (cmp : K → K → Ordering) (start : ℕ) {s t r q : Kept T K V} (own : s ≡ t) (other : r ≡ q) where
-  pub fits_inside : start + length q.parts ≤ length t.parts → start + length r.parts ≤ length s.parts
-  fits_inside h = let a = ap (λ k. length k.parts) own in let b = ap (λ k. length k.parts) other in omega (arith, a, b, h)
+  pub fits_inside : start + length q.buckets ≤ length t.buckets → start + length r.buckets ≤ length s.buckets
+  fits_inside h = let a = ap (λ k. length k.buckets) own in let b = ap (λ k. length k.buckets) other in omega (arith, a, b, h)
 
-  pub room_inside : item_count (gathered t.parts) + item_count (gathered q.parts) ≤ 2 ^ 64 - 1 → item_count (gathered s.parts) + item_count (gathered r.parts) ≤ 2 ^ 64 - 1
-  room_inside h = let a = ap (λ k. item_count (gathered k.parts)) own in let b = ap (λ k. item_count (gathered k.parts)) other in omega (arith, a, b, h)
+  pub room_inside : item_count (gathered t.buckets) + item_count (gathered q.buckets) ≤ 2 ^ 64 - 1 → item_count (gathered s.buckets) + item_count (gathered r.buckets) ≤ 2 ^ 64 - 1
+  room_inside h = let a = ap (λ k. item_count (gathered k.buckets)) own in let b = ap (λ k. item_count (gathered k.buckets)) other in omega (arith, a, b, h)
 
-  pub free_inside : IsFree (pair_cmp cmp) (λ slot. is_between start (start + length q.parts) slot.0) (gathered t.parts)
-      → IsFree (pair_cmp cmp) (λ slot. is_between start (start + length r.parts) slot.0) (gathered s.parts)
+  pub free_inside : IsFree (pair_cmp cmp) (λ slot. is_between start (start + length q.buckets) slot.0) (gathered t.buckets)
+      → IsFree (pair_cmp cmp) (λ slot. is_between start (start + length r.buckets) slot.0) (gathered s.buckets)
   free_inside h =
-      subst (λ k. IsFree (pair_cmp cmp) (λ slot. is_between start (start + length k.parts) slot.0) (gathered s.parts)) (sym other)
-      (subst (λ k. IsFree (pair_cmp cmp) (λ slot. is_between start (start + length q.parts) slot.0) (gathered k.parts)) (sym own) h)
+      subst (λ k. IsFree (pair_cmp cmp) (λ slot. is_between start (start + length k.buckets) slot.0) (gathered s.buckets)) (sym other)
+      (subst (λ k. IsFree (pair_cmp cmp) (λ slot. is_between start (start + length q.buckets) slot.0) (gathered k.buckets)) (sym own) h)

@@ -1,4 +1,4 @@
--- On parts that are numbered from another start.
+-- On buckets that are numbered from another start.
 --     if_ok, if_err, on_ok    what a call answered
 --     items_from, keys_from   the counts
 --     list_from, read_from    a list read
@@ -39,12 +39,12 @@ module _ {A E : Type 0} where
   on_err (Ok a) P Q f h = tt
   on_err (Err e) P Q f h = f h
 
-module _ {K V : Type 0} (n : ℕ) (parts : List (Content K V)) where
-  pub items_from : item_count (gathered parts) ≡ item_count (gathered_from n parts)
-  items_from = item_count-gathered parts ∙ sym (item_count-gathered_from n parts)
+module _ {K V : Type 0} (n : ℕ) (buckets : List (Content K V)) where
+  pub items_from : item_count (gathered buckets) ≡ item_count (gathered_from n buckets)
+  items_from = item_count-gathered buckets ∙ sym (item_count-gathered_from n buckets)
 
-  pub keys_from : key_count (gathered parts) ≡ key_count (gathered_from n parts)
-  keys_from = key_count-gathered parts ∙ sym (key_count-gathered_from n parts)
+  pub keys_from : key_count (gathered buckets) ≡ key_count (gathered_from n buckets)
+  keys_from = key_count-gathered buckets ∙ sym (key_count-gathered_from n buckets)
 
 module _ {K V : Type 0} (cmp : K → K → Ordering) where
   find-shifted : (n : ℕ) (c : Content (ℕ × K) V) (k : ℕ × K) → find (pair_cmp cmp) (shift n k) (shifted n c) ≡ find (pair_cmp cmp) k c
@@ -81,19 +81,19 @@ module _ {K V : Type 0} (cmp : K → K → Ordering) where
   with_list-shifted n c k [] = without-shifted n c k
   with_list-shifted n c k (v ∷ vs) = put-shifted n c k (v ∷ vs)
 
-  pub list_from : (n : ℕ) (parts : List (Content K V)) (k : ℕ × K) → list_at (pair_cmp cmp) (gathered_from n parts) (shift n k) ≡ list_at (pair_cmp cmp) (gathered parts) k
-  list_from n parts k = ap (λ c. list_at (pair_cmp cmp) c (shift n k)) (gathered_from-shifted n parts) ∙ list_at-shifted n (gathered parts) k
+  pub list_from : (n : ℕ) (buckets : List (Content K V)) (k : ℕ × K) → list_at (pair_cmp cmp) (gathered_from n buckets) (shift n k) ≡ list_at (pair_cmp cmp) (gathered buckets) k
+  list_from n buckets k = ap (λ c. list_at (pair_cmp cmp) c (shift n k)) (gathered_from-shifted n buckets) ∙ list_at-shifted n (gathered buckets) k
 
-  pub read_from : (n : ℕ) (parts : List (Content K V)) (k slot : ℕ × K) → shift n k ≡ slot → list_at (pair_cmp cmp) (gathered parts) k ≡ list_at (pair_cmp cmp) (gathered_from n parts) slot
-  read_from n parts k slot at = sym (list_from n parts k) ∙ ap (λ s. list_at (pair_cmp cmp) (gathered_from n parts) s) at
+  pub read_from : (n : ℕ) (buckets : List (Content K V)) (k slot : ℕ × K) → shift n k ≡ slot → list_at (pair_cmp cmp) (gathered buckets) k ≡ list_at (pair_cmp cmp) (gathered_from n buckets) slot
+  read_from n buckets k slot at = sym (list_from n buckets k) ∙ ap (λ s. list_at (pair_cmp cmp) (gathered_from n buckets) s) at
 
   -- below the first number there is none
-  pub below_from : (n : ℕ) (parts : List (Content K V)) (slot : ℕ × K) → slot.0 < n → list_at (pair_cmp cmp) (gathered_from n parts) slot ≡ []
-  below_from n parts slot h = gathered_from-covers cmp n parts slot (ap (λ u. not (not u && nat_lt slot.0 (n + length parts))) (lt-ltb slot.0 n h))
+  pub below_from : (n : ℕ) (buckets : List (Content K V)) (slot : ℕ × K) → slot.0 < n → list_at (pair_cmp cmp) (gathered_from n buckets) slot ≡ []
+  below_from n buckets slot h = gathered_from-covers cmp n buckets slot (ap (λ u. not (not u && nat_lt slot.0 (n + length buckets))) (lt-ltb slot.0 n h))
 
-  pub held_from : (n : ℕ) (parts : List (Content K V)) (slot : ℕ × K) (place : ℕ) → place < length (list_at (pair_cmp cmp) (gathered_from n parts) slot) → n ≤ slot.0
-  held_from n parts slot place held =
-      let above : n < suc slot.0 = lt_of_not-le (λ below. let none = ap (λ l. length l) (below_from n parts slot (omega (arith, below))) in omega (arith, held, none)) in
+  pub held_from : (n : ℕ) (buckets : List (Content K V)) (slot : ℕ × K) (place : ℕ) → place < length (list_at (pair_cmp cmp) (gathered_from n buckets) slot) → n ≤ slot.0
+  held_from n buckets slot place held =
+      let above : n < suc slot.0 = lt_of_not-le (λ below. let none = ap (λ l. length l) (below_from n buckets slot (omega (arith, below))) in omega (arith, held, none)) in
       omega (arith, above)
 
   pub edited_from : (n : ℕ) (old new : List (Content K V)) (k : ℕ × K) (f : List V → List V) → gathered new ≡ with_list_by (pair_cmp cmp) (gathered old) k f
@@ -104,12 +104,12 @@ module _ {K V : Type 0} (cmp : K → K → Ordering) where
       ∙ ap (λ c. with_list (pair_cmp cmp) c (shift n k) l) (sym (gathered_from-shifted n old))
       ∙ ap (λ m. with_list (pair_cmp cmp) (gathered_from n old) (shift n k) (f m)) (sym (list_from n old k))
 
--- k is an index key by the numbers of the range's own parts, and `slot` the same by those of the index
+-- k is an index key by the numbers of the range's own buckets, and `slot` the same by those of the index
 module _ {T K V : Type 0} (cmp : K → K → Ordering) (p : ℕ) (translated : T → List ℕ → K) (n : ℕ) (old new : Kept T K V) (k slot : ℕ × K)
-    (at : shift n k ≡ slot) (sized : length new.parts ≡ length old.parts) (f : List V → List V) where
-  content_edited : gathered new.parts ≡ with_list_by (pair_cmp cmp) (gathered old.parts) k f
-      → gathered_from n new.parts ≡ with_list_by (pair_cmp cmp) (gathered_from n old.parts) slot f
-  content_edited is = edited_from cmp n old.parts new.parts k f is ∙ ap (λ s. with_list_by (pair_cmp cmp) (gathered_from n old.parts) s f) at
+    (at : shift n k ≡ slot) (sized : length new.buckets ≡ length old.buckets) (f : List V → List V) where
+  content_edited : gathered new.buckets ≡ with_list_by (pair_cmp cmp) (gathered old.buckets) k f
+      → gathered_from n new.buckets ≡ with_list_by (pair_cmp cmp) (gathered_from n old.buckets) slot f
+  content_edited is = edited_from cmp n old.buckets new.buckets k f is ∙ ap (λ s. with_list_by (pair_cmp cmp) (gathered_from n old.buckets) s f) at
 
   pub seen_edited : view_of p translated new ≡ with_edit (pair_cmp cmp) (view_of p translated old) k f
       → view_from p translated n new ≡ with_edit (pair_cmp cmp) (view_from p translated n old) slot f

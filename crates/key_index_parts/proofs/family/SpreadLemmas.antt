@@ -3,7 +3,7 @@
 --     zip-more             a run of pairs behind others, by keys and values
 --     replicate-more       one key more
 --     next_list, next_rises    the next list of a tree goes behind the pairs that came in before it, and its key is below none of them
---     item_count-gathered_from   the values of a family are those of its parts
+--     item_count-gathered_from   the values of a family are those of its buckets
 use Rattle.std.proofs.Common.{◌≡◌, ℕ, zero, suc, ◌+◌, cond, T, false, List, [], ◌∷◌, ◌++◌, All, length, map, replicate, unwrap_or, Some, append_assoc, refl, sym, ap, subst, ◌∙◌, arith}
 use Rattle.std.specs.List.{zip}
 use Rattle.std.specs.Cmp.{IsTotalOrder, tied_itself}
@@ -137,7 +137,7 @@ item_count-tagged : {K V : Type 0} (p : ℕ) (c : Content K V) (e : Content (ℕ
 item_count-tagged p [] e = omega arith
 item_count-tagged p (x ∷ xs) e = let rest = item_count-tagged p xs e in omega (arith, rest)
 
--- the values of a family are those of its parts
+-- the values of a family are those of its buckets
 pub item_count-gathered_from : {K V : Type 0} (p : ℕ) (cs : List (Content K V)) → item_count (gathered_from p cs) ≡ sum_by item_count cs
 item_count-gathered_from p [] = refl
 item_count-gathered_from p (c ∷ cs) =

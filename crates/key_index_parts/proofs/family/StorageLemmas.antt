@@ -1,13 +1,13 @@
--- On what the storage of an index over parts keeps.
+-- On what the storage of an index over buckets keeps.
 --     one_entry, keys_for-length             how many entries a list takes, by how many values it has
 --     length-put_value                   a list with one value more
 --     at_most_three                      how many partitions there can be
---     none_held, none_counted            parts that hold nothing, together and with their counts
---     lawful, list_is                    the whole is lawful, and the list at a slot is that of its part
---     within                             a slot of some part
---     resized                            an edit leaves as many parts
+--     none_held, none_counted            buckets that hold nothing, together and with their counts
+--     lawful, list_is                    the whole is lawful, and the list at a slot is that of its bucket
+--     within                             a slot of some bucket
+--     resized                            an edit leaves as many buckets
 --     keys_below                         there are no more keys than values
---     held_inside                        a slot that has values is of some part
+--     held_inside                        a slot that has values is of some bucket
 --     items_within, entries_within       no list is longer than all of them, nor takes more entries than there are
 --     edited, edited_by, edited_lawful   an edit of a slot's list is one of the whole, which stays lawful
 --     counted_edit, can_change, counted_change    it is counted by what was found and left under the slot
@@ -29,13 +29,13 @@ use Rattle.key_index_flat.specs.laws.Laws.{IsLawful-with_list}
 use Rattle.key_index_flat.specs.View.{put_value, pruned_after}
 use Rattle.key_index_flat.proofs.content.ContentLemmas.{item_count-with_list, key_count-with_list, entries_for}
 use Rattle.key_index_parts.specs.Counts.{one_if, keys_for, CanChange}
-use Rattle.key_index_parts.specs.Family.{Kept, IsCounted, KeepsParts, Edits, Prunes, SameContent, view_of, part_at, list_in, with_list_in}
+use Rattle.key_index_parts.specs.Family.{Kept, IsCounted, KeepsBuckets, Edits, Prunes, SameContent, view_of, bucket_at, list_in, with_list_in}
 use Rattle.key_index_parts.specs.Gathered.{pair_cmp, gathered_from, gathered}
 use Rattle.key_index_parts.specs.laws.GatheredLaws.{pair_total, IsLawful-gathered}
 use Rattle.key_index_parts.specs.Prefix.{partition_count}
 use Rattle.key_index_parts.specs.Standing.{Standings, new_standings}
 use Rattle.key_index_parts.proofs.family.GatheredLemmas.{list_at-gathered, list_at-past, with_list-gathered}
-use Rattle.key_index_parts.proofs.family.PartLemmas.{keys_at_most}
+use Rattle.key_index_parts.proofs.family.BucketLemmas.{keys_at_most}
 
 pub keys_for-length : {V : Type 0} (l : List V) → keys_for (length l) ≡ entries_for l
 keys_for-length [] = refl
@@ -66,16 +66,16 @@ module _ {K V : Type 0} where
   gathered_from-replicate p zero = refl
   gathered_from-replicate p (suc n) = gathered_from-replicate (suc p) n
 
-  pub none_held : (parts : List (Content K V)) (n : ℕ) → parts ≡ replicate n [] → gathered parts ≡ []
-  none_held parts n e = ap (λ cs. gathered cs) e ∙ gathered_from-replicate 0 n
+  pub none_held : (buckets : List (Content K V)) (n : ℕ) → buckets ≡ replicate n [] → gathered buckets ≡ []
+  none_held buckets n e = ap (λ cs. gathered cs) e ∙ gathered_from-replicate 0 n
 
   none_lawful : (cmp : K → K → Ordering) (n : ℕ) → All (IsLawful cmp) (replicate {A = Content K V} n [])
   none_lawful cmp zero = All-nil (IsLawful cmp)
   none_lawful cmp (suc n) = All-cons (IsLawful cmp) [] (replicate n []) (tt, tt) (none_lawful cmp n)
 
-  pub none_counted : (cmp : K → K → Ordering) (p : ℕ) (parts : List (Content K V)) (n : ℕ) → 1 ≤ p → p ≤ 3 → parts ≡ replicate n [] → n ≤ partition_count p → IsCounted cmp p parts 0 0
-  none_counted cmp p parts n least greatest e most =
-      let none = none_held parts n e in
+  pub none_counted : (cmp : K → K → Ordering) (p : ℕ) (buckets : List (Content K V)) (n : ℕ) → 1 ≤ p → p ≤ 3 → buckets ≡ replicate n [] → n ≤ partition_count p → IsCounted cmp p buckets 0 0
+  none_counted cmp p buckets n least greatest e most =
+      let none = none_held buckets n e in
       let size = ap (λ cs. length cs) e in
       let same = length-replicate {A = Content K V} n [] in
       record {
@@ -88,80 +88,80 @@ module _ {K V : Type 0} where
       }
 
 module _ {T K V : Type 0} {s t : Kept T K V} (is : s ≡ t) where
-  pub within : (n : ℕ) → n < length t.parts → n < length s.parts
-  within n inside = let same = ap (λ k. length k.parts) is in omega (arith, same, inside)
+  pub within : (n : ℕ) → n < length t.buckets → n < length s.buckets
+  within n inside = let same = ap (λ k. length k.buckets) is in omega (arith, same, inside)
 
-pub resized : {K V : Type 0} (cmp : K → K → Ordering) (parts : List (Content K V)) (slot : ℕ × K) (l : List V) (new : List (Content K V))
-    → new ≡ with_list_in cmp parts slot l → length new ≡ length parts
-resized cmp parts slot l new is = ap (λ cs. length cs) is ∙ length-set parts slot.0 (with_list cmp (part_at parts slot.0) slot.1 l)
+pub resized : {K V : Type 0} (cmp : K → K → Ordering) (buckets : List (Content K V)) (slot : ℕ × K) (l : List V) (new : List (Content K V))
+    → new ≡ with_list_in cmp buckets slot l → length new ≡ length buckets
+resized cmp buckets slot l new is = ap (λ cs. length cs) is ∙ length-set buckets slot.0 (with_list cmp (bucket_at buckets slot.0) slot.1 l)
 
-module _ {K V : Type 0} {cmp : K → K → Ordering} {p : ℕ} {parts : List (Content K V)} {items keys : ℕ} (h : IsCounted cmp p parts items keys) where
-  pub lawful : IsLawful (pair_cmp cmp) (gathered parts)
-  lawful = IsLawful-gathered cmp parts h.each
+module _ {K V : Type 0} {cmp : K → K → Ordering} {p : ℕ} {buckets : List (Content K V)} {items keys : ℕ} (h : IsCounted cmp p buckets items keys) where
+  pub lawful : IsLawful (pair_cmp cmp) (gathered buckets)
+  lawful = IsLawful-gathered cmp buckets h.each
 
-  pub keeps_all : (new : List (Content K V)) → new ≡ parts → KeepsParts cmp parts new
+  pub keeps_all : (new : List (Content K V)) → new ≡ buckets → KeepsBuckets cmp buckets new
   keeps_all new same = record { lawful = subst (λ cs. IsLawful (pair_cmp cmp) (gathered cs)) (sym same) lawful; sized = ap (λ cs. length cs) same }
 
   pub keys_below : keys ≤ items
-  keys_below = let at_most = keys_at_most (gathered parts) lawful.1 in let was = h.counted in let keyed = h.keyed in omega (arith, at_most, was, keyed)
+  keys_below = let at_most = keys_at_most (gathered buckets) lawful.1 in let was = h.counted in let keyed = h.keyed in omega (arith, at_most, was, keyed)
 
-  pub list_is : (slot : ℕ × K) → list_at (pair_cmp cmp) (gathered parts) slot ≡ list_in cmp parts slot
-  list_is slot = list_at-gathered cmp parts slot.0 slot.1
+  pub list_is : (slot : ℕ × K) → list_at (pair_cmp cmp) (gathered buckets) slot ≡ list_in cmp buckets slot
+  list_is slot = list_at-gathered cmp buckets slot.0 slot.1
 
-  pub held_inside : (slot : ℕ × K) (n : ℕ) → n < length (list_at (pair_cmp cmp) (gathered parts) slot) → slot.0 < length parts
+  pub held_inside : (slot : ℕ × K) (n : ℕ) → n < length (list_at (pair_cmp cmp) (gathered buckets) slot) → slot.0 < length buckets
   held_inside slot n held = lt_of_not-le (λ past.
-      let none : length (list_at (pair_cmp cmp) (gathered parts) slot) ≡ 0 = ap (λ l. length l) (list_at-past cmp parts slot.0 slot.1 past) in
+      let none : length (list_at (pair_cmp cmp) (gathered buckets) slot) ≡ 0 = ap (λ l. length l) (list_at-past cmp buckets slot.0 slot.1 past) in
       omega (arith, held, none))
 
   module _ (o : IsTotalOrder cmp) where
-    pub items_within : (slot : ℕ × K) → length (list_in cmp parts slot) ≤ items
+    pub items_within : (slot : ℕ × K) → length (list_in cmp buckets slot) ≤ items
     items_within slot =
-        let sum = item_count-with_list (pair_total o) (gathered parts) slot [] lawful in
+        let sum = item_count-with_list (pair_total o) (gathered buckets) slot [] lawful in
         let was = h.counted in
-        let same : length (list_at (pair_cmp cmp) (gathered parts) slot) ≡ length (list_in cmp parts slot) = ap (λ l. length l) (list_is slot) in omega (arith, sum, was, same)
+        let same : length (list_at (pair_cmp cmp) (gathered buckets) slot) ≡ length (list_in cmp buckets slot) = ap (λ l. length l) (list_is slot) in omega (arith, sum, was, same)
 
-    pub entries_within : (slot : ℕ × K) → entries_for (list_in cmp parts slot) ≤ keys
+    pub entries_within : (slot : ℕ × K) → entries_for (list_in cmp buckets slot) ≤ keys
     entries_within slot =
-        let sum = key_count-with_list (pair_total o) (gathered parts) slot [] lawful in
+        let sum = key_count-with_list (pair_total o) (gathered buckets) slot [] lawful in
         let was = h.keyed in
-        let same : entries_for (list_at (pair_cmp cmp) (gathered parts) slot) ≡ entries_for (list_in cmp parts slot) = ap (λ l. entries_for l) (list_is slot) in omega (arith, sum, was, same)
+        let same : entries_for (list_at (pair_cmp cmp) (gathered buckets) slot) ≡ entries_for (list_in cmp buckets slot) = ap (λ l. entries_for l) (list_is slot) in omega (arith, sum, was, same)
 
-    module _ (exact : (x y : K) → cmp x y ≡ Equal → x ≡ y) (slot : ℕ × K) (l : List V) (new : List (Content K V)) (inside : slot.0 < length parts)
-        (is : new ≡ with_list_in cmp parts slot l) where
-      pub edited : gathered new ≡ with_list (pair_cmp cmp) (gathered parts) slot l
-      edited = ap (λ cs. gathered cs) is ∙ with_list-gathered cmp o exact parts slot.0 slot.1 l inside h.each
+    module _ (exact : (x y : K) → cmp x y ≡ Equal → x ≡ y) (slot : ℕ × K) (l : List V) (new : List (Content K V)) (inside : slot.0 < length buckets)
+        (is : new ≡ with_list_in cmp buckets slot l) where
+      pub edited : gathered new ≡ with_list (pair_cmp cmp) (gathered buckets) slot l
+      edited = ap (λ cs. gathered cs) is ∙ with_list-gathered cmp o exact buckets slot.0 slot.1 l inside h.each
 
       each_after : All (IsLawful cmp) new
       each_after =
-          let part = part_at parts slot.0 in
+          let bucket = bucket_at buckets slot.0 in
           subst (λ cs. All (IsLawful cmp) cs) (sym is)
-          (All-set (IsLawful cmp) parts slot.0 (with_list cmp part slot.1 l) (IsLawful-with_list o part slot.1 l (All-get_or (IsLawful cmp) parts slot.0 [] inside h.each)) h.each)
+          (All-set (IsLawful cmp) buckets slot.0 (with_list cmp bucket slot.1 l) (IsLawful-with_list o bucket slot.1 l (All-get_or (IsLawful cmp) buckets slot.0 [] inside h.each)) h.each)
 
       pub edited_lawful : IsLawful (pair_cmp cmp) (gathered new)
       edited_lawful = IsLawful-gathered cmp new each_after
 
-      item_sum : item_count (gathered new) + length (list_in cmp parts slot) ≡ items + length l
+      item_sum : item_count (gathered new) + length (list_in cmp buckets slot) ≡ items + length l
       item_sum =
-          let sum = item_count-with_list (pair_total o) (gathered parts) slot l lawful in
+          let sum = item_count-with_list (pair_total o) (gathered buckets) slot l lawful in
           let was = h.counted in
           let now = ap (λ c. item_count c) edited in
-          let same : length (list_at (pair_cmp cmp) (gathered parts) slot) ≡ length (list_in cmp parts slot) = ap (λ m. length m) (list_is slot) in omega (arith, sum, was, now, same)
+          let same : length (list_at (pair_cmp cmp) (gathered buckets) slot) ≡ length (list_in cmp buckets slot) = ap (λ m. length m) (list_is slot) in omega (arith, sum, was, now, same)
 
-      key_sum : key_count (gathered new) + entries_for (list_in cmp parts slot) ≡ keys + entries_for l
+      key_sum : key_count (gathered new) + entries_for (list_in cmp buckets slot) ≡ keys + entries_for l
       key_sum =
-          let sum = key_count-with_list (pair_total o) (gathered parts) slot l lawful in
+          let sum = key_count-with_list (pair_total o) (gathered buckets) slot l lawful in
           let was = h.keyed in
           let now = ap (λ c. key_count c) edited in
-          let same : entries_for (list_at (pair_cmp cmp) (gathered parts) slot) ≡ entries_for (list_in cmp parts slot) = ap (λ m. entries_for m) (list_is slot) in omega (arith, sum, was, now, same)
+          let same : entries_for (list_at (pair_cmp cmp) (gathered buckets) slot) ≡ entries_for (list_in cmp buckets slot) = ap (λ m. entries_for m) (list_is slot) in omega (arith, sum, was, now, same)
 
-      keys_fit : (a b : ℕ) → a + length (list_in cmp parts slot) ≡ items + length l → b + entries_for (list_in cmp parts slot) ≡ keys + entries_for l → b ≤ a
+      keys_fit : (a b : ℕ) → a + length (list_in cmp buckets slot) ≡ items + length l → b + entries_for (list_in cmp buckets slot) ≡ keys + entries_for l → b ≤ a
       keys_fit a b items_told keys_told =
           let of_items = item_sum in let of_keys = key_sum in let at_most = keys_at_most (gathered new) edited_lawful.1 in
           omega (arith, of_items, of_keys, at_most, items_told, keys_told)
 
-      pub counted_edit : (a b : ℕ) → a + length (list_in cmp parts slot) ≡ items + length l → b + entries_for (list_in cmp parts slot) ≡ keys + entries_for l → IsCounted cmp p new a b
+      pub counted_edit : (a b : ℕ) → a + length (list_in cmp buckets slot) ≡ items + length l → b + entries_for (list_in cmp buckets slot) ≡ keys + entries_for l → IsCounted cmp p new a b
       counted_edit a b items_told keys_told =
-          let of_items = item_sum in let of_keys = key_sum in let size = resized cmp parts slot l new is in let sized = h.sized in
+          let of_items = item_sum in let of_keys = key_sum in let size = resized cmp buckets slot l new is in let sized = h.sized in
           record {
             least = h.least;
             greatest = h.greatest;
@@ -171,12 +171,12 @@ module _ {K V : Type 0} {cmp : K → K → Ordering} {p : ℕ} {parts : List (Co
             keyed = omega (arith, of_keys, keys_told);
           }
 
-      pub keeps : KeepsParts cmp parts new
-      keeps = record { lawful = edited_lawful; sized = resized cmp parts slot l new is }
+      pub keeps : KeepsBuckets cmp buckets new
+      keeps = record { lawful = edited_lawful; sized = resized cmp buckets slot l new is }
 
-      module _ (had left : ℕ) (had_told : had ≡ length (list_in cmp parts slot)) (left_told : left ≡ length l) where
-        had_keys : keys_for had ≡ entries_for (list_in cmp parts slot)
-        had_keys = ap (λ n. keys_for n) had_told ∙ keys_for-length (list_in cmp parts slot)
+      module _ (had left : ℕ) (had_told : had ≡ length (list_in cmp buckets slot)) (left_told : left ≡ length l) where
+        had_keys : keys_for had ≡ entries_for (list_in cmp buckets slot)
+        had_keys = ap (λ n. keys_for n) had_told ∙ keys_for-length (list_in cmp buckets slot)
 
         left_keys : keys_for left ≡ entries_for l
         left_keys = ap (λ n. keys_for n) left_told ∙ keys_for-length l
@@ -197,22 +197,22 @@ module _ {K V : Type 0} {cmp : K → K → Ordering} {p : ℕ} {parts : List (Co
             let more = had_keys in let fewer = left_keys in
             counted_edit a b (omega (arith, items_told, had_told, left_told)) (omega (arith, keys_told, more, fewer))
 
-      pub counted_gain : (a b : ℕ) (absent : Bool) → absent ≡ not (is_filled (list_in cmp parts slot)) → length l ≡ length (list_in cmp parts slot) + 1
+      pub counted_gain : (a b : ℕ) (absent : Bool) → absent ≡ not (is_filled (list_in cmp buckets slot)) → length l ≡ length (list_in cmp buckets slot) + 1
           → a ≡ items + 1 → b ≡ keys + one_if absent → IsCounted cmp p new a b
       counted_gain a b absent told more items_told keys_told =
-          let list = list_in cmp parts slot in let one = one_entry l (omega (arith, more)) in let new_key = gained list absent told in
+          let list = list_in cmp buckets slot in let one = one_entry l (omega (arith, more)) in let new_key = gained list absent told in
           counted_edit a b (omega (arith, items_told, more)) (omega (arith, keys_told, one, new_key))
 
-      pub edited_by : (f : List V → List V) → l ≡ f (list_in cmp parts slot) → gathered new ≡ with_list_by (pair_cmp cmp) (gathered parts) slot f
-      edited_by f told = edited ∙ ap (λ m. with_list (pair_cmp cmp) (gathered parts) slot m) (told ∙ ap f (sym (list_is slot)))
+      pub edited_by : (f : List V → List V) → l ≡ f (list_in cmp buckets slot) → gathered new ≡ with_list_by (pair_cmp cmp) (gathered buckets) slot f
+      edited_by f told = edited ∙ ap (λ m. with_list (pair_cmp cmp) (gathered buckets) slot m) (told ∙ ap f (sym (list_is slot)))
 
-      -- of the index as it is seen, however its parts stand
-      module _ {T : Type 0} (translated : T → List ℕ → K) (t : T) (pruned more : ℕ) (f : List V → List V) (told : l ≡ f (list_in cmp parts slot)) where
+      -- of the index as it is seen, however its buckets stand
+      module _ {T : Type 0} (translated : T → List ℕ → K) (t : T) (pruned more : ℕ) (f : List V → List V) (told : l ≡ f (list_in cmp buckets slot)) where
         abbrev pub old_kept : Kept T K V
-        old_kept = record { translator = t; parts = parts; pruned = pruned; standings = new_standings 0 0 }
+        old_kept = record { translator = t; buckets = buckets; pruned = pruned; standings = new_standings 0 0 }
 
         abbrev pub new_kept : Kept T K V
-        new_kept = record { translator = t; parts = new; pruned = more; standings = new_standings 0 0 }
+        new_kept = record { translator = t; buckets = new; pruned = more; standings = new_standings 0 0 }
 
         pub view_edited : more ≡ pruned → Edits cmp p translated old_kept slot f new_kept
         view_edited same = λ i. record (view_of p translated old_kept) { content = edited_by f told i; pruned = same i }
@@ -223,10 +223,10 @@ module _ {K V : Type 0} {cmp : K → K → Ordering} {p : ℕ} {parts : List (Co
 pub memory_fault : (n : ℕ) → n < 2 ^ 64 - 1 → Memory ≡ growth_fault n
 memory_fault n few = ap (λ b. if b then Full else Memory) (sym (ne_eqb n (2 ^ 64 - 1) (λ e. omega (arith, few, e))))
 
--- the parts as before, however they stand
+-- the buckets as before, however they stand
 pub same_but : {T K V : Type 0} {t : T} {pruned : ℕ} {old new : List (Content K V)} {b : Standings} (a : Standings) → new ≡ old
-    → SameContent (record { translator = t; parts = old; pruned = pruned; standings = a }) (record { translator = t; parts = new; pruned = pruned; standings = b })
-same_but {t = t} {pruned = pruned} {b = b} a same = λ i. record { translator = t; parts = same i; pruned = pruned; standings = b }
+    → SameContent (record { translator = t; buckets = old; pruned = pruned; standings = a }) (record { translator = t; buckets = new; pruned = pruned; standings = b })
+same_but {t = t} {pruned = pruned} {b = b} a same = λ i. record { translator = t; buckets = same i; pruned = pruned; standings = b }
 
-pub kept_twice : {K V : Type 0} (cmp : K → K → Ordering) (old between new : List (Content K V)) → KeepsParts cmp old between → KeepsParts cmp between new → KeepsParts cmp old new
+pub kept_twice : {K V : Type 0} (cmp : K → K → Ordering) (old between new : List (Content K V)) → KeepsBuckets cmp old between → KeepsBuckets cmp between new → KeepsBuckets cmp old new
 kept_twice cmp old between new a b = record { lawful = b.lawful; sized = b.sized ∙ a.sized }

@@ -69,13 +69,13 @@ back_pays t n true small = grind (arith, nat_tests)
 back_pays t n false small = grind (arith, nat_tests)
 
 module _ {owed : ℕ → Standing → ℕ} (pays : Pays owed) where
-  pub settled_paid : (spills : Bool) (s : Standings) (n pruned : ℕ) → n < length s.parts → IsPaid (owed s.threshold) s pruned
+  pub settled_paid : (spills : Bool) (s : Standings) (n pruned : ℕ) → n < length s.buckets → IsPaid (owed s.threshold) s pruned
       → IsPaid (owed (settled_in spills s n).threshold) (settled_in spills s n) pruned
   settled_paid spills s n pruned inside before =
       elim spills as (λ b. IsPaid (owed (settled_in b s n).threshold) (settled_in b s n) pruned) [
         | true ↦ elim (is_reached s n) as (λ b. is_reached s n ≡ b → IsPaid (owed (if b then with_spill s n else s).threshold) (if b then with_spill s n else s) pruned) [
           | true ↦ λ e. let cheap = pays.spill s.threshold (entries_at s n) (standing_at s n).spilled e in
-              step_keeps (owed s.threshold) s.parts n (record { entries = entries_at s n; spilled = true }) s.moved (pruned_after s.moved (entries_at s n)) pruned pruned 0 (entries_at s n)
+              step_keeps (owed s.threshold) s.buckets n (record { entries = entries_at s n; spilled = true }) s.moved (pruned_after s.moved (entries_at s n)) pruned pruned 0 (entries_at s n)
               inside (omega arith) (omega arith) (omega (arith, cheap)) before
           | false ↦ λ e. before
         ] refl
@@ -83,12 +83,12 @@ module _ {owed : ℕ → Standing → ℕ} (pays : Pays owed) where
       ]
 
   -- taken: how many of the values that were held are gone
-  module _ (old new : Standings) (n pruned after taken : ℕ) (inside : n < length old.parts) (left : entries_at old n ≤ entries_at new n + taken)
+  module _ (old new : Standings) (n pruned after taken : ℕ) (inside : n < length old.buckets) (left : entries_at old n ≤ entries_at new n + taken)
       (after_is : after ≡ pruned_after pruned taken) (before : IsPaid (owed old.threshold) old pruned) where
     edit_paid : IsPaid (owed old.threshold) (with_entries old n (entries_at new n)) after
     edit_paid =
         let cheap = pays.edit old.threshold (entries_at old n) (entries_at new n) taken (standing_at old n).spilled left in
-        step_keeps (owed old.threshold) old.parts n (record { entries = entries_at new n; spilled = (standing_at old n).spilled && nat_lt 0 (entries_at new n) }) old.moved old.moved pruned after taken 0
+        step_keeps (owed old.threshold) old.buckets n (record { entries = entries_at new n; spilled = (standing_at old n).spilled && nat_lt 0 (entries_at new n) }) old.moved old.moved pruned after taken 0
         inside (omega arith) after_is (omega (arith, cheap)) before
 
     pub leaves_paid : Leaves old n new → IsPaid (owed new.threshold) new after
@@ -96,16 +96,16 @@ module _ {owed : ℕ → Standing → ℕ} (pays : Pays owed) where
 
     pub grows_paid : (spills : Bool) → new ≡ settled_in spills (with_entries old n (entries_at new n)) n → IsPaid (owed new.threshold) new after
     grows_paid spills is =
-        let same = length-set old.parts n (record { entries = entries_at new n; spilled = (standing_at old n).spilled && nat_lt 0 (entries_at new n) }) in
+        let same = length-set old.buckets n (record { entries = entries_at new n; spilled = (standing_at old n).spilled && nat_lt 0 (entries_at new n) }) in
         subst (λ s. IsPaid (owed s.threshold) s after) (sym is)
         (settled_paid spills (with_entries old n (entries_at new n)) n after (omega (arith, same, inside)) edit_paid)
 
-pub back_within : (old new : Standings) (n pruned : ℕ) → n < length old.parts → MovesBack old n new → IsWithin old pruned → IsWithin new pruned
+pub back_within : (old new : Standings) (n pruned : ℕ) → n < length old.buckets → MovesBack old n new → IsWithin old pruned → IsWithin new pruned
 back_within old new n pruned inside (inl same) before = subst (λ s. IsWithin s pruned) (sym same) before
 back_within old new n pruned inside (inr told) before =
     let cheap = back_pays old.threshold (entries_at old n) (standing_at old n).spilled told.0 in
     subst (λ s. IsWithin s pruned) (sym told.1)
-    (step_keeps (credit old.threshold) old.parts n (record { entries = entries_at old n; spilled = false }) old.moved (pruned_after old.moved (entries_at old n)) pruned pruned 0 (entries_at old n)
+    (step_keeps (credit old.threshold) old.buckets n (record { entries = entries_at old n; spilled = false }) old.moved (pruned_after old.moved (entries_at old n)) pruned pruned 0 (entries_at old n)
     inside (omega arith) (omega arith) (omega (arith, cheap)) before)
 
 credit_least : (t n : ℕ) (b : Bool) → credit t (record { entries = n; spilled = b }) ≤ range_credit (record { entries = n; spilled = b })
@@ -119,7 +119,7 @@ credits_least t (p ∷ ps) =
     omega (arith, first, rest, sum_by-cons (credit t) p ps, sum_by-cons range_credit p ps)
 
 pub range_within : (s : Standings) (pruned t : ℕ) → IsRangeWithin s pruned → IsPaid (credit t) s pruned
-range_within s pruned t h low = let bound = h low in let least = credits_least t s.parts in omega (arith, bound, least)
+range_within s pruned t h low = let bound = h low in let least = credits_least t s.buckets in omega (arith, bound, least)
 
 module _ (ps : List Standing) (first : ℕ) where
   one_more : (f : Standing → ℕ) (count : ℕ) → first + suc count ≤ length ps
@@ -148,25 +148,25 @@ module _ (ps : List Standing) (first : ℕ) where
       let rest = fewer_credits t count (omega arith) in let next = one_more (credit t) count fits in omega (arith, rest, next)
 
 -- a range of any threshold goes into partitions without values
-pub install_within : (s range : Standings) (first pruned taken : ℕ) → first + length range.parts ≤ length s.parts
-    → ((n : ℕ) → first ≤ n → n < first + length range.parts → entries_at s n ≡ 0)
+pub install_within : (s range : Standings) (first pruned taken : ℕ) → first + length range.buckets ≤ length s.buckets
+    → ((n : ℕ) → first ≤ n → n < first + length range.buckets → entries_at s n ≡ 0)
     → IsWithin s pruned → IsRangeWithin range taken → IsWithin (joined_standings s first range) (pruned_after pruned taken)
 install_within s range first pruned taken fits free before apart low =
     let own = before (omega arith) in
     let other = range_within range taken s.threshold apart (omega arith) in
-    let gap = free_entries s.parts first (length range.parts) fits free in
-    let whole = sum_by-take-drop (λ p. p.entries) s.parts first in
-    let all = sum_by-append (λ p. p.entries) (take first s.parts) (range.parts ++ drop (first + length range.parts) s.parts) in
-    let late = sum_by-append (λ p. p.entries) range.parts (drop (first + length range.parts) s.parts) in
-    let owed = sum_by-append (credit s.threshold) (take first s.parts) (range.parts ++ drop (first + length range.parts) s.parts) in
-    let owed_late = sum_by-append (credit s.threshold) range.parts (drop (first + length range.parts) s.parts) in
-    let owed_whole = sum_by-take-drop (credit s.threshold) s.parts first in
-    let owed_rest = fewer_credits s.parts first s.threshold (length range.parts) fits in
+    let gap = free_entries s.buckets first (length range.buckets) fits free in
+    let whole = sum_by-take-drop (λ p. p.entries) s.buckets first in
+    let all = sum_by-append (λ p. p.entries) (take first s.buckets) (range.buckets ++ drop (first + length range.buckets) s.buckets) in
+    let late = sum_by-append (λ p. p.entries) range.buckets (drop (first + length range.buckets) s.buckets) in
+    let owed = sum_by-append (credit s.threshold) (take first s.buckets) (range.buckets ++ drop (first + length range.buckets) s.buckets) in
+    let owed_late = sum_by-append (credit s.threshold) range.buckets (drop (first + length range.buckets) s.buckets) in
+    let owed_whole = sum_by-take-drop (credit s.threshold) s.buckets first in
+    let owed_rest = fewer_credits s.buckets first s.threshold (length range.buckets) fits in
     omega (arith, own, other, gap, whole, all, late, owed, owed_late, owed_whole, owed_rest)
 
 -- where nothing was moved yet; an index too, by range_within
 pub new_ranged : (s : Standings) (pruned : ℕ) → s.moved ≡ 0 → IsRangeWithin s pruned
-new_ranged s pruned none low = let owed = owed_most s.parts in omega (arith, none, owed) where
+new_ranged s pruned none low = let owed = owed_most s.buckets in omega (arith, none, owed) where
   most : (n : ℕ) (b : Bool) → range_credit (record { entries = n; spilled = b }) ≤ 2 * n
   most n true = grind arith
   most n false = grind arith

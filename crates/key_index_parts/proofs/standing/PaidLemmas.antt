@@ -1,9 +1,10 @@
 -- What the edits of an index in partitions keep of the bound on moved values.
---     counted_size                  as many parts stand as there are
+--     counted_size                  as many buckets stand as there are
+--     listed_by                     and so the one of a number is among them
 --     entries_sum                   and as many values in all
---     counted_joined                parts in the place of others
+--     counted_joined                buckets in the place of others
 --     free_entries                  places that hold nothing have no values
---     edit_paid                     an edit of a slot's list, in its part as that stands
+--     edit_paid                     an edit of a slot's list, in its bucket as that stands
 --     growth_paid                   an insertion there
 use Rattle.std.proofs.Common.{◌≡◌, ℕ, ◌+◌, ◌<◌, ◌≤◌, Bool, false, List, [], ◌∷◌, ◌++◌, map, take, drop, length, get_or, refl, sym, ap, ◌∙◌, arith}
 use Rattle.std.proofs.lemmas.List.{get_or-map, get_or-set_same, length-map, map-append, take-map, drop-map}
@@ -15,7 +16,7 @@ use Rattle.std.specs.declared.cmp.Ordering.{Ordering}
 use Rattle.key_index_flat.specs.Content.{Content, IsLawful, item_count, with_list}
 use Rattle.key_index_flat.specs.View.{pruned_after}
 use Rattle.key_index_flat.proofs.content.ContentLemmas.{item_count-with_list}
-use Rattle.key_index_parts.specs.Family.{AreCounted, AreFree, IsCounted, list_in, part_at, settled_in, with_items_from, with_list_in}
+use Rattle.key_index_parts.specs.Family.{AreCounted, AreFree, IsCounted, list_in, bucket_at, settled_in, with_items_from, with_list_in}
 use Rattle.key_index_parts.specs.Moves.{IsPaid}
 use Rattle.key_index_parts.specs.Standing.{LeavesIn, Standing, Standings, standing_in, with_entries}
 use Rattle.key_index_parts.proofs.standing.MoveLemmas.{Pays, grows_paid, leaves_paid}
@@ -29,7 +30,10 @@ module _ {K V : Type 0} (contents : List (Content K V)) (standing : List Standin
       let as_long = length-map contents (λ c. item_count c) in
       omega (arith, same, as_many, as_long)
 
-  entries_told : (n : ℕ) → n < length contents → (standing_in standing n).entries ≡ item_count (part_at contents n)
+  pub listed_by : (n : ℕ) → n < length contents → n < length standing
+  listed_by n inside = let same = counted_size in omega (arith, same, inside)
+
+  entries_told : (n : ℕ) → n < length contents → (standing_in standing n).entries ≡ item_count (bucket_at contents n)
   entries_told n inside =
       let same = counted_size in
       sym (get_or-map (λ (p : Standing). p.entries) standing n (record { entries = 0; spilled = false }) 0 (omega (arith, inside, same)))
@@ -45,7 +49,7 @@ entries_sum (c ∷ cs) (p ∷ ps) told =
     let rest = entries_sum cs ps (ap (λ l. drop 1 l) told) in
     omega (arith, first, rest, sum_by-cons (λ (q : Standing). q.entries) p ps, sum_by-cons (λ d. item_count d) c cs)
 
--- other parts that stand with as many values as they hold, in the place of some
+-- other buckets that stand with as many values as they hold, in the place of some
 pub counted_joined : {K V : Type 0} (contents others : List (Content K V)) (standing more : List Standing) (n : ℕ) → AreCounted contents standing → AreCounted others more
     → AreCounted (with_items_from contents n others) (with_items_from standing n more)
 counted_joined contents others standing more n told also =
@@ -65,36 +69,36 @@ pub free_entries : {K V : Type 0} (contents : List (Content K V)) (standing : Li
 free_entries contents standing told start count fits free n from upto =
     entries_told contents standing told n (omega (arith, fits, upto)) ∙ ap (λ c. item_count c) (free n from upto)
 
-module _ {K V : Type 0} {cmp : K → K → Ordering} {p : ℕ} {parts : List (Content K V)} {items keys : ℕ} (h : IsCounted cmp p parts items keys)
-    (o : IsTotalOrder cmp) (slot : ℕ × K) (l : List V) (new : List (Content K V)) (inside : slot.0 < length parts) (is : new ≡ with_list_in cmp parts slot l)
-    (ps qs : List Standing) (told : AreCounted parts ps) (now : AreCounted new qs) where
-  entries_edited : (standing_in qs slot.0).entries + length (list_in cmp parts slot) ≡ (standing_in ps slot.0).entries + length l
+module _ {K V : Type 0} {cmp : K → K → Ordering} {p : ℕ} {buckets : List (Content K V)} {items keys : ℕ} (h : IsCounted cmp p buckets items keys)
+    (o : IsTotalOrder cmp) (slot : ℕ × K) (l : List V) (new : List (Content K V)) (inside : slot.0 < length buckets) (is : new ≡ with_list_in cmp buckets slot l)
+    (ps qs : List Standing) (told : AreCounted buckets ps) (now : AreCounted new qs) where
+  entries_edited : (standing_in qs slot.0).entries + length (list_in cmp buckets slot) ≡ (standing_in ps slot.0).entries + length l
   entries_edited =
-      let size = resized cmp parts slot l new is in
-      let was = entries_told parts ps told slot.0 inside in
+      let size = resized cmp buckets slot l new is in
+      let was = entries_told buckets ps told slot.0 inside in
       let then_is = entries_told new qs now slot.0 (omega (arith, size, inside)) in
-      let at : part_at new slot.0 ≡ with_list cmp (part_at parts slot.0) slot.1 l =
-      ap (λ cs. part_at cs slot.0) is ∙ get_or-set_same parts slot.0 (with_list cmp (part_at parts slot.0) slot.1 l) [] inside in
-      let sum = item_count-with_list o (part_at parts slot.0) slot.1 l (All-get_or (IsLawful cmp) parts slot.0 [] inside h.each) in
+      let at : bucket_at new slot.0 ≡ with_list cmp (bucket_at buckets slot.0) slot.1 l =
+      ap (λ cs. bucket_at cs slot.0) is ∙ get_or-set_same buckets slot.0 (with_list cmp (bucket_at buckets slot.0) slot.1 l) [] inside in
+      let sum = item_count-with_list o (bucket_at buckets slot.0) slot.1 l (All-get_or (IsLawful cmp) buckets slot.0 [] inside h.each) in
       let counts = ap (λ c. item_count c) at in
       omega (arith, was, then_is, sum, counts)
 
-  module _ (t spills moved pruned after taken : ℕ) (fits : length (list_in cmp parts slot) ≤ length l + taken) (after_is : after ≡ pruned_after pruned taken) where
+  module _ (t spills moved pruned after taken : ℕ) (fits : length (list_in cmp buckets slot) ≤ length l + taken) (after_is : after ≡ pruned_after pruned taken) where
     abbrev pub standing_so : List Standing → Standings
-    standing_so rs = record { threshold = t; parts = rs; spills = spills; moved = moved }
+    standing_so rs = record { threshold = t; buckets = rs; spills = spills; moved = moved }
 
-    within_parts : slot.0 < length ps
-    within_parts = let same = counted_size parts ps told in omega (arith, same, inside)
+    within_buckets : slot.0 < length ps
+    within_buckets = let same = counted_size buckets ps told in omega (arith, same, inside)
 
     left : (standing_in ps slot.0).entries ≤ (standing_in qs slot.0).entries + taken
     left = let sum = entries_edited in omega (arith, sum, fits)
 
     module _ {owed : ℕ → Standing → ℕ} (pays : Pays owed) where
       pub edit_paid : LeavesIn ps slot.0 qs → IsPaid (owed t) (standing_so ps) pruned → IsPaid (owed t) (standing_so qs) after
-      edit_paid stays before = leaves_paid pays (standing_so ps) (standing_so qs) slot.0 pruned after taken within_parts left after_is before (λ i. standing_so (stays i))
+      edit_paid stays before = leaves_paid pays (standing_so ps) (standing_so qs) slot.0 pruned after taken within_buckets left after_is before (λ i. standing_so (stays i))
 
       pub growth_paid : (kind : Bool) (a b : ℕ)
-          → record { threshold = t; parts = qs; spills = a; moved = b } ≡ settled_in kind (with_entries (standing_so ps) slot.0 (standing_in qs slot.0).entries) slot.0
-          → IsPaid (owed t) (standing_so ps) pruned → IsPaid (owed t) (record { threshold = t; parts = qs; spills = a; moved = b }) after
+          → record { threshold = t; buckets = qs; spills = a; moved = b } ≡ settled_in kind (with_entries (standing_so ps) slot.0 (standing_in qs slot.0).entries) slot.0
+          → IsPaid (owed t) (standing_so ps) pruned → IsPaid (owed t) (record { threshold = t; buckets = qs; spills = a; moved = b }) after
       growth_paid kind a b grows before =
-          grows_paid pays (standing_so ps) (record { threshold = t; parts = qs; spills = a; moved = b }) slot.0 pruned after taken within_parts left after_is before kind grows
+          grows_paid pays (standing_so ps) (record { threshold = t; buckets = qs; spills = a; moved = b }) slot.0 pruned after taken within_buckets left after_is before kind grows

@@ -19,7 +19,7 @@ use Rattle.key_index_flat.specs.Content.{item_count}
 use Rattle.key_index_parts.specs.Family.{Kept, IsLeft, settled_in}
 use Rattle.key_index_parts.specs.Gathered.{gathered}
 use Rattle.key_index_parts.specs.laws.StandingLaws.{settles_by, resettles_by}
-use Rattle.key_index_parts.specs.Standing.{Standing, Standings, GrowsIn, Leaves, LeavesSome, MovesBack, Refuses, Resettles, Settles, after_call, due_in, entries_at, grown, is_reached, is_reached_by, is_small, left_with, moved_since, spilled_if_reached, spilled_since, standing_at, standing_in, with_entries, with_inline, with_left, with_spill, with_spilled}
+use Rattle.key_index_parts.specs.Standing.{Standing, Standings, GrowsIn, Leaves, LeavesSome, MovesBack, Refuses, Resettles, Settles, SpillsIn, after_call, entries_at, is_reached, is_reached_by, is_small, left_with, spilled_if_reached, standing_at, standing_in, with_entries, with_inline, with_left, with_spill, with_spilled}
 
 pub none_more : (n : ℕ) → pruned_after n 0 ≡ n
 none_more n = omega arith
@@ -40,9 +40,9 @@ raised_entries t p =
 unless : (s : Standings) (n : ℕ) → is_reached s n ≡ false → spilled_if_reached s n ≡ s
 unless s n e = ap (λ b. if b then with_spill s n else s) e
 
-module _ (s : Standings) (n : ℕ) (inside : n < length s.parts) where
+module _ (s : Standings) (n : ℕ) (inside : n < length s.buckets) where
   at_spilled : standing_at (with_spill s n) n ≡ record { entries = entries_at s n; spilled = true }
-  at_spilled = get_or-set_same s.parts n (record { entries = entries_at s n; spilled = true }) nothing inside
+  at_spilled = get_or-set_same s.buckets n (record { entries = entries_at s n; spilled = true }) nothing inside
 
   pub at_raised : standing_at (spilled_if_reached s n) n ≡ raised s.threshold (standing_at s n)
   at_raised =
@@ -52,10 +52,10 @@ module _ (s : Standings) (n : ℕ) (inside : n < length s.parts) where
         | false ↦ refl
       ]
 
-  raised_size : length (spilled_if_reached s n).parts ≡ length s.parts
+  raised_size : length (spilled_if_reached s n).buckets ≡ length s.buckets
   raised_size =
-      elim (is_reached s n) as (λ b. length (if b then with_spill s n else s).parts ≡ length s.parts) [
-        | true ↦ length-set s.parts n (record { entries = entries_at s n; spilled = true })
+      elim (is_reached s n) as (λ b. length (if b then with_spill s n else s).buckets ≡ length s.buckets) [
+        | true ↦ length-set s.buckets n (record { entries = entries_at s n; spilled = true })
         | false ↦ refl
       ]
 
@@ -67,7 +67,7 @@ module _ (s : Standings) (n : ℕ) (inside : n < length s.parts) where
       ]
 
   pub at_left : (m : ℕ) → standing_at (with_entries s n m) n ≡ left_with (standing_at s n) m
-  at_left m = get_or-set_same s.parts n (left_with (standing_at s n) m) nothing inside
+  at_left m = get_or-set_same s.buckets n (left_with (standing_at s n) m) nothing inside
 
 both_true : (a b : Bool) → (a && b) ≡ true → b ≡ true
 both_true true b e = e
@@ -88,7 +88,7 @@ not_reached t e m false true least few told = spilled_left t m least
     spilled_left t (suc m) least = ap (λ b. not b && nat_le t (suc m)) (lt-ltb 0 (suc m) (omega arith))
 not_reached t e m false false least few told = let below = leb-false t e told in lt-leb t m (omega (arith, below, few))
 
-module _ (s : Standings) (n : ℕ) (inside : n < length s.parts) (least : 1 ≤ s.threshold) where
+module _ (s : Standings) (n : ℕ) (inside : n < length s.buckets) (least : 1 ≤ s.threshold) where
   abbrev pub mid : Standings
   mid = spilled_if_reached s n
 
@@ -126,32 +126,8 @@ module _ (s : Standings) (n : ℕ) (inside : n < length s.parts) (least : 1 ≤ 
       let at = at_raised s n inside in
       let same = still (standing_at mid n) (subst (λ p. IsTrue p.spilled → 0 < p.entries) (sym at) (filled_raised some)) in
       let kept : with_entries mid n (entries_at mid n) ≡ mid =
-      (λ i. record mid { parts = set mid.parts n (same i) }) ∙ (λ i. record mid { parts = set-get_or mid.parts n nothing i }) in
+      (λ i. record mid { buckets = set mid.buckets n (same i) }) ∙ (λ i. record mid { buckets = set-get_or mid.buckets n nothing i }) in
       settles_edit new (is ∙ sym kept ∙ ap (λ x. with_entries mid n (entries_at x n)) (sym is)) (let e = ap (λ x. entries_at x n) is in omega (arith, e))
-
--- an insertion: b was spilled; u, z: it is left with the threshold or more, and with some values
-told_grown : (spills b u z : Bool) → (u ≡ true → z ≡ true)
-    → ((b || (spills && u)) && z) ≡ (if spills && (not (b && z) && u) then true else (b && z))
-told_grown false true u true h = refl
-told_grown false true u false h = refl
-told_grown false false u z h = refl
-told_grown true true u true h = refl
-told_grown true true true false h = absurd (subst T (sym (h refl)) tt)
-told_grown true true false false h = refl
-told_grown true false true true h = refl
-told_grown true false true false h = absurd (subst T (sym (h refl)) tt)
-told_grown true false false z h = refl
-
-told_since : (spills b u z : Bool) → (u ≡ true → z ≡ true)
-    → (not b && ((b || (spills && u)) && z)) ≡ (spills && (not (b && z) && u))
-told_since false true u z h = refl
-told_since false false u z h = refl
-told_since true true u true h = refl
-told_since true true true false h = absurd (subst T (sym (h refl)) tt)
-told_since true true false false h = refl
-told_since true false true true h = refl
-told_since true false true false h = absurd (subst T (sym (h refl)) tt)
-told_since true false false z h = refl
 
 settled_by : (spills : Bool) (s : Standings) (n : ℕ) → settled_in spills s n ≡ (if spills && is_reached s n then with_spill s n else s)
 settled_by true s n = refl
@@ -162,138 +138,97 @@ some_if : (c : Bool) (n : ℕ) → (c ≡ true → 0 < n) → nat_lt 0 (if c the
 some_if true n some = lt-ltb 0 n (some refl)
 some_if false n some = refl
 
-pub settled_so : (spills : Bool) (s : Standings) (n : ℕ) → 1 ≤ s.threshold → (moved : ℕ) → moved ≡ due_in spills s.threshold (standing_at s n)
-    → (parts : List Standing) → parts ≡ (if nat_lt 0 moved then with_spilled s.parts n else s.parts)
+pub settled_so : (spills : Bool) (s : Standings) (n moved : ℕ) → n < length s.buckets → 1 ≤ s.threshold
+    → (buckets : List Standing) → SpillsIn spills s.threshold s.buckets n moved buckets
     → {a b : ℕ} → a ≡ pruned_after s.spills (one_if (nat_lt 0 moved)) → b ≡ pruned_after s.moved moved
-    → record { threshold = s.threshold; parts = parts; spills = a; moved = b } ≡ settled_in spills s n
-settled_so spills s n least moved due parts is {a} {b} one more =
+    → record { threshold = s.threshold; buckets = buckets; spills = a; moved = b } ≡ settled_in spills s n
+settled_so spills s n moved inside least buckets is {a} {b} one more =
     let c = spills && is_reached s n in
     let some : c ≡ true → 0 < entries_at s n = λ e.
     let reached = leb-true s.threshold (entries_at s n) (both_true (not (standing_at s n).spilled) (nat_le s.threshold (entries_at s n)) (both_true spills (is_reached s n) e)) in
     omega (arith, reached, least) in
-    let flag : nat_lt 0 moved ≡ c = ap (λ m. nat_lt 0 m) due ∙ some_if c (entries_at s n) some in
+    let flag : nat_lt 0 moved ≡ c = ap (λ m. nat_lt 0 m) is.0 ∙ some_if c (entries_at s n) some in
     (λ i. record {
       threshold = s.threshold;
-      parts = (is ∙ ap (λ f. if f then with_spilled s.parts n else s.parts) flag) i;
+      buckets = (is.1 ∙ ap (λ f. set s.buckets n (record { entries = entries_at s n; spilled = f || (standing_at s n).spilled })) flag) i;
       spills = (one ∙ ap (λ f. pruned_after s.spills (one_if f)) flag) i;
-      moved = (more ∙ ap (λ m. pruned_after s.moved m) due) i;
+      moved = (more ∙ ap (λ m. pruned_after s.moved m) is.0) i;
     }) ∙ by_case c ∙ sym (settled_by spills s n)
   where
     by_case : (c : Bool) → record {
       threshold = s.threshold;
-      parts = if c then with_spilled s.parts n else s.parts;
+      buckets = set s.buckets n (record { entries = entries_at s n; spilled = c || (standing_at s n).spilled });
       spills = pruned_after s.spills (one_if c);
       moved = pruned_after s.moved (if c then entries_at s n else 0);
     } ≡ (if c then with_spill s n else s)
     by_case true = refl
-    by_case false = λ i. record { threshold = s.threshold; parts = s.parts; spills = none_more s.spills i; moved = none_more s.moved i }
+    by_case false = λ i. record {
+      threshold = s.threshold;
+      buckets = set-get_or s.buckets n nothing i;
+      spills = none_more s.spills i;
+      moved = none_more s.moved i;
+    }
+
+-- the same of an insertion
+pub grows_to : (spills : Bool) (s : Standings) (n moved : ℕ) → n < length s.buckets → 1 ≤ s.threshold
+    → (buckets : List Standing) → GrowsIn spills s.threshold s.buckets n moved buckets
+    → {a b : ℕ} → a ≡ pruned_after s.spills (one_if (nat_lt 0 moved)) → b ≡ pruned_after s.moved moved
+    → record { threshold = s.threshold; buckets = buckets; spills = a; moved = b } ≡ settled_in spills (with_entries s n (standing_in buckets n).entries) n
+grows_to spills s n moved inside least buckets is one more =
+    let m = (standing_in buckets n).entries in
+    let same = length-set s.buckets n (left_with (standing_at s n) m) in
+    settled_so spills (with_entries s n m) n moved (omega (arith, same, inside)) least buckets is one more
 
 pub moved_back : (s : Standings) (n moved : ℕ) → (0 < moved → IsTrue (is_small s n)) → (0 < moved → moved ≡ entries_at s n)
-    → (parts : List Standing) → parts ≡ (if nat_lt 0 moved then with_inline s.parts n else s.parts)
+    → (buckets : List Standing) → buckets ≡ (if nat_lt 0 moved then with_inline s.buckets n else s.buckets)
     → {a b : ℕ} → a ≡ s.spills → b ≡ pruned_after s.moved moved
-    → MovesBack s n (record { threshold = s.threshold; parts = parts; spills = a; moved = b })
-moved_back s n zero small all parts is same more =
-    inl (λ i. record { threshold = s.threshold; parts = is i; spills = same i; moved = (more ∙ none_more s.moved) i })
-moved_back s n (suc m) small all parts is same more =
+    → MovesBack s n (record { threshold = s.threshold; buckets = buckets; spills = a; moved = b })
+moved_back s n zero small all buckets is same more =
+    inl (λ i. record { threshold = s.threshold; buckets = is i; spills = same i; moved = (more ∙ none_more s.moved) i })
+moved_back s n (suc m) small all buckets is same more =
     let some : 0 < suc m = omega arith in
     inr (
       small some,
       λ i. record {
         threshold = s.threshold;
-        parts = (is ∙ ap (λ f. if f then with_inline s.parts n else s.parts) (lt-ltb 0 (suc m) some)) i;
+        buckets = (is ∙ ap (λ f. if f then with_inline s.buckets n else s.buckets) (lt-ltb 0 (suc m) some)) i;
         spills = same i;
         moved = (more ∙ ap (λ k. pruned_after s.moved k) (all some)) i;
       },
     )
 
-call_size : (s : Standings) (n m : ℕ) → n < length s.parts → n < length (after_call s n m).parts
+call_size : (s : Standings) (n m : ℕ) → n < length s.buckets → n < length (after_call s n m).buckets
 call_size s n m inside =
     let first = raised_size s n inside in
-    let left = length-set (spilled_if_reached s n).parts n (left_with (standing_at (spilled_if_reached s n) n) m) in
+    let left = length-set (spilled_if_reached s n).buckets n (left_with (standing_at (spilled_if_reached s n) n) m) in
     let last = raised_size (with_entries (spilled_if_reached s n) n m) n (omega (arith, first, left, inside)) in
     omega (arith, first, left, last, inside)
 
-pub resettles : (old between new : Standings) (n : ℕ) → n < length old.parts → 1 ≤ old.threshold → between ≡ after_call old n (entries_at between n)
+pub resettles : (old between new : Standings) (n : ℕ) → n < length old.buckets → 1 ≤ old.threshold → between ≡ after_call old n (entries_at between n)
     → MovesBack between n new → Resettles old n new
 resettles old between new n inside least settles back =
-    let size = subst (λ s. n < length s.parts) (sym settles) (call_size old n (entries_at between n) inside) in
+    let size = subst (λ s. n < length s.buckets) (sym settles) (call_size old n (entries_at between n) inside) in
     resettles_by old new n inside least (subst (λ s. MovesBack s n new) (settles ∙ ap (λ m. after_call old n m) (sym (as_many_values size back))) back)
   where
-    as_many_values : n < length between.parts → MovesBack between n new → entries_at new n ≡ entries_at between n
+    as_many_values : n < length between.buckets → MovesBack between n new → entries_at new n ≡ entries_at between n
     as_many_values size (inl same) = ap (λ s. entries_at s n) same
     as_many_values size (inr told) =
         ap (λ s. entries_at s n) told.1
-        ∙ ap (λ p. p.entries) (get_or-set_same between.parts n (record { entries = entries_at between n; spilled = false }) nothing size)
-
-pub grows_to : (spills : Bool) (old new : Standings) (n : ℕ) → n < length old.parts → 1 ≤ old.threshold → new.threshold ≡ old.threshold
-    → GrowsIn spills old.threshold old.parts n new.parts → (moved : ℕ) → moved ≡ moved_since old.parts n new.parts
-    → new.spills ≡ pruned_after old.spills (one_if (nat_lt 0 moved)) → new.moved ≡ pruned_after old.moved moved
-    → new ≡ settled_in spills (with_entries old n (entries_at new n)) n
-grows_to spills old new n inside least same grows moved told one more =
-    let t = old.threshold in
-    let p = standing_at old n in
-    let m = entries_at new n in
-    let q = grown spills t p m in
-    let x = with_entries old n m in
-    let some : nat_le t m ≡ true → nat_lt 0 m ≡ true = λ e. lt-ltb 0 m (let reached = leb-true t m e in omega (arith, reached, least)) in
-    let at : standing_at new n ≡ q = ap (λ l. standing_in l n) grows ∙ get_or-set_same old.parts n q nothing inside in
-    let c = spills && is_reached_by t (left_with p m) in
-    let since : spilled_since old.parts n new.parts ≡ c =
-    ap (λ r. not p.spilled && r.spilled) at ∙ told_since spills p.spilled (nat_le t m) (nat_lt 0 m) some in
-    let reached : (spills && is_reached x n) ≡ c = ap (λ r. spills && is_reached_by t r) (at_left old n inside m) in
-    let flag = told_grown spills p.spilled (nat_le t m) (nat_lt 0 m) some in
-    let count : moved ≡ (if c then m else 0) = told ∙ ap (λ b. if b then m else 0) since in
-    let filled : c ≡ true → 0 < m = λ e.
-    let due = leb-true t m (both_true (not (left_with p m).spilled) (nat_le t m) (both_true spills (is_reached_by t (left_with p m)) e)) in
-    omega (arith, due, least) in
-    let spilt : nat_lt 0 moved ≡ c = ap (λ k. nat_lt 0 k) count ∙ some_if c m filled in
-    let is : new ≡ record {
-      threshold = t;
-      parts = set old.parts n (record { entries = m; spilled = if c then true else (p.spilled && nat_lt 0 m) });
-      spills = pruned_after old.spills (one_if c);
-      moved = pruned_after old.moved (if c then m else 0);
-    } =
-    λ i. record {
-      threshold = same i;
-      parts = (grows ∙ ap (λ f. set old.parts n (record { entries = m; spilled = f })) flag) i;
-      spills = (one ∙ ap (λ b. pruned_after old.spills (one_if b)) spilt) i;
-      moved = (more ∙ ap (λ k. pruned_after old.moved k) count) i;
-    } in
-    is ∙ by_case c ∙ sym (settled_by spills x n ∙ ap (λ b. if b then with_spill x n else x) reached)
-  where
-    by_case : (c : Bool) → record {
-      threshold = old.threshold;
-      parts = set old.parts n (record { entries = entries_at new n; spilled = if c then true else ((standing_at old n).spilled && nat_lt 0 (entries_at new n)) });
-      spills = pruned_after old.spills (one_if c);
-      moved = pruned_after old.moved (if c then entries_at new n else 0);
-    } ≡ (if c then with_spill (with_entries old n (entries_at new n)) n else with_entries old n (entries_at new n))
-    by_case true = λ i. record {
-      threshold = old.threshold;
-      parts = (sym (set-set old.parts n (left_with (standing_at old n) (entries_at new n)) (record { entries = entries_at new n; spilled = true }))
-          ∙ ap (λ r. set (with_left old.parts n (entries_at new n)) n (record { entries = r.entries; spilled = true })) (sym (at_left old n inside (entries_at new n)))) i;
-      spills = pruned_after old.spills 1;
-      moved = ap (λ r. pruned_after old.moved r.entries) (sym (at_left old n inside (entries_at new n))) i;
-    }
-    by_case false = λ i. record {
-      threshold = old.threshold;
-      parts = with_left old.parts n (entries_at new n);
-      spills = none_more old.spills i;
-      moved = none_more old.moved i;
-    }
+        ∙ ap (λ p. p.entries) (get_or-set_same between.buckets n (record { entries = entries_at between n; spilled = false }) nothing size)
 
 pub leaves_some : (s : Standings) → LeavesSome s s
-leaves_some s = (length s.parts, λ i. record s { parts = sym (set_past s.parts (length s.parts) (left_with (standing_in s.parts (length s.parts)) (entries_at s (length s.parts))) (omega arith)) i })
+leaves_some s = (length s.buckets, λ i. record s { buckets = sym (set_past s.buckets (length s.buckets) (left_with (standing_in s.buckets (length s.buckets)) (entries_at s (length s.buckets))) (omega arith)) i })
 
 -- an edit that was done or refused
 pub leaves_either : {A E : Type 0} (r : Result A E) (n : ℕ) (old new : Standings) → OnOk r (Leaves old n new) → OnErr r (new ≡ old) → LeavesSome old new
 leaves_either (Ok x) n old new done refused = (n, done)
 leaves_either (Err e) n old new done refused = subst (λ s. LeavesSome old s) (sym refused) (leaves_some old)
 
--- what a refused insertion leaves, of parts that spill
+-- what a refused insertion leaves, of buckets that spill
 pub left_standing : {T' K V : Type 0} (spills : Bool) (n : ℕ) (old new : Kept T' K V) → IsLeft spills old n new → IsTrue spills
-    → Refuses (item_count (gathered old.parts)) old.standings n new.standings
+    → Refuses (item_count (gathered old.buckets)) old.standings n new.standings
 left_standing spills n old new left is =
     by_case left where
-      by_case : IsLeft spills old n new → Refuses (item_count (gathered old.parts)) old.standings n new.standings
+      by_case : IsLeft spills old n new → Refuses (item_count (gathered old.buckets)) old.standings n new.standings
       by_case (inl same) = inl (ap (λ s. s.standings) same)
       by_case (inr told) = inr (told.0, ap (λ s. s.standings) told.1 ∙ ap (λ b. settled_in b old.standings n) is)

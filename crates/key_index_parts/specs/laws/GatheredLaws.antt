@@ -1,6 +1,6 @@
--- The laws that an index over parts gives.
+-- The laws that an index over buckets gives.
 --     pair_total                 the order of pairs is total
---     IsLawful-gathered          the whole is lawful where each part is
+--     IsLawful-gathered          the whole is lawful where each bucket is
 use Rattle.std.proofs.Common.{ℕ, suc, ◌<◌, T, List, [], ◌∷◌, ◌++◌, All, sym, subst, arith}
 use Rattle.std.proofs.lemmas.List.Elements.{All-head, All-tail}
 use Rattle.std.specs.declared.cmp.Ordering.{Ordering}
@@ -30,7 +30,7 @@ module _ {K V : Type 0} (cmp : K → K → Ordering) where
   below_next p q x (e ∷ es) h =
       both _ _ (subst (λ r. T (is_lt (ordering_then r (cmp x e.0)))) (sym (nat_below p q h)) tt) (below_next p q x es h)
 
-  -- a key of an earlier part is below all of the later ones
+  -- a key of an earlier bucket is below all of the later ones
   pub below_later : (p q : ℕ) (x : K) (cs : List (Content K V)) → p < q → T (below_all (pair_cmp cmp) (p, x) (gathered_from q cs))
   below_later p q x [] h = tt
   below_later p q x (c ∷ cs) h = below_append (p, x) (tagged q c) (gathered_from (suc q) cs) (below_next p q x c h) (below_later p (suc q) x cs (omega (arith, h)))

@@ -1,6 +1,6 @@
--- The laws that a range gives: what parts hold together that are numbered from another start.
+-- The laws that a range gives: what buckets hold together that are numbered from another start.
 --     shift, shifted              an index key, and a content, with so many more in its numbers
---     gathered_from-shifted       what the parts hold together is that of parts numbered from 0, shifted
+--     gathered_from-shifted       what the buckets hold together is that of buckets numbered from 0, shifted
 --     IsLawful-gathered_from      it is lawful where that is
 --     gathered_from-covers        and has no list outside their numbers
 use Rattle.std.proofs.Common.{◌≡◌, ℕ, suc, ◌+◌, ◌<◌, ◌≤◌, true, false, cond, not, ◌&&◌, T, List, [], ◌∷◌, ◌++◌, length, Some, None, unwrap_or, add-zero, refl, sym, ap, subst, ◌∙◌, arith}

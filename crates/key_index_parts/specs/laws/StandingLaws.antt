@@ -1,5 +1,5 @@
 -- The laws of standing, in its own words. The threshold is at least 1, and the partition of the number n is one of the index's.
---     inline_filled    a part that isn't spilled is held to nothing
+--     inline_filled    a bucket that isn't spilled is held to nothing
 --     call_stands      after a call by key a partition has the values that it was left with, and is spilled exactly where there are some and it
 --                      was spilled, had reached the threshold, or reaches it by the call
 --     call_spills      a spill is counted exactly where it stood inline and had reached the threshold, or reaches it by the call
@@ -32,18 +32,18 @@ stays_so true b e = refl
 stays_so false true e = sym e
 stays_so false false e = refl
 
-as_many : (s : Standings) (n : ℕ) → length (spilled_if_reached s n).parts ≡ length s.parts
-as_many s n = elim (is_reached s n) as (λ r. length (if r then with_spill s n else s).parts ≡ length s.parts) [
-  | true ↦ length-set s.parts n (record { entries = entries_at s n; spilled = true })
+as_many : (s : Standings) (n : ℕ) → length (spilled_if_reached s n).buckets ≡ length s.buckets
+as_many s n = elim (is_reached s n) as (λ r. length (if r then with_spill s n else s).buckets ≡ length s.buckets) [
+  | true ↦ length-set s.buckets n (record { entries = entries_at s n; spilled = true })
   | false ↦ refl
 ]
 
 same_threshold : (s : Standings) (n : ℕ) → (spilled_if_reached s n).threshold ≡ s.threshold
 same_threshold s n = elim (is_reached s n) as (λ r. (if r then with_spill s n else s).threshold ≡ s.threshold) [ true ↦ refl | false ↦ refl ]
 
-module _ (s : Standings) (n : ℕ) (inside : n < length s.parts) where
-  at_set : (m : ℕ) (b : Bool) → get_or (set s.parts n (record { entries = m; spilled = b })) n (record { entries = 0; spilled = false }) ≡ record { entries = m; spilled = b }
-  at_set m b = get_or-set_same s.parts n (record { entries = m; spilled = b }) (record { entries = 0; spilled = false }) inside
+module _ (s : Standings) (n : ℕ) (inside : n < length s.buckets) where
+  at_set : (m : ℕ) (b : Bool) → get_or (set s.buckets n (record { entries = m; spilled = b })) n (record { entries = 0; spilled = false }) ≡ record { entries = m; spilled = b }
+  at_set m b = get_or-set_same s.buckets n (record { entries = m; spilled = b }) (record { entries = 0; spilled = false }) inside
 
   -- once it has spilled where it had reached the threshold
   then_stands : standing_at (spilled_if_reached s n) n ≡ record { entries = entries_at s n; spilled = (standing_at s n).spilled || nat_le s.threshold (entries_at s n) }
@@ -65,13 +65,13 @@ not_reached : (t m : ℕ) (x : Bool) → x ≡ true → 1 ≤ t → (not (x && n
 not_reached t m true e least = grind (arith, nat_tests)
 not_reached t m false e least = grind (arith, nat_tests)
 
-module _ (s : Standings) (n m : ℕ) (inside : n < length s.parts) (least : 1 ≤ s.threshold) where
-  a_inside : n < length (spilled_if_reached s n).parts
+module _ (s : Standings) (n m : ℕ) (inside : n < length s.buckets) (least : 1 ≤ s.threshold) where
+  a_inside : n < length (spilled_if_reached s n).buckets
   a_inside = let same = as_many s n in omega (arith, same, inside)
 
-  b_inside : n < length (with_entries (spilled_if_reached s n) n m).parts
+  b_inside : n < length (with_entries (spilled_if_reached s n) n m).buckets
   b_inside =
-      let same = length-set (spilled_if_reached s n).parts n (record { entries = m; spilled = (standing_at (spilled_if_reached s n) n).spilled && nat_lt 0 m }) in
+      let same = length-set (spilled_if_reached s n).buckets n (record { entries = m; spilled = (standing_at (spilled_if_reached s n) n).spilled && nat_lt 0 m }) in
       let inner = a_inside in omega (arith, same, inner)
 
   b_stands : standing_at (with_entries (spilled_if_reached s n) n m) n
@@ -166,19 +166,19 @@ module _ (s : Standings) (n m : ℕ) (inside : n < length s.parts) (least : 1 �
       apart true b c = refl
       apart false b c = refl
 
-pub settles_by : (s new : Standings) (n : ℕ) → n < length s.parts → 1 ≤ s.threshold → new ≡ after_call s n (entries_at new n) → Settles s n new
+pub settles_by : (s new : Standings) (n : ℕ) → n < length s.buckets → 1 ≤ s.threshold → new ≡ after_call s n (entries_at new n) → Settles s n new
 settles_by s new n inside least is = (is, subst (λ x. IsBelow x n) (sym is) (call_inline s n (entries_at new n) inside least))
 
 -- every other partition stands as before
 module _ (n j : ℕ) (other : j ≢ n) where
   others_spilled : (s : Standings) → standing_at (spilled_if_reached s n) j ≡ standing_at s j
   others_spilled s = elim (is_reached s n) as (λ r. standing_at (if r then with_spill s n else s) j ≡ standing_at s j) [
-    | true ↦ get_or-set_other s.parts n j (record { entries = entries_at s n; spilled = true }) (record { entries = 0; spilled = false }) other
+    | true ↦ get_or-set_other s.buckets n j (record { entries = entries_at s n; spilled = true }) (record { entries = 0; spilled = false }) other
     | false ↦ refl
   ]
 
   others_left : (s : Standings) (m : ℕ) → standing_at (with_entries s n m) j ≡ standing_at s j
-  others_left s m = get_or-set_other s.parts n j (record { entries = m; spilled = (standing_at s n).spilled && nat_lt 0 m }) (record { entries = 0; spilled = false }) other
+  others_left s m = get_or-set_other s.buckets n j (record { entries = m; spilled = (standing_at s n).spilled && nat_lt 0 m }) (record { entries = 0; spilled = false }) other
 
   pub call_others : (s : Standings) (m : ℕ) → standing_at (after_call s n m) j ≡ standing_at s j
   call_others s m =
@@ -201,13 +201,13 @@ module _ (s new : Standings) (n : ℕ) (told : MovesBack (after_call s n (entrie
     by (inl same) = ap (λ r. standing_at r j) same
     by (inr back) =
         ap (λ r. standing_at r j) back.1
-        ∙ get_or-set_other called.parts n j (record { entries = entries_at called n; spilled = false }) (record { entries = 0; spilled = false }) other
+        ∙ get_or-set_other called.buckets n j (record { entries = entries_at called n; spilled = false }) (record { entries = 0; spilled = false }) other
 
-  module _ (inside : n < length s.parts) (least : 1 ≤ s.threshold) where
+  module _ (inside : n < length s.buckets) (least : 1 ≤ s.threshold) where
     as_left : entries_at called n ≡ entries_at new n
     as_left = ap (λ p. p.entries) (call_stands s n (entries_at new n) inside least)
 
-    still_inside : n < length called.parts
+    still_inside : n < length called.buckets
     still_inside =
         let still = as_many (with_entries (spilled_if_reached s n) n (entries_at new n)) n in
         let within = b_inside s n (entries_at new n) inside least in
@@ -241,5 +241,5 @@ module _ (s new : Standings) (n : ℕ) (told : MovesBack (after_call s n (entrie
           subst (λ x. IsBelow x n) (sym back.1)
           (subst (λ p. (if p.spilled then 0 else p.entries) < called.threshold) (sym (at_set called n still_inside (entries_at called n) false)) few)
 
-pub resettles_by : (s new : Standings) (n : ℕ) → n < length s.parts → 1 ≤ s.threshold → MovesBack (after_call s n (entries_at new n)) n new → Resettles s n new
+pub resettles_by : (s new : Standings) (n : ℕ) → n < length s.buckets → 1 ≤ s.threshold → MovesBack (after_call s n (entries_at new n)) n new → Resettles s n new
 resettles_by s new n inside least told = (told, back_inline s new n told inside least)

@@ -9,11 +9,11 @@ ghost use Rattle.key_index_parts.specs.Grouping.{ComparesAs};
 ghost use Rattle.key_index_parts.specs.Prefix.{prefix_number, rest_of, slot_by};
 
 mod bitmap;
+mod bucket;
 mod builds;
 mod counts;
+mod directory;
 pub mod ordered;
-mod part;
-mod parts;
 mod range;
 mod storage;
 mod traits;

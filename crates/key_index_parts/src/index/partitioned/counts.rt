@@ -1,11 +1,11 @@
-//! The counts of what the parts of an index hold.
+//! The counts of what the buckets of an index hold.
 ghost use Rattle.std.specs.Prelude.{◌≡◌, ◌+◌, ◌<◌, ◌≤◌, nat_lt};
 ghost use Rattle.key_index_flat.specs.View.{pruned_after};
 ghost use Rattle.key_index_parts.specs.Counts.{one_if, keys_for, CanChange};
 
 use key_index_flat::index::implement::Retained;
 
-/// How many values and index keys there are, and how many held values were ever taken out.
+/// How many values and index keys there are, and how many held values were ever removed.
 #[derive(Drop)]
 pub(super) struct Counts {
     pub(super) items: usize,
@@ -40,7 +40,7 @@ impl Counts {
         self.pruned = self.pruned.saturating_add(told.taken as u64);
     }
 
-    /// Counts what other parts hold.
+    /// Counts what other buckets hold.
     pub(super) fn join(&mut self, other: Counts)
         requires items { self.old.items + other.items ≤ usize.MAX }
         requires keys { self.old.keys + other.keys ≤ usize.MAX }
@@ -81,7 +81,7 @@ impl Moves {
         self.moved = self.moved.saturating_add(values as u64);
     }
 
-    /// Counts what other parts moved.
+    /// Counts what other buckets moved.
     pub(super) fn join(&mut self, other: Moves)
         ensures spills { self.new.spills ≡ pruned_after self.old.spills other.spills }
         ensures moved { self.new.moved ≡ pruned_after self.old.moved other.moved }

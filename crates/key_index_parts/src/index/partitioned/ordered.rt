@@ -3,16 +3,13 @@ ghost use Rattle.std.specs.Prelude.{◌≡◌, ◌<◌, ◌≤◌, false, length
 ghost use Rattle.key_index_flat.specs.Content.{item_count};
 ghost use Rattle.key_index_parts.specs.Family.{IsIndex, view_of};
 ghost use Rattle.key_index_parts.specs.Gathered.{gathered, pair_cmp, entries_of};
-ghost use Rattle.key_index_parts.specs.Moves.{IsWithin};
 ghost use Rattle.key_index_parts.specs.Prefix.{partition_count, partition_by, slot_by};
 ghost use Rattle.key_index_parts.specs.Standing.{LeavesSome, Refuses, Resettles, Settles, is_reached};
 
 mod ahead;
-mod arrays;
 pub mod partition;
-mod spilling;
-mod tree;
 
+use super::bucket::spilling::Spilling;
 use super::range::Range;
 use super::storage::Storage;
 use super::{PartitionRange, Partitioned, partition_index_and_sub_key};
@@ -22,7 +19,6 @@ use key_index_flat::index::{
     Factory, Fault, IndexCursor, Ordered, Refused, Runs, Search, Unordered, Values,
 };
 use key_index_flat::translator::{OrderedTranslator, Translator};
-use spilling::Spilling;
 use std::alloc::Global;
 use std::convert::AsSlice;
 
@@ -41,8 +37,7 @@ const THRESHOLD: usize = 512;
 #[derive(Drop)]
 pub struct Index<T: Translator, V: Drop, const P: usize> {
     storage: Storage<T, V, Spilling<T, V>, P>,
-    ghost is_index: { IsIndex T.Key.cmp P storage.parts },
-    ghost within: { IsWithin storage.standings storage.pruned },
+    ghost is_index: { IsIndex T.Key.cmp P storage.buckets },
 }
 
 impl<T: Translator, V: Drop, const P: usize> Index<T, V, P> {
@@ -94,11 +89,11 @@ impl<T: Translator, V: Drop, const P: usize> Index<T, V, P> {
     }
 
     /// How many values were ever moved: those of each spill, and those of each return to arrays. The count stops at `u64::MAX`. It is at
-    /// most twice the values held and three times those ever taken out, also with what the partitions are yet to pay for.
+    /// most twice the values held and three times those ever removed, also with what the partitions are yet to pay for.
     pub fn moved(&self) -> u64
         ensures count { result ≡ (standings self.now).moved }
         ensures bound { (view self.now).pruned < u64.MAX →
-            result + sum_by (credit (standings self.now).threshold) (standings self.now).parts
+            result + sum_by (credit (standings self.now).threshold) (standings self.now).buckets
             ≤ 2 * items_in (view self.now) + 3 * (view self.now).pruned }
         ensures at_most { (view self.now).pruned < u64.MAX →
             result ≤ 2 * items_in (view self.now) + 3 * (view self.now).pruned }
@@ -108,7 +103,7 @@ impl<T: Translator, V: Drop, const P: usize> Index<T, V, P> {
 
     /// How many partitions are spilled. It looks at each.
     pub fn spilled_count(&self) -> usize
-        ensures { result ≡ spilled_in (standings self.now).parts }
+        ensures { result ≡ spilled_in (standings self.now).buckets }
     {
         self.storage.spilled_count()
     }
@@ -118,7 +113,7 @@ impl<T: Translator, V: Drop, const P: usize> Index<T, V, P> {
         requires { partition < partition_count P }
         ensures spilled { result ≡ (standing_at (standings self.now) partition).spilled }
         ensures filled { IsTrue result → 0 < item_count (entries_of (view self.now).content partition) }
-        ensures listed { partition < length (standings self.now).parts }
+        ensures listed { partition < length (standings self.now).buckets }
     {
         self.storage.is_spilled(partition)
     }
@@ -129,7 +124,7 @@ impl<T: Translator, V: Drop, const P: usize> Index<T, V, P> {
         ensures len { result ≡ inline_len (standings self.now) partition }
         ensures entries { entries_at (standings self.now) partition
             ≡ item_count (entries_of (view self.now).content partition) }
-        ensures listed { partition < length (standings self.now).parts }
+        ensures listed { partition < length (standings self.now).buckets }
     {
         self.storage.inline_len(partition)
     }
@@ -197,11 +192,11 @@ impl<T: Translator, V: Drop, const P: usize> RangeIndex<T, V, P> {
     }
 
     /// How many values were ever moved by spills. The count stops at `u64::MAX`. With two for each value in arrays and one for each in a
-    /// tree it is at most twice the values held and three times those ever taken out.
+    /// tree it is at most twice the values held and three times those ever removed.
     pub fn moved(&self) -> u64
         ensures count { result ≡ (range_standings self.now).moved }
         ensures bound { (range_view self.now).pruned < u64.MAX →
-            result + sum_by range_credit (range_standings self.now).parts
+            result + sum_by range_credit (range_standings self.now).buckets
             ≤ 2 * items_in (range_view self.now) + 3 * (range_view self.now).pruned }
         ensures at_most { (range_view self.now).pruned < u64.MAX →
             result ≤ 2 * items_in (range_view self.now) + 3 * (range_view self.now).pruned }
@@ -215,7 +210,7 @@ impl<T: Translator, V: Drop, const P: usize> RangeIndex<T, V, P> {
         ensures spilled { result
             ≡ (standing_at (range_standings self.now) (partition - range_offset self.now)).spilled }
         ensures filled { IsTrue result → 0 < item_count (entries_of (range_view self.now).content partition) }
-        ensures listed { partition - range_offset self.now < length (range_standings self.now).parts }
+        ensures listed { partition - range_offset self.now < length (range_standings self.now).buckets }
     {
         self.storage.is_spilled(partition - self.offset)
     }
@@ -226,7 +221,7 @@ impl<T: Translator, V: Drop, const P: usize> RangeIndex<T, V, P> {
         ensures len { result ≡ inline_len (range_standings self.now) (partition - range_offset self.now) }
         ensures entries { entries_at (range_standings self.now) (partition - range_offset self.now)
             ≡ item_count (entries_of (range_view self.now).content partition) }
-        ensures listed { partition - range_offset self.now < length (range_standings self.now).parts }
+        ensures listed { partition - range_offset self.now < length (range_standings self.now).buckets }
     {
         self.storage.inline_len(partition - self.offset)
     }
@@ -300,7 +295,7 @@ impl<T: Translator, V: Drop, const P: usize> Search for Index<T, V, P> {
     ghost settled = { λ x slot y. Settles x.storage.standings slot.0 y.storage.standings };
 
     ghost left_by_refusal = { λ x slot y.
-        Refuses (item_count (gathered x.storage.parts)) x.storage.standings slot.0 y.storage.standings };
+        Refuses (item_count (gathered x.storage.buckets)) x.storage.standings slot.0 y.storage.standings };
 
     ghost may_refuse = { λ x slot. is_reached x.storage.standings slot.0 };
 

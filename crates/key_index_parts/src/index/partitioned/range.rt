@@ -1,4 +1,4 @@
-//! Ranges of an index in partitions, over any kind of part.
+//! Ranges of an index in partitions, over any kind of bucket.
 ghost use Rattle.std.specs.Prelude.{◌≡◌, ◌+◌, ◌-◌, ◌<◌, ◌≤◌, ◌&&◌, [], ◌∷◌, length, IsTrue, IfOk, IfErr, OnOk, OnErr};
 ghost use Rattle.key_index_flat.specs.Content.{IsLawful, item_count};
 ghost use Rattle.key_index_flat.specs.Fault.{IsWant};
@@ -10,34 +10,34 @@ ghost use Rattle.key_index_parts.specs.Moves.{IsRangeWithin};
 ghost use Rattle.key_index_parts.specs.laws.RangeLaws.{shift};
 ghost use Rattle.key_index_parts.specs.Standing.{LeavesSome, Refuses, Settles, is_reached};
 
-use super::part::{Held, Part};
+use super::bucket::{Bucket, Held};
 use super::storage::Storage;
 use super::{PartitionRange, partition_index_and_sub_key};
 use key_index_flat::index::{Fault, IndexCursor, Refused, Runs, Search};
 use key_index_flat::translator::Translator;
 
-/// Some neighbouring partitions of an index, apart from it, with room for these alone. Its parts are numbered from
+/// Some neighbouring partitions of an index, apart from it, with room for these alone. Its buckets are numbered from
 /// 0, and its index keys are those of the index.
 #[derive(Drop)]
 pub struct Range<T: Translator, V: Drop, X: Held<T, V> + Drop, const P: usize> {
     pub(super) offset: usize,
     pub(super) storage: Storage<T, V, X, P>,
-    ghost is_range: { IsRange T.Key.cmp P offset storage.parts },
+    ghost is_range: { IsRange T.Key.cmp P offset storage.buckets },
     ghost within: { IsRangeWithin storage.standings storage.pruned },
 }
 
-impl<T: Translator, V: Drop, X: Part<T, V> + Drop, const P: usize> Range<T, V, X, P> {
+impl<T: Translator, V: Drop, X: Bucket<T, V> + Drop, const P: usize> Range<T, V, X, P> {
     ghost use Rattle.key_index_parts.specs.Range.{range_view};
 
     /// Whether the range covers a partition.
     #[inline]
     fn covers(&self, partition: usize) -> bool
-        ensures { result ≡ is_between self.now.offset (self.now.offset + length self.now.storage.parts) partition }
+        ensures { result ≡ is_between self.now.offset (self.now.offset + length self.now.storage.buckets) partition }
     {
         partition >= self.offset && partition - self.offset < self.storage.len()
     }
 
-    /// An index key by the numbers of the range's own parts.
+    /// An index key by the numbers of the range's own buckets.
     #[inline]
     fn own(&self, slot: (usize, T::Key)) -> (usize, T::Key)
         requires { self.now.offset ≤ slot.0 }
@@ -47,7 +47,7 @@ impl<T: Translator, V: Drop, X: Part<T, V> + Drop, const P: usize> Range<T, V, X
         (slot.0 - self.offset, slot.1)
     }
 
-    /// Spills the part of an index key if it has reached the threshold.
+    /// Spills the bucket of an index key if it has reached the threshold.
     fn settle(&mut self, slot: (usize, T::Key)) -> Result<(), Fault>
         requires { IsTrue ((range_view self.old).admitted slot) }
         ensures view { range_view self.new ≡ range_view self.old }
@@ -78,7 +78,7 @@ impl<T: Translator, V: Drop, X: Part<T, V> + Drop, const P: usize> Range<T, V, X
     }
 }
 
-impl<T: Translator, V: Drop, X: Part<T, V> + Drop, const P: usize> Runs for Range<T, V, X, P> {
+impl<T: Translator, V: Drop, X: Bucket<T, V> + Drop, const P: usize> Runs for Range<T, V, X, P> {
     ghost use Rattle.std.proofs.lemmas.Map.Lookups.{exact_pairs, exact_unsigned};
     ghost use Rattle.std.specs.Ordering.{nat_cmp};
     ghost use Rattle.key_index_parts.specs.laws.RangeLaws.{IsLawful-gathered_from};
@@ -89,10 +89,10 @@ impl<T: Translator, V: Drop, X: Part<T, V> + Drop, const P: usize> Runs for Rang
 
     ghost view = { λ range. view_from P T.translated range.offset range.storage };
 
-    ghost edited = { λ x y. IsSpanKept (λ range. range.offset) (λ range. length range.storage.parts) x y
+    ghost edited = { λ x y. IsSpanKept (λ range. range.offset) (λ range. length range.storage.buckets) x y
         × LeavesSome x.storage.standings y.storage.standings };
 
-    ghost lawful = { λ range. IsLawful-gathered_from T.Key.cmp range.offset range.storage.parts range.is_range.lawful };
+    ghost lawful = { λ range. IsLawful-gathered_from T.Key.cmp range.offset range.storage.buckets range.is_range.lawful };
 
     ghost exact = { exact_pairs nat_cmp T.Key.cmp exact_unsigned T.exact };
 
@@ -143,13 +143,13 @@ impl<T: Translator, V: Drop, X: Part<T, V> + Drop, const P: usize> Runs for Rang
     }
 }
 
-impl<T: Translator, V: Drop, X: Part<T, V> + Drop, const P: usize> Search for Range<T, V, X, P> {
-    ghost settled = { λ x slot y. IsSpanKept (λ range. range.offset) (λ range. length range.storage.parts) x y
+impl<T: Translator, V: Drop, X: Bucket<T, V> + Drop, const P: usize> Search for Range<T, V, X, P> {
+    ghost settled = { λ x slot y. IsSpanKept (λ range. range.offset) (λ range. length range.storage.buckets) x y
         × (IsTrue X.SPILLS → Settles x.storage.standings (slot.0 - x.offset) y.storage.standings) };
 
     ghost left_by_refusal = { λ x slot y.
-        IsSpanKept (λ range. range.offset) (λ range. length range.storage.parts) x y
-        × (IsTrue X.SPILLS → Refuses (item_count (gathered x.storage.parts)) x.storage.standings
+        IsSpanKept (λ range. range.offset) (λ range. length range.storage.buckets) x y
+        × (IsTrue X.SPILLS → Refuses (item_count (gathered x.storage.buckets)) x.storage.standings
         (slot.0 - x.offset) y.storage.standings) };
 
     ghost may_refuse = { λ x slot. X.SPILLS && is_reached x.storage.standings (slot.0 - x.offset) };
@@ -193,13 +193,13 @@ impl<T: Translator, V: Drop, X: Part<T, V> + Drop, const P: usize> Search for Ra
     }
 }
 
-impl<T: Translator, V: Drop, X: Part<T, V> + Drop, const P: usize> PartitionRange
+impl<T: Translator, V: Drop, X: Bucket<T, V> + Drop, const P: usize> PartitionRange
     for Range<T, V, X, P> {
     ghost use Rattle.key_index_parts.specs.laws.RangeLaws.{gathered_from-covers};
 
     ghost offset = { λ range. range.offset };
 
-    ghost count = { λ range. length range.storage.parts };
+    ghost count = { λ range. length range.storage.buckets };
 
     ghost edits_within = { λ _ _ h. h.0 };
 
@@ -207,7 +207,7 @@ impl<T: Translator, V: Drop, X: Part<T, V> + Drop, const P: usize> PartitionRang
 
     ghost refuses_within = { λ _ _ _ h. h.0 };
 
-    ghost covers = { λ range. gathered_from-covers T.Key.cmp range.offset range.storage.parts };
+    ghost covers = { λ range. gathered_from-covers T.Key.cmp range.offset range.storage.buckets };
 
     #[inline]
     fn holds(&self, key: &[u8]) -> bool {

@@ -1,5 +1,5 @@
-//! What an index over partitions keeps, over any kind of part. A call goes by slot: a part's number and a key of that part.
-ghost use Rattle.std.specs.Prelude.{◌≡◌, ◌↔◌, ℕ, ◌+◌, ◌<◌, ◌≤◌, ◌&&◌, IsTrue, nat_lt, [], ◌∷◌, length, slice_get, slice_set, insert, remove, Some, IfOk, IfErr, OnOk, OnErr};
+//! What an index over partitions keeps, over any kind of bucket. A call goes by slot: a bucket's number and a key of that bucket.
+ghost use Rattle.std.specs.Prelude.{◌≡◌, ◌↔◌, ℕ, ◌+◌, ◌<◌, ◌≤◌, ◌&&◌, IsTrue, false, nat_lt, [], ◌∷◌, length, slice_get, slice_set, insert, remove, Some, IfOk, IfErr, OnOk, OnErr};
 ghost use Rattle.std.specs.Bool.{Decides};
 ghost use Rattle.std.specs.Fn.{CalledAt};
 ghost use Rattle.key_index_flat.specs.Content.{IsLawful, item_count, key_count};
@@ -7,38 +7,39 @@ ghost use Rattle.key_index_flat.specs.Fault.{growth_fault, IsWant};
 ghost use Rattle.key_index_flat.specs.Neighbours.{first_list, last_list, next_list, prev_list};
 ghost use Rattle.key_index_flat.specs.View.{put_value, InsertsAndRetains, Retains};
 ghost use Rattle.key_index_flat.specs.Values.{VisitsEach, values_of};
-ghost use Rattle.key_index_parts.specs.Family.{AreCounted, KeepsRange, KeepsWithin, Kept, IsCounted, IsLeft, KeepsParts, Edits, Prunes, GrowsTo, SameContent, held_at, part_at, settled_at, view_of, view_from};
+ghost use Rattle.key_index_parts.specs.Family.{AreCounted, KeepsRange, Kept, IsCounted, IsLeft, KeepsBuckets, Edits, Prunes, GrowsTo, SameContent, held_at, bucket_at, settled_at, view_of, view_from};
 ghost use Rattle.key_index_parts.specs.Gathered.{gathered, pair_cmp};
 ghost use Rattle.key_index_parts.specs.Joined.{IsFree, is_between, joined_view};
-ghost use Rattle.key_index_parts.specs.Moves.{IsRangeWithin, entries_in};
+ghost use Rattle.key_index_parts.specs.Moves.{IsRangeWithin, IsWithin, entries_in};
 ghost use Rattle.key_index_parts.specs.Prefix.{partition_count, slot_by};
-ghost use Rattle.key_index_parts.specs.Standing.{Leaves, MovesBack, Resettles, Settles, entries_at, inline_len, is_reached, joined_standings, new_standings, spilled_in, standing_at};
+ghost use Rattle.key_index_parts.specs.Standing.{Leaves, MovesBack, Resettles, Settles, entries_at, inline_len, is_reached, joined_standings, new_standings, spilled_in, standing_at, standings_of};
 
+use super::bucket::{Bucket, Held, OrderedBucket};
 use super::counts::{Counts, Moves};
-use super::part::{Held, OrderedPart, Part};
+use super::directory::Directory;
 use super::partition_index_and_sub_key;
-use super::parts::Parts;
 use key_index_flat::index::implement::Retained;
 use key_index_flat::index::{Fault, Refused, Values};
 use key_index_flat::translator::Translator;
 use std::alloc::Global;
 use std::marker::Model;
 
-/// An index over `256^P` parts: a translator, the parts, the counts of them all, from how many values on a part spills, and the counts
-/// of spills and of moved values. Contracts see all of it but the counts of them all, which are those of what the parts hold.
+/// An index over `256^P` buckets: a translator, the buckets, the counts of them all, from how many values on a bucket spills, and the
+/// counts of spills and of moved values. Contracts see all of it but the counts of them all, which are those of what the buckets hold.
 ///
-/// A call by key spills its part first where that is due, and then does its edit in the part as it stands. The edits alone, without
+/// A call by key spills its bucket first where that is due, and then does its edit in the bucket as it stands. The edits alone, without
 /// that, are `set_at`, `insert_at` and `remove_at` for cursors, and what the calls by key are made of: `put`, `put_absent`,
-/// `put_and_retain`, `retain_in_part` and `take`. The calls that take values out move a part that they leave small back to arrays last.
+/// `put_and_retain`, `retain_in_bucket` and `take`. The calls that remove values move a bucket that they leave small back to arrays last.
 #[derive(Drop)]
 pub(super) struct Storage<T: Translator, V, X: Held<T, V>, const P: usize> {
     translator: T,
-    parts: Parts<T, V, X>,
+    buckets: Directory<T, V, X>,
     counts: Counts,
     threshold: usize,
     moves: Moves,
     ghost least: { 1 ≤ threshold },
-    ghost told: { AreCounted parts.contents parts.standing },
+    ghost told: { AreCounted buckets.contents buckets.standing },
+    ghost within: { IsWithin (standings_of threshold buckets.standing moves.spills moves.moved) counts.pruned },
 }
 
 impl<T: Translator, V, X: Held<T, V>, const P: usize> Model for Storage<T, V, X, P> {
@@ -46,21 +47,16 @@ impl<T: Translator, V, X: Held<T, V>, const P: usize> Model for Storage<T, V, X,
 
     ghost view = { λ s. record {
       translator = s.translator;
-      parts = s.parts.contents;
+      buckets = s.buckets.contents;
       pruned = s.counts.pruned;
-      standings = record {
-        threshold = s.threshold;
-        parts = s.parts.standing;
-        spills = s.moves.spills;
-        moved = s.moves.moved;
-      };
+      standings = standings_of s.threshold s.buckets.standing s.moves.spills s.moves.moved;
     } };
 
-    ghost invariant = { λ s. IsCounted T.Key.cmp P s.parts.contents s.counts.items s.counts.keys };
+    ghost invariant = { λ s. IsCounted T.Key.cmp P s.buckets.contents s.counts.items s.counts.keys };
 }
 
-impl<T: Translator, V: Drop, X: Part<T, V> + Drop, const P: usize> Storage<T, V, X, P> {
-    /// Takes the room of so many parts at once, and answers `Memory` where that is refused.
+impl<T: Translator, V: Drop, X: Bucket<T, V> + Drop, const P: usize> Storage<T, V, X, P> {
+    /// Takes the room of so many buckets at once, and answers `Memory` where that is refused.
     pub(super) fn new(
         alloc: Global,
         translator: T,
@@ -72,17 +68,17 @@ impl<T: Translator, V: Drop, X: Part<T, V> + Drop, const P: usize> Storage<T, V,
         requires threshold { 1 ≤ threshold }
         requires count { count ≤ partition_count P }
         ensures translator { IfOk result (λ s. s.translator ≡ translator) }
-        ensures sized { IfOk result (λ s. length s.parts ≡ count) }
-        ensures content { IfOk result (λ s. gathered s.parts ≡ []) }
-        ensures lawful { IfOk result (λ s. IsLawful (pair_cmp T.Key.cmp) (gathered s.parts)) }
+        ensures sized { IfOk result (λ s. length s.buckets ≡ count) }
+        ensures content { IfOk result (λ s. gathered s.buckets ≡ []) }
+        ensures lawful { IfOk result (λ s. IsLawful (pair_cmp T.Key.cmp) (gathered s.buckets)) }
         ensures pruned { IfOk result (λ s. s.pruned ≡ 0) }
         ensures standing { IfOk result (λ s. s.standings ≡ new_standings threshold count) }
         ensures fault { IfErr result (λ fault. fault ≡ Fault.Memory) }
     {
-        match Parts::new(alloc, translator, count) {
-            Ok(parts) => Ok(Storage {
+        match Directory::new(alloc, translator, count) {
+            Ok(buckets) => Ok(Storage {
                 translator,
-                parts,
+                buckets,
                 counts: Counts {
                     items: 0,
                     keys: 0,
@@ -98,95 +94,105 @@ impl<T: Translator, V: Drop, X: Part<T, V> + Drop, const P: usize> Storage<T, V,
         }
     }
 
-    /// Another one with the same translator and threshold, over so many parts that hold nothing. Takes their room at once.
+    /// Another one with the same translator and threshold, over so many buckets that hold nothing. Takes their room at once.
     pub(super) fn new_range(&self, count: usize) -> Result<Storage<T, V, X, P>, Fault>
         requires { count ≤ partition_count P }
         ensures translator { IfOk result (λ s. s.translator ≡ self.now.translator) }
-        ensures sized { IfOk result (λ s. length s.parts ≡ count) }
-        ensures content { IfOk result (λ s. gathered s.parts ≡ []) }
-        ensures lawful { IfOk result (λ s. IsLawful (pair_cmp T.Key.cmp) (gathered s.parts)) }
+        ensures sized { IfOk result (λ s. length s.buckets ≡ count) }
+        ensures content { IfOk result (λ s. gathered s.buckets ≡ []) }
+        ensures lawful { IfOk result (λ s. IsLawful (pair_cmp T.Key.cmp) (gathered s.buckets)) }
         ensures pruned { IfOk result (λ s. s.pruned ≡ 0) }
         ensures standing { IfOk result (λ s. s.standings ≡ new_standings self.now.standings.threshold count) }
         ensures fault { IfErr result (λ fault. fault ≡ Fault.Memory) }
     {
-        Storage::new(self.parts.alloc(), self.translator, count, self.threshold)
+        Storage::new(self.buckets.alloc(), self.translator, count, self.threshold)
     }
 
-    /// How many parts there are.
+    /// How many buckets there are.
     #[inline]
     pub(super) fn len(&self) -> usize
-        ensures { result ≡ length self.now.parts }
+        ensures { result ≡ length self.now.buckets }
     {
-        self.parts.len()
+        self.buckets.len()
     }
 
-    /// Whether none of so many parts from a number on holds anything.
+    /// Whether none of so many buckets from a number on holds anything.
     pub(super) fn is_free(&self, first: usize, count: usize) -> bool
         ensures { IsTrue result ↔ IsFree (pair_cmp T.Key.cmp) (λ slot. is_between first (first + count) slot.0)
-            (gathered self.now.parts) }
+            (gathered self.now.buckets) }
     {
-        self.parts.is_free(first, count)
+        self.buckets.is_free(first, count)
+    }
+
+    /// Whether it holds as many values as it can.
+    #[inline]
+    fn is_full(&self) -> bool
+        ensures full { IsTrue result → item_count (gathered self.now.buckets) ≡ usize.MAX }
+        ensures room { result ≡ false → item_count (gathered self.now.buckets) < usize.MAX }
+        ensures kept { KeepsBuckets T.Key.cmp self.now.buckets self.now.buckets }
+    {
+        self.counts.items == usize::MAX
     }
 
     /// Whether it can hold the values of a range beside its own.
     pub(super) fn has_room(&self, range: &Storage<T, V, X, P>) -> bool
         ensures { Decides result
-            (item_count (gathered self.now.parts) + item_count (gathered range.now.parts) ≤ usize.MAX) }
+            (item_count (gathered self.now.buckets) + item_count (gathered range.now.buckets) ≤ usize.MAX) }
     {
         range.counts.items <= usize::MAX - self.counts.items
     }
 
-    /// Puts the parts of a range, as they stand, in the place of those from a number on, which hold nothing, and adds its counts.
+    /// Puts the buckets of a range, as they stand, in the place of those from a number on, which hold nothing, and adds its counts.
     pub(super) fn install(&mut self, first: usize, range: Storage<T, V, X, P>)
-        requires fits { first + length range.parts ≤ length self.old.parts }
+        requires fits { first + length range.buckets ≤ length self.old.buckets }
         requires free { IsFree (pair_cmp T.Key.cmp) (view_from P T.translated first range).admitted
-            (gathered self.old.parts) }
-        requires room { item_count (gathered self.old.parts) + item_count (gathered range.parts) ≤ usize.MAX }
+            (gathered self.old.buckets) }
+        requires room { item_count (gathered self.old.buckets) + item_count (gathered range.buckets) ≤ usize.MAX }
+        requires within { IsRangeWithin range.standings range.pruned }
         ensures joined { view_of P T.translated self.new ≡ joined_view (pair_cmp T.Key.cmp)
             (view_of P T.translated self.old) (view_from P T.translated first range) }
-        ensures kept { KeepsParts T.Key.cmp self.old.parts self.new.parts }
+        ensures kept { KeepsBuckets T.Key.cmp self.old.buckets self.new.buckets }
         ensures standing { self.new.standings ≡ joined_standings self.old.standings first range.standings }
-        ensures bound { IsRangeWithin range.standings range.pruned → KeepsWithin self.old self.new }
     {
         self.counts.join(range.counts);
         self.moves.join(range.moves);
-        self.parts.install(first, range.parts);
+        self.buckets.install(first, range.buckets);
     }
 
     /// Visits each value once, in no certain order.
     pub(super) fn for_each_value<F: FnMut(&V)>(&self, visit: &mut F)
         requires { F.IsAlwaysCallable visit.old }
-        ensures { VisitsEach (CalledAt F.FnMut) visit.old (values_of (gathered self.now.parts)) visit.new }
+        ensures { VisitsEach (CalledAt F.FnMut) visit.old (values_of (gathered self.now.buckets)) visit.new }
     {
-        self.parts.for_each_value(visit);
+        self.buckets.for_each_value(visit);
     }
 
-    /// How many values a spill of a part would move.
+    /// How many values a spill of a bucket would move.
     #[inline]
     pub(super) fn inline_len(&self, number: usize) -> usize
-        requires { number < length self.now.parts }
+        requires { number < length self.now.buckets }
         ensures len { IsTrue X.SPILLS → result ≡ inline_len self.now.standings number }
-        ensures entries { entries_at self.now.standings number ≡ item_count (part_at self.now.parts number) }
-        ensures listed { number < length self.now.standings.parts }
+        ensures entries { entries_at self.now.standings number ≡ item_count (bucket_at self.now.buckets number) }
+        ensures listed { number < length self.now.standings.buckets }
     {
-        self.parts.inline_len(number)
+        self.buckets.inline_len(number)
     }
 
     #[inline]
     pub(super) fn is_spilled(&self, number: usize) -> bool
-        requires { number < length self.now.parts }
+        requires { number < length self.now.buckets }
         ensures spilled { result ≡ (standing_at self.now.standings number).spilled }
-        ensures filled { IsTrue result → 0 < item_count (part_at self.now.parts number) }
-        ensures listed { number < length self.now.standings.parts }
+        ensures filled { IsTrue result → 0 < item_count (bucket_at self.now.buckets number) }
+        ensures listed { number < length self.now.standings.buckets }
     {
-        self.parts.is_spilled(number)
+        self.buckets.is_spilled(number)
     }
 
-    /// How many parts are spilled. It looks at each.
+    /// How many buckets are spilled. It looks at each.
     pub(super) fn spilled_count(&self) -> usize
-        ensures { result ≡ spilled_in self.now.standings.parts }
+        ensures { result ≡ spilled_in self.now.standings.buckets }
     {
-        self.parts.spilled_count()
+        self.buckets.spilled_count()
     }
 
     #[inline]
@@ -207,27 +213,27 @@ impl<T: Translator, V: Drop, X: Part<T, V> + Drop, const P: usize> Storage<T, V,
     #[inline]
     pub(super) fn moved(&self) -> u64
         ensures count { result ≡ self.now.standings.moved }
-        ensures entries { entries_in self.now.standings ≡ item_count (gathered self.now.parts) }
+        ensures entries { entries_in self.now.standings ≡ item_count (gathered self.now.buckets) }
+        ensures bound { IsWithin self.now.standings self.now.pruned }
     {
         self.moves.moved
     }
 
-    /// Spills a part that has reached the threshold.
+    /// Spills a bucket that has reached the threshold.
     #[inline]
     pub(super) fn settle(&mut self, number: usize) -> Result<(), Fault>
-        requires { number < length self.old.parts }
+        requires { number < length self.old.buckets }
         ensures settled { OnOk result (self.new ≡ settled_at X.SPILLS self.old number) }
         ensures settles { OnOk result (IsTrue X.SPILLS → Settles self.old.standings number self.new.standings) }
         ensures same { SameContent self.old self.new }
         ensures refused { OnErr result (self.new ≡ self.old) }
         ensures want { IfErr result (λ f. IsWant f (X.SPILLS && is_reached self.old.standings number)) }
-        ensures kept { KeepsParts T.Key.cmp self.old.parts self.new.parts }
-        ensures within { number < length self.old.standings.parts }
+        ensures kept { KeepsBuckets T.Key.cmp self.old.buckets self.new.buckets }
+        ensures within { number < length self.old.standings.buckets }
         ensures least { 1 ≤ self.old.standings.threshold }
-        ensures bound { KeepsWithin self.old self.new }
         ensures range_bound { KeepsRange self.old self.new }
     {
-        match self.parts.settle(number, self.threshold) {
+        match self.buckets.settle(number, self.threshold) {
             Ok(moved) => {
                 self.moves.spill(moved);
                 Ok(())
@@ -236,16 +242,15 @@ impl<T: Translator, V: Drop, X: Part<T, V> + Drop, const P: usize> Storage<T, V,
         }
     }
 
-    /// Moves a part that is small back to arrays, where there is memory for it.
+    /// Moves a bucket that is small back to arrays, where there is memory for it.
     #[inline]
     fn move_back(&mut self, number: usize)
-        requires { number < length self.old.parts }
+        requires { number < length self.old.buckets }
         ensures back { MovesBack self.old.standings number self.new.standings }
         ensures same { SameContent self.old self.new }
-        ensures kept { KeepsParts T.Key.cmp self.old.parts self.new.parts }
-        ensures bound { KeepsWithin self.old self.new }
+        ensures kept { KeepsBuckets T.Key.cmp self.old.buckets self.new.buckets }
     {
-        let moved = self.parts.move_back(number, self.threshold);
+        let moved = self.buckets.move_back(number, self.threshold);
         self.moves.move_back(moved);
     }
 
@@ -259,61 +264,60 @@ impl<T: Translator, V: Drop, X: Part<T, V> + Drop, const P: usize> Storage<T, V,
         (number, translator.transform(sub_key))
     }
 
-    /// Whether there is a part for the slot.
+    /// Whether there is a bucket for the slot.
     #[inline]
     pub(super) fn admits(&self, slot: (usize, T::Key)) -> bool
-        ensures { result ≡ nat_lt slot.0 (length self.now.parts) }
+        ensures { result ≡ nat_lt slot.0 (length self.now.buckets) }
     {
-        slot.0 < self.parts.len()
+        slot.0 < self.buckets.len()
     }
 
-    /// Where the parts take their memory.
+    /// Where the buckets take their memory.
     #[inline]
     pub(super) fn alloc(&self) -> Global {
-        self.parts.alloc()
+        self.buckets.alloc()
     }
 
     #[inline(always)]
     pub(super) fn run_len(&self, slot: (usize, T::Key)) -> usize
-        ensures { result ≡ length (held_at T.Key.cmp self.now.parts slot) }
+        ensures { result ≡ length (held_at T.Key.cmp self.now.buckets slot) }
     {
-        self.parts.run_len(slot)
+        self.buckets.run_len(slot)
     }
 
     #[inline(always)]
     pub(super) fn value_at(&self, slot: (usize, T::Key), place: usize) -> &V
-        requires { place < length (held_at T.Key.cmp self.now.parts slot) }
-        ensures { slice_get (held_at T.Key.cmp self.now.parts slot) place ≡ Some result.now }
+        requires { place < length (held_at T.Key.cmp self.now.buckets slot) }
+        ensures { slice_get (held_at T.Key.cmp self.now.buckets slot) place ≡ Some result.now }
     {
-        self.parts.value_at(slot, place)
+        self.buckets.value_at(slot, place)
     }
 
-    /// The list at a slot, empty where there is no part for it.
+    /// The list at a slot, empty where there is no bucket for it.
     #[inline]
     pub(super) fn list_at(&self, slot: (usize, T::Key)) -> Values<'_, V>
-        ensures { result ≡ held_at T.Key.cmp self.now.parts slot }
+        ensures { result ≡ held_at T.Key.cmp self.now.buckets slot }
     {
-        self.parts.list_at(slot)
+        self.buckets.list_at(slot)
     }
 
     #[inline(always)]
     pub(super) fn get(&self, slot: (usize, T::Key)) -> Values<'_, V>
-        requires { slot.0 < length self.now.parts }
-        ensures { result ≡ held_at T.Key.cmp self.now.parts slot }
+        requires { slot.0 < length self.now.buckets }
+        ensures { result ≡ held_at T.Key.cmp self.now.buckets slot }
     {
-        self.parts.get(slot)
+        self.buckets.get(slot)
     }
 
     #[inline]
     pub(super) fn set_at(&mut self, slot: (usize, T::Key), place: usize, value: V)
-        requires { place < length (held_at T.Key.cmp self.old.parts slot) }
+        requires { place < length (held_at T.Key.cmp self.old.buckets slot) }
         ensures edited { Edits T.Key.cmp P T.translated self.old slot (λ l. slice_set l place value) self.new }
         ensures standing { Leaves self.old.standings slot.0 self.new.standings }
-        ensures kept { KeepsParts T.Key.cmp self.old.parts self.new.parts }
-        ensures bound { KeepsWithin self.old self.new }
+        ensures kept { KeepsBuckets T.Key.cmp self.old.buckets self.new.buckets }
         ensures range_bound { KeepsRange self.old self.new }
     {
-        self.parts.set_at(slot, place, value);
+        self.buckets.set_at(slot, place, value);
     }
 
     pub(super) fn insert_at(
@@ -322,23 +326,22 @@ impl<T: Translator, V: Drop, X: Part<T, V> + Drop, const P: usize> Storage<T, V,
         place: usize,
         value: V,
     ) -> Result<(), Refused<V>>
-        requires admits { slot.0 < length self.old.parts }
-        requires place { place ≤ length (held_at T.Key.cmp self.old.parts slot) }
+        requires admits { slot.0 < length self.old.buckets }
+        requires place { place ≤ length (held_at T.Key.cmp self.old.buckets slot) }
         ensures accepted { OnOk result (
             Edits T.Key.cmp P T.translated self.old slot (λ l. insert l place value) self.new) }
         ensures standing { OnOk result (Leaves self.old.standings slot.0 self.new.standings) }
-        ensures room { OnOk result (item_count (gathered self.old.parts) < usize.MAX) }
+        ensures room { OnOk result (item_count (gathered self.old.buckets) < usize.MAX) }
         ensures refused { OnErr result (self.new ≡ self.old) }
-        ensures kept { KeepsParts T.Key.cmp self.old.parts self.new.parts }
+        ensures kept { KeepsBuckets T.Key.cmp self.old.buckets self.new.buckets }
         ensures returned { IfErr result (λ r. r.value ≡ value) }
-        ensures fault { IfErr result (λ r. r.fault ≡ growth_fault (item_count (gathered self.old.parts))) }
-        ensures bound { KeepsWithin self.old self.new }
+        ensures fault { IfErr result (λ r. r.fault ≡ growth_fault (item_count (gathered self.old.buckets))) }
         ensures range_bound { KeepsRange self.old self.new }
     {
-        if self.counts.items == usize::MAX {
+        if self.is_full() {
             return Err(Refused::full(value));
         }
-        match self.parts.insert_at(slot, place, value) {
+        match self.buckets.insert_at(slot, place, value) {
             Ok(absent) => {
                 self.counts.gain(absent);
                 Ok(())
@@ -348,35 +351,33 @@ impl<T: Translator, V: Drop, X: Part<T, V> + Drop, const P: usize> Storage<T, V,
     }
 
     pub(super) fn remove_at(&mut self, slot: (usize, T::Key), place: usize) -> V
-        requires { place < length (held_at T.Key.cmp self.old.parts slot) }
-        ensures value { slice_get (held_at T.Key.cmp self.old.parts slot) place ≡ Some result }
+        requires { place < length (held_at T.Key.cmp self.old.buckets slot) }
+        ensures value { slice_get (held_at T.Key.cmp self.old.buckets slot) place ≡ Some result }
         ensures edited { Prunes T.Key.cmp P T.translated self.old slot (λ l. remove l place) 1 self.new }
         ensures standing { Leaves self.old.standings slot.0 self.new.standings }
-        ensures kept { KeepsParts T.Key.cmp self.old.parts self.new.parts }
-        ensures bound { KeepsWithin self.old self.new }
+        ensures kept { KeepsBuckets T.Key.cmp self.old.buckets self.new.buckets }
         ensures range_bound { KeepsRange self.old self.new }
     {
-        let (value, left) = self.parts.remove_at(slot, place);
+        let (value, left) = self.buckets.remove_at(slot, place);
         let had = left + 1;
         let taken = 1;
         self.counts.change(Retained { had, left, taken });
         value
     }
 
-    /// Puts a value in at its end of a slot's list, in its part as that stands, which spills where it is left with `threshold` values or
+    /// Puts a value in at its end of a slot's list, in its bucket as that stands, which spills where it is left with `threshold` values or
     /// more.
     fn put(&mut self, slot: (usize, T::Key), value: V) -> Result<(), V>
-        requires within { slot.0 < length self.old.parts }
-        requires room { item_count (gathered self.old.parts) < usize.MAX }
+        requires within { slot.0 < length self.old.buckets }
+        requires room { item_count (gathered self.old.buckets) < usize.MAX }
         ensures accepted { OnOk result (
             Edits T.Key.cmp P T.translated self.old slot (put_value X.FIRST value) self.new) }
         ensures standing { OnOk result (GrowsTo X.SPILLS self.old slot.0 self.new) }
         ensures refused { OnErr result (self.new ≡ self.old) }
-        ensures kept { KeepsParts T.Key.cmp self.old.parts self.new.parts }
+        ensures kept { KeepsBuckets T.Key.cmp self.old.buckets self.new.buckets }
         ensures returned { IfErr result (λ back. back ≡ value) }
-        ensures bound { KeepsWithin self.old self.new }
     {
-        match self.parts.insert(slot, value, self.threshold) {
+        match self.buckets.insert(slot, value, self.threshold) {
             Ok((absent, moved)) => {
                 self.counts.gain(absent);
                 self.moves.spill(moved);
@@ -386,23 +387,22 @@ impl<T: Translator, V: Drop, X: Part<T, V> + Drop, const P: usize> Storage<T, V,
         }
     }
 
-    /// Puts a value under a slot that has none, in its part as that stands, which spills as in `put`, and tells how many values the slot
+    /// Puts a value under a slot that has none, in its bucket as that stands, which spills as in `put`, and tells how many values the slot
     /// had.
     fn put_absent(&mut self, slot: (usize, T::Key), value: V) -> Result<usize, V>
-        requires within { slot.0 < length self.old.parts }
-        requires room { item_count (gathered self.old.parts) < usize.MAX }
+        requires within { slot.0 < length self.old.buckets }
+        requires room { item_count (gathered self.old.buckets) < usize.MAX }
         ensures found { IfOk result (λ n. 0 < n → self.new ≡ self.old) }
         ensures inserted { IfOk result (λ n. n ≡ 0 →
             Edits T.Key.cmp P T.translated self.old slot (λ _. value ∷ []) self.new) }
         ensures standing { IfOk result (λ n. n ≡ 0 → GrowsTo X.SPILLS self.old slot.0 self.new) }
-        ensures len { IfOk result (λ n. n ≡ length (held_at T.Key.cmp self.old.parts slot)) }
+        ensures len { IfOk result (λ n. n ≡ length (held_at T.Key.cmp self.old.buckets slot)) }
         ensures refused { OnErr result (self.new ≡ self.old) }
-        ensures kept { KeepsParts T.Key.cmp self.old.parts self.new.parts }
+        ensures kept { KeepsBuckets T.Key.cmp self.old.buckets self.new.buckets }
         ensures returned { IfErr result (λ back. back ≡ value) }
-        ensures bound { KeepsWithin self.old self.new }
         ensures range_bound { KeepsRange self.old self.new }
     {
-        match self.parts.insert_absent(slot, value, self.threshold) {
+        match self.buckets.insert_absent(slot, value, self.threshold) {
             Ok((0, moved)) => {
                 self.counts.gain(true);
                 self.moves.spill(moved);
@@ -413,27 +413,26 @@ impl<T: Translator, V: Drop, X: Part<T, V> + Drop, const P: usize> Storage<T, V,
         }
     }
 
-    /// Puts a value in behind those of a slot, asks once on each of them, in list order, and takes out those that are answered false, in
-    /// its part as that stands, which spills as in `put`.
+    /// Puts a value in behind those of a slot, calls the closure once for each of them, in list order, and removes those for which it
+    /// returns false, in its bucket as that stands, which spills as in `put`.
     fn put_and_retain<F: FnMut(&V) -> bool>(
         &mut self,
         slot: (usize, T::Key),
         value: V,
         should_retain: F,
     ) -> Result<(), V>
-        requires within { slot.0 < length self.old.parts }
-        requires room { item_count (gathered self.old.parts) < usize.MAX }
+        requires within { slot.0 < length self.old.buckets }
+        requires room { item_count (gathered self.old.buckets) < usize.MAX }
         requires callable { F.IsAlwaysCallable should_retain }
         ensures accepted { OnOk result ((taken : ℕ) × InsertsAndRetains (pair_cmp T.Key.cmp) (CalledAt F.FnMut)
             should_retain (view_of P T.translated self.old) slot value taken (view_of P T.translated self.new)) }
         ensures standing { OnOk result (GrowsTo X.SPILLS self.old slot.0 self.new) }
         ensures refused { OnErr result (self.new ≡ self.old) }
-        ensures kept { KeepsParts T.Key.cmp self.old.parts self.new.parts }
+        ensures kept { KeepsBuckets T.Key.cmp self.old.buckets self.new.buckets }
         ensures returned { IfErr result (λ back. back ≡ value) }
-        ensures bound { KeepsWithin self.old self.new }
     {
         match self
-            .parts
+            .buckets
             .insert_and_retain(slot, value, should_retain, self.threshold)
         {
             Ok((told, moved)) => {
@@ -445,33 +444,32 @@ impl<T: Translator, V: Drop, X: Part<T, V> + Drop, const P: usize> Storage<T, V,
         }
     }
 
-    /// Asks once on each value of a slot, in list order, and takes out those that are answered false, in its part as that stands.
-    fn retain_in_part<F: FnMut(&V) -> bool>(&mut self, slot: (usize, T::Key), should_retain: F)
-        requires within { slot.0 < length self.old.parts }
+    /// Calls the closure once for each value of a slot, in list order, and removes those for which it returns false, in its bucket as that
+    /// stands.
+    fn retain_in_bucket<F: FnMut(&V) -> bool>(&mut self, slot: (usize, T::Key), should_retain: F)
+        requires within { slot.0 < length self.old.buckets }
         requires callable { F.IsAlwaysCallable should_retain }
         ensures retained { Retains (pair_cmp T.Key.cmp) (CalledAt F.FnMut) should_retain
             (view_of P T.translated self.old) slot (view_of P T.translated self.new) }
         ensures standing { Leaves self.old.standings slot.0 self.new.standings }
         ensures fewer { entries_at self.new.standings slot.0 ≤ entries_at self.old.standings slot.0 }
-        ensures kept { KeepsParts T.Key.cmp self.old.parts self.new.parts }
-        ensures bound { KeepsWithin self.old self.new }
+        ensures kept { KeepsBuckets T.Key.cmp self.old.buckets self.new.buckets }
     {
-        let (had, left) = self.parts.retain(slot, should_retain);
+        let (had, left) = self.buckets.retain(slot, should_retain);
         let taken = had - left;
         self.counts.change(Retained { had, left, taken });
     }
 
-    /// Takes a slot out, in its part as that stands.
+    /// Removes a slot, in its bucket as that stands.
     fn take(&mut self, slot: (usize, T::Key))
-        requires { slot.0 < length self.old.parts }
+        requires { slot.0 < length self.old.buckets }
         ensures removed { Prunes T.Key.cmp P T.translated self.old slot (λ _. [])
-            (length (held_at T.Key.cmp self.old.parts slot)) self.new }
+            (length (held_at T.Key.cmp self.old.buckets slot)) self.new }
         ensures standing { Leaves self.old.standings slot.0 self.new.standings }
         ensures fewer { entries_at self.new.standings slot.0 ≤ entries_at self.old.standings slot.0 }
-        ensures kept { KeepsParts T.Key.cmp self.old.parts self.new.parts }
-        ensures bound { KeepsWithin self.old self.new }
+        ensures kept { KeepsBuckets T.Key.cmp self.old.buckets self.new.buckets }
     {
-        let had = self.parts.remove(slot);
+        let had = self.buckets.remove(slot);
         let left = 0;
         let taken = had;
         self.counts.change(Retained { had, left, taken });
@@ -479,19 +477,18 @@ impl<T: Translator, V: Drop, X: Part<T, V> + Drop, const P: usize> Storage<T, V,
 
     /// Puts a value in at its end of a slot's list.
     pub(super) fn insert(&mut self, slot: (usize, T::Key), value: V) -> Result<(), Refused<V>>
-        requires { slot.0 < length self.old.parts }
+        requires { slot.0 < length self.old.buckets }
         ensures accepted { OnOk result (
             Edits T.Key.cmp P T.translated self.old slot (put_value X.FIRST value) self.new) }
         ensures settled { OnOk result (IsTrue X.SPILLS → Settles self.old.standings slot.0 self.new.standings) }
-        ensures room { OnOk result (item_count (gathered self.old.parts) < usize.MAX) }
+        ensures room { OnOk result (item_count (gathered self.old.buckets) < usize.MAX) }
         ensures refused { OnErr result (SameContent self.old self.new) }
         ensures left { OnErr result (IsLeft X.SPILLS self.old slot.0 self.new) }
-        ensures kept { KeepsParts T.Key.cmp self.old.parts self.new.parts }
+        ensures kept { KeepsBuckets T.Key.cmp self.old.buckets self.new.buckets }
         ensures returned { IfErr result (λ r. r.value ≡ value) }
-        ensures fault { IfErr result (λ r. r.fault ≡ growth_fault (item_count (gathered self.old.parts))) }
-        ensures bound { KeepsWithin self.old self.new }
+        ensures fault { IfErr result (λ r. r.fault ≡ growth_fault (item_count (gathered self.old.buckets))) }
     {
-        if self.counts.items == usize::MAX {
+        if self.is_full() {
             return Err(Refused::full(value));
         }
         let Ok(()) = self.settle(slot.0) else {
@@ -509,22 +506,21 @@ impl<T: Translator, V: Drop, X: Part<T, V> + Drop, const P: usize> Storage<T, V,
         slot: (usize, T::Key),
         value: V,
     ) -> Result<usize, Refused<V>>
-        requires { slot.0 < length self.old.parts }
+        requires { slot.0 < length self.old.buckets }
         ensures found { IfOk result (λ n. 0 < n → SameContent self.old self.new) }
         ensures inserted { IfOk result (λ n. n ≡ 0 →
             Edits T.Key.cmp P T.translated self.old slot (λ _. value ∷ []) self.new) }
         ensures settled { OnOk result (IsTrue X.SPILLS → Settles self.old.standings slot.0 self.new.standings) }
-        ensures len { IfOk result (λ n. n ≡ length (held_at T.Key.cmp self.old.parts slot)) }
-        ensures room { OnOk result (item_count (gathered self.old.parts) < usize.MAX) }
+        ensures len { IfOk result (λ n. n ≡ length (held_at T.Key.cmp self.old.buckets slot)) }
+        ensures room { OnOk result (item_count (gathered self.old.buckets) < usize.MAX) }
         ensures refused { OnErr result (SameContent self.old self.new) }
         ensures left { OnErr result (IsLeft X.SPILLS self.old slot.0 self.new) }
-        ensures kept { KeepsParts T.Key.cmp self.old.parts self.new.parts }
+        ensures kept { KeepsBuckets T.Key.cmp self.old.buckets self.new.buckets }
         ensures returned { IfErr result (λ r. r.value ≡ value) }
-        ensures fault { IfErr result (λ r. r.fault ≡ growth_fault (item_count (gathered self.old.parts))) }
-        ensures bound { KeepsWithin self.old self.new }
+        ensures fault { IfErr result (λ r. r.fault ≡ growth_fault (item_count (gathered self.old.buckets))) }
         ensures range_bound { KeepsRange self.old self.new }
     {
-        if self.counts.items == usize::MAX {
+        if self.is_full() {
             return Err(Refused::full(value));
         }
         let Ok(()) = self.settle(slot.0) else {
@@ -536,27 +532,27 @@ impl<T: Translator, V: Drop, X: Part<T, V> + Drop, const P: usize> Storage<T, V,
         }
     }
 
-    /// Puts a value in behind those of a slot, asks once on each of them, in list order, and takes out those that are answered false.
+    /// Puts a value in behind those of a slot, calls the closure once for each of them, in list order, and removes those for which it
+    /// returns false.
     pub(super) fn insert_and_retain<F: FnMut(&V) -> bool>(
         &mut self,
         slot: (usize, T::Key),
         value: V,
         should_retain: F,
     ) -> Result<(), Refused<V>>
-        requires within { slot.0 < length self.old.parts }
+        requires within { slot.0 < length self.old.buckets }
         requires callable { F.IsAlwaysCallable should_retain }
         ensures accepted { OnOk result ((taken : ℕ) × InsertsAndRetains (pair_cmp T.Key.cmp) (CalledAt F.FnMut)
             should_retain (view_of P T.translated self.old) slot value taken (view_of P T.translated self.new)) }
         ensures settled { OnOk result (IsTrue X.SPILLS → Resettles self.old.standings slot.0 self.new.standings) }
-        ensures room { OnOk result (item_count (gathered self.old.parts) < usize.MAX) }
+        ensures room { OnOk result (item_count (gathered self.old.buckets) < usize.MAX) }
         ensures refused { OnErr result (SameContent self.old self.new) }
         ensures left { OnErr result (IsLeft X.SPILLS self.old slot.0 self.new) }
-        ensures kept { KeepsParts T.Key.cmp self.old.parts self.new.parts }
+        ensures kept { KeepsBuckets T.Key.cmp self.old.buckets self.new.buckets }
         ensures returned { IfErr result (λ r. r.value ≡ value) }
-        ensures fault { IfErr result (λ r. r.fault ≡ growth_fault (item_count (gathered self.old.parts))) }
-        ensures bound { KeepsWithin self.old self.new }
+        ensures fault { IfErr result (λ r. r.fault ≡ growth_fault (item_count (gathered self.old.buckets))) }
     {
-        if self.counts.items == usize::MAX {
+        if self.is_full() {
             return Err(Refused::full(value));
         }
         let Ok(()) = self.settle(slot.0) else {
@@ -571,25 +567,24 @@ impl<T: Translator, V: Drop, X: Part<T, V> + Drop, const P: usize> Storage<T, V,
         }
     }
 
-    /// Asks once on each value of a slot, in list order, and takes out those that are answered false.
+    /// Calls the closure once for each value of a slot, in list order, and removes those for which it returns false.
     pub(super) fn retain<F: FnMut(&V) -> bool>(
         &mut self,
         slot: (usize, T::Key),
         should_retain: F,
     ) -> Result<(), Fault>
-        requires within { slot.0 < length self.old.parts }
+        requires within { slot.0 < length self.old.buckets }
         requires callable { F.IsAlwaysCallable should_retain }
         ensures retained { OnOk result (Retains (pair_cmp T.Key.cmp) (CalledAt F.FnMut) should_retain
             (view_of P T.translated self.old) slot (view_of P T.translated self.new)) }
         ensures settled { OnOk result (IsTrue X.SPILLS → Resettles self.old.standings slot.0 self.new.standings) }
         ensures refused { OnErr result (self.new ≡ self.old) }
         ensures want { IfErr result (λ f. IsWant f (X.SPILLS && is_reached self.old.standings slot.0)) }
-        ensures kept { KeepsParts T.Key.cmp self.old.parts self.new.parts }
-        ensures bound { KeepsWithin self.old self.new }
+        ensures kept { KeepsBuckets T.Key.cmp self.old.buckets self.new.buckets }
     {
         match self.settle(slot.0) {
             Ok(()) => {
-                self.retain_in_part(slot, should_retain);
+                self.retain_in_bucket(slot, should_retain);
                 self.move_back(slot.0);
                 Ok(())
             }
@@ -597,16 +592,15 @@ impl<T: Translator, V: Drop, X: Part<T, V> + Drop, const P: usize> Storage<T, V,
         }
     }
 
-    /// Takes a slot out.
+    /// Removes a slot.
     pub(super) fn remove(&mut self, slot: (usize, T::Key)) -> Result<(), Fault>
-        requires { slot.0 < length self.old.parts }
+        requires { slot.0 < length self.old.buckets }
         ensures removed { OnOk result (Prunes T.Key.cmp P T.translated self.old slot (λ _. [])
-            (length (held_at T.Key.cmp self.old.parts slot)) self.new) }
+            (length (held_at T.Key.cmp self.old.buckets slot)) self.new) }
         ensures settled { OnOk result (IsTrue X.SPILLS → Resettles self.old.standings slot.0 self.new.standings) }
         ensures refused { OnErr result (self.new ≡ self.old) }
         ensures want { IfErr result (λ f. IsWant f (X.SPILLS && is_reached self.old.standings slot.0)) }
-        ensures kept { KeepsParts T.Key.cmp self.old.parts self.new.parts }
-        ensures bound { KeepsWithin self.old self.new }
+        ensures kept { KeepsBuckets T.Key.cmp self.old.buckets self.new.buckets }
     {
         match self.settle(slot.0) {
             Ok(()) => {
@@ -620,14 +614,14 @@ impl<T: Translator, V: Drop, X: Part<T, V> + Drop, const P: usize> Storage<T, V,
 
     #[inline]
     pub(super) fn keys(&self) -> usize
-        ensures { result ≡ key_count (gathered self.now.parts) }
+        ensures { result ≡ key_count (gathered self.now.buckets) }
     {
         self.counts.keys
     }
 
     #[inline]
     pub(super) fn items(&self) -> usize
-        ensures { result ≡ item_count (gathered self.now.parts) }
+        ensures { result ≡ item_count (gathered self.now.buckets) }
     {
         self.counts.items
     }
@@ -640,34 +634,34 @@ impl<T: Translator, V: Drop, X: Part<T, V> + Drop, const P: usize> Storage<T, V,
     }
 }
 
-impl<T: Translator, V: Drop, X: OrderedPart<T, V> + Drop, const P: usize> Storage<T, V, X, P> {
+impl<T: Translator, V: Drop, X: OrderedBucket<T, V> + Drop, const P: usize> Storage<T, V, X, P> {
     #[inline]
     pub(super) fn first(&self) -> Option<Values<'_, V>>
-        ensures { result ≡ first_list (gathered self.now.parts) }
+        ensures { result ≡ first_list (gathered self.now.buckets) }
     {
-        self.parts.first()
+        self.buckets.first()
     }
 
     #[inline]
     pub(super) fn last(&self) -> Option<Values<'_, V>>
-        ensures { result ≡ last_list (gathered self.now.parts) }
+        ensures { result ≡ last_list (gathered self.now.buckets) }
     {
-        self.parts.last()
+        self.buckets.last()
     }
 
     #[inline]
     pub(super) fn next(&self, slot: (usize, T::Key)) -> Option<(Values<'_, V>, bool)>
-        requires { slot.0 < length self.now.parts }
-        ensures { result ≡ next_list (pair_cmp T.Key.cmp) (gathered self.now.parts) slot }
+        requires { slot.0 < length self.now.buckets }
+        ensures { result ≡ next_list (pair_cmp T.Key.cmp) (gathered self.now.buckets) slot }
     {
-        self.parts.next(slot)
+        self.buckets.next(slot)
     }
 
     #[inline]
     pub(super) fn prev(&self, slot: (usize, T::Key)) -> Option<(Values<'_, V>, bool)>
-        requires { slot.0 < length self.now.parts }
-        ensures { result ≡ prev_list (pair_cmp T.Key.cmp) (gathered self.now.parts) slot }
+        requires { slot.0 < length self.now.buckets }
+        ensures { result ≡ prev_list (pair_cmp T.Key.cmp) (gathered self.now.buckets) slot }
     {
-        self.parts.prev(slot)
+        self.buckets.prev(slot)
     }
 }

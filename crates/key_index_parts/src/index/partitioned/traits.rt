@@ -36,7 +36,7 @@ pub trait PartitionRange: Search {
     fn items(&self) -> usize
         ensures { result ≡ items_in (Self.view self.now) };
 
-    /// How many held values were ever taken out, as far as the greatest `u64`.
+    /// How many held values were ever removed, as far as the greatest `u64`.
     fn pruned(&self) -> u64
         ensures { result ≡ (Self.view self.now).pruned };
 

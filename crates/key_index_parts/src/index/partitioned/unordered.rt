@@ -4,12 +4,10 @@ ghost use Rattle.key_index_parts.specs.Family.{IsIndex, view_of};
 ghost use Rattle.key_index_parts.specs.Gathered.{pair_cmp};
 ghost use Rattle.key_index_parts.specs.Prefix.{partition_count, partition_by, slot_by};
 
-mod chained;
-
+use super::bucket::chained::Chained;
 use super::range::Range;
 use super::storage::Storage;
 use super::{Partitioned, partition_index_and_sub_key};
-use chained::Chained;
 use key_index_flat::index::implement::{Lists, show_by_place, visit_by_place};
 use key_index_flat::index::{
     Factory, Fault, IndexCursor, Refused, Runs, Search, Unordered, Values,
@@ -26,7 +24,7 @@ use std::convert::AsSlice;
 #[derive(Drop)]
 pub struct Index<T: Translator, V: Drop, const P: usize> {
     storage: Storage<T, V, Chained<T, V>, P>,
-    ghost is_index: { IsIndex T.Key.cmp P storage.parts },
+    ghost is_index: { IsIndex T.Key.cmp P storage.buckets },
 }
 
 impl<T: Translator, V: Drop, const P: usize> Index<T, V, P> {

@@ -15,4 +15,4 @@ returns g c =
     let of_front = All-from_get_or (λ n. n < 256) front 0 (λ i within. omega (arith, c.type_inv.front i)) in
     let one : slot_by g.row.P (cap_number 2) front ≡ slot_by g.row.P (cap_number 2) key =
     (c.grouping_and_order.ensures.partitioned g.row.P 2 front key of_front of_key).1.1 c.requires in
-    c.get.ensures ∙ ap (λ k. list_at (pair_cmp nat_cmp) (gathered c.args.index.now.storage.parts) k) one
+    c.get.ensures ∙ ap (λ k. list_at (pair_cmp nat_cmp) (gathered c.args.index.now.storage.buckets) k) one

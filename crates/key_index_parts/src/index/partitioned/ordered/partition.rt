@@ -408,19 +408,19 @@ impl<K: Ord + Copy, V: Drop> Partition<K, V> {
 
     /// Where it takes its memory.
     #[inline]
-    pub(super) fn alloc(&self) -> Global {
+    pub(crate) fn alloc(&self) -> Global {
         *self.keys.allocator()
     }
 
     /// What `drain_runs` takes before the first value moves: each key once, with room for exactly its values and none of them yet.
-    pub(super) fn empty_runs(&self) -> Result<Vec<(K, Vec<V>)>, AllocError>
+    pub(crate) fn empty_runs(&self) -> Result<Vec<(K, Vec<V>)>, AllocError>
         ensures { IfOk result (λ runs. map room_of runs.items ≡ map room_for (grouped K.cmp self.now.pairs)) }
     {
         empty_runs(self.alloc(), self.keys.as_slice())
     }
 
     /// Moves all values to such room, without growth, and gives the memory of the pairs back.
-    pub(super) fn drain_into(&mut self, runs: &mut Vec<(K, Vec<V>)>)
+    pub(crate) fn drain_into(&mut self, runs: &mut Vec<(K, Vec<V>)>)
         requires { map room_of runs.old.items ≡ map room_for (grouped K.cmp self.old.pairs) }
         ensures runs { map list_of runs.new.items ≡ grouped K.cmp self.old.pairs }
         ensures emptied { self.new.pairs ≡ [] }
@@ -432,7 +432,7 @@ impl<K: Ord + Copy, V: Drop> Partition<K, V> {
     }
 
     /// Puts a run in behind all pairs. It has room for them, so it takes no memory, and moves no pair that it holds.
-    pub(super) fn push_run(&mut self, key: K, mut values: Vec<V>)
+    pub(crate) fn push_run(&mut self, key: K, mut values: Vec<V>)
         requires room { length values.items ≤ self.old.room }
         requires sorted { IsSorted K.cmp (keys_of self.old.pairs ++ replicate (length values.items) key) }
         ensures pairs { self.new.pairs ≡ self.old.pairs ++ pairs_with key values.items }

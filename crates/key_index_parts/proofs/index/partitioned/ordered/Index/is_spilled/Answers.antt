@@ -4,4 +4,4 @@ use Rattle.key_index_parts.proofs.index.partitioned.ordered.Index.is_spilled.Goa
 
 pub returns-clause-filled : goal.returns-clause-filled
 returns-clause-filled g c = λ spilled.
-    subst (λ n. 0 < n) (sym (item_count-entries_of c.args.self.now.storage.parts c.args.partition)) (c.is_spilled.ensures.filled spilled)
+    subst (λ n. 0 < n) (sym (item_count-entries_of c.args.self.now.storage.buckets c.args.partition)) (c.is_spilled.ensures.filled spilled)

@@ -1,6 +1,5 @@
-use Rattle.std.proofs.Common.{rules, ap, ◌∙◌, arith}
+use Rattle.std.proofs.Common.{rules, ◌∙◌, arith}
 use Rattle.key_index_parts.proofs.keys.PrefixLemmas.{shifted}
-use Rattle.key_index_parts.proofs.standing.MoveLemmas.{new_within}
 use Rattle.key_index_parts.proofs.index.partitioned.ordered.Index.with_threshold.Goals as goal
 
 pub new-requires : goal.new-requires
@@ -14,5 +13,4 @@ invariant_of-result g c = record {
     lawful = c.in-Ok.ensures.lawful;
     whole = c.in-Ok.ensures.sized ∙ shifted g.row.P c.requires.greatest;
   };
-  within = new_within c.in-Ok.storage.standings c.in-Ok.storage.pruned (ap (λ s. s.moved) c.in-Ok.ensures.standing);
 }

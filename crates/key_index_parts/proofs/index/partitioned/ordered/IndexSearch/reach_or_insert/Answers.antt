@@ -8,7 +8,7 @@ use Rattle.key_index_parts.proofs.index.partitioned.ordered.IndexSearch.reach_or
 pub returns-clause-reached : goal.returns-clause-reached
 returns-clause-reached g c =
     let at = c.slot_of-slot.ensures in
-    (at, c.in_ok-len.ensures.len ∙ ap (λ s. length (held_at g.T.Key.Ord.cmp c.args.self.now.storage.parts s)) at)
+    (at, c.in_ok-len.ensures.len ∙ ap (λ s. length (held_at g.T.Key.Ord.cmp c.args.self.now.storage.buckets s)) at)
 
 pub returns-clause-inserted : goal.returns-clause-inserted
 returns-clause-inserted g c = λ none.

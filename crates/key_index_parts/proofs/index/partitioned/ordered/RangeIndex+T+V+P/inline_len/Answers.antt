@@ -8,9 +8,9 @@ use Rattle.key_index_parts.proofs.index.partitioned.ordered.RangeIndex+T+V+P.inl
 pub returns-clause-entries : goal.returns-clause-entries
 returns-clause-entries g c =
     let range = c.args.self.now in
-    let parts = range.storage.parts in
-    let at = within range.offset (range.offset + length parts) c.args.partition c.requires in
+    let buckets = range.storage.buckets in
+    let at = within range.offset (range.offset + length buckets) c.args.partition c.requires in
     let own = c.args.partition - range.offset in
     let same : range.offset + own ≡ c.args.partition = omega (arith, at.0) in
     c.inline_len.ensures.entries
-    ∙ sym (ap (λ m. item_count (entries_of (gathered_from range.offset parts) m)) (sym same) ∙ counts range.offset parts own)
+    ∙ sym (ap (λ m. item_count (entries_of (gathered_from range.offset buckets) m)) (sym same) ∙ counts range.offset buckets own)

@@ -8,8 +8,8 @@ use Rattle.key_index_parts.proofs.index.partitioned.ordered.RangeIndex+T+V+P.is_
 pub returns-clause-filled : goal.returns-clause-filled
 returns-clause-filled g c = λ spilled.
     let range = c.args.self.now in
-    let parts = range.storage.parts in
-    let at = within range.offset (range.offset + length parts) c.args.partition c.requires in
+    let buckets = range.storage.buckets in
+    let at = within range.offset (range.offset + length buckets) c.args.partition c.requires in
     let own = c.args.partition - range.offset in
     let same : range.offset + own ≡ c.args.partition = omega (arith, at.0) in
-    subst (λ n. 0 < n) (sym (ap (λ m. item_count (entries_of (gathered_from range.offset parts) m)) (sym same) ∙ counts range.offset parts own)) (c.is_spilled.ensures.filled spilled)
+    subst (λ n. 0 < n) (sym (ap (λ m. item_count (entries_of (gathered_from range.offset buckets) m)) (sym same) ∙ counts range.offset buckets own)) (c.is_spilled.ensures.filled spilled)

@@ -7,7 +7,7 @@ returns-clause-bound g c low =
     let range = c.args.self.now in
     let paid = range.within low in
     let told = c.moved.ensures in
-    let same = items_from range.offset range.storage.parts in
+    let same = items_from range.offset range.storage.buckets in
     omega (arith, paid, told.count, told.entries, same)
 
 pub returns-clause-at_most : goal.returns-clause-at_most
@@ -15,5 +15,5 @@ returns-clause-at_most g c low =
     let range = c.args.self.now in
     let paid = range.within low in
     let told = c.moved.ensures in
-    let same = items_from range.offset range.storage.parts in
+    let same = items_from range.offset range.storage.buckets in
     omega (arith, paid, told.count, told.entries, same)

@@ -19,17 +19,17 @@ pub returns-clause-len : goal.returns-clause-len
 returns-clause-len g c =
     let range = c.args.self.now in
     if_ok c.insert_absent.result _ _ (λ n e.
-    e ∙ ap (λ l. length l) (read_from g.T.Key.Ord.cmp range.offset range.storage.parts c.own-own.result c.args.slot c.own-own.ensures.slot)) c.insert_absent.ensures.len
+    e ∙ ap (λ l. length l) (read_from g.T.Key.Ord.cmp range.offset range.storage.buckets c.own-own.result c.args.slot c.own-own.ensures.slot)) c.insert_absent.ensures.len
 
 pub returns-clause-room : goal.returns-clause-room
 returns-clause-room g c =
     let range = c.args.self.now in
-    on_ok c.insert_absent.result _ _ (λ h. subst (λ n. n < 2 ^ 64 - 1) (items_from range.offset range.storage.parts) h) c.insert_absent.ensures.room
+    on_ok c.insert_absent.result _ _ (λ h. subst (λ n. n < 2 ^ 64 - 1) (items_from range.offset range.storage.buckets) h) c.insert_absent.ensures.room
 
 pub returns-clause-fault : goal.returns-clause-fault
 returns-clause-fault g c =
     let range = c.args.self.now in
-    if_err c.insert_absent.result _ _ (λ r e. e ∙ ap (λ n. growth_fault n) (items_from range.offset range.storage.parts)) c.insert_absent.ensures.fault
+    if_err c.insert_absent.result _ _ (λ r e. e ∙ ap (λ n. growth_fault n) (items_from range.offset range.storage.buckets)) c.insert_absent.ensures.fault
 
 pub returns-clause-found : goal.returns-clause-found
 returns-clause-found g c =
@@ -56,6 +56,6 @@ returns-clause-left g c =
     on_err c.insert_absent.result _ _ (λ h. (
       (refl, c.insert_absent.ensures.kept.sized),
       λ is.
-          subst (λ n. Refuses (item_count (gathered range.storage.parts)) range.storage.standings n c.insert_absent.new.self.standings) c.own-own.ensures.number
-          (left_standing g.X.Part.SPILLS c.own-own.result.0 range.storage c.insert_absent.new.self h is),
+          subst (λ n. Refuses (item_count (gathered range.storage.buckets)) range.storage.standings n c.insert_absent.new.self.standings) c.own-own.ensures.number
+          (left_standing g.X.Bucket.SPILLS c.own-own.result.0 range.storage c.insert_absent.new.self h is),
     )) c.insert_absent.ensures.left

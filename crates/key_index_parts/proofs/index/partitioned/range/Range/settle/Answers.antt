@@ -24,4 +24,4 @@ returns-clause-left g c =
 pub returns-clause-want : goal.returns-clause-want
 returns-clause-want g c =
     let range = c.args.self.now in
-    if_err c.settle.result _ _ (λ f h. subst (λ n. IsWant f (g.X.Part.SPILLS && is_reached range.storage.standings n)) c.own-own.ensures.number h) c.settle.ensures.want
+    if_err c.settle.result _ _ (λ f h. subst (λ n. IsWant f (g.X.Bucket.SPILLS && is_reached range.storage.standings n)) c.own-own.ensures.number h) c.settle.ensures.want

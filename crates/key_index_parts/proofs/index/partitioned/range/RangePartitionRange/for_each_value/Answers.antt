@@ -6,4 +6,4 @@ pub returns : goal.returns
 returns g c =
     let range = c.args.self.now in
     let said = c.for_each_value.ensures in
-    (c.for_each_value.new.visit, (said.0, subst (λ l. IsPermutation l said.0) (values-gathered 0 range.storage.parts ∙ sym (values-gathered range.offset range.storage.parts)) said.1, said.2))
+    (c.for_each_value.new.visit, (said.0, subst (λ l. IsPermutation l said.0) (values-gathered 0 range.storage.buckets ∙ sym (values-gathered range.offset range.storage.buckets)) said.1, said.2))

@@ -8,9 +8,9 @@ use Rattle.key_index_parts.proofs.index.partitioned.range.RangeRuns.insert_at.Go
 pub insert_at-requires : goal.insert_at-requires
 insert_at-requires g c =
     let range = c.args.self.now in
-    let at = within range.offset (range.offset + length range.storage.parts) c.args.slot.0 c.requires.admits in
+    let at = within range.offset (range.offset + length range.storage.buckets) c.args.slot.0 c.requires.admits in
     let number = ap (λ s. s.0) c.own-own.ensures.slot in
-    let place = subst (λ l. c.args.place ≤ length l) (sym (read_from g.T.Key.Ord.cmp range.offset range.storage.parts c.own-own.result c.args.slot c.own-own.ensures.slot)) c.requires.place in
+    let place = subst (λ l. c.args.place ≤ length l) (sym (read_from g.T.Key.Ord.cmp range.offset range.storage.buckets c.own-own.result c.args.slot c.own-own.ensures.slot)) c.requires.place in
     (search rules, (omega (arith, at.1, number), place))
 
 pub returns-clause-accepted : goal.returns-clause-accepted
@@ -23,12 +23,12 @@ returns-clause-accepted g c =
 pub returns-clause-room : goal.returns-clause-room
 returns-clause-room g c =
     let range = c.args.self.now in
-    on_ok c.insert_at.result _ _ (λ h. subst (λ n. n < 2 ^ 64 - 1) (items_from range.offset range.storage.parts) h) c.insert_at.ensures.room
+    on_ok c.insert_at.result _ _ (λ h. subst (λ n. n < 2 ^ 64 - 1) (items_from range.offset range.storage.buckets) h) c.insert_at.ensures.room
 
 pub returns-clause-fault : goal.returns-clause-fault
 returns-clause-fault g c =
     let range = c.args.self.now in
-    if_err c.insert_at.result _ _ (λ r e. e ∙ ap (λ n. growth_fault n) (items_from range.offset range.storage.parts)) c.insert_at.ensures.fault
+    if_err c.insert_at.result _ _ (λ r e. e ∙ ap (λ n. growth_fault n) (items_from range.offset range.storage.buckets)) c.insert_at.ensures.fault
 
 pub returns-clause-edited : goal.returns-clause-edited
 returns-clause-edited g c =

@@ -3,17 +3,17 @@ use Rattle.key_index_parts.proofs.family.ShiftedLemmas.{held_from, read_from, se
 use Rattle.key_index_parts.proofs.index.partitioned.range.RangeRuns.remove_at.Goals as goal
 
 pub own-own-requires : goal.own-own-requires
-own-own-requires g c = (search rules, held_from g.T.Key.Ord.cmp c.args.self.now.offset c.args.self.now.storage.parts c.args.slot c.args.place c.requires)
+own-own-requires g c = (search rules, held_from g.T.Key.Ord.cmp c.args.self.now.offset c.args.self.now.storage.buckets c.args.slot c.args.place c.requires)
 
 pub remove_at-requires : goal.remove_at-requires
 remove_at-requires g c =
     let range = c.args.self.now in
-    (search rules, subst (λ l. c.args.place < length l) (sym (read_from g.T.Key.Ord.cmp range.offset range.storage.parts c.own-own.result c.args.slot c.own-own.ensures.slot)) c.requires)
+    (search rules, subst (λ l. c.args.place < length l) (sym (read_from g.T.Key.Ord.cmp range.offset range.storage.buckets c.own-own.result c.args.slot c.own-own.ensures.slot)) c.requires)
 
 pub returns-clause-value : goal.returns-clause-value
 returns-clause-value g c =
     let range = c.args.self.now in
-    subst (λ l. slice_get l c.args.place ≡ Some c.remove_at.result) (read_from g.T.Key.Ord.cmp range.offset range.storage.parts c.own-own.result c.args.slot c.own-own.ensures.slot) c.remove_at.ensures.value
+    subst (λ l. slice_get l c.args.place ≡ Some c.remove_at.result) (read_from g.T.Key.Ord.cmp range.offset range.storage.buckets c.own-own.result c.args.slot c.own-own.ensures.slot) c.remove_at.ensures.value
 
 pub returns-clause-changed : goal.returns-clause-changed
 returns-clause-changed g c =

@@ -5,9 +5,9 @@ use Rattle.key_index_parts.proofs.index.partitioned.range.RangeRuns.run_len.Goal
 pub returns-then-slot-self : goal.returns-then-slot-self
 returns-then-slot-self g c =
     let range = c.args.self.now in
-    ap (λ l. length l) (sym (below_from g.T.Key.Ord.cmp range.offset range.storage.parts c.args.slot c.if-slot-self.true))
+    ap (λ l. length l) (sym (below_from g.T.Key.Ord.cmp range.offset range.storage.buckets c.args.slot c.if-slot-self.true))
 
 pub returns : goal.returns
 returns g c =
     let range = c.args.self.now in
-    c.run_len.ensures ∙ ap (λ l. length l) (read_from g.T.Key.Ord.cmp range.offset range.storage.parts c.own.result c.args.slot c.own.ensures.slot)
+    c.run_len.ensures ∙ ap (λ l. length l) (read_from g.T.Key.Ord.cmp range.offset range.storage.buckets c.own.result c.args.slot c.own.ensures.slot)

@@ -6,8 +6,8 @@ use Rattle.key_index_parts.proofs.index.partitioned.storage.Storage.has_room.Goa
 
 pub returns : goal.returns
 returns g c =
-    let own = sym (ap (λ s. item_count (gathered s.parts)) c.self.view_is) in
-    let other = sym (ap (λ s. item_count (gathered s.parts)) c.range.view_is) in
+    let own = sym (ap (λ s. item_count (gathered s.buckets)) c.self.view_is) in
+    let other = sym (ap (λ s. item_count (gathered s.buckets)) c.range.view_is) in
     let was = c.self.invariant.counted in
     let more = c.range.invariant.counted in
     let small : c.self.inside.counts.items < 2 ^ 64 = search rules in

@@ -1,28 +1,24 @@
-use Rattle.std.proofs.Common.{rules, zero, suc, subst, sym, ◌≡◌, ◌<◌, ◌^◌, refl, ap, ◌∙◌, arith}
+use Rattle.std.proofs.Common.{inr, rules, zero, suc, subst, sym, ◌≡◌, ◌<◌, ◌^◌, refl, ap, ◌∙◌, arith}
 use Rattle.key_index_flat.specs.Content.{item_count}
 use Rattle.key_index_parts.specs.Family.{GrowsTo, settled_in}
 use Rattle.key_index_parts.specs.Gathered.{gathered}
 use Rattle.key_index_parts.specs.Standing.{Settles, entries_at, with_entries}
 use Rattle.key_index_parts.specs.laws.StandingLaws.{settles_by}
-use Rattle.key_index_parts.proofs.family.StorageLemmas.{keeps_all, memory_fault}
+use Rattle.key_index_parts.proofs.family.StorageLemmas.{memory_fault}
 use Rattle.key_index_parts.proofs.index.partitioned.storage.Storage.insert_absent.Goals as goal
 
-pub returns-then-self-clause-kept : goal.returns-then-self-clause-kept
-returns-then-self-clause-kept g c = rw (← c.self.view_is) (keeps_all c.self.invariant _ refl)
+pub returns-then-is_full-clause-kept : goal.returns-then-is_full-clause-kept
+returns-then-is_full-clause-kept g c = c.is_full.ensures.kept
 
 pub returns-in-Ok-put_absent-clause-room : goal.returns-in-Ok-put_absent-clause-room
-returns-in-Ok-put_absent-clause-room g c =
-    let full = ap (λ s. item_count (gathered s.parts)) c.self.view_is in
-    let was = c.self.invariant.counted in
-    let small : c.self.inside.counts.items < 2 ^ 64 = search rules in
-    omega (arith, full, was, c.if-self.false, small)
+returns-in-Ok-put_absent-clause-room g c = c.is_full.ensures.room c.if-is_full.false
+
+pub returns-in-Err-clause-left : goal.returns-in-Err-clause-left
+returns-in-Err-clause-left g c =
+    inr (c.is_full.ensures.room c.if-is_full.false, c.in-Err.ensures.refused ∙ c.in-Ok.ensures.settled)
 
 pub returns-in-Err-clause-fault : goal.returns-in-Err-clause-fault
-returns-in-Err-clause-fault g c =
-    let full = ap (λ s. item_count (gathered s.parts)) c.self.view_is in
-    let was = c.self.invariant.counted in
-    let small : c.self.inside.counts.items < 2 ^ 64 = search rules in
-    c.memory-in-Err.ensures.fault ∙ memory_fault (item_count (gathered c.args.self.now.parts)) (omega (arith, full, was, c.if-self.false, small))
+returns-in-Err-clause-fault g c = c.memory-in-Err.ensures.fault ∙ memory_fault _ (c.is_full.ensures.room c.if-is_full.false)
 
 pub returns-in-Ok-put_absent-clause-settled : goal.returns-in-Ok-put_absent-clause-settled
 returns-in-Ok-put_absent-clause-settled g c = λ is.
@@ -30,14 +26,11 @@ returns-in-Ok-put_absent-clause-settled g c = λ is.
     let n = c.args.slot.0 in
     let new = c.put_absent.new.self in
     let mid = ap (λ s. s.standings) c.in-Ok.ensures.settled ∙ ap (λ b. settled_in b old n) is in
-    elim c.in-Ok-put_absent.len as (λ len. (0 < len → new ≡ c.settle.new.self) → (len ≡ 0 → GrowsTo g.X.Part.SPILLS c.settle.new.self n new) → Settles old n new.standings) [
+    elim c.in-Ok-put_absent.len as (λ len. (0 < len → new ≡ c.settle.new.self) → (len ≡ 0 → GrowsTo g.X.Bucket.SPILLS c.settle.new.self n new) → Settles old n new.standings) [
       | zero ↦ λ found grown. settles_by old new.standings n c.in-Ok.ensures.within c.in-Ok.ensures.least
           (grown refl ∙ (λ i. settled_in (is i) (with_entries (mid i) n (entries_at new.standings n)) n))
       | suc len ↦ λ found grown. subst (λ s. Settles old n s.standings) (sym (found (omega arith))) (c.in-Ok.ensures.settles is)
     ] c.in-Ok-put_absent.ensures.found c.in-Ok-put_absent.ensures.standing
-
-pub returns-in-Ok-put_absent-clause-bound : goal.returns-in-Ok-put_absent-clause-bound
-returns-in-Ok-put_absent-clause-bound g c = λ before. c.put_absent.ensures.bound (c.settle.ensures.bound before)
 
 pub returns-in-Ok-put_absent-clause-range_bound : goal.returns-in-Ok-put_absent-clause-range_bound
 returns-in-Ok-put_absent-clause-range_bound g c = λ before. c.put_absent.ensures.range_bound (c.settle.ensures.range_bound before)

@@ -1,4 +1,4 @@
-use Rattle.std.proofs.Common.{rules, ◌≡◌, ℕ, subst, sym, ◌<◌, ◌^◌, refl, ap, ◌∙◌, arith}
+use Rattle.std.proofs.Common.{inr, rules, ◌≡◌, ℕ, subst, sym, ◌<◌, ◌^◌, refl, ap, ◌∙◌, arith}
 use Rattle.std.specs.Fn.{CalledAt}
 use Rattle.key_index_flat.specs.Content.{item_count}
 use Rattle.key_index_flat.specs.View.{View, InsertsAndRetains}
@@ -6,25 +6,21 @@ use Rattle.key_index_parts.specs.Family.{Kept, settled_in, view_of}
 use Rattle.key_index_parts.specs.Gathered.{gathered, pair_cmp}
 use Rattle.key_index_parts.specs.Standing.{entries_at, with_entries}
 use Rattle.key_index_parts.proofs.standing.StandingLemmas.{resettles}
-use Rattle.key_index_parts.proofs.family.StorageLemmas.{keeps_all, kept_twice, memory_fault}
+use Rattle.key_index_parts.proofs.family.StorageLemmas.{kept_twice, memory_fault}
 use Rattle.key_index_parts.proofs.index.partitioned.storage.Storage.insert_and_retain.Goals as goal
 
-pub returns-then-self-clause-kept : goal.returns-then-self-clause-kept
-returns-then-self-clause-kept g c = rw (← c.self.view_is) (keeps_all c.self.invariant _ refl)
+pub returns-then-is_full-clause-kept : goal.returns-then-is_full-clause-kept
+returns-then-is_full-clause-kept g c = c.is_full.ensures.kept
 
 pub returns-in-Ok-put_and_retain-clause-room : goal.returns-in-Ok-put_and_retain-clause-room
-returns-in-Ok-put_and_retain-clause-room g c =
-    let full = ap (λ s. item_count (gathered s.parts)) c.self.view_is in
-    let was = c.self.invariant.counted in
-    let small : c.self.inside.counts.items < 2 ^ 64 = search rules in
-    omega (arith, full, was, c.if-self.false, small)
+returns-in-Ok-put_and_retain-clause-room g c = c.is_full.ensures.room c.if-is_full.false
+
+pub returns-in-Err-clause-left : goal.returns-in-Err-clause-left
+returns-in-Err-clause-left g c =
+    inr (c.is_full.ensures.room c.if-is_full.false, c.in-Err.ensures.refused ∙ c.in-Ok.ensures.settled)
 
 pub returns-in-Err-clause-fault : goal.returns-in-Err-clause-fault
-returns-in-Err-clause-fault g c =
-    let full = ap (λ s. item_count (gathered s.parts)) c.self.view_is in
-    let was = c.self.invariant.counted in
-    let small : c.self.inside.counts.items < 2 ^ 64 = search rules in
-    c.memory-in-Err.ensures.fault ∙ memory_fault (item_count (gathered c.args.self.now.parts)) (omega (arith, full, was, c.if-self.false, small))
+returns-in-Err-clause-fault g c = c.memory-in-Err.ensures.fault ∙ memory_fault _ (c.is_full.ensures.room c.if-is_full.false)
 
 pub returns-in-Ok-put_and_retain-clause-accepted : goal.returns-in-Ok-put_and_retain-clause-accepted
 returns-in-Ok-put_and_retain-clause-accepted g c =
@@ -48,10 +44,3 @@ pub returns-in-Ok-put_and_retain-clause-kept : goal.returns-in-Ok-put_and_retain
 returns-in-Ok-put_and_retain-clause-kept g c =
     let cmp = g.T.Key.Ord.cmp in
     kept_twice cmp _ _ _ (kept_twice cmp _ _ _ c.settle.ensures.kept c.put_and_retain.ensures.kept) c.move_back.ensures.kept
-
-pub returns-in-Ok-put_and_retain-clause-bound : goal.returns-in-Ok-put_and_retain-clause-bound
-returns-in-Ok-put_and_retain-clause-bound g c = λ before.
-    c.move_back.ensures.bound (c.put_and_retain.ensures.bound (c.settle.ensures.bound before))
-
-pub returns-in-Err-clause-bound : goal.returns-in-Err-clause-bound
-returns-in-Err-clause-bound g c = λ before. c.put_and_retain.ensures.bound (c.settle.ensures.bound before)

@@ -1,5 +1,7 @@
 use Rattle.std.proofs.Common.{◌∙◌, rules, ◌<◌, ◌≤◌, ◌^◌, length, insert, refl, subst, sym, ap, arith}
 use Rattle.std.proofs.lemmas.List.Edits.{length-insert}
+use Rattle.key_index_flat.specs.Content.{item_count}
+use Rattle.key_index_parts.specs.Gathered.{gathered}
 use Rattle.key_index_parts.specs.Family.{held_at, list_in}
 use Rattle.key_index_parts.proofs.family.StorageLemmas.{list_is, within, keys_below, counted_gain, keeps, keeps_all, view_edited}
 use Rattle.key_index_parts.proofs.standing.MoveLemmas.{credit_pays, range_pays}
@@ -9,20 +11,22 @@ use Rattle.key_index_parts.proofs.index.partitioned.storage.Storage.insert_at.Go
 
 pub insert_at-requires : goal.insert_at-requires
 insert_at-requires g c =
-    let seen = subst (λ s. c.args.place ≤ length (held_at g.T.Key.Ord.cmp s.parts c.args.slot)) (sym c.self.view_is) c.requires.place in
+    let seen = subst (λ s. c.args.place ≤ length (held_at g.T.Key.Ord.cmp s.buckets c.args.slot)) (sym c.self.view_is) c.requires.place in
     record { within = within c.self.view_is c.args.slot.0 c.requires.admits; place = subst (λ l. c.args.place ≤ length l) (list_is c.self.invariant c.args.slot) seen }
 
 pub gain-requires : goal.gain-requires
 gain-requires g c =
     let few = keys_below c.self.invariant in
-    let small : c.self.inside.counts.items < 2 ^ 64 = search rules in
-    record { items = omega (arith, c.if-self.false, small); keys = omega (arith, few, c.if-self.false, small) }
+    let full = ap (λ s. item_count (gathered s.buckets)) c.self.view_is in
+    let room = c.is_full.ensures.room c.if-is_full.false in
+    let was = c.self.invariant.counted in
+    record { items = omega (arith, full, was, room); keys = omega (arith, few, full, was, room) }
 
 pub invariant_of-self : goal.invariant_of-self
 invariant_of-self g c =
-    let list = list_in g.T.Key.Ord.cmp c.self.inside.parts.contents c.args.slot in
+    let list = list_in g.T.Key.Ord.cmp c.self.inside.buckets.contents c.args.slot in
     let inside = within c.self.view_is c.args.slot.0 c.requires.admits in
-    let seen = subst (λ s. c.args.place ≤ length (held_at g.T.Key.Ord.cmp s.parts c.args.slot)) (sym c.self.view_is) c.requires.place in
+    let seen = subst (λ s. c.args.place ≤ length (held_at g.T.Key.Ord.cmp s.buckets c.args.slot)) (sym c.self.view_is) c.requires.place in
     let more = length-insert list c.args.place c.args.value (subst (λ l. c.args.place ≤ length l) (list_is c.self.invariant c.args.slot) seen) in
     let told = c.in-Ok.ensures.accepted in
     counted_gain c.self.invariant g.met.T.Key.Ord.total g.met.T.Translator.exact c.args.slot (insert list c.args.place c.args.value) c.insert_at.new.self.contents inside told.0 _ _ c.in-Ok.absent told.1
@@ -35,8 +39,8 @@ returns-in-Ok-clause-accepted g c =
     view_edited c.self.invariant g.met.T.Key.Ord.total g.met.T.Translator.exact c.args.slot _ c.insert_at.new.self.contents inside c.in-Ok.ensures.accepted.0 g.T.Translator.translated c.self.inside.translator _ _ (λ l. insert l c.args.place c.args.value) refl c.gain.ensures.pruned
     )
 
-pub returns-then-self-clause-kept : goal.returns-then-self-clause-kept
-returns-then-self-clause-kept g c = rw (← c.self.view_is) (keeps_all c.self.invariant _ refl)
+pub returns-then-is_full-clause-kept : goal.returns-then-is_full-clause-kept
+returns-then-is_full-clause-kept g c = rw (← c.self.view_is) (keeps_all c.self.invariant _ refl)
 
 pub returns-in-Ok-clause-kept : goal.returns-in-Ok-clause-kept
 returns-in-Ok-clause-kept g c =
@@ -46,18 +50,18 @@ returns-in-Ok-clause-kept g c =
 pub returns-in-Err-clause-kept : goal.returns-in-Err-clause-kept
 returns-in-Err-clause-kept g c = rw (← c.self.view_is) (keeps_all c.self.invariant _ (ap (λ s. s.contents) c.in-Err.ensures.refused))
 
-pub returns-in-Ok-clause-bound : goal.returns-in-Ok-clause-bound
-returns-in-Ok-clause-bound g c =
-    let list = list_in g.T.Key.Ord.cmp c.self.inside.parts.contents c.args.slot in
+pub invariant_of-self-inside : goal.invariant_of-self-inside
+invariant_of-self-inside g c =
+    let list = list_in g.T.Key.Ord.cmp c.self.inside.buckets.contents c.args.slot in
     let inside = within c.self.view_is c.args.slot.0 c.requires.admits in
-    let seen = subst (λ s. c.args.place ≤ length (held_at g.T.Key.Ord.cmp s.parts c.args.slot)) (sym c.self.view_is) c.requires.place in
+    let seen = subst (λ s. c.args.place ≤ length (held_at g.T.Key.Ord.cmp s.buckets c.args.slot)) (sym c.self.view_is) c.requires.place in
     let more = length-insert list c.args.place c.args.value (subst (λ l. c.args.place ≤ length l) (list_is c.self.invariant c.args.slot) seen) in
-    rw (← c.self.view_is) (edit_paid c.self.invariant g.met.T.Key.Ord.total c.args.slot (insert list c.args.place c.args.value) c.insert_at.new.self.contents inside c.in-Ok.ensures.accepted.0 c.self.inside.parts.standing _ c.self.inside.told c.insert_at.ensures.counted c.self.inside.threshold c.self.inside.moves.spills c.self.inside.moves.moved c.self.inside.counts.pruned _ 0 (omega (arith, more)) (c.gain.ensures.pruned ∙ sym (none_more c.self.inside.counts.pruned)) credit_pays c.in-Ok.ensures.standing)
+    (c.self.inside.least, (c.insert_at.ensures.counted, (edit_paid c.self.invariant g.met.T.Key.Ord.total c.args.slot (insert list c.args.place c.args.value) c.insert_at.new.self.contents inside c.in-Ok.ensures.accepted.0 c.self.inside.buckets.standing _ c.self.inside.told c.insert_at.ensures.counted c.self.inside.threshold c.self.inside.moves.spills c.self.inside.moves.moved c.self.inside.counts.pruned _ 0 (omega (arith, more)) (c.gain.ensures.pruned ∙ sym (none_more c.self.inside.counts.pruned)) credit_pays c.in-Ok.ensures.standing c.self.inside.within, tt)))
 
 pub returns-in-Ok-clause-range_bound : goal.returns-in-Ok-clause-range_bound
 returns-in-Ok-clause-range_bound g c =
-    let list = list_in g.T.Key.Ord.cmp c.self.inside.parts.contents c.args.slot in
+    let list = list_in g.T.Key.Ord.cmp c.self.inside.buckets.contents c.args.slot in
     let inside = within c.self.view_is c.args.slot.0 c.requires.admits in
-    let seen = subst (λ s. c.args.place ≤ length (held_at g.T.Key.Ord.cmp s.parts c.args.slot)) (sym c.self.view_is) c.requires.place in
+    let seen = subst (λ s. c.args.place ≤ length (held_at g.T.Key.Ord.cmp s.buckets c.args.slot)) (sym c.self.view_is) c.requires.place in
     let more = length-insert list c.args.place c.args.value (subst (λ l. c.args.place ≤ length l) (list_is c.self.invariant c.args.slot) seen) in
-    rw (← c.self.view_is) (edit_paid c.self.invariant g.met.T.Key.Ord.total c.args.slot (insert list c.args.place c.args.value) c.insert_at.new.self.contents inside c.in-Ok.ensures.accepted.0 c.self.inside.parts.standing _ c.self.inside.told c.insert_at.ensures.counted c.self.inside.threshold c.self.inside.moves.spills c.self.inside.moves.moved c.self.inside.counts.pruned _ 0 (omega (arith, more)) (c.gain.ensures.pruned ∙ sym (none_more c.self.inside.counts.pruned)) range_pays c.in-Ok.ensures.standing)
+    rw (← c.self.view_is) (edit_paid c.self.invariant g.met.T.Key.Ord.total c.args.slot (insert list c.args.place c.args.value) c.insert_at.new.self.contents inside c.in-Ok.ensures.accepted.0 c.self.inside.buckets.standing _ c.self.inside.told c.insert_at.ensures.counted c.self.inside.threshold c.self.inside.moves.spills c.self.inside.moves.moved c.self.inside.counts.pruned _ 0 (omega (arith, more)) (c.gain.ensures.pruned ∙ sym (none_more c.self.inside.counts.pruned)) range_pays c.in-Ok.ensures.standing)

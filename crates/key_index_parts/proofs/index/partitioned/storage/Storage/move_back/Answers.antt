@@ -1,5 +1,5 @@
 use Rattle.std.proofs.Common.{arith}
-use Rattle.key_index_parts.specs.Standing.{Standings}
+use Rattle.key_index_parts.specs.Standing.{Standings, standings_of}
 use Rattle.key_index_parts.proofs.family.StorageLemmas.{within, keeps_all, same_but}
 use Rattle.key_index_parts.proofs.standing.StandingLemmas.{moved_back}
 use Rattle.key_index_parts.proofs.standing.MoveLemmas.{back_within}
@@ -11,23 +11,31 @@ move_back-moved-requires g c = within c.self.view_is c.args.number c.requires
 
 pub returns-clause-back : goal.returns-clause-back
 returns-clause-back g c =
-    let old : Standings = record { threshold = c.self.inside.threshold; parts = c.self.inside.parts.standing; spills = c.self.inside.moves.spills; moved = c.self.inside.moves.moved } in
+    let old : Standings = standings_of c.self.inside.threshold c.self.inside.buckets.standing c.self.inside.moves.spills c.self.inside.moves.moved in
     let told = c.move_back-moved.ensures in
     rw (← c.self.view_is) (moved_back old c.args.number _ told.small told.moved _ told.standing c.move_back.ensures.spills c.move_back.ensures.moved)
 
 pub returns-clause-same : goal.returns-clause-same
 returns-clause-same g c =
-    let old : Standings = record { threshold = c.self.inside.threshold; parts = c.self.inside.parts.standing; spills = c.self.inside.moves.spills; moved = c.self.inside.moves.moved } in
+    let old : Standings = standings_of c.self.inside.threshold c.self.inside.buckets.standing c.self.inside.moves.spills c.self.inside.moves.moved in
     rw (← c.self.view_is) (same_but old c.move_back-moved.ensures.contents)
 
 pub returns-clause-kept : goal.returns-clause-kept
 returns-clause-kept g c = rw (← c.self.view_is) (keeps_all c.self.invariant _ c.move_back-moved.ensures.contents)
 
-pub returns-clause-bound : goal.returns-clause-bound
-returns-clause-bound g c =
-    let old : Standings = record { threshold = c.self.inside.threshold; parts = c.self.inside.parts.standing; spills = c.self.inside.moves.spills; moved = c.self.inside.moves.moved } in
+pub invariant_of-self-inside : goal.invariant_of-self-inside
+invariant_of-self-inside g c =
+    let old : Standings = standings_of c.self.inside.threshold c.self.inside.buckets.standing c.self.inside.moves.spills c.self.inside.moves.moved in
     let told = c.move_back-moved.ensures in
-    let size = counted_size c.self.inside.parts.contents c.self.inside.parts.standing c.self.inside.told in
-    let inside = within c.self.view_is c.args.number c.requires in
-    rw (← c.self.view_is) (back_within old _ c.args.number c.self.inside.counts.pruned (omega (arith, size, inside))
-    (moved_back old c.args.number _ told.small told.moved _ told.standing c.move_back.ensures.spills c.move_back.ensures.moved))
+    let size = counted_size c.self.inside.buckets.contents c.self.inside.buckets.standing c.self.inside.told in
+    let inside = within c.self.view_is c.args.number c.requires in (
+      c.self.inside.least,
+      (
+        c.move_back-moved.ensures.counted,
+        (
+          back_within old _ c.args.number c.self.inside.counts.pruned (omega (arith, size, inside))
+              (moved_back old c.args.number _ told.small told.moved _ told.standing c.move_back.ensures.spills c.move_back.ensures.moved) c.self.inside.within,
+          tt,
+        ),
+      ),
+    )

@@ -8,4 +8,4 @@ pub next-requires : goal.next-requires
 next-requires g c = within c.self.view_is c.args.slot.0 c.requires
 
 pub returns : goal.returns
-returns g c = c.next.ensures ∙ ap (λ s. next_list (pair_cmp g.T.Key.Ord.cmp) (gathered s.parts) c.args.slot) c.self.view_is
+returns g c = c.next.ensures ∙ ap (λ s. next_list (pair_cmp g.T.Key.Ord.cmp) (gathered s.buckets) c.args.slot) c.self.view_is

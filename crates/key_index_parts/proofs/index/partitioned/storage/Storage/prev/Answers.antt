@@ -8,4 +8,4 @@ pub prev-requires : goal.prev-requires
 prev-requires g c = within c.self.view_is c.args.slot.0 c.requires
 
 pub returns : goal.returns
-returns g c = c.prev.ensures ∙ ap (λ s. prev_list (pair_cmp g.T.Key.Ord.cmp) (gathered s.parts) c.args.slot) c.self.view_is
+returns g c = c.prev.ensures ∙ ap (λ s. prev_list (pair_cmp g.T.Key.Ord.cmp) (gathered s.buckets) c.args.slot) c.self.view_is

@@ -6,7 +6,8 @@ use Rattle.key_index_parts.specs.Gathered.{gathered}
 use Rattle.key_index_parts.proofs.family.StorageLemmas.{within, keys_below, length-put_value, counted_gain, keeps, keeps_all, view_edited}
 use Rattle.key_index_parts.proofs.standing.StandingLemmas.{grows_to, none_more}
 use Rattle.key_index_parts.proofs.standing.MoveLemmas.{credit_pays}
-use Rattle.key_index_parts.proofs.standing.PaidLemmas.{growth_paid}
+use Rattle.key_index_parts.proofs.standing.PaidLemmas.{growth_paid, listed_by}
+use Rattle.key_index_parts.specs.Standing.{standings_of}
 use Rattle.key_index_parts.proofs.index.partitioned.storage.Storage.put.Goals as goal
 
 pub insert-requires : goal.insert-requires
@@ -15,23 +16,23 @@ insert-requires g c = record { within = within c.self.view_is c.args.slot.0 c.re
 pub gain-requires : goal.gain-requires
 gain-requires g c =
     let few = keys_below c.self.invariant in
-    let full = ap (λ s. item_count (gathered s.parts)) c.self.view_is in
+    let full = ap (λ s. item_count (gathered s.buckets)) c.self.view_is in
     let was = c.self.invariant.counted in
     record { items = omega (arith, full, was, c.requires.room); keys = omega (arith, few, full, was, c.requires.room) }
 
 pub invariant_of-self : goal.invariant_of-self
 invariant_of-self g c =
-    let list = list_in g.T.Key.Ord.cmp c.self.inside.parts.contents c.args.slot in
+    let list = list_in g.T.Key.Ord.cmp c.self.inside.buckets.contents c.args.slot in
     let inside = within c.self.view_is c.args.slot.0 c.requires.within in
     let told = c.in-Ok.ensures.accepted in
-    counted_gain c.self.invariant g.met.T.Key.Ord.total g.met.T.Translator.exact c.args.slot (put_value g.X.Part.FIRST c.args.value list) c.insert.new.self.contents inside told.0 _ _ c.in-Ok.absent told.1
-    (length-put_value g.X.Part.FIRST c.args.value list) c.gain.ensures.items c.gain.ensures.keys
+    counted_gain c.self.invariant g.met.T.Key.Ord.total g.met.T.Translator.exact c.args.slot (put_value g.X.Bucket.FIRST c.args.value list) c.insert.new.self.contents inside told.0 _ _ c.in-Ok.absent told.1
+    (length-put_value g.X.Bucket.FIRST c.args.value list) c.gain.ensures.items c.gain.ensures.keys
 
 pub returns-in-Ok-clause-accepted : goal.returns-in-Ok-clause-accepted
 returns-in-Ok-clause-accepted g c =
     let inside = within c.self.view_is c.args.slot.0 c.requires.within in
     rw (← c.self.view_is) (
-    view_edited c.self.invariant g.met.T.Key.Ord.total g.met.T.Translator.exact c.args.slot _ c.insert.new.self.contents inside c.in-Ok.ensures.accepted.0 g.T.Translator.translated c.self.inside.translator _ _ (put_value g.X.Part.FIRST c.args.value) refl c.gain.ensures.pruned
+    view_edited c.self.invariant g.met.T.Key.Ord.total g.met.T.Translator.exact c.args.slot _ c.insert.new.self.contents inside c.in-Ok.ensures.accepted.0 g.T.Translator.translated c.self.inside.translator _ _ (put_value g.X.Bucket.FIRST c.args.value) refl c.gain.ensures.pruned
     )
 
 pub returns-in-Ok-clause-kept : goal.returns-in-Ok-clause-kept
@@ -44,11 +45,11 @@ returns-in-Err-clause-kept g c = rw (← c.self.view_is) (keeps_all c.self.invar
 
 pub returns-in-Ok-clause-standing : goal.returns-in-Ok-clause-standing
 returns-in-Ok-clause-standing g c =
-    rw (← c.self.view_is) (grows_to g.X.Part.SPILLS (record { threshold = c.self.inside.threshold; parts = c.self.inside.parts.standing; spills = c.self.inside.moves.spills; moved = c.self.inside.moves.moved }) _ c.args.slot.0 c.in-Ok.ensures.listed c.self.inside.least refl c.in-Ok.ensures.standing _ c.in-Ok.ensures.moved c.spill.ensures.spills c.spill.ensures.moved)
+    rw (← c.self.view_is) (grows_to g.X.Bucket.SPILLS (standings_of c.self.inside.threshold c.self.inside.buckets.standing c.self.inside.moves.spills c.self.inside.moves.moved) c.args.slot.0 _ (listed_by _ _ c.self.inside.told c.args.slot.0 (within c.self.view_is c.args.slot.0 c.requires.within)) c.self.inside.least _ c.in-Ok.ensures.standing c.spill.ensures.spills c.spill.ensures.moved)
 
-pub returns-in-Ok-clause-bound : goal.returns-in-Ok-clause-bound
-returns-in-Ok-clause-bound g c =
-    let list = list_in g.T.Key.Ord.cmp c.self.inside.parts.contents c.args.slot in
+pub invariant_of-self-inside : goal.invariant_of-self-inside
+invariant_of-self-inside g c =
+    let list = list_in g.T.Key.Ord.cmp c.self.inside.buckets.contents c.args.slot in
     let inside = within c.self.view_is c.args.slot.0 c.requires.within in
-    let more = length-put_value g.X.Part.FIRST c.args.value list in
-    rw (← c.self.view_is) (growth_paid c.self.invariant g.met.T.Key.Ord.total c.args.slot (put_value g.X.Part.FIRST c.args.value list) c.insert.new.self.contents inside c.in-Ok.ensures.accepted.0 c.self.inside.parts.standing _ c.self.inside.told c.insert.ensures.counted c.self.inside.threshold c.self.inside.moves.spills c.self.inside.moves.moved c.self.inside.counts.pruned _ 0 (omega (arith, more)) (c.gain.ensures.pruned ∙ sym (none_more c.self.inside.counts.pruned)) credit_pays g.X.Part.SPILLS _ _ (grows_to g.X.Part.SPILLS (record { threshold = c.self.inside.threshold; parts = c.self.inside.parts.standing; spills = c.self.inside.moves.spills; moved = c.self.inside.moves.moved }) _ c.args.slot.0 c.in-Ok.ensures.listed c.self.inside.least refl c.in-Ok.ensures.standing _ c.in-Ok.ensures.moved c.spill.ensures.spills c.spill.ensures.moved))
+    let more = length-put_value g.X.Bucket.FIRST c.args.value list in
+    (c.self.inside.least, (c.insert.ensures.counted, (growth_paid c.self.invariant g.met.T.Key.Ord.total c.args.slot (put_value g.X.Bucket.FIRST c.args.value list) c.insert.new.self.contents inside c.in-Ok.ensures.accepted.0 c.self.inside.buckets.standing _ c.self.inside.told c.insert.ensures.counted c.self.inside.threshold c.self.inside.moves.spills c.self.inside.moves.moved c.self.inside.counts.pruned _ 0 (omega (arith, more)) (c.gain.ensures.pruned ∙ sym (none_more c.self.inside.counts.pruned)) credit_pays g.X.Bucket.SPILLS _ _ (grows_to g.X.Bucket.SPILLS (standings_of c.self.inside.threshold c.self.inside.buckets.standing c.self.inside.moves.spills c.self.inside.moves.moved) c.args.slot.0 _ (listed_by _ _ c.self.inside.told c.args.slot.0 (within c.self.view_is c.args.slot.0 c.requires.within)) c.self.inside.least _ c.in-Ok.ensures.standing c.spill.ensures.spills c.spill.ensures.moved) c.self.inside.within, tt)))

@@ -7,7 +7,8 @@ use Rattle.key_index_parts.specs.Gathered.{gathered}
 use Rattle.key_index_parts.proofs.family.StorageLemmas.{list_is, within, keys_below, counted_gain, keeps, keeps_all, view_edited}
 use Rattle.key_index_parts.proofs.standing.StandingLemmas.{grows_to, none_more}
 use Rattle.key_index_parts.proofs.standing.MoveLemmas.{credit_pays, range_pays}
-use Rattle.key_index_parts.proofs.standing.PaidLemmas.{growth_paid}
+use Rattle.key_index_parts.proofs.standing.PaidLemmas.{growth_paid, listed_by}
+use Rattle.key_index_parts.specs.Standing.{standings_of}
 use Rattle.key_index_parts.proofs.index.partitioned.storage.Storage.put_absent.Goals as goal
 
 pub insert_absent-requires : goal.insert_absent-requires
@@ -16,13 +17,13 @@ insert_absent-requires g c = record { within = within c.self.view_is c.args.slot
 pub gain-requires : goal.gain-requires
 gain-requires g c =
     let few = keys_below c.self.invariant in
-    let full = ap (λ s. item_count (gathered s.parts)) c.self.view_is in
+    let full = ap (λ s. item_count (gathered s.buckets)) c.self.view_is in
     let was = c.self.invariant.counted in
     record { items = omega (arith, full, was, c.requires.room); keys = omega (arith, few, full, was, c.requires.room) }
 
 pub invariant_of-self : goal.invariant_of-self
 invariant_of-self g c =
-    let list = list_in g.T.Key.Ord.cmp c.self.inside.parts.contents c.args.slot in
+    let list = list_in g.T.Key.Ord.cmp c.self.inside.buckets.contents c.args.slot in
     let inside = within c.self.view_is c.args.slot.0 c.requires.within in
     let zero = c.in-Ok-eq0-default.field-0-0-test in
     let none : length list ≡ 0 = sym c.in-Ok-eq0-default.ensures.len ∙ zero in
@@ -59,21 +60,20 @@ returns-in-Err-clause-kept g c = rw (← c.self.view_is) (keeps_all c.self.invar
 
 pub returns-in-Ok-eq0-default-clause-standing : goal.returns-in-Ok-eq0-default-clause-standing
 returns-in-Ok-eq0-default-clause-standing g c =
-    rw (← c.self.view_is) (λ _. grows_to g.X.Part.SPILLS (record { threshold = c.self.inside.threshold; parts = c.self.inside.parts.standing; spills = c.self.inside.moves.spills; moved = c.self.inside.moves.moved }) _ c.args.slot.0 c.in-Ok-eq0-default.ensures.listed c.self.inside.least refl
-    (c.in-Ok-eq0-default.ensures.standing c.in-Ok-eq0-default.field-0-0-test) _ c.in-Ok-eq0-default.ensures.moved c.spill.ensures.spills c.spill.ensures.moved)
+    rw (← c.self.view_is) (λ _. grows_to g.X.Bucket.SPILLS (standings_of c.self.inside.threshold c.self.inside.buckets.standing c.self.inside.moves.spills c.self.inside.moves.moved) c.args.slot.0 _ (listed_by _ _ c.self.inside.told c.args.slot.0 (within c.self.view_is c.args.slot.0 c.requires.within)) c.self.inside.least _ (c.in-Ok-eq0-default.ensures.standing c.in-Ok-eq0-default.field-0-0-test) c.spill.ensures.spills c.spill.ensures.moved)
 
-pub returns-in-Ok-eq0-default-clause-bound : goal.returns-in-Ok-eq0-default-clause-bound
-returns-in-Ok-eq0-default-clause-bound g c =
-    let list = list_in g.T.Key.Ord.cmp c.self.inside.parts.contents c.args.slot in
+pub invariant_of-self-inside : goal.invariant_of-self-inside
+invariant_of-self-inside g c =
+    let list = list_in g.T.Key.Ord.cmp c.self.inside.buckets.contents c.args.slot in
     let inside = within c.self.view_is c.args.slot.0 c.requires.within in
     let zero = c.in-Ok-eq0-default.field-0-0-test in
     let none : length list ≡ 0 = sym c.in-Ok-eq0-default.ensures.len ∙ zero in
-    rw (← c.self.view_is) (growth_paid c.self.invariant g.met.T.Key.Ord.total c.args.slot (c.args.value ∷ []) c.insert_absent.new.self.contents inside (c.in-Ok-eq0-default.ensures.inserted zero) c.self.inside.parts.standing _ c.self.inside.told c.insert_absent.ensures.counted c.self.inside.threshold c.self.inside.moves.spills c.self.inside.moves.moved c.self.inside.counts.pruned _ 0 (omega (arith, none)) (c.gain.ensures.pruned ∙ sym (none_more c.self.inside.counts.pruned)) credit_pays g.X.Part.SPILLS _ _ (grows_to g.X.Part.SPILLS (record { threshold = c.self.inside.threshold; parts = c.self.inside.parts.standing; spills = c.self.inside.moves.spills; moved = c.self.inside.moves.moved }) _ c.args.slot.0 c.in-Ok-eq0-default.ensures.listed c.self.inside.least refl (c.in-Ok-eq0-default.ensures.standing zero) _ c.in-Ok-eq0-default.ensures.moved c.spill.ensures.spills c.spill.ensures.moved))
+    (c.self.inside.least, (c.insert_absent.ensures.counted, (growth_paid c.self.invariant g.met.T.Key.Ord.total c.args.slot (c.args.value ∷ []) c.insert_absent.new.self.contents inside (c.in-Ok-eq0-default.ensures.inserted zero) c.self.inside.buckets.standing _ c.self.inside.told c.insert_absent.ensures.counted c.self.inside.threshold c.self.inside.moves.spills c.self.inside.moves.moved c.self.inside.counts.pruned _ 0 (omega (arith, none)) (c.gain.ensures.pruned ∙ sym (none_more c.self.inside.counts.pruned)) credit_pays g.X.Bucket.SPILLS _ _ (grows_to g.X.Bucket.SPILLS (standings_of c.self.inside.threshold c.self.inside.buckets.standing c.self.inside.moves.spills c.self.inside.moves.moved) c.args.slot.0 _ (listed_by _ _ c.self.inside.told c.args.slot.0 (within c.self.view_is c.args.slot.0 c.requires.within)) c.self.inside.least _ (c.in-Ok-eq0-default.ensures.standing zero) c.spill.ensures.spills c.spill.ensures.moved) c.self.inside.within, tt)))
 
 pub returns-in-Ok-eq0-default-clause-range_bound : goal.returns-in-Ok-eq0-default-clause-range_bound
 returns-in-Ok-eq0-default-clause-range_bound g c =
-    let list = list_in g.T.Key.Ord.cmp c.self.inside.parts.contents c.args.slot in
+    let list = list_in g.T.Key.Ord.cmp c.self.inside.buckets.contents c.args.slot in
     let inside = within c.self.view_is c.args.slot.0 c.requires.within in
     let zero = c.in-Ok-eq0-default.field-0-0-test in
     let none : length list ≡ 0 = sym c.in-Ok-eq0-default.ensures.len ∙ zero in
-    rw (← c.self.view_is) (growth_paid c.self.invariant g.met.T.Key.Ord.total c.args.slot (c.args.value ∷ []) c.insert_absent.new.self.contents inside (c.in-Ok-eq0-default.ensures.inserted zero) c.self.inside.parts.standing _ c.self.inside.told c.insert_absent.ensures.counted c.self.inside.threshold c.self.inside.moves.spills c.self.inside.moves.moved c.self.inside.counts.pruned _ 0 (omega (arith, none)) (c.gain.ensures.pruned ∙ sym (none_more c.self.inside.counts.pruned)) range_pays g.X.Part.SPILLS _ _ (grows_to g.X.Part.SPILLS (record { threshold = c.self.inside.threshold; parts = c.self.inside.parts.standing; spills = c.self.inside.moves.spills; moved = c.self.inside.moves.moved }) _ c.args.slot.0 c.in-Ok-eq0-default.ensures.listed c.self.inside.least refl (c.in-Ok-eq0-default.ensures.standing zero) _ c.in-Ok-eq0-default.ensures.moved c.spill.ensures.spills c.spill.ensures.moved))
+    rw (← c.self.view_is) (growth_paid c.self.invariant g.met.T.Key.Ord.total c.args.slot (c.args.value ∷ []) c.insert_absent.new.self.contents inside (c.in-Ok-eq0-default.ensures.inserted zero) c.self.inside.buckets.standing _ c.self.inside.told c.insert_absent.ensures.counted c.self.inside.threshold c.self.inside.moves.spills c.self.inside.moves.moved c.self.inside.counts.pruned _ 0 (omega (arith, none)) (c.gain.ensures.pruned ∙ sym (none_more c.self.inside.counts.pruned)) range_pays g.X.Bucket.SPILLS _ _ (grows_to g.X.Bucket.SPILLS (standings_of c.self.inside.threshold c.self.inside.buckets.standing c.self.inside.moves.spills c.self.inside.moves.moved) c.args.slot.0 _ (listed_by _ _ c.self.inside.told c.args.slot.0 (within c.self.view_is c.args.slot.0 c.requires.within)) c.self.inside.least _ (c.in-Ok-eq0-default.ensures.standing zero) c.spill.ensures.spills c.spill.ensures.moved))

@@ -8,7 +8,8 @@ use Rattle.key_index_parts.specs.Gathered.{gathered}
 use Rattle.key_index_parts.proofs.family.StorageLemmas.{list_is, within, can_change, counted_change, keeps, keeps_all, view_pruned}
 use Rattle.key_index_parts.proofs.standing.StandingLemmas.{grows_to}
 use Rattle.key_index_parts.proofs.standing.MoveLemmas.{credit_pays}
-use Rattle.key_index_parts.proofs.standing.PaidLemmas.{growth_paid}
+use Rattle.key_index_parts.proofs.standing.PaidLemmas.{growth_paid, listed_by}
+use Rattle.key_index_parts.specs.Standing.{standings_of}
 use Rattle.key_index_parts.proofs.index.partitioned.storage.Storage.put_and_retain.Goals as goal
 
 pub insert_and_retain-requires-clause-within : goal.insert_and_retain-requires-clause-within
@@ -21,7 +22,7 @@ pub change-requires : goal.change-requires
 change-requires g c =
     let said = c.in-Ok.ensures.accepted in
     let most = few_kept said.1 in
-    let full = ap (λ s. item_count (gathered s.parts)) c.self.view_is in
+    let full = ap (λ s. item_count (gathered s.buckets)) c.self.view_is in
     let was = c.self.invariant.counted in
     can_change c.self.invariant g.met.T.Key.Ord.total g.met.T.Translator.exact c.args.slot _ c.insert_and_retain.new.self.contents (within c.self.view_is c.args.slot.0 c.requires.within) said.2
     _ _ said.3 said.4 (omega (arith, said.3, said.4, most, full, was, c.requires.room))
@@ -59,14 +60,14 @@ returns-in-Err-clause-kept g c = rw (← c.self.view_is) (keeps_all c.self.invar
 
 pub returns-in-Ok-clause-standing : goal.returns-in-Ok-clause-standing
 returns-in-Ok-clause-standing g c =
-    rw (← c.self.view_is) (grows_to g.X.Part.SPILLS (record { threshold = c.self.inside.threshold; parts = c.self.inside.parts.standing; spills = c.self.inside.moves.spills; moved = c.self.inside.moves.moved }) _ c.args.slot.0 c.in-Ok.ensures.listed c.self.inside.least refl c.in-Ok.ensures.standing _ c.in-Ok.ensures.moved c.spill.ensures.spills c.spill.ensures.moved)
+    rw (← c.self.view_is) (grows_to g.X.Bucket.SPILLS (standings_of c.self.inside.threshold c.self.inside.buckets.standing c.self.inside.moves.spills c.self.inside.moves.moved) c.args.slot.0 _ (listed_by _ _ c.self.inside.told c.args.slot.0 (within c.self.view_is c.args.slot.0 c.requires.within)) c.self.inside.least _ c.in-Ok.ensures.standing c.spill.ensures.spills c.spill.ensures.moved)
 
-pub returns-in-Ok-clause-bound : goal.returns-in-Ok-clause-bound
-returns-in-Ok-clause-bound g c =
-    let list = list_in g.T.Key.Ord.cmp c.self.inside.parts.contents c.args.slot in
+pub invariant_of-self-inside : goal.invariant_of-self-inside
+invariant_of-self-inside g c =
+    let list = list_in g.T.Key.Ord.cmp c.self.inside.buckets.contents c.args.slot in
     let inside = within c.self.view_is c.args.slot.0 c.requires.within in
     let said = c.in-Ok.ensures.accepted in
     let few = held_answers true said.1.answers list c.args.value said.1.long in
     let kept = ap (λ l. length l) said.1.kept in
     let taken = said.1.taken in
-    rw (← c.self.view_is) (growth_paid c.self.invariant g.met.T.Key.Ord.total c.args.slot _ c.insert_and_retain.new.self.contents inside said.2 c.self.inside.parts.standing _ c.self.inside.told c.insert_and_retain.ensures.counted c.self.inside.threshold c.self.inside.moves.spills c.self.inside.moves.moved c.self.inside.counts.pruned _ _ (omega (arith, few, kept, taken)) c.change.ensures.pruned credit_pays g.X.Part.SPILLS _ _ (grows_to g.X.Part.SPILLS (record { threshold = c.self.inside.threshold; parts = c.self.inside.parts.standing; spills = c.self.inside.moves.spills; moved = c.self.inside.moves.moved }) _ c.args.slot.0 c.in-Ok.ensures.listed c.self.inside.least refl c.in-Ok.ensures.standing _ c.in-Ok.ensures.moved c.spill.ensures.spills c.spill.ensures.moved))
+    (c.self.inside.least, (c.insert_and_retain.ensures.counted, (growth_paid c.self.invariant g.met.T.Key.Ord.total c.args.slot _ c.insert_and_retain.new.self.contents inside said.2 c.self.inside.buckets.standing _ c.self.inside.told c.insert_and_retain.ensures.counted c.self.inside.threshold c.self.inside.moves.spills c.self.inside.moves.moved c.self.inside.counts.pruned _ _ (omega (arith, few, kept, taken)) c.change.ensures.pruned credit_pays g.X.Bucket.SPILLS _ _ (grows_to g.X.Bucket.SPILLS (standings_of c.self.inside.threshold c.self.inside.buckets.standing c.self.inside.moves.spills c.self.inside.moves.moved) c.args.slot.0 _ (listed_by _ _ c.self.inside.told c.args.slot.0 (within c.self.view_is c.args.slot.0 c.requires.within)) c.self.inside.least _ c.in-Ok.ensures.standing c.spill.ensures.spills c.spill.ensures.moved) c.self.inside.within, tt)))

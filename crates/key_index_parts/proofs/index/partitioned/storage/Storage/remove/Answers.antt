@@ -13,7 +13,7 @@ returns-in-Ok-clause-removed g c =
     let cmp = g.T.Key.Ord.cmp in
     let now : view c.move_back.new.self ≡ view c.take.new.self = ap view c.move_back.ensures.same in
     now ∙ c.take.ensures.removed
-    ∙ ap (λ s. with_pruned (with_edit (pair_cmp cmp) (view s) c.args.slot (λ _. [])) (length (held_at cmp s.parts c.args.slot))) c.in-Ok.ensures.settled
+    ∙ ap (λ s. with_pruned (with_edit (pair_cmp cmp) (view s) c.args.slot (λ _. [])) (length (held_at cmp s.buckets c.args.slot))) c.in-Ok.ensures.settled
 
 pub returns-in-Ok-clause-settled : goal.returns-in-Ok-clause-settled
 returns-in-Ok-clause-settled g c = λ is.

@@ -8,7 +8,7 @@ use Rattle.key_index_parts.proofs.index.partitioned.storage.Storage.remove_at.Go
 
 pub remove_at-value-requires : goal.remove_at-value-requires
 remove_at-value-requires g c =
-    let seen = subst (λ s. c.args.place < length (held_at g.T.Key.Ord.cmp s.parts c.args.slot)) (sym c.self.view_is) c.requires in
+    let seen = subst (λ s. c.args.place < length (held_at g.T.Key.Ord.cmp s.buckets c.args.slot)) (sym c.self.view_is) c.requires in
     subst (λ l. c.args.place < length l) (list_is c.self.invariant c.args.slot) seen
 
 pub overflow_add-had : goal.overflow_add-had
@@ -19,24 +19,24 @@ overflow_add-had g c =
 
 pub change-requires : goal.change-requires
 change-requires g c =
-    let seen = subst (λ s. c.args.place < length (held_at g.T.Key.Ord.cmp s.parts c.args.slot)) (sym c.self.view_is) c.requires in
-    let list = list_in g.T.Key.Ord.cmp c.self.inside.parts.contents c.args.slot in
+    let seen = subst (λ s. c.args.place < length (held_at g.T.Key.Ord.cmp s.buckets c.args.slot)) (sym c.self.view_is) c.requires in
+    let list = list_in g.T.Key.Ord.cmp c.self.inside.buckets.contents c.args.slot in
     let place : c.args.place < length list = subst (λ m. c.args.place < length m) (list_is c.self.invariant c.args.slot) seen in
     let less = length-remove list c.args.place place in
     let left = c.remove_at-value.ensures.left in
     let small : c.self.inside.counts.items < 2 ^ 64 = search rules in
     can_change c.self.invariant g.met.T.Key.Ord.total g.met.T.Translator.exact c.args.slot (remove list c.args.place) c.remove_at-value.new.self.contents (held_inside c.self.invariant c.args.slot c.args.place seen)
-    c.remove_at-value.ensures.parts _ _ left (omega (arith, less, left)) (omega (arith, small))
+    c.remove_at-value.ensures.buckets _ _ left (omega (arith, less, left)) (omega (arith, small))
 
 pub invariant_of-self : goal.invariant_of-self
 invariant_of-self g c =
-    let seen = subst (λ s. c.args.place < length (held_at g.T.Key.Ord.cmp s.parts c.args.slot)) (sym c.self.view_is) c.requires in
-    let list = list_in g.T.Key.Ord.cmp c.self.inside.parts.contents c.args.slot in
+    let seen = subst (λ s. c.args.place < length (held_at g.T.Key.Ord.cmp s.buckets c.args.slot)) (sym c.self.view_is) c.requires in
+    let list = list_in g.T.Key.Ord.cmp c.self.inside.buckets.contents c.args.slot in
     let place : c.args.place < length list = subst (λ m. c.args.place < length m) (list_is c.self.invariant c.args.slot) seen in
     let less = length-remove list c.args.place place in
     let left = c.remove_at-value.ensures.left in
     counted_change c.self.invariant g.met.T.Key.Ord.total g.met.T.Translator.exact c.args.slot (remove list c.args.place) c.remove_at-value.new.self.contents (held_inside c.self.invariant c.args.slot c.args.place seen)
-    c.remove_at-value.ensures.parts _ _ left (omega (arith, less, left)) _ _ c.change.ensures.items c.change.ensures.keys
+    c.remove_at-value.ensures.buckets _ _ left (omega (arith, less, left)) _ _ c.change.ensures.items c.change.ensures.keys
 
 pub returns-clause-value : goal.returns-clause-value
 returns-clause-value g c =
@@ -46,32 +46,32 @@ returns-clause-value g c =
 
 pub returns-clause-edited : goal.returns-clause-edited
 returns-clause-edited g c =
-    let seen = subst (λ s. c.args.place < length (held_at g.T.Key.Ord.cmp s.parts c.args.slot)) (sym c.self.view_is) c.requires in
+    let seen = subst (λ s. c.args.place < length (held_at g.T.Key.Ord.cmp s.buckets c.args.slot)) (sym c.self.view_is) c.requires in
     let inside = held_inside c.self.invariant c.args.slot c.args.place seen in
     rw (← c.self.view_is) (
-    view_pruned c.self.invariant g.met.T.Key.Ord.total g.met.T.Translator.exact c.args.slot _ c.remove_at-value.new.self.contents inside c.remove_at-value.ensures.parts g.T.Translator.translated c.self.inside.translator _ _ (λ l. remove l c.args.place) refl 1 c.change.ensures.pruned
+    view_pruned c.self.invariant g.met.T.Key.Ord.total g.met.T.Translator.exact c.args.slot _ c.remove_at-value.new.self.contents inside c.remove_at-value.ensures.buckets g.T.Translator.translated c.self.inside.translator _ _ (λ l. remove l c.args.place) refl 1 c.change.ensures.pruned
     )
 
 pub returns-clause-kept : goal.returns-clause-kept
 returns-clause-kept g c =
-    let seen = subst (λ s. c.args.place < length (held_at g.T.Key.Ord.cmp s.parts c.args.slot)) (sym c.self.view_is) c.requires in
+    let seen = subst (λ s. c.args.place < length (held_at g.T.Key.Ord.cmp s.buckets c.args.slot)) (sym c.self.view_is) c.requires in
     let inside = held_inside c.self.invariant c.args.slot c.args.place seen in
-    rw (← c.self.view_is) (keeps c.self.invariant g.met.T.Key.Ord.total g.met.T.Translator.exact c.args.slot _ c.remove_at-value.new.self.contents inside c.remove_at-value.ensures.parts)
+    rw (← c.self.view_is) (keeps c.self.invariant g.met.T.Key.Ord.total g.met.T.Translator.exact c.args.slot _ c.remove_at-value.new.self.contents inside c.remove_at-value.ensures.buckets)
 
-pub returns-clause-bound : goal.returns-clause-bound
-returns-clause-bound g c =
-    let seen = subst (λ s. c.args.place < length (held_at g.T.Key.Ord.cmp s.parts c.args.slot)) (sym c.self.view_is) c.requires in
+pub invariant_of-self-inside : goal.invariant_of-self-inside
+invariant_of-self-inside g c =
+    let seen = subst (λ s. c.args.place < length (held_at g.T.Key.Ord.cmp s.buckets c.args.slot)) (sym c.self.view_is) c.requires in
     let inside = held_inside c.self.invariant c.args.slot c.args.place seen in
-    let list = list_in g.T.Key.Ord.cmp c.self.inside.parts.contents c.args.slot in
+    let list = list_in g.T.Key.Ord.cmp c.self.inside.buckets.contents c.args.slot in
     let place : c.args.place < length list = subst (λ m. c.args.place < length m) (list_is c.self.invariant c.args.slot) seen in
     let less = length-remove list c.args.place place in
-    rw (← c.self.view_is) (edit_paid c.self.invariant g.met.T.Key.Ord.total c.args.slot (remove list c.args.place) c.remove_at-value.new.self.contents inside c.remove_at-value.ensures.parts c.self.inside.parts.standing _ c.self.inside.told c.remove_at-value.ensures.counted c.self.inside.threshold c.self.inside.moves.spills c.self.inside.moves.moved c.self.inside.counts.pruned _ 1 (omega (arith, less, place)) c.change.ensures.pruned credit_pays c.remove_at-value.ensures.standing)
+    (c.self.inside.least, (c.remove_at-value.ensures.counted, (edit_paid c.self.invariant g.met.T.Key.Ord.total c.args.slot (remove list c.args.place) c.remove_at-value.new.self.contents inside c.remove_at-value.ensures.buckets c.self.inside.buckets.standing _ c.self.inside.told c.remove_at-value.ensures.counted c.self.inside.threshold c.self.inside.moves.spills c.self.inside.moves.moved c.self.inside.counts.pruned _ 1 (omega (arith, less, place)) c.change.ensures.pruned credit_pays c.remove_at-value.ensures.standing c.self.inside.within, tt)))
 
 pub returns-clause-range_bound : goal.returns-clause-range_bound
 returns-clause-range_bound g c =
-    let seen = subst (λ s. c.args.place < length (held_at g.T.Key.Ord.cmp s.parts c.args.slot)) (sym c.self.view_is) c.requires in
+    let seen = subst (λ s. c.args.place < length (held_at g.T.Key.Ord.cmp s.buckets c.args.slot)) (sym c.self.view_is) c.requires in
     let inside = held_inside c.self.invariant c.args.slot c.args.place seen in
-    let list = list_in g.T.Key.Ord.cmp c.self.inside.parts.contents c.args.slot in
+    let list = list_in g.T.Key.Ord.cmp c.self.inside.buckets.contents c.args.slot in
     let place : c.args.place < length list = subst (λ m. c.args.place < length m) (list_is c.self.invariant c.args.slot) seen in
     let less = length-remove list c.args.place place in
-    rw (← c.self.view_is) (edit_paid c.self.invariant g.met.T.Key.Ord.total c.args.slot (remove list c.args.place) c.remove_at-value.new.self.contents inside c.remove_at-value.ensures.parts c.self.inside.parts.standing _ c.self.inside.told c.remove_at-value.ensures.counted c.self.inside.threshold c.self.inside.moves.spills c.self.inside.moves.moved c.self.inside.counts.pruned _ 1 (omega (arith, less, place)) c.change.ensures.pruned range_pays c.remove_at-value.ensures.standing)
+    rw (← c.self.view_is) (edit_paid c.self.invariant g.met.T.Key.Ord.total c.args.slot (remove list c.args.place) c.remove_at-value.new.self.contents inside c.remove_at-value.ensures.buckets c.self.inside.buckets.standing _ c.self.inside.told c.remove_at-value.ensures.counted c.self.inside.threshold c.self.inside.moves.spills c.self.inside.moves.moved c.self.inside.counts.pruned _ 1 (omega (arith, less, place)) c.change.ensures.pruned range_pays c.remove_at-value.ensures.standing)

@@ -12,28 +12,28 @@ pub change-requires : goal.change-requires
 change-requires g c =
     let inside = within c.self.view_is c.args.slot.0 c.requires in
     let small : c.self.inside.counts.items < 2 ^ 64 = search rules in
-    can_change c.self.invariant g.met.T.Key.Ord.total g.met.T.Translator.exact c.args.slot [] c.remove-had.new.self.contents inside c.remove-had.ensures.parts _ 0 c.remove-had.ensures.taken refl (omega (arith, small))
+    can_change c.self.invariant g.met.T.Key.Ord.total g.met.T.Translator.exact c.args.slot [] c.remove-had.new.self.contents inside c.remove-had.ensures.buckets _ 0 c.remove-had.ensures.taken refl (omega (arith, small))
 
 pub invariant_of-self : goal.invariant_of-self
 invariant_of-self g c =
     let inside = within c.self.view_is c.args.slot.0 c.requires in
-    counted_change c.self.invariant g.met.T.Key.Ord.total g.met.T.Translator.exact c.args.slot [] c.remove-had.new.self.contents inside c.remove-had.ensures.parts _ 0 c.remove-had.ensures.taken refl _ _ c.change.ensures.items c.change.ensures.keys
+    counted_change c.self.invariant g.met.T.Key.Ord.total g.met.T.Translator.exact c.args.slot [] c.remove-had.new.self.contents inside c.remove-had.ensures.buckets _ 0 c.remove-had.ensures.taken refl _ _ c.change.ensures.items c.change.ensures.keys
 
 pub returns-clause-removed : goal.returns-clause-removed
 returns-clause-removed g c =
     let inside = within c.self.view_is c.args.slot.0 c.requires in
     let had = c.remove-had.ensures.taken ∙ ap (λ l. length l) (sym (list_is c.self.invariant c.args.slot)) in
     rw (← c.self.view_is) (
-    view_pruned c.self.invariant g.met.T.Key.Ord.total g.met.T.Translator.exact c.args.slot [] c.remove-had.new.self.contents inside c.remove-had.ensures.parts g.T.Translator.translated c.self.inside.translator _ _ (λ _. []) refl
+    view_pruned c.self.invariant g.met.T.Key.Ord.total g.met.T.Translator.exact c.args.slot [] c.remove-had.new.self.contents inside c.remove-had.ensures.buckets g.T.Translator.translated c.self.inside.translator _ _ (λ _. []) refl
     _ (c.change.ensures.pruned ∙ ap (λ n. pruned_after c.self.inside.counts.pruned n) had)
     )
 
 pub returns-clause-kept : goal.returns-clause-kept
 returns-clause-kept g c =
     let inside = within c.self.view_is c.args.slot.0 c.requires in
-    rw (← c.self.view_is) (keeps c.self.invariant g.met.T.Key.Ord.total g.met.T.Translator.exact c.args.slot [] c.remove-had.new.self.contents inside c.remove-had.ensures.parts)
+    rw (← c.self.view_is) (keeps c.self.invariant g.met.T.Key.Ord.total g.met.T.Translator.exact c.args.slot [] c.remove-had.new.self.contents inside c.remove-had.ensures.buckets)
 
-pub returns-clause-bound : goal.returns-clause-bound
-returns-clause-bound g c =
+pub invariant_of-self-inside : goal.invariant_of-self-inside
+invariant_of-self-inside g c =
     let inside = within c.self.view_is c.args.slot.0 c.requires in
-    rw (← c.self.view_is) (edit_paid c.self.invariant g.met.T.Key.Ord.total c.args.slot [] c.remove-had.new.self.contents inside c.remove-had.ensures.parts c.self.inside.parts.standing _ c.self.inside.told c.remove-had.ensures.counted c.self.inside.threshold c.self.inside.moves.spills c.self.inside.moves.moved c.self.inside.counts.pruned _ _ (omega (arith, c.remove-had.ensures.taken)) c.change.ensures.pruned credit_pays c.remove-had.ensures.standing)
+    (c.self.inside.least, (c.remove-had.ensures.counted, (edit_paid c.self.invariant g.met.T.Key.Ord.total c.args.slot [] c.remove-had.new.self.contents inside c.remove-had.ensures.buckets c.self.inside.buckets.standing _ c.self.inside.told c.remove-had.ensures.counted c.self.inside.threshold c.self.inside.moves.spills c.self.inside.moves.moved c.self.inside.counts.pruned _ _ (omega (arith, c.remove-had.ensures.taken)) c.change.ensures.pruned credit_pays c.remove-had.ensures.standing c.self.inside.within, tt)))

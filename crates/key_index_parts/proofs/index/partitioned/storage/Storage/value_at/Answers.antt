@@ -6,7 +6,7 @@ use Rattle.key_index_parts.proofs.index.partitioned.storage.Storage.value_at.Goa
 
 pub value_at-requires : goal.value_at-requires
 value_at-requires g c =
-    let held = subst (λ s. c.args.place < length (list_at (pair_cmp g.T.Key.Ord.cmp) (gathered s.parts) c.args.slot)) (sym c.self.view_is) c.requires in
+    let held = subst (λ s. c.args.place < length (list_at (pair_cmp g.T.Key.Ord.cmp) (gathered s.buckets) c.args.slot)) (sym c.self.view_is) c.requires in
     subst (λ l. c.args.place < length l) (list_is c.self.invariant c.args.slot) held
 
 pub returns : goal.returns

@@ -11,4 +11,4 @@ returns-clause-accepted g c =
     let view = view_of g.row.P g.T.Translator.translated storage in
     on_ok c.remove.result _ _ (λ h.
     subst (λ s. view_of g.row.P g.T.Translator.translated c.remove.new.self
-    ≡ with_pruned (with_edit (pair_cmp g.T.Key.Ord.cmp) view s (λ _. [])) (length (held_at g.T.Key.Ord.cmp storage.parts s))) c.slot_of-slot.ensures.slot h) c.remove.ensures.removed
+    ≡ with_pruned (with_edit (pair_cmp g.T.Key.Ord.cmp) view s (λ _. [])) (length (held_at g.T.Key.Ord.cmp storage.buckets s))) c.slot_of-slot.ensures.slot h) c.remove.ensures.removed

@@ -1,0 +1,8 @@
+use Rattle.std.proofs.Common.{◌≡◌, false, ◌≤◌, [], length, All, vec_capacity}
+use Rattle.key_index_parts.specs.Family.{stands}
+use Rattle.key_index_parts.proofs.index.partitioned.directory.Directory.new.Given as goal
+
+abbrev pub invariant-loop : goal.invariant-loop
+invariant-loop g l =
+    (length l.buckets.items ≡ l.counter) × (l.count ≤ vec_capacity l.buckets) × All (λ bucket. g.X.Held.content bucket ≡ []) l.buckets.items
+    × All (λ bucket. stands (g.X.Held.content bucket) (g.X.Held.spilled bucket) ≡ record { entries = 0; spilled = false }) l.buckets.items

@@ -1,0 +1,25 @@
+use Rattle.std.proofs.Common.{remove, ◌∙◌, ap}
+use Rattle.key_index_parts.proofs.family.FamilyLemmas.{held_within, bucket_taken, not_not, bucket_edited, flags_edited, leaves}
+use Rattle.key_index_parts.proofs.family.FamilyLemmas.{counted_buckets}
+use Rattle.key_index_parts.proofs.index.partitioned.directory.Directory.remove_at.Goals as goal
+
+pub invariant_of-self : goal.invariant_of-self
+invariant_of-self g c =
+    let cmp = g.T.Key.Ord.cmp in
+    let bucket = bucket_taken g.X.Held.content c.self.inside.buckets.items (ap (λ s. s.contents) c.self.view_is) (held_within cmp c.args.self.now.contents c.args.slot c.args.place c.requires) c.index_mut-bucket.ensures.value in
+    c.set.ensures ∙ flags_edited cmp bucket c.self.inside.filled c.remove_at-removed.new.self _ c.self.invariant (not_not _ _ c.is_empty-holds.ensures)
+
+pub returns-clause-buckets : goal.returns-clause-buckets
+returns-clause-buckets g c =
+    let cmp = g.T.Key.Ord.cmp in
+    let k = c.args.slot.1 in
+    let bucket = bucket_taken g.X.Held.content c.self.inside.buckets.items (ap (λ s. s.contents) c.self.view_is) (held_within cmp c.args.self.now.contents c.args.slot c.args.place c.requires) c.index_mut-bucket.ensures.value in
+    rw (← c.self.view_is) (bucket_edited cmp bucket c.remove_at-removed.new.self k (λ l. remove l c.args.place) c.remove_at-removed.ensures.content)
+
+pub returns-clause-standing : goal.returns-clause-standing
+returns-clause-standing g c =
+    let bucket = bucket_taken g.X.Held.content c.self.inside.buckets.items (ap (λ s. s.contents) c.self.view_is) (held_within g.T.Key.Ord.cmp c.args.self.now.contents c.args.slot c.args.place c.requires) c.index_mut-bucket.ensures.value in
+    rw (← c.self.view_is) (leaves bucket g.X.Held.spilled c.remove_at-removed.new.self c.remove_at-removed.ensures.standing)
+
+pub returns-clause-counted : goal.returns-clause-counted
+returns-clause-counted g c = counted_buckets g.X.Held.content g.X.Held.spilled _

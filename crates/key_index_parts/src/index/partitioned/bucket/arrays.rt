@@ -1,0 +1,236 @@
+//! A bucket as sorted arrays.
+ghost use Rattle.std.specs.Prelude.{◌≡◌, List, true, false, length, map, IfOk};
+ghost use Rattle.std.specs.Fn.{CalledAt};
+ghost use Rattle.key_index_flat.specs.Content.{item_count, list_at, with_list};
+ghost use Rattle.key_index_flat.specs.Retention.{AsksInTurn};
+ghost use Rattle.key_index_parts.specs.Pairs.{IsFound, grouped, list_of, room_of, room_for};
+
+use super::{EditBucket, Form, Held, OrderedBucket, ReadBucket};
+use crate::index::partitioned::ordered::partition::Partition;
+use key_index_flat::index::Values;
+use key_index_flat::index::implement::Retained;
+use key_index_flat::translator::Translator;
+use std::alloc::{AllocError, Global};
+use std::ops::Range;
+
+/// A bucket as sorted arrays: each key once for each of its values.
+#[derive(Drop)]
+pub struct Arrays<T: Translator, V> {
+    pairs: Partition<T::Key, V>,
+}
+
+/// Calls the closure once for each value of a key's run, removes those for which it returns false, and tells how many are left, and what it
+/// returned last: true where the run is empty.
+fn retain_run<T: Translator, V: Drop, F: FnMut(&V) -> bool>(
+    pairs: &mut Partition<T::Key, V>,
+    key: T::Key,
+    run: Range<usize>,
+    mut should_retain: F,
+) -> (usize, bool)
+    requires callable { F.IsAlwaysCallable should_retain }
+    requires found { IsFound T.Key.cmp pairs.old.pairs key run.start run.end }
+    ensures kept { (kept : List V)
+        × AsksInTurn (CalledAt F.FnMut) should_retain true (list_at T.Key.cmp (grouped T.Key.cmp pairs.old.pairs) key)
+        kept result.1
+        × (grouped T.Key.cmp pairs.new.pairs ≡ with_list T.Key.cmp (grouped T.Key.cmp pairs.old.pairs) key kept)
+        × (result.0 ≡ length kept) }
+{
+    let start = run.start;
+    let mut end = run.end;
+    let mut place = start;
+    let mut stays = true;
+    while place < end {
+        stays = should_retain(pairs.value_at(place));
+        if stays {
+            place += 1;
+        } else {
+            pairs.remove(place);
+            end -= 1;
+        }
+    }
+    (end - start, stays)
+}
+
+impl<T: Translator, V: Drop> Arrays<T, V> {
+    /// The arrays of some pairs.
+    #[inline]
+    pub(super) fn of_pairs(pairs: Partition<T::Key, V>) -> Arrays<T, V>
+        ensures { result.pairs ≡ pairs }
+    {
+        Arrays { pairs }
+    }
+
+    /// Where the arrays take their memory.
+    #[inline]
+    pub(super) fn alloc(&self) -> Global {
+        self.pairs.alloc()
+    }
+
+    /// Each key once, with room for exactly its values and none of them yet.
+    pub(super) fn empty_runs(&self) -> Result<Vec<(T::Key, Vec<V>)>, AllocError>
+        ensures { IfOk result (λ runs.
+            map room_of runs.items ≡ map room_for (grouped T.Key.cmp self.now.pairs.pairs)) }
+    {
+        self.pairs.empty_runs()
+    }
+
+    /// Moves all values to such room, without growth, and gives the memory of the arrays back.
+    pub(super) fn drain_into(&mut self, runs: &mut Vec<(T::Key, Vec<V>)>)
+        requires { map room_of runs.old.items ≡ map room_for (grouped T.Key.cmp self.old.pairs.pairs) }
+        ensures { map list_of runs.new.items ≡ grouped T.Key.cmp self.old.pairs.pairs }
+    {
+        self.pairs.drain_into(runs);
+    }
+
+    /// How many values stand in the arrays.
+    pub(super) fn len(&self) -> usize
+        ensures { result ≡ item_count (grouped T.Key.cmp self.now.pairs.pairs) }
+    {
+        self.pairs.len()
+    }
+}
+
+impl<T: Translator, V> Held<T, V> for Arrays<T, V> {
+    ghost use Rattle.key_index_parts.specs.laws.PairLaws.{IsLawful-grouped};
+    ghost use Rattle.key_index_parts.specs.laws.StandingLaws.{inline_filled};
+
+    ghost content = { λ bucket. grouped T.Key.cmp bucket.pairs.pairs };
+
+    ghost spilled = { λ _. false };
+
+    ghost lawful = { λ bucket. IsLawful-grouped T.Key.total bucket.pairs.pairs };
+
+    ghost filled = { λ bucket h. inline_filled (item_count (grouped T.Key.cmp bucket.pairs.pairs)) h };
+}
+
+impl<T: Translator, V: Drop> ReadBucket<T, V> for Arrays<T, V> {
+    #[inline]
+    fn is_empty(&self) -> bool {
+        self.pairs.is_empty()
+    }
+
+    #[inline]
+    fn get(&self, key: T::Key) -> Values<'_, V> {
+        Values::of_slice(self.pairs.values(&key))
+    }
+
+    #[inline]
+    fn run_len(&self, key: T::Key) -> usize {
+        let run = self.pairs.run_range(&key);
+        run.end - run.start
+    }
+
+    #[inline]
+    fn value_at(&self, key: T::Key, place: usize) -> &V {
+        let run = self.pairs.run_range(&key);
+        self.pairs.value_at(run.start + place)
+    }
+
+    fn for_each_value<F: FnMut(&V)>(&self, visit: &mut F) {
+        let mut rest = self.pairs.values_iter().as_slice();
+        while let Some((value, behind)) = rest.split_first() {
+            visit(value);
+            rest = behind;
+        }
+    }
+}
+
+impl<T: Translator, V: Drop> EditBucket<T, V> for Arrays<T, V> {
+    fn set_at(&mut self, key: T::Key, place: usize, value: V) {
+        let run = self.pairs.run_range(&key);
+        self.pairs.set(run.start + place, value);
+    }
+
+    fn insert_at(&mut self, key: T::Key, place: usize, value: V) -> Result<bool, V> {
+        let run = self.pairs.run_range(&key);
+        match self.pairs.insert_at(run.start + place, key, value) {
+            Ok(()) => Ok(run.start == run.end),
+            Err(refused) => Err(refused.value),
+        }
+    }
+
+    fn remove_at(&mut self, key: T::Key, place: usize) -> (V, usize) {
+        let run = self.pairs.run_range(&key);
+        let value = self.pairs.remove(run.start + place);
+        (value, run.end - run.start - 1)
+    }
+
+    fn retain<F: FnMut(&V) -> bool>(&mut self, key: T::Key, should_retain: F) -> (usize, usize) {
+        let run = self.pairs.run_range(&key);
+        let had = run.end - run.start;
+        let (left, _) = retain_run::<T, V, F>(&mut self.pairs, key, run, should_retain);
+        (had, left)
+    }
+
+    fn remove(&mut self, key: T::Key) -> usize {
+        let run = self.pairs.run_range(&key);
+        let taken = run.end - run.start;
+        self.pairs.remove_run(run);
+        taken
+    }
+}
+
+impl<T: Translator, V: Drop> Form<T, V> for Arrays<T, V> {
+    fn insert(&mut self, key: T::Key, value: V) -> Result<bool, V> {
+        let run = self.pairs.run_range(&key);
+        let behind = run.end;
+        match self.pairs.insert_at(behind, key, value) {
+            Ok(()) => Ok(run.start == run.end),
+            Err(refused) => Err(refused.value),
+        }
+    }
+
+    fn insert_and_retain<F: FnMut(&V) -> bool>(
+        &mut self,
+        key: T::Key,
+        value: V,
+        should_retain: F,
+    ) -> Result<Retained, V> {
+        let run = self.pairs.run_range(&key);
+        let (start, had) = (run.start, run.end - run.start);
+        let behind = self.pairs.len() - run.end;
+        match self.pairs.insert_at(run.end, key, value) {
+            Ok(()) => {
+                let run = start..self.pairs.len() - behind;
+                let (left, stays) = retain_run::<T, V, F>(&mut self.pairs, key, run, should_retain);
+                let taken = had + usize::from(stays) - left;
+                Ok(Retained { had, left, taken })
+            }
+            Err(refused) => Err(refused.value),
+        }
+    }
+}
+
+impl<T: Translator, V: Drop> OrderedBucket<T, V> for Arrays<T, V> {
+    #[inline]
+    fn first(&self) -> Option<Values<'_, V>> {
+        match self.pairs.first_values() {
+            Some(values) => Some(Values::of_slice(values)),
+            None => None,
+        }
+    }
+
+    #[inline]
+    fn last(&self) -> Option<Values<'_, V>> {
+        match self.pairs.last_values() {
+            Some(values) => Some(Values::of_slice(values)),
+            None => None,
+        }
+    }
+
+    #[inline]
+    fn above(&self, key: T::Key) -> Option<Values<'_, V>> {
+        match self.pairs.next_values_after(&key) {
+            Some(values) => Some(Values::of_slice(values)),
+            None => None,
+        }
+    }
+
+    #[inline]
+    fn below(&self, key: T::Key) -> Option<Values<'_, V>> {
+        match self.pairs.prev_values_before(&key) {
+            Some(values) => Some(Values::of_slice(values)),
+            None => None,
+        }
+    }
+}
