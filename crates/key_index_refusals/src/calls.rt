@@ -439,6 +439,24 @@ pub(crate) fn put_behind_in_index<I: Unordered<Value = u64>>(
     put_behind(index, kept, at, bytes, past, value)
 }
 
+/// A cursor that is new takes the first value out, and gives it.
+fn takes_first<C: Cursor<Value = u64>>(cursor: &mut C) -> Option<u64> {
+    let value = cursor.next().copied();
+    if cursor.state() == CursorState::Active {
+        cursor.delete();
+    }
+    value
+}
+
+/// The same on the list, of which that is the first value.
+fn took_first(kept: &mut Kept, at: usize, taken: Option<u64>) -> Result<(), Stop> {
+    must(
+        taken.is_some() && taken == kept.list(at).get(0).copied(),
+        "the first value of a key",
+    )?;
+    kept.take_first(at)
+}
+
 /// A cursor takes the first value of a key out.
 pub(crate) fn take_first<I: Unordered<Value = u64>>(
     index: &mut I,
@@ -446,15 +464,9 @@ pub(crate) fn take_first<I: Unordered<Value = u64>>(
     at: usize,
     bytes: &[u8],
 ) -> Result<(), Stop> {
-    let Ok(Some(mut cursor)) = index.get_mut(bytes) else {
-        return Err(Stop::Wrong("a cursor at a held key"));
+    let taken = match index.get_mut(bytes) {
+        Ok(Some(mut cursor)) => takes_first(&mut cursor),
+        _ => None,
     };
-    must(
-        cursor.next().copied() == kept.list(at).get(0).copied(),
-        "the first value of a key",
-    )?;
-    if cursor.state() == CursorState::Active {
-        cursor.delete();
-    }
-    kept.take_first(at)
+    took_first(kept, at, taken)
 }
