@@ -48,8 +48,7 @@ fn newest_is_given(rt: HostRuntime) {
 #[test]
 fn positions_are_forgotten_and_moved(rt: HostRuntime) {
     let alloc = rt.alloc();
-    let mut index =
-        unordered::Index::<OneCap, u64>::new(alloc, OneCap).expect(&rt, "an index");
+    let mut index = unordered::Index::<OneCap, u64>::new(alloc, OneCap).expect(&rt, "an index");
     for position in [1, 2, 3] {
         index.insert(b"\x0b", position).expect(&rt, "insert");
     }
@@ -60,7 +59,10 @@ fn positions_are_forgotten_and_moved(rt: HostRuntime) {
     let from = Vec::from_array(alloc, [0x0b]).expect(&rt, "a key");
     let to = Vec::from_array(alloc, [0x1c, 0]).expect(&rt, "a key");
     let outcomes = move_to(alloc, &mut index, from, to, 7).expect(&rt, "run");
-    assert_eq!(&rt; outcomes.as_slice(), [Outcome::Done, Outcome::Done].as_slice());
+    assert_eq!(&rt;
+        outcomes.as_slice(),
+        [Outcome::Done, Outcome::Done].as_slice()
+    );
     assert!(&rt; index.get(b"\x0b").is_empty());
     assert!(&rt; index.get(b"\x1c").copied().eq([7]));
 }
