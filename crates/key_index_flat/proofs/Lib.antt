@@ -1,4 +1,5 @@
 pub mod content
+pub mod entries
 pub mod neighbours
 pub mod asked
 pub mod keys

@@ -6,7 +6,7 @@ use std::fmt;
 
 mod batch;
 mod command;
-mod fold;
+mod run;
 pub mod implement;
 mod index_cursor;
 pub mod ordered;
@@ -18,7 +18,7 @@ pub mod unordered;
 mod values;
 
 pub use command::{Command, Outcome, Step};
-pub use fold::run;
+pub use run::run;
 pub use index_cursor::IndexCursor;
 pub use resolve::{Keyed, resolve_next, resolve_prev};
 pub use traits::cursor::{Cursor, CursorState};

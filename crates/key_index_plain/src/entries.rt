@@ -180,8 +180,8 @@ pub(crate) fn remove_at<K: Ord + Drop, V: Drop>(
     value
 }
 
-/// Asks once on each value of a key, in list order, takes out those that are answered false, and tells how many. With no value left
-/// the entry goes too.
+/// Calls the closure once for each value of a key, in list order, removes those for which it returns false, and returns how many. With
+/// no value left the entry goes too.
 pub(crate) fn retain<K: Ord + Drop, V: Drop, F: FnMut(&V) -> bool>(
     entries: &mut Vec<Entry<K, V>>,
     key: &K,
@@ -235,8 +235,8 @@ fn retain_in_turn<K: Ord + Drop, V: Drop, F: FnMut(&V) -> bool>(
     (before - after, stays)
 }
 
-/// Puts a value in behind those of a key, then asks once on each of them, in list order, and takes out those that are answered false.
-/// Tells how many of those that were held are gone. A refusal hands the value back.
+/// Inserts a value behind those of a key, calls the closure once for each of them, in list order, and removes those for which it returns
+/// false. Returns how many of those that were held are gone. A refusal hands the value back.
 pub(crate) fn insert_and_retain<K: Ord + Copy + Drop, V: Drop, F: FnMut(&V) -> bool>(
     entries: &mut Vec<Entry<K, V>>,
     key: K,

@@ -26,20 +26,14 @@ use Rattle.key_index_store.specs.Record.{Entry, Fits, encoded}
 use Rattle.key_index_store.specs.Stored.{MayRead, MayRefuse, Stored, Values, after_record, compacted, held, entries_behind, held_by, put_of, records_of, with_record}
 use Rattle.key_index_store.specs.declared.store.Fault.{Fault}
 use Rattle.key_index_store.specs.declared.store.Fault.TheVariants as fault
-use Rattle.key_index_store.proofs.EntryLemmas.{exact_bytes, same}
+use Rattle.std.proofs.lemmas.Map.Lookups.{exact_bytes}
+use Rattle.key_index_flat.proofs.entries.EntryLemmas.{same}
+use Rattle.key_index_flat.proofs.entries.MapLemmas.{either, either_none}
 use Rattle.key_index_store.proofs.IndexLemmas.{get_with}
 use Rattle.key_index_store.proofs.LogLemmas.{spelled_records}
 
 abbrev Pair : Type 0
 Pair = List ℕ × List ℕ
-
-abbrev either : {X : Type 0} → Option X → Option X → Option X
-either None o = o
-either (Some x) o = Some x
-
-either_none : {X : Type 0} (o : Option X) → either o None ≡ o
-either_none None = refl
-either_none (Some x) = refl
 
 less_lt : (r : Ordering) → T (is_lt r) → is_lt r ≡ true
 less_lt Less h = refl

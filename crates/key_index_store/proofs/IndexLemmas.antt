@@ -24,7 +24,8 @@ use Rattle.key_index_store.specs.Indexed.{Indexes, IsLive, IsUnder, KeepsLists, 
 use Rattle.key_index_store.specs.Record.{Entry, Fits, Complete, bytes_of, encoded}
 use Rattle.key_index_store.specs.declared.store.Found.{Found}
 use Rattle.key_index_store.specs.Stored.{Values, held_by, with_value}
-use Rattle.key_index_store.proofs.EntryLemmas.{exact_bytes, held_at, look, none_distinct, out_all, out_distinct, out_look, put_all, put_distinct, put_look, same, set_keys, set_look}
+use Rattle.std.proofs.lemmas.Map.Lookups.{exact_bytes}
+use Rattle.key_index_flat.proofs.entries.EntryLemmas.{held_at, look, none_distinct, out_all, out_distinct, out_look, put_all, put_distinct, put_look, same, set_keys, set_look}
 use Rattle.key_index_store.proofs.LogLemmas.{Spelled, entries_there, entry_there, held_more, live_more, nothing_held, read_last, spelled_more, spelled_none}
 
 -- ---- where a key stands in a list

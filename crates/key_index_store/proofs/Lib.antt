@@ -1,9 +1,7 @@
 pub mod ChecksumLemmas
 pub mod CompactLemmas
-pub mod EntryLemmas
 pub mod IndexLemmas
 pub mod LogLemmas
-pub mod MapLemmas
 pub mod NearestLemmas
 pub mod RecordLemmas
 pub mod StoreLemmas

@@ -25,7 +25,7 @@ use Rattle.key_index_flat.proofs.neighbours.LeastLemmas.{pushed_keeps, pushed_ta
 use Rattle.key_index_store.specs.Indexed.{Indexes, IsLive, IsNearest, IsUnder, beyond, entry_at, is_behind, key_at}
 use Rattle.key_index_store.specs.Stored.{Values, entry_after, entry_before, held_by, in_bytes}
 use Rattle.key_index_store.proofs.LogLemmas.{entry_there, live_more}
-use Rattle.key_index_store.proofs.MapLemmas.{next_told, own_list, prev_told}
+use Rattle.key_index_flat.proofs.entries.MapLemmas.{next_told, own_list, prev_told}
 use Rattle.key_index_store.proofs.StoreLemmas.{looked_up}
 
 abbrev pub Pair : Type 0

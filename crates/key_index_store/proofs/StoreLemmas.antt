@@ -24,7 +24,8 @@ use Rattle.key_index_store.specs.Record.{Entry, Fits, Stops, encoded, reading}
 use Rattle.key_index_store.specs.Stored.{LeavesLog, Stored, Values, after_record, opened, records_of, held_by, with_value}
 use Rattle.key_index_store.specs.declared.store.Fault.{Fault}
 use Rattle.key_index_store.specs.declared.store.Fault.TheVariants as fault
-use Rattle.key_index_store.proofs.EntryLemmas.{exact_bytes, same}
+use Rattle.std.proofs.lemmas.Map.Lookups.{exact_bytes}
+use Rattle.key_index_flat.proofs.entries.EntryLemmas.{same}
 use Rattle.key_index_store.proofs.IndexLemmas.{IsAt, filed}
 use Rattle.key_index_store.proofs.LogLemmas.{entries_there, held_more, live_more, spelled_records}
 

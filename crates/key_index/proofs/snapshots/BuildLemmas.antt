@@ -5,6 +5,7 @@ use Rattle.std.proofs.Common.{◌≡◌, ℕ, zero, suc, ◌<◌, Bool, true, fa
 use Rattle.std.proofs.lemmas.Bool.{false≢true, lt-ltb}
 use Rattle.std.proofs.lemmas.List.{map-append, reverse-append}
 use Rattle.std.proofs.lemmas.List.Elements.{All-nil, All-cons, All-head, All-tail}
+use Rattle.std.proofs.lemmas.Map.Lookups.{exact_bytes}
 use Rattle.std.proofs.lemmas.Map.Keys.{IsDistinct-head, IsDistinct-tail, IsDistinct-cons, sorted_head, sorted_tail}
 use Rattle.std.specs.BTreeMap.{insert_entry}
 use Rattle.std.specs.Cmp.{IsTotalOrder, tied_itself}
@@ -27,15 +28,15 @@ use Rattle.key_index_flat.specs.Run.{one_if_absent}
 use Rattle.key_index_flat.specs.Values.{values_of}
 use Rattle.key_index_flat.specs.View.{View, run_at, run_of}
 use Rattle.key_index_flat.proofs.content.ContentLemmas.{tied}
+use Rattle.key_index_flat.proofs.entries.EntryLemmas.{head_apart, none_apart, none_distinct, not_both, same, swapped}
 use Rattle.key_index_parts.specs.Ops.{after_op, edit_held}
 use Rattle.key_index_parts.specs.declared.index.partitioned.builds.op.Op.{Op}
 use Rattle.key_index_parts.specs.declared.index.partitioned.builds.op.Op.TheVariants as op
 use Rattle.key_index_flat.specs.declared.index.command.Step.TheVariants as step
 use Rattle.key_index_parts.proofs.builds.OpLemmas.{IsLawful-after_op}
-use Rattle.key_index.proofs.snapshots.KeptLemmas.{set_after, none_distinct, empty_kept}
-use Rattle.key_index.proofs.snapshots.RecordLemmas.{same, swapped, not_both, head_apart, none_apart}
-use Rattle.key_index.proofs.snapshots.SnapshotLemmas.{exact_bytes, get-positions_in}
-use Rattle.key_index.specs.Snapshot.{IsKept, IsOpOf, entries_of, key_of, positions_in, positions_of, position_in}
+use Rattle.key_index.proofs.snapshots.KeptLemmas.{set_after, empty_kept}
+use Rattle.key_index.proofs.snapshots.SnapshotLemmas.{get-positions_in}
+use Rattle.key_index.specs.Snapshot.{IsKept, IsOpOf, entries_of, entry_of, key_of, positions_in, positions_of, position_in}
 use Rattle.key_index.specs.declared.snapshot.record.Record.{Record}
 
 abbrev pub Entry : Type 0
@@ -151,7 +152,7 @@ module _ {K : Type 0} {cmp : K → K → Ordering} (o : IsTotalOrder cmp) (exact
       ∙ ap (with_list cmp s.content (s.slot k)) (edited_behind v r vs) in
       let under : All (Under s k) (v ∷ vs) = subst (All (Under s k)) some (kept.filed (s.slot k)) in
       let once : IsDistinct same (map key_of (v ∷ vs)) = subst (λ l. IsDistinct same (map key_of l)) some (kept.once (s.slot k)) in
-      let apart = none_apart k (v ∷ vs) none in
+      let apart = none_apart entry_of k (v ∷ vs) none in
       let turned : same (key_of v) k ≡ false = head_apart k (key_of v) apart.0 in
       set_after o exact s (after_op cmp x s) k (v ∷ r ∷ vs) hs (IsLawful-after_op o exact x s hs) kept content refl
       (All-cons (Under s k) v (r ∷ vs) (All-head (Under s k) v vs under) (All-cons (Under s k) r vs (bytes, refl) (All-tail (Under s k) v vs under)))

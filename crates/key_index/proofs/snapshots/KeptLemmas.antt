@@ -24,22 +24,17 @@ use Rattle.key_index_flat.specs.laws.Laws.{first, second}
 use Rattle.key_index_flat.specs.Values.{values_of}
 use Rattle.key_index_flat.specs.View.{View, items_in, put_value, run_of, after_insert, with_edit, with_pruned, with_run}
 use Rattle.key_index_flat.proofs.content.ContentLemmas.{absent, item_count-with_list, list_at-with_list, tied}
+use Rattle.key_index_flat.proofs.entries.EntryLemmas.{apart_none, none_distinct, put_all, put_distinct, put_look, same, set_keys, set_look}
+use Rattle.key_index_flat.proofs.entries.MapLemmas.{look-behind, own_list}
 use Rattle.key_index_flat.proofs.neighbours.FullKeyLemmas.{filed_first, filed_rest}
 use Rattle.key_index_flat.proofs.runs.ViewLemmas.{same_content, same_slot}
-use Rattle.key_index.proofs.snapshots.RecordLemmas.{apart_none, put_position, put_distinct, put_all, set_position, set_keys, without, without_position, without_distinct, without_none, without_fewer}
-use Rattle.key_index.proofs.snapshots.SnapshotLemmas.{get-positions_in, own_list, position_in-behind, set_map, unset_map}
+use Rattle.key_index.proofs.snapshots.RecordLemmas.{without, without_position, without_distinct, without_none, without_fewer}
+use Rattle.key_index.proofs.snapshots.SnapshotLemmas.{get-positions_in, set_map, unset_map}
 use Rattle.key_index.specs.Snapshot.{Positions, IsKept, key_of, entry_of, positions_in, positions_of, position_in}
 use Rattle.key_index.specs.declared.snapshot.record.Record.{Record}
 
-abbrev same : List ℕ → List ℕ → Bool
-same a b = eq_by_cmp byte_cmp a b
-
 abbrev Distinct : List Record → Type 0
 Distinct l = IsDistinct same (map key_of l)
-
-pub none_distinct : Distinct []
-unfolding IsDistinct
-none_distinct = tt
 
 module _ {K : Type 0} {cmp : K → K → Ordering} (o : IsTotalOrder cmp) (exact : (x y : K) → cmp x y ≡ Equal → x ≡ y) where
   pub empty_kept : (s : View K Record) → s.content ≡ [] → IsKept cmp s
@@ -86,7 +81,7 @@ module _ {K : Type 0} {cmp : K → K → Ordering} (o : IsTotalOrder cmp) (exact
         let P : Record → Type 0 = λ r. IsBytes (key_of r) × (s.slot (key_of r) ≡ s.slot key) in
         let run = run_of cmp s key in
         set_after s t key (put_value first r run) hs ht kept (same_content is) (same_slot is) (put_all P first r run (subst IsBytes (sym own) bytes, ap s.slot own) (kept.filed (s.slot key)))
-        (put_distinct first run r (ap (λ k. position_in k run) own ∙ none) (kept.once (s.slot key))) r.position (λ a. put_position first a key run r own none)
+        (put_distinct entry_of first run r (ap (λ k. position_in k run) own ∙ none) (kept.once (s.slot key))) r.position (λ a. put_look entry_of first a key run r own none)
 
     pub put_held : (place : ℕ) (r : Record) → key_of r ≡ key → IsBytes key → option_map key_of (slice_get (run_of cmp s key) place) ≡ Some key → t ≡ with_edit cmp s (s.slot key) (λ l. slice_set l place r)
         → IsKept cmp t × (positions_in t ≡ insert (positions_in s) key r.position)
@@ -94,7 +89,7 @@ module _ {K : Type 0} {cmp : K → K → Ordering} (o : IsTotalOrder cmp) (exact
         let P : Record → Type 0 = λ r. IsBytes (key_of r) × (s.slot (key_of r) ≡ s.slot key) in
         let run = run_of cmp s key in
         set_after s t key (slice_set run place r) hs ht kept (same_content is) (same_slot is) (All-set P run place r (subst IsBytes (sym own) bytes, ap s.slot own) (kept.filed (s.slot key)))
-        (subst (λ ks. IsDistinct same ks) (sym (set_keys run place r (at ∙ ap (λ k. Some k) (sym own)))) (kept.once (s.slot key))) r.position (λ a. set_position a key run place r own (kept.once (s.slot key)) at)
+        (subst (λ ks. IsDistinct same ks) (sym (set_keys entry_of run place r (at ∙ ap (λ k. Some k) (sym own)))) (kept.once (s.slot key))) r.position (λ a. set_look entry_of a key run place r own (kept.once (s.slot key)) at)
 
     pub taken_out : (l : List Record) (n : ℕ) → l ≡ without key (run_of cmp s key) → t ≡ with_pruned (with_run cmp s (s.slot key) l) n → IsKept cmp t × (positions_in t ≡ remove (positions_in s) key)
     taken_out l n left is =
@@ -129,10 +124,10 @@ module _ {K : Type 0} {cmp : K → K → Ordering} (o : IsTotalOrder cmp) (exact
         let P : Record → Type 0 = λ r. IsBytes (key_of r) × (slot (key_of r) ≡ e.0) in
         let others = rs ++ values_of es in
         let here = (All-head P r rs under).1 in
-        let elsewhere : position_in k (values_of es) ≡ None = own_list o exact slot k es (second _ _ h) f ∙ ap (λ q. position_in k (list_at cmp es q)) here
+        let elsewhere : position_in k (values_of es) ≡ None = own_list entry_of o slot k es (second _ _ h) f ∙ ap (λ q. position_in k (list_at cmp es q)) here
         ∙ ap (position_in k) (absent o e.0 e.0 es (λ y q. q) (first _ _ h)) in
         let none : get (positions_of others) k ≡ None =
-        get-from_entries nat_list_cmp_total (map entry_of others) k ∙ position_in-behind k rs (values_of es) (apart_none k rs (IsDistinct-head same k (map key_of rs) d)) ∙ elsewhere in
+        get-from_entries nat_list_cmp_total (map entry_of others) k ∙ look-behind entry_of k rs (values_of es) (apart_none entry_of k rs (IsDistinct-head same k (map key_of rs) d)) ∙ elsewhere in
         let tail : len (positions_of others) ≡ length rs + item_count es = counted_in e es h f rest rs (All-tail P r rs under) (IsDistinct-tail same k (map key_of rs) d) in
         len-insert nat_list_cmp_total (positions_of others) k r.position
         ∙ ap (λ o. cond (is_some o) (len (positions_of others)) (len (positions_of others) + 1)) none

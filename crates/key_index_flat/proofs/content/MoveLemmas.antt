@@ -1,9 +1,7 @@
 -- On pairs that go one by one from the end of an array into a map.
 --     Moving        what the map has so far, and what the array has left
---     all_left      at the start
 --     new_key       the map has no value at the key of the last pair
 --     one_less      after one more pair
---     all_moved     at the end
 --     set_new       and after one pair more
 use Rattle.std.proofs.Common.{◌≡◌, ◌+◌, Bool, true, false, cond, is_some, List, [], ◌∷◌, ◌++◌, length, Option, Some, None, refl, sym, ap, subst, ◌∙◌, arith}
 use Rattle.std.specs.declared.cmp.Ordering.{Ordering}
@@ -54,15 +52,6 @@ module _ {K V : Type 0} {eq : K → K → Bool} (laws : IsEquivalence eq) where
     pub distinct : IsDistinct eq (keys_of pairs)
     pub len : length pairs + length moved ≡ length start
 
-  pub all_left : (start moved : List (K × V)) → IsDistinct eq (keys_of start) → moved ≡ [] → Moving start start moved
-  all_left start moved differ none =
-      subst (λ m. Moving start start m) (sym none) (record {
-        values = λ q. or_none (lookup (eq q) start);
-        apart = λ q _. refl;
-        distinct = differ;
-        len = omega arith;
-      })
-
   module _ (start pairs moved : List (K × V)) (k : K) (v : V) (so_far : Moving start (pairs ++ (k, v) ∷ []) moved) where
     pub new_key : lookup (eq k) moved ≡ None
     new_key = so_far.apart k (ap is_some (lookup_last (eq k) pairs (k, v)) ∙ last_found (lookup (eq k) pairs) (eq k k) v (laws.refl k))
@@ -88,10 +77,6 @@ module _ {K V : Type 0} {eq : K → K → Bool} (laws : IsEquivalence eq) where
       distinct = IsDistinct-tail eq k (keys_of pairs) all;
       len = omega (arith, so_far.len, len, length-append pairs ((k, v) ∷ []));
     }
-
-  pub all_moved : (start pairs moved : List (K × V)) → Moving start pairs moved → pairs ≡ [] → ((q : K) → lookup (eq q) moved ≡ lookup (eq q) start) × (length moved ≡ length start)
-  all_moved start pairs moved so_far none =
-      (λ q. ap (λ l. option_or (lookup (eq q) l) (lookup (eq q) moved)) (sym none) ∙ so_far.values q, omega (arith, so_far.len, ap length none))
 
 pub set_new : {K V : Type 0} {eq : K → K → Bool} {cmp : K → K → Ordering} → ((x y : K) → eq x y ≡ eq_by_cmp cmp x y) → IsTotalOrder cmp → IsEquivalence eq → (now moved new : List (K × V)) (k : K) (v : V)
     → ((q : K) → lookup (eq q) moved ≡ lookup (eq q) now) → ((q : K) → lookup (eq q) new ≡ cond (eq k q) (Some v) (lookup (eq q) moved)) → Sets cmp now new k (Some v)

@@ -12,8 +12,8 @@ pub struct Retained {
     pub taken: usize,
 }
 
-/// Asks once on each value, in order, and takes out those that are answered false, as `Vec::retain` does. Tells the last answer, and
-/// `before` where there is no value.
+/// Calls the closure once for each value, in order, and removes those for which it returns false, as `Vec::retain` does. Returns the
+/// last answer, or `before` if there is no value.
 pub fn retain_in_turn<V: Drop, F: FnMut(&V) -> bool>(
     values: &mut Vec<V>,
     mut should_retain: F,

@@ -191,8 +191,8 @@ impl<T: Translator, V: Drop, M: Heads<T::Key, V>> Storage<T, V, M> {
         (value, left)
     }
 
-    /// Asks once on each value of an index key, in list order, takes out those that are answered false, and tells how many values the
-    /// index key had, and how many it has left.
+    /// Calls the closure once for each value of an index key, in list order, and removes those for which it returns false. Returns how
+    /// many values the index key had, and how many it has left.
     pub(crate) fn retain<F: FnMut(&V) -> bool>(
         &mut self,
         slot: T::Key,
@@ -212,8 +212,8 @@ impl<T: Translator, V: Drop, M: Heads<T::Key, V>> Storage<T, V, M> {
         (had, left)
     }
 
-    /// Puts a value in behind those of an index key, asks once on each of them, in list order, and takes out those that are answered
-    /// false.
+    /// Inserts a value behind those of an index key, calls the closure once for each of them, in list order, and removes those for which
+    /// it returns false.
     pub(crate) fn insert_and_retain<F: FnMut(&V) -> bool>(
         &mut self,
         slot: T::Key,

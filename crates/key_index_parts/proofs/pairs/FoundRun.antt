@@ -3,7 +3,7 @@
 --     none_there                   it is empty where the run is
 --     place_within                 a place of the list is one of the pairs
 --     value_in                     the value there
---     may_insert, inserted, inserted_last, inserted_sole, set_in, removed, removed_all     edits at a place of the list, and of the whole run
+--     may_insert, inserted, inserted_last, set_in, removed, removed_all     edits at a place of the list, and of the whole run
 --     may_append                   behind the last of the run
 --     found_after                  where the run stands after one of its pairs is taken out
 --     found_appended, ..           and after a pair was put behind it
@@ -91,13 +91,6 @@ module _ {K V : Type 0} {cmp : K → K → Ordering} (o : IsTotalOrder cmp) (exa
   inserted_last v =
       let whole : length list ≤ length list = omega arith in
       ap (λ n. grouped cmp (insert es n (k, v))) run_count ∙ inserted (length list) v whole ∙ ap (λ l. with_list cmp (grouped cmp es) k l) (insert_end list v)
-
-  pub inserted_sole : (v : V) → length list ≡ 0 → grouped cmp (insert es end (k, v)) ≡ with_list cmp (grouped cmp es) k (v ∷ [])
-  inserted_sole v none = inserted_last v ∙ ap (λ l. with_list cmp (grouped cmp es) k (l ++ v ∷ [])) (empty list none)
-    where
-      empty : (l : List V) → length l ≡ 0 → l ≡ []
-      empty [] e = refl
-      empty (x ∷ xs) e = absurd (omega (arith, e))
 
   pub set_in : (i : ℕ) (v : V) → i < length list → grouped cmp (with_value es (start + i) v) ≡ with_list_by cmp (grouped cmp es) k (λ l. slice_set l i v)
   set_in i v l = ap (λ n. grouped cmp (with_value es n v)) (at i) ∙ grouped-set o es k up exact i v (run_below i l)

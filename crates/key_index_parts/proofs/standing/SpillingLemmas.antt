@@ -1,5 +1,4 @@
 -- How a bucket that spills stands after an edit, by how many values it has.
---     list_within                    a key has no more values than all keys
 --     some_left, one_more            a content where a key has no fewer values, and where it has one more
 --     grown                          the same after an insertion that may be refused
 --     retained                       an insertion with retention leaves at most one value more
@@ -42,9 +41,6 @@ module _ {K V : Type 0} where
   held_now tree f b x is now h = subst (λ y. 0 < item_count (f y)) (sym now) (subst (λ o. HoldsSome f o) is h)
 
 module _ {K V : Type 0} {cmp : K → K → Ordering} (o : IsTotalOrder cmp) where
-  pub list_within : (c : Content K V) (k : K) → IsLawful cmp c → length (list_at cmp c k) ≤ item_count c
-  list_within c k h = let e = item_count-with_list o c k [] h in omega (arith, e)
-
   pub some_left : (c new : Content K V) (k : K) (l : List V) → IsLawful cmp c → 0 < item_count c → length (list_at cmp c k) ≤ length l
       → new ≡ with_list cmp c k l → 0 < item_count new
   some_left c new k l h some least is = let e = item_count-with_list o c k l h in let same = ap item_count is in omega (arith, e, same, some, least)

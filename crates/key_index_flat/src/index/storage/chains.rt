@@ -194,8 +194,8 @@ impl<T: Translator, V: Drop, M: Heads<T::Key, V>> Chains<T, V, M> {
         (newest, left + 1)
     }
 
-    /// Asks once on each value of the index key, in list order, and takes out those that are answered false. Tells how many there were,
-    /// how many are left, and the last answer, which is true where there is no value.
+    /// Calls the closure once for each value of the index key, in list order, and removes those for which it returns false. Returns how
+    /// many there were, how many are left, and the last answer, which is true if there is no value.
     fn retain_in_turn<F: FnMut(&V) -> bool>(
         &mut self,
         slot: T::Key,
@@ -223,8 +223,8 @@ impl<T: Translator, V: Drop, M: Heads<T::Key, V>> Chains<T, V, M> {
         (had + 1, left, stays)
     }
 
-    /// Asks once on each value of the index key, in list order, takes out those that are answered false, and tells how many there were,
-    /// and how many are left.
+    /// Calls the closure once for each value of the index key, in list order, and removes those for which it returns false. Returns how
+    /// many there were, and how many are left.
     pub fn retain<F: FnMut(&V) -> bool>(&mut self, slot: T::Key, should_retain: F) -> (usize, usize)
         requires callable { F.IsAlwaysCallable should_retain }
         ensures kept { (kept : List V)
@@ -237,9 +237,9 @@ impl<T: Translator, V: Drop, M: Heads<T::Key, V>> Chains<T, V, M> {
         (had, left)
     }
 
-    /// Puts a value in behind those of the index key, which takes all the memory that the call may need, then asks once on each of
-    /// them, in list order, and takes out those that are answered false. Tells how many were held, how many of these are gone, and
-    /// whether the new one stays.
+    /// Inserts a value behind those of the index key, which allocates all the memory that the call may need. Then calls the closure once
+    /// for each of them, in list order, and removes those for which it returns false. Returns how many were held, how many of these are
+    /// gone, and whether the new one stays.
     pub fn insert_and_retain<F: FnMut(&V) -> bool>(
         &mut self,
         slot: T::Key,

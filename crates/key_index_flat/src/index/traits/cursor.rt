@@ -72,7 +72,7 @@ pub trait Cursor {
         ensures place { place self.new ≡ place self.old }
         ensures edited { edited self.old self.new 0 };
 
-    /// Asks once on each value that `next` has not given, in order, and takes out those that are answered false.
+    /// Calls the closure once for each value that `next` has not given, in order, and removes those for which it returns false.
     fn retain<F: FnMut(&Self::Value) -> bool>(&mut self, should_retain: F)
         requires { F.IsAlwaysCallable should_retain }
         ensures items { Retains (CalledAt F.FnMut) should_retain (items self.old) (place self.old) (items self.new) }

@@ -55,7 +55,7 @@ pub trait Unordered: Search {
         ensures returned { IfErr result (λ r. r.value ≡ value) }
         ensures fault { IfErr result (λ r. r.fault ≡ growth_fault_in (Self.view self.old)) };
 
-    /// Asks once on each value under the key's index key, in list order, and takes out those that are answered false.
+    /// Calls the closure once for each value under the key's index key, in list order, and removes those for which it returns false.
     fn retain<F: FnMut(&Self::Value) -> bool>(
         &mut self,
         key: &[u8],
@@ -68,10 +68,10 @@ pub trait Unordered: Search {
         ensures refused { OnErr result (StaysBut Self.view Self.left_by_refusal self.old key.now self.new) }
         ensures want { IfErr result (IsWantAt Self.view Self.may_refuse self.old key.now) };
 
-    /// Puts a value behind those under the key's index key, then asks once on each of these, in list order and so on the new one
-    /// last, and takes out those that are answered false. The new one is put behind whatever `INSERT_FIRST` is, and it does not count
-    /// as pruned. All memory that the call may need is taken before anything is asked. A refusal leaves the view and hands
-    /// the value back: `Full` exactly where the index holds `usize::MAX` values, and else `Memory`.
+    /// Inserts a value behind those under the key's index key, whatever `INSERT_FIRST` is. Then calls the closure once for each of
+    /// them, in list order, the new one last, and removes those for which it returns false; the new one never counts as pruned. All
+    /// memory that the call may need is allocated before the first call of the closure. A refusal leaves the view and hands the value
+    /// back: `Full` exactly where the index holds `usize::MAX` values, and else `Memory`.
     fn insert_and_retain<F: FnMut(&Self::Value) -> bool>(
         &mut self,
         key: &[u8],

@@ -10,7 +10,7 @@ mod ahead;
 pub mod partition;
 
 use super::bucket::spilling::Spilling;
-use super::range::Range;
+use super::range;
 use super::storage::Storage;
 use super::{PartitionRange, Partitioned, partition_index_and_sub_key};
 pub use ahead::{Ahead, same_visits, show_ahead, visit_ahead};
@@ -174,7 +174,7 @@ impl<T: Translator, V: Drop, const P: usize> Index<T, V, P> {
 }
 
 /// Some neighbouring partitions of a partitioned ordered index, apart from it.
-pub type RangeIndex<T, V, const P: usize> = Range<T, V, Spilling<T, V>, P>;
+pub type RangeIndex<T, V, const P: usize> = range::RangeIndex<T, V, Spilling<T, V>, P>;
 
 impl<T: Translator, V: Drop, const P: usize> RangeIndex<T, V, P> {
     ghost use Rattle.std.specs.Prelude.{◌≡◌, ◌+◌, ◌-◌, ◌*◌, ◌<◌, ◌≤◌, IsTrue};
@@ -531,7 +531,7 @@ impl<T: Translator, V: Drop, const P: usize> Partitioned for Index<T, V, P> {
         ensures fault { IfErr result (λ f. f ≡ Fault.Memory) }
     {
         match self.storage.new_range(count) {
-            Ok(storage) => Ok(Range { offset, storage }),
+            Ok(storage) => Ok(range::RangeIndex { offset, storage }),
             Err(fault) => Err(fault),
         }
     }

@@ -19,14 +19,14 @@ use key_index_flat::translator::Translator;
 /// Some neighbouring partitions of an index, apart from it, with room for these alone. Its buckets are numbered from
 /// 0, and its index keys are those of the index.
 #[derive(Drop)]
-pub struct Range<T: Translator, V: Drop, X: Held<T, V> + Drop, const P: usize> {
+pub struct RangeIndex<T: Translator, V: Drop, X: Held<T, V> + Drop, const P: usize> {
     pub(super) offset: usize,
     pub(super) storage: Storage<T, V, X, P>,
     ghost is_range: { IsRange T.Key.cmp P offset storage.buckets },
     ghost within: { IsRangeWithin storage.standings storage.pruned },
 }
 
-impl<T: Translator, V: Drop, X: Bucket<T, V> + Drop, const P: usize> Range<T, V, X, P> {
+impl<T: Translator, V: Drop, X: Bucket<T, V> + Drop, const P: usize> RangeIndex<T, V, X, P> {
     ghost use Rattle.key_index_parts.specs.Range.{range_view};
 
     /// Whether the range covers a partition.
@@ -51,9 +51,9 @@ impl<T: Translator, V: Drop, X: Bucket<T, V> + Drop, const P: usize> Range<T, V,
     fn settle(&mut self, slot: (usize, T::Key)) -> Result<(), Fault>
         requires { IsTrue ((range_view self.old).admitted slot) }
         ensures view { range_view self.new ≡ range_view self.old }
-        ensures settled { OnOk result (⟦<Range<T, V, X, P> as Search>⟧.settled self.old slot self.new) }
-        ensures left { OnErr result (⟦<Range<T, V, X, P> as Search>⟧.left_by_refusal self.old slot self.new) }
-        ensures want { IfErr result (λ f. IsWant f (⟦<Range<T, V, X, P> as Search>⟧.may_refuse self.old slot)) }
+        ensures settled { OnOk result (⟦<RangeIndex<T, V, X, P> as Search>⟧.settled self.old slot self.new) }
+        ensures left { OnErr result (⟦<RangeIndex<T, V, X, P> as Search>⟧.left_by_refusal self.old slot self.new) }
+        ensures want { IfErr result (λ f. IsWant f (⟦<RangeIndex<T, V, X, P> as Search>⟧.may_refuse self.old slot)) }
     {
         let own = self.own(slot);
         self.storage.settle(own.0)
@@ -66,8 +66,8 @@ impl<T: Translator, V: Drop, X: Bucket<T, V> + Drop, const P: usize> Range<T, V,
         ensures inserted { IfOk result (λ n. n ≡ 0 →
             range_view self.new ≡ with_run (pair_cmp T.Key.cmp) (range_view self.old) slot (value ∷ [])) }
         ensures refused { OnErr result (range_view self.new ≡ range_view self.old) }
-        ensures settled { OnOk result (⟦<Range<T, V, X, P> as Search>⟧.settled self.old slot self.new) }
-        ensures left { OnErr result (⟦<Range<T, V, X, P> as Search>⟧.left_by_refusal self.old slot self.new) }
+        ensures settled { OnOk result (⟦<RangeIndex<T, V, X, P> as Search>⟧.settled self.old slot self.new) }
+        ensures left { OnErr result (⟦<RangeIndex<T, V, X, P> as Search>⟧.left_by_refusal self.old slot self.new) }
         ensures len { IfOk result (λ n. n ≡ length (run_at (pair_cmp T.Key.cmp) (range_view self.old) slot)) }
         ensures room { OnOk result (items_in (range_view self.old) < usize.MAX) }
         ensures returned { IfErr result (λ r. r.value ≡ value) }
@@ -78,7 +78,7 @@ impl<T: Translator, V: Drop, X: Bucket<T, V> + Drop, const P: usize> Range<T, V,
     }
 }
 
-impl<T: Translator, V: Drop, X: Bucket<T, V> + Drop, const P: usize> Runs for Range<T, V, X, P> {
+impl<T: Translator, V: Drop, X: Bucket<T, V> + Drop, const P: usize> Runs for RangeIndex<T, V, X, P> {
     ghost use Rattle.std.proofs.lemmas.Map.Lookups.{exact_pairs, exact_unsigned};
     ghost use Rattle.std.specs.Ordering.{nat_cmp};
     ghost use Rattle.key_index_parts.specs.laws.RangeLaws.{IsLawful-gathered_from};
@@ -143,7 +143,7 @@ impl<T: Translator, V: Drop, X: Bucket<T, V> + Drop, const P: usize> Runs for Ra
     }
 }
 
-impl<T: Translator, V: Drop, X: Bucket<T, V> + Drop, const P: usize> Search for Range<T, V, X, P> {
+impl<T: Translator, V: Drop, X: Bucket<T, V> + Drop, const P: usize> Search for RangeIndex<T, V, X, P> {
     ghost settled = { λ x slot y. IsSpanKept (λ range. range.offset) (λ range. length range.storage.buckets) x y
         × (IsTrue X.SPILLS → Settles x.storage.standings (slot.0 - x.offset) y.storage.standings) };
 
@@ -172,7 +172,7 @@ impl<T: Translator, V: Drop, X: Bucket<T, V> + Drop, const P: usize> Search for 
         Ok((slot, len))
     }
 
-    fn search(&mut self, key: &[u8]) -> Result<IndexCursor<'_, Range<T, V, X, P>>, Option<Fault>> {
+    fn search(&mut self, key: &[u8]) -> Result<IndexCursor<'_, RangeIndex<T, V, X, P>>, Option<Fault>> {
         match self.reach(key) {
             Ok((_, 0)) => Err(None),
             Ok((slot, len)) => Ok(IndexCursor::with_len(self, slot, len)),
@@ -184,7 +184,7 @@ impl<T: Translator, V: Drop, X: Bucket<T, V> + Drop, const P: usize> Search for 
         &mut self,
         key: &[u8],
         value: V,
-    ) -> Result<IndexCursor<'_, Range<T, V, X, P>>, Option<Refused<V>>> {
+    ) -> Result<IndexCursor<'_, RangeIndex<T, V, X, P>>, Option<Refused<V>>> {
         match self.reach_or_insert(key, value) {
             Ok((_, 0)) => Err(None),
             Ok((slot, len)) => Ok(IndexCursor::with_len(self, slot, len)),
@@ -194,7 +194,7 @@ impl<T: Translator, V: Drop, X: Bucket<T, V> + Drop, const P: usize> Search for 
 }
 
 impl<T: Translator, V: Drop, X: Bucket<T, V> + Drop, const P: usize> PartitionRange
-    for Range<T, V, X, P> {
+    for RangeIndex<T, V, X, P> {
     ghost use Rattle.key_index_parts.specs.laws.RangeLaws.{gathered_from-covers};
 
     ghost offset = { λ range. range.offset };

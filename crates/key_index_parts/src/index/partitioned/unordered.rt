@@ -5,7 +5,7 @@ ghost use Rattle.key_index_parts.specs.Gathered.{pair_cmp};
 ghost use Rattle.key_index_parts.specs.Prefix.{partition_count, partition_by, slot_by};
 
 use super::bucket::chained::Chained;
-use super::range::Range;
+use super::range;
 use super::storage::Storage;
 use super::{Partitioned, partition_index_and_sub_key};
 use key_index_flat::index::implement::{Lists, show_by_place, visit_by_place};
@@ -56,7 +56,7 @@ impl<T: Translator, V: Drop, const P: usize> Index<T, V, P> {
 }
 
 /// Some neighbouring partitions of a partitioned unordered index, apart from it.
-pub type RangeIndex<T, V, const P: usize> = Range<T, V, Chained<T, V>, P>;
+pub type RangeIndex<T, V, const P: usize> = range::RangeIndex<T, V, Chained<T, V>, P>;
 
 impl<T: Translator, V: Drop, const P: usize> Runs for Index<T, V, P> {
     ghost use Rattle.std.proofs.lemmas.Map.Lookups.{exact_pairs, exact_unsigned};
@@ -303,7 +303,7 @@ impl<T: Translator, V: Drop, const P: usize> Partitioned for Index<T, V, P> {
 
     fn new_range(&self, offset: usize, count: usize) -> Result<RangeIndex<T, V, P>, Fault> {
         match self.storage.new_range(count) {
-            Ok(storage) => Ok(Range { offset, storage }),
+            Ok(storage) => Ok(range::RangeIndex { offset, storage }),
             Err(fault) => Err(fault),
         }
     }

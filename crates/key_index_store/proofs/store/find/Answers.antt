@@ -3,7 +3,7 @@ use Rattle.std.proofs.lemmas.Iterator.Consumers.{YieldsList-turn, YieldsList-so_
 use Rattle.std.specs.Option.{option_map}
 use Rattle.std.specs.Str.{bytes_eq}
 use Rattle.key_index_store.specs.Indexed.{entry_at, key_at, parts_of, value_in}
-use Rattle.key_index_store.proofs.EntryLemmas.{found_at, key_told, passed_by, within_all}
+use Rattle.key_index_flat.proofs.entries.EntryLemmas.{found_at, key_told, passed_by, within_all}
 use Rattle.key_index_store.proofs.store.find.Goals as goal
 
 pub returns-then-eq-clause-found : goal.returns-then-eq-clause-found

@@ -1,4 +1,4 @@
-use Rattle.key_index_store.proofs.EntryLemmas.{bytes_in}
+use Rattle.key_index_flat.proofs.entries.EntryLemmas.{bytes_in}
 use Rattle.key_index_store.proofs.store.positions_of.Goals as goal
 
 pub returns-clause-bytes : goal.returns-clause-bytes

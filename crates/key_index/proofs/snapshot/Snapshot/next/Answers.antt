@@ -2,7 +2,7 @@ use Rattle.std.proofs.Common.{Some, sym, ap, ◌∙◌}
 use Rattle.std.specs.Option.{option_copied, option_map}
 use Rattle.key_index_flat.specs.Values.{values_of}
 use Rattle.key_index.specs.Snapshot.{entry_of, next_position}
-use Rattle.key_index.proofs.snapshots.NearestLemmas.{next_told}
+use Rattle.key_index.proofs.snapshots.SnapshotLemmas.{next_told}
 use Rattle.key_index.proofs.snapshot.Snapshot.next.Goals as goal
 
 pub returns-in-Some : goal.returns-in-Some

@@ -4,7 +4,7 @@ use Rattle.std.specs.Option.{option_map}
 use Rattle.key_index_store.specs.Indexed.{Indexes, entry_at, value_in}
 use Rattle.key_index_store.specs.Record.{Entry, Fits, encoded}
 use Rattle.key_index_store.specs.Stored.{held}
-use Rattle.key_index_store.proofs.EntryLemmas.{bytes_in}
+use Rattle.key_index_flat.proofs.entries.EntryLemmas.{bytes_in}
 use Rattle.key_index_store.proofs.IndexLemmas.{IsAt, indexes_kept, is_at}
 use Rattle.key_index_store.proofs.StoreLemmas.{left_front, looked_up, mapped_none, remove_absent, written}
 use Rattle.key_index_store.proofs.store.Store.delete.Goals as goal

@@ -2,7 +2,7 @@ use Rattle.std.proofs.Common.{rules, All, take, drop, take-append-drop, subst, s
 use Rattle.key_index_flat.specs.FullKeys.{byte_cmp, unflagged}
 use Rattle.key_index_store.specs.Indexed.{IsLive, IsNearest}
 use Rattle.key_index_store.specs.Stored.{entry_after, held}
-use Rattle.key_index_store.proofs.EntryLemmas.{bytes_in}
+use Rattle.key_index_flat.proofs.entries.EntryLemmas.{bytes_in}
 use Rattle.key_index_store.proofs.NearestLemmas.{live_above, next_other, next_own, shown_some, told_ok}
 use Rattle.key_index_store.proofs.StoreLemmas.{live_whole}
 use Rattle.key_index_store.proofs.store.Store.next.Goals as goal

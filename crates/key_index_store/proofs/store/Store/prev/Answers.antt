@@ -3,7 +3,7 @@ use Rattle.std.specs.Ordering.{flip_args}
 use Rattle.key_index_flat.specs.FullKeys.{byte_cmp, unflagged}
 use Rattle.key_index_store.specs.Indexed.{IsLive, IsNearest}
 use Rattle.key_index_store.specs.Stored.{entry_before, held}
-use Rattle.key_index_store.proofs.EntryLemmas.{bytes_in}
+use Rattle.key_index_flat.proofs.entries.EntryLemmas.{bytes_in}
 use Rattle.key_index_store.proofs.NearestLemmas.{live_below, prev_other, prev_own, shown_some, told_ok}
 use Rattle.key_index_store.proofs.StoreLemmas.{live_whole}
 use Rattle.key_index_store.proofs.store.Store.prev.Goals as goal

@@ -3,7 +3,7 @@ use Rattle.std.specs.FinMap.{insert}
 use Rattle.key_index_store.specs.Indexed.{Indexes, entry_at}
 use Rattle.key_index_store.specs.Record.{Entry, Fits, encoded}
 use Rattle.key_index_store.specs.Stored.{held}
-use Rattle.key_index_store.proofs.EntryLemmas.{bytes_in}
+use Rattle.key_index_flat.proofs.entries.EntryLemmas.{bytes_in}
 use Rattle.key_index_store.proofs.IndexLemmas.{IsAt, indexes_kept, is_at}
 use Rattle.key_index_store.proofs.RecordLemmas.{if_err_all}
 use Rattle.key_index_store.proofs.StoreLemmas.{left_front, left_same, written}

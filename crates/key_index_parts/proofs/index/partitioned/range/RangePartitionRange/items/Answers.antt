@@ -1,6 +1,0 @@
-use Rattle.std.proofs.Common.{◌∙◌}
-use Rattle.key_index_parts.proofs.family.ShiftedLemmas.{items_from}
-use Rattle.key_index_parts.proofs.index.partitioned.range.RangePartitionRange.items.Goals as goal
-
-pub returns : goal.returns
-returns g c = c.items.ensures ∙ items_from c.args.self.now.offset c.args.self.now.storage.buckets
