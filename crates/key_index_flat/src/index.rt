@@ -6,21 +6,21 @@ use std::fmt;
 
 mod batch;
 mod command;
-mod run;
 pub mod implement;
 mod index_cursor;
 pub mod ordered;
 mod resolve;
 mod retain;
+mod run;
 mod storage;
 mod traits;
 pub mod unordered;
 mod values;
 
 pub use command::{Command, Outcome, Step};
-pub use run::run;
 pub use index_cursor::IndexCursor;
 pub use resolve::{Keyed, resolve_next, resolve_prev};
+pub use run::run;
 pub use traits::cursor::{Cursor, CursorState};
 pub use traits::ordered::Ordered;
 pub use traits::runs::Runs;
