@@ -8,7 +8,7 @@ use Rattle.std.specs.declared.cmp.Ordering.{Ordering}
 use Rattle.std.specs.declared.cmp.Ordering.TheVariants.{Equal}
 use Rattle.std.specs.Cmp.{IsTotalOrder}
 use Rattle.key_index_flat.specs.Content.{list_at}
-use Rattle.key_index_flat.specs.Retention.{last_answer, AsksBehind, AsksInTurn, RetainsFrom}
+use Rattle.key_index_flat.specs.Retention.{AsksBehind, AsksInTurn, RetainsFrom}
 use Rattle.key_index_flat.specs.Storage.{value_of, content_of, IsLinked}
 use Rattle.key_index_flat.proofs.asked.TurnLemmas.{asked_few, asked_same, asks_behind, some_taken}
 use Rattle.key_index_flat.proofs.content.EditLemmas.{list_is}
@@ -50,5 +50,5 @@ module _ {K V : Type 0} {cmp : K → K → Ordering} (o : IsTotalOrder cmp) (exa
     pub one_gone : stays ≡ false → 1 ≤ taken
     one_gone = some_taken R f held v kept stays taken asked_behind counts_held
 
-    pub asks_from : (gone : ℕ) → taken ≡ gone + cond stays 0 1 → (asks : AsksBehind R f held v kept gone) × (stays ≡ last_answer true asks.answers)
+    pub asks_from : (gone : ℕ) → taken ≡ gone + cond stays 0 1 → AsksBehind R f held v kept gone
     asks_from = asks_behind R f held v kept stays taken asked_behind counts_held

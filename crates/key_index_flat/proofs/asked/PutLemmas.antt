@@ -9,7 +9,7 @@ use Rattle.std.specs.declared.cmp.Ordering.{Ordering}
 use Rattle.std.specs.declared.cmp.Ordering.TheVariants.{Equal}
 use Rattle.std.specs.Cmp.{IsTotalOrder}
 use Rattle.key_index_flat.specs.Content.{Content, IsLawful, list_at, with_list}
-use Rattle.key_index_flat.specs.Retention.{last_answer, AsksBehind, AsksInTurn}
+use Rattle.key_index_flat.specs.Retention.{AsksBehind, AsksInTurn}
 use Rattle.key_index_flat.proofs.asked.TurnLemmas.{asks_behind, some_taken}
 use Rattle.key_index_flat.proofs.content.ContentLemmas.{with_list-twice}
 use Rattle.key_index_flat.proofs.runs.CursorLemmas.{list_at_edit}
@@ -36,7 +36,7 @@ module _ {K V : Type 0} {cmp : K → K → Ordering} (o : IsTotalOrder cmp) (c m
     one_went = some_taken R f (list_at cmp c k) v kept stays taken asked_put counts_put
 
     -- gone: of the held values alone
-    pub asks_put : (gone : ℕ) → taken ≡ gone + cond stays 0 1 → (asks : AsksBehind R f (list_at cmp c k) v kept gone) × (stays ≡ last_answer true asks.answers)
+    pub asks_put : (gone : ℕ) → taken ≡ gone + cond stays 0 1 → AsksBehind R f (list_at cmp c k) v kept gone
     asks_put = asks_behind R f (list_at cmp c k) v kept stays taken asked_put counts_put
 
     least_gone : (stays : Bool) (taken : ℕ) → (stays ≡ false → 1 ≤ taken) → taken ≡ taken - cond stays 0 1 + cond stays 0 1
@@ -44,8 +44,8 @@ module _ {K V : Type 0} {cmp : K → K → Ordering} (o : IsTotalOrder cmp) (c m
     least_gone false taken some = let one = some refl in omega (arith, one)
 
     -- where no value was held
-    pub asks_alone : 0 ≡ length (list_at cmp c k) → (asks : AsksBehind R f (list_at cmp c k) v kept 0) × (stays ≡ last_answer true asks.answers)
+    pub asks_alone : 0 ≡ length (list_at cmp c k) → AsksBehind R f (list_at cmp c k) v kept 0
     asks_alone none =
         let asks = asks_put (taken - cond stays 0 1) (least_gone stays taken one_went) in
-        let gone : taken - cond stays 0 1 ≡ 0 = let sum = asks.0.taken in omega (arith, sum, none) in
-        subst (λ n. (asks : AsksBehind R f (list_at cmp c k) v kept n) × (stays ≡ last_answer true asks.answers)) gone asks
+        let gone : taken - cond stays 0 1 ≡ 0 = let sum = asks.taken in omega (arith, sum, none) in
+        subst (λ n. AsksBehind R f (list_at cmp c k) v kept n) gone asks

@@ -7,7 +7,7 @@
 --     asked_same                        where the lists are known by other names
 --     asked_few                         no more are left than there were
 --     asks_behind, some_taken           a value that was put behind others, where all of these were asked on then
---     few_kept, count_kept              how many values are left then
+--     few_kept                          how many values are left then
 use Rattle.std.proofs.Common.{◌≡◌, ℕ, suc, ◌+◌, ◌<◌, ◌≤◌, Bool, true, false, nat_lt, cond, List, [], ◌∷◌, ◌++◌, length, take, refl, sym, ap, subst, ◌∙◌, arith, append-nil, length-append}
 use Rattle.std.proofs.Math.ListN.{set, get_or}
 use Rattle.std.proofs.lemmas.Bool.{ltb-true, ltb-false}
@@ -190,18 +190,15 @@ module _ {V F : Type 0} (R : F → V → Bool → F → Type 0) (f : F) (held : 
   some_taken goes = one_taken asked.0 held v taken long (sym asked.5 ∙ goes) counted_of
 
   -- left: how many of the others are gone
-  pub asks_behind : (left : ℕ) → taken ≡ left + cond stays 0 1 → (asks : AsksBehind R f held v kept left) × (stays ≡ last_answer true asks.answers)
-  asks_behind left most = (
-    record {
-      answers = asked.0;
-      last = asked.1;
-      long = long;
-      asked = asked.3;
-      kept = asked.4;
-      taken = held_taken asked.0 held v stays taken left long asked.5 counted_of most;
-    },
-    asked.5,
-  )
+  pub asks_behind : (left : ℕ) → taken ≡ left + cond stays 0 1 → AsksBehind R f held v kept left
+  asks_behind left most = record {
+    answers = asked.0;
+    last = asked.1;
+    long = long;
+    asked = asked.3;
+    kept = asked.4;
+    taken = held_taken asked.0 held v stays taken left long asked.5 counted_of most;
+  }
 
 -- where a closure was asked on values behind others
 module _ {V F : Type 0} {R : F → V → Bool → F → Type 0} {f : F} {held : List V} {v : V} {kept : List V} {taken : ℕ} where
@@ -211,10 +208,3 @@ module _ {V F : Type 0} {R : F → V → Bool → F → Type 0} {f : F} {held : 
       let all = length-append held (v ∷ []) in
       let same = ap (λ l. length l) asks.kept in
       omega (arith, few, all, same)
-
-  -- by the last answer
-  pub count_kept : (stays : Bool) (asks : AsksBehind R f held v kept taken) → stays ≡ last_answer true asks.answers → taken + length kept ≡ length held + cond stays 1 0
-  count_kept stays asks said =
-      let more = held_answers true asks.answers held v asks.long ∙ ap (λ b. length (items_where_true asks.answers held) + cond b 1 0) (sym said) in
-      let same = ap (λ l. length l) asks.kept in
-      omega (arith, more, same, asks.taken)

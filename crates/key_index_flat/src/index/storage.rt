@@ -237,12 +237,10 @@ impl<T: Translator, V: Drop, M: Heads<T::Key, V>> Storage<T, V, M> {
             return Err(Refused::full(value));
         }
         match self.chains.insert_and_retain(slot, value, should_retain) {
-            Ok((had, taken, stays)) => {
-                let added = if stays { 1 } else { 0 };
-                let left = had - taken + added;
-                self.items = self.items - had + left;
-                self.pruned = self.pruned.saturating_add(taken as u64);
-                Ok(Retained { had, left, taken })
+            Ok(told) => {
+                self.items = self.items - told.had + told.left;
+                self.pruned = self.pruned.saturating_add(told.taken as u64);
+                Ok(told)
             }
             Err(value) => Err(Refused::memory(value)),
         }

@@ -7,7 +7,7 @@ ghost use Rattle.std.specs.Map.Iter.{deref_pair};
 ghost use Rattle.std.specs.Option.{option_map};
 ghost use Rattle.key_index_flat.specs.Content.{Content, key_count, list_at, with_list, with_list_by, IsLawful};
 ghost use Rattle.key_index_flat.specs.Neighbours.{first_list, last_list, next_list, prev_list};
-ghost use Rattle.key_index_flat.specs.Retention.{last_answer, AsksBehind, AsksInTurn};
+ghost use Rattle.key_index_flat.specs.Retention.{AsksBehind, AsksInTurn};
 ghost use Rattle.key_index_flat.specs.Storage.{older_at, stored, IsLinked};
 ghost use Rattle.key_index_flat.specs.Values.{values_of, VisitsEach};
 
@@ -18,6 +18,7 @@ use super::older::{
 };
 use super::small_map::SmallMap;
 use crate::index::Values;
+use crate::index::retain::Retained;
 use crate::index::values::visit_in_turn;
 use crate::translator::Translator;
 use std::alloc::Global;
@@ -238,29 +239,31 @@ impl<T: Translator, V: Drop, M: Heads<T::Key, V>> Chains<T, V, M> {
     }
 
     /// Inserts a value behind those of the index key, which allocates all the memory that the call may need. Then calls the closure once
-    /// for each of them, in list order, and removes those for which it returns false. Returns how many were held, how many of these are
-    /// gone, and whether the new one stays.
+    /// for each of them, in list order, and removes those for which it returns false.
     pub fn insert_and_retain<F: FnMut(&V) -> bool>(
         &mut self,
         slot: T::Key,
         value: V,
         should_retain: F,
-    ) -> Result<(usize, usize, bool), V>
+    ) -> Result<Retained, V>
         requires { F.IsAlwaysCallable should_retain }
         ensures accepted { IfOk result (λ told. (kept : List V)
-            × (asks : AsksBehind (CalledAt F.FnMut) should_retain (list_at T.Key.cmp self.old slot) value kept told.1)
-            × (self.new ≡ with_list T.Key.cmp self.old slot kept) × (told.2 ≡ last_answer true asks.answers)) }
-        ensures had { IfOk result (λ told. told.0 ≡ length (list_at T.Key.cmp self.old slot)) }
-        ensures fits { IfOk result (λ told. told.0 < usize.MAX) }
+            × AsksBehind (CalledAt F.FnMut) should_retain (list_at T.Key.cmp self.old slot) value kept told.taken
+            × (self.new ≡ with_list T.Key.cmp self.old slot kept) × (told.left ≡ length kept)) }
+        ensures had { IfOk result (λ told. told.had ≡ length (list_at T.Key.cmp self.old slot)) }
         ensures refused { OnErr result (self.new ≡ self.old) }
         ensures returned { IfErr result (λ back. back ≡ value) }
     {
         let Some(newest) = self.heads.get(&slot) else {
             self.insert(slot, value)?;
-            let (_, _, stays) = self.retain_in_turn(slot, should_retain);
-            return Ok((0, 0, stays));
+            let (_, left, _) = self.retain_in_turn(slot, should_retain);
+            return Ok(Retained {
+                had: 0,
+                left,
+                taken: 0,
+            });
         };
-        let (newest_stays, held, left, stays) = insert_and_retain_older(
+        let (newest_stays, had, left, stays) = insert_and_retain_older(
             self.alloc,
             &mut self.older,
             slot,
@@ -269,10 +272,16 @@ impl<T: Translator, V: Drop, M: Heads<T::Key, V>> Chains<T, V, M> {
             should_retain,
         )?;
         if newest_stays {
-            return Ok((held, gone_of(held - left, stays), stays));
+            let taken = gone_of(had - left, stays);
+            return Ok(Retained {
+                had,
+                left: left + 1,
+                taken,
+            });
         }
         self.remove_at(slot, 0);
-        Ok((held, gone_of(held + 1 - left, stays), stays))
+        let taken = gone_of(had + 1 - left, stays);
+        Ok(Retained { had, left, taken })
     }
 
     /// How many index keys have values.

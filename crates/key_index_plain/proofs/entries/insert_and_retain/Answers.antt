@@ -40,4 +40,4 @@ returns-clause-accepted g c =
     ] in
     let left = listed c.retain_in_turn-taken.new.entries.items in
     let new = taken_put g.met.K.Ord.total old mid c.args.key c.args.value at end put c.requires.exact c.requires.lawful kept.0 left kept.2 in
-    (kept.0, (asks_put g.met.K.Ord.total old mid c.args.key c.args.value at end put (CalledAt g.F.FnMut) c.args.should_retain kept.0 stays taken kept.1 kept.3 c.if-stays.result most).0, new)
+    (kept.0, (asks_put g.met.K.Ord.total old mid c.args.key c.args.value at end put (CalledAt g.F.FnMut) c.args.should_retain kept.0 stays taken kept.1 kept.3 c.if-stays.result most), new)

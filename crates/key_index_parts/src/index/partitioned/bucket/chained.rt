@@ -132,9 +132,7 @@ impl<T: Translator, V: Drop> Bucket<T, V> for Chained<T, V> {
         should_retain: F,
         _limit: usize,
     ) -> Result<(Retained, usize), V> {
-        let (had, taken, stays) = self.chains.insert_and_retain(key, value, should_retain)?;
-        let added = if stays { 1 } else { 0 };
-        let left = had - taken + added;
-        Ok((Retained { had, left, taken }, 0))
+        let told = self.chains.insert_and_retain(key, value, should_retain)?;
+        Ok((told, 0))
     }
 }
