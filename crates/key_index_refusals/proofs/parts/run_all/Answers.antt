@@ -1,5 +1,5 @@
 use denote.Param.Always.{always_fn}
-use Rattle.key_index_refusals.proofs.CommandLemmas.{have-tests}
+use Rattle.key_index_flat.proofs.runs.CommandLemmas.{have-tests}
 use Rattle.key_index_refusals.proofs.parts.run_all.Goals as goal
 
 pub run-requires : goal.run-requires

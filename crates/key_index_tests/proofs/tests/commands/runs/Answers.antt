@@ -1,5 +1,5 @@
 use denote.Param.Always.{always_fn}
-use Rattle.key_index_tests.proofs.CommandLemmas.{have-tests}
+use Rattle.key_index_flat.proofs.runs.CommandLemmas.{have-tests}
 use Rattle.key_index_tests.proofs.tests.commands.runs.Goals as goal
 
 pub run-requires : goal.run-requires

@@ -1,3 +1,4 @@
+-- On the tests that commands bring along.
 use Rattle.std.proofs.Common.{List, [], ◌∷◌}
 use Rattle.key_index_flat.specs.Run.{HasTest, HaveTests}
 use Rattle.key_index_flat.specs.declared.index.command.Command.{Command}
