@@ -4,6 +4,7 @@ ghost use Rattle.std.specs.Prelude.{◌≡◌, Some};
 use std::alloc::{AllocError, AllocFailed};
 use std::fmt;
 
+mod apply;
 mod batch;
 mod command;
 pub mod implement;
@@ -11,16 +12,15 @@ mod index_cursor;
 pub mod ordered;
 mod resolve;
 mod retain;
-mod run;
 mod storage;
 mod traits;
 pub mod unordered;
 mod values;
 
+pub use apply::run;
 pub use command::{Command, Outcome, Step};
 pub use index_cursor::IndexCursor;
 pub use resolve::{Keyed, resolve_next, resolve_prev};
-pub use run::run;
 pub use traits::cursor::{Cursor, CursorState};
 pub use traits::ordered::Ordered;
 pub use traits::runs::Runs;

@@ -4,7 +4,7 @@ use Rattle.std.specs.Fn.{CalledAt}
 use Rattle.std.specs.Vec.Iter.{into_iter_items, into_iter_len}
 use Rattle.key_index_flat.specs.Run.{HaveTests}
 use Rattle.key_index_flat.proofs.runs.RunLemmas.{LegalTo}
-use Rattle.key_index_flat.proofs.index.run.apply_all.Given as goal
+use Rattle.key_index_flat.proofs.index.apply.apply_all.Given as goal
 
 abbrev pub invariant-commands : goal.invariant-commands
 invariant-commands g l =

@@ -1,7 +1,7 @@
 use Rattle.std.proofs.Common.{length, sym, ap, ◌∙◌, arith}
 use Rattle.std.specs.Vec.Iter.{into_iter_items, into_iter_len}
 use Rattle.key_index_flat.proofs.runs.RunLemmas.{flagged, run_first, run_more, run_all, no_items}
-use Rattle.key_index_flat.proofs.index.run.apply_steps.Goals as goal
+use Rattle.key_index_flat.proofs.index.apply.apply_steps.Goals as goal
 
 pub steps-init : goal.steps-init
 steps-init g c =

@@ -1,6 +1,6 @@
 use Rattle.std.proofs.Common.{rules, ◌+◌, take}
 use Rattle.key_index_flat.proofs.runs.RunLemmas.{room_next, take_next}
-use Rattle.key_index_flat.proofs.index.run.room_for.Goals as goal
+use Rattle.key_index_flat.proofs.index.apply.room_for.Goals as goal
 
 pub commands-preserved : goal.commands-preserved
 commands-preserved g c =

@@ -4,7 +4,7 @@ use Rattle.std.specs.Fn.{CalledAt}
 use Rattle.std.specs.Vec.Iter.{into_iter_items, into_iter_len}
 use Rattle.key_index_flat.specs.Run.{HaveTests}
 use Rattle.key_index_flat.proofs.runs.RunLemmas.{legal_first, legal_more, legal_all, no_items}
-use Rattle.key_index_flat.proofs.index.run.apply_all.Goals as goal
+use Rattle.key_index_flat.proofs.index.apply.apply_all.Goals as goal
 
 pub commands-init : goal.commands-init
 commands-init g c =

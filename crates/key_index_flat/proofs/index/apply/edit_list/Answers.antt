@@ -1,6 +1,6 @@
 use Rattle.std.proofs.Common.{rules}
 use Rattle.key_index_flat.proofs.runs.RunLemmas.{edit_done}
-use Rattle.key_index_flat.proofs.index.run.edit_list.Goals as goal
+use Rattle.key_index_flat.proofs.index.apply.edit_list.Goals as goal
 
 pub returns : goal.returns
 returns g c =

@@ -1,7 +1,7 @@
 use Rattle.std.proofs.Common.{◌≡◌, length}
 use Rattle.std.specs.Vec.Iter.{into_iter_items, into_iter_len}
 use Rattle.key_index_flat.proofs.runs.RunLemmas.{RunTo}
-use Rattle.key_index_flat.proofs.index.run.apply_steps.Given as goal
+use Rattle.key_index_flat.proofs.index.apply.apply_steps.Given as goal
 
 abbrev pub invariant-steps : goal.invariant-steps
 invariant-steps g l = record {

@@ -1,5 +1,5 @@
 use Rattle.key_index_flat.proofs.runs.RunLemmas.{put_if_absent}
-use Rattle.key_index_flat.proofs.index.run.get_or_insert.Goals as goal
+use Rattle.key_index_flat.proofs.index.apply.get_or_insert.Goals as goal
 
 pub returns-clause-accepted : goal.returns-clause-accepted
 returns-clause-accepted g c =

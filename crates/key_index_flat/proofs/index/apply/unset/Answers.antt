@@ -1,6 +1,6 @@
 use Rattle.std.proofs.Common.{length, Ok, refl, ◌∙◌}
 use Rattle.key_index_flat.proofs.runs.RunLemmas.{filled, none_set}
-use Rattle.key_index_flat.proofs.index.run.unset.Goals as goal
+use Rattle.key_index_flat.proofs.index.apply.unset.Goals as goal
 
 pub returns-clause-flags : goal.returns-clause-flags
 returns-clause-flags g c =
