@@ -97,12 +97,12 @@ module _ (s : Standings) (n m : ℕ) (inside : n < length s.buckets) (least : 1 
       regroup false b c = refl
 
   -- what a spill adds to a count, by the values that the partition has
-  counted : (count : Standings → ℕ) (adds : ℕ → ℕ)
+  count-after_call : (count : Standings → ℕ) (adds : ℕ → ℕ)
       → ((r : Standings) (b : Bool) → count (if b then with_spill r n else r) ≡ (if b then pruned_after (count r) (adds (entries_at r n)) else count r))
       → ((r : Standings) → count (with_entries r n m) ≡ count r)
       → count (after_call s n m) ≡ pruned_after (count s) (
       if is_reached s n then adds (entries_at s n) else if not (standing_at s n).spilled && nat_le s.threshold m then adds m else 0)
-  counted count adds spilled left =
+  count-after_call count adds spilled left =
       spilled (with_entries (spilled_if_reached s n) n m) (is_reached (with_entries (spilled_if_reached s n) n m) n)
       ∙ (λ i. if b_reached i then pruned_after (before i) (adds (b_stands i).entries) else before i)
       ∙ told (standing_at s n).spilled (nat_le s.threshold (entries_at s n))
@@ -128,7 +128,7 @@ module _ (s : Standings) (n m : ℕ) (inside : n < length s.buckets) (least : 1 
   pub call_spills : (after_call s n m).spills ≡ pruned_after s.spills (
       if not (standing_at s n).spilled && (nat_le s.threshold (entries_at s n) || nat_le s.threshold m) then 1 else 0)
   call_spills =
-      counted (λ r. r.spills) (λ _. 1) adds_one (λ r. refl)
+      count-after_call (λ r. r.spills) (λ _. 1) adds_one (λ r. refl)
       ∙ ap (pruned_after s.spills) (either (standing_at s n).spilled (nat_le s.threshold (entries_at s n)) (nat_le s.threshold m))
     where
       adds_one : (r : Standings) (b : Bool) → (if b then with_spill r n else r).spills ≡ (if b then pruned_after r.spills 1 else r.spills)
@@ -142,22 +142,22 @@ module _ (s : Standings) (n m : ℕ) (inside : n < length s.buckets) (least : 1 
 
   pub call_moved : (after_call s n m).moved ≡ pruned_after s.moved (
       if is_reached s n then entries_at s n else if not (standing_at s n).spilled && nat_le s.threshold m then m else 0)
-  call_moved = counted (λ r. r.moved) (λ k. k) adds_all (λ r. refl)
+  call_moved = count-after_call (λ r. r.moved) (λ k. k) adds_all (λ r. refl)
     where
       adds_all : (r : Standings) (b : Bool) → (if b then with_spill r n else r).moved ≡ (if b then pruned_after r.moved (entries_at r n) else r.moved)
       adds_all r true = refl
       adds_all r false = refl
 
-  few : (b : Bool) → (if (b || nat_le s.threshold m) && nat_lt 0 m then 0 else m) < s.threshold
-  few true = grind (arith, nat_tests, least)
-  few false = grind (arith, nat_tests, least)
+  entries-below_threshold : (b : Bool) → (if (b || nat_le s.threshold m) && nat_lt 0 m then 0 else m) < s.threshold
+  entries-below_threshold true = grind (arith, nat_tests, least)
+  entries-below_threshold false = grind (arith, nat_tests, least)
 
   pub call_inline : IsBelow (after_call s n m) n
   call_inline =
       subst (λ t. (if (standing_at (after_call s n m) n).spilled then 0 else entries_at (after_call s n m) n) < t) (sym same_limit)
       (subst (λ p. (if p.spilled then 0 else p.entries) < s.threshold) (sym call_stands)
       (subst (λ b. (if b && nat_lt 0 m then 0 else m) < s.threshold) (apart (standing_at s n).spilled (nat_le s.threshold (entries_at s n)) (nat_le s.threshold m))
-      (few ((standing_at s n).spilled || nat_le s.threshold (entries_at s n)))))
+      (entries-below_threshold ((standing_at s n).spilled || nat_le s.threshold (entries_at s n)))))
     where
       same_limit : (after_call s n m).threshold ≡ s.threshold
       same_limit = same_threshold (with_entries (spilled_if_reached s n) n m) n ∙ same_threshold s n

@@ -6,7 +6,7 @@ use Rattle.key_index_flat.specs.Neighbours.{first_entry}
 use Rattle.key_index_store.specs.Record.{Entry, Fits}
 use Rattle.key_index_store.specs.Stored.{entries_behind, held, in_bytes, put_of, with_record}
 use Rattle.key_index_store.specs.declared.store.Fault.TheVariants as fault
-use Rattle.key_index_store.proofs.CompactLemmas.{copied_all, copied_more, copied_none, ends, may_copy, next_fits, next_held, next_there, nothing, room}
+use Rattle.key_index_store.proofs.CompactLemmas.{copied_all, copied_more, copied_none, end-copy, may_copy, next_fits, next_held, next_there, nothing, len-held_copy}
 use Rattle.key_index_store.proofs.store.Store.compact.Goals as goal
 
 pub loop-copied-init : goal.loop-copied-init
@@ -42,8 +42,8 @@ returns-in_err-put-clause-fault g c = λ h.
     let fits : Fits (put_of e) =
     next_fits (take c.self.inside.end (g.L.Log.content c.self.inside.log)) (c.self.invariant h).1.fit e.0 e.1 (ap (λ s. get (held s) e.0) c.self.view_is ∙ there) in
     let copied = c.loop-copied.invariant.copied h in
-    let few = room m last n copy copied in
-    let may = may_copy copy r c.in_err-put.field-0.0 ((c.in_err-put.field-0.0 ≡ fault.Tail) × (0 < length (g.L.Log.content c.args.into))) (subst Fits (sym same) fits) (ends m last n copy copied)
+    let few = len-held_copy m last n copy copied in
+    let may = may_copy copy r c.in_err-put.field-0.0 ((c.in_err-put.field-0.0 ≡ fault.Tail) × (0 < length (g.L.Log.content c.args.into))) (subst Fits (sym same) fits) (end-copy m last n copy copied)
     (omega (arith, few, c.loop-copied-test.true, c.len-copied-end.type_inv)) (c.in_err-put.ensures.fault h) in
     search (rules, may)
 

@@ -1,6 +1,6 @@
 use Rattle.std.proofs.Common.{rules, ◌≡◌, ◌<◌, ◌≤◌, ◌^◌, cond, length, ap, ◌∙◌, sym, arith}
 use Rattle.key_index_flat.proofs.runs.CursorLemmas.{list_at_edit}
-use Rattle.key_index_flat.proofs.asked.KeptLemmas.{lawful_edit, counted_edit, within_count}
+use Rattle.key_index_flat.proofs.asked.KeptLemmas.{lawful_edit, IsCounted-with_list, within_count}
 use Rattle.key_index_flat.proofs.asked.TurnLemmas.{count_kept}
 use Rattle.key_index_flat.proofs.index.storage.Storage.insert_and_retain.Goals.{then-stays, else-stays}
 use Rattle.key_index_flat.proofs.index.storage.Storage.insert_and_retain.Goals as goal
@@ -33,7 +33,7 @@ invariant_of-self g c =
       | else-stays w ↦ w.added-is ∙ ap (λ b. cond b 1 0) (sym w.if-stays.false)
     ] in
     let counts = count_kept c.in-Ok.stays said.1 said.3 in
-    counted_edit g.met.T.Key.Ord.total _ _ _ _ _ _ c.self.invariant said.2 (omega (arith, within, said.1.taken, added, counts, c.in-Ok.ensures.had))
+    IsCounted-with_list g.met.T.Key.Ord.total _ _ _ _ _ _ c.self.invariant said.2 (omega (arith, within, said.1.taken, added, counts, c.in-Ok.ensures.had))
 
 pub returns-after-stays-clause-left : goal.returns-after-stays-clause-left
 returns-after-stays-clause-left g c =
