@@ -16,17 +16,13 @@ use Rattle.std.specs.FinMap.{find, put, is_sorted}
 use Rattle.std.specs.FinMap.Entries.{below_all, by_order, where_key}
 use Rattle.key_index_flat.specs.Content.{Content, is_filled, list_at, with_list, IsLawful}
 use Rattle.key_index_flat.specs.laws.Laws.{T-and, T-and_first, T-and_second}
+use Rattle.key_index_flat.proofs.content.ContentLemmas.{Less-is_lt}
 use Rattle.key_index_plain.specs.declared.entries.Entry.{Entry}
 use Rattle.key_index_plain.specs.Entries.{listed, moved_on, content_of, place_of}
 
 pub OnOk-by : {A E : Type 0} (P Q : Type 0) (r : Result A E) → (P → Q) → OnOk r P → OnOk r Q
 OnOk-by P Q (Ok x) f h = f h
 OnOk-by P Q (Err e) f h = h
-
-less : (r : Ordering) → T (is_lt r) → r ≡ Less
-less Less p = refl
-less Equal p = absurd p
-less Greater p = absurd p
 
 pub listed-insert : {K V : Type 0} (es : List (Entry K V)) (i : ℕ) (e : Entry K V) → i ≤ length es → listed (insert es i e) ≡ insert (listed es) i (e.key, e.values.items)
 listed-insert es zero e h = refl
@@ -53,7 +49,7 @@ length-listed (e ∷ es) = ap suc (length-listed es)
 module _ {K V : Type 0} (cmp : K → K → Ordering) where
   put_front : (k : K) (l : List V) (c : Content K V) → T (below_all cmp k c) → put cmp k l c ≡ (k, l) ∷ c
   put_front k l [] h = refl
-  put_front k l (e ∷ es) h = ap (λ r. by_order r ((k, l) ∷ e ∷ es) ((e.0, l) ∷ es) (e ∷ put cmp k l es)) (less _ (T-and_first _ _ h))
+  put_front k l (e ∷ es) h = ap (λ r. by_order r ((k, l) ∷ e ∷ es) ((e.0, l) ∷ es) (e ∷ put cmp k l es)) (Less-is_lt _ (T-and_first _ _ h))
 
   with_list_front : (k : K) (l : List V) (c : Content K V) → T (is_filled l) → T (below_all cmp k c) → with_list cmp c k l ≡ (k, l) ∷ c
   with_list_front k [] c f h = absurd f
@@ -68,17 +64,17 @@ module _ {K V : Type 0} (cmp : K → K → Ordering) where
   -- a key below each key of a content
   apart_list : (k : K) (c : Content K V) → T (below_all cmp k c) → list_at cmp c k ≡ []
   apart_list k [] h = refl
-  apart_list k (e ∷ es) h = ap (λ r. unwrap_or (cond (is_eq r) (Some e.1) (find cmp k es)) []) (less _ (T-and_first _ _ h)) ∙ apart_list k es (T-and_second _ _ h)
+  apart_list k (e ∷ es) h = ap (λ r. unwrap_or (cond (is_eq r) (Some e.1) (find cmp k es)) []) (Less-is_lt _ (T-and_first _ _ h)) ∙ apart_list k es (T-and_second _ _ h)
 
   apart_same : (k : K) (c : Content K V) → T (below_all cmp k c) → where_key cmp (λ x. not (eq_by_cmp cmp k x)) c ≡ c
   apart_same k [] h = refl
   apart_same k (e ∷ es) h =
       let left = where_key cmp (λ x. not (eq_by_cmp cmp k x)) es in
-      ap (λ r. cond (not (is_eq r)) (e ∷ left) left) (less _ (T-and_first _ _ h)) ∙ ap (λ c. e ∷ c) (apart_same k es (T-and_second _ _ h))
+      ap (λ r. cond (not (is_eq r)) (e ∷ left) left) (Less-is_lt _ (T-and_first _ _ h)) ∙ ap (λ c. e ∷ c) (apart_same k es (T-and_second _ _ h))
 
   below_through : (x y : K) (c : Content K V) → ((z : K) → cmp y z ≡ Less → cmp x z ≡ Less) → T (below_all cmp y c) → T (below_all cmp x c)
   below_through x y [] through h = tt
-  below_through x y (e ∷ es) through h = T-and _ _ (subst (λ r. T (is_lt r)) (sym (through e.0 (less _ (T-and_first _ _ h)))) tt) (below_through x y es through (T-and_second _ _ h))
+  below_through x y (e ∷ es) through h = T-and _ _ (subst (λ r. T (is_lt r)) (sym (through e.0 (Less-is_lt _ (T-and_first _ _ h)))) tt) (below_through x y es through (T-and_second _ _ h))
 
   module _ (k : K) where
     -- the entry at a place has the key

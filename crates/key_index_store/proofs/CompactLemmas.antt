@@ -6,7 +6,7 @@
 use Rattle.std.proofs.Common.{rules, ◌≡◌, ◌⊎◌, ℕ, ◌+◌, ◌-◌, ◌^◌, ◌<◌, ◌≤◌, Bool, true, false, cond, T, List, [], ◌∷◌, ◌++◌, length, map, Option, Some, None, is_some, All, refl, sym, ap, subst, ◌∙◌, append-nil, append_assoc, length-append, arith}
 use Rattle.std.proofs.lemmas.Bool.{false≢true}
 use Rattle.std.proofs.lemmas.Grind.{flat_map-append}
-use Rattle.std.proofs.lemmas.List.{map-append, take_all}
+use Rattle.std.proofs.lemmas.List.{map-append, take_all, nil_from_length}
 use Rattle.std.proofs.lemmas.List.Concat.{flat_map-cons}
 use Rattle.std.proofs.lemmas.List.Elements.{All-head, All-nil, All-push, All-tail}
 use Rattle.std.specs.Cmp.{tied_itself}
@@ -119,10 +119,6 @@ fits_held (r ∷ rs) m all fit k v at =
       | false ↦ λ t is. fit q w is
     ] refl (sym (get_with m r.key r.value q) ∙ there)) k v at
 
-pub nothing : {X : Type 0} (l : List X) → length l ≡ 0 → l ≡ []
-nothing [] e = refl
-nothing (x ∷ xs) e = absurd (omega (arith, e))
-
 -- ---- a copy
 
 abbrev pub copy_of : List Pair → Stored
@@ -175,7 +171,7 @@ module _ (m : Values) (last : Option (List ℕ)) (n : ℕ) (copy : Stored) (h : 
   pub copied_all : n ≡ len m → (copy ≡ compacted m) × (held copy ≡ m)
   copied_all full =
       let long = ap (λ l. length l) h.split ∙ length-append h.done h.rest in
-      let all : entries m ≡ h.done = h.split ∙ ap (λ l. h.done ++ l) (nothing h.rest (omega (arith, long, len-entries m, h.counted, full))) ∙ append-nil h.done in
+      let all : entries m ≡ h.done = h.split ∙ ap (λ l. h.done ++ l) (nil_from_length h.rest (omega (arith, long, len-entries m, h.counted, full))) ∙ append-nil h.done in
       (h.copied ∙ ap copy_of (sym all), held-copy ∙ ap (λ es. fold after_record empty (map put_of es)) (sym all) ∙ put_all_map m)
 
   module _ (e : Pair) (is : Some e ≡ first_entry (entries_behind last m)) where

@@ -19,13 +19,14 @@ use Rattle.key_index_flat.specs.Content.{Content, item_count, list_at, with_list
 use Rattle.key_index_flat.specs.FullKeys.{IsBytes, byte_cmp}
 use Rattle.key_index_flat.specs.View.{View, after_insert, put_value, run_at, run_of, with_edit, with_pruned}
 use Rattle.key_index_flat.proofs.content.ContentLemmas.{item_count-with_list, list_at-with_list, Equal-is_eq, with_list-same, with_list-twice}
+use Rattle.key_index_flat.proofs.content.ChainLemmas.{None-is_some}
 use Rattle.key_index_flat.proofs.runs.ViewLemmas.{content-same_view, same_slot}
 use Rattle.key_index_store.specs.Indexed.{Indexes, IsLive, IsUnder, KeepsLists, Settles, entry_at, key_at, parts_of, value_in, without_newest}
 use Rattle.key_index_store.specs.Record.{Entry, Fits, Complete, bytes_of, encoded}
 use Rattle.key_index_store.specs.declared.store.Found.{Found}
 use Rattle.key_index_store.specs.Stored.{Values, held_by, with_value}
 use Rattle.std.proofs.lemmas.Map.Lookups.{exact_bytes}
-use Rattle.key_index_flat.proofs.entries.EntryLemmas.{is_some-look, look, none_distinct, out_all, out_distinct, out_look, All-put_value, put_distinct, put_look, same, set_keys, set_look}
+use Rattle.key_index_flat.proofs.entries.EntryLemmas.{is_some-look, look, none_distinct, out_all, out_distinct, out_look, All-put_value, put_distinct, put_look, same, set_keys, set_look, length-put_value}
 use Rattle.key_index_store.proofs.LogLemmas.{Spelled, entries_there, entry_there, held_more, live_more, nothing_held, read_last, spelled_more, spelled_none}
 
 -- ---- where a key stands in a list
@@ -61,10 +62,6 @@ length-remove : (l : List ℕ) (i : ℕ) → i < length l → length (remove l i
 length-remove [] i h = absurd (omega (arith, h))
 length-remove (x ∷ xs) zero h = omega arith
 length-remove (x ∷ xs) (suc i) h = let rest = length-remove xs i (omega (arith, h)) in omega (arith, rest)
-
-length-put : (first : Bool) (v : ℕ) (l : List ℕ) → length (put_value first v l) ≡ length l + 1
-length-put true v l = omega arith
-length-put false v l = length-append l (v ∷ [])
 
 place_below : (e : ℕ → List ℕ × List ℕ) (key l : List ℕ) (i : ℕ) → option_map (λ p. (e p).0) (slice_get l i) ≡ Some key → i < length l
 place_below e key [] i at = absurd (false≢true (ap is_some at))
@@ -184,10 +181,6 @@ module _ {K : Type 0} {cmp : K → K → Ordering} (o : IsTotalOrder cmp) (exact
     some_bytes None e = absurd (false≢true (sym e))
     some_bytes (Some v) e = refl
 
-    no_bytes : (x : Option (List ℕ)) → false ≡ is_some x → x ≡ None
-    no_bytes None e = refl
-    no_bytes (Some v) e = absurd (false≢true e)
-
     held_key : is_some (value_in longer r.key run) ≡ is_some (get (held_by log) r.key)
     held_key = ap is_some (found_in r.key)
 
@@ -221,7 +214,7 @@ module _ {K : Type 0} {cmp : K → K → Ordering} (o : IsTotalOrder cmp) (exact
           Indexes-longer l content (same_slot is) (All-put_value (Under slot) first last run last_under (All-Under slot))
           (put_distinct (entry_at longer) first run last (ap (λ k. value_in longer k run) own_key ∙ none) (once_in slot))
           (λ a. put_look (entry_at longer) first a r.key run last own_key none ∙ ap (λ x. cond (same a r.key) x (value_in longer a run)) own_value)
-          (omega (arith, counts, more, length-put first last run, h.counted))
+          (omega (arith, counts, more, length-put_value first last run, h.counted))
 
       settled_held : (i : ℕ) → IsAt (entry_at longer) r.key run (Some i) → t ≡ with_edit cmp s slot (λ l. slice_set l i last) → Indexes cmp longer t
       settled_held i at is =
@@ -237,7 +230,7 @@ module _ {K : Type 0} {cmp : K → K → Ordering} (o : IsTotalOrder cmp) (exact
     module _ (has : false ≡ is_some r.value) where
       len_without : len (with_value (held_by log) r.key r.value) ≡ cond (is_some (value_in longer r.key run)) (len (held_by log) - 1) (len (held_by log))
       len_without =
-          ap (λ x. len (with_value (held_by log) r.key x)) (no_bytes r.value has) ∙ len-remove nat_list_cmp_total (held_by log) r.key
+          ap (λ x. len (with_value (held_by log) r.key x)) (None-is_some r.value (sym has)) ∙ len-remove nat_list_cmp_total (held_by log) r.key
           ∙ ap (λ b. cond b (len (held_by log) - 1) (len (held_by log))) (sym held_key)
 
       settled_out : (i : ℕ) → IsAt (entry_at longer) r.key run (Some i) → t ≡ with_pruned (with_edit cmp s slot (λ l. remove l i)) 1 → Indexes cmp longer t
@@ -247,7 +240,7 @@ module _ {K : Type 0} {cmp : K → K → Ordering} (o : IsTotalOrder cmp) (exact
           let counts = ap (λ c. item_count c + length run) content ∙ item_count-with_list o s.content slot l hs in
           let less = len_without ∙ ap (λ x. cond x (len (held_by log) - 1) (len (held_by log))) (is_some-look (entry_at longer) r.key run i at) in
           Indexes-longer l content (same_slot is) (out_all (Under slot) run i (All-Under slot)) (out_distinct (entry_at longer) run i (once_in slot))
-          (λ a. out_look (entry_at longer) a r.key run i (once_in slot) at ∙ ap (λ x. cond (same a r.key) x (value_in longer a run)) (sym (no_bytes r.value has)))
+          (λ a. out_look (entry_at longer) a r.key run i (once_in slot) at ∙ ap (λ x. cond (same a r.key) x (value_in longer a run)) (sym (None-is_some r.value (sym has))))
           (omega (arith, counts, less, length-remove run i (place_below (entry_at longer) r.key run i at), h.counted))
 
       settled_none : value_in longer r.key run ≡ None → t ≡ s → Indexes cmp longer t
@@ -256,7 +249,7 @@ module _ {K : Type 0} {cmp : K → K → Ordering} (o : IsTotalOrder cmp) (exact
           let less = len_without ∙ ap (λ x. cond (is_some x) (len (held_by log) - 1) (len (held_by log))) none in
           Indexes-longer run content (same_slot is) (All-Under slot) (once_in slot)
           (λ a. elim (same a r.key) as (λ b. same a r.key ≡ b → value_in longer a run ≡ cond b r.value (value_in longer a run)) [
-            | true ↦ λ e. ap (λ k. value_in longer k run) (exact_bytes a r.key (Equal-is_eq _ e)) ∙ none ∙ sym (no_bytes r.value has)
+            | true ↦ λ e. ap (λ k. value_in longer k run) (exact_bytes a r.key (Equal-is_eq _ e)) ∙ none ∙ sym (None-is_some r.value (sym has))
             | false ↦ λ e. refl
           ] refl)
           (ap item_count (content-same_view is) ∙ h.counted ∙ sym less)
@@ -305,7 +298,7 @@ module _ {K : Type 0} {cmp : K → K → Ordering} (o : IsTotalOrder cmp) (exact
         ∙ ap (λ b. cond b (put_value first p (run_of cmp s key)) (run_of cmp s key)) (ap is_eq (tied_itself o (s.slot key)))
 
     pub one_there : 0 < length (run_of cmp t key)
-    one_there = omega (arith, ap (λ l. length l) list_there, length-put first p (run_of cmp s key))
+    one_there = omega (arith, ap (λ l. length l) list_there, length-put_value first p (run_of cmp s key))
 
     pub KeepsLists-undone : (u : View K ℕ) → u ≡ with_pruned (with_edit cmp t (t.slot key) (without_newest first)) 1 → KeepsLists s u
     KeepsLists-undone u out =

@@ -14,7 +14,7 @@ use Rattle.std.specs.List.{flat_map, fold}
 use Rattle.key_index_store.specs.Indexed.{IsLive, entry_at, parts_of}
 use Rattle.key_index_store.specs.Record.{Entry, Fits, Outcome, Complete, Torn, Damaged, IsFound, Stops, encoded, reading}
 use Rattle.key_index_store.specs.Stored.{after_record, first_and, held_by, records_of, records_up_to}
-use Rattle.key_index_store.proofs.RecordLemmas.{complete_whole, read_again, read_more}
+use Rattle.key_index_store.proofs.RecordLemmas.{complete_whole, read_again, read_more, Torn-not_Complete}
 
 first_and-stops : (f : List ℕ → List Entry) (bytes : List ℕ) (o : Outcome) → Stops o → first_and f bytes o ≡ []
 first_and-stops f bytes (Complete r) h = absurd h
@@ -87,13 +87,10 @@ drop-past_end zero log h = absurd (omega (arith, h))
 drop-past_end (suc p) [] h = refl
 drop-past_end (suc p) (x ∷ log) h = drop-past_end p log (omega (arith, h))
 
-torn_apart : (r : Entry) → ¬ (Torn ≡ Complete r)
-torn_apart r e = cc
-
 pub read_there : (log more : List ℕ) (p : ℕ) (r : Entry) → reading (drop p log) ≡ Complete r → reading (drop p (log ++ more)) ≡ reading (drop p log)
 read_there log more p r e =
     elim (cases_lt (length log) p) [
-      | inl past ↦ absurd (torn_apart r (sym (ap reading (drop-past_end p log past)) ∙ e))
+      | inl past ↦ absurd (Torn-not_Complete r (sym (ap reading (drop-past_end p log past)) ∙ e))
       | inr within ↦ ap reading (drop-append-le p log more within) ∙ read_more (drop p log) more (complete_whole (drop p log) r e)
     ]
 

@@ -194,7 +194,7 @@ not_second : (r : Entry) (x : Outcome) → ¬ (x ≡ Complete r) → (t : Bool) 
 not_second r x never true o e = (refl, e)
 not_second r x never false o e = absurd (never e)
 
-Torn-not_Complete : (r : Entry) → ¬ (Torn ≡ Complete r)
+pub Torn-not_Complete : (r : Entry) → ¬ (Torn ≡ Complete r)
 Torn-not_Complete r e = cc
 
 damaged_apart : (r : Entry) → ¬ (Damaged ≡ Complete r)

@@ -16,6 +16,7 @@ use Rattle.key_index_flat.specs.FullKeys.{byte_cmp, IsLeast, cmp_keys}
 use Rattle.key_index_flat.specs.laws.Laws.{T-and_first, T-and_second}
 use Rattle.key_index_flat.specs.Neighbours.{entries_above, entries_below, first_entry, last_entry}
 use Rattle.key_index_flat.proofs.content.ContentLemmas.{Less-is_lt}
+use Rattle.key_index_flat.proofs.content.ChainLemmas.{None-is_some}
 use Rattle.key_index.specs.Snapshot.{Positions, next_position, prev_position}
 use Rattle.key_index_uses.specs.Exclusion.{has_key, Excludes}
 use Rattle.key_index_uses.proofs.ExclusionLemmas.{Excludes-IsLeast}
@@ -81,14 +82,10 @@ has_key-not_found a (e ∷ es) h =
       | false ↦ λ q. has_key-not_found a es q
     ] h
 
-is_none : {X : Type 0} (o : Option X) → is_some o ≡ false → o ≡ None
-is_none None e = refl
-is_none (Some x) e = absurd (false≢true (sym e))
-
 pub Excludes-positions : (m : Positions) (a : List ℕ) (below above : Option Entry) → is_some (get m a) ≡ false → below ≡ prev_position m a → above ≡ next_position m a → Excludes key_of (entries m) a below above
 Excludes-positions m a below above none prev next =
     let es = entries m in
     let sorted = Rising-is_sorted es (entries_sorted m) in
-    Excludes-IsLeast key_of a es below above (has_key-not_found a es (sym (get-entries m a) ∙ is_none (get m a) none))
+    Excludes-IsLeast key_of a es below above (has_key-not_found a es (sym (get-entries m a) ∙ None-is_some (get m a) none))
     (subst (IsLeast (flip_args (cmp_keys key_of)) (entries_below byte_cmp es a)) (sym prev) (greatest_last (entries_below byte_cmp es a) (rising_filter (λ e. is_lt (byte_cmp e.0 a)) es sorted)))
     (subst (IsLeast (cmp_keys key_of) (entries_above byte_cmp es a)) (sym next) (IsLeast-first_entry (entries_above byte_cmp es a) (rising_filter (λ e. is_lt (byte_cmp a e.0)) es sorted)))

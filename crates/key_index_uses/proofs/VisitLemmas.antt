@@ -6,6 +6,7 @@ use Rattle.std.proofs.Common.{◌≡◌, ◌+◌, ℕ, Option, Some, List, [], �
 use Rattle.std.proofs.Math.Seq.{set-append_seam}
 use Rattle.std.proofs.lemmas.Fn.{chained_keeps}
 use Rattle.std.proofs.lemmas.List.{length_push}
+use Rattle.std.proofs.lemmas.List.Sums.{fold-append}
 use Rattle.std.specs.List.{FoldsTo, fold, last_or}
 use Rattle.key_index_flat.specs.Visits.{probes_from, visits_of}
 
@@ -16,10 +17,6 @@ module _ {P A B : Type 0} (R : P → A → P → Type 0) (inside : P → B) wher
   pub FoldsTo-fold : (put : B → A → B) → ((p : P) (x : A) (q : P) → R p x q → inside q ≡ put (inside p) x) → (p q : P) (xs : List A) → FoldsTo R p xs q → inside q ≡ fold put (inside p) xs
   FoldsTo-fold put f p q [] h = ap inside (sym h)
   FoldsTo-fold put f p q (x ∷ xs) h = FoldsTo-fold put f h.0 q xs h.2 ∙ ap (λ b. fold put b xs) (f p x h.0 h.1)
-
-in_turn : {A B : Type 0} (put : B → A → B) (b : B) (xs ys : List A) → fold put b (xs ++ ys) ≡ fold put (fold put b xs) ys
-in_turn put b [] ys = refl
-in_turn put b (x ∷ xs) ys = in_turn put (put b x) xs ys
 
 module _ {V : Type 0} where
   abbrev pub answered : List (Option V) → ℕ × V → List (Option V)
@@ -40,7 +37,7 @@ module _ {V : Type 0} where
       let long = length_push xs (last_or o l) in
       let next : n + 1 ≡ length (xs ++ last_or o l ∷ []) = omega (arith, long, e) in
       let left : length ys ≡ length keys = omega (arith, h) in
-      in_turn answered (xs ++ o ∷ ys) (map (λ v. (n, v)) l) rest
+      fold-append answered (xs ++ o ∷ ys) (map (λ v. (n, v)) l) rest
       ∙ ap (λ a. fold answered a rest) (ap (λ m. fold answered (xs ++ o ∷ ys) (map (λ v. (m, v)) l)) e ∙ one_place xs ys o l ∙ sym (append_assoc xs (last_or o l ∷ []) ys))
       ∙ fold-answered run slot bytes (xs ++ last_or o l ∷ []) ys (n + 1) keys next left
       ∙ append_assoc xs (last_or o l ∷ []) (map (λ p. last_or p.0 (run (slot (bytes p.1)))) (zip ys keys))

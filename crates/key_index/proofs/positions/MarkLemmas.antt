@@ -1,5 +1,5 @@
 -- What marks leave of an immutable index, one after another.
---     MarkedTo                         the marks so far: marked_first, marked_more, marked_all
+--     MarkedTo                         the marks so far: MarkedTo-first, marked_more, marked_all
 --     marks_start, marks_keys          the start and the keys by position at the end
 use Rattle.std.proofs.Common.{◌≡◌, ◌≢◌, ℕ, ◌+◌, ◌^◌, ◌-◌, ◌≤◌, true, false, cond, nat_le, ◌==◌, List, [], ◌∷◌, ◌++◌, length, append_assoc, append-nil, Option, Some, None, ◌↔◌, refl, sym, ap, subst, ◌∙◌, arith}
 use Rattle.std.proofs.lemmas.Bool.{leb-true, leb-false, le-leb}

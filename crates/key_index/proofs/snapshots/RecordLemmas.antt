@@ -11,7 +11,7 @@ use Rattle.std.specs.Cmp.Lexicographic.{nat_list_cmp_total}
 use Rattle.std.specs.List.{AllByRecursion, IsDistinct, filter}
 use Rattle.std.specs.Str.{bytes_eq}
 use Rattle.key_index_flat.proofs.content.ContentLemmas.{Equal-is_eq}
-use Rattle.key_index_flat.proofs.entries.EntryLemmas.{not_both, same, same_itself, cond-swapped}
+use Rattle.key_index_flat.proofs.entries.EntryLemmas.{not_both, same, same_itself, cond-swapped, cond-shadowed}
 use Rattle.key_index.specs.Snapshot.{key_of, position_in}
 use Rattle.key_index.specs.declared.snapshot.record.Record.{Record}
 
@@ -35,15 +35,11 @@ nothing_left : (b : Bool) → ◌≡◌ {A = Option ℕ} None (cond b None None)
 nothing_left true = refl
 nothing_left false = refl
 
-gone : (b : Bool) (x o : Option ℕ) → cond b None o ≡ cond b None (cond b x o)
-gone true x o = refl
-gone false x o = refl
-
 pub without_position : (a key : List ℕ) (l : List Record) → position_in a (records_without key l) ≡ cond (same a key) None (position_in a l)
 without_position a key [] = nothing_left (same a key)
 without_position a key (r ∷ rs) =
     elim (bytes_eq (key_of r) key) as (λ b. bytes_eq (key_of r) key ≡ b → position_in a (cond (not b) (r ∷ records_without key rs) (records_without key rs)) ≡ cond (same a key) None (cond (same a (key_of r)) (Some r.position) (position_in a rs))) [
-      | true ↦ λ e. without_position a key rs ∙ gone (same a key) (Some r.position) (position_in a rs)
+      | true ↦ λ e. without_position a key rs ∙ cond-shadowed (same a key) None (Some r.position) (position_in a rs)
           ∙ ap (λ k. cond (same a key) None (cond (same a k) (Some r.position) (position_in a rs))) (sym (bytes_eq-same (key_of r) key e))
       | false ↦ λ e. ap (cond (same a (key_of r)) (Some r.position)) (without_position a key rs)
           ∙ cond-swapped (same a (key_of r)) (same a key) (Some r.position) None (position_in a rs) (not_both a (key_of r) key (told_apart (key_of r) key e))

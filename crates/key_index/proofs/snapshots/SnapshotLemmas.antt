@@ -2,7 +2,7 @@
 --     next_position-IsLeast, prev_position-IsLeast  the nearest record in full keys is the nearest entry of the map
 --     get-positions_in                              the position of a full key is that of the first record of its own list that has it
 --     set_map, unset_map                            a list in which one full key changes changes the map there alone
-use Rattle.std.proofs.Common.{◌≡◌, ℕ, zero, suc, ◌<◌, Bool, true, false, cond, T, List, [], ◌∷◌, length, map, slice_get, Option, Some, None, is_some, refl, sym, ap, subst, ◌∙◌, arith}
+use Rattle.std.proofs.Common.{◌≡◌, ℕ, zero, suc, ◌<◌, true, false, cond, T, List, [], ◌∷◌, length, map, slice_get, Option, Some, None, is_some, refl, sym, ap, subst, ◌∙◌, arith}
 use Rattle.std.proofs.lemmas.Bool.{false≢true}
 use Rattle.std.proofs.lemmas.Map.Lookups.{exact_bytes}
 use Rattle.std.specs.Cmp.{IsTotalOrder, tied_itself}
@@ -66,7 +66,3 @@ pub within_by_key : (a : List ℕ) (l : List Record) (n : ℕ) → option_map ke
 within_by_key a [] n e = absurd (subst T (ap is_some (sym e)) tt)
 within_by_key a (x ∷ xs) zero e = omega arith
 within_by_key a (x ∷ xs) (suc n) e = let rest = within_by_key a xs n e in omega (arith, rest)
-
-pub is_none : {X : Type 0} (o : Option X) → is_some o ≡ false → o ≡ None
-is_none None e = refl
-is_none (Some x) e = absurd (false≢true (sym e))

@@ -13,12 +13,10 @@ use Rattle.std.proofs.lemmas.List.Sums.{sum_by-set, sum_by-cons}
 use Rattle.std.proofs.lemmas.List.{length-set}
 use Rattle.key_index.specs.Table.{is_used, is_full, marked, from_cell, places, home, control_of, fingerprint, with_hash, without, Files, AreCandidates}
 use Rattle.key_index.proofs.tables.TableLemmas.{marked_end, marked_here, marked_past}
+use Rattle.key_index_flat.proofs.entries.EntryLemmas.{some_not_none}
 
 some_same : {a b : ℕ} → Some a ≡ Some b → a ≡ b
 some_same e = cc
-
-some_not_none : {a : ℕ} → Some a ≡ None → ⊥
-some_not_none e = cc
 
 none_is_some : IsSome {T = ℕ} None → ⊥
 none_is_some e = absurd (cc)
@@ -386,7 +384,7 @@ module _ (cs ps : List ℕ) (h p cell : ℕ) (sized : length ps ≡ length cs)
 
   pub put_files : (m : ℕ → Option ℕ) → Files cs ps m → m p ≡ None → Files (slice_set cs cell (control_of h)) (slice_set ps cell p) (with_hash m p h)
   put_files m s none =
-      let fresh : (i : ℕ) → 2 ≤ slice_index cs i → slice_index ps i ≢ p = λ i f e. absurd (some_not_none (sym (s.held i f).1 ∙ ap m e ∙ none)) in
+      let fresh : (i : ℕ) → 2 ≤ slice_index cs i → slice_index ps i ≢ p = λ i f e. absurd (some_not_none _ (sym (s.held i f).1 ∙ ap m e ∙ none)) in
       let at : with_hash m p h p ≡ Some h = ap (λ b. cond b (Some h) (m p)) (eq-eqb p p refl) in
       let same : (q : ℕ) → q ≢ p → with_hash m p h q ≡ m q = λ q n. ap (λ b. cond b (Some h) (m q)) (ne_eqb q p n) in
       let kept = put_keeps m (with_hash m p h) (Keeps-Files s) at fresh same in

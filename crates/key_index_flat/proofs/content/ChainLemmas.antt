@@ -1,26 +1,17 @@
 -- On the content that newest and older values stand for.
 use Rattle.std.proofs.Common.{◌≡◌, ℕ, zero, suc, ◌+◌, ◌-◌, ◌<◌, ◌≤◌, Bool, true, false, not, cond, T, List, [], ◌∷◌, ◌++◌, length, reverse, slice_get, get_or, Option, Some, None, unwrap_or, Result, Ok, Err, is_some, IfOk, OnOk, OnErr, refl, sym, ap, subst, ◌∙◌, arith, add-zero}
-use Rattle.std.proofs.lemmas.List.{length-reverse, reverse-append, get_or-reverse}
+use Rattle.std.proofs.lemmas.List.{length-reverse, reverse-append, get_or-reverse, nil_from_length}
 use Rattle.std.proofs.lemmas.Option.{slice_get-get_or}
 use Rattle.std.specs.declared.cmp.Ordering.{Ordering}
-use Rattle.std.specs.declared.cmp.Ordering.TheVariants.{Less, Equal, Greater}
-use Rattle.std.specs.Ordering.{eq_by_cmp, is_eq}
+use Rattle.std.specs.declared.cmp.Ordering.TheVariants.{Equal}
+use Rattle.std.specs.Ordering.{eq_by_cmp}
 use Rattle.std.specs.Cmp.{IsTotalOrder}
 use Rattle.std.specs.Map.{lookup}
 use Rattle.key_index_flat.specs.Content.{Content, key_count, list_at, with_list}
 use Rattle.key_index_flat.specs.Storage.{list_of, content_of}
 use Rattle.key_index_flat.specs.Storage.{value_of, Sets, IsLinked}
 use Rattle.key_index_flat.specs.laws.Laws.{IsLawful-with_list, IsLawful-content_of}
-use Rattle.key_index_flat.proofs.content.ContentLemmas.{list_at-with_list, same_content, key_count-with_list, entries_for}
-
-tie : (r : Ordering) → is_eq r ≡ true → r ≡ Equal
-tie Less p = absurd (subst T (sym p) tt)
-tie Equal p = refl
-tie Greater p = absurd (subst T (sym p) tt)
-
-pub no_items : {V : Type 0} (l : List V) → length l ≡ 0 → l ≡ []
-no_items [] e = refl
-no_items (v ∷ vs) e = absurd (omega arith)
+use Rattle.key_index_flat.proofs.content.ContentLemmas.{list_at-with_list, same_content, key_count-with_list, entries_for, Equal-is_eq}
 
 taken_entries : {V : Type 0} (newest : Option V) (older : List V) → entries_for (list_of newest older) ≡ cond (is_some newest) 1 0
 taken_entries None older = refl
@@ -75,7 +66,7 @@ is_some-newest (Some v) older h = refl
 pub holds_at_every_key : {K : Type 0} (cmp : K → K → Ordering) → ((x y : K) → cmp x y ≡ Equal → x ≡ y) → (P : K → Type 0) (k : K) → P k → ((q : K) → eq_by_cmp cmp q k ≡ false → P q) → (q : K) → P q
 holds_at_every_key cmp exact P k at others q =
     elim (eq_by_cmp cmp q k) as (λ b. eq_by_cmp cmp q k ≡ b → P q) [
-      | true ↦ λ p. subst P (sym (exact q k (tie _ p))) at
+      | true ↦ λ p. subst P (sym (exact q k (Equal-is_eq _ p))) at
       | false ↦ others q
     ] refl
 
@@ -87,7 +78,7 @@ module _ {K V : Type 0} {cmp : K → K → Ordering} (o : IsTotalOrder cmp) wher
         let rest = list_at cmp (content_of cmp es older) q in
         list_at-with_list o (content_of cmp es older) e.0 (e.1 ∷ reverse (older e.0)) q
         ∙ elim (eq_by_cmp cmp q e.0) as (λ b. eq_by_cmp cmp q e.0 ≡ b → cond b (e.1 ∷ reverse (older e.0)) rest ≡ list_of (cond b (Some e.1) (lookup (eq_by_cmp cmp q) es)) (older q)) [
-          | true ↦ λ p. ap (λ x. e.1 ∷ reverse (older x)) (sym (exact q e.0 (tie _ p)))
+          | true ↦ λ p. ap (λ x. e.1 ∷ reverse (older x)) (sym (exact q e.0 (Equal-is_eq _ p)))
           | false ↦ λ p. list_at-content_of es older q
         ] refl
 
@@ -101,7 +92,7 @@ module _ {K V : Type 0} {cmp : K → K → Ordering} (o : IsTotalOrder cmp) wher
         same_content o exact _ _ (IsLawful-content_of o news later) (IsLawful-with_list o _ k l (IsLawful-content_of o heads older)) (λ q.
         list_at-content_of news later q
         ∙ elim (eq_by_cmp cmp q k) as (λ b. eq_by_cmp cmp q k ≡ b → list_of (lookup (eq_by_cmp cmp q) news) (later q) ≡ cond b l (list_at cmp (content_of cmp heads older) q)) [
-          | true ↦ λ p. subst (λ (x : K). list_of (lookup (eq_by_cmp cmp x) news) (later x) ≡ l) (sym (exact q k (tie _ p))) at
+          | true ↦ λ p. subst (λ (x : K). list_of (lookup (eq_by_cmp cmp x) news) (later x) ≡ l) (sym (exact q k (Equal-is_eq _ p))) at
           | false ↦ λ p. (λ i. list_of (others q p i) (others_older q p i)) ∙ sym (list_at-content_of heads older q)
         ] refl
         ∙ sym (list_at-with_list o (content_of cmp heads older) k l q))
@@ -147,7 +138,7 @@ module _ {K V : Type 0} {cmp : K → K → Ordering} (o : IsTotalOrder cmp) wher
           }
 
       empty_at : value_of cmp heads k ≡ None → older k ≡ []
-      empty_at none = no_items (older k) (linked.headed k (ap is_some none))
+      empty_at none = nil_from_length (older k) (linked.headed k (ap is_some none))
 
       -- a value under an absent key
       pub first_value : (v : V) → value_of cmp heads k ≡ None → Sets cmp heads news k (Some v) → length news ≡ length heads + 1

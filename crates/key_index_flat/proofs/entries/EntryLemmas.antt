@@ -1,9 +1,10 @@
 -- On a list of values that each stand for an entry, a full key with something: the first entry of a key, where no two have one key.
+--     length-put_value, All-put_value          a list with one value more
 --     look                                     what the first value of a list that has a key has
 --     passed_by, look-at_place, key-slice_get  a walk along the list
 --     put_look, set_look, out_look             what each key has after one went in, took the place of another, or went out
 --     put_distinct, set_keys, out_distinct     still no two have one key
-use Rattle.std.proofs.Common.{◌≡◌, ℕ, zero, suc, ◌<◌, Bool, true, false, cond, ◌||◌, T, List, [], ◌∷◌, ◌++◌, length, map, take, Option, Some, None, is_some, slice_get, slice_set, slice_index_or, get_or, Fits, w8, All, refl, sym, ap, subst, ◌∙◌, arith}
+use Rattle.std.proofs.Common.{◌≡◌, ℕ, zero, suc, ◌<◌, Bool, true, false, cond, ◌||◌, T, List, [], ◌∷◌, ◌++◌, length, map, take, Option, Some, None, is_some, slice_get, slice_set, slice_index_or, get_or, Fits, w8, All, refl, sym, ap, subst, ◌∙◌, arith, length-append, ◌+◌}
 use Rattle.std.proofs.lemmas.Bool.{false≢true}
 use Rattle.std.proofs.lemmas.List.{map-append}
 use Rattle.std.proofs.lemmas.List.Elements.{All-nil, All-cons, All-head, All-tail, All-append, All-from_get_or}
@@ -45,7 +46,7 @@ head_apart x y e = (eq_by_cmp_equiv nat_list_cmp_total).symm y x ∙ e
 pub same_is : (x y : List ℕ) → same x y ≡ true → x ≡ y
 same_is x y e = exact_bytes x y (Equal-is_eq _ e)
 
-cond-shadowed : {X : Type 0} (b : Bool) (x y z : X) → cond b x z ≡ cond b x (cond b y z)
+pub cond-shadowed : {X : Type 0} (b : Bool) (x y z : X) → cond b x z ≡ cond b x (cond b y z)
 cond-shadowed true x y z = refl
 cond-shadowed false x y z = refl
 
@@ -61,6 +62,10 @@ not_both a x y apart p q = false≢true (sym apart ∙ ap (λ k. same k y) (sym 
 none_any : (k : List ℕ) (ks : List (List ℕ)) → AllByRecursion (λ y. same k y ≡ false) ks → list_any (same k) ks ≡ false
 none_any k [] h = refl
 none_any k (x ∷ xs) h = subst (λ b. (b || list_any (same k) xs) ≡ false) (sym h.0) (none_any k xs h.1)
+
+pub length-put_value : {V : Type 0} (first : Bool) (v : V) (l : List V) → length (put_value first v l) ≡ length l + 1
+length-put_value true v l = omega arith
+length-put_value false v l = length-append l (v ∷ [])
 
 pub All-put_value : {V : Type 0} (P : V → Type 0) (first : Bool) (v : V) (l : List V) → P v → All P l → All P (put_value first v l)
 All-put_value P true v l h k = All-cons P v l h k

@@ -1,4 +1,4 @@
--- The parts of one view and another: same_content, .., and same_view, a view by its parts.
+-- The parts of one view and another: content-same_view, .., and same_view, a view by its parts.
 use Rattle.std.proofs.Common.{◌≡◌, ap}
 use Rattle.key_index_flat.specs.View.{View}
 

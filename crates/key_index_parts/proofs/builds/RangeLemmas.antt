@@ -29,6 +29,7 @@ use Rattle.key_index_parts.specs.declared.index.partitioned.builds.op.Op.TheVari
 use Rattle.key_index_parts.proofs.family.JoinedLemmas.{joined-empty}
 use Rattle.key_index_parts.proofs.builds.DoneLemmas.{take_whole}
 use Rattle.key_index_parts.proofs.builds.OpLemmas.{join_ops, free_above}
+use Rattle.key_index_parts.specs.laws.RangeLaws.{is_between-within}
 
 filter_out : {X : Type 0} (p : X → Bool) (xs : List X) (x : X) → p x ≡ false → filter p (xs ++ x ∷ []) ≡ filter p xs
 filter_out p [] x e = ap (λ b. cond b (x ∷ []) []) e
@@ -46,9 +47,6 @@ filter_in p (y ∷ ys) x e =
 filter-never : {X : Type 0} (p : X → Bool) (xs : List X) → ((x : X) → p x ≡ false) → filter p xs ≡ []
 filter-never p [] h = refl
 filter-never p (x ∷ xs) h = ap (λ b. cond b (x ∷ filter p xs) (filter p xs)) (h x) ∙ filter-never p xs h
-
-pub between : (a b n : ℕ) → a ≤ n → n < b → is_between a b n ≡ true
-between a b n le lt = λ i. not (le-ltb n a le i) && lt-ltb n b lt i
 
 pub not_between_below : (a b n : ℕ) → n < a → is_between a b n ≡ false
 not_between_below a b n lt = ap (λ v. not v && nat_lt n b) (lt-ltb n a lt)
@@ -190,7 +188,7 @@ module _ {R K V : Type 0} {cmp : K → K → Ordering} {view : R → View K V} {
                     let is : n ≡ y = set_same ranges j n y (ap (λ m. slice_get (set ranges j n) m) same ∙ e) in
                     subst (λ m. IsFilled cmp view keys partition (ops ++ x ∷ []) (slice_index cuts m) (slice_index cuts (m + 1)) y) same
                     (subst (λ m. IsFilled cmp view keys partition (ops ++ x ∷ []) (slice_index cuts j) (slice_index cuts (j + 1)) m) is
-                    (filled_here ops x _ _ r n (between _ _ number low high) fills (was.each j r here)))
+                    (filled_here ops x _ _ r n (is_between-within _ _ number low high) fills (was.each j r here)))
               ] refl
         ] refl;
   }

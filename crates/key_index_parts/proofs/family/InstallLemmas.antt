@@ -1,5 +1,5 @@
 -- On buckets that are put in the place of others.
---     put_more, put_none                                        one bucket more, and none left; no_items: of an empty list
+--     put_more, put_none                                        one bucket more, and none left
 --     free_none, free_far, free_near                            whether so many buckets hold nothing, by the first that is filled
 --     free_in, free_buckets                                     that they do, and that the whole is free of their keys
 --     KeepsBuckets-installed, IsCounted-installed, seen_joined  the buckets after it, where the places held nothing, their counts, and the index as it is seen
@@ -228,10 +228,6 @@ module _ {K V : Type 0} {cmp : K → K → Ordering} (o : IsTotalOrder cmp) (exa
 pub refused_fault : (m n : ℕ) → (m + n ≤ 2 ^ 64 - 1 → ⊥) → Full ≡ install_fault m n
 refused_fault m n full =
     let more : 2 ^ 64 - 1 < m + n = lt_of_not-le full in ap (λ b. if b then Full else Memory) (sym (lt-ltb (2 ^ 64 - 1) (m + n) more))
-
-pub no_items : {A : Type 0} (xs : List A) → length xs ≡ 0 → xs ≡ []
-no_items [] h = refl
-no_items (x ∷ xs) h = absurd (omega (arith, h))
 
 -- of what two storages keep
 module _ {T K V : Type 0} (cmp : K → K → Ordering) (start : ℕ) {s t r q : Kept T K V} (own : s ≡ t) (other : r ≡ q) where

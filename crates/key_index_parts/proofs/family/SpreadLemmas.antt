@@ -3,7 +3,6 @@
 --     zip-more                      a run of pairs behind others, by keys and values
 --     replicate-more                one key more
 --     spread-next_list, next_rises  the next list of a tree goes behind the pairs that came in before it, and its key is below none of them
---     item_count-gathered_from      the values of a family are those of its buckets
 use Rattle.std.proofs.Common.{◌≡◌, ℕ, zero, suc, ◌+◌, cond, T, false, List, [], ◌∷◌, ◌++◌, All, length, map, replicate, unwrap_or, Some, append_assoc, refl, sym, ap, subst, ◌∙◌, arith}
 use Rattle.std.specs.List.{zip}
 use Rattle.std.specs.Cmp.{IsTotalOrder, tied_itself}
@@ -16,14 +15,11 @@ use Rattle.std.specs.List.Sorted.{IsSorted}
 use Rattle.std.proofs.lemmas.List.{map-append}
 use Rattle.std.proofs.lemmas.List.Elements.{All-nil, All-cons, All-head, All-tail}
 use Rattle.key_index_parts.proofs.pairs.SearchLemmas.{Rises, IsSorted-Rises}
-use Rattle.key_index_flat.specs.Content.{Content, is_filled, IsLawful, list_at, item_count}
+use Rattle.key_index_flat.specs.Content.{Content, is_filled, IsLawful, list_at}
 use Rattle.key_index_flat.specs.laws.Laws.{T-and_first, T-and_second}
 use Rattle.key_index_flat.proofs.content.ContentLemmas.{list_at-below_all, Less-is_lt}
 use Rattle.std.specs.declared.vec.Vec.{Vec}
 use Rattle.key_index_parts.specs.Pairs.{grouped, list_of}
-use Rattle.key_index_parts.specs.Gathered.{tagged, gathered_from}
-use Rattle.std.specs.List.{sum_by}
-use Rattle.std.proofs.lemmas.List.Sums.{sum_by-cons}
 use Rattle.key_index_parts.specs.Spread.{pairs_with, spread}
 
 module _ {K V : Type 0} {cmp : K → K → Ordering} (o : IsTotalOrder cmp) where
@@ -132,15 +128,3 @@ next_rises {cmp = cmp} o c h es k l rest whole =
 pub spread-next_list : {K V A : Type 0} (es w : List (K × V)) (lists left : List (K × Vec V A)) (e : K × Vec V A) → lists ≡ e ∷ left
     → es ++ spread (map list_of lists) ≡ w → es ++ (pairs_with e.0 e.1.items ++ spread (map list_of left)) ≡ w
 spread-next_list es w lists left e is whole = ap (λ l. es ++ spread (map list_of l)) (sym is) ∙ whole
-
-item_count-tagged : {K V : Type 0} (p : ℕ) (c : Content K V) (e : Content (ℕ × K) V) → item_count (tagged p c ++ e) ≡ item_count c + item_count e
-item_count-tagged p [] e = omega arith
-item_count-tagged p (x ∷ xs) e = let rest = item_count-tagged p xs e in omega (arith, rest)
-
--- the values of a family are those of its buckets
-pub item_count-gathered_from : {K V : Type 0} (p : ℕ) (cs : List (Content K V)) → item_count (gathered_from p cs) ≡ sum_by item_count cs
-item_count-gathered_from p [] = refl
-item_count-gathered_from p (c ∷ cs) =
-    let rest = item_count-gathered_from (suc p) cs in
-    let own = item_count-tagged p c (gathered_from (suc p) cs) in
-    omega (arith, rest, own, sum_by-cons item_count c cs)

@@ -1,6 +1,5 @@
 -- On what the storage of an index over buckets keeps.
 --     entries_for-filled, keys_for-length                       how many entries a list takes, by how many values it has
---     length-put_value                                          a list with one value more
 --     at_most_three                                             how many partitions there can be
 --     none_held, none_counted                                   buckets that hold nothing, together and with their counts
 --     IsLawful-kept, list_at-gathered_buckets                   the whole is lawful, and the list at a slot is that of its bucket
@@ -15,7 +14,7 @@
 --     KeepsBuckets-edited, keeps_all                            it is a map of lists that are not empty, as it is where nothing was edited
 --     view_edited, view_pruned                                  and the index as it is seen
 --     memory_fault                                              why a value is refused where there is space for one more
-use Rattle.std.proofs.Common.{◌≡◌, ℕ, zero, suc, ◌+◌, ◌-◌, ◌^◌, ◌<◌, ◌≤◌, Bool, true, false, not, if◌then◌else◌, List, [], ◌∷◌, replicate, length, All, length-append, refl, sym, ap, subst, ◌∙◌, arith, lt_of_not-le}
+use Rattle.std.proofs.Common.{◌≡◌, ℕ, zero, suc, ◌+◌, ◌-◌, ◌^◌, ◌<◌, ◌≤◌, Bool, not, if◌then◌else◌, List, [], ◌∷◌, replicate, length, All, refl, sym, ap, subst, ◌∙◌, arith, lt_of_not-le}
 use Rattle.std.proofs.lemmas.Bool.{lt-ltb, ne_eqb}
 use Rattle.key_index_flat.specs.declared.index.Fault.TheVariants.{Memory, Full}
 use Rattle.key_index_flat.specs.Fault.{growth_fault}
@@ -26,7 +25,7 @@ use Rattle.std.specs.declared.cmp.Ordering.TheVariants.{Equal}
 use Rattle.std.specs.Cmp.{IsTotalOrder}
 use Rattle.key_index_flat.specs.Content.{Content, is_filled, IsLawful, list_at, with_list, with_list_by, item_count, key_count}
 use Rattle.key_index_flat.specs.laws.Laws.{IsLawful-with_list}
-use Rattle.key_index_flat.specs.View.{put_value, pruned_after}
+use Rattle.key_index_flat.specs.View.{pruned_after}
 use Rattle.key_index_flat.proofs.content.ContentLemmas.{item_count-with_list, key_count-with_list, entries_for}
 use Rattle.key_index_parts.specs.Counts.{one_if, keys_for, CanChange}
 use Rattle.key_index_parts.specs.Family.{Kept, IsCounted, KeepsBuckets, Edits, Prunes, SameContent, view_of, bucket_at, list_in, with_list_in}
@@ -49,10 +48,6 @@ entries_for-filled (v ∷ vs) h = refl
 entries_for-one_if_absent : {V : Type 0} (l : List V) (absent : Bool) → absent ≡ not (is_filled l) → one_if absent + entries_for l ≡ 1
 entries_for-one_if_absent [] absent e = let one : one_if absent ≡ 1 = ap one_if e in omega (arith, one)
 entries_for-one_if_absent (v ∷ vs) absent e = let none : one_if absent ≡ 0 = ap one_if e in omega (arith, none)
-
-pub length-put_value : {V : Type 0} (first : Bool) (v : V) (l : List V) → length (put_value first v l) ≡ length l + 1
-length-put_value true v l = omega arith
-length-put_value false v l = let n = length-append l (v ∷ []) in omega (arith, n)
 
 pub at_most_three : (p : ℕ) → p ≤ 3 → partition_count p ≤ 16777216
 at_most_three zero h = omega arith

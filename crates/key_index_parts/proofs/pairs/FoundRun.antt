@@ -1,13 +1,14 @@
 -- What edits at the places of a run that was found make of the content, whose list at the key it is.
---     run_list, run_count                                                                                        the list at the key is the run
---     none_there                                                                                                 it is empty where the run is
---     place_within                                                                                               a place of the list is one of the pairs
---     slice_get-values_of                                                                                        the value there
---     may_insert, grouped-inserted, grouped-inserted_last, grouped-set_in, grouped-removed, grouped-removed_all  edits at a place of the list, and of the whole run
---     may_append                                                                                                 behind the last of the run
---     IsFound-removed                                                                                            where the run stands after one of its pairs is taken out
---     found_appended, ..                                                                                         and after a pair was put behind it
---     length-kept_of_run, few_of_run, RetainsWith-run                                                            what is left, where each value was asked on then
+--     run_list, run_count                                   the list at the key is the run
+--     none_there                                            it is empty where the run is
+--     place_within                                          a place of the list is one of the pairs
+--     slice_get-values_of                                   the value there
+--     may_insert, grouped-inserted, grouped-inserted_last   a value put in at a place of the list
+--     grouped-set_in, grouped-removed, grouped-removed_all  one in the place of another, one taken out, and the whole run
+--     may_append                                            behind the last of the run
+--     IsFound-removed                                       where the run stands after one of its pairs is taken out
+--     found_appended, ..                                    and after a pair was put behind it
+--     length-kept_of_run, few_of_run, RetainsWith-run       what is left, where each value was asked on then
 use Rattle.std.proofs.Common.{◌≡◌, ℕ, suc, ◌+◌, ◌-◌, ◌<◌, ◌≤◌, Bool, cond, true, false, not, nat_eq, List, [], ◌∷◌, ◌++◌, length, insert, remove, slice_set, slice_get, Some, length-append, refl, sym, ap, subst, ◌∙◌, arith}
 use Rattle.std.proofs.lemmas.Bool.{eq-eqb, ne_eqb}
 use Rattle.std.proofs.lemmas.List.Edits.{length-remove, length-insert, insert_end}
@@ -51,11 +52,11 @@ module _ {K V : Type 0} {cmp : K → K → Ordering} (o : IsTotalOrder cmp) (exa
   run_count = found.run.upto ∙ ap (λ l. start + length l) (sym run_list)
 
   pub none_there : nat_eq start end ≡ not (is_filled list)
-  none_there = told list run_count
+  none_there = empty_by_count list run_count
     where
-      told : (l : List V) → end ≡ start + length l → nat_eq start end ≡ not (is_filled l)
-      told [] e = let same : start ≡ end = omega (arith, e) in eq-eqb start end same
-      told (v ∷ vs) e = ne_eqb start end (λ same. absurd (omega (arith, same, e)))
+      empty_by_count : (l : List V) → end ≡ start + length l → nat_eq start end ≡ not (is_filled l)
+      empty_by_count [] e = let same : start ≡ end = omega (arith, e) in eq-eqb start end same
+      empty_by_count (v ∷ vs) e = ne_eqb start end (λ same. absurd (omega (arith, same, e)))
 
   run_place : (i : ℕ) → i ≤ length list → i ≤ length (run_of cmp es k)
   run_place i l = let e = ap (λ l. length l) run_list in omega (arith, e, l)

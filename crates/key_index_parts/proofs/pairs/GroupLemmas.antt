@@ -46,11 +46,11 @@ module _ {K V : Type 0} {cmp : K → K → Ordering} (o : IsTotalOrder cmp) wher
 
   -- there is no pair exactly where there is no entry
   pub none_grouped : (es : List (K × V)) → nat_eq (length es) 0 ≡ not (is_filled (grouped cmp es))
-  none_grouped es = told (grouped cmp es) (IsLawful-grouped o es).1 (item_count-grouped es)
+  none_grouped es = empty_by_count (grouped cmp es) (IsLawful-grouped o es).1 (item_count-grouped es)
     where
-      told : (c : Content K V) → T (all_filled c) → item_count c ≡ length es → nat_eq (length es) 0 ≡ not (is_filled c)
-      told [] h e = eq-eqb (length es) 0 (sym e)
-      told (x ∷ xs) h e = let some = filled_count x.1 (T-and_first _ _ h) in ne_eqb (length es) 0 (λ none. absurd (omega (arith, some, none, e)))
+      empty_by_count : (c : Content K V) → T (all_filled c) → item_count c ≡ length es → nat_eq (length es) 0 ≡ not (is_filled c)
+      empty_by_count [] h e = eq-eqb (length es) 0 (sym e)
+      empty_by_count (x ∷ xs) h e = let some = filled_count x.1 (T-and_first _ _ h) in ne_eqb (length es) 0 (λ none. absurd (omega (arith, some, none, e)))
         where
           filled_count : (l : List V) → T (is_filled l) → 1 ≤ length l
           filled_count [] f = absurd f

@@ -35,6 +35,7 @@ use Rattle.std.specs.declared.cmp.Ordering.{Ordering}
 use Rattle.std.specs.declared.cmp.Ordering.TheVariants.{Less, Equal, Greater}
 use Rattle.std.specs.Ordering.{is_eq, is_lt, eq_by_cmp, match_ordering}
 use Rattle.std.specs.declared.vec.Vec.{Vec}
+use Rattle.std.proofs.lemmas.List.{nil_from_length}
 use Rattle.key_index_flat.specs.Content.{Content, is_filled, all_filled, item_count, list_at, with_list, with_list_by, IsLawful}
 use Rattle.key_index_flat.specs.laws.Laws.{T-and_first, T-and_second, IsLawful-with_list}
 use Rattle.key_index_flat.specs.Neighbours.{first_entry, last_entry, first_list, last_list, entries_above, entries_below}
@@ -138,10 +139,6 @@ pub at_least-by_cond : (b : Bool) (n m : ℕ) → m ≡ cond b (n + 1) n → n �
 at_least-by_cond true n m h = omega (arith, h)
 at_least-by_cond false n m h = omega (arith, h)
 
-no_items : {V : Type 0} (l : List V) → length l ≡ 0 → l ≡ []
-no_items [] h = refl
-no_items (v ∷ vs) h = absurd (omega (arith, h))
-
 length_filled : {V : Type 0} (l : List V) → is_filled l ≡ true → 0 < length l
 length_filled [] h = absurd (subst T (sym h) tt)
 length_filled (v ∷ vs) h = omega arith
@@ -174,11 +171,11 @@ module _ {K V A : Type 0} (test : K → Bool) (old : Vec V A) where
 module _ {K V A : Type 0} (cmp : K → K → Ordering) (k : K) (es : List (K × Vec V A)) (lent : Option (MutBor (Vec V A))) (is : option_copied_mut lent ≡ lookup (is_at (cmp k)) es) where
   -- a key with values is held
   pub is_held : 0 < length (list_at cmp (map list_of es) k) → IsSome lent
-  is_held some = by lent is
+  is_held some = some_lent lent is
     where
-      by : (r : Option (MutBor (Vec V A))) → option_copied_mut r ≡ lookup (is_at (cmp k)) es → IsSome r
-      by None none = let e = ap (λ l. length l) (list_at-lookup_none cmp k es (sym none)) in absurd (omega (arith, e, some))
-      by (Some r) h = refl
+      some_lent : (r : Option (MutBor (Vec V A))) → option_copied_mut r ≡ lookup (is_at (cmp k)) es → IsSome r
+      some_lent None none = let e = ap (λ l. length l) (list_at-lookup_none cmp k es (sym none)) in absurd (omega (arith, e, some))
+      some_lent (Some r) h = refl
 
   pub lent_at : (values : MutBor (Vec V A)) → lent ≡ Some values → Some values.now ≡ lookup (is_at (cmp k)) es
   lent_at values h = sym (ap option_copied_mut h) ∙ is
@@ -240,7 +237,7 @@ module _ {K V A : Type 0} {cmp : K → K → Ordering} (o : IsTotalOrder cmp) (k
             → map list_of fs ≡ with_list_by cmp (map list_of es) k f
         map-remove_emptied fs ws set taken none =
             ap (λ l. map list_of l) (taken ∙ ap (remove_entry (is_at (cmp k))) set ∙ remove_entry-set_value (is_at (cmp k)) es w) ∙ take_list o k es lawful.0
-            ∙ ap (λ l. with_list cmp (map list_of es) k l) (sym (no_items w.items none) ∙ items-edited_list)
+            ∙ ap (λ l. with_list cmp (map list_of es) k l) (sym (nil_from_length w.items none) ∙ items-edited_list)
 
       -- the count and the law once a list stands in the place of the old one, and once its entry is taken out where it is empty
       module _ (w : Vec V A) (len new : ℕ) (was : len ≡ item_count (map list_of es)) (more : new + length old.items ≡ len + length w.items) where

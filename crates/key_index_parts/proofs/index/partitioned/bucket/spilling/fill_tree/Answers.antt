@@ -2,7 +2,7 @@ use Rattle.std.proofs.Common.{◌≡◌, T, [], ◌∷◌, ◌++◌, is_some, ap
 use Rattle.std.specs.List.Sorted.{IsStrictlySortedBy}
 use Rattle.std.specs.Map.{keys_of}
 use Rattle.std.specs.Vec.Iter.{into_iter_items}
-use Rattle.key_index_parts.proofs.family.InstallLemmas.{no_items}
+use Rattle.std.proofs.lemmas.List.{nil_from_length}
 use Rattle.key_index_parts.proofs.standing.SpillLemmas.{keys_of-append, insert_entry-moved, empty-keys_of}
 use Rattle.key_index_parts.proofs.index.partitioned.bucket.spilling.fill_tree.Goals as goal
 
@@ -41,5 +41,5 @@ runs-preserved g c =
 pub returns : goal.returns
 returns g c =
     let inv = c.runs.invariant in
-    let none : into_iter_items c.runs.rest ≡ [] = no_items (into_iter_items c.runs.rest) (sym c.runs.rest.rest.ok.0 ∙ c.in_default.ensures.cases.0) in
+    let none : into_iter_items c.runs.rest ≡ [] = nil_from_length (into_iter_items c.runs.rest) (sym c.runs.rest.rest.ok.0 ∙ c.in_default.ensures.cases.0) in
     inv.2 ∙ ap (λ os. inv.0 ++ os) (empty-keys_of inv.1 (inv.3 ∙ ap keys_of none)) ∙ ap (λ xs. inv.0 ++ xs) (sym none) ∙ inv.4

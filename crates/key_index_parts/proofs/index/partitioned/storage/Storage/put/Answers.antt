@@ -2,8 +2,9 @@ use Rattle.std.proofs.Common.{sym, ◌∙◌, refl, arith, ap}
 use Rattle.key_index_flat.specs.View.{put_value}
 use Rattle.key_index_parts.specs.Family.{list_in}
 use Rattle.key_index_flat.specs.Content.{item_count}
+use Rattle.key_index_flat.proofs.entries.EntryLemmas.{length-put_value}
 use Rattle.key_index_parts.specs.Gathered.{gathered}
-use Rattle.key_index_parts.proofs.family.StorageLemmas.{within_buckets, keys_below, length-put_value, counted_gain, KeepsBuckets-edited, keeps_all, view_edited}
+use Rattle.key_index_parts.proofs.family.StorageLemmas.{within_buckets, keys_below, counted_gain, KeepsBuckets-edited, keeps_all, view_edited}
 use Rattle.key_index_parts.proofs.standing.StandingLemmas.{grows_to, pruned_after-zero}
 use Rattle.key_index_parts.proofs.standing.MoveLemmas.{credit_pays}
 use Rattle.key_index_parts.proofs.standing.PaidLemmas.{growth_paid, listed_by}

@@ -1,7 +1,7 @@
 use Rattle.std.proofs.Common.{◌≡◌, [], ◌∷◌, length, not, true, refl, ap, sym, ◌∙◌, arith}
+use Rattle.std.proofs.lemmas.List.{nil_from_length}
 use Rattle.key_index_flat.specs.Content.{is_filled}
 use Rattle.key_index_parts.specs.Family.{list_in}
-use Rattle.key_index_parts.proofs.family.InstallLemmas.{no_items}
 use Rattle.key_index_flat.specs.Content.{item_count}
 use Rattle.key_index_parts.specs.Gathered.{gathered}
 use Rattle.key_index_parts.proofs.family.StorageLemmas.{list_at-gathered_buckets, within_buckets, keys_below, counted_gain, KeepsBuckets-edited, keeps_all, view_edited}
@@ -27,7 +27,7 @@ invariant_of-self g c =
     let inside = within_buckets c.self.view_is c.args.slot.0 c.requires.within in
     let zero = c.in-Ok-eq0-default.field-0-0-test in
     let none : length list ≡ 0 = sym c.in-Ok-eq0-default.ensures.len ∙ zero in
-    let absent : true ≡ not (is_filled list) = ap (λ l. not (is_filled l)) (sym (no_items list none)) in
+    let absent : true ≡ not (is_filled list) = ap (λ l. not (is_filled l)) (sym (nil_from_length list none)) in
     counted_gain c.self.invariant g.met.T.Key.Ord.total g.met.T.Translator.exact c.args.slot (c.args.value ∷ []) c.insert_absent.new.self.contents inside (c.in-Ok-eq0-default.ensures.inserted zero) _ _ true absent
     (omega (arith, none)) c.gain.ensures.items c.gain.ensures.keys
 
