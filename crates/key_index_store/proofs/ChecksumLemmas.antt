@@ -12,13 +12,13 @@ use Rattle.std.proofs.lemmas.Nat.Bits.{bit_at_xor, bit_at-lt, bit_at-zero, same_
 use Rattle.key_index_store.specs.Checksum.{after_bit, after_bits}
 use Rattle.key_index_store.specs.declared.checksum.TheConstants.{TABLE}
 
-parity : (a b c : ℕ) → a < 2 → b < 2 → c < 2 → ((a + b) % 2 + c) % 2 ≡ (a + (b + c) % 2) % 2
-parity a b c p q r = omega arith
+sum_parity-assoc : (a b c : ℕ) → a < 2 → b < 2 → c < 2 → ((a + b) % 2 + c) % 2 ≡ (a + (b + c) % 2) % 2
+sum_parity-assoc a b c p q r = omega arith
 
 xor_assoc : (a b c : ℕ) → bit_xor (bit_xor a b) c ≡ bit_xor a (bit_xor b c)
 xor_assoc a b c = same_from_bits _ _ (λ i.
     bit_at_xor (bit_xor a b) c i ∙ ap (λ n. (n + bit_at c i) % 2) (bit_at_xor a b i)
-    ∙ parity (bit_at a i) (bit_at b i) (bit_at c i) (bit_at-lt a i) (bit_at-lt b i) (bit_at-lt c i)
+    ∙ sum_parity-assoc (bit_at a i) (bit_at b i) (bit_at c i) (bit_at-lt a i) (bit_at-lt b i) (bit_at-lt c i)
     ∙ ap (λ n. (bit_at a i + n) % 2) (sym (bit_at_xor b c i)) ∙ sym (bit_at_xor a (bit_xor b c) i))
 
 low_bit : (n : ℕ) → n < 2 → (0 + n) % 2 ≡ n
@@ -48,8 +48,8 @@ bit_told c = elim (c % 2 == 1) as (λ b. cond b (bit_xor (c / 2) polynomial) (c 
 
 -- ---- several bits: y has the low bits of x
 
-turned : (a b c : ℕ) → bit_xor a (bit_xor b c) ≡ bit_xor (bit_xor a c) b
-turned a b c = ap (bit_xor a) (xor_comm b c) ∙ sym (xor_assoc a c b)
+bit_xor-swapped : (a b c : ℕ) → bit_xor a (bit_xor b c) ≡ bit_xor (bit_xor a c) b
+bit_xor-swapped a b c = ap (bit_xor a) (xor_comm b c) ∙ sym (xor_assoc a c b)
 
 module _ (n x : ℕ) where
   abbrev y : ℕ
@@ -67,8 +67,8 @@ module _ (n x : ℕ) where
   bit_of_y : after_bit y ≡ bit_xor (x / 2 % 2 ^ n) low
   bit_of_y = bit_told y ∙ (λ i. bit_xor (others_are i) (divided (low_bit_is i)))
 
-  lows : after_bit y % 2 ^ n ≡ after_bit x % 2 ^ n
-  lows =
+  after_bit-low_bits : after_bit y % 2 ^ n ≡ after_bit x % 2 ^ n
+  after_bit-low_bits =
       ap (λ z. z % 2 ^ n) bit_of_y ∙ xor_mod (x / 2 % 2 ^ n) low n ∙ ap (λ z. bit_xor z (low % 2 ^ n)) (mod-mod (x / 2) (2 ^ n))
       ∙ sym (ap (λ z. z % 2 ^ n) (bit_told x) ∙ xor_mod (x / 2) low n)
 
@@ -82,18 +82,18 @@ module _ (n x : ℕ) where
       ap (λ z. z / 2 ^ n) (bit_told x) ∙ xor_shr (x / 2) low n
       ∙ ap (λ z. bit_xor z (low / 2 ^ n)) (shr-shr x 1 n ∙ ap (λ e. x / 2 ^ e) (add_comm 1 n))
 
-split : (n x : ℕ) → after_bits n x ≡ bit_xor (after_bits n (x % 2 ^ n)) (x / 2 ^ n)
+after_bits-split : (n x : ℕ) → after_bits n x ≡ bit_xor (after_bits n (x % 2 ^ n)) (x / 2 ^ n)
 unfolding after_bits
-split zero x =
+after_bits-split zero x =
     let none : x % 1 ≡ 0 = omega arith in
     let all : x / 1 ≡ x = omega arith in
     sym ((λ i. bit_xor (none i) (all i)) ∙ zero_xor x)
-split (suc n) x =
+after_bits-split (suc n) x =
     let rest : ℕ = after_bits n (after_bit x % 2 ^ n) in
-    let whole : after_bits n (after_bit x) ≡ bit_xor rest (bit_xor (x / 2 ^ (n + 1)) (divided (x % 2) / 2 ^ n)) = split n (after_bit x) ∙ ap (bit_xor rest) (high_of_x n x) in
+    let whole : after_bits n (after_bit x) ≡ bit_xor rest (bit_xor (x / 2 ^ (n + 1)) (divided (x % 2) / 2 ^ n)) = after_bits-split n (after_bit x) ∙ ap (bit_xor rest) (high_of_x n x) in
     let front : after_bits n (after_bit (x % 2 ^ (n + 1))) ≡ bit_xor rest (divided (x % 2) / 2 ^ n) =
-    split n (after_bit (x % 2 ^ (n + 1))) ∙ (λ i. bit_xor (after_bits n (lows n x i)) (high_of_y n x i)) in
-    whole ∙ turned rest (x / 2 ^ (n + 1)) (divided (x % 2) / 2 ^ n) ∙ ap (λ z. bit_xor z (x / 2 ^ (n + 1))) (sym front)
+    after_bits-split n (after_bit (x % 2 ^ (n + 1))) ∙ (λ i. bit_xor (after_bits n (after_bit-low_bits n x i)) (high_of_y n x i)) in
+    whole ∙ bit_xor-swapped rest (x / 2 ^ (n + 1)) (divided (x % 2) / 2 ^ n) ∙ ap (λ z. bit_xor z (x / 2 ^ (n + 1))) (sym front)
     ∙ ap (λ e. bit_xor (after_bits n (after_bit (x % 2 ^ e))) (x / 2 ^ e)) (add-one n)
 
 -- ---- by the table
@@ -102,12 +102,12 @@ abbrev all_below : (ℕ → Bool) → ℕ → Bool
 all_below p zero = true
 all_below p (suc n) = p n && all_below p n
 
-below_told : (p : ℕ → Bool) (n k : ℕ) → all_below p n ≡ true → k < n → p k ≡ true
-below_told p zero k h lt = absurd (omega (arith, lt))
-below_told p (suc n) k h lt =
+all_below-holds : (p : ℕ → Bool) (n k : ℕ) → all_below p n ≡ true → k < n → p k ≡ true
+all_below-holds p zero k h lt = absurd (omega (arith, lt))
+all_below-holds p (suc n) k h lt =
     let both = and_both (p n) (all_below p n) h in
     elim (cases_lt k n) [
-      | inl less ↦ below_told p n k both.1 less
+      | inl less ↦ all_below-holds p n k both.1 less
       | inr most ↦ (let last : k ≡ n = omega (arith, lt, most) in ap p last ∙ both.0)
     ]
   where
@@ -115,17 +115,17 @@ below_told p (suc n) k h lt =
     and_both true b e = (refl, e)
     and_both false b e = absurd (false≢true e)
 
-computed : all_below (λ n. slice_index_or TABLE n 0 == after_bits 4 n) 16 ≡ true
+TABLE-after_bits : all_below (λ n. slice_index_or TABLE n 0 == after_bits 4 n) 16 ≡ true
 unfolding after_bits after_bit
-computed = refl
+TABLE-after_bits = refl
 
 table_told : (k : ℕ) → k < 16 → slice_index_or TABLE k 0 ≡ after_bits 4 k
-table_told k lt = eqb-true _ _ (below_told (λ n. slice_index_or TABLE n 0 == after_bits 4 n) 16 k computed lt)
+table_told k lt = eqb-true _ _ (all_below-holds (λ n. slice_index_or TABLE n 0 == after_bits 4 n) 16 k TABLE-after_bits lt)
 
 pub half_told : (x : ℕ) → bit_xor (slice_index_or TABLE (bit_and x 15) 0) (x / 16) ≡ after_bits 4 x
 half_told x =
     ap (λ k. bit_xor (slice_index_or TABLE k 0) (x / 16)) (and_mask x 4)
-    ∙ ap (λ c. bit_xor c (x / 16)) (table_told (x % 16) (mod-lt x (omega arith))) ∙ sym (split 4 x)
+    ∙ ap (λ c. bit_xor c (x / 16)) (table_told (x % 16) (mod-lt x (omega arith))) ∙ sym (after_bits-split 4 x)
 
 pub byte_told : (x : ℕ) → after_bits 4 (after_bits 4 x) ≡ after_bits 8 x
 unfolding after_bits

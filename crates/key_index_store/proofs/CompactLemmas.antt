@@ -1,12 +1,12 @@
 -- On a store that is copied to a fresh log, entry by entry.
---     Copied                       the entries so far, and those that are left
---     copied_none, copied_more     before the first one, and after one more
---     copied_all                   where none is left
---     next_fits, next_there, room  of an entry that is copied: it fits; there is one; the copy isn't full
+--     Copied                                the entries so far, and those that are left
+--     copied_none, copied_more              before the first one, and after one more
+--     copied_all                            where none is left
+--     next_fits, next_there, len-held_copy  of an entry that is copied: it fits; there is one; the copy isn't full
 use Rattle.std.proofs.Common.{rules, ◌≡◌, ◌⊎◌, ℕ, ◌+◌, ◌-◌, ◌^◌, ◌<◌, ◌≤◌, Bool, true, false, cond, T, List, [], ◌∷◌, ◌++◌, length, map, Option, Some, None, is_some, All, refl, sym, ap, subst, ◌∙◌, append-nil, append_assoc, length-append, arith}
 use Rattle.std.proofs.lemmas.Bool.{false≢true}
 use Rattle.std.proofs.lemmas.Grind.{flat_map-append}
-use Rattle.std.proofs.lemmas.List.{map-append, take_all}
+use Rattle.std.proofs.lemmas.List.{map-append, take_all, nil_from_length}
 use Rattle.std.proofs.lemmas.List.Concat.{flat_map-cons}
 use Rattle.std.proofs.lemmas.List.Elements.{All-head, All-nil, All-push, All-tail}
 use Rattle.std.specs.Cmp.{tied_itself}
@@ -19,9 +19,9 @@ use Rattle.std.specs.Ordering.{eq_by_cmp, is_eq, is_lt, ordering_reverse}
 use Rattle.std.specs.declared.cmp.Ordering.{Ordering}
 use Rattle.std.specs.declared.cmp.Ordering.TheVariants.{Less, Equal, Greater}
 use Rattle.key_index_flat.specs.FullKeys.{byte_cmp}
-use Rattle.key_index_flat.specs.laws.Laws.{first, second}
+use Rattle.key_index_flat.specs.laws.Laws.{T-and_first, T-and_second}
 use Rattle.key_index_flat.specs.Neighbours.{entries_above, first_entry}
-use Rattle.key_index_flat.proofs.content.ContentLemmas.{less, tied}
+use Rattle.key_index_flat.proofs.content.ContentLemmas.{Less-is_lt, Equal-is_eq}
 use Rattle.key_index_store.specs.Record.{Entry, Fits, encoded}
 use Rattle.key_index_store.specs.Stored.{MayRead, MayRefuse, Stored, Values, after_record, compacted, held, entries_behind, held_by, put_of, records_of, with_record}
 use Rattle.key_index_store.specs.declared.store.Fault.{Fault}
@@ -48,13 +48,13 @@ not_eq r e = ap is_eq e
 above_all : (k : List ℕ) (es : List Pair) → T (below_all byte_cmp k es) → entries_above byte_cmp es k ≡ es
 above_all k [] h = refl
 above_all k (e ∷ es) h =
-    ap (λ b. cond b (e ∷ entries_above byte_cmp es k) (entries_above byte_cmp es k)) (less_lt _ (first _ _ h))
-    ∙ ap (λ l. e ∷ l) (above_all k es (second _ _ h))
+    ap (λ b. cond b (e ∷ entries_above byte_cmp es k) (entries_above byte_cmp es k)) (less_lt _ (T-and_first _ _ h))
+    ∙ ap (λ l. e ∷ l) (above_all k es (T-and_second _ _ h))
 
 -- a key below all is below the one in the middle
 below_one : (k : List ℕ) (done : List Pair) (e : Pair) (rest : List Pair) → T (below_all byte_cmp k (done ++ e ∷ rest)) → byte_cmp k e.0 ≡ Less
-below_one k [] e rest h = less _ (first _ _ h)
-below_one k (x ∷ xs) e rest h = below_one k xs e rest (second _ _ h)
+below_one k [] e rest h = Less-is_lt _ (T-and_first _ _ h)
+below_one k (x ∷ xs) e rest h = below_one k xs e rest (T-and_second _ _ h)
 
 turned_not : (a b : List ℕ) → byte_cmp a b ≡ Less → is_lt (byte_cmp b a) ≡ false
 turned_not a b e = ap is_lt (nat_list_cmp_total.antisymm b a ∙ ap ordering_reverse e)
@@ -62,10 +62,10 @@ turned_not a b e = ap is_lt (nat_list_cmp_total.antisymm b a ∙ ap ordering_rev
 above_at : (done : List Pair) (e : Pair) (rest : List Pair) → T (is_sorted byte_cmp (done ++ e ∷ rest)) → entries_above byte_cmp (done ++ e ∷ rest) e.0 ≡ rest
 above_at [] e rest h =
     ap (λ r. cond (is_lt r) (e ∷ entries_above byte_cmp rest e.0) (entries_above byte_cmp rest e.0)) (tied_itself nat_list_cmp_total e.0)
-    ∙ above_all e.0 rest (first _ _ h)
+    ∙ above_all e.0 rest (T-and_first _ _ h)
 above_at (x ∷ xs) e rest h =
     let more = entries_above byte_cmp (xs ++ e ∷ rest) e.0 in
-    ap (λ b. cond b (x ∷ more) more) (turned_not x.0 e.0 (below_one x.0 xs e rest (first _ _ h))) ∙ above_at xs e rest (second _ _ h)
+    ap (λ b. cond b (x ∷ more) more) (turned_not x.0 e.0 (below_one x.0 xs e rest (T-and_first _ _ h))) ∙ above_at xs e rest (T-and_second _ _ h)
 
 turned_eq : (a b : List ℕ) → byte_cmp a b ≡ Less → eq_by_cmp byte_cmp b a ≡ false
 turned_eq a b e = ap is_eq (nat_list_cmp_total.antisymm b a ∙ ap ordering_reverse e)
@@ -73,11 +73,11 @@ turned_eq a b e = ap is_eq (nat_list_cmp_total.antisymm b a ∙ ap ordering_reve
 find_at : (done : List Pair) (e : Pair) (rest : List Pair) → T (is_sorted byte_cmp (done ++ e ∷ rest)) → find byte_cmp e.0 (done ++ e ∷ rest) ≡ Some e.1
 find_at [] e rest h = ap (λ r. cond (is_eq r) (Some e.1) (find byte_cmp e.0 rest)) (tied_itself nat_list_cmp_total e.0)
 find_at (x ∷ xs) e rest h =
-    ap (λ b. cond b (Some x.1) (find byte_cmp e.0 (xs ++ e ∷ rest))) (turned_eq x.0 e.0 (below_one x.0 xs e rest (first _ _ h))) ∙ find_at xs e rest (second _ _ h)
+    ap (λ b. cond b (Some x.1) (find byte_cmp e.0 (xs ++ e ∷ rest))) (turned_eq x.0 e.0 (below_one x.0 xs e rest (T-and_first _ _ h))) ∙ find_at xs e rest (T-and_second _ _ h)
 
-none_below : (k : List ℕ) (es : List Pair) → T (below_all byte_cmp k es) → find byte_cmp k es ≡ None
-none_below k [] h = refl
-none_below k (e ∷ es) h = ap (λ b. cond b (Some e.1) (find byte_cmp k es)) (not_eq _ (less _ (first _ _ h))) ∙ none_below k es (second _ _ h)
+find-below_all_bytes : (k : List ℕ) (es : List Pair) → T (below_all byte_cmp k es) → find byte_cmp k es ≡ None
+find-below_all_bytes k [] h = refl
+find-below_all_bytes k (e ∷ es) h = ap (λ b. cond b (Some e.1) (find byte_cmp k es)) (not_eq _ (Less-is_lt _ (T-and_first _ _ h))) ∙ find-below_all_bytes k es (T-and_second _ _ h)
 
 -- ---- maps
 
@@ -85,10 +85,10 @@ none_below k (e ∷ es) h = ap (λ b. cond b (Some e.1) (find byte_cmp k es)) (n
 put_all_get : (es : List Pair) (m : Values) → T (is_sorted byte_cmp es) → (q : List ℕ) → get (fold after_record m (map put_of es)) q ≡ either (find byte_cmp q es) (get m q)
 put_all_get [] m h q = refl
 put_all_get (e ∷ es) m h q =
-    put_all_get es (insert m e.0 e.1) (second _ _ h) q
+    put_all_get es (insert m e.0 e.1) (T-and_second _ _ h) q
     ∙ ap (either (find byte_cmp q es)) (get-insert nat_list_cmp_total m e.0 e.1 q)
     ∙ elim (same q e.0) as (λ b. same q e.0 ≡ b → either (find byte_cmp q es) (cond b (Some e.1) (get m q)) ≡ either (cond b (Some e.1) (find byte_cmp q es)) (get m q)) [
-      | true ↦ λ t. ap (λ o. either o (Some e.1)) (ap (λ k. find byte_cmp k es) (exact_bytes q e.0 (tied _ t)) ∙ none_below e.0 es (first _ _ h))
+      | true ↦ λ t. ap (λ o. either o (Some e.1)) (ap (λ k. find byte_cmp k es) (exact_bytes q e.0 (Equal-is_eq _ t)) ∙ find-below_all_bytes e.0 es (T-and_first _ _ h))
       | false ↦ λ t. refl
     ] refl
 
@@ -115,13 +115,9 @@ fits_held [] m all fit k v at = fit k v at
 fits_held (r ∷ rs) m all fit k v at =
     fits_held rs (after_record m r) (All-tail Fits r rs all) (λ q w there.
     elim (same q r.key) as (λ b. same q r.key ≡ b → cond b r.value (get m q) ≡ Some w → Fits (record { key = q; value = Some w })) [
-      | true ↦ λ t is. subst Fits (λ i. record { key = sym (exact_bytes q r.key (tied _ t)) i; value = is i }) (All-head Fits r rs all)
+      | true ↦ λ t is. subst Fits (λ i. record { key = sym (exact_bytes q r.key (Equal-is_eq _ t)) i; value = is i }) (All-head Fits r rs all)
       | false ↦ λ t is. fit q w is
     ] refl (sym (get_with m r.key r.value q) ∙ there)) k v at
-
-pub nothing : {X : Type 0} (l : List X) → length l ≡ 0 → l ≡ []
-nothing [] e = refl
-nothing (x ∷ xs) e = absurd (omega (arith, e))
 
 -- ---- a copy
 
@@ -140,30 +136,30 @@ pub record Copied (m : Values) (last : Option (List ℕ)) (n : ℕ) (copy : Stor
 pub copied_none : (m : Values) (copy : Stored) → copy ≡ copy_of [] → Copied m None 0 copy
 copied_none m copy is = record { done = []; rest = entries m; split = refl; counted = refl; left = refl; fit = All-nil Fits; copied = is }
 
-one_entry : (x y : Pair) → Some x ≡ Some y → x ≡ y
-one_entry x y e = ap (λ o. unwrap_or o x) e
+Some-injective : (x y : Pair) → Some x ≡ Some y → x ≡ y
+Some-injective x y e = ap (λ o. unwrap_or o x) e
 
 starts_with : (e : Pair) (l : List Pair) → Some e ≡ first_entry l → (rest : List Pair) × (l ≡ e ∷ rest)
 starts_with e [] h = absurd (false≢true (sym (ap is_some h)))
-starts_with e (x ∷ xs) h = (xs, ap (λ y. y ∷ xs) (sym (one_entry e x h)))
+starts_with e (x ∷ xs) h = (xs, ap (λ y. y ∷ xs) (sym (Some-injective e x h)))
 
 module _ (m : Values) (last : Option (List ℕ)) (n : ℕ) (copy : Stored) (h : Copied m last n copy) where
   -- what is copied so far
-  held_is : held copy ≡ fold after_record empty (map put_of h.done)
-  held_is =
+  held-copy : held copy ≡ fold after_record empty (map put_of h.done)
+  held-copy =
       let rs = map put_of h.done in
       let bytes = flat_map encoded rs in
       ap held h.copied ∙ ap held_by (take_all (length bytes) bytes (omega arith))
       ∙ ap (fold after_record empty) (ap records_of (sym (append-nil bytes)) ∙ spelled_records rs [] h.fit tt)
 
-  pub room : len (held copy) ≤ n
-  room =
+  pub len-held_copy : len (held copy) ≤ n
+  len-held_copy =
       let least = put_all_len h.done empty in
       let none = len-empty byte_cmp (List ℕ) in
-      omega (arith, ap (λ x. len x) held_is, least, none, h.counted)
+      omega (arith, ap (λ x. len x) held-copy, least, none, h.counted)
 
-  pub ends : copy.end ≡ length copy.log
-  ends = ap (λ s. s.end) h.copied ∙ sym (ap (λ s. length s.log) h.copied)
+  pub end-copy : copy.end ≡ length copy.log
+  end-copy = ap (λ s. s.end) h.copied ∙ sym (ap (λ s. length s.log) h.copied)
 
   pub next_there : n < len m → is_some (first_entry (entries_behind last m)) ≡ true
   next_there less = there h.rest h.left
@@ -175,21 +171,21 @@ module _ (m : Values) (last : Option (List ℕ)) (n : ℕ) (copy : Stored) (h : 
   pub copied_all : n ≡ len m → (copy ≡ compacted m) × (held copy ≡ m)
   copied_all full =
       let long = ap (λ l. length l) h.split ∙ length-append h.done h.rest in
-      let all : entries m ≡ h.done = h.split ∙ ap (λ l. h.done ++ l) (nothing h.rest (omega (arith, long, len-entries m, h.counted, full))) ∙ append-nil h.done in
-      (h.copied ∙ ap copy_of (sym all), held_is ∙ ap (λ es. fold after_record empty (map put_of es)) (sym all) ∙ put_all_map m)
+      let all : entries m ≡ h.done = h.split ∙ ap (λ l. h.done ++ l) (nil_from_length h.rest (omega (arith, long, len-entries m, h.counted, full))) ∙ append-nil h.done in
+      (h.copied ∙ ap copy_of (sym all), held-copy ∙ ap (λ es. fold after_record empty (map put_of es)) (sym all) ∙ put_all_map m)
 
   module _ (e : Pair) (is : Some e ≡ first_entry (entries_behind last m)) where
-    found : (more : List Pair) × (entries_behind last m ≡ e ∷ more)
-    found = starts_with e (entries_behind last m) is
+    entries_behind-first : (more : List Pair) × (entries_behind last m ≡ e ∷ more)
+    entries_behind-first = starts_with e (entries_behind last m) is
 
-    whole : entries m ≡ h.done ++ e ∷ found.0
-    whole = h.split ∙ ap (λ l. h.done ++ l) (sym h.left ∙ found.1)
+    entries-done_and_behind : entries m ≡ h.done ++ e ∷ entries_behind-first.0
+    entries-done_and_behind = h.split ∙ ap (λ l. h.done ++ l) (sym h.left ∙ entries_behind-first.1)
 
-    sorted : T (is_sorted byte_cmp (h.done ++ e ∷ found.0))
-    sorted = subst (λ es. T (is_sorted byte_cmp es)) whole (entries_sorted m)
+    is_sorted-done_and_behind : T (is_sorted byte_cmp (h.done ++ e ∷ entries_behind-first.0))
+    is_sorted-done_and_behind = subst (λ es. T (is_sorted byte_cmp es)) entries-done_and_behind (entries_sorted m)
 
     pub next_held : get m e.0 ≡ Some e.1
-    next_held = get-entries m e.0 ∙ ap (find byte_cmp e.0) whole ∙ find_at h.done e found.0 sorted
+    next_held = get-entries m e.0 ∙ ap (find byte_cmp e.0) entries-done_and_behind ∙ find_at h.done e entries_behind-first.0 is_sorted-done_and_behind
 
     pub copied_more : Fits (put_of e) → (new : Stored) → new ≡ with_record copy (put_of e) → Copied m (Some e.0) (n + 1) new
     copied_more fits new after =
@@ -199,10 +195,10 @@ module _ (m : Values) (last : Option (List ℕ)) (n : ℕ) (copy : Stored) (h : 
         ∙ ap (λ l. flat_map encoded (map put_of h.done) ++ l) (flat_map-cons encoded (put_of e) [] ∙ append-nil (encoded (put_of e)))) in
         record {
           done = h.done ++ e ∷ [];
-          rest = found.0;
-          split = whole ∙ sym (append_assoc h.done (e ∷ []) found.0);
+          rest = entries_behind-first.0;
+          split = entries-done_and_behind ∙ sym (append_assoc h.done (e ∷ []) entries_behind-first.0);
           counted = length-append h.done (e ∷ []) ∙ ap (λ k. k + 1) h.counted;
-          left = ap (λ es. entries_above byte_cmp es e.0) whole ∙ above_at h.done e found.0 sorted;
+          left = ap (λ es. entries_above byte_cmp es e.0) entries-done_and_behind ∙ above_at h.done e entries_behind-first.0 is_sorted-done_and_behind;
           fit = subst (All Fits) (sym more) (All-push Fits (map put_of h.done) (put_of e) h.fit fits);
           copied = after ∙ ap (λ s. with_record s (put_of e)) h.copied ∙ (λ i. record { log = log i; end = length (log i) });
         }
@@ -222,34 +218,34 @@ next_fits log fit k v at = fits_held (records_of log) empty fit (λ q w none. ab
 
 -- ---- the first entry of all, by the empty key
 
-found_none : (x : ℕ) (xs : List ℕ) (es : List Pair) → T (below_all byte_cmp (x ∷ xs) es) → find byte_cmp [] es ≡ None
-found_none x xs [] h = refl
-found_none x xs (e ∷ es) h =
+find-empty_key : (x : ℕ) (xs : List ℕ) (es : List Pair) → T (below_all byte_cmp (x ∷ xs) es) → find byte_cmp [] es ≡ None
+find-empty_key x xs [] h = refl
+find-empty_key x xs (e ∷ es) h =
     elim (e.0) as (λ k. T (is_lt (byte_cmp (x ∷ xs) k)) → cond (is_eq (byte_cmp [] k)) (Some e.1) (find byte_cmp [] es) ≡ None) [
       | [] ↦ λ t. absurd t
-      | y ∷ ys ↦ λ t. found_none x xs es (second _ _ h)
-    ] (first _ _ h)
+      | y ∷ ys ↦ λ t. find-empty_key x xs es (T-and_second _ _ h)
+    ] (T-and_first _ _ h)
 
 first_is : (v : List ℕ) (es : List Pair) → T (is_sorted byte_cmp es) → find byte_cmp [] es ≡ Some v → Some ([], v) ≡ first_entry es
 first_is v [] h at = absurd (false≢true (ap is_some at))
 first_is v (e ∷ es) h at =
     elim (e.0) as (λ k. T (below_all byte_cmp k es) → cond (is_eq (byte_cmp [] k)) (Some e.1) (find byte_cmp [] es) ≡ Some v → ◌≡◌ {A = Option Pair} (Some ([], v)) (Some (k, e.1))) [
       | [] ↦ λ below is. ap (λ o. Some ([], unwrap_or o v)) (sym is)
-      | x ∷ xs ↦ λ below is. absurd (false≢true (ap is_some (sym (found_none x xs es below) ∙ is)))
-    ] (first _ _ h) at
+      | x ∷ xs ↦ λ below is. absurd (false≢true (ap is_some (sym (find-empty_key x xs es below) ∙ is)))
+    ] (T-and_first _ _ h) at
 
-all_above : (es : List Pair) → find byte_cmp [] es ≡ None → entries_above byte_cmp es [] ≡ es
-all_above [] none = refl
-all_above (e ∷ es) none =
+entries_above-empty_key : (es : List Pair) → find byte_cmp [] es ≡ None → entries_above byte_cmp es [] ≡ es
+entries_above-empty_key [] none = refl
+entries_above-empty_key (e ∷ es) none =
     elim (e.0) as (λ k. cond (is_eq (byte_cmp [] k)) (Some e.1) (find byte_cmp [] es) ≡ None
     → ◌≡◌ {A = List Pair} (cond (is_lt (byte_cmp [] k)) ((k, e.1) ∷ entries_above byte_cmp es []) (entries_above byte_cmp es [])) ((k, e.1) ∷ es)) [
       | [] ↦ λ is. absurd (false≢true (sym (ap is_some is)))
-      | x ∷ xs ↦ λ is. ap (λ l. (x ∷ xs, e.1) ∷ l) (all_above es is)
+      | x ∷ xs ↦ λ is. ap (λ l. (x ∷ xs, e.1) ∷ l) (entries_above-empty_key es is)
     ] none
 
 module _ (m : Values) where
   pub first_held : (v : List ℕ) → Some v ≡ get m [] → Some ([], v) ≡ first_entry (entries m)
   first_held v at = first_is v (entries m) (entries_sorted m) (sym (get-entries m []) ∙ sym at)
 
-  pub first_above : None ≡ get m [] → first_entry (entries_above byte_cmp (entries m) []) ≡ first_entry (entries m)
-  first_above none = ap first_entry (all_above (entries m) (sym (get-entries m []) ∙ sym none))
+  pub first_entry-above_empty_key : None ≡ get m [] → first_entry (entries_above byte_cmp (entries m) []) ≡ first_entry (entries m)
+  first_entry-above_empty_key none = ap first_entry (entries_above-empty_key (entries m) (sym (get-entries m []) ∙ sym none))

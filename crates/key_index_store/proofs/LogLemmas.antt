@@ -1,6 +1,6 @@
 -- On logs: which complete records stand at the front.
 --     spelled_records      records that were encoded one behind the other are those
---     one_more             after one more was appended
+--     records_of-append    after one more was appended
 --     live_more            a live position stays live where bytes are appended
 use Rattle.std.proofs.Common.{◌≡◌, ℕ, zero, suc, ◌+◌, ◌<◌, ◌≤◌, List, [], ◌∷◌, ◌++◌, length, map, take, drop, Some, All, refl, sym, ap, subst, ◌∙◌, append_assoc, length-append, take-append-drop, inl, inr, arith}
 use Rattle.std.proofs.lemmas.Bool.{cases_lt}
@@ -14,17 +14,17 @@ use Rattle.std.specs.List.{flat_map, fold}
 use Rattle.key_index_store.specs.Indexed.{IsLive, entry_at, parts_of}
 use Rattle.key_index_store.specs.Record.{Entry, Fits, Outcome, Complete, Torn, Damaged, IsFound, Stops, encoded, reading}
 use Rattle.key_index_store.specs.Stored.{after_record, first_and, held_by, records_of, records_up_to}
-use Rattle.key_index_store.proofs.RecordLemmas.{complete_whole, read_again, read_more}
+use Rattle.key_index_store.proofs.RecordLemmas.{complete_whole, read_again, read_more, Torn-not_Complete}
 
-none_first : (f : List ℕ → List Entry) (bytes : List ℕ) (o : Outcome) → Stops o → first_and f bytes o ≡ []
-none_first f bytes (Complete r) h = absurd h
-none_first f bytes Torn h = refl
-none_first f bytes Damaged h = refl
+first_and-stops : (f : List ℕ → List Entry) (bytes : List ℕ) (o : Outcome) → Stops o → first_and f bytes o ≡ []
+first_and-stops f bytes (Complete r) h = absurd h
+first_and-stops f bytes Torn h = refl
+first_and-stops f bytes Damaged h = refl
 
 records_front : (rs : List Entry) (rest : List ℕ) (n : ℕ) → All Fits rs → Stops (reading rest) → length rs ≤ n → records_up_to n (flat_map encoded rs ++ rest) ≡ rs
 unfolding records_up_to
 records_front [] rest zero fit stops le = refl
-records_front [] rest (suc n) fit stops le = none_first (λ b. records_up_to n b) rest (reading rest) stops
+records_front [] rest (suc n) fit stops le = first_and-stops (λ b. records_up_to n b) rest (reading rest) stops
 records_front (r ∷ rs) rest zero fit stops le = absurd (omega (arith, le))
 records_front (r ∷ rs) rest (suc n) fit stops le =
     let behind : List ℕ = flat_map encoded rs ++ rest in
@@ -57,8 +57,8 @@ unfolding records_up_to
 spelled_none = record { spelled = refl; fit = All-nil Fits }
 
 module _ (log : List ℕ) (r : Entry) (h : Spelled log) (fits : Fits r) where
-  pub one_more : records_of (log ++ encoded r) ≡ records_of log ++ r ∷ []
-  one_more =
+  pub records_of-append : records_of (log ++ encoded r) ≡ records_of log ++ r ∷ []
+  records_of-append =
       let rs = records_of log in
       let bytes : flat_map encoded (rs ++ r ∷ []) ++ [] ≡ log ++ encoded r =
       append-nil (flat_map encoded (rs ++ r ∷ [])) ∙ flat_map-append encoded rs (r ∷ [])
@@ -67,13 +67,13 @@ module _ (log : List ℕ) (r : Entry) (h : Spelled log) (fits : Fits r) where
 
   pub spelled_more : Spelled (log ++ encoded r)
   spelled_more = record {
-    spelled = ap (flat_map encoded) one_more ∙ flat_map-append encoded (records_of log) (r ∷ [])
+    spelled = ap (flat_map encoded) records_of-append ∙ flat_map-append encoded (records_of log) (r ∷ [])
         ∙ (λ i. h.spelled i ++ (flat_map-cons encoded r [] ∙ append-nil (encoded r)) i);
-    fit = subst (All Fits) (sym one_more) (All-push Fits (records_of log) r h.fit fits);
+    fit = subst (All Fits) (sym records_of-append) (All-push Fits (records_of log) r h.fit fits);
   }
 
   pub held_more : held_by (log ++ encoded r) ≡ after_record (held_by log) r
-  held_more = ap (fold after_record empty) one_more ∙ fold-append after_record empty (records_of log) (r ∷ [])
+  held_more = ap (fold after_record empty) records_of-append ∙ fold-append after_record empty (records_of log) (r ∷ [])
 
   -- the record stands where the log ended
   pub read_last : reading (drop (length log) (log ++ encoded r)) ≡ Complete r
@@ -82,18 +82,15 @@ module _ (log : List ℕ) (r : Entry) (h : Spelled log) (fits : Fits r) where
 
 -- ---- a live position in a longer log
 
-no_bytes : (p : ℕ) (log : List ℕ) → length log < p → drop p log ≡ []
-no_bytes zero log h = absurd (omega (arith, h))
-no_bytes (suc p) [] h = refl
-no_bytes (suc p) (x ∷ log) h = no_bytes p log (omega (arith, h))
-
-torn_apart : (r : Entry) → ¬ (Torn ≡ Complete r)
-torn_apart r e = cc
+drop-past_end : (p : ℕ) (log : List ℕ) → length log < p → drop p log ≡ []
+drop-past_end zero log h = absurd (omega (arith, h))
+drop-past_end (suc p) [] h = refl
+drop-past_end (suc p) (x ∷ log) h = drop-past_end p log (omega (arith, h))
 
 pub read_there : (log more : List ℕ) (p : ℕ) (r : Entry) → reading (drop p log) ≡ Complete r → reading (drop p (log ++ more)) ≡ reading (drop p log)
 read_there log more p r e =
     elim (cases_lt (length log) p) [
-      | inl past ↦ absurd (torn_apart r (sym (ap reading (no_bytes p log past)) ∙ e))
+      | inl past ↦ absurd (Torn-not_Complete r (sym (ap reading (drop-past_end p log past)) ∙ e))
       | inr within ↦ ap reading (drop-append-le p log more within) ∙ read_more (drop p log) more (complete_whole (drop p log) r e)
     ]
 

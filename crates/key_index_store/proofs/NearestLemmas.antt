@@ -1,6 +1,6 @@
 -- On the nearest entry of some positions, as one position after another is looked at.
---     passed, came_first, came_nearer, came_behind      one more, by what was told of its key
---     next_found, prev_found                            on an index of positions: the nearest entry is that of the map
+--     IsNearest-passed, came_first, came_nearer, came_behind  one more, by what was told of its key
+--     next_found, prev_found                                  on an index of positions: the nearest entry is that of the map
 use Rattle.std.proofs.Common.{◌≡◌, ℕ, Bool, true, false, List, [], ◌∷◌, ◌++◌, cond, map, take, drop, take-append-drop, T, All, Vec, Global, Result, IfOk, Option, Some, None, is_some, refl, sym, ap, subst, ◌∙◌, append-nil}
 use Rattle.std.proofs.lemmas.Bool.{false≢true}
 use Rattle.std.proofs.lemmas.Result.{IfOk-weaker}
@@ -17,15 +17,15 @@ use Rattle.key_index_flat.specs.Content.{Content, IsLawful, list_at}
 use Rattle.key_index_flat.specs.FullKeys.{IsBytes, IsFiled, IsLeast, IsNextCandidate, IsPrevCandidate, byte_cmp, or_list, unflagged}
 use Rattle.key_index_flat.specs.Neighbours.{KeepsOrder, entries_above, entries_below, first_entry, last_entry, next_list, or_cycled, prev_list}
 use Rattle.key_index_flat.specs.Values.{values_of}
-use Rattle.key_index_flat.specs.laws.Laws.{first, second}
+use Rattle.key_index_flat.specs.laws.Laws.{T-and_first, T-and_second}
 use Rattle.key_index_flat.specs.View.{View, run_at, run_of}
-use Rattle.key_index_flat.proofs.content.ContentLemmas.{absent}
+use Rattle.key_index_flat.proofs.content.ContentLemmas.{list_at-below_all}
 use Rattle.key_index_flat.proofs.neighbours.FullKeyLemmas.{least_own, next_of_filed, prev_of_filed}
 use Rattle.key_index_flat.proofs.neighbours.LeastLemmas.{pushed_keeps, pushed_takes}
 use Rattle.key_index_store.specs.Indexed.{Indexes, IsLive, IsNearest, IsUnder, beyond, entry_at, is_behind, key_at}
 use Rattle.key_index_store.specs.Stored.{Values, entry_after, entry_before, held_by, in_bytes}
 use Rattle.key_index_store.proofs.LogLemmas.{entry_there, live_more}
-use Rattle.key_index_flat.proofs.entries.MapLemmas.{next_told, own_list, prev_told}
+use Rattle.key_index_flat.proofs.entries.MapLemmas.{first_entry-IsLeast, own_list, last_entry-IsLeast}
 use Rattle.key_index_store.proofs.StoreLemmas.{looked_up}
 
 abbrev pub Pair : Type 0
@@ -54,44 +54,44 @@ module _ (log : List ℕ) {S : List ℕ → List ℕ → Ordering} (o : IsTotalO
   told_at : (b : Bool) → b ≡ is_behind S after e.0 → is_behind S after (key_at log p) ≡ b
   told_at b told = ap (λ (x : Pair). is_behind S after x.0) at ∙ sym told
 
-  grown : (a : Option (List ℕ)) → is_behind S a (key_at log p) ≡ true → beyond log S a (ps ++ p ∷ []) ≡ beyond log S a ps ++ p ∷ []
-  grown None t = refl
-  grown (Some a) t = filter-append (λ q. is_lt (S a (key_at log q))) ps (p ∷ []) ∙ ap (λ b. beyond log S (Some a) ps ++ cond b (p ∷ []) []) t
+  beyond-push_behind : (a : Option (List ℕ)) → is_behind S a (key_at log p) ≡ true → beyond log S a (ps ++ p ∷ []) ≡ beyond log S a ps ++ p ∷ []
+  beyond-push_behind None t = refl
+  beyond-push_behind (Some a) t = filter-append (λ q. is_lt (S a (key_at log q))) ps (p ∷ []) ∙ ap (λ b. beyond log S (Some a) ps ++ cond b (p ∷ []) []) t
 
-  kept : (a : Option (List ℕ)) → is_behind S a (key_at log p) ≡ false → beyond log S a (ps ++ p ∷ []) ≡ beyond log S a ps
-  kept None t = absurd (false≢true (sym t))
-  kept (Some a) t = filter-append (λ q. is_lt (S a (key_at log q))) ps (p ∷ []) ∙ ap (λ b. beyond log S (Some a) ps ++ cond b (p ∷ []) []) t ∙ append-nil (beyond log S (Some a) ps)
+  beyond-push_before : (a : Option (List ℕ)) → is_behind S a (key_at log p) ≡ false → beyond log S a (ps ++ p ∷ []) ≡ beyond log S a ps
+  beyond-push_before None t = absurd (false≢true (sym t))
+  beyond-push_before (Some a) t = filter-append (λ q. is_lt (S a (key_at log q))) ps (p ∷ []) ∙ ap (λ b. beyond log S (Some a) ps ++ cond b (p ∷ []) []) t ∙ append-nil (beyond log S (Some a) ps)
 
-  pub passed : (n : Option Pair) → false ≡ is_behind S after e.0 → IsNearest log S before n → IsNearest log S now n
-  passed n told h = subst (λ l. IsNearest log S l n) (sym (kept after (told_at false told))) h
+  pub IsNearest-passed : (n : Option Pair) → false ≡ is_behind S after e.0 → IsNearest log S before n → IsNearest log S now n
+  IsNearest-passed n told h = subst (λ l. IsNearest log S l n) (sym (beyond-push_before after (told_at false told))) h
 
   module _ (told : true ≡ is_behind S after e.0) where
-    longer : now ≡ before ++ p ∷ []
-    longer = grown after (told_at true told)
+    now-one_longer : now ≡ before ++ p ∷ []
+    now-one_longer = beyond-push_behind after (told_at true told)
 
     pub came_first : IsNearest log S before None → IsNearest log S now (Some e)
     came_first h =
         let Keys : ℕ → ℕ → Ordering = on (key_at log) S in
         let none : before ≡ [] = subst (λ x. IsLeast Keys before x) (none_mapped (entry_at log) h.0 h.2) h.1 in
-        (Some p, ([], [], longer ∙ ap (λ l. l ++ p ∷ []) none, All-nil (λ w. Keys p w ≡ Less), All-nil (λ w. IsLeBy Keys p w)), ap (λ x. Some x) (sym at))
+        (Some p, ([], [], now-one_longer ∙ ap (λ l. l ++ p ∷ []) none, All-nil (λ w. Keys p w ≡ Less), All-nil (λ w. IsLeBy Keys p w)), ap (λ x. Some x) (sym at))
 
     -- the one so far
     module _ (f : Pair) (h : IsNearest log S before (Some f)) where
-      found : (q : Option ℕ) → IsLeast (on (key_at log) S) before q → Some f ≡ option_map (entry_at log) q → (x : ℕ) × IsLeast (on (key_at log) S) before (Some x) × (f ≡ entry_at log x)
-      found None least is = absurd (false≢true (sym (ap is_some is)))
-      found (Some x) least is = (x, least, ap (λ m. unwrap_or m f) is)
+      IsLeast-found : (q : Option ℕ) → IsLeast (on (key_at log) S) before q → Some f ≡ option_map (entry_at log) q → (x : ℕ) × IsLeast (on (key_at log) S) before (Some x) × (f ≡ entry_at log x)
+      IsLeast-found None least is = absurd (false≢true (sym (ap is_some is)))
+      IsLeast-found (Some x) least is = (x, least, ap (λ m. unwrap_or m f) is)
 
       pub came_nearer : true ≡ is_lt (S e.0 f.0) → IsNearest log S now (Some e)
       came_nearer less =
-          let one = found h.0 h.1 h.2 in
+          let one = IsLeast-found h.0 h.1 h.2 in
           let test : is_lt (S (key_at log p) (key_at log one.0)) ≡ true = (λ i. is_lt (S (at i).0 (sym one.2 i).0)) ∙ sym less in
-          (Some p, subst (λ l. IsLeast (on (key_at log) S) l (Some p)) (sym longer) (pushed_takes (on_total (key_at log) o) before one.0 p one.1 test), ap (λ x. Some x) (sym at))
+          (Some p, subst (λ l. IsLeast (on (key_at log) S) l (Some p)) (sym now-one_longer) (pushed_takes (on_total (key_at log) o) before one.0 p one.1 test), ap (λ x. Some x) (sym at))
 
       pub came_behind : false ≡ is_lt (S e.0 f.0) → IsNearest log S now (Some f)
       came_behind less =
-          let one = found h.0 h.1 h.2 in
+          let one = IsLeast-found h.0 h.1 h.2 in
           let test : is_lt (S (key_at log p) (key_at log one.0)) ≡ false = (λ i. is_lt (S (at i).0 (sym one.2 i).0)) ∙ sym less in
-          (Some one.0, subst (λ l. IsLeast (on (key_at log) S) l (Some one.0)) (sym longer) (pushed_keeps (on_total (key_at log) o) before one.0 p one.1 test), ap (λ x. Some x) one.2)
+          (Some one.0, subst (λ l. IsLeast (on (key_at log) S) l (Some one.0)) (sym now-one_longer) (pushed_keeps (on_total (key_at log) o) before one.0 p one.1 test), ap (λ x. Some x) one.2)
 
 -- ---- the nearest entry of a list, or else of another
 
@@ -135,10 +135,10 @@ module _ {K V : Type 0} {cmp : K → K → Ordering} (o : IsTotalOrder cmp) (P :
   lists_have (e ∷ es) h all =
       All-cons (λ (e : K × List V). All P e.1) e es
       (subst (λ r. All P (unwrap_or (cond (is_eq r) (Some e.1) (find cmp e.0 es)) [])) (tied_itself o e.0) (all e.0))
-      (lists_have es (second _ _ h) (λ k.
+      (lists_have es (T-and_second _ _ h) (λ k.
       elim (cmp k e.0) as (λ r. cmp k e.0 ≡ r → All P (unwrap_or (cond (is_eq r) (Some e.1) (find cmp k es)) []) → All P (list_at cmp es k)) [
         | Less ↦ λ p x. x
-        | Equal ↦ λ p x. subst (All P) (sym (absent o k e.0 es (λ y q. o.congr k e.0 y p ∙ q) (first _ _ h))) (All-nil P)
+        | Equal ↦ λ p x. subst (All P) (sym (list_at-below_all o k e.0 es (λ y q. o.congr k e.0 y p ∙ q) (T-and_first _ _ h))) (All-nil P)
         | Greater ↦ λ p x. x
       ] refl (all k)))
 
@@ -151,21 +151,21 @@ module _ {K : Type 0} {cmp : K → K → Ordering} (o : IsTotalOrder cmp) (log :
   abbrev m : Values
   m = held_by front
 
-  there : (p : ℕ) → IsLive front p → entry_at log p ≡ entry_at front p
-  there p live = ap (λ l. entry_at l p) (sym (take-append-drop end log)) ∙ entry_there front (drop end log) p live
+  entry_at-front : (p : ℕ) → IsLive front p → entry_at log p ≡ entry_at front p
+  entry_at-front p live = ap (λ l. entry_at l p) (sym (take-append-drop end log)) ∙ entry_there front (drop end log) p live
 
-  filed : IsFiled (key_at log) cmp s.slot s.content
-  filed k = All-weaker (IsUnder front s.slot k) (λ p. IsBytes (key_at log p) × (s.slot (key_at log p) ≡ k))
-      (λ p q. (subst (λ (x : Pair). IsBytes x.0) (sym (there p q.0)) q.1, ap (λ (x : Pair). s.slot x.0) (there p q.0) ∙ q.2)) (run_at cmp s k) (h.live k)
+  IsFiled-content : IsFiled (key_at log) cmp s.slot s.content
+  IsFiled-content k = All-weaker (IsUnder front s.slot k) (λ p. IsBytes (key_at log p) × (s.slot (key_at log p) ≡ k))
+      (λ p q. (subst (λ (x : Pair). IsBytes x.0) (sym (entry_at-front p q.0)) q.1, ap (λ (x : Pair). s.slot x.0) (entry_at-front p q.0) ∙ q.2)) (run_at cmp s k) (h.live k)
 
-  looks : (q : List ℕ) → find byte_cmp q (entries m) ≡ find byte_cmp q (map (entry_at log) (values_of s.content))
-  looks q = sym (get-entries m q) ∙ sym (looked_up cmp log end s q h) ∙ sym (own_list (entry_at log) o s.slot q s.content lawful.0 filed)
+  find-entries_filed : (q : List ℕ) → find byte_cmp q (entries m) ≡ find byte_cmp q (map (entry_at log) (values_of s.content))
+  find-entries_filed q = sym (get-entries m q) ∙ sym (looked_up cmp log end s q h) ∙ sym (own_list (entry_at log) o s.slot q s.content lawful.0 IsFiled-content)
 
   above_told : (r : Option ℕ) → IsNextCandidate (key_at log) cmp s.content (s.slot key) key r → option_map (entry_at log) r ≡ entry_after m key
-  above_told r c = next_told (entry_at log) (values_of s.content) m looks key r (next_of_filed o (key_at log) s.slot keeps key bytes s.content r lawful filed c)
+  above_told r c = first_entry-IsLeast (entry_at log) (values_of s.content) m find-entries_filed key r (next_of_filed o (key_at log) s.slot keeps key bytes s.content r lawful IsFiled-content c)
 
-  below_told : (r : Option ℕ) → IsPrevCandidate (key_at log) cmp s.content (s.slot key) key r → option_map (entry_at log) r ≡ entry_before m key
-  below_told r c = prev_told (entry_at log) (values_of s.content) m looks key r (prev_of_filed o (key_at log) s.slot keeps key bytes s.content r lawful filed c)
+  entry_before-candidate : (r : Option ℕ) → IsPrevCandidate (key_at log) cmp s.content (s.slot key) key r → option_map (entry_at log) r ≡ entry_before m key
+  entry_before-candidate r c = last_entry-IsLeast (entry_at log) (values_of s.content) m find-entries_filed key r (prev_of_filed o (key_at log) s.slot keeps key bytes s.content r lawful IsFiled-content c)
 
   -- the lists of neighbours are live
   live_at : (k : K) → All (IsLive log) (run_at cmp s k)
@@ -188,16 +188,16 @@ module _ {K : Type 0} {cmp : K → K → Ordering} (o : IsTotalOrder cmp) (log :
       over : List ℕ
       over = unflagged (next_list cmp s.content (s.slot key))
 
-      own_above : IsNearest log byte_cmp (beyond log byte_cmp (Some key) (run_of cmp s key)) e
-      own_above = subst (λ l. IsNearest log byte_cmp (beyond log byte_cmp (Some key) l) e) is least
+      IsNearest-own_above : IsNearest log byte_cmp (beyond log byte_cmp (Some key) (run_of cmp s key)) e
+      IsNearest-own_above = subst (λ l. IsNearest log byte_cmp (beyond log byte_cmp (Some key) l) e) is least
 
-      pub next_own : is_some e ≡ true → e ≡ entry_after m key
+      pub entry_after-own_list : is_some e ≡ true → e ≡ entry_after m key
       unfolding over
-      next_own some = own_found log byte_cmp (beyond log byte_cmp (Some key) (run_of cmp s key)) over (entry_after m key) above_told e own_above some
+      entry_after-own_list some = own_found log byte_cmp (beyond log byte_cmp (Some key) (run_of cmp s key)) over (entry_after m key) above_told e IsNearest-own_above some
 
       pub next_other : is_some e ≡ false → (found : Option (List ℕ × Bool)) → found ≡ next_list cmp s.content (s.slot key) → (f : Option Pair) → IsNearest log byte_cmp (unflagged found) f → f ≡ entry_after m key
       unfolding over
-      next_other none found same f g = other_found log byte_cmp (beyond log byte_cmp (Some key) (run_of cmp s key)) over (entry_after m key) above_told e f own_above none (subst (λ x. IsNearest log byte_cmp (unflagged x) f) same g)
+      next_other none found same f g = other_found log byte_cmp (beyond log byte_cmp (Some key) (run_of cmp s key)) over (entry_after m key) above_told e f IsNearest-own_above none (subst (λ x. IsNearest log byte_cmp (unflagged x) f) same g)
 
     module _ (least : IsNearest log (flip_args byte_cmp) (beyond log (flip_args byte_cmp) (Some key) run) e) where
       abbrev down : List ℕ → List ℕ → Ordering
@@ -206,13 +206,13 @@ module _ {K : Type 0} {cmp : K → K → Ordering} (o : IsTotalOrder cmp) (log :
       under : List ℕ
       under = unflagged (prev_list cmp s.content (s.slot key))
 
-      own_below : IsNearest log down (beyond log down (Some key) (run_of cmp s key)) e
-      own_below = subst (λ l. IsNearest log down (beyond log down (Some key) l) e) is least
+      IsNearest-own_below : IsNearest log down (beyond log down (Some key) (run_of cmp s key)) e
+      IsNearest-own_below = subst (λ l. IsNearest log down (beyond log down (Some key) l) e) is least
 
-      pub prev_own : is_some e ≡ true → e ≡ entry_before m key
+      pub entry_before-own_list : is_some e ≡ true → e ≡ entry_before m key
       unfolding under
-      prev_own some = own_found log down (beyond log down (Some key) (run_of cmp s key)) under (entry_before m key) below_told e own_below some
+      entry_before-own_list some = own_found log down (beyond log down (Some key) (run_of cmp s key)) under (entry_before m key) entry_before-candidate e IsNearest-own_below some
 
       pub prev_other : is_some e ≡ false → (found : Option (List ℕ × Bool)) → found ≡ prev_list cmp s.content (s.slot key) → (f : Option Pair) → IsNearest log down (unflagged found) f → f ≡ entry_before m key
       unfolding under
-      prev_other none found same f g = other_found log down (beyond log down (Some key) (run_of cmp s key)) under (entry_before m key) below_told e f own_below none (subst (λ x. IsNearest log down (unflagged x) f) same g)
+      prev_other none found same f g = other_found log down (beyond log down (Some key) (run_of cmp s key)) under (entry_before m key) entry_before-candidate e f IsNearest-own_below none (subst (λ x. IsNearest log down (unflagged x) f) same g)

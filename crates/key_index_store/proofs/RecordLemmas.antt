@@ -1,7 +1,7 @@
 -- On records: what reading finds at the front of some bytes.
---     read_again      what was encoded is read, whatever follows it
---     read_more       more bytes behind whole ones change nothing
---     found           what is read was encoded
+--     read_again       what was encoded is read, whatever follows it
+--     read_more        more bytes behind whole ones change nothing
+--     IsFound-reading  what is read was encoded
 use Rattle.std.proofs.Common.{◌≡◌, ℕ, zero, suc, ◌+◌, ◌^◌, ◌<◌, ◌≤◌, Bool, true, false, cond, not, ◌||◌, List, [], ◌∷◌, ◌++◌, length, take, drop, slice_index_or, Option, Some, None, Result, Ok, Err, inl, inr, refl, sym, ap, subst, ◌∙◌, append_assoc, length-append, length-drop, length-take, arith}
 use Rattle.std.specs.Int.{w32, from_le_bytes}
 use Rattle.std.specs.Result.{IfErr, OnErr, OnOk, is_err}
@@ -13,13 +13,13 @@ use Rattle.std.proofs.lemmas.Slice.Eq.{bytes_eq-Decides}
 use Rattle.key_index_store.specs.Checksum.{crc32}
 use Rattle.key_index_store.specs.Record.{Entry, Fits, Outcome, Complete, Torn, Damaged, mark_of, bytes_of, number, number_at, body, encoded, body_length, is_torn, marked, fields_of, checked, reading, IsFound, IsWithin}
 
-neither : (a b : Bool) → (a || b) ≡ false → (a ≡ false) × (b ≡ false)
-neither true b e = absurd (false≢true (sym e))
-neither false b e = (refl, e)
+or-false : (a b : Bool) → (a || b) ≡ false → (a ≡ false) × (b ≡ false)
+or-false true b e = absurd (false≢true (sym e))
+or-false false b e = (refl, e)
 
 -- whole bytes are as many as their lengths say
-pub whole : (bytes : List ℕ) → is_torn bytes ≡ false → (9 ≤ length bytes) × (body_length bytes + 4 ≤ length bytes)
-whole bytes e = let both = neither _ _ e in (ltb-false _ _ both.0, ltb-false _ _ both.1)
+pub is_torn-lengths : (bytes : List ℕ) → is_torn bytes ≡ false → (9 ≤ length bytes) × (body_length bytes + 4 ≤ length bytes)
+is_torn-lengths bytes e = let both = or-false _ _ e in (ltb-false _ _ both.0, ltb-false _ _ both.1)
 
 pub not_torn : (bytes : List ℕ) → 9 ≤ length bytes → body_length bytes + 4 ≤ length bytes → is_torn bytes ≡ false
 not_torn bytes p q = (λ i. le-ltb (length bytes) 9 p i || le-ltb (length bytes) (body_length bytes + 4) q i)
@@ -43,7 +43,7 @@ body_front bytes h =
 
 pub read_more : (a b : List ℕ) → is_torn a ≡ false → reading (a ++ b) ≡ reading a
 read_more a b e =
-    let sizes = whole a e in
+    let sizes = is_torn-lengths a e in
     let n = body_length a in
     let same = length_front a b sizes.0 in
     let torn : is_torn (a ++ b) ≡ false = not_torn (a ++ b) (omega (arith, length-append a b, sizes.0)) (omega (arith, same, length-append a b, sizes.1)) in
@@ -71,15 +71,15 @@ was_equal false e = absurd (false≢true (sym e))
 -- ---- what was encoded is read
 
 module _ (r : Entry) (fits : Fits r) where
-  key_told : from_le_bytes w32 (number (length r.key)) ≡ length r.key
-  key_told = from_le_bytes-to_le_bytes_4 (length r.key) fits.key
+  from_le_bytes-key_length : from_le_bytes w32 (number (length r.key)) ≡ length r.key
+  from_le_bytes-key_length = from_le_bytes-to_le_bytes_4 (length r.key) fits.key
 
   value_told : from_le_bytes w32 (number (length (bytes_of r.value))) ≡ length (bytes_of r.value)
   value_told = from_le_bytes-to_le_bytes_4 (length (bytes_of r.value)) fits.value
 
   length_told : (rest : List ℕ) → body_length (body r ++ rest) ≡ length (body r)
   length_told rest =
-      let both : number_at 1 (body r ++ rest) + number_at 5 (body r ++ rest) ≡ length r.key + length (bytes_of r.value) = (λ i. key_told i + value_told i) in
+      let both : number_at 1 (body r ++ rest) + number_at 5 (body r ++ rest) ≡ length r.key + length (bytes_of r.value) = (λ i. from_le_bytes-key_length i + value_told i) in
       omega (arith, both, length-append r.key (bytes_of r.value))
 
   marked_told : (o : Option (List ℕ)) (key rest : List ℕ) → marked (mark_of o ∷ rest) key (bytes_of o) ≡ Complete (record { key = key; value = o })
@@ -88,7 +88,7 @@ module _ (r : Entry) (fits : Fits r) where
 
   fields_told : fields_of (body r) ≡ Complete r
   fields_told =
-      ap (λ n. marked (take 9 (body r)) (take n (r.key ++ bytes_of r.value)) (drop n (r.key ++ bytes_of r.value))) key_told
+      ap (λ n. marked (take 9 (body r)) (take n (r.key ++ bytes_of r.value)) (drop n (r.key ++ bytes_of r.value))) from_le_bytes-key_length
       ∙ (λ i. marked (take 9 (body r)) (take_at r.key (bytes_of r.value) (length r.key) refl i) (drop_at r.key (bytes_of r.value) (length r.key) refl i))
       ∙ marked_told r.value r.key (drop 1 (take 9 (body r)))
 
@@ -125,11 +125,11 @@ AreBytes-take n bytes h i =
       | inr le ↦ subst (λ x. x < 256) (sym (get_or_past (take n bytes) i 0 (omega (arith, length-take n bytes, le)))) (omega arith)
     ]
 
-below : (bytes : List ℕ) → AreBytes bytes → from_le_bytes w32 bytes < 2 ^ 32
-below bytes fits = omega (arith, fits 0, fits 1, fits 2, fits 3)
+from_le_bytes-below : (bytes : List ℕ) → AreBytes bytes → from_le_bytes w32 bytes < 2 ^ 32
+from_le_bytes-below bytes fits = omega (arith, fits 0, fits 1, fits 2, fits 3)
 
 number_below : (place : ℕ) (bytes : List ℕ) → AreBytes bytes → number_at place bytes < 2 ^ 32
-number_below place bytes fits = below (take 4 (drop place bytes)) (AreBytes-take 4 (drop place bytes) (AreBytes-drop place bytes fits))
+number_below place bytes fits = from_le_bytes-below (take 4 (drop place bytes)) (AreBytes-take 4 (drop place bytes) (AreBytes-drop place bytes fits))
 
 number_back : (place : ℕ) (bytes : List ℕ) → AreBytes bytes → place + 4 ≤ length bytes → number (number_at place bytes) ≡ take 4 (drop place bytes)
 number_back place bytes fits h =
@@ -137,10 +137,10 @@ number_back place bytes fits h =
     le_bytes_4 (take 4 (drop place bytes)) _ long (AreBytes-take 4 (drop place bytes) (AreBytes-drop place bytes fits)) refl
 
 -- the mark and the two lengths
-header : (bytes : List ℕ) → AreBytes bytes → 9 ≤ length bytes
+take-header : (bytes : List ℕ) → AreBytes bytes → 9 ≤ length bytes
     → take 9 bytes ≡ slice_index_or bytes 0 0 ∷ (number (number_at 1 bytes) ++ number (number_at 5 bytes))
-header [] fits h = absurd (omega (arith, h))
-header (m ∷ bytes) fits h =
+take-header [] fits h = absurd (omega (arith, h))
+take-header (m ∷ bytes) fits h =
     let all : List ℕ = m ∷ bytes in
     let more : take 4 (drop 4 bytes) ≡ number (number_at 5 all) = sym (number_back 5 all fits h) in
     let first : take 4 bytes ≡ number (number_at 1 all) = sym (number_back 1 all fits (omega (arith, h))) in
@@ -182,7 +182,7 @@ body_back bytes r fits nine whole e =
     let mark_is : slice_index_or bytes 0 0 ≡ mark_of r.value = sym (get_or-take 9 bytes 0 0 (omega arith)) ∙ parts.0 in (
       record { key = omega (arith, key_is, number_below 1 bytes fits); value = omega (arith, value_is, number_below 5 bytes fits) },
       sym (take-append-drop 9 bytes)
-          ∙ (λ i. header bytes fits nine i ++ sym (take-append-drop n tail) i)
+          ∙ (λ i. take-header bytes fits nine i ++ sym (take-append-drop n tail) i)
           ∙ (λ i. (mark_is i ∷ (number (key_is i) ++ number (value_is i))) ++ (parts.1 i ++ parts.2 i)),
     )
 
@@ -194,23 +194,23 @@ not_second : (r : Entry) (x : Outcome) → ¬ (x ≡ Complete r) → (t : Bool) 
 not_second r x never true o e = (refl, e)
 not_second r x never false o e = absurd (never e)
 
-torn_apart : (r : Entry) → ¬ (Torn ≡ Complete r)
-torn_apart r e = cc
+pub Torn-not_Complete : (r : Entry) → ¬ (Torn ≡ Complete r)
+Torn-not_Complete r e = cc
 
 damaged_apart : (r : Entry) → ¬ (Damaged ≡ Complete r)
 damaged_apart r e = cc
 
 pub complete_whole : (bytes : List ℕ) (r : Entry) → reading bytes ≡ Complete r → is_torn bytes ≡ false
-complete_whole bytes r e = (not_first r Torn (torn_apart r) (is_torn bytes) (checked (take (body_length bytes) bytes) (drop (body_length bytes) bytes)) e).0
+complete_whole bytes r e = (not_first r Torn (Torn-not_Complete r) (is_torn bytes) (checked (take (body_length bytes) bytes) (drop (body_length bytes) bytes)) e).0
 
 pub found_complete : (bytes : List ℕ) (r : Entry) → AreBytes bytes → reading bytes ≡ Complete r → Fits r × (bytes ≡ encoded r ++ drop (length (encoded r)) bytes)
 found_complete bytes r fits e =
     let n = body_length bytes in
     let b = take n bytes in
     let behind = drop n bytes in
-    let first = not_first r Torn (torn_apart r) (is_torn bytes) (checked b behind) e in
+    let first = not_first r Torn (Torn-not_Complete r) (is_torn bytes) (checked b behind) e in
     let second = not_second r Damaged (damaged_apart r) (bytes_eq (take 4 behind) (number (crc32 b))) (fields_of b) first.1 in
-    let sizes = whole bytes first.0 in
+    let sizes = is_torn-lengths bytes first.0 in
     let long : length b ≡ n = omega (arith, length-take n bytes, sizes.1) in
     let parts = body_back b r (AreBytes-take n bytes fits) (omega (arith, long)) (body_front bytes sizes.0 ∙ sym long) second.1 in
     let sum : take 4 behind ≡ number (crc32 (body r)) = (bytes_eq-Decides (take 4 behind) (number (crc32 b))).0 second.0 ∙ ap (λ l. number (crc32 l)) parts.1 in
@@ -221,10 +221,10 @@ found_complete bytes r fits e =
           ∙ (λ i. body r ++ (sum i ++ rest i)) ∙ sym (append_assoc (body r) (number (crc32 (body r))) (drop (length (encoded r)) bytes)),
     )
 
-pub found : (bytes : List ℕ) (o : Outcome) → AreBytes bytes → o ≡ reading bytes → IsFound bytes o
-found bytes (Complete r) fits e = found_complete bytes r fits (sym e)
-found bytes Torn fits e = tt
-found bytes Damaged fits e = tt
+pub IsFound-reading : (bytes : List ℕ) (o : Outcome) → AreBytes bytes → o ≡ reading bytes → IsFound bytes o
+IsFound-reading bytes (Complete r) fits e = found_complete bytes r fits (sym e)
+IsFound-reading bytes Torn fits e = tt
+IsFound-reading bytes Damaged fits e = tt
 
 -- ---- a record in a longer log
 

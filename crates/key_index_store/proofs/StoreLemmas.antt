@@ -1,6 +1,6 @@
 -- On a store: what it holds before and after a call.
---     looked_up      the value of a key, by the positions in the index
---     written        after a record was appended and its position filed
+--     looked_up                  the value of a key, by the positions in the index
+--     Indexes-written            after a record was appended and its position filed
 --     left_same, left_front      after a refused call
 --     open_held, open_end        a log that is opened
 --     remove_absent              a key without a value is taken out
@@ -18,7 +18,7 @@ use Rattle.std.specs.declared.cmp.Ordering.TheVariants.{Equal}
 use Rattle.key_index_flat.specs.Content.{IsLawful}
 use Rattle.key_index_flat.specs.FullKeys.{IsBytes, byte_cmp}
 use Rattle.key_index_flat.specs.View.{View, run_of}
-use Rattle.key_index_flat.proofs.content.ContentLemmas.{tied}
+use Rattle.key_index_flat.proofs.content.ContentLemmas.{Equal-is_eq}
 use Rattle.key_index_store.specs.Indexed.{Indexes, IsLive, IsUnder, Settles, entry_at, value_in}
 use Rattle.key_index_store.specs.Record.{Entry, Fits, Stops, encoded, reading}
 use Rattle.key_index_store.specs.Stored.{LeavesLog, Stored, Values, after_record, opened, records_of, held_by, with_value}
@@ -26,7 +26,7 @@ use Rattle.key_index_store.specs.declared.store.Fault.{Fault}
 use Rattle.key_index_store.specs.declared.store.Fault.TheVariants as fault
 use Rattle.std.proofs.lemmas.Map.Lookups.{exact_bytes}
 use Rattle.key_index_flat.proofs.entries.EntryLemmas.{same}
-use Rattle.key_index_store.proofs.IndexLemmas.{IsAt, filed}
+use Rattle.key_index_store.proofs.IndexLemmas.{IsAt, Indexes-filed}
 use Rattle.key_index_store.proofs.LogLemmas.{entries_there, held_more, live_more, spelled_records}
 
 module _ {K : Type 0} (cmp : K → K → Ordering) where
@@ -50,13 +50,13 @@ pub record Written {K : Type 0} (cmp : K → K → Ordering) (old new : List ℕ
   pub logged : ◌≡◌ {A = Stored} (record { log = new; end = end }) (record { log = old ++ encoded r; end = length (old ++ encoded r) })
 
 module _ {K : Type 0} {cmp : K → K → Ordering} (o : IsTotalOrder cmp) (exact : (x y : K) → cmp x y ≡ Equal → x ≡ y) (first : Bool) where
-  pub written : (old new : List ℕ) (end newer : ℕ) (r : Entry) (fits : Fits r) → IsBytes r.key → (s t : View K ℕ) → IsLawful cmp s.content → IsLawful cmp t.content → Indexes cmp (take end old) s → end ≡ length old
+  pub Indexes-written : (old new : List ℕ) (end newer : ℕ) (r : Entry) (fits : Fits r) → IsBytes r.key → (s t : View K ℕ) → IsLawful cmp s.content → IsLawful cmp t.content → Indexes cmp (take end old) s → end ≡ length old
       → (positions : List ℕ) → positions ≡ run_of cmp s r.key → (b : Bool) → b ≡ is_some r.value → (place : Option ℕ) → IsAt (entry_at old) r.key positions place
       → Settles cmp first s r.key b place end t → new ≡ old ++ encoded r → newer ≡ length new → Written cmp old new end newer r t
-  written old new end newer r fits bytes s t hs ht h none positions run b has place at is appended length_is =
+  Indexes-written old new end newer r fits bytes s t hs ht h none positions run b has place at is appended length_is =
       let all : take end old ≡ old = take_all end old (omega (arith, none)) in
       let indexed : Indexes cmp old s = subst (λ l. Indexes cmp l s) all h in
-      let longer = filed o exact first old [] old r fits bytes s t hs ht indexed (sym (append-nil old)) r.key positions refl run b has place at end none is in
+      let longer = Indexes-filed o exact first old [] old r fits bytes s t hs ht indexed (sym (append-nil old)) r.key positions refl run b has place at end none is in
       let whole : take newer new ≡ old ++ encoded r = take_all newer new (omega (arith, length_is)) ∙ appended in
       record {
         within = omega (arith, length_is);
@@ -92,7 +92,7 @@ left_front fault.Changed old bytes new end le h = (omega (arith, ap (λ l. lengt
 pub remove_absent : (m : Values) (k : List ℕ) → get m k ≡ None → m ≡ remove m k
 remove_absent m k none = same_map nat_list_cmp_total exact_bytes m (remove m k) (λ a.
     elim (same a k) as (λ b. same a k ≡ b → get m a ≡ cond b None (get m a)) [
-      | true ↦ λ e. ap (get m) (exact_bytes a k (tied _ e)) ∙ none
+      | true ↦ λ e. ap (get m) (exact_bytes a k (Equal-is_eq _ e)) ∙ none
       | false ↦ λ e. refl
     ] refl
     ∙ sym (get-remove nat_list_cmp_total m k a))
@@ -118,5 +118,5 @@ module _ {K : Type 0} (cmp : K → K → Ordering) (log : List ℕ) (end : ℕ) 
       sym (ap (λ rs. length (flat_map encoded rs)) open_records ∙ ap (λ l. length l) h.spelled ∙ omega (arith, length-take end log, within)) in
       λ i. record { log = log; end = size i }
 
-pub no_keys : (m : Values) (n : ℕ) → n ≡ len m → (n == 0 ≡ true) ↔ (m ≡ empty)
-no_keys m n is = ((λ t. empty_of_len m (sym is ∙ eqb-true n 0 t)), (λ none. eq-eqb n 0 (is ∙ ap (λ x. len x) none ∙ len-empty byte_cmp (List ℕ))))
+pub values_empty-len : (m : Values) (n : ℕ) → n ≡ len m → (n == 0 ≡ true) ↔ (m ≡ empty)
+values_empty-len m n is = ((λ t. empty_of_len m (sym is ∙ eqb-true n 0 t)), (λ none. eq-eqb n 0 (is ∙ ap (λ x. len x) none ∙ len-empty byte_cmp (List ℕ))))

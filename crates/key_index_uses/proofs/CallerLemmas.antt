@@ -12,13 +12,13 @@ use Rattle.key_index_flat.specs.View.{View, put_value, run_at, run_of, with_edit
 use Rattle.key_index_flat.proofs.content.ContentLemmas.{with_list-same}
 use Rattle.key_index_flat.proofs.runs.CursorLemmas.{list_at-with_list_same}
 
-alone : {V : Type 0} (first : Bool) (v : V) → put_value first v [] ≡ v ∷ []
-alone true v = refl
-alone false v = refl
+put_value-empty : {V : Type 0} (first : Bool) (v : V) → put_value first v [] ≡ v ∷ []
+put_value-empty true v = refl
+put_value-empty false v = refl
 
-none_set : {V : Type 0} (l : List V) (v : V) → ¬ (0 < length l) → slice_set l 0 v ≡ l
-none_set [] v h = refl
-none_set (x ∷ xs) v h = absurd (h (omega arith))
+slice_set-empty : {V : Type 0} (l : List V) (v : V) → ¬ (0 < length l) → slice_set l 0 v ≡ l
+slice_set-empty [] v h = refl
+slice_set-empty (x ∷ xs) v h = absurd (h (omega arith))
 
 module _ {K V : Type 0} {cmp : K → K → Ordering} (o : IsTotalOrder cmp) where
   -- a value that is put under a key whose values were taken out
@@ -30,14 +30,14 @@ module _ {K V : Type 0} {cmp : K → K → Ordering} (o : IsTotalOrder cmp) wher
       let gone = list_at-with_list_same o s.content slot [] in
       ap (λ x. run_of cmp x b) whole
       ∙ list_at-with_list_same o (with_list cmp s.content slot []) slot (put_value first v (list_at cmp (with_list cmp s.content slot []) slot))
-      ∙ ap (λ l. put_value first v l) gone ∙ alone first v
+      ∙ ap (λ l. put_value first v l) gone ∙ put_value-empty first v
 
   -- a key that has no value has no first one
   pub absent_stays : ((x y : K) → cmp x y ≡ Equal → x ≡ y) → (s t : View K V) (k : K) (v : V) → IsLawful cmp s.content → t ≡ s
       → ¬ (0 < length (run_at cmp s k)) → t ≡ with_edit cmp s k (λ l. slice_set l 0 v)
   absent_stays exact s t k v lawful same none =
       let content : s.content ≡ with_list cmp s.content k (slice_set (list_at cmp s.content k) 0 v) =
-      sym (with_list-same o exact s.content k lawful) ∙ ap (λ l. with_list cmp s.content k l) (sym (none_set (list_at cmp s.content k) v none)) in
+      sym (with_list-same o exact s.content k lawful) ∙ ap (λ l. with_list cmp s.content k l) (sym (slice_set-empty (list_at cmp s.content k) v none)) in
       same ∙ (λ i. record s { content = content i })
 
 -- a closure that answers by a test, and stays as it is
@@ -47,22 +47,22 @@ module _ {X F : Type 0} (R : F → X → Bool → F → Type 0) (test : X → Bo
   one_told x xs ys bs false e rest = rest ∙ ap (λ a. cond a (x ∷ ys) ys) e
 
   -- the first of those that it was asked on
-  first_told : (bs : List Bool) (xs ys : List X) (q : F) → length xs ≤ length bs → ReturnsInTurn R f bs (xs ++ ys) q → items_where_true bs xs ≡ filter test xs
-  first_told [] [] ys q h t = refl
-  first_told (b ∷ bs) [] ys q h t = refl
-  first_told [] (x ∷ xs) ys q h t = absurd (omega (arith, h))
-  first_told (b ∷ bs) (x ∷ xs) ys q h t =
+  items_where_true-filter : (bs : List Bool) (xs ys : List X) (q : F) → length xs ≤ length bs → ReturnsInTurn R f bs (xs ++ ys) q → items_where_true bs xs ≡ filter test xs
+  items_where_true-filter [] [] ys q h t = refl
+  items_where_true-filter (b ∷ bs) [] ys q h t = refl
+  items_where_true-filter [] (x ∷ xs) ys q h t = absurd (omega (arith, h))
+  items_where_true-filter (b ∷ bs) (x ∷ xs) ys q h t =
       let one = says x b t.0 t.1 in
-      one_told x xs (filter test xs) bs b one.0 (first_told bs xs ys q (omega (arith, h)) (subst (λ (g : F). ReturnsInTurn R g bs (xs ++ ys) q) one.1 t.2))
+      one_told x xs (filter test xs) bs b one.0 (items_where_true-filter bs xs ys q (omega (arith, h)) (subst (λ (g : F). ReturnsInTurn R g bs (xs ++ ys) q) one.1 t.2))
 
-  pub updated : {K : Type 0} (cmp : K → K → Ordering) (s t : View K X) (b : List ℕ) (v : X) → test v ≡ true → InsertsAndRetainsAt cmp R f s b v t
+  pub with_pruned-updated : {K : Type 0} (cmp : K → K → Ordering) (s t : View K X) (b : List ℕ) (v : X) → test v ≡ true → InsertsAndRetainsAt cmp R f s b v t
       → t ≡ with_pruned (with_run cmp s (s.slot b) (filter test (run_of cmp s b) ++ v ∷ [])) (length (run_of cmp s b) - length (filter test (run_of cmp s b)))
-  updated cmp s t b v stays told =
+  with_pruned-updated cmp s t b v stays told =
       let run = run_of cmp s b in
       let kept = told.1.0 in
       let asks = told.1.1 in
       let more = length-append run (v ∷ []) in
-      let held = first_told asks.answers run (v ∷ []) asks.last (omega (arith, asks.long)) asks.asked in
+      let held = items_where_true-filter asks.answers run (v ∷ []) asks.last (omega (arith, asks.long)) asks.asked in
       let all = filter_same R test f says (run ++ v ∷ []) kept (asks.answers, asks.last, asks.long ∙ sym more, asks.asked, asks.kept)
       ∙ filter-append test run (v ∷ []) ∙ ap (λ a. filter test run ++ cond a (v ∷ []) []) stays in
       let count = ap (λ l. told.0 + length l) (sym held) ∙ asks.taken in

@@ -1,6 +1,6 @@
 -- On the values next to a full key that no value has.
 --     has_key_anywhere      in a filed content a full key is held where it is held in its own list
---     excludes              the neighbours of a full key that no value has show that
+--     Excludes-IsLeast      the neighbours of a full key that no value has show that
 use Rattle.std.proofs.Common.{◌≡◌, ℕ, ◌<◌, Bool, true, false, cond, ◌||◌, T, List, [], ◌∷◌, length, Option, Some, None, IfSome, unwrap_or, slice_index_or, All, refl, sym, ap, subst, ◌∙◌}
 use Rattle.std.proofs.lemmas.Bool.{false≢true}
 use Rattle.std.proofs.lemmas.List.Elements.{All-nil, All-cons, All-head, All-tail, All-append, All-weaker, All-filter, All-contains_itself, filter_passes}
@@ -19,8 +19,8 @@ use Rattle.std.specs.FinMap.{find, is_sorted}
 use Rattle.key_index_flat.specs.Content.{Content, list_at}
 use Rattle.key_index_flat.specs.FullKeys.{IsBytes, byte_cmp, IsLeast, cmp_keys, above, below, IsFiled}
 use Rattle.key_index_flat.specs.Values.{values_of}
-use Rattle.key_index_flat.specs.laws.Laws.{first, second}
-use Rattle.key_index_flat.proofs.content.ContentLemmas.{absent}
+use Rattle.key_index_flat.specs.laws.Laws.{T-and_first, T-and_second}
+use Rattle.key_index_flat.proofs.content.ContentLemmas.{list_at-below_all}
 use Rattle.key_index_flat.proofs.neighbours.FullKeyLemmas.{filed_first, filed_rest}
 use Rattle.key_index_flat.proofs.neighbours.LeastLemmas.{least_has}
 use Rattle.key_index_uses.specs.Exclusion.{has_key, Excludes}
@@ -67,9 +67,9 @@ module _ {V : Type 0} {cmp : V → V → Ordering} (o : IsTotalOrder cmp) where
   abbrev Bounds : (V → Bool) → List V → Option V → Type 0
   Bounds p l r = MatchOption r (All (λ w. p w ≡ false) l) (λ v. Contains l v × (p v ≡ true) × All (λ w. p w ≡ true → IsLeBy cmp v w) l)
 
-  bounds : (p : V → Bool) (l : List V) (r : Option V) → IsLeast cmp (filter p l) r → Bounds p l r
-  bounds p l None h = filter_empty p l h
-  bounds p l (Some v) h =
+  Bounds-IsLeast : (p : V → Bool) (l : List V) (r : Option V) → IsLeast cmp (filter p l) r → Bounds p l r
+  Bounds-IsLeast p l None h = filter_empty p l h
+  Bounds-IsLeast p l (Some v) h =
       (least_has o (Contains l) (filter p l) v h (All-filter p (Contains l) l (All-contains_itself l)), least_has o (λ w. p w ≡ true) (filter p l) v h (filter_passes p l), filter_back p (λ w. IsLeBy cmp v w) l (least_bounds (filter p l) v h))
 
 module _ {V : Type 0} (full_key : V → List ℕ) (a : List ℕ) where
@@ -85,10 +85,10 @@ module _ {V : Type 0} (full_key : V → List ℕ) (a : List ℕ) where
   not_below l w (Some v) h k e =
       false≢true (sym (h (ap is_lt e)) ∙ ap is_gt (nat_list_cmp_total.antisymm (full_key w) (full_key v) ∙ ap ordering_reverse k))
 
-  not_above : (l : List V) (w : V) (r : Option V) → MatchOption r (is_lt (byte_cmp a (full_key w)) ≡ false) (λ v. is_lt (byte_cmp a (full_key w)) ≡ true → IsLeBy (cmp_keys full_key) v w)
+  not_between-least : (l : List V) (w : V) (r : Option V) → MatchOption r (is_lt (byte_cmp a (full_key w)) ≡ false) (λ v. is_lt (byte_cmp a (full_key w)) ≡ true → IsLeBy (cmp_keys full_key) v w)
       → IfSome r (λ t. byte_cmp (full_key w) (full_key t) ≡ Less) → byte_cmp a (full_key w) ≡ Less → ⊥
-  not_above l w None h k e = false≢true (sym h ∙ ap is_lt e)
-  not_above l w (Some v) h k e =
+  not_between-least l w None h k e = false≢true (sym h ∙ ap is_lt e)
+  not_between-least l w (Some v) h k e =
       false≢true (sym (h (ap is_lt e)) ∙ ap is_gt (nat_list_cmp_total.antisymm (full_key v) (full_key w) ∙ ap ordering_reverse k))
 
   -- at one value
@@ -96,15 +96,15 @@ module _ {V : Type 0} (full_key : V → List ℕ) (a : List ℕ) where
   bounds_at o p l None h k d within = h k d within
   bounds_at o p l (Some v) h k d within = h.2 k d within
 
-  apart : (b : List ℕ) → bytes_eq b a ≡ false → byte_cmp b a ≡ Equal → ⊥
-  apart b h e = false≢true (sym h ∙ texts_ties b a ∙ ap is_eq e)
+  byte_cmp-not_equal : (b : List ℕ) → bytes_eq b a ≡ false → byte_cmp b a ≡ Equal → ⊥
+  byte_cmp-not_equal b h e = false≢true (sym h ∙ texts_ties b a ∙ ap is_eq e)
 
-  pub excludes : (l : List V) (prev next : Option V) → has_key full_key a l ≡ false → IsLeast (flip_args (cmp_keys full_key)) (below full_key a l) prev → IsLeast (cmp_keys full_key) (above full_key a l) next → Excludes full_key l a prev next
-  excludes l prev next none h k =
+  pub Excludes-IsLeast : (l : List V) (prev next : Option V) → has_key full_key a l ≡ false → IsLeast (flip_args (cmp_keys full_key)) (below full_key a l) prev → IsLeast (cmp_keys full_key) (above full_key a l) next → Excludes full_key l a prev next
+  Excludes-IsLeast l prev next none h k =
       let up = on_total full_key nat_list_cmp_total in
       let down = back_total up in
-      let lower = bounds down (λ v. is_lt (byte_cmp (full_key v) a)) l prev h in
-      let higher = bounds up (λ v. is_lt (byte_cmp a (full_key v))) l next k in
+      let lower = Bounds-IsLeast down (λ v. is_lt (byte_cmp (full_key v) a)) l prev h in
+      let higher = Bounds-IsLeast up (λ v. is_lt (byte_cmp a (full_key v))) l next k in
       let others = none-list_any (λ v. bytes_eq (full_key v) a) l none in
       record {
         absent = none;
@@ -120,15 +120,15 @@ module _ {V : Type 0} (full_key : V → List ℕ) (a : List ℕ) where
             let w = slice_index_or l i d in
             elim (byte_cmp (full_key w) a) as (λ r. byte_cmp (full_key w) a ≡ r → ⊥) [
               | Less ↦ λ e. not_below l w prev (bounds_at down (λ v. is_lt (byte_cmp (full_key v) a)) l prev lower i d within) between.0 e
-              | Equal ↦ λ e. apart (full_key w) (others i d within) e
-              | Greater ↦ λ e. not_above l w next (bounds_at up (λ v. is_lt (byte_cmp a (full_key v))) l next higher i d within) between.1 (nat_list_cmp_total.antisymm a (full_key w) ∙ ap ordering_reverse e)
+              | Equal ↦ λ e. byte_cmp-not_equal (full_key w) (others i d within) e
+              | Greater ↦ λ e. not_between-least l w next (bounds_at up (λ v. is_lt (byte_cmp a (full_key v))) l next higher i d within) between.1 (nat_list_cmp_total.antisymm a (full_key w) ∙ ap ordering_reverse e)
             ] refl;
       }
 
 -- in a filed content a full key is held where it is held in its own list
 module _ {K V : Type 0} {cmp : K → K → Ordering} (o : IsTotalOrder cmp) (full_key : V → List ℕ) (slot : List ℕ → K) (a : List ℕ) where
-  elsewhere : (x : K) (l : List V) → All (λ v. IsBytes (full_key v) × (slot (full_key v) ≡ x)) l → ((slot a ≡ x) → ⊥) → has_key full_key a l ≡ false
-  elsewhere x l h other =
+  has_key-other_slot : (x : K) (l : List V) → All (λ v. IsBytes (full_key v) × (slot (full_key v) ≡ x)) l → ((slot a ≡ x) → ⊥) → has_key full_key a l ≡ false
+  has_key-other_slot x l h other =
       list_any_none (λ v. bytes_eq (full_key v) a) l (All-weaker (λ v. IsBytes (full_key v) × (slot (full_key v) ≡ x)) (λ v. bytes_eq (full_key v) a ≡ false) (λ v u.
       elim (bytes_eq (full_key v) a) as (λ b. bytes_eq (full_key v) a ≡ b → b ≡ false) [
         | true ↦ λ e. absurd (other (ap slot (sym ((bytes_eq-Decides (full_key v) a).0 e)) ∙ u.1))
@@ -139,13 +139,13 @@ module _ {K V : Type 0} {cmp : K → K → Ordering} (o : IsTotalOrder cmp) (ful
   has_key_anywhere [] h f = refl
   has_key_anywhere (e ∷ es) h f =
       let k = slot a in
-      let rest = has_key_anywhere es (second _ _ h) (filed_rest o full_key slot e es (first _ _ h) f) in
+      let rest = has_key_anywhere es (T-and_second _ _ h) (filed_rest o full_key slot e es (T-and_first _ _ h) f) in
       let mine = filed_first o full_key slot e es f in
-      let not_here : (cmp k e.0 ≡ Equal → ⊥) → has_key full_key a e.1 ≡ false = λ n. elsewhere e.0 e.1 mine (λ s. n (ap (λ x. cmp x e.0) s ∙ tied_itself o e.0)) in
+      let not_here : (cmp k e.0 ≡ Equal → ⊥) → has_key full_key a e.1 ≡ false = λ n. has_key-other_slot e.0 e.1 mine (λ s. n (ap (λ x. cmp x e.0) s ∙ tied_itself o e.0)) in
       list_any-append (λ v. bytes_eq (full_key v) a) e.1 (values_of es)
       ∙ elim (cmp k e.0) as (λ r. cmp k e.0 ≡ r → (has_key full_key a e.1 || has_key full_key a (values_of es)) ≡ has_key full_key a (unwrap_or (cond (is_eq r) (Some e.1) (find cmp k es)) [])) [
         | Less ↦ λ p. (λ i. not_here (λ q. less_not_equal (sym p ∙ q)) i || rest i)
-        | Equal ↦ λ p. ap (λ b. has_key full_key a e.1 || b) (rest ∙ ap (has_key full_key a) (absent o k e.0 es (λ y q. o.congr k e.0 y p ∙ q) (first _ _ h))) ∙ or_false (has_key full_key a e.1)
+        | Equal ↦ λ p. ap (λ b. has_key full_key a e.1 || b) (rest ∙ ap (has_key full_key a) (list_at-below_all o k e.0 es (λ y q. o.congr k e.0 y p ∙ q) (T-and_first _ _ h))) ∙ or_false (has_key full_key a e.1)
         | Greater ↦ λ p. (λ i. not_here (λ q. greater_not_equal (sym p ∙ q)) i || rest i)
       ] refl
     where

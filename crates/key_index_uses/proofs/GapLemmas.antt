@@ -1,5 +1,5 @@
 -- On the entries of a map next to a key that it lacks.
---     gap     they show that it lacks the key
+--     Excludes-positions  they show that it lacks the key
 use Rattle.std.proofs.Common.{◌≡◌, ℕ, Bool, true, false, cond, ◌||◌, T, List, [], ◌∷◌, ◌++◌, append_assoc, Option, Some, None, is_some, All, refl, sym, ap, subst, ◌∙◌}
 use Rattle.std.proofs.lemmas.Bool.{false≢true}
 use Rattle.std.proofs.lemmas.List.Elements.{All-nil, All-cons, All-head, All-append, All-weaker, All-filter}
@@ -13,12 +13,13 @@ use Rattle.std.specs.Str.{bytes_eq}
 use Rattle.std.specs.declared.cmp.Ordering.{Ordering}
 use Rattle.std.specs.declared.cmp.Ordering.TheVariants.{Less, Equal, Greater}
 use Rattle.key_index_flat.specs.FullKeys.{byte_cmp, IsLeast, cmp_keys}
-use Rattle.key_index_flat.specs.laws.Laws.{first, second}
+use Rattle.key_index_flat.specs.laws.Laws.{T-and_first, T-and_second}
 use Rattle.key_index_flat.specs.Neighbours.{entries_above, entries_below, first_entry, last_entry}
-use Rattle.key_index_flat.proofs.content.ContentLemmas.{less}
+use Rattle.key_index_flat.proofs.content.ContentLemmas.{Less-is_lt}
+use Rattle.key_index_flat.proofs.content.ChainLemmas.{None-is_some}
 use Rattle.key_index.specs.Snapshot.{Positions, next_position, prev_position}
 use Rattle.key_index_uses.specs.Exclusion.{has_key, Excludes}
-use Rattle.key_index_uses.proofs.ExclusionLemmas.{excludes}
+use Rattle.key_index_uses.proofs.ExclusionLemmas.{Excludes-IsLeast}
 
 abbrev Entry : Type 0
 Entry = List ℕ × ℕ
@@ -31,13 +32,13 @@ abbrev Rising : List Entry → Type 0
 Rising [] = T true
 Rising (e ∷ es) = All (λ w. byte_cmp e.0 w.0 ≡ Less) es × Rising es
 
-all_above : (a : List ℕ) (es : List Entry) → T (below_all byte_cmp a es) → All (λ w. byte_cmp a w.0 ≡ Less) es
-all_above a [] h = All-nil (λ w. byte_cmp a w.0 ≡ Less)
-all_above a (e ∷ es) h = All-cons (λ w. byte_cmp a w.0 ≡ Less) e es (less _ (first _ _ h)) (all_above a es (second _ _ h))
+All-below_all : (a : List ℕ) (es : List Entry) → T (below_all byte_cmp a es) → All (λ w. byte_cmp a w.0 ≡ Less) es
+All-below_all a [] h = All-nil (λ w. byte_cmp a w.0 ≡ Less)
+All-below_all a (e ∷ es) h = All-cons (λ w. byte_cmp a w.0 ≡ Less) e es (Less-is_lt _ (T-and_first _ _ h)) (All-below_all a es (T-and_second _ _ h))
 
-rising : (es : List Entry) → T (is_sorted byte_cmp es) → Rising es
-rising [] h = tt
-rising (e ∷ es) h = (all_above e.0 es (first _ _ h), rising es (second _ _ h))
+Rising-is_sorted : (es : List Entry) → T (is_sorted byte_cmp es) → Rising es
+Rising-is_sorted [] h = tt
+Rising-is_sorted (e ∷ es) h = (All-below_all e.0 es (T-and_first _ _ h), Rising-is_sorted es (T-and_second _ _ h))
 
 rising_filter : (p : Entry → Bool) (es : List Entry) → Rising es → Rising (filter p es)
 rising_filter p [] h = tt
@@ -47,9 +48,9 @@ rising_filter p (e ∷ es) h =
       | false ↦ rising_filter p es h.1
     ]
 
-first_least : (es : List Entry) → Rising es → IsLeast (cmp_keys key_of) es (first_entry es)
-first_least [] h = refl
-first_least (e ∷ es) h =
+IsLeast-first_entry : (es : List Entry) → Rising es → IsLeast (cmp_keys key_of) es (first_entry es)
+IsLeast-first_entry [] h = refl
+IsLeast-first_entry (e ∷ es) h =
     ([], es, refl, All-nil (λ w. byte_cmp e.0 w.0 ≡ Less), All-weaker (λ w. byte_cmp e.0 w.0 ≡ Less) (λ w. IsLeBy (cmp_keys key_of) e w) (λ w q. ap is_gt q) es h.0)
 
 -- the last of those behind some lower keys
@@ -71,24 +72,20 @@ is_eq-reverse Less = refl
 is_eq-reverse Equal = refl
 is_eq-reverse Greater = refl
 
-lacks : (a : List ℕ) (es : List Entry) → find byte_cmp a es ≡ None → has_key key_of a es ≡ false
-lacks a [] h = refl
-lacks a (e ∷ es) h =
+has_key-not_found : (a : List ℕ) (es : List Entry) → find byte_cmp a es ≡ None → has_key key_of a es ≡ false
+has_key-not_found a [] h = refl
+has_key-not_found a (e ∷ es) h =
     let turned : bytes_eq e.0 a ≡ eq_by_cmp byte_cmp a e.0 = texts_ties e.0 a ∙ ap is_eq (nat_list_cmp_total.antisymm e.0 a) ∙ is_eq-reverse (byte_cmp a e.0) in
     ap (λ b. b || has_key key_of a es) turned
     ∙ elim (eq_by_cmp byte_cmp a e.0) as (λ b. cond b (Some e.1) (find byte_cmp a es) ≡ None → (b || has_key key_of a es) ≡ false) [
       | true ↦ λ q. absurd (false≢true (sym (ap is_some q)))
-      | false ↦ λ q. lacks a es q
+      | false ↦ λ q. has_key-not_found a es q
     ] h
 
-is_none : {X : Type 0} (o : Option X) → is_some o ≡ false → o ≡ None
-is_none None e = refl
-is_none (Some x) e = absurd (false≢true (sym e))
-
-pub gap : (m : Positions) (a : List ℕ) (below above : Option Entry) → is_some (get m a) ≡ false → below ≡ prev_position m a → above ≡ next_position m a → Excludes key_of (entries m) a below above
-gap m a below above none prev next =
+pub Excludes-positions : (m : Positions) (a : List ℕ) (below above : Option Entry) → is_some (get m a) ≡ false → below ≡ prev_position m a → above ≡ next_position m a → Excludes key_of (entries m) a below above
+Excludes-positions m a below above none prev next =
     let es = entries m in
-    let sorted = rising es (entries_sorted m) in
-    excludes key_of a es below above (lacks a es (sym (get-entries m a) ∙ is_none (get m a) none))
+    let sorted = Rising-is_sorted es (entries_sorted m) in
+    Excludes-IsLeast key_of a es below above (has_key-not_found a es (sym (get-entries m a) ∙ None-is_some (get m a) none))
     (subst (IsLeast (flip_args (cmp_keys key_of)) (entries_below byte_cmp es a)) (sym prev) (greatest_last (entries_below byte_cmp es a) (rising_filter (λ e. is_lt (byte_cmp e.0 a)) es sorted)))
-    (subst (IsLeast (cmp_keys key_of) (entries_above byte_cmp es a)) (sym next) (first_least (entries_above byte_cmp es a) (rising_filter (λ e. is_lt (byte_cmp a e.0)) es sorted)))
+    (subst (IsLeast (cmp_keys key_of) (entries_above byte_cmp es a)) (sym next) (IsLeast-first_entry (entries_above byte_cmp es a) (rising_filter (λ e. is_lt (byte_cmp a e.0)) es sorted)))

@@ -11,7 +11,7 @@ use Rattle.key_index_flat.specs.declared.index.Fault.TheVariants.{Memory, Full}
 use Rattle.key_index_flat.specs.Content.{list_at}
 use Rattle.key_index_flat.specs.Run.{one_if_absent}
 use Rattle.key_index_flat.specs.View.{View, items_in, run_at}
-use Rattle.key_index_flat.proofs.content.ContentLemmas.{list_at-with_list, tied}
+use Rattle.key_index_flat.proofs.content.ContentLemmas.{list_at-with_list, Equal-is_eq}
 use Rattle.key_index_parts.specs.Joined.{install_fault}
 use Rattle.key_index_parts.specs.Ops.{after_op, after_ops}
 use Rattle.key_index_parts.specs.Ranges.{built_upto, filled_by, RefusesBuild}
@@ -25,26 +25,26 @@ or_else [] m = m
 or_else (v ∷ vs) m = v ∷ vs
 
 module _ {K V : Type 0} {cmp : K → K → Ordering} (o : IsTotalOrder cmp) (exact : (x y : K) → cmp x y ≡ Equal → x ≡ y) where
-  put : (l m : List V) (v : V) → or_else (one_if_absent v l) m ≡ or_else l (v ∷ [])
-  put [] m v = refl
-  put (x ∷ xs) m v = refl
+  or_else-one_if_absent : (l m : List V) (v : V) → or_else (one_if_absent v l) m ≡ or_else l (v ∷ [])
+  or_else-one_if_absent [] m v = refl
+  or_else-one_if_absent (x ∷ xs) m v = refl
 
-  none : (l : List V) → l ≡ or_else l []
-  none [] = refl
-  none (x ∷ xs) = refl
+  or_else-nil : (l : List V) → l ≡ or_else l []
+  or_else-nil [] = refl
+  or_else-nil (x ∷ xs) = refl
 
-  reads : (records : List (Vec ℕ Global × V)) (s : View K V) (key : List ℕ)
+  run_at-newest : (records : List (Vec ℕ Global × V)) (s : View K V) (key : List ℕ)
       → run_at cmp (after_ops cmp (map op_of records) s) (s.slot key) ≡ or_else (run_at cmp s (s.slot key)) (newest cmp s.slot key records)
-  reads [] s key = none (run_at cmp s (s.slot key))
-  reads (r ∷ rs) s key =
+  run_at-newest [] s key = or_else-nil (run_at cmp s (s.slot key))
+  run_at-newest (r ∷ rs) s key =
       let k = s.slot key in
       let j = s.slot r.0.items in
       let l = list_at cmp s.content j in
-      reads rs (after_op cmp (op_of r) s) key
+      run_at-newest rs (after_op cmp (op_of r) s) key
       ∙ ap (λ m. or_else m (newest cmp s.slot key rs)) (list_at-with_list o s.content j (one_if_absent r.1 l) k)
       ∙ elim (eq_by_cmp cmp k j) as (λ b. eq_by_cmp cmp k j ≡ b → or_else (cond b (one_if_absent r.1 l) (list_at cmp s.content k)) (newest cmp s.slot key rs)
       ≡ or_else (list_at cmp s.content k) (if b then r.1 ∷ [] else newest cmp s.slot key rs)) [
-        | true ↦ λ p. put l (newest cmp s.slot key rs) r.1 ∙ ap (λ x. or_else (list_at cmp s.content x) (r.1 ∷ [])) (sym (exact k j (tied _ p)))
+        | true ↦ λ p. or_else-one_if_absent l (newest cmp s.slot key rs) r.1 ∙ ap (λ x. or_else (list_at cmp s.content x) (r.1 ∷ [])) (sym (exact k j (Equal-is_eq _ p)))
         | false ↦ λ p. refl
       ] refl
 
@@ -54,5 +54,5 @@ module _ {K V : Type 0} {cmp : K → K → Ordering} (o : IsTotalOrder cmp) (exa
       let all : t ≡ after_ops cmp (map op_of records) s = is ∙ ap (λ l. after_ops cmp l s) are in
       (λ i. list_at cmp (all i).content ((all i).slot key))
       ∙ ap (λ f. run_at cmp (after_ops cmp (map op_of records) s) (f key)) (slot-after_ops cmp (map op_of records) s)
-      ∙ reads records s key
+      ∙ run_at-newest records s key
       ∙ ap (λ c. or_else (list_at cmp c (s.slot key)) (newest cmp s.slot key records)) empty

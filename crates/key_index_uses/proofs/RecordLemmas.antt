@@ -1,8 +1,8 @@
 -- Answers that a batch fills with the records of its keys, by the place of each visit.
---     answers      what the visits of a batch leave, in any order of its probes
---     told         what the events of a batch that looks ahead leave, of which its visits alone count
---     kept_events, folded_events      what calls of a closure on events don't change, and what they leave
---     zip-map      keys that stand behind something
+--     fold-visits_of              what the visits of a batch leave, in any order of its probes
+--     fold-with_event             what the events of a batch that looks ahead leave, of which its visits alone count
+--     kept_events, folded_events  what calls of a closure on events don't change, and what they leave
+--     zip-map                     keys that stand behind something
 use Rattle.std.proofs.Common.{◌≡◌, ℕ, ◌+◌, ◌<◌, ◌≤◌, Bool, true, false, cond, ◌&&◌, Option, Some, None, List, [], ◌∷◌, ◌++◌, length, map, zip, slice_set, slice_index_or, nat_eq, nat_lt, All, refl, sym, ap, subst, ◌∙◌, inl, inr, arith, append_assoc}
 use Rattle.std.proofs.Math.Seq.{get_or-append_seam}
 use Rattle.std.proofs.lemmas.Bool.{lt-ltb}
@@ -42,19 +42,19 @@ module _ {K : Type 0} (i : ℕ) where
 
 -- the probes of a batch have each place once, with the index key of its key
 module _ {K : Type 0} (slot : List ℕ → K) where
-  none_before : (i n : ℕ) (bs : List (List ℕ)) → i < n → places i (probes_from slot n bs) ≡ 0
-  none_before i n [] low = refl
-  none_before i n (b ∷ bs) low =
+  places-before_start : (i n : ℕ) (bs : List (List ℕ)) → i < n → places i (probes_from slot n bs) ≡ 0
+  places-before_start i n [] low = refl
+  places-before_start i n (b ∷ bs) low =
       elim (eqb_tells n i) as (λ _. places i (probes_from slot n (b ∷ bs)) ≡ 0) [
         | inl same ↦ absurd (omega (arith, low, same.1))
-        | inr other ↦ places-other i (slot b, n) (probes_from slot (n + 1) bs) other.0 ∙ none_before i (n + 1) bs (omega (arith, low))
+        | inr other ↦ places-other i (slot b, n) (probes_from slot (n + 1) bs) other.0 ∙ places-before_start i (n + 1) bs (omega (arith, low))
       ]
 
   one_each : (i n : ℕ) (bs : List (List ℕ)) → n ≤ i → i < n + length bs → places i (probes_from slot n bs) ≡ 1
   one_each i n [] low high = absurd (omega (arith, low, high))
   one_each i n (b ∷ bs) low high =
       elim (eqb_tells n i) as (λ _. places i (probes_from slot n (b ∷ bs)) ≡ 1) [
-        | inl same ↦ places-here i (slot b, n) (probes_from slot (n + 1) bs) same.1 same.0 ∙ ap (λ m. 1 + m) (none_before i (n + 1) bs (omega (arith, same.1)))
+        | inl same ↦ places-here i (slot b, n) (probes_from slot (n + 1) bs) same.1 same.0 ∙ ap (λ m. 1 + m) (places-before_start i (n + 1) bs (omega (arith, same.1)))
         | inr other ↦ places-other i (slot b, n) (probes_from slot (n + 1) bs) other.0 ∙ one_each i (n + 1) bs (omega (arith, low, other.1)) (omega (arith, high))
       ]
 
@@ -78,15 +78,15 @@ module _ (log keys : List (List ℕ)) where
   abbrev tests : ℕ × ℕ → Bool
   tests v = nat_lt v.0 (length keys) && is_record log (slice_index_or keys v.0 []) v.1
 
-  length-put : (a : List (Option ℕ)) (v : ℕ × ℕ) → length (put a v) ≡ length a
-  length-put a v = elim (tests v) as (λ b. length (cond b (slice_set a v.0 (Some v.1)) a) ≡ length a) [
+  length-put_at : (a : List (Option ℕ)) (v : ℕ × ℕ) → length (put a v) ≡ length a
+  length-put_at a v = elim (tests v) as (λ b. length (cond b (slice_set a v.0 (Some v.1)) a) ≡ length a) [
     | true ↦ length-set a v.0 (Some v.1)
     | false ↦ refl
   ]
 
-  length-filled : (a : List (Option ℕ)) (vs : List (ℕ × ℕ)) → length (fold put a vs) ≡ length a
-  length-filled a [] = refl
-  length-filled a (v ∷ vs) = length-filled (put a v) vs ∙ length-put a v
+  length-fold_put : (a : List (Option ℕ)) (vs : List (ℕ × ℕ)) → length (fold put a vs) ≡ length a
+  length-fold_put a [] = refl
+  length-fold_put a (v ∷ vs) = length-fold_put (put a v) vs ∙ length-put_at a v
 
   put-other : (a : List (Option ℕ)) (v : ℕ × ℕ) (i : ℕ) → ¬ (i ≡ v.0) → slice_index_or (put a v) i None ≡ slice_index_or a i None
   put-other a v i apart = elim (tests v) as (λ b. slice_index_or (cond b (slice_set a v.0 (Some v.1)) a) i None ≡ slice_index_or a i None) [
@@ -105,7 +105,7 @@ module _ (log keys : List (List ℕ)) where
   filled-here a n (v ∷ l) asked within =
       let rest = records n l in
       let is : nat_lt n (length keys) ≡ true = lt-ltb n (length keys) asked in
-      let same = length-put a (n, v) in
+      let same = length-put_at a (n, v) in
       let first : last_or (slice_index_or (put a (n, v)) n None) rest ≡ last_or (slice_index_or a n None) (records n (v ∷ l)) =
       ap (λ t. last_or (slice_index_or (cond (t && is_record log (slice_index_or keys n []) v) (slice_set a n (Some v)) a) n None) rest) is
       ∙ (elim (is_record log (slice_index_or keys n []) v) as (λ b. last_or (slice_index_or (cond b (slice_set a n (Some v)) a) n None) rest ≡ last_or (slice_index_or a n None) (cond b (v ∷ rest) rest)) [
@@ -136,7 +136,7 @@ module _ (log keys : List (List ℕ)) where
     left-once k a [] asked within once own = absurd (omega (arith, once))
     left-once k a (p ∷ ps) asked within once own =
         let next = fold put a (map (λ v. (p.1, v)) (run p.0)) in
-        let long = length-filled a (map (λ v. (p.1, v)) (run p.0)) in
+        let long = length-fold_put a (map (λ v. (p.1, v)) (run p.0)) in
         elim (eqb_tells p.1 i) as (λ _. left a (p ∷ ps) ≡ last_or (slice_index_or a i None) (records i (run k))) [
           | inl same ↦
               let none : places i ps ≡ 0 = omega (arith, once, places-here i p ps same.1 same.0) in
@@ -152,13 +152,13 @@ module _ (log keys : List (List ℕ)) where
     abbrev answer_of : Option ℕ × List ℕ → Option ℕ
     answer_of p = last_or p.0 (records_of log p.1 (run (slot p.1)))
 
-    pub answers : (a : List (Option ℕ)) (sorted : List (K × ℕ)) → length a ≡ length keys → IsPermutation (probes_from slot 0 keys) sorted
+    pub fold-visits_of : (a : List (Option ℕ)) (sorted : List (K × ℕ)) → length a ≡ length keys → IsPermutation (probes_from slot 0 keys) sorted
         → fold put a (visits_of run sorted) ≡ map answer_of (zip a keys)
-    answers a sorted size moved =
+    fold-visits_of a sorted size moved =
         let probes = probes_from slot 0 keys in
         let filled = fold put a (visits_of run sorted) in
         let wide : length (zip a keys) ≡ length a = length-zip a keys ∙ omega (arith, size) in
-        let long : length filled ≡ length a = length-filled a (visits_of run sorted) in
+        let long : length filled ≡ length a = length-fold_put a (visits_of run sorted) in
         let count = length-map (zip a keys) answer_of in
         ext_get_or None filled (map answer_of (zip a keys)) (omega (arith, wide, long, count)) (λ i low.
         let within : i < length a = omega (arith, low, long) in
@@ -172,10 +172,10 @@ module _ (log keys : List (List ℕ)) where
         ∙ ap answer_of (sym (get_or-zip a keys i (None, []) within asked)) ∙ sym (get_or-map answer_of (zip a keys) i (None, []) None below))
 
   -- an event that finds a list changes no answer
-  pub told : (a : List (Option ℕ)) (es : List (Event ℕ)) → fold (with_event log keys) a es ≡ fold put a (visits_in es)
-  told a [] = refl
-  told a (Found place len ∷ es) = told a es
-  told a (Visit place position ∷ es) = told (put a (place, position)) es
+  pub fold-with_event : (a : List (Option ℕ)) (es : List (Event ℕ)) → fold (with_event log keys) a es ≡ fold put a (visits_in es)
+  fold-with_event a [] = refl
+  fold-with_event a (Found place len ∷ es) = fold-with_event a es
+  fold-with_event a (Visit place position ∷ es) = fold-with_event (put a (place, position)) es
 
 -- keys that stand behind something
 pub zip-map : {A B C D : Type 0} (f : A × B → C) (g : D → B) (xs : List A) (ys : List D) → map f (zip xs (map g ys)) ≡ map (λ p. f (p.0, g p.1)) (zip xs ys)

@@ -65,17 +65,17 @@ IsUtf8-digits word digits = IsUtf8-from_ascii word (IsAscii-from_all word (All-f
     grind (arith, nat_tests))))
 
 -- digits alone, in the words of what `parse` reads
-decimals : IsNumeralModel (λ ds. list_all is_ascii_digit ds ≡ true) (digits_value 10)
-decimals = numerals_by_value _ (search rules)
+IsNumeralModel-decimal : IsNumeralModel (λ ds. list_all is_ascii_digit ds ≡ true) (digits_value 10)
+IsNumeralModel-decimal = numerals_by_value _ (search rules)
 
 -- what `parse` makes of digits is the number that they write
 pub number_of-parsed : {E : Type 0} (word : List ℕ) (r : Result ℕ E) → list_all is_ascii_digit word ≡ true → ParsesUnsigned 64 10 word r → result_ok r ≡ number_of word
 unfolding number_of
 number_of-parsed {E = E} word (Ok n) digits h =
-    let parsed = parse_digits decimals {E = E} 64 word (Ok n) h digits in
+    let parsed = parse_digits IsNumeralModel-decimal {E = E} 64 word (Ok n) h digits in
     grind (arith, nat_tests, parsed)
 number_of-parsed {E = E} word (Err e) digits h =
-    let parsed = parse_digits decimals {E = E} 64 word (Err e) h digits in
+    let parsed = parse_digits IsNumeralModel-decimal {E = E} 64 word (Err e) h digits in
     grind (arith, nat_tests, parsed)
 
 -- two digits write a byte

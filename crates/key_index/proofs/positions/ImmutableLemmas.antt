@@ -1,7 +1,7 @@
 -- The keys by position of an immutable index, through the map that its table stores.
 --     stored_some               a table stores the positions of the map
---     indexed                   a position is indexed exactly where the table stores it
---     inserted                  a key more
+--     stored_at-key_at          a position is indexed exactly where the table stores it
+--     key_at-inserted           a key more
 use Rattle.std.proofs.Common.{get_or, ◌≡◌, ◌≢◌, ℕ, suc, zero, ◌+◌, ◌-◌, ◌^◌, ◌<◌, ◌≤◌, max, Bool, true, false, cond, ◌&&◌, List, [], ◌∷◌, length, slice_get, slice_index, nat_le, ◌==◌, Option, Some, None, is_some, IsSome, ◌↔◌, refl, sym, ap, subst, ◌∙◌, arith}
 use Rattle.std.specs.List.{find, range_with_len, Contains}
 use Rattle.std.specs.Option.{option_map}
@@ -22,9 +22,9 @@ and_right : (a b : Bool) → a && b ≡ true → b ≡ true
 and_right true b e = e
 and_right false b e = absurd (cc)
 
-and_both : (a b : Bool) → a ≡ true → b ≡ true → a && b ≡ true
-and_both true b e f = f
-and_both false b e f = absurd (cc)
+and-true : (a b : Bool) → a ≡ true → b ≡ true → a && b ≡ true
+and-true true b e f = f
+and-true false b e f = absurd (cc)
 
 pub true_is_false : true ≡ false → ⊥
 true_is_false e = cc
@@ -36,9 +36,9 @@ lt-leb a b h =
       | true ↦ λ e. absurd (let le = leb-true a b e in omega arith)
     ] refl
 
-neither : {X : Type 0} (a : Bool) (x y : Option X) → cond (a && false) x None ≡ cond (a && false) y None
-neither true x y = refl
-neither false x y = refl
+cond-and_false : {X : Type 0} (a : Bool) (x y : Option X) → cond (a && false) x None ≡ cond (a && false) y None
+cond-and_false true x y = refl
+cond-and_false false x y = refl
 
 some_of : {X : Type 0} (o : Option X) → IsSome o → (x : X) × (o ≡ Some x)
 some_of None e = absurd (cc)
@@ -67,7 +67,7 @@ stored_some t m s p =
             let at = s.found p is in
             let within = full_within t.controls at.0 at.1 in
             let no : test at.0 ≡ false = find_none test 0 (length t.controls) at.0 e (omega arith) (omega arith) in
-            sym no ∙ and_both _ _ (le-leb _ _ at.1) (eq-eqb _ _ at.2)
+            sym no ∙ and-true _ _ (le-leb _ _ at.1) (eq-eqb _ _ at.2)
       ] refl
     ] refl
 
@@ -76,31 +76,31 @@ module _ {T K : Type 0} (hashed : T → K → ℕ) where
   some_map f None = refl
   some_map f (Some k) = refl
 
-  pub indexed : (s : Log T K) → IsLog hashed s → (p : ℕ) → stored_at s.cells p ≡ is_some (key_at s p)
-  indexed s l p = stored_some s.cells (hashes hashed s) l.stored p ∙ some_map (hashed s.translator) (key_at s p)
+  pub stored_at-key_at : (s : Log T K) → IsLog hashed s → (p : ℕ) → stored_at s.cells p ≡ is_some (key_at s p)
+  stored_at-key_at s l p = stored_some s.cells (hashes hashed s) l.stored p ∙ some_map (hashed s.translator) (key_at s p)
 
   -- the key at a position that is stored stands in the ring
   pub key_there : (s : Log T K) → IsLog hashed s → (p : ℕ) → stored_at s.cells p ≡ true → (s.start ≤ p) × (key_at s p ≡ slice_get s.keys (p - s.start))
   key_there s l p e =
       elim (nat_le s.start p) as (λ b. nat_le s.start p ≡ b → (s.start ≤ p) × (key_at s p ≡ slice_get s.keys (p - s.start))) [
-        | true ↦ λ t. (leb-true _ _ t, ap (λ b. cond b (slice_get s.keys (p - s.start)) None) (and_both _ _ t e))
+        | true ↦ λ t. (leb-true _ _ t, ap (λ b. cond b (slice_get s.keys (p - s.start)) None) (and-true _ _ t e))
         | false ↦ λ t. absurd (
             let none : key_at s p ≡ None = ap (λ b. cond (b && stored_at s.cells p) (slice_get s.keys (p - s.start)) None) t in
-            true_is_false (sym e ∙ indexed s l p ∙ ap is_some none))
+            true_is_false (sym e ∙ stored_at-key_at s l p ∙ ap is_some none))
       ] refl
 
-  pub inserted : (s : Log T K) (u : Cells) (ks : List K) (p : ℕ) (k : K) → IsLog hashed s → s.start ≤ p
+  pub key_at-inserted : (s : Log T K) (u : Cells) (ks : List K) (p : ℕ) (k : K) → IsLog hashed s → s.start ≤ p
       → Stored u (with_hash (hashes hashed s) p (hashed s.translator k))
       → slice_get ks (p - s.start) ≡ Some k
       → ((i : ℕ) → i ≢ p - s.start → IsSome (slice_get s.keys i) → slice_get ks i ≡ slice_get s.keys i)
       → (q : ℕ) → key_at (record s { keys = ks; cells = u }) q ≡ with_key (key_at s) p k q
-  inserted s u ks p k l le st at others q =
+  key_at-inserted s u ks p k l le st at others q =
       let now : stored_at u q ≡ is_some (with_hash (hashes hashed s) p (hashed s.translator k) q) = stored_some u _ st q in
       elim (q == p) as (λ b. q == p ≡ b → stored_at u q ≡ is_some (cond b (Some (hashed s.translator k)) (hashes hashed s q)) → key_at (record s { keys = ks; cells = u }) q ≡ cond b (Some k) (key_at s q)) [
         | true ↦ λ t y.
             let same : q ≡ p = eqb-true _ _ t in
             let above : nat_le s.start q ≡ true = le-leb _ _ (omega (arith, same)) in
-            ap (λ b. cond b (slice_get ks (q - s.start)) None) (and_both _ _ above y) ∙ ap (λ r. slice_get ks (r - s.start)) same ∙ at
+            ap (λ b. cond b (slice_get ks (q - s.start)) None) (and-true _ _ above y) ∙ ap (λ r. slice_get ks (r - s.start)) same ∙ at
         | false ↦ λ t y.
             let ne : q ≢ p = eqb-false _ _ t in
             let as_before : stored_at u q ≡ stored_at s.cells q = y ∙ sym (stored_some s.cells (hashes hashed s) l.stored q) in
@@ -110,10 +110,10 @@ module _ {T K : Type 0} (hashed : T → K → ℕ) where
                   let there = key_there s l q e in
                   let above : s.start ≤ q = there.0 in
                   let place : q - s.start ≢ p - s.start = omega arith in
-                  let is : IsSome (slice_get s.keys (q - s.start)) = sym (ap is_some there.1) ∙ sym (indexed s l q) ∙ e in
-                  ap (λ b. cond b (slice_get ks (q - s.start)) None) (and_both _ true (le-leb _ _ above) refl) ∙ others (q - s.start) place is ∙ sym there.1
+                  let is : IsSome (slice_get s.keys (q - s.start)) = sym (ap is_some there.1) ∙ sym (stored_at-key_at s l q) ∙ e in
+                  ap (λ b. cond b (slice_get ks (q - s.start)) None) (and-true _ true (le-leb _ _ above) refl) ∙ others (q - s.start) place is ∙ sym there.1
               | false ↦ λ e.
-                  neither (nat_le s.start q) (slice_get ks (q - s.start)) (slice_get s.keys (q - s.start)) ∙ ap (λ b. cond (nat_le s.start q && b) (slice_get s.keys (q - s.start)) None) (sym e)
+                  cond-and_false (nat_le s.start q) (slice_get ks (q - s.start)) (slice_get s.keys (q - s.start)) ∙ ap (λ b. cond (nat_le s.start q && b) (slice_get s.keys (q - s.start)) None) (sym e)
             ] refl
       ] refl now
 
@@ -128,7 +128,7 @@ module _ {T K : Type 0} (hashed : T → K → ℕ) where
       → IsLog hashed (record s { keys = ks; cells = u })
   inserted_log s u ks p k l le lt st at others long fit = record {
     stored = files_same (with_hash (hashes hashed s) p (hashed s.translator k)) (hashes hashed (record s { keys = ks; cells = u }))
-        (λ q. sym (ap (option_map (hashed s.translator)) (inserted s u ks p k l le st at others q) ∙ map_with (hashed s.translator) (key_at s) p k q)) st;
+        (λ q. sym (ap (option_map (hashed s.translator)) (key_at-inserted s u ks p k l le st at others q) ∙ map_with (hashed s.translator) (key_at s) p k q)) st;
     fits = let f = l.fits in omega (arith, long, f);
     pruned_fits = l.pruned_fits;
     removals_fit = fit;
@@ -140,11 +140,11 @@ module _ {T K : Type 0} (hashed : T → K → ℕ) (s : Log T K) (l : IsLog hash
   map_some f (Some k) h e = (k, refl, cc)
 
   -- the closure that answers hashes may be asked for each position that is indexed, and answers its hash
-  pub resolves : (ks : List K) → ks ≡ s.keys → (p h : ℕ) → hashes hashed s p ≡ Some h
+  pub hash_of_position : (ks : List K) → ks ≡ s.keys → (p h : ℕ) → hashes hashed s p ≡ Some h
       → ((s.start ≤ p) × (p - s.start < length ks)) × ((g : ℕ) → ((k : K) → slice_get ks (p - s.start) ≡ Some k → g ≡ hashed s.translator k) → g ≡ h)
-  resolves ks same p h e =
+  hash_of_position ks same p h e =
       let key = map_some (hashed s.translator) (key_at s p) h e in
-      let there = key_there hashed s l p (indexed hashed s l p ∙ ap is_some key.1) in
+      let there = key_there hashed s l p (stored_at-key_at hashed s l p ∙ ap is_some key.1) in
       let cell : slice_get ks (p - s.start) ≡ Some key.0 = ap (λ x. slice_get x (p - s.start)) same ∙ sym there.1 ∙ key.1 in
       ((there.0, slice_get_within ks (p - s.start) key.0 cell), (λ g answers. answers key.0 cell ∙ key.2))
 
@@ -155,7 +155,7 @@ module _ {T K : Type 0} (hashed : T → K → ℕ) (s : Log T K) (l : IsLog hash
         (λ h. let r = cands.only p h in let key = map_some (hashed s.translator) (key_at s p) r.0 r.1 in subst IsSome (sym key.1) refl),
         (λ is.
             let key = some_of (key_at s p) is in
-            let there = key_there hashed s l p (indexed hashed s l p ∙ is) in
+            let there = key_there hashed s l p (stored_at-key_at hashed s l p ∙ is) in
             let same : key_at s p ≡ Some k = there.1 ∙ at in
             cands.all p (ap (option_map (hashed s.translator)) same)),
       )

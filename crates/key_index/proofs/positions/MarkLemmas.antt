@@ -1,5 +1,5 @@
 -- What marks leave of an immutable index, one after another.
---     MarkedTo                         the marks so far: marked_first, marked_more, marked_all
+--     MarkedTo                         the marks so far: MarkedTo-first, marked_more, marked_all
 --     marks_start, marks_keys          the start and the keys by position at the end
 use Rattle.std.proofs.Common.{◌≡◌, ◌≢◌, ℕ, ◌+◌, ◌^◌, ◌-◌, ◌≤◌, true, false, cond, nat_le, ◌==◌, List, [], ◌∷◌, ◌++◌, length, append_assoc, append-nil, Option, Some, None, ◌↔◌, refl, sym, ap, subst, ◌∙◌, arith}
 use Rattle.std.proofs.lemmas.Bool.{leb-true, leb-false, le-leb}
@@ -19,8 +19,8 @@ module _ {T K : Type 0} (translated : T → List ℕ → K) where
     pub long : length outcomes + length rest ≡ length marks
     pub gives : (os : List Marked) (t : Log T K) → AreMarked translated rest os now t → AreMarked translated marks (outcomes ++ os) s t
 
-  pub marked_first : (marks rest : List Mark) (outcomes : List Marked) (s : Log T K) → rest ≡ marks → outcomes ≡ [] → MarkedTo marks rest outcomes s s
-  marked_first marks rest outcomes s same none = record {
+  pub MarkedTo-first : (marks rest : List Mark) (outcomes : List Marked) (s : Log T K) → rest ≡ marks → outcomes ≡ [] → MarkedTo marks rest outcomes s s
+  MarkedTo-first marks rest outcomes s same none = record {
     long = let a = ap length same in let b = ap length none in omega (arith, a, b);
     gives = λ os t h. subst (λ l. AreMarked translated marks (l ++ os) s t) (sym none) (subst (λ l. AreMarked translated l os s t) same h);
   }

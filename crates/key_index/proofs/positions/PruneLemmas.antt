@@ -3,7 +3,7 @@
 --     released_none, released_more   no cell goes, and one more
 --     jumped_log                     the start may be raised once it is reached or no cell is left
 --     Pruned                         what a pruning changes
---     jumped                         it does so
+--     Pruned-all_released            it does so
 use Rattle.std.proofs.Common.{◌≡◌, ℕ, suc, zero, ◌+◌, ◌-◌, ◌^◌, ◌<◌, ◌≤◌, ◌⊎◌, min, max, Bool, true, false, cond, ◌&&◌, [], length, drop, slice_get, nat_le, nat_eq, None, is_some, refl, sym, ap, ◌∙◌, inl, inr, arith, count_by, length-drop}
 use Rattle.std.specs.List.{range_with_len}
 use Rattle.std.specs.Option.{option_map}
@@ -91,8 +91,8 @@ module _ {T K : Type 0} where
     pub removals : u.cells.removals ≡ min (s.cells.removals + (min (end_of s) start - s.start)) (2 ^ 64 - 1)
 
   module _ (s t : Log T K) (start : ℕ) (below : t.start ≤ start) (reached : 0 < length t.keys → t.start ≡ start) where
-    either : (t.start ≡ start) ⊎ (length t.keys ≡ 0)
-    either =
+    start_or_no_keys : (t.start ≡ start) ⊎ (length t.keys ≡ 0)
+    start_or_no_keys =
         elim (nat_eq (length t.keys) 0) as (λ b. nat_eq (length t.keys) 0 ≡ b → (t.start ≡ start) ⊎ (length t.keys ≡ 0)) [
           | true ↦ λ e. inr (eqb-true _ _ e)
           | false ↦ λ e. let some = eqb-false _ _ e in inl (reached (omega (arith, some)))
@@ -100,7 +100,7 @@ module _ {T K : Type 0} where
 
     jumped_key : (p : ℕ) → key_at (record t { start = start }) p ≡ key_at t p
     jumped_key p =
-        elim either [
+        elim start_or_no_keys [
           | inl e ↦ ap (λ n. key_at (record t { start = n }) p) (sym e)
           | inr e ↦ past_key (record t { start = start }) p (omega (arith, e)) ∙ sym (past_key t p (omega (arith, e)))
         ]
@@ -108,19 +108,19 @@ module _ {T K : Type 0} where
     pub jumped_log : (hashed : T → K → ℕ) → IsLog hashed t → start < 2 ^ 64 → IsLog hashed (record t { start = start })
     jumped_log hashed l fits = record {
       stored = files_same (hashes hashed t) (hashes hashed (record t { start = start })) (λ q. ap (option_map (hashed t.translator)) (sym (jumped_key q))) l.stored;
-      fits = let f = l.fits in elim either [ inl e ↦ omega (arith, f, e) | inr e ↦ omega (arith, fits, e) ];
+      fits = let f = l.fits in elim start_or_no_keys [ inl e ↦ omega (arith, f, e) | inr e ↦ omega (arith, fits, e) ];
       pruned_fits = l.pruned_fits;
       removals_fit = l.removals_fit;
     }
 
-    pub jumped : IsReleased s t → Pruned s start (record t { start = start })
-    jumped r =
+    pub Pruned-all_released : IsReleased s t → Pruned s start (record t { start = start })
+    Pruned-all_released r =
         let from = r.start in
         let end = r.end in
         let more = r.removals in
         let place : s.start + (t.start - s.start) ≡ t.start = omega (arith, from) in
         let counted : indexed_count s s.start (start - s.start) ≡ indexed_count s s.start (t.start - s.start) =
-        elim either [
+        elim start_or_no_keys [
           | inl e ↦ ap (λ n. indexed_count s s.start (n - s.start)) (sym e)
           | inr e ↦
               let parts : start - s.start ≡ (t.start - s.start) + (start - t.start) = omega (arith, from, below) in
@@ -133,7 +133,7 @@ module _ {T K : Type 0} where
             | false ↦ λ e. let lt : p < start = leb-false _ _ e in below_key (record t { start = start }) p lt
           ] refl;
           start_is = omega (arith, from, below);
-          end = elim either [ inl e ↦ omega (arith, e, end) | inr e ↦ omega (arith, e, end, below) ];
+          end = elim start_or_no_keys [ inl e ↦ omega (arith, e, end) | inr e ↦ omega (arith, e, end, below) ];
           pruned = let e = r.pruned in omega (arith, e, counted);
-          removals = elim either [ inl e ↦ omega (arith, e, end, more, from) | inr e ↦ omega (arith, e, end, more, from, below) ];
+          removals = elim start_or_no_keys [ inl e ↦ omega (arith, e, end, more, from) | inr e ↦ omega (arith, e, end, more, from, below) ];
         }

@@ -27,8 +27,8 @@ use Rattle.key_index_flat.specs.Neighbours.{KeepsOrder}
 use Rattle.key_index_flat.specs.Run.{one_if_absent}
 use Rattle.key_index_flat.specs.Values.{values_of}
 use Rattle.key_index_flat.specs.View.{View, run_at, run_of}
-use Rattle.key_index_flat.proofs.content.ContentLemmas.{tied}
-use Rattle.key_index_flat.proofs.entries.EntryLemmas.{head_apart, none_apart, none_distinct, not_both, same, swapped}
+use Rattle.key_index_flat.proofs.content.ContentLemmas.{Equal-is_eq}
+use Rattle.key_index_flat.proofs.entries.EntryLemmas.{head_apart, none_apart, none_distinct, not_both, same, cond-swapped}
 use Rattle.key_index_parts.specs.Ops.{after_op, edit_held}
 use Rattle.key_index_parts.specs.declared.index.partitioned.builds.op.Op.{Op}
 use Rattle.key_index_parts.specs.declared.index.partitioned.builds.op.Op.TheVariants as op
@@ -73,11 +73,11 @@ put_last k v (e ∷ es) h =
     ap (λ r. by_order r ((k, v) ∷ entries_of (e ∷ es)) ((e.0.items, v) ∷ entries_of es) ((e.0.items, e.1) ∷ put byte_cmp k v (entries_of es))) above
     ∙ ap (λ l. (e.0.items, e.1) ∷ l) (put_last k v es (All-tail (λ d. byte_cmp d.0.items k ≡ Less) e es h))
 
-found_none : (k : List ℕ) (es : List Entry) → All (λ d. byte_cmp d.0.items k ≡ Less) es → find byte_cmp k (entries_of es) ≡ None
-found_none k [] h = refl
-found_none k (e ∷ es) h =
+find-all_less : (k : List ℕ) (es : List Entry) → All (λ d. byte_cmp d.0.items k ≡ Less) es → find byte_cmp k (entries_of es) ≡ None
+find-all_less k [] h = refl
+find-all_less k (e ∷ es) h =
     let above : byte_cmp k e.0.items ≡ Greater = nat_list_cmp_total.antisymm k e.0.items ∙ ap ordering_reverse (All-head (λ d. byte_cmp d.0.items k ≡ Less) e es h) in
-    ap (λ r. cond (is_eq r) (Some e.1) (find byte_cmp k (entries_of es))) above ∙ found_none k es (All-tail (λ d. byte_cmp d.0.items k ≡ Less) e es h)
+    ap (λ r. cond (is_eq r) (Some e.1) (find byte_cmp k (entries_of es))) above ∙ find-all_less k es (All-tail (λ d. byte_cmp d.0.items k ≡ Less) e es h)
 
 -- keys in order: those before one are below it
 before_one : (ys : List Entry) (e : Entry) (rest : List Entry) (x : Vec ℕ Global) → AllByRecursion (λ y. cmp_keys x y ≡ Less) (keys_of (ys ++ e ∷ rest)) → cmp_keys x e.0 ≡ Less
@@ -90,29 +90,29 @@ before_all (y ∷ ys) e rest h =
     All-cons (λ d. byte_cmp d.0.items e.0.items ≡ Less) y ys (before_one ys e rest y.0 (sorted_head cmp_keys y.0 (keys_of (ys ++ e ∷ rest)) h))
     (before_all ys e rest (sorted_tail cmp_keys y.0 (keys_of (ys ++ e ∷ rest)) h))
 
-pub split_at : {X : Type 0} (all : List X) (n : ℕ) (x : X) → n < length all → x ≡ slice_index_or all n x → all ≡ take n all ++ x ∷ drop (suc n) all
-split_at [] n x h is = absurd (omega (arith, h))
-split_at (y ∷ ys) zero x h is = ap (λ z. z ∷ ys) (sym is)
-split_at (y ∷ ys) (suc n) x h is = ap (λ l. y ∷ l) (split_at ys n x (omega (arith, h)) is)
+pub split-around_index : {X : Type 0} (all : List X) (n : ℕ) (x : X) → n < length all → x ≡ slice_index_or all n x → all ≡ take n all ++ x ∷ drop (suc n) all
+split-around_index [] n x h is = absurd (omega (arith, h))
+split-around_index (y ∷ ys) zero x h is = ap (λ z. z ∷ ys) (sym is)
+split-around_index (y ∷ ys) (suc n) x h is = ap (λ l. y ∷ l) (split-around_index ys n x (omega (arith, h)) is)
 
-no_entries : entries (positions_of []) ≡ []
-no_entries = of_no_length (entries (positions_of [])) (sym (len-entries (positions_of [])) ∙ len-empty byte_cmp ℕ)
+entries-positions_of_none : entries (positions_of []) ≡ []
+entries-positions_of_none = of_no_length (entries (positions_of [])) (sym (len-entries (positions_of [])) ∙ len-empty byte_cmp ℕ)
   where
     of_no_length : {X : Type 0} (l : List X) → length l ≡ 0 → l ≡ []
     of_no_length [] e = refl
     of_no_length (x ∷ xs) e = absurd (omega (arith, e))
 
-pub last_none : (es : List Entry) → es ≡ [] → entries_of es ≡ entries (positions_of [])
-last_none es e = ap entries_of e ∙ sym no_entries
+pub entries_of-none : (es : List Entry) → es ≡ [] → entries_of es ≡ entries (positions_of [])
+entries_of-none es e = ap entries_of e ∙ sym entries-positions_of_none
 
 edited_behind : {V : Type 0} (v r : V) (vs : List V) → (edit_held (step.Next ∷ step.Insert r ∷ []) (v ∷ vs)).items ≡ v ∷ r ∷ vs
 edited_behind v r vs =
     let place : nat_lt 0 (length (v ∷ vs)) ≡ true = lt-ltb 0 (length (v ∷ vs)) (omega arith) in
     ap (λ b. list_after_insert (v ∷ vs) (if b then Active 0 else Done) r) place
 
-pub unmapped : {X : Type 0} (xs : List X) → map (λ x. x) xs ≡ xs
-unmapped [] = refl
-unmapped (x ∷ xs) = ap (λ l. x ∷ l) (unmapped xs)
+pub map-identity : {X : Type 0} (xs : List X) → map (λ x. x) xs ≡ xs
+map-identity [] = refl
+map-identity (x ∷ xs) = ap (λ l. x ∷ l) (map-identity xs)
 
 -- ---- one op more
 
@@ -128,10 +128,10 @@ module _ {K : Type 0} {cmp : K → K → Ordering} (o : IsTotalOrder cmp) (exact
   Under s key r = IsBytes (key_of r) × (s.slot (key_of r) ≡ s.slot key)
 
   -- as the first of its index key
-  put_first : (s : View K Record) (x : Op Record) (r : Record) → IsLawful cmp s.content → IsKept cmp s → IsBytes (key_of r) → run_of cmp s (key_of r) ≡ [] → IsOpOf r false x
+  IsKept-first_op : (s : View K Record) (x : Op Record) (r : Record) → IsLawful cmp s.content → IsKept cmp s → IsBytes (key_of r) → run_of cmp s (key_of r) ≡ [] → IsOpOf r false x
       → IsKept cmp (after_op cmp x s) × (positions_in (after_op cmp x s) ≡ insert (positions_in s) (key_of r) r.position)
-  put_first s (op.Edit key steps) r hs kept bytes none is = absurd is
-  put_first s (op.GetOrInsert key v) r hs kept bytes none is =
+  IsKept-first_op s (op.Edit key steps) r hs kept bytes none is = absurd is
+  IsKept-first_op s (op.GetOrInsert key v) r hs kept bytes none is =
       let k = key_of r in
       let x = op.GetOrInsert key v in
       let content : (after_op cmp x s).content ≡ with_list cmp s.content (s.slot k) (r ∷ []) =
@@ -158,20 +158,20 @@ module _ {K : Type 0} {cmp : K → K → Ordering} (o : IsTotalOrder cmp) (exact
       (All-cons (Under s k) v (r ∷ vs) (All-head (Under s k) v vs under) (All-cons (Under s k) r vs (bytes, refl) (All-tail (Under s k) v vs under)))
       (IsDistinct-cons same (key_of v) (k ∷ map key_of vs) (turned, IsDistinct-head same (key_of v) (map key_of vs) once)
       (IsDistinct-cons same k (map key_of vs) apart.1 (IsDistinct-tail same (key_of v) (map key_of vs) once)))
-      r.position (λ a. swapped (same a (key_of v)) (same a k) (Some v.position) (Some r.position) (position_in a vs) (not_both a (key_of v) k turned)
+      r.position (λ a. cond-swapped (same a (key_of v)) (same a k) (Some v.position) (Some r.position) (position_in a vs) (not_both a (key_of v) k turned)
       ∙ ap (λ l. cond (same a k) (Some r.position) (position_in a l)) (sym some))
 
   -- ---- records of rising keys
 
   pub filling_none : (s : View K Record) → s.content ≡ [] → Filling cmp s [] None
-  filling_none s none = record { kept = empty_kept o exact s none; built = ap (λ c. entries (positions_of (values_of c))) none ∙ no_entries; last = refl }
+  filling_none s none = record { kept = empty_kept o exact s none; built = ap (λ c. entries (positions_of (values_of c))) none ∙ entries-positions_of_none; last = refl }
 
   has_bytes : (P : K) (slot : List ℕ → K) (a : List ℕ) (l : List Record) → All (λ r. IsBytes (key_of r) × (slot (key_of r) ≡ P)) l → is_some (position_in a l) ≡ true → IsBytes a
   has_bytes k slot a [] h f = absurd (false≢true f)
   has_bytes k slot a (r ∷ rs) h f =
       let Q : Record → Type 0 = λ r. IsBytes (key_of r) × (slot (key_of r) ≡ k) in
       elim (same a (key_of r)) as (λ b. same a (key_of r) ≡ b → is_some (cond b (Some r.position) (position_in a rs)) ≡ true → IsBytes a) [
-        | true ↦ λ t _. subst IsBytes (sym (exact_bytes a (key_of r) (tied _ t))) (All-head Q r rs h).0
+        | true ↦ λ t _. subst IsBytes (sym (exact_bytes a (key_of r) (Equal-is_eq _ t))) (All-head Q r rs h).0
         | false ↦ λ t g. has_bytes k slot a rs (All-tail Q r rs h) g
       ] refl f
 
@@ -179,12 +179,12 @@ module _ {K : Type 0} {cmp : K → K → Ordering} (o : IsTotalOrder cmp) (exact
   found_upto : (a : List ℕ) (ys : List Entry) (y : Entry) → All (λ d. byte_cmp d.0.items y.0.items ≡ Less) ys → is_some (find byte_cmp a (entries_of (ys ++ y ∷ []))) ≡ true → is_gt (byte_cmp a y.0.items) ≡ false
   found_upto a [] y h f =
       elim (same a y.0.items) as (λ b. same a y.0.items ≡ b → is_some (cond b (Some y.1) None) ≡ true → is_gt (byte_cmp a y.0.items) ≡ false) [
-        | true ↦ λ t _. ap is_gt (tied _ t)
+        | true ↦ λ t _. ap is_gt (Equal-is_eq _ t)
         | false ↦ λ t g. absurd (false≢true g)
       ] refl f
   found_upto a (d ∷ ds) y h f =
       elim (same a d.0.items) as (λ b. same a d.0.items ≡ b → is_some (cond b (Some d.1) (find byte_cmp a (entries_of (ds ++ y ∷ [])))) ≡ true → is_gt (byte_cmp a y.0.items) ≡ false) [
-        | true ↦ λ t _. ap (λ k. is_gt (byte_cmp k y.0.items)) (exact_bytes a d.0.items (tied _ t)) ∙ ap is_gt (All-head (λ d. byte_cmp d.0.items y.0.items ≡ Less) d ds h)
+        | true ↦ λ t _. ap (λ k. is_gt (byte_cmp k y.0.items)) (exact_bytes a d.0.items (Equal-is_eq _ t)) ∙ ap is_gt (All-head (λ d. byte_cmp d.0.items y.0.items ≡ Less) d ds h)
         | false ↦ λ t g. found_upto a ds y (All-tail (λ d. byte_cmp d.0.items y.0.items ≡ Less) d ds h) g
       ] refl f
 
@@ -196,8 +196,8 @@ module _ {K : Type 0} {cmp : K → K → Ordering} (o : IsTotalOrder cmp) (exact
         | false ↦ found_last ds y
       ]
 
-  alike : (x y : K) → is_gt (cmp x y) ≡ false → is_gt (cmp y x) ≡ false → eq_by_cmp cmp x y ≡ true
-  alike x y =
+  eq_by_cmp-not_greater : (x y : K) → is_gt (cmp x y) ≡ false → is_gt (cmp y x) ≡ false → eq_by_cmp cmp x y ≡ true
+  eq_by_cmp-not_greater x y =
       elim (cmp y x) as (λ r. cmp x y ≡ ordering_reverse r → is_gt (cmp x y) ≡ false → is_gt r ≡ false → eq_by_cmp cmp x y ≡ true) [
         | Less ↦ λ e p q. absurd (false≢true (sym p ∙ ap is_gt e))
         | Equal ↦ λ e p q. ap is_eq e
@@ -206,11 +206,11 @@ module _ {K : Type 0} {cmp : K → K → Ordering} (o : IsTotalOrder cmp) (exact
 
   module _ (s : View K Record) (done : List Entry) (e : Entry) (rest : List Entry) (hs : IsLawful cmp s.content) (keeps : KeepsOrder cmp s.slot) (bytes : IsBytes e.0.items)
       (sorted : IsStrictlySortedBy cmp_keys (keys_of (done ++ e ∷ rest))) (kept : IsKept cmp s) (built : entries (positions_in s) ≡ entries_of done) where
-    told : (a : List ℕ) → position_in a (run_of cmp s a) ≡ find byte_cmp a (entries_of done)
-    told a = sym (get-positions_in o exact s.slot s.content hs.0 kept.filed a) ∙ get-entries (positions_in s) a ∙ ap (find byte_cmp a) built
+    position_in-run_of : (a : List ℕ) → position_in a (run_of cmp s a) ≡ find byte_cmp a (entries_of done)
+    position_in-run_of a = sym (get-positions_in o exact s.slot s.content hs.0 kept.filed a) ∙ get-entries (positions_in s) a ∙ ap (find byte_cmp a) built
 
     fresh_key : position_in e.0.items (run_of cmp s e.0.items) ≡ None
-    fresh_key = told e.0.items ∙ found_none e.0.items done (before_all done e rest sorted)
+    fresh_key = position_in-run_of e.0.items ∙ find-all_less e.0.items done (before_all done e rest sorted)
 
     -- the last key before: its list has a record
     module _ (ys : List Entry) (y : Entry) (is : done ≡ ys ++ y ∷ []) where
@@ -221,7 +221,7 @@ module _ {K : Type 0} {cmp : K → K → Ordering} (o : IsTotalOrder cmp) (exact
       below_last = before_all ys y (e ∷ rest) sorted_whole
 
       held_last : is_some (position_in y.0.items (run_of cmp s y.0.items)) ≡ true
-      held_last = ap is_some (told y.0.items ∙ ap (λ l. find byte_cmp y.0.items (entries_of l)) is) ∙ found_last ys y
+      held_last = ap is_some (position_in-run_of y.0.items ∙ ap (λ l. find byte_cmp y.0.items (entries_of l)) is) ∙ found_last ys y
 
       bytes_last : IsBytes y.0.items
       bytes_last = has_bytes (s.slot y.0.items) s.slot y.0.items (run_of cmp s y.0.items) (kept.filed (s.slot y.0.items)) held_last
@@ -237,25 +237,25 @@ module _ {K : Type 0} {cmp : K → K → Ordering} (o : IsTotalOrder cmp) (exact
               All-drop (z ∷ zs) h = All-drop zs (All-tail (λ d. byte_cmp d.0.items e.0.items ≡ Less) z (zs ++ y ∷ []) h)
 
       -- another index key than the last one has no list yet
-      unfiled : eq_by_cmp cmp (s.slot y.0.items) (s.slot e.0.items) ≡ false → (l : List Record) → run_of cmp s e.0.items ≡ l → l ≡ []
-      unfiled apart [] at = refl
-      unfiled apart (w ∷ ws) at =
+      run_of-other_slot : eq_by_cmp cmp (s.slot y.0.items) (s.slot e.0.items) ≡ false → (l : List Record) → run_of cmp s e.0.items ≡ l → l ≡ []
+      run_of-other_slot apart [] at = refl
+      run_of-other_slot apart (w ∷ ws) at =
           let k = s.slot e.0.items in
           let P : Record → Type 0 = λ r. IsBytes (key_of r) × (s.slot (key_of r) ≡ k) in
           let own = All-head P w ws (subst (All P) at (kept.filed k)) in
           let there : run_of cmp s (key_of w) ≡ w ∷ ws = ap (λ q. run_at cmp s q) own.1 ∙ at in
           let held : is_some (find byte_cmp (key_of w) (entries_of (ys ++ y ∷ []))) ≡ true =
-          ap (λ l. is_some (find byte_cmp (key_of w) (entries_of l))) (sym is) ∙ ap is_some (sym (told (key_of w)) ∙ ap (position_in (key_of w)) there)
+          ap (λ l. is_some (find byte_cmp (key_of w) (entries_of l))) (sym is) ∙ ap is_some (sym (position_in-run_of (key_of w)) ∙ ap (position_in (key_of w)) there)
           ∙ ap (λ r. is_some (cond (is_eq r) (Some w.position) (position_in (key_of w) ws))) (tied_itself nat_list_cmp_total (key_of w)) in
           let upto = keeps (key_of w) y.0.items own.0 bytes_last (found_upto (key_of w) ys y below_last held) in
           let over = keeps y.0.items e.0.items bytes_last bytes last_below_key in
-          absurd (false≢true (sym apart ∙ alike (s.slot y.0.items) k over (ap (λ q. is_gt (cmp q (s.slot y.0.items))) (sym own.1) ∙ upto)))
+          absurd (false≢true (sym apart ∙ eq_by_cmp-not_greater (s.slot y.0.items) k over (ap (λ q. is_gt (cmp q (s.slot y.0.items))) (sym own.1) ∙ upto)))
 
       -- the same one has
       filed_here : eq_by_cmp cmp (s.slot y.0.items) (s.slot e.0.items) ≡ true → (x : Op Record) → IsOpOf (record_at e) true x → (l : List Record) → run_of cmp s e.0.items ≡ l
           → IsKept cmp (after_op cmp x s) × (positions_in (after_op cmp x s) ≡ insert (positions_in s) e.0.items e.1)
       filed_here tie x fits [] at =
-          absurd (false≢true (ap (λ l. is_some (position_in y.0.items l)) (sym at ∙ ap (λ q. run_at cmp s q) (sym (exact (s.slot y.0.items) (s.slot e.0.items) (tied _ tie)))) ∙ held_last))
+          absurd (false≢true (ap (λ l. is_some (position_in y.0.items l)) (sym at ∙ ap (λ q. run_at cmp s q) (sym (exact (s.slot y.0.items) (s.slot e.0.items) (Equal-is_eq _ tie)))) ∙ held_last))
       filed_here tie x fits (v ∷ vs) at = put_behind s x (record_at e) v vs hs kept bytes at (ap (position_in e.0.items) (sym at) ∙ fresh_key) fits
 
     none_filed : done ≡ [] → (l : List Record) → run_of cmp s e.0.items ≡ l → l ≡ []
@@ -265,28 +265,28 @@ module _ {K : Type 0} {cmp : K → K → Ordering} (o : IsTotalOrder cmp) (exact
         let P : Record → Type 0 = λ r. IsBytes (key_of r) × (s.slot (key_of r) ≡ k) in
         let own = All-head P w ws (subst (All P) at (kept.filed k)) in
         let there : run_of cmp s (key_of w) ≡ w ∷ ws = ap (λ q. run_at cmp s q) own.1 ∙ at in
-        absurd (false≢true (ap (λ l. is_some (find byte_cmp (key_of w) (entries_of l))) (sym is) ∙ ap is_some (sym (told (key_of w)) ∙ ap (position_in (key_of w)) there)
+        absurd (false≢true (ap (λ l. is_some (find byte_cmp (key_of w) (entries_of l))) (sym is) ∙ ap is_some (sym (position_in-run_of (key_of w)) ∙ ap (position_in (key_of w)) there)
         ∙ ap (λ r. is_some (cond (is_eq r) (Some w.position) (position_in (key_of w) ws))) (tied_itself nat_list_cmp_total (key_of w))))
 
-    one_more : (before : Option K) → MatchOption before (done ≡ []) (λ k. (ys : List Entry) × (y : Entry) × (done ≡ ys ++ y ∷ []) × (s.slot y.0.items ≡ k))
+    IsKept-next_op : (before : Option K) → MatchOption before (done ≡ []) (λ k. (ys : List Entry) × (y : Entry) × (done ≡ ys ++ y ∷ []) × (s.slot y.0.items ≡ k))
         → (behind : Bool) → MatchOption before (behind ≡ false) (λ k. behind ≡ eq_by_cmp cmp k (s.slot e.0.items)) → (x : Op Record) → IsOpOf (record_at e) behind x
         → IsKept cmp (after_op cmp x s) × (positions_in (after_op cmp x s) ≡ insert (positions_in s) e.0.items e.1)
-    one_more None last behind said x fits = put_first s x (record_at e) hs kept bytes (none_filed last _ refl) (subst (λ b. IsOpOf (record_at e) b x) said fits)
-    one_more (Some k) last behind said x fits =
+    IsKept-next_op None last behind said x fits = IsKept-first_op s x (record_at e) hs kept bytes (none_filed last _ refl) (subst (λ b. IsOpOf (record_at e) b x) said fits)
+    IsKept-next_op (Some k) last behind said x fits =
         let ys = last.0 in
         let y = last.1 in
         let says : behind ≡ eq_by_cmp cmp (s.slot y.0.items) (s.slot e.0.items) = said ∙ ap (λ q. eq_by_cmp cmp q (s.slot e.0.items)) (sym last.3) in
         elim (eq_by_cmp cmp (s.slot y.0.items) (s.slot e.0.items)) as (λ b. eq_by_cmp cmp (s.slot y.0.items) (s.slot e.0.items) ≡ b → behind ≡ b
         → IsKept cmp (after_op cmp x s) × (positions_in (after_op cmp x s) ≡ insert (positions_in s) e.0.items e.1)) [
           | true ↦ λ t b. filed_here ys y last.2 t x (subst (λ b. IsOpOf (record_at e) b x) b fits) _ refl
-          | false ↦ λ t b. put_first s x (record_at e) hs kept bytes (unfiled ys y last.2 t _ refl) (subst (λ b. IsOpOf (record_at e) b x) b fits)
+          | false ↦ λ t b. IsKept-first_op s x (record_at e) hs kept bytes (run_of-other_slot ys y last.2 t _ refl) (subst (λ b. IsOpOf (record_at e) b x) b fits)
         ] refl says
 
   pub filling_step : (s t : View K Record) (done : List Entry) (before : Option K) (e : Entry) (rest : List Entry) (x : Op Record) (behind : Bool) → IsLawful cmp s.content → KeepsOrder cmp s.slot → IsBytes e.0.items
       → IsStrictlySortedBy cmp_keys (keys_of (done ++ e ∷ rest)) → Filling cmp s done before → MatchOption before (behind ≡ false) (λ k. behind ≡ eq_by_cmp cmp k (s.slot e.0.items))
       → IsOpOf (record_at e) behind x → t ≡ after_op cmp x s → Filling cmp t (done ++ e ∷ []) (Some (s.slot e.0.items))
   filling_step s t done before e rest x behind hs keeps bytes sorted was said fits is =
-      let got = one_more s done e rest hs keeps bytes sorted was.kept was.built before was.last behind said x fits in
+      let got = IsKept-next_op s done e rest hs keeps bytes sorted was.kept was.built before was.last behind said x fits in
       let key = e.0.items in
       subst (λ u. Filling cmp u (done ++ e ∷ []) (Some (s.slot key))) (sym is) (record {
         kept = got.0;

@@ -23,11 +23,11 @@ pub record Copied (cs ps ds qs : List ℕ) (n : ℕ) : Type 0 where
   pub origin : (j : ℕ) → 2 ≤ slice_index ds j → (i : ℕ) × (i < n) × (2 ≤ slice_index cs i) × (slice_index ps i ≡ slice_index qs j)
   pub target : (i : ℕ) → i < n → 2 ≤ slice_index cs i → (j : ℕ) × (2 ≤ slice_index ds j) × (slice_index qs j ≡ slice_index ps i)
 
-zeros : (n i : ℕ) → slice_index (replicate n 0) i ≡ 0
-zeros zero zero = refl
-zeros zero (suc i) = refl
-zeros (suc n) zero = refl
-zeros (suc n) (suc i) = zeros n i
+slice_index-zeros : (n i : ℕ) → slice_index (replicate n 0) i ≡ 0
+slice_index-zeros zero zero = refl
+slice_index-zeros zero (suc i) = refl
+slice_index-zeros (suc n) zero = refl
+slice_index-zeros (suc n) (suc i) = slice_index-zeros n i
 
 no_marks : (n : ℕ) → (count_by is_full (replicate n 0) ≡ 0) × (count_by is_used (replicate n 0) ≡ 0)
 no_marks zero = (refl, refl)
@@ -52,30 +52,30 @@ Copied-past cs ps ds qs n b f s =
 
 module _ (cs ps ds qs : List ℕ) (n h p cell : ℕ) (s : Copied cs ps ds qs n) (b : n < length cs) (f : 2 ≤ slice_index cs n) (at : p ≡ slice_index ps n)
     (free : slice_index ds cell < 2) (within : cell < length ds) where
-  empty : slice_index ds cell ≡ 0
-  empty = let c = s.clean cell in omega arith
+  cell_empty : slice_index ds cell ≡ 0
+  cell_empty = let c = s.clean cell in omega arith
 
-  mark : slice_index (slice_set ds cell (control_of h)) cell ≡ control_of h
-  mark = get_or-set_same ds cell (control_of h) 0 within
+  control_at_cell : slice_index (slice_set ds cell (control_of h)) cell ≡ control_of h
+  control_at_cell = get_or-set_same ds cell (control_of h) 0 within
 
-  place : slice_index (slice_set qs cell p) cell ≡ p
-  place = let z = s.sized in get_or-set_same qs cell p 0 (omega arith)
+  place_at_cell : slice_index (slice_set qs cell p) cell ≡ p
+  place_at_cell = let z = s.sized in get_or-set_same qs cell p 0 (omega arith)
 
   pub Copied-put : Copied cs ps (slice_set ds cell (control_of h)) (slice_set qs cell p) (n + 1)
   Copied-put =
       let more = count_by_more_yes is_full cs n 0 b (le-leb 2 (slice_index cs n) f) in
       let full = full-put ds cell (control_of h) within free (omega arith) in
-      let used = used-put_empty ds cell (control_of h) within empty (omega arith) in
+      let used = used-put_empty ds cell (control_of h) within cell_empty (omega arith) in
       record {
         sized = length-set qs cell p ∙ s.sized ∙ sym (length-set ds cell (control_of h));
         full = full ∙ ap (λ k. k + 1) s.full ∙ sym more;
         used = used ∙ ap (λ k. k + 1) s.used ∙ sym more;
         clean = λ j z. elim (nat_eq j cell) as (λ t. nat_eq j cell ≡ t → ⊥) [
-          | true ↦ λ t. let e = ap (slice_index (slice_set ds cell (control_of h))) (eqb-true _ _ t) ∙ mark in omega (arith, e, z)
+          | true ↦ λ t. let e = ap (slice_index (slice_set ds cell (control_of h))) (eqb-true _ _ t) ∙ control_at_cell in omega (arith, e, z)
           | false ↦ λ t. s.clean j (sym (get_or-set_other ds cell j (control_of h) 0 (eqb-false _ _ t)) ∙ z)
         ] refl;
         origin = λ j g. elim (nat_eq j cell) as (λ t. nat_eq j cell ≡ t → (i : ℕ) × (i < n + 1) × (2 ≤ slice_index cs i) × (slice_index ps i ≡ slice_index (slice_set qs cell p) j)) [
-          | true ↦ λ t. (n, omega arith, f, sym at ∙ sym place ∙ ap (slice_index (slice_set qs cell p)) (sym (eqb-true _ _ t)))
+          | true ↦ λ t. (n, omega arith, f, sym at ∙ sym place_at_cell ∙ ap (slice_index (slice_set qs cell p)) (sym (eqb-true _ _ t)))
           | false ↦ λ t.
               let ne = eqb-false _ _ t in
               let e = get_or-set_other ds cell j (control_of h) 0 ne in
@@ -83,7 +83,7 @@ module _ (cs ps ds qs : List ℕ) (n h p cell : ℕ) (s : Copied cs ps ds qs n) 
               (r.0, omega arith, r.2, r.3 ∙ sym (get_or-set_other qs cell j p 0 ne))
         ] refl;
         target = λ i l g. elim (nat_eq i n) as (λ t. nat_eq i n ≡ t → (j : ℕ) × (2 ≤ slice_index (slice_set ds cell (control_of h)) j) × (slice_index (slice_set qs cell p) j ≡ slice_index ps i)) [
-          | true ↦ λ t. (cell, (let e = mark in omega (arith, e)), place ∙ at ∙ ap (slice_index ps) (sym (eqb-true _ _ t)))
+          | true ↦ λ t. (cell, (let e = control_at_cell in omega (arith, e)), place_at_cell ∙ at ∙ ap (slice_index ps) (sym (eqb-true _ _ t)))
           | false ↦ λ t.
               let ne = eqb-false _ _ t in
               let r = s.target i (omega (arith, ne)) g in
@@ -160,13 +160,13 @@ module _ (cs ps ds qs : List ℕ) (n h p : ℕ) (es rs : List ℕ) (b : Bool) (p
 
 -- ---- how many positions
 
-shift : (q : ℕ → Bool) (a n : ℕ) → count_by q (range_with_len (a + 1) n) ≡ count_by (λ i. q (suc i)) (range_with_len a n)
-shift q a zero = refl
-shift q a (suc n) =
+count_by-shifted_range : (q : ℕ → Bool) (a n : ℕ) → count_by q (range_with_len (a + 1) n) ≡ count_by (λ i. q (suc i)) (range_with_len a n)
+count_by-shifted_range q a zero = refl
+count_by-shifted_range q a (suc n) =
     let left = sum_by-cons (λ x. cond {A = ℕ} (q x) 1 0) (a + 1) (range_with_len (a + 1 + 1) n) in
     let right = sum_by-cons (λ x. cond {A = ℕ} (q (suc x)) 1 0) a (range_with_len (a + 1) n) in
     let first : cond {A = ℕ} (q (a + 1)) 1 0 ≡ cond {A = ℕ} (q (suc a)) 1 0 = ap (λ x. cond {A = ℕ} (q x) 1 0) (omega arith) in
-    let rest = shift q (a + 1) n in
+    let rest = count_by-shifted_range q (a + 1) n in
     omega (arith, left, right, first, rest)
 
 count_range : (q : ℕ → Bool) (cs : List ℕ) → count_by (λ i. q (slice_index cs i)) (range_with_len 0 (length cs)) ≡ count_by q cs
@@ -174,7 +174,7 @@ count_range q [] = refl
 count_range q (c ∷ cs) =
     let left = sum_by-cons (λ i. cond {A = ℕ} (q (slice_index (c ∷ cs) i)) 1 0) 0 (range_with_len 1 (length cs)) in
     let right = sum_by-cons (λ x. cond {A = ℕ} (q x) 1 0) c cs in
-    let rest = shift (λ i. q (slice_index (c ∷ cs) i)) 0 (length cs) ∙ count_range q cs in
+    let rest = count_by-shifted_range (λ i. q (slice_index (c ∷ cs) i)) 0 (length cs) ∙ count_range q cs in
     omega (arith, left, right, rest)
 
 module _ (cs ps : List ℕ) (m : ℕ → Option ℕ) (a : Files cs ps m) where

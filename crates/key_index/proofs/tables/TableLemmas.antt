@@ -45,8 +45,8 @@ module _ (cs : List ℕ) (c : ℕ) where
 some_is_none : (a : ℕ) → Some a ≡ None → ⊥
 some_is_none a e = cc
 
-pub found_first : (q : ℕ → Bool) (xs ys : List ℕ) (x : ℕ) → find q xs ≡ Some x → find q (xs ++ ys) ≡ Some x
-found_first q xs ys x e = find-append q xs ys ∙ ap (λ o. option_or o (find q ys)) e
+pub find-append_found : (q : ℕ → Bool) (xs ys : List ℕ) (x : ℕ) → find q xs ≡ Some x → find q (xs ++ ys) ≡ Some x
+find-append_found q xs ys x e = find-append q xs ys ∙ ap (λ o. option_or o (find q ys)) e
 
 pub found_second : (q : ℕ → Bool) (xs ys : List ℕ) → find q xs ≡ None → find q (xs ++ ys) ≡ find q ys
 found_second q xs ys e = find-append q xs ys ∙ ap (λ o. option_or o (find q ys)) e

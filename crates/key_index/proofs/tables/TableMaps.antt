@@ -13,12 +13,10 @@ use Rattle.std.proofs.lemmas.List.Sums.{sum_by-set, sum_by-cons}
 use Rattle.std.proofs.lemmas.List.{length-set}
 use Rattle.key_index.specs.Table.{is_used, is_full, marked, from_cell, places, home, control_of, fingerprint, with_hash, without, Files, AreCandidates}
 use Rattle.key_index.proofs.tables.TableLemmas.{marked_end, marked_here, marked_past}
+use Rattle.key_index_flat.proofs.entries.EntryLemmas.{some_not_none}
 
 some_same : {a b : ℕ} → Some a ≡ Some b → a ≡ b
 some_same e = cc
-
-some_not_none : {a : ℕ} → Some a ≡ None → ⊥
-some_not_none e = cc
 
 none_is_some : IsSome {T = ℕ} None → ⊥
 none_is_some e = absurd (cc)
@@ -54,9 +52,9 @@ Contains-from_map f (z ∷ xs) y h =
     ]
 
 -- of a cell: it is empty, or has a mark, or another one
-marks : (v c : ℕ) → (v ≡ 0) ⊎ (((v ≢ 0) × (v ≡ c)) ⊎ ((v ≢ 0) × (v ≢ c)))
-marks zero c = inl refl
-marks (suc v) c =
+zero_or_same_or_other : (v c : ℕ) → (v ≡ 0) ⊎ (((v ≢ 0) × (v ≡ c)) ⊎ ((v ≢ 0) × (v ≢ c)))
+zero_or_same_or_other zero c = inl refl
+zero_or_same_or_other (suc v) c =
     let used : suc v ≢ 0 = omega arith in
     elim (nat_eq (suc v) c) as (λ b. nat_eq (suc v) c ≡ b → (suc v ≡ 0) ⊎ (((suc v ≢ 0) × (suc v ≡ c)) ⊎ ((suc v ≢ 0) × (suc v ≢ c)))) [
       | true ↦ λ t. inr (inl (used, eqb-true _ _ t))
@@ -66,7 +64,7 @@ marks (suc v) c =
 pub marked_is : (cs : List ℕ) (c : ℕ) (cells : List ℕ) (i : ℕ) → Contains (marked cs c cells) i → (slice_index cs i ≡ c) × Contains cells i
 marked_is cs c [] i h = absurd (Contains_none i h)
 marked_is cs c (x ∷ xs) i h =
-    elim (marks (slice_index cs x) c) [
+    elim (zero_or_same_or_other (slice_index cs x) c) [
       | inl e ↦ absurd (Contains_none i (subst (λ l. Contains l i) (marked_end cs c x xs e) h))
       | inr (inl (u, e)) ↦ elim (Contains_cases x (marked cs c xs) i (subst (λ l. Contains l i) (marked_here cs c x xs u e) h)) [
         | inl s ↦ (ap (slice_index cs) (sym s) ∙ e, subst (Contains (x ∷ xs)) s (Contains-head x xs))
@@ -78,14 +76,14 @@ marked_is cs c (x ∷ xs) i h =
 -- what is marked behind a used cell is marked from it on
 marked_behind : (cs : List ℕ) (c x : ℕ) (xs : List ℕ) (i : ℕ) → slice_index cs x ≢ 0 → Contains (marked cs c xs) i → Contains (marked cs c (x ∷ xs)) i
 marked_behind cs c x xs i u h =
-    elim (marks (slice_index cs x) c) [
+    elim (zero_or_same_or_other (slice_index cs x) c) [
       | inl e ↦ absurd (u e)
       | inr (inl (_, e)) ↦ subst (λ l. Contains l i) (sym (marked_here cs c x xs u e)) (Contains-tail x (marked cs c xs) i h)
       | inr (inr (_, n)) ↦ subst (λ l. Contains l i) (sym (marked_past cs c x xs u n)) h
     ]
 
-marked_first : (cs : List ℕ) (c x : ℕ) (xs : List ℕ) (i : ℕ) → c ≢ 0 → slice_index cs i ≡ c → x ≡ i → Contains (marked cs c (x ∷ xs)) i
-marked_first cs c x xs i n e s =
+Contains-marked_head : (cs : List ℕ) (c x : ℕ) (xs : List ℕ) (i : ℕ) → c ≢ 0 → slice_index cs i ≡ c → x ≡ i → Contains (marked cs c (x ∷ xs)) i
+Contains-marked_head cs c x xs i n e s =
     let at : slice_index cs x ≡ c = ap (slice_index cs) s ∙ e in
     let used : slice_index cs x ≢ 0 = λ z. n (sym at ∙ z) in
     subst (λ l. Contains l i) (sym (marked_here cs c x xs used at)) (subst (Contains (x ∷ marked cs c xs)) s (Contains-head x (marked cs c xs)))
@@ -94,10 +92,10 @@ pub marked_kept : (cs ds : List ℕ) (c : ℕ) (cells : List ℕ) (i : ℕ) → 
     → ((x : ℕ) → slice_index cs x ≢ 0 → slice_index ds x ≢ 0) → slice_index ds i ≡ c → Contains (marked cs c cells) i → Contains (marked ds c cells) i
 marked_kept cs ds c [] i n k e h = absurd (Contains_none i h)
 marked_kept cs ds c (x ∷ xs) i n k e h =
-    elim (marks (slice_index cs x) c) [
+    elim (zero_or_same_or_other (slice_index cs x) c) [
       | inl z ↦ absurd (Contains_none i (subst (λ l. Contains l i) (marked_end cs c x xs z) h))
       | inr (inl (u, s)) ↦ elim (Contains_cases x (marked cs c xs) i (subst (λ l. Contains l i) (marked_here cs c x xs u s) h)) [
-        | inl s ↦ marked_first ds c x xs i n e s
+        | inl s ↦ Contains-marked_head ds c x xs i n e s
         | inr t ↦ marked_behind ds c x xs i (k x u) (marked_kept cs ds c xs i n k e t)
       ]
       | inr (inr (u, s)) ↦ marked_behind ds c x xs i (k x u) (marked_kept cs ds c xs i n k e (subst (λ l. Contains l i) (marked_past cs c x xs u s) h))
@@ -109,7 +107,7 @@ pub marked_put : (cs ds : List ℕ) (c : ℕ) (cells : List ℕ) (i : ℕ) → c
 marked_put cs ds c [] i n k e f = absurd (cc)
 marked_put cs ds c (x ∷ xs) i n k e f =
     elim (nat_lt (slice_index cs x) 2) as (λ b. nat_lt (slice_index cs x) 2 ≡ b → cond b (Some x) (find (λ x. nat_lt (slice_index cs x) 2) xs) ≡ Some i → Contains (marked ds c (x ∷ xs)) i) [
-      | true ↦ λ _ g. marked_first ds c x xs i n e (cc)
+      | true ↦ λ _ g. Contains-marked_head ds c x xs i n e (cc)
       | false ↦ λ t g. marked_behind ds c x xs i (k x (ltb-false _ _ t)) (marked_put cs ds c xs i n k e g)
     ] refl f
 
@@ -242,7 +240,7 @@ unfolding IsDistinct
 distinct_marked cs c f k [] d = tt
 distinct_marked cs c f k (x ∷ xs) d =
     let rest = distinct_marked cs c f k xs d.1 in
-    elim (marks (slice_index cs x) c) [
+    elim (zero_or_same_or_other (slice_index cs x) c) [
       | inl e ↦ subst (λ l. IsDistinct nat_eq (map f l)) (sym (marked_end cs c x xs e)) tt
       | inr (inl (u, e)) ↦ subst (λ l. IsDistinct nat_eq (map f l)) (sym (marked_here cs c x xs u e)) (
         list_distinct (map f (marked cs c xs)) (f x) (λ y h s.
@@ -299,8 +297,8 @@ pub record Keeps (cs ps : List ℕ) (m : ℕ → Option ℕ) : Type 0 where
   pub held : (i : ℕ) → 2 ≤ slice_index cs i → (h : ℕ) × (m (slice_index ps i) ≡ Some h) × Contains (places cs h) i
   pub apart : (i j : ℕ) → 2 ≤ slice_index cs i → 2 ≤ slice_index cs j → slice_index ps i ≡ slice_index ps j → i ≡ j
 
-pub keeps : {cs ps : List ℕ} {m : ℕ → Option ℕ} → Files cs ps m → Keeps cs ps m
-keeps s = record { held = s.held; apart = s.apart }
+pub Keeps-Files : {cs ps : List ℕ} {m : ℕ → Option ℕ} → Files cs ps m → Keeps cs ps m
+Keeps-Files s = record { held = s.held; apart = s.apart }
 
 pub files_candidates : (cs ps : List ℕ) (m : ℕ → Option ℕ) (h : ℕ) → Files cs ps m → AreCandidates m h (map (slice_index ps) (places cs h))
 files_candidates cs ps m h s = record {
@@ -322,14 +320,14 @@ files_candidates cs ps m h s = record {
 module _ (cs ps : List ℕ) (h p cell : ℕ) (sized : length ps ≡ length cs)
     (first : find (λ i. nat_lt (slice_index cs i) 2) (from_cell (length cs) (home (length cs) h)) ≡ Some cell)
     (free : slice_index cs cell < 2) (within : cell < length cs) where
-  there : slice_index (slice_set cs cell (control_of h)) cell ≡ control_of h
-  there = get_or-set_same cs cell (control_of h) 0 within
+  slice_index-put_same : slice_index (slice_set cs cell (control_of h)) cell ≡ control_of h
+  slice_index-put_same = get_or-set_same cs cell (control_of h) 0 within
 
   there_position : slice_index (slice_set ps cell p) cell ≡ p
   there_position = get_or-set_same ps cell p 0 (omega arith)
 
-  elsewhere : (i : ℕ) → i ≢ cell → slice_index (slice_set cs cell (control_of h)) i ≡ slice_index cs i
-  elsewhere i n = get_or-set_other cs cell i (control_of h) 0 n
+  slice_index-put_other : (i : ℕ) → i ≢ cell → slice_index (slice_set cs cell (control_of h)) i ≡ slice_index cs i
+  slice_index-put_other i n = get_or-set_other cs cell i (control_of h) 0 n
 
   elsewhere_position : (i : ℕ) → i ≢ cell → slice_index (slice_set ps cell p) i ≡ slice_index ps i
   elsewhere_position i n = get_or-set_other ps cell i p 0 n
@@ -338,26 +336,26 @@ module _ (cs ps : List ℕ) (h p cell : ℕ) (sized : length ps ≡ length cs)
   stays_used : (i : ℕ) → slice_index cs i ≢ 0 → slice_index (slice_set cs cell (control_of h)) i ≢ 0
   stays_used i u =
       elim (nat_eq i cell) as (λ b. nat_eq i cell ≡ b → slice_index (slice_set cs cell (control_of h)) i ≢ 0) [
-        | true ↦ λ t z. let e = ap (slice_index (slice_set cs cell (control_of h))) (eqb-true _ _ t) ∙ there in omega (arith, e, z)
-        | false ↦ λ t z. u (sym (elsewhere i (eqb-false _ _ t)) ∙ z)
+        | true ↦ λ t z. let e = ap (slice_index (slice_set cs cell (control_of h))) (eqb-true _ _ t) ∙ slice_index-put_same in omega (arith, e, z)
+        | false ↦ λ t z. u (sym (slice_index-put_other i (eqb-false _ _ t)) ∙ z)
       ] refl
 
   -- a search finds what it found before, and the cell
-  finds : (g i : ℕ) → i ≢ cell → Contains (places cs g) i → Contains (places (slice_set cs cell (control_of h)) g) i
-  finds g i n at =
+  Contains-places_put : (g i : ℕ) → i ≢ cell → Contains (places cs g) i → Contains (places (slice_set cs cell (control_of h)) g) i
+  Contains-places_put g i n at =
       subst (λ count. Contains (marked (slice_set cs cell (control_of h)) (control_of g) (from_cell count (home count g))) i) (sym (length-set cs cell (control_of h)))
       (marked_kept cs (slice_set cs cell (control_of h)) (control_of g) (from_cell (length cs) (home (length cs) g)) i (omega arith) stays_used
-      (elsewhere i n ∙ places_is cs g i at) at)
+      (slice_index-put_other i n ∙ places_is cs g i at) at)
 
   finds_cell : Contains (places (slice_set cs cell (control_of h)) h) cell
   finds_cell =
       subst (λ count. Contains (marked (slice_set cs cell (control_of h)) (control_of h) (from_cell count (home count h))) cell) (sym (length-set cs cell (control_of h)))
       (marked_put cs (slice_set cs cell (control_of h)) (control_of h) (from_cell (length cs) (home (length cs) h)) cell (omega arith)
-      (λ i f. stays_used i (omega arith)) there first)
+      (λ i f. stays_used i (omega arith)) slice_index-put_same first)
 
   -- what was full is elsewhere
-  before : (i : ℕ) → i ≢ cell → 2 ≤ slice_index (slice_set cs cell (control_of h)) i → 2 ≤ slice_index cs i
-  before i n f = let e = elsewhere i n in omega (arith, e)
+  full_before_put : (i : ℕ) → i ≢ cell → 2 ≤ slice_index (slice_set cs cell (control_of h)) i → 2 ≤ slice_index cs i
+  full_before_put i n f = let e = slice_index-put_other i n in omega (arith, e)
 
   pub put_keeps : (m n : ℕ → Option ℕ) → Keeps cs ps m → n p ≡ Some h → ((i : ℕ) → 2 ≤ slice_index cs i → slice_index ps i ≢ p)
       → ((q : ℕ) → q ≢ p → n q ≡ m q) → Keeps (slice_set cs cell (control_of h)) (slice_set ps cell p) n
@@ -366,46 +364,46 @@ module _ (cs ps : List ℕ) (h p cell : ℕ) (sized : length ps ≡ length cs)
       | true ↦ λ t. let e = eqb-true _ _ t in
           (h, ap (λ j. n (slice_index (slice_set ps cell p) j)) e ∙ ap n there_position ∙ at, subst (Contains (places (slice_set cs cell (control_of h)) h)) (sym e) finds_cell)
       | false ↦ λ t. let e = eqb-false _ _ t in
-          let was = before i e f in
+          let was = full_before_put i e f in
           let has = k.held i was in
-          (has.0, ap n (elsewhere_position i e) ∙ same (slice_index ps i) (fresh i was) ∙ has.1, finds has.0 i e has.2)
+          (has.0, ap n (elsewhere_position i e) ∙ same (slice_index ps i) (fresh i was) ∙ has.1, Contains-places_put has.0 i e has.2)
     ] refl;
     apart = λ i j f g e. elim (nat_eq i cell) as (λ b. nat_eq i cell ≡ b → i ≡ j) [
       | true ↦ λ t. elim (nat_eq j cell) as (λ b. nat_eq j cell ≡ b → i ≡ j) [
         | true ↦ λ u. eqb-true _ _ t ∙ sym (eqb-true _ _ u)
         | false ↦ λ u. let ne = eqb-false _ _ u in
-            absurd (fresh j (before j ne g) (sym (elsewhere_position j ne) ∙ sym e ∙ ap (slice_index (slice_set ps cell p)) (eqb-true _ _ t) ∙ there_position))
+            absurd (fresh j (full_before_put j ne g) (sym (elsewhere_position j ne) ∙ sym e ∙ ap (slice_index (slice_set ps cell p)) (eqb-true _ _ t) ∙ there_position))
       ] refl
       | false ↦ λ t. let ni = eqb-false _ _ t in elim (nat_eq j cell) as (λ b. nat_eq j cell ≡ b → i ≡ j) [
-        | true ↦ λ u. absurd (fresh i (before i ni f) (sym (elsewhere_position i ni) ∙ e ∙ ap (slice_index (slice_set ps cell p)) (eqb-true _ _ u) ∙ there_position))
+        | true ↦ λ u. absurd (fresh i (full_before_put i ni f) (sym (elsewhere_position i ni) ∙ e ∙ ap (slice_index (slice_set ps cell p)) (eqb-true _ _ u) ∙ there_position))
         | false ↦ λ u. let nj = eqb-false _ _ u in
-            k.apart i j (before i ni f) (before j nj g) (sym (elsewhere_position i ni) ∙ e ∙ elsewhere_position j nj)
+            k.apart i j (full_before_put i ni f) (full_before_put j nj g) (sym (elsewhere_position i ni) ∙ e ∙ elsewhere_position j nj)
       ] refl
     ] refl;
   }
 
   pub put_files : (m : ℕ → Option ℕ) → Files cs ps m → m p ≡ None → Files (slice_set cs cell (control_of h)) (slice_set ps cell p) (with_hash m p h)
   put_files m s none =
-      let fresh : (i : ℕ) → 2 ≤ slice_index cs i → slice_index ps i ≢ p = λ i f e. absurd (some_not_none (sym (s.held i f).1 ∙ ap m e ∙ none)) in
+      let fresh : (i : ℕ) → 2 ≤ slice_index cs i → slice_index ps i ≢ p = λ i f e. absurd (some_not_none _ (sym (s.held i f).1 ∙ ap m e ∙ none)) in
       let at : with_hash m p h p ≡ Some h = ap (λ b. cond b (Some h) (m p)) (eq-eqb p p refl) in
       let same : (q : ℕ) → q ≢ p → with_hash m p h q ≡ m q = λ q n. ap (λ b. cond b (Some h) (m q)) (ne_eqb q p n) in
-      let kept = put_keeps m (with_hash m p h) (keeps s) at fresh same in
+      let kept = put_keeps m (with_hash m p h) (Keeps-Files s) at fresh same in
       record {
         held = kept.held;
         apart = kept.apart;
         found = λ q is. elim (nat_eq q p) as (λ b. nat_eq q p ≡ b → (i : ℕ) × (2 ≤ slice_index (slice_set cs cell (control_of h)) i) × (slice_index (slice_set ps cell p) i ≡ q)) [
-          | true ↦ λ t. (cell, (let e = there in omega (arith, e)), there_position ∙ sym (eqb-true _ _ t))
+          | true ↦ λ t. (cell, (let e = slice_index-put_same in omega (arith, e)), there_position ∙ sym (eqb-true _ _ t))
           | false ↦ λ t.
               let has = s.found q (subst IsSome (same q (eqb-false _ _ t)) is) in
               let ne : has.0 ≢ cell = λ e. let c = ap (slice_index cs) e in let f = has.1 in omega (arith, c, f) in
-              (has.0, (let e = elsewhere has.0 ne in let f = has.1 in omega (arith, e, f)), elsewhere_position has.0 ne ∙ has.2)
+              (has.0, (let e = slice_index-put_other has.0 ne in let f = has.1 in omega (arith, e, f)), elsewhere_position has.0 ne ∙ has.2)
         ] refl;
       }
 
 -- a position taken out of its cell
 module _ (cs ps : List ℕ) (cell : ℕ) (full : 2 ≤ slice_index cs cell) where
-  left : (i : ℕ) → i ≢ cell → slice_index (slice_set cs cell 1) i ≡ slice_index cs i
-  left i n = get_or-set_other cs cell i 1 0 n
+  slice_index-freed_other : (i : ℕ) → i ≢ cell → slice_index (slice_set cs cell 1) i ≡ slice_index cs i
+  slice_index-freed_other i n = get_or-set_other cs cell i 1 0 n
 
   removed_mark : slice_index (slice_set cs cell 1) cell ≡ 1
   removed_mark = get_or-set_same cs cell 1 0 (full_within cs cell full)
@@ -414,21 +412,21 @@ module _ (cs ps : List ℕ) (cell : ℕ) (full : 2 ≤ slice_index cs cell) wher
   still_used i u =
       elim (nat_eq i cell) as (λ b. nat_eq i cell ≡ b → slice_index (slice_set cs cell 1) i ≢ 0) [
         | true ↦ λ t z. let e = ap (slice_index (slice_set cs cell 1)) (eqb-true _ _ t) ∙ removed_mark in omega (arith, e, z)
-        | false ↦ λ t z. u (sym (left i (eqb-false _ _ t)) ∙ z)
+        | false ↦ λ t z. u (sym (slice_index-freed_other i (eqb-false _ _ t)) ∙ z)
       ] refl
 
   -- what is full yet is another cell
-  other : (i : ℕ) → 2 ≤ slice_index (slice_set cs cell 1) i → i ≢ cell
-  other i f e = let z = ap (slice_index (slice_set cs cell 1)) e ∙ removed_mark in omega (arith, z)
+  full_not_freed : (i : ℕ) → 2 ≤ slice_index (slice_set cs cell 1) i → i ≢ cell
+  full_not_freed i f e = let z = ap (slice_index (slice_set cs cell 1)) e ∙ removed_mark in omega (arith, z)
 
   was_full : (i : ℕ) → 2 ≤ slice_index (slice_set cs cell 1) i → 2 ≤ slice_index cs i
-  was_full i f = let e = left i (other i f) in omega (arith, e)
+  was_full i f = let e = slice_index-freed_other i (full_not_freed i f) in omega (arith, e)
 
   still_finds : (g i : ℕ) → i ≢ cell → Contains (places cs g) i → Contains (places (slice_set cs cell 1) g) i
   still_finds g i n at =
       subst (λ count. Contains (marked (slice_set cs cell 1) (control_of g) (from_cell count (home count g))) i) (sym (length-set cs cell 1))
       (marked_kept cs (slice_set cs cell 1) (control_of g) (from_cell (length cs) (home (length cs) g)) i (omega arith) still_used
-      (left i n ∙ places_is cs g i at) at)
+      (slice_index-freed_other i n ∙ places_is cs g i at) at)
 
   pub removed_files : (m : ℕ → Option ℕ) (p : ℕ) → slice_index ps cell ≡ p → Files cs ps m → Files (slice_set cs cell 1) ps (without m p)
   removed_files m p at s =
@@ -436,7 +434,7 @@ module _ (cs ps : List ℕ) (cell : ℕ) (full : 2 ≤ slice_index cs cell) wher
       record {
         held = λ i f.
             let has = s.held i (was_full i f) in
-            let ne = other i f in
+            let ne = full_not_freed i f in
             let apart : slice_index ps i ≢ p = λ e. ne (s.apart i cell (was_full i f) full (e ∙ sym at)) in
             (has.0, same (slice_index ps i) apart ∙ has.1, still_finds has.0 i ne has.2);
         apart = λ i j f g e. s.apart i j (was_full i f) (was_full j g) e;
@@ -445,7 +443,7 @@ module _ (cs ps : List ℕ) (cell : ℕ) (full : 2 ≤ slice_index cs cell) wher
           | false ↦ λ t.
               let has = s.found q (subst (λ b. IsSome (cond b None (m q))) t is) in
               let ne : has.0 ≢ cell = λ e. eqb-false _ _ t (sym has.2 ∙ ap (slice_index ps) e ∙ at) in
-              (has.0, (let e = left has.0 ne in let f = has.1 in omega (arith, e, f)), has.2)
+              (has.0, (let e = slice_index-freed_other has.0 ne in let f = has.1 in omega (arith, e, f)), has.2)
         ] refl;
       }
 

@@ -1,11 +1,11 @@
 -- A closure that is asked on one value of a list after another: what `find` and `retain` of a cursor do.
---     drop-value, take-value      what is left at a place, and what is behind it, by the value there
---     drop-remove, take-remove    and after that value is taken out
---     AskedTo                     f was asked on the values from a place to another, and said false of each
---     asked_more                  and of the next one
---     found, found_none           where `find` ends
---     KeptTo                      what f said of the values before stands in the list, and the rest is still to be asked on
---     kept_first, ..              at the start, after a value that stays, after one that goes, and at the end
+--     drop-value, take-value                what is left at a place, and what is behind it, by the value there
+--     drop-remove, take-remove              and after that value is taken out
+--     AskedTo                               f was asked on the values from a place to another, and said false of each
+--     asked_more                            and of the next one
+--     Finds-by_asking, FindsNone-by_asking  where `find` ends
+--     KeptTo                                what f said of the values before stands in the list, and the rest is still to be asked on
+--     kept_first, ..                        at the start, after a value that stays, after one that goes, and at the end
 use Rattle.std.proofs.Common.{◌≡◌, ℕ, suc, ◌+◌, ◌-◌, ◌<◌, ◌≤◌, Bool, true, false, cond, List, [], ◌∷◌, ◌++◌, length, take, drop, replicate, slice_get, Some, nat_lt, refl, sym, ap, subst, ◌∙◌, arith, length-drop, append-nil, append_assoc}
 use Rattle.std.proofs.lemmas.Bool.{lt-ltb, le-ltb}
 use Rattle.std.proofs.lemmas.List.{replicate_more, take_at, length-take-le}
@@ -41,25 +41,25 @@ module _ {F V : Type 0} where
     abbrev pub AskedTo : F → List V → ℕ → ℕ → F → Type 0
     AskedTo f xs start at now = (bs : List Bool) (last : F) → ReturnsInTurn R now bs (drop at xs) last → ReturnsInTurn R f (replicate (at - start) false ++ bs) (drop start xs) last
 
-    answers : (f : F) (bs cs : List Bool) (xs : List V) (last : F) → bs ≡ cs → ReturnsInTurn R f bs xs last → ReturnsInTurn R f cs xs last
-    answers f bs cs xs last e h = subst (λ (x : List Bool). ReturnsInTurn R f x xs last) e h
+    ReturnsInTurn-same_answers : (f : F) (bs cs : List Bool) (xs : List V) (last : F) → bs ≡ cs → ReturnsInTurn R f bs xs last → ReturnsInTurn R f cs xs last
+    ReturnsInTurn-same_answers f bs cs xs last e h = subst (λ (x : List Bool). ReturnsInTurn R f x xs last) e h
 
-    values : (f : F) (bs : List Bool) (xs ys : List V) (last : F) → xs ≡ ys → ReturnsInTurn R f bs xs last → ReturnsInTurn R f bs ys last
-    values f bs xs ys last e h = subst (λ (x : List V). ReturnsInTurn R f bs x last) e h
+    ReturnsInTurn-same_values : (f : F) (bs : List Bool) (xs ys : List V) (last : F) → xs ≡ ys → ReturnsInTurn R f bs xs last → ReturnsInTurn R f bs ys last
+    ReturnsInTurn-same_values f bs xs ys last e h = subst (λ (x : List V). ReturnsInTurn R f bs x last) e h
 
-    pub asked_none : (f : F) (xs : List V) (start : ℕ) → AskedTo f xs start start f
-    asked_none f xs start bs last h = let none : 0 ≡ start - start = omega arith in answers f bs _ (drop start xs) last (ap (λ n. replicate n false ++ bs) none) h
+    pub AskedTo-none : (f : F) (xs : List V) (start : ℕ) → AskedTo f xs start start f
+    AskedTo-none f xs start bs last h = let none : 0 ≡ start - start = omega arith in ReturnsInTurn-same_answers f bs _ (drop start xs) last (ap (λ n. replicate n false ++ bs) none) h
 
     pub asked_more : (f now next : F) (xs : List V) (start at : ℕ) (x : V) → start ≤ at → slice_get xs at ≡ Some x → R now x false next → AskedTo f xs start at now → AskedTo f xs start (at + 1) next
     asked_more f now next xs start at x from e said asked bs last h =
         let more : at - start + 1 ≡ at + 1 - start = omega (arith, from) in
-        answers f _ _ (drop start xs) last
+        ReturnsInTurn-same_answers f _ _ (drop start xs) last
         (sym (append_assoc (replicate (at - start) false) (false ∷ []) bs) ∙ ap (λ y. y ++ bs) (replicate_more (at - start) false) ∙ ap (λ n. replicate n false ++ bs) more)
-        (asked (false ∷ bs) last (values now (false ∷ bs) _ _ last (sym (drop-value xs at x e)) (next, said, h)))
+        (asked (false ∷ bs) last (ReturnsInTurn-same_values now (false ∷ bs) _ _ last (sym (drop-value xs at x e)) (next, said, h)))
 
-    pub found : (f now last : F) (xs : List V) (p : Place) (at n : ℕ) (x : V) (new : Place) → length xs ≡ n → next_place xs p ≤ at → slice_get xs at ≡ Some x → R now x true last
+    pub Finds-by_asking : (f now last : F) (xs : List V) (p : Place) (at n : ℕ) (x : V) (new : Place) → length xs ≡ n → next_place xs p ≤ at → slice_get xs at ≡ Some x → R now x true last
         → AskedTo f xs (next_place xs p) at now → new ≡ place_from xs at → MatchBool (nat_lt at n) (Finds R f xs p new) (FindsNone R f xs p new)
-    found f now last xs p at n x new len from e said asked goes =
+    Finds-by_asking f now last xs p at n x new len from e said asked goes =
         let within : at < length xs = slice_get_within xs at x e in
         let start = next_place xs p in
         let left = length-drop start xs in
@@ -69,20 +69,20 @@ module _ {F V : Type 0} where
           at - start,
           last,
           omega (arith, left, within, from),
-          asked (true ∷ []) last (values now (true ∷ []) _ _ last (sym (drop-value xs at x e)) (last, said, refl)),
+          asked (true ∷ []) last (ReturnsInTurn-same_values now (true ∷ []) _ _ last (sym (drop-value xs at x e)) (last, said, refl)),
           goes ∙ ap (λ b. cond b (Active at) Done) (lt-ltb at (length xs) within) ∙ ap (λ i. Active i) place,
         )
 
-    pub found_none : (f now : F) (xs : List V) (p : Place) (at n : ℕ) (new : Place) → length xs ≡ n → next_place xs p ≤ at → at ≡ n
+    pub FindsNone-by_asking : (f now : F) (xs : List V) (p : Place) (at n : ℕ) (new : Place) → length xs ≡ n → next_place xs p ≤ at → at ≡ n
         → AskedTo f xs (next_place xs p) at now → new ≡ place_from xs at → MatchBool (nat_lt at n) (Finds R f xs p new) (FindsNone R f xs p new)
-    found_none f now xs p at n new len from all asked goes =
+    FindsNone-by_asking f now xs p at n new len from all asked goes =
         let start = next_place xs p in
         let left = length-drop start xs in
         let count : at - start ≡ length (drop start xs) = omega (arith, left, all, len) in
         let at_n : nat_lt at n ≡ false = le-ltb at n (omega (arith, all)) in
         let past : nat_lt at (length xs) ≡ false = le-ltb at (length xs) (omega (arith, all, len)) in
         subst (λ (b : Bool). MatchBool b (Finds R f xs p new) (FindsNone R f xs p new)) (sym at_n)
-        (now, answers f _ _ (drop start xs) now (append-nil _ ∙ ap (λ k. replicate k false) count) (asked [] now refl), goes ∙ ap (λ b. cond b (Active at) Done) past)
+        (now, ReturnsInTurn-same_answers f _ _ (drop start xs) now (append-nil _ ∙ ap (λ k. replicate k false) count) (asked [] now refl), goes ∙ ap (λ b. cond b (Active at) Done) past)
 
     -- f was asked on xs from a place on: the list is now `front`, which is decided, and `back`, which is not
     abbrev pub KeptTo : F → List V → ℕ → F → List V → List V → Type 0
@@ -105,7 +105,7 @@ module _ {F V : Type 0} where
     kept_parts f now xs front front' back back' start e h kept =
         subst (λ (b : List V). KeptTo f xs start now front' b) h (subst (λ (a : List V). KeptTo f xs start now a back) e kept)
 
-    pub retained : (f now : F) (xs ys : List V) (p : Place) → KeptTo f xs (next_place xs p) now ys [] → Retains R f xs p ys
-    retained f now xs ys p kept =
+    pub Retains-KeptTo : (f now : F) (xs ys : List V) (p : Place) → KeptTo f xs (next_place xs p) now ys [] → Retains R f xs p ys
+    Retains-KeptTo f now xs ys p kept =
         let all = kept [] now refl refl in
         (items_where_true all.0 (values_left xs p), (all.0, now, all.1, all.2, refl), sym (all.3 ∙ append-nil ys))

@@ -11,7 +11,7 @@ use Rattle.key_index_flat.specs.Content.{list_at}
 use Rattle.key_index_flat.specs.Retention.{AsksBehind, AsksInTurn, RetainsFrom}
 use Rattle.key_index_flat.specs.Storage.{value_of, content_of, IsLinked}
 use Rattle.key_index_flat.proofs.asked.TurnLemmas.{asked_few, asked_same, asks_behind, some_taken}
-use Rattle.key_index_flat.proofs.content.EditLemmas.{list_is}
+use Rattle.key_index_flat.proofs.content.EditLemmas.{list-newest_first}
 
 module _ {K V : Type 0} {cmp : K → K → Ordering} (o : IsTotalOrder cmp) (exact : (x y : K) → cmp x y ≡ Equal → x ≡ y)
     (heads : List (K × V)) (older later : K → List V) (k : K) (linked : IsLinked cmp heads older) (newest : V) (some : value_of cmp heads k ≡ Some newest)
@@ -23,27 +23,27 @@ module _ {K V : Type 0} {cmp : K → K → Ordering} (o : IsTotalOrder cmp) (exa
   abbrev kept : List V
   kept = cond b (newest ∷ reverse (later k)) (reverse (later k))
 
-  is : held ≡ newest ∷ reverse (older k)
-  is = list_is o exact heads older older k linked newest some
+  held_newest_first : held ≡ newest ∷ reverse (older k)
+  held_newest_first = list-newest_first o exact heads older older k linked newest some
 
   asked_behind : AsksInTurn R f true (held ++ v ∷ []) kept stays
   asked_behind =
       asked_same R f true _ _ _ _ stays asked
-      (ap (λ l. newest ∷ l) (reverse-append (v ∷ []) (older k)) ∙ ap (λ l. l ++ v ∷ []) (sym is))
+      (ap (λ l. newest ∷ l) (reverse-append (v ∷ []) (older k)) ∙ ap (λ l. l ++ v ∷ []) (sym held_newest_first))
       (ap (λ s. cond s (newest ∷ reverse (later k)) (reverse (later k))) told)
 
   pub few_left : length kept ≤ length (older k) + 1 + 1
   few_left =
       let few = asked_few R f true _ _ stays asked_behind in
       let all = length-append held (v ∷ []) in
-      let long = ap (λ l. length l) is in
+      let long = ap (λ l. length l) held_newest_first in
       let back = length-reverse (older k) in
       omega (arith, few, all, long, back)
 
   module _ (taken : ℕ) (counts : length (older k) + 1 + 1 ≡ taken + length kept) where
     counts_held : length held + 1 ≡ taken + length kept
     counts_held =
-        let long = ap (λ l. length l) is in
+        let long = ap (λ l. length l) held_newest_first in
         let back = length-reverse (older k) in
         omega (arith, counts, long, back)
 

@@ -3,7 +3,7 @@
 --     swap_take                         a value that goes to the front
 --     Turned                            what a loop has done up to a place
 --     turned_first, ..                  at the start, after a value that stays, after one that goes, of the same, and at the end
---     asked_first, asked_none           a list with one value more in front, and an empty one
+--     asked_first, AsksInTurn-none      a list with one value more in front, and an empty one
 --     asked_same                        where the lists are known by other names
 --     asked_few                         no more are left than there were
 --     asks_behind, some_taken           a value that was put behind others, where all of these were asked on then
@@ -83,21 +83,21 @@ module _ {F X : Type 0} (R : F → X → Bool → F → Type 0) where
 
   module _ (f : F) (before : Bool) (xs ys : List X) (now next : F) (kept at : ℕ) (stays : Bool) (t : Turned f before xs ys now kept at stays)
       (x : X) (inside : at < length ys) (here : x ≡ get_or ys at x) where
-    below : length t.answers < length xs
-    below = omega (arith, inside, t.sized, t.count)
+    answers_fewer_than_values : length t.answers < length xs
+    answers_fewer_than_values = omega (arith, inside, t.sized, t.count)
 
-    there : get_or xs (length t.answers) x ≡ x
-    there = ap (λ n. get_or xs n x) t.count ∙ sym (t.back at x (omega arith)) ∙ sym here
+    get_or-next_asked : get_or xs (length t.answers) x ≡ x
+    get_or-next_asked = ap (λ n. get_or xs n x) t.count ∙ sym (t.back at x (omega arith)) ∙ sym here
 
-    counted : (b : Bool) → length (t.answers ++ b ∷ []) ≡ at + 1
-    counted b = length-append t.answers (b ∷ []) ∙ ap (λ n. n + 1) t.count
+    length-answer_added : (b : Bool) → length (t.answers ++ b ∷ []) ≡ at + 1
+    length-answer_added b = length-append t.answers (b ∷ []) ∙ ap (λ n. n + 1) t.count
 
     pub turned_more : (zs : List X) → R now x true next → SwappedAt ys zs kept at → length zs ≡ length ys → Turned f before xs zs next (kept + 1) (at + 1) true
     turned_more zs said swapped long = record {
       answers = t.answers ++ true ∷ [];
-      count = counted true;
-      asked = turn_push f now next t.answers xs x true below there t.asked said;
-      front = swap_take ys zs kept at x t.within inside (sym here) swapped ∙ ap (λ l. l ++ x ∷ []) t.front ∙ sym (kept_push t.answers xs x true below there);
+      count = length-answer_added true;
+      asked = turn_push f now next t.answers xs x true answers_fewer_than_values get_or-next_asked t.asked said;
+      front = swap_take ys zs kept at x t.within inside (sym here) swapped ∙ ap (λ l. l ++ x ∷ []) t.front ∙ sym (kept_push t.answers xs x true answers_fewer_than_values get_or-next_asked);
       back = λ i d h. swapped.2 i d (λ e. let w = t.within in omega (arith, h, w, e)) (λ e. omega (arith, h, e)) ∙ t.back i d (omega (arith, h));
       sized = long ∙ t.sized;
       within = let w = t.within in omega (arith, w);
@@ -107,9 +107,9 @@ module _ {F X : Type 0} (R : F → X → Bool → F → Type 0) where
     pub turned_less : R now x false next → Turned f before xs ys next kept (at + 1) false
     turned_less said = record {
       answers = t.answers ++ false ∷ [];
-      count = counted false;
-      asked = turn_push f now next t.answers xs x false below there t.asked said;
-      front = t.front ∙ sym (append-nil (items_where_true t.answers xs)) ∙ sym (kept_push t.answers xs x false below there);
+      count = length-answer_added false;
+      asked = turn_push f now next t.answers xs x false answers_fewer_than_values get_or-next_asked t.asked said;
+      front = t.front ∙ sym (append-nil (items_where_true t.answers xs)) ∙ sym (kept_push t.answers xs x false answers_fewer_than_values get_or-next_asked);
       back = λ i d h. t.back i d (omega (arith, h));
       sized = t.sized;
       within = let w = t.within in omega (arith, w);
@@ -141,8 +141,8 @@ module _ {F V : Type 0} (step : F → V → Bool → F → Type 0) where
       subst (λ (l : List V). AsksInTurn step f before xs' l stays) d (subst (λ (l : List V). AsksInTurn step f before l ys stays) e h)
 
   -- and of no value
-  pub asked_none : (f : F) (before : Bool) → AsksInTurn step f before [] [] before
-  asked_none f before = ([], f, refl, refl, refl, refl)
+  pub AsksInTurn-none : (f : F) (before : Bool) → AsksInTurn step f before [] [] before
+  AsksInTurn-none f before = ([], f, refl, refl, refl, refl)
 
   -- no more are left than there were
   pub asked_few : (f : F) (before : Bool) (xs ys : List V) (stays : Bool) → AsksInTurn step f before xs ys stays → length ys ≤ length xs
@@ -180,24 +180,24 @@ module _ {V : Type 0} where
 -- a value that was put behind others, where all of these were asked on then; taken: of the others and the value
 module _ {V F : Type 0} (R : F → V → Bool → F → Type 0) (f : F) (held : List V) (v : V) (kept : List V) (stays : Bool) (taken : ℕ)
     (asked : AsksInTurn R f true (held ++ v ∷ []) kept stays) (counts : length held + 1 ≡ taken + length kept) where
-  long : length asked.0 ≡ length held + 1
-  long = asked.2 ∙ length-append held (v ∷ [])
+  length-asked_behind : length asked.0 ≡ length held + 1
+  length-asked_behind = asked.2 ∙ length-append held (v ∷ [])
 
   counted_of : taken + length (items_where_true asked.0 (held ++ v ∷ [])) ≡ length held + 1
   counted_of = ap (λ l. taken + length l) (sym asked.4) ∙ sym counts
 
   pub some_taken : stays ≡ false → 1 ≤ taken
-  some_taken goes = one_taken asked.0 held v taken long (sym asked.5 ∙ goes) counted_of
+  some_taken goes = one_taken asked.0 held v taken length-asked_behind (sym asked.5 ∙ goes) counted_of
 
   -- left: how many of the others are gone
   pub asks_behind : (left : ℕ) → taken ≡ left + cond stays 0 1 → AsksBehind R f held v kept left
   asks_behind left most = record {
     answers = asked.0;
     last = asked.1;
-    long = long;
+    long = length-asked_behind;
     asked = asked.3;
     kept = asked.4;
-    taken = held_taken asked.0 held v stays taken left long asked.5 counted_of most;
+    taken = held_taken asked.0 held v stays taken left length-asked_behind asked.5 counted_of most;
   }
 
 -- where a closure was asked on values behind others

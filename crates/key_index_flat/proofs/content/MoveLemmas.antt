@@ -16,7 +16,7 @@ use Rattle.std.proofs.lemmas.Map.{lookup-none}
 use Rattle.std.proofs.lemmas.Map.Keys.{IsDistinct-head, IsDistinct-tail}
 use Rattle.key_index_flat.specs.Storage.{Sets}
 use Rattle.key_index_flat.proofs.content.KeyLemmas.{Sets_by_eq}
-use Rattle.key_index_flat.proofs.content.PairLemmas.{apart, distinct_permuted, same_lookup}
+use Rattle.key_index_flat.proofs.content.PairLemmas.{NonePasses-keys, distinct_permuted, same_lookup}
 
 module _ {K V : Type 0} (test : K → Bool) where
   lookup_last : (pairs : List (K × V)) (e : K × V) → lookup test (pairs ++ e ∷ []) ≡ option_or (lookup test pairs) (cond (test e.0) (Some e.1) None)
@@ -27,14 +27,14 @@ module _ {K V : Type 0} (test : K → Bool) where
         | false ↦ lookup_last ds e
       ]
 
-regroup : {V : Type 0} (had m : Option V) (b : Bool) (v : V) → option_or had (cond b (Some v) m) ≡ option_or (option_or had (cond b (Some v) None)) m
-regroup (Some x) m b v = refl
-regroup None m true v = refl
-regroup None m false v = refl
+option_or-cond : {V : Type 0} (had m : Option V) (b : Bool) (v : V) → option_or had (cond b (Some v) m) ≡ option_or (option_or had (cond b (Some v) None)) m
+option_or-cond (Some x) m b v = refl
+option_or-cond None m true v = refl
+option_or-cond None m false v = refl
 
-still : {V : Type 0} (had next : Option V) → is_some had ≡ true → is_some (option_or had next) ≡ true
-still (Some x) next is = refl
-still None next is = cc
+is_some-option_or : {V : Type 0} (had next : Option V) → is_some had ≡ true → is_some (option_or had next) ≡ true
+is_some-option_or (Some x) next is = refl
+is_some-option_or None next is = cc
 
 last_found : {V : Type 0} (had : Option V) (b : Bool) (v : V) → b ≡ true → is_some (option_or had (cond b (Some v) None)) ≡ true
 last_found (Some x) b v is = refl
@@ -56,25 +56,25 @@ module _ {K V : Type 0} {eq : K → K → Bool} (laws : IsEquivalence eq) where
     pub new_key : lookup (eq k) moved ≡ None
     new_key = so_far.apart k (ap is_some (lookup_last (eq k) pairs (k, v)) ∙ last_found (lookup (eq k) pairs) (eq k k) v (laws.refl k))
 
-    all : IsDistinct eq (keys_of ((k, v) ∷ pairs))
-    all = distinct_permuted laws (pairs ++ (k, v) ∷ []) ((k, v) ∷ pairs) so_far.distinct (IsPermutation-to_front pairs (k, v))
+    IsDistinct-moved_and_others : IsDistinct eq (keys_of ((k, v) ∷ pairs))
+    IsDistinct-moved_and_others = distinct_permuted laws (pairs ++ (k, v) ∷ []) ((k, v) ∷ pairs) so_far.distinct (IsPermutation-to_front pairs (k, v))
 
-    gone : lookup (eq k) pairs ≡ None
-    gone = lookup-none (eq k) pairs (apart (eq k) pairs (IsDistinct-head eq k (keys_of pairs) all))
+    lookup-moved_key : lookup (eq k) pairs ≡ None
+    lookup-moved_key = lookup-none (eq k) pairs (NonePasses-keys (eq k) pairs (IsDistinct-head eq k (keys_of pairs) IsDistinct-moved_and_others))
 
     pub one_less : (more : List (K × V)) → ((q : K) → lookup (eq q) more ≡ cond (eq k q) (Some v) (lookup (eq q) moved)) → length more ≡ length moved + 1 → Moving start pairs more
     one_less more puts len = record {
       values = λ q.
           ap (λ m. option_or (lookup (eq q) pairs) m) (puts q ∙ ap (λ b. cond b (Some v) (lookup (eq q) moved)) (laws.symm k q))
-          ∙ regroup (lookup (eq q) pairs) (lookup (eq q) moved) (eq q k) v
+          ∙ option_or-cond (lookup (eq q) pairs) (lookup (eq q) moved) (eq q k) v
           ∙ ap (λ o. option_or o (lookup (eq q) moved)) (sym (lookup_last (eq q) pairs (k, v)))
           ∙ so_far.values q;
       apart = λ q is.
           puts q ∙ elim (eq k q) as (λ b. eq k q ≡ b → cond b (Some v) (lookup (eq q) moved) ≡ None) [
-            | true ↦ λ same. let none = sym (same_lookup laws k q same pairs) ∙ gone in let some = sym is ∙ ap is_some none in cc
-            | false ↦ λ _. so_far.apart q (ap is_some (lookup_last (eq q) pairs (k, v)) ∙ still (lookup (eq q) pairs) _ is)
+            | true ↦ λ same. let none = sym (same_lookup laws k q same pairs) ∙ lookup-moved_key in let some = sym is ∙ ap is_some none in cc
+            | false ↦ λ _. so_far.apart q (ap is_some (lookup_last (eq q) pairs (k, v)) ∙ is_some-option_or (lookup (eq q) pairs) _ is)
           ] refl;
-      distinct = IsDistinct-tail eq k (keys_of pairs) all;
+      distinct = IsDistinct-tail eq k (keys_of pairs) IsDistinct-moved_and_others;
       len = omega (arith, so_far.len, len, length-append pairs ((k, v) ∷ []));
     }
 

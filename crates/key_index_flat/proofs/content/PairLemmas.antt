@@ -1,5 +1,5 @@
 -- On pairs of keys that differ, in an array.
---     none_found, found                    what a look-up finds, by the places
+--     none_found, lookup-at_place          what a look-up finds, by the places
 --     after_set, after_push, after_take    after another value at a place, one more pair, and one that the last replaces
 use Rattle.std.proofs.Common.{◌≡◌, ℕ, zero, suc, ◌<◌, ◌≤◌, Bool, true, false, cond, is_some, List, [], ◌∷◌, ◌++◌, length, get_or, Option, Some, None, slice_get, slice_set, refl, sym, ap, subst, ◌∙◌, arith}
 use Rattle.std.specs.declared.cmp.Ordering.{Ordering}
@@ -20,17 +20,17 @@ use Rattle.key_index_flat.specs.Storage.{value_of, Sets}
 use Rattle.key_index_flat.proofs.content.KeyLemmas.{value_by_eq, Sets_by_eq}
 
 module _ {K V : Type 0} (eq : K → K → Bool) (k : K) where
-  absent : (pairs : List (K × V)) → NoneBefore eq pairs (length pairs) k → NonePasses (eq k) pairs
-  absent [] none = tt
-  absent (e ∷ es) none = (none 0 e (omega arith) refl, absent es (λ i d below at. none (suc i) d (omega arith) at))
+  NonePasses-NoneBefore : (pairs : List (K × V)) → NoneBefore eq pairs (length pairs) k → NonePasses (eq k) pairs
+  NonePasses-NoneBefore [] none = tt
+  NonePasses-NoneBefore (e ∷ es) none = (none 0 e (omega arith) refl, NonePasses-NoneBefore es (λ i d below at. none (suc i) d (omega arith) at))
 
   pub none_found : (pairs : List (K × V)) (place : ℕ) → length pairs ≤ place → NoneBefore eq pairs place k → lookup (eq k) pairs ≡ None
-  none_found pairs place past none = lookup-none (eq k) pairs (absent pairs (λ i e below at. none i e (omega arith) at))
+  none_found pairs place past none = lookup-none (eq k) pairs (NonePasses-NoneBefore pairs (λ i e below at. none i e (omega arith) at))
 
 module _ {K V : Type 0} (test : K → Bool) where
-  pub apart : (pairs : List (K × V)) → AllByRecursion (λ y. test y ≡ false) (keys_of pairs) → NonePasses test pairs
-  apart [] h = tt
-  apart (e ∷ es) h = (h.0, apart es h.1)
+  pub NonePasses-keys : (pairs : List (K × V)) → AllByRecursion (λ y. test y ≡ false) (keys_of pairs) → NonePasses test pairs
+  NonePasses-keys [] h = tt
+  NonePasses-keys (e ∷ es) h = (h.0, NonePasses-keys es h.1)
 
   lookup_push : (pairs : List (K × V)) (e : K × V) → NonePasses test pairs → test e.0 ≡ true → lookup test (pairs ++ e ∷ []) ≡ Some e.1
   lookup_push [] e none is = ap (λ b. cond b (Some e.1) None) is
@@ -52,10 +52,10 @@ keys_set [] i e w at = refl
 keys_set (d ∷ ds) zero e w at = let same : e ≡ d = cc in ap (λ x. x.0 ∷ keys_of ds) same
 keys_set (d ∷ ds) (suc i) e w at = ap (λ l. d.0 ∷ l) (keys_set ds i e w at)
 
-there : {X : Type 0} (xs : List X) (i : ℕ) (x y : X) → slice_get xs i ≡ Some x → slice_get (slice_set xs i y) i ≡ Some y
-there [] i x y at = cc
-there (z ∷ zs) zero x y at = refl
-there (z ∷ zs) (suc i) x y at = there zs i x y at
+slice_get-set_same : {X : Type 0} (xs : List X) (i : ℕ) (x y : X) → slice_get xs i ≡ Some x → slice_get (slice_set xs i y) i ≡ Some y
+slice_get-set_same [] i x y at = cc
+slice_get-set_same (z ∷ zs) zero x y at = refl
+slice_get-set_same (z ∷ zs) (suc i) x y at = slice_get-set_same zs i x y at
 
 -- another key than k is another key than one that is equal to it
 other_key : {K : Type 0} {eq : K → K → Bool} → IsEquivalence eq → (k x q : K) → eq k x ≡ true → eq k q ≡ false → eq q x ≡ false
@@ -72,8 +72,8 @@ module _ {K V : Type 0} {eq : K → K → Bool} (laws : IsEquivalence eq) where
   same_lookup k x is pairs = ap (λ (t : K → Bool). lookup t pairs) (λ i y. laws.congr k x y is i)
 
   module _ (pairs : List (K × V)) (differ : IsDistinct eq (keys_of pairs)) where
-    pub found : (k : K) (place : ℕ) (e : K × V) → slice_get pairs place ≡ Some e → eq k e.0 ≡ true → lookup (eq k) pairs ≡ Some e.1
-    found k place e at is = same_lookup k e.0 is pairs ∙ lookup_from_place laws pairs place e.0 e.1 differ at
+    pub lookup-at_place : (k : K) (place : ℕ) (e : K × V) → slice_get pairs place ≡ Some e → eq k e.0 ≡ true → lookup (eq k) pairs ≡ Some e.1
+    lookup-at_place k place e at is = same_lookup k e.0 is pairs ∙ lookup_from_place laws pairs place e.0 e.1 differ at
 
   module _ (pairs : List (K × V)) (differ : IsDistinct eq (keys_of pairs)) where
     pub after_set : (k : K) (place : ℕ) (e : K × V) (w : V) → slice_get pairs place ≡ Some e → eq k e.0 ≡ true → Edits pairs (slice_set pairs place (e.0, w)) k (Some w)
@@ -81,7 +81,7 @@ module _ {K V : Type 0} {eq : K → K → Bool} (laws : IsEquivalence eq) where
         let new = slice_set pairs place (e.0, w) in
         let distinct : IsDistinct eq (keys_of new) = subst (IsDistinct eq) (sym (keys_set pairs place e w at)) differ in
         record {
-          at = found new distinct k place (e.0, w) (there pairs place e (e.0, w) at) is;
+          at = lookup-at_place new distinct k place (e.0, w) (slice_get-set_same pairs place e (e.0, w) at) is;
           others = λ q not. others_set (eq q) pairs place e w at (other_key laws k e.0 q is not);
           distinct = distinct;
         }
@@ -96,21 +96,21 @@ module _ {K V : Type 0} {eq : K → K → Bool} (laws : IsEquivalence eq) where
   pub distinct_permuted : (xs ys : List (K × V)) → IsDistinct eq (keys_of xs) → IsPermutation xs ys → IsDistinct eq (keys_of ys)
   distinct_permuted xs ys differ moved = IsDistinct-IsPermutation eq laws.symm (keys_of xs) (keys_of ys) (IsPermutation-map (λ (e : K × V). e.0) xs ys moved) differ
 
-  present : (q : K) (xs ys : List (K × V)) (v : V) → IsDistinct eq (keys_of ys) → IsPermutation xs ys → lookup (eq q) xs ≡ Some v → lookup (eq q) ys ≡ Some v
-  present q xs ys v differ moved some =
+  lookup-permuted_some : (q : K) (xs ys : List (K × V)) (v : V) → IsDistinct eq (keys_of ys) → IsPermutation xs ys → lookup (eq q) xs ≡ Some v → lookup (eq q) ys ≡ Some v
+  lookup-permuted_some q xs ys v differ moved some =
       let p = place_from_lookup (eq q) xs v some in
       let e : K × V = (p.1, v) in
       let in_xs : Contains xs e = (p.0, slice_get_within xs p.0 e p.2, get_or_from_slice_get xs p.0 e e p.2) in
       let in_ys = Contains-permutation xs ys e moved in_xs in
-      found ys differ q in_ys.0 e (slice_get-get_or ys in_ys.0 e in_ys.1 ∙ ap (λ x. Some x) in_ys.2) p.3
+      lookup-at_place ys differ q in_ys.0 e (slice_get-get_or ys in_ys.0 e in_ys.1 ∙ ap (λ x. Some x) in_ys.2) p.3
 
   -- pairs in another order
-  pub permuted : (q : K) (xs ys : List (K × V)) → IsDistinct eq (keys_of xs) → IsPermutation xs ys → lookup (eq q) ys ≡ lookup (eq q) xs
-  permuted q xs ys differ moved =
+  pub lookup-permuted : (q : K) (xs ys : List (K × V)) → IsDistinct eq (keys_of xs) → IsPermutation xs ys → lookup (eq q) ys ≡ lookup (eq q) xs
+  lookup-permuted q xs ys differ moved =
       elim (lookup (eq q) xs) as (λ o. lookup (eq q) xs ≡ o → lookup (eq q) ys ≡ o) [
-        | Some v ↦ λ some. present q xs ys v (distinct_permuted xs ys differ moved) moved some
+        | Some v ↦ λ some. lookup-permuted_some q xs ys v (distinct_permuted xs ys differ moved) moved some
         | None ↦ λ none. elim (lookup (eq q) ys) as (λ o. lookup (eq q) ys ≡ o → o ≡ None) [
-          | Some v ↦ λ some. let back = present q ys xs v differ (IsPermutation-sym xs ys moved) some in cc
+          | Some v ↦ λ some. let back = lookup-permuted_some q ys xs v differ (IsPermutation-sym xs ys moved) some in cc
           | None ↦ λ _. refl
         ] refl
       ] refl
@@ -122,8 +122,8 @@ module _ {K V : Type 0} {eq : K → K → Bool} (laws : IsEquivalence eq) where
         let moved : IsPermutation pairs (e ∷ new) = IsPermutation-swap_remove pairs place e (slice_get_within pairs place e at) (sym (get_or_from_slice_get pairs place e e at)) in
         let all = distinct_permuted pairs (e ∷ new) differ moved in
         record {
-          at = same_lookup k e.0 is new ∙ lookup-none (eq e.0) new (apart (eq e.0) new (IsDistinct-head eq e.0 (keys_of new) all));
-          others = λ q not. sym (ap (λ b. cond b (Some e.1) (lookup (eq q) new)) (other_key laws k e.0 q is not)) ∙ permuted q pairs (e ∷ new) differ moved;
+          at = same_lookup k e.0 is new ∙ lookup-none (eq e.0) new (NonePasses-keys (eq e.0) new (IsDistinct-head eq e.0 (keys_of new) all));
+          others = λ q not. sym (ap (λ b. cond b (Some e.1) (lookup (eq q) new)) (other_key laws k e.0 q is not)) ∙ lookup-permuted q pairs (e ∷ new) differ moved;
           distinct = IsDistinct-tail eq e.0 (keys_of new) all;
         }
 
@@ -131,8 +131,8 @@ pub none_differ : {K V : Type 0} (eq : K → K → Bool) (pairs : List (K × V))
 unfolding IsDistinct
 none_differ {K} {V} eq pairs none = subst (λ (l : List (K × V)). IsDistinct eq (keys_of l)) (sym none) tt
 
-pub by_eq : {K V : Type 0} (eq : K → K → Bool) (cmp : K → K → Ordering) → ((x y : K) → eq x y ≡ eq_by_cmp cmp x y) → (pairs : List (K × V)) (k : K) → lookup (eq k) pairs ≡ value_of cmp pairs k
-by_eq eq cmp ties pairs k = value_by_eq eq cmp ties pairs k (lookup (eq k) pairs) refl
+pub lookup-value_of : {K V : Type 0} (eq : K → K → Bool) (cmp : K → K → Ordering) → ((x y : K) → eq x y ≡ eq_by_cmp cmp x y) → (pairs : List (K × V)) (k : K) → lookup (eq k) pairs ≡ value_of cmp pairs k
+lookup-value_of eq cmp ties pairs k = value_by_eq eq cmp ties pairs k (lookup (eq k) pairs) refl
 
 module _ {K V : Type 0} {eq : K → K → Bool} {cmp : K → K → Ordering} (ties : (x y : K) → eq x y ≡ eq_by_cmp cmp x y) (o : IsTotalOrder cmp) (laws : IsEquivalence eq)
     (pairs now : List (K × V)) (is_now : pairs ≡ now) (differ : IsDistinct eq (keys_of pairs)) where
@@ -140,42 +140,42 @@ module _ {K V : Type 0} {eq : K → K → Bool} {cmp : K → K → Ordering} (ti
   sets_from new k w edits = subst (λ l. Sets cmp l new k w) is_now (Sets_by_eq eq cmp ties o pairs new k w edits.at edits.others)
 
   module _ (k : K) (place : ℕ) (stands : IsAt eq now place k) (e : K × V) (read : e ≡ get_or pairs place e) where
-    here : slice_get pairs place ≡ Some e
-    here = slice_get_read pairs (length pairs) place e refl (subst (λ l. place < length l) (sym is_now) stands.within) read
+    slice_get-IsAt : slice_get pairs place ≡ Some e
+    slice_get-IsAt = slice_get_read pairs (length pairs) place e refl (subst (λ l. place < length l) (sym is_now) stands.within) read
 
-    pub has_key : eq k e.0 ≡ true
-    has_key = stands.pair e (ap (λ l. slice_get l place) (sym is_now) ∙ here)
+    pub key_equal-IsAt : eq k e.0 ≡ true
+    key_equal-IsAt = stands.pair e (ap (λ l. slice_get l place) (sym is_now) ∙ slice_get-IsAt)
 
     pub value_at : Some e.1 ≡ value_of cmp now k
-    value_at = value_by_eq eq cmp ties pairs k (Some e.1) (sym (found laws pairs differ k place e here has_key)) ∙ ap (λ l. value_of cmp l k) is_now
+    value_at = value_by_eq eq cmp ties pairs k (Some e.1) (sym (lookup-at_place laws pairs differ k place e slice_get-IsAt key_equal-IsAt)) ∙ ap (λ l. value_of cmp l k) is_now
 
     pub pair_at : slice_get pairs place ≡ Some e
-    pair_at = here
+    pair_at = slice_get-IsAt
 
-    setting : (w : V) → Edits laws pairs (slice_set pairs place (e.0, w)) k (Some w)
-    setting w = after_set laws pairs differ k place e w here has_key
+    Edits-set : (w : V) → Edits laws pairs (slice_set pairs place (e.0, w)) k (Some w)
+    Edits-set w = after_set laws pairs differ k place e w slice_get-IsAt key_equal-IsAt
 
-    taking : Edits laws pairs (swap_remove pairs place e) k None
-    taking = after_take laws pairs differ k place e here has_key
+    Edits-take : Edits laws pairs (swap_remove pairs place e) k None
+    Edits-take = after_take laws pairs differ k place e slice_get-IsAt key_equal-IsAt
 
     pub sets_at : (w : V) → Sets cmp now (slice_set pairs place (e.0, w)) k (Some w)
-    sets_at w = sets_from _ k (Some w) (setting w)
+    sets_at w = sets_from _ k (Some w) (Edits-set w)
 
     pub differ_at : (w : V) → IsDistinct eq (keys_of (slice_set pairs place (e.0, w)))
-    differ_at w = (setting w).distinct
+    differ_at w = (Edits-set w).distinct
 
     pub sets_taken : Sets cmp now (swap_remove pairs place e) k None
-    sets_taken = sets_from _ k None taking
+    sets_taken = sets_from _ k None Edits-take
 
     pub differ_taken : IsDistinct eq (keys_of (swap_remove pairs place e))
-    differ_taken = taking.distinct
+    differ_taken = Edits-take.distinct
 
   module _ (k : K) (v : V) (none : value_of cmp now k ≡ None) where
-    pushing : Edits laws pairs (pairs ++ (k, v) ∷ []) k (Some v)
-    pushing = after_push laws pairs differ k v (ap (λ l. lookup (eq k) l) is_now ∙ by_eq eq cmp ties now k ∙ none)
+    Edits-push : Edits laws pairs (pairs ++ (k, v) ∷ []) k (Some v)
+    Edits-push = after_push laws pairs differ k v (ap (λ l. lookup (eq k) l) is_now ∙ lookup-value_of eq cmp ties now k ∙ none)
 
     pub sets_pushed : Sets cmp now (pairs ++ (k, v) ∷ []) k (Some v)
-    sets_pushed = sets_from _ k (Some v) pushing
+    sets_pushed = sets_from _ k (Some v) Edits-push
 
     pub differ_pushed : IsDistinct eq (keys_of (pairs ++ (k, v) ∷ []))
-    differ_pushed = pushing.distinct
+    differ_pushed = Edits-push.distinct

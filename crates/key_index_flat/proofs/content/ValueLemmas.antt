@@ -12,7 +12,7 @@ use Rattle.std.specs.Ordering.{is_eq}
 use Rattle.std.specs.FinMap.{find, put}
 use Rattle.std.specs.FinMap.Entries.{by_order}
 use Rattle.key_index_flat.specs.Content.{Content, is_filled, all_filled, list_at, key_count}
-use Rattle.key_index_flat.specs.laws.Laws.{IsLawful-content_of, first, second}
+use Rattle.key_index_flat.specs.laws.Laws.{IsLawful-content_of, T-and_first, T-and_second}
 use Rattle.key_index_flat.specs.Storage.{content_of}
 use Rattle.key_index_flat.specs.Values.{values_of, VisitsInTurn}
 use Rattle.key_index_flat.proofs.content.ContentLemmas.{key_count-with_list, entries_for}
@@ -32,9 +32,9 @@ module _ {K V : Type 0} (older : K → List V) where
   in_turn-more (d ∷ ds) e =
       ap (λ l. (d.1 ∷ reverse (older d.0)) ++ l) (in_turn-more ds e) ∙ sym (append_assoc (d.1 ∷ reverse (older d.0)) (in_turn ds) (e.1 ∷ reverse (older e.0)))
 
-no_entries : {V : Type 0} (l : List V) → entries_for l ≡ 0 → l ≡ []
-no_entries [] e = refl
-no_entries (v ∷ vs) e = absurd (omega (arith, e))
+entries_for-zero : {V : Type 0} (l : List V) → entries_for l ≡ 0 → l ≡ []
+entries_for-zero [] e = refl
+entries_for-zero (v ∷ vs) e = absurd (omega (arith, e))
 
 module _ {K V : Type 0} (cmp : K → K → Ordering) where
   -- a list under a key that has none
@@ -44,9 +44,9 @@ module _ {K V : Type 0} (cmp : K → K → Ordering) where
       elim (cmp k e.0) as (λ r. unwrap_or (cond (is_eq r) (Some e.1) (find cmp k es)) [] ≡ []
       → IsPermutation (values_of (by_order r ((k, l) ∷ e ∷ es) ((e.0, l) ∷ es) (e ∷ put cmp k l es))) (l ++ (e.1 ++ values_of es))) [
         | Less ↦ λ n. IsPermutation-refl (l ++ (e.1 ++ values_of es))
-        | Equal ↦ λ n. absurd (subst (λ x. T (is_filled x)) n (first (is_filled e.1) _ h))
+        | Equal ↦ λ n. absurd (subst (λ x. T (is_filled x)) n (T-and_first (is_filled e.1) _ h))
         | Greater ↦ λ n.
-            let rest = values-put es k l (second (is_filled e.1) _ h) n in
+            let rest = values-put es k l (T-and_second (is_filled e.1) _ h) n in
             let under = IsPermutation-append_right e.1 _ _ rest in
             let swapped = IsPermutation-append_left (values_of es) _ _ (IsPermutation-append_comm e.1 l) in
             IsPermutation-trans _ _ _ under (subst (λ x. IsPermutation x (l ++ (e.1 ++ values_of es))) (append_assoc e.1 l (values_of es))
@@ -68,6 +68,6 @@ module _ {K V : Type 0} {cmp : K → K → Ordering} (o : IsTotalOrder cmp) (old
       let lawful = IsLawful-content_of o es older in
       let most = keys_most es in
       let counts = key_count-with_list o c e.0 (e.1 ∷ reverse (older e.0)) lawful in
-      let none = no_entries (list_at cmp c e.0) (omega (arith, sized, most, counts)) in
+      let none = entries_for-zero (list_at cmp c e.0) (omega (arith, sized, most, counts)) in
       let rest = all_values es (omega (arith, sized, most, counts)) in
       IsPermutation-trans _ _ _ (values-put cmp c e.0 (e.1 ∷ reverse (older e.0)) lawful.1 none) (IsPermutation-append_right (e.1 ∷ reverse (older e.0)) _ _ rest)

@@ -1,9 +1,10 @@
 -- On a list of values that each stand for an entry, a full key with something: the first entry of a key, where no two have one key.
---     look                                 what the first value of a list that has a key has
---     passed_by, found_at, key_told        a walk along the list
---     put_look, set_look, out_look         what each key has after one went in, took the place of another, or went out
---     put_distinct, set_keys, out_distinct      still no two have one key
-use Rattle.std.proofs.Common.{◌≡◌, ℕ, zero, suc, ◌<◌, Bool, true, false, cond, ◌||◌, T, List, [], ◌∷◌, ◌++◌, length, map, take, Option, Some, None, is_some, slice_get, slice_set, slice_index_or, get_or, Fits, w8, All, refl, sym, ap, subst, ◌∙◌, arith}
+--     length-put_value, All-put_value          a list with one value more
+--     look                                     what the first value of a list that has a key has
+--     passed_by, look-at_place, key-slice_get  a walk along the list
+--     put_look, set_look, out_look             what each key has after one went in, took the place of another, or went out
+--     put_distinct, set_keys, out_distinct     still no two have one key
+use Rattle.std.proofs.Common.{◌≡◌, ℕ, zero, suc, ◌<◌, Bool, true, false, cond, ◌||◌, T, List, [], ◌∷◌, ◌++◌, length, map, take, Option, Some, None, is_some, slice_get, slice_set, slice_index_or, get_or, Fits, w8, All, refl, sym, ap, subst, ◌∙◌, arith, length-append, ◌+◌}
 use Rattle.std.proofs.lemmas.Bool.{false≢true}
 use Rattle.std.proofs.lemmas.List.{map-append}
 use Rattle.std.proofs.lemmas.List.Elements.{All-nil, All-cons, All-head, All-tail, All-append, All-from_get_or}
@@ -21,7 +22,7 @@ use Rattle.std.specs.Ordering.{eq_by_cmp, is_eq}
 use Rattle.std.specs.Str.{bytes_eq}
 use Rattle.key_index_flat.specs.FullKeys.{IsBytes, byte_cmp}
 use Rattle.key_index_flat.specs.View.{put_value}
-use Rattle.key_index_flat.proofs.content.ContentLemmas.{tied}
+use Rattle.key_index_flat.proofs.content.ContentLemmas.{Equal-is_eq}
 
 -- what stands behind a reference to bytes
 pub bytes_in : (b : List ℕ) → ((i : ℕ) → Fits w8 (get_or b i 0)) → IsBytes b
@@ -43,16 +44,16 @@ pub head_apart : (x y : List ℕ) → same x y ≡ false → same y x ≡ false
 head_apart x y e = (eq_by_cmp_equiv nat_list_cmp_total).symm y x ∙ e
 
 pub same_is : (x y : List ℕ) → same x y ≡ true → x ≡ y
-same_is x y e = exact_bytes x y (tied _ e)
+same_is x y e = exact_bytes x y (Equal-is_eq _ e)
 
-shadowed : {X : Type 0} (b : Bool) (x y z : X) → cond b x z ≡ cond b x (cond b y z)
-shadowed true x y z = refl
-shadowed false x y z = refl
+pub cond-shadowed : {X : Type 0} (b : Bool) (x y z : X) → cond b x z ≡ cond b x (cond b y z)
+cond-shadowed true x y z = refl
+cond-shadowed false x y z = refl
 
-pub swapped : {X : Type 0} (b c : Bool) (x y z : X) → (b ≡ true → c ≡ true → ⊥) → cond b x (cond c y z) ≡ cond c y (cond b x z)
-swapped true true x y z apart = absurd (apart refl refl)
-swapped true false x y z apart = refl
-swapped false c x y z apart = refl
+pub cond-swapped : {X : Type 0} (b c : Bool) (x y z : X) → (b ≡ true → c ≡ true → ⊥) → cond b x (cond c y z) ≡ cond c y (cond b x z)
+cond-swapped true true x y z apart = absurd (apart refl refl)
+cond-swapped true false x y z apart = refl
+cond-swapped false c x y z apart = refl
 
 -- a key is not that of two that differ
 pub not_both : (a x y : List ℕ) → same x y ≡ false → same a x ≡ true → same a y ≡ true → ⊥
@@ -62,9 +63,13 @@ none_any : (k : List ℕ) (ks : List (List ℕ)) → AllByRecursion (λ y. same 
 none_any k [] h = refl
 none_any k (x ∷ xs) h = subst (λ b. (b || list_any (same k) xs) ≡ false) (sym h.0) (none_any k xs h.1)
 
-pub put_all : {V : Type 0} (P : V → Type 0) (first : Bool) (v : V) (l : List V) → P v → All P l → All P (put_value first v l)
-put_all P true v l h k = All-cons P v l h k
-put_all P false v l h k = All-append P l (v ∷ []) k (All-cons P v [] h (All-nil P))
+pub length-put_value : {V : Type 0} (first : Bool) (v : V) (l : List V) → length (put_value first v l) ≡ length l + 1
+length-put_value true v l = omega arith
+length-put_value false v l = length-append l (v ∷ [])
+
+pub All-put_value : {V : Type 0} (P : V → Type 0) (first : Bool) (v : V) (l : List V) → P v → All P l → All P (put_value first v l)
+All-put_value P true v l h k = All-cons P v l h k
+All-put_value P false v l h k = All-append P l (v ∷ []) k (All-cons P v [] h (All-nil P))
 
 pub out_all : {V : Type 0} (P : V → Type 0) (l : List V) (place : ℕ) → All P l → All P (remove l place)
 out_all P [] zero h = h
@@ -125,12 +130,12 @@ module _ {V X : Type 0} (entry : V → List ℕ × X) where
   set_look a k [] place v own d at = absurd (some_not_none k (sym at))
   set_look a k (x ∷ xs) zero v own d at =
       ap (λ y. cond (same a y) (Some (entry v).1) (look a xs)) own
-      ∙ shadowed (same a k) (Some (entry v).1) (Some (entry x).1) (look a xs)
+      ∙ cond-shadowed (same a k) (Some (entry v).1) (Some (entry x).1) (look a xs)
       ∙ ap (λ y. cond (same a k) (Some (entry v).1) (cond (same a y) (Some (entry x).1) (look a xs))) (sym (some_injective (key x) k at))
   set_look a k (x ∷ xs) (suc i) v own d at =
       let apart = apart_at (key x) k xs i (IsDistinct-head same (key x) (map key xs) d) at in
       ap (cond (same a (key x)) (Some (entry x).1)) (set_look a k xs i v own (IsDistinct-tail same (key x) (map key xs) d) at)
-      ∙ swapped (same a (key x)) (same a k) (Some (entry x).1) (Some (entry v).1) (look a xs) (not_both a (key x) k apart)
+      ∙ cond-swapped (same a (key x)) (same a k) (Some (entry x).1) (Some (entry v).1) (look a xs) (not_both a (key x) k apart)
 
   pub set_keys : (l : List V) (place : ℕ) (v : V) → option_map key (slice_get l place) ≡ Some (key v) → map key (slice_set l place v) ≡ map key l
   set_keys [] place v at = absurd (some_not_none (key v) (sym at))
@@ -150,7 +155,7 @@ module _ {V X : Type 0} (entry : V → List ℕ × X) where
   out_look a k (x ∷ xs) (suc i) d at =
       let apart = apart_at (key x) k xs i (IsDistinct-head same (key x) (map key xs) d) at in
       ap (cond (same a (key x)) (Some (entry x).1)) (out_look a k xs i (IsDistinct-tail same (key x) (map key xs) d) at)
-      ∙ swapped (same a (key x)) (same a k) (Some (entry x).1) None (look a xs) (not_both a (key x) k apart)
+      ∙ cond-swapped (same a (key x)) (same a k) (Some (entry x).1) None (look a xs) (not_both a (key x) k apart)
 
   out_apart : (k : List ℕ) (l : List V) (place : ℕ) → AllByRecursion (λ y. same k y ≡ false) (map key l) → AllByRecursion (λ y. same k y ≡ false) (map key (remove l place))
   out_apart k [] zero h = h
@@ -182,31 +187,31 @@ module _ {V X : Type 0} (entry : V → List ℕ × X) where
         | false ↦ λ e. passed_by shows a ys x e other
       ] none
 
-  pub found_at : (a : List ℕ) (all : List V) (n : ℕ) (v : V) → n < length all → v ≡ slice_index_or all n v → look a (take n all) ≡ None → bytes_eq (key v) a ≡ true → look a all ≡ Some (entry v).1
-  found_at a [] n v h is none own = absurd (omega (arith, h))
-  found_at a (x ∷ xs) zero v h is none own =
+  pub look-at_place : (a : List ℕ) (all : List V) (n : ℕ) (v : V) → n < length all → v ≡ slice_index_or all n v → look a (take n all) ≡ None → bytes_eq (key v) a ≡ true → look a all ≡ Some (entry v).1
+  look-at_place a [] n v h is none own = absurd (omega (arith, h))
+  look-at_place a (x ∷ xs) zero v h is none own =
       ap (λ q. look a (q ∷ xs)) (sym is)
       ∙ ap (λ k. cond (same a k) (Some (entry v).1) (look a xs)) ((bytes_eq-Decides (key v) a).0 own)
       ∙ ap (λ b. cond b (Some (entry v).1) (look a xs)) (same_itself a)
-  found_at a (x ∷ xs) (suc n) v h is none own =
+  look-at_place a (x ∷ xs) (suc n) v h is none own =
       elim (same a (key x)) as (λ b. cond b (Some (entry x).1) (look a (take n xs)) ≡ None → cond b (Some (entry x).1) (look a xs) ≡ Some (entry v).1) [
         | true ↦ λ e. absurd (some_not_none (entry x).1 e)
-        | false ↦ λ e. found_at a xs n v (omega (arith, h)) is e own
+        | false ↦ λ e. look-at_place a xs n v (omega (arith, h)) is e own
       ] none
 
-  pub key_told : (a : List ℕ) (all : List V) (n : ℕ) (v : V) → n < length all → v ≡ slice_index_or all n v → bytes_eq (key v) a ≡ true → option_map key (slice_get all n) ≡ Some a
-  key_told a [] n v h is own = absurd (omega (arith, h))
-  key_told a (x ∷ xs) zero v h is own = ap (λ q. Some (key q)) (sym is) ∙ ap (λ k. Some k) ((bytes_eq-Decides (key v) a).0 own)
-  key_told a (x ∷ xs) (suc n) v h is own = key_told a xs n v (omega (arith, h)) is own
+  pub key-slice_get : (a : List ℕ) (all : List V) (n : ℕ) (v : V) → n < length all → v ≡ slice_index_or all n v → bytes_eq (key v) a ≡ true → option_map key (slice_get all n) ≡ Some a
+  key-slice_get a [] n v h is own = absurd (omega (arith, h))
+  key-slice_get a (x ∷ xs) zero v h is own = ap (λ q. Some (key q)) (sym is) ∙ ap (λ k. Some k) ((bytes_eq-Decides (key v) a).0 own)
+  key-slice_get a (x ∷ xs) (suc n) v h is own = key-slice_get a xs n v (omega (arith, h)) is own
 
   -- a key that stands at a place is found
-  pub held_at : (k : List ℕ) (l : List V) (place : ℕ) → option_map key (slice_get l place) ≡ Some k → is_some (look k l) ≡ true
-  held_at k [] place at = absurd (some_not_none k (sym at))
-  held_at k (x ∷ xs) zero at = ap (λ b. is_some (cond b (Some (entry x).1) (look k xs))) (ap (same k) (some_injective (key x) k at) ∙ same_itself k)
-  held_at k (x ∷ xs) (suc i) at =
+  pub is_some-look : (k : List ℕ) (l : List V) (place : ℕ) → option_map key (slice_get l place) ≡ Some k → is_some (look k l) ≡ true
+  is_some-look k [] place at = absurd (some_not_none k (sym at))
+  is_some-look k (x ∷ xs) zero at = ap (λ b. is_some (cond b (Some (entry x).1) (look k xs))) (ap (same k) (some_injective (key x) k at) ∙ same_itself k)
+  is_some-look k (x ∷ xs) (suc i) at =
       elim (same k (key x)) as (λ b. is_some (cond b (Some (entry x).1) (look k xs)) ≡ true) [
         | true ↦ refl
-        | false ↦ held_at k xs i at
+        | false ↦ is_some-look k xs i at
       ]
 
 pub within_all : (place yielded all given : ℕ) → place ≡ yielded → yielded < all → all ≡ given → place < given

@@ -1,6 +1,6 @@
 -- On values that each stand for an entry of a map, a full key with something, under their own index keys.
---     own_list                  of all values that are held, those of a key's own list
---     next_told, prev_told      the nearest value in full keys is the nearest entry of the map
+--     own_list                                 of all values that are held, those of a key's own list
+--     first_entry-IsLeast, last_entry-IsLeast  the nearest value in full keys is the nearest entry of the map
 use Rattle.std.proofs.Common.{◌≡◌, ℕ, Bool, true, false, cond, T, List, [], ◌∷◌, ◌++◌, map, Option, Some, None, is_some, unwrap_or, All, refl, sym, ap, subst, ◌∙◌}
 use Rattle.std.proofs.lemmas.Bool.{false≢true}
 use Rattle.std.proofs.lemmas.List.Elements.{All-cons, All-head, All-tail, All-append, All-weaker, filter_passes}
@@ -17,10 +17,10 @@ use Rattle.std.specs.declared.cmp.Ordering.{Ordering}
 use Rattle.std.specs.declared.cmp.Ordering.TheVariants.{Less, Equal, Greater}
 use Rattle.key_index_flat.specs.Content.{Content, list_at}
 use Rattle.key_index_flat.specs.FullKeys.{IsBytes, IsFiled, IsLeast, above, below, byte_cmp, cmp_keys}
-use Rattle.key_index_flat.specs.laws.Laws.{first, second}
+use Rattle.key_index_flat.specs.laws.Laws.{T-and_first, T-and_second}
 use Rattle.key_index_flat.specs.Neighbours.{entries_above, entries_below, first_entry, last_entry}
 use Rattle.key_index_flat.specs.Values.{values_of}
-use Rattle.key_index_flat.proofs.content.ContentLemmas.{absent, less, tied}
+use Rattle.key_index_flat.proofs.content.ContentLemmas.{list_at-below_all, Less-is_lt, Equal-is_eq}
 use Rattle.key_index_flat.proofs.entries.EntryLemmas.{some_not_none, some_injective}
 use Rattle.key_index_flat.proofs.neighbours.FullKeyLemmas.{filed_first, filed_rest}
 use Rattle.key_index_flat.proofs.neighbours.LeastLemmas.{least_has}
@@ -30,22 +30,22 @@ not_less r e n = false≢true (sym n ∙ ap is_lt e)
 
 module _ {K X : Type 0} {R : K → K → Ordering} (o : IsTotalOrder R) (exact : (x y : K) → R x y ≡ Equal → x ≡ y) where
   -- a key below all
-  below_none : (k x : K) (es : List (K × X)) → R k x ≡ Less → T (below_all R x es) → find R k es ≡ None
-  below_none k x [] p h = refl
-  below_none k x (e ∷ es) p h =
-      ap (λ r. cond (is_eq r) (Some e.1) (find R k es)) (o.trans k x e.0 p (less _ (first _ _ h))) ∙ below_none k x es p (second _ _ h)
+  find-less_than_all : (k x : K) (es : List (K × X)) → R k x ≡ Less → T (below_all R x es) → find R k es ≡ None
+  find-less_than_all k x [] p h = refl
+  find-less_than_all k x (e ∷ es) p h =
+      ap (λ r. cond (is_eq r) (Some e.1) (find R k es)) (o.trans k x e.0 p (Less-is_lt _ (T-and_first _ _ h))) ∙ find-less_than_all k x es p (T-and_second _ _ h)
 
   -- what is found stands above what all are above
   found_above : (x q : K) (es : List (K × X)) → T (below_all R x es) → is_some (find R q es) ≡ true → R x q ≡ Less
   found_above x q [] h f = absurd (false≢true f)
   found_above x q (e ∷ es) h f =
       elim (eq_by_cmp R q e.0) as (λ b. eq_by_cmp R q e.0 ≡ b → is_some (cond b (Some e.1) (find R q es)) ≡ true → R x q ≡ Less) [
-        | true ↦ λ t _. ap (R x) (exact q e.0 (tied _ t)) ∙ less _ (first _ _ h)
-        | false ↦ λ t g. found_above x q es (second _ _ h) g
+        | true ↦ λ t _. ap (R x) (exact q e.0 (Equal-is_eq _ t)) ∙ Less-is_lt _ (T-and_first _ _ h)
+        | false ↦ λ t g. found_above x q es (T-and_second _ _ h) g
       ] refl f
 
-  found_first : (e : K × X) (es : List (K × X)) → is_some (find R e.0 (e ∷ es)) ≡ true
-  found_first e es = ap (λ r. is_some (cond (is_eq r) (Some e.1) (find R e.0 es))) (tied_itself o e.0)
+  is_some-find_first : (e : K × X) (es : List (K × X)) → is_some (find R e.0 (e ∷ es)) ≡ true
+  is_some-find_first e es = ap (λ r. is_some (cond (is_eq r) (Some e.1) (find R e.0 es))) (tied_itself o e.0)
 
   found_more : (q : K) (e : K × X) (es : List (K × X)) → is_some (find R q es) ≡ true → is_some (find R q (e ∷ es)) ≡ true
   found_more q e es f =
@@ -58,36 +58,36 @@ module _ {K X : Type 0} {R : K → K → Ordering} (o : IsTotalOrder R) (exact :
   passed_over : (test : K → Ordering) (q : K) (e : K × X) → test q ≡ Less → is_lt (test e.0) ≡ false → eq_by_cmp R q e.0 ≡ false
   passed_over test q e p n =
       elim (eq_by_cmp R q e.0) as (λ b. eq_by_cmp R q e.0 ≡ b → b ≡ false) [
-        | true ↦ λ t. absurd (not_less (test e.0) (ap test (sym (exact q e.0 (tied _ t))) ∙ p) n)
+        | true ↦ λ t. absurd (not_less (test e.0) (ap test (sym (exact q e.0 (Equal-is_eq _ t))) ∙ p) n)
         | false ↦ λ t. refl
       ] refl
 
-  past : (test : K → Ordering) (q : K) (e : K × X) (es : List (K × X)) → test q ≡ Less → is_lt (test e.0) ≡ false → find R q (e ∷ es) ≡ find R q es
-  past test q e es p n = ap (λ b. cond b (Some e.1) (find R q es)) (passed_over test q e p n)
+  find-past_first : (test : K → Ordering) (q : K) (e : K × X) (es : List (K × X)) → test q ≡ Less → is_lt (test e.0) ≡ false → find R q (e ∷ es) ≡ find R q es
+  find-past_first test q e es p n = ap (λ b. cond b (Some e.1) (find R q es)) (passed_over test q e p n)
 
-  pub none_passes : (test : K → Ordering) (es : List (K × X)) → ((q : K) → test q ≡ Less → is_some (find R q es) ≡ true → ⊥) → filter (λ e. is_lt (test e.0)) es ≡ []
-  none_passes test [] h = refl
-  none_passes test (e ∷ es) h =
-      let rest = none_passes test es (λ q p f. h q p (found_more q e es f)) in
+  pub filter-none_found : (test : K → Ordering) (es : List (K × X)) → ((q : K) → test q ≡ Less → is_some (find R q es) ≡ true → ⊥) → filter (λ e. is_lt (test e.0)) es ≡ []
+  filter-none_found test [] h = refl
+  filter-none_found test (e ∷ es) h =
+      let rest = filter-none_found test es (λ q p f. h q p (found_more q e es f)) in
       elim (is_lt (test e.0)) as (λ b. is_lt (test e.0) ≡ b → cond b (e ∷ filter (λ e. is_lt (test e.0)) es) (filter (λ e. is_lt (test e.0)) es) ≡ []) [
-        | true ↦ λ t. absurd (h e.0 (less _ (subst T (sym t) tt)) (found_first e es))
+        | true ↦ λ t. absurd (h e.0 (Less-is_lt _ (subst T (sym t) tt)) (is_some-find_first e es))
         | false ↦ λ t. rest
       ] refl
 
   same_entry : (e : K × X) (k : K) (p : X) → k ≡ e.0 → Some e.1 ≡ Some p → Some e ≡ Some (k, p)
   same_entry e k p is at = λ i. Some (sym is i, some_injective e.1 p at i)
 
-  pub first_above : (a k : K) (p : X) (es : List (K × X)) → T (is_sorted R es) → find R k es ≡ Some p → R a k ≡ Less
+  pub first_entry-entries_above_found : (a k : K) (p : X) (es : List (K × X)) → T (is_sorted R es) → find R k es ≡ Some p → R a k ≡ Less
       → ((q : K) → R a q ≡ Less → is_some (find R q es) ≡ true → IsLeBy R k q) → first_entry (entries_above R es a) ≡ Some (k, p)
-  first_above a k p [] h at up least = absurd (some_not_none p (sym at))
-  first_above a k p (e ∷ es) h at up least =
+  first_entry-entries_above_found a k p [] h at up least = absurd (some_not_none p (sym at))
+  first_entry-entries_above_found a k p (e ∷ es) h at up least =
       let rest : is_lt (R a e.0) ≡ false → first_entry (entries_above R es a) ≡ Some (k, p) = λ n.
-      first_above a k p es (second _ _ h) (sym (past (R a) k e es up n) ∙ at) up (λ q u f. least q u (ap is_some (past (R a) q e es u n) ∙ f)) in
+      first_entry-entries_above_found a k p es (T-and_second _ _ h) (sym (find-past_first (R a) k e es up n) ∙ at) up (λ q u f. least q u (ap is_some (find-past_first (R a) q e es u n) ∙ f)) in
       elim (is_lt (R a e.0)) as (λ b. is_lt (R a e.0) ≡ b → first_entry (cond b (e ∷ entries_above R es a) (entries_above R es a)) ≡ Some (k, p)) [
         | true ↦ λ t.
-            let under = least e.0 (less _ (subst T (sym t) tt)) (found_first e es) in
+            let under = least e.0 (Less-is_lt _ (subst T (sym t) tt)) (is_some-find_first e es) in
             elim (R k e.0) as (λ r. R k e.0 ≡ r → is_gt r ≡ false → cond (is_eq r) (Some e.1) (find R k es) ≡ Some p → Some e ≡ Some (k, p)) [
-              | Less ↦ λ q _ f. absurd (some_not_none p (sym f ∙ below_none k e.0 es q (first _ _ h)))
+              | Less ↦ λ q _ f. absurd (some_not_none p (sym f ∙ find-less_than_all k e.0 es q (T-and_first _ _ h)))
               | Equal ↦ λ q _ f. same_entry e k p (exact k e.0 q) f
               | Greater ↦ λ q g f. absurd (false≢true (sym g))
             ] refl under at
@@ -106,18 +106,18 @@ module _ {K X : Type 0} {R : K → K → Ordering} (o : IsTotalOrder R) (exact :
       elim (is_lt (R e.0 a)) as (λ b. is_lt (R e.0 a) ≡ b → last_or None (cond b (e ∷ entries_below R es a) (entries_below R es a)) ≡ Some (k, p)) [
         | true ↦ λ t.
             elim (R k e.0) as (λ r. R k e.0 ≡ r → cond (is_eq r) (Some e.1) (find R k es) ≡ Some p → last_or (Some e) (entries_below R es a) ≡ Some (k, p)) [
-              | Less ↦ λ q f. absurd (some_not_none p (sym f ∙ below_none k e.0 es q (first _ _ h)))
+              | Less ↦ λ q f. absurd (some_not_none p (sym f ∙ find-less_than_all k e.0 es q (T-and_first _ _ h)))
               | Equal ↦ λ q f.
                   let is = exact k e.0 q in
-                  let none : entries_below R es a ≡ [] = none_passes before es (λ x d g.
-                  let over : R k x ≡ Less = ap (λ z. R z x) is ∙ found_above e.0 x es (first _ _ h) g in
+                  let none : entries_below R es a ≡ [] = filter-none_found before es (λ x d g.
+                  let over : R k x ≡ Less = ap (λ z. R z x) is ∙ found_above e.0 x es (T-and_first _ _ h) g in
                   let turned : is_gt (R x k) ≡ true = ap is_gt (o.antisymm x k ∙ ap ordering_reverse over) in
                   false≢true (sym (most x d (found_more x e es g)) ∙ turned)) in
                   ap (last_or (Some e)) none ∙ same_entry e k p is f
-              | Greater ↦ λ q f. kept_last (k, p) (Some e) (entries_below R es a) (last_below a k p es (second _ _ h) f down (λ x d g. most x d (found_more x e es g)))
+              | Greater ↦ λ q f. kept_last (k, p) (Some e) (entries_below R es a) (last_below a k p es (T-and_second _ _ h) f down (λ x d g. most x d (found_more x e es g)))
             ] refl at
         | false ↦ λ t.
-            last_below a k p es (second _ _ h) (sym (past before k e es down t) ∙ at) down (λ q d f. most q d (ap is_some (past before q e es d t) ∙ f))
+            last_below a k p es (T-and_second _ _ h) (sym (find-past_first before k e es down t) ∙ at) down (λ q d f. most q d (ap is_some (find-past_first before q e es d t) ∙ f))
       ] refl
 
 -- ---- values that stand for entries
@@ -159,7 +159,7 @@ module _ {V X : Type 0} (entry : V → List ℕ × X) where
     none_elsewhere a k [] h apart = refl
     none_elsewhere a k (v ∷ vs) h apart =
         elim (eq_by_cmp byte_cmp a (full v)) as (λ b. eq_by_cmp byte_cmp a (full v) ≡ b → cond b (Some (entry v).1) (look a vs) ≡ None) [
-          | true ↦ λ e. absurd (apart (ap slot (exact_bytes a (full v) (tied _ e)) ∙ (All-head (Under k) v vs h).1))
+          | true ↦ λ e. absurd (apart (ap slot (exact_bytes a (full v) (Equal-is_eq _ e)) ∙ (All-head (Under k) v vs h).1))
           | false ↦ λ e. none_elsewhere a k vs (All-tail (Under k) v vs h) apart
         ] refl
 
@@ -175,30 +175,30 @@ module _ {V X : Type 0} (entry : V → List ℕ × X) where
     pub own_list : (a : List ℕ) (c : Content K V) → T (is_sorted cmp c) → IsFiled full cmp slot c → look a (values_of c) ≡ look a (list_at cmp c (slot a))
     own_list a [] h f = refl
     own_list a (e ∷ es) h f =
-        let rest = own_list a es (second _ _ h) (filed_rest o full slot e es (first _ _ h) f) in
+        let rest = own_list a es (T-and_second _ _ h) (filed_rest o full slot e es (T-and_first _ _ h) f) in
         let here = filed_first o full slot e es f in
         let elsewhere : ¬ (slot a ≡ e.0) → look a (e.1 ++ values_of es) ≡ look a (list_at cmp es (slot a)) = λ apart.
         look-append a e.1 (values_of es) ∙ ap (λ x. either x (look a (values_of es))) (none_elsewhere a e.0 e.1 here apart) ∙ rest in
         elim (cmp (slot a) e.0) as (λ r. cmp (slot a) e.0 ≡ r → look a (e.1 ++ values_of es) ≡ look a (unwrap_or (cond (is_eq r) (Some e.1) (find cmp (slot a) es)) [])) [
           | Less ↦ λ p. elsewhere (not_tied (slot a) e.0 Less p less_not_equal)
           | Equal ↦ λ p.
-              let none : look a (values_of es) ≡ None = rest ∙ ap (look a) (absent o (slot a) e.0 es (λ y q. o.congr (slot a) e.0 y p ∙ q) (first _ _ h)) in
+              let none : look a (values_of es) ≡ None = rest ∙ ap (look a) (list_at-below_all o (slot a) e.0 es (λ y q. o.congr (slot a) e.0 y p ∙ q) (T-and_first _ _ h)) in
               look-append a e.1 (values_of es) ∙ ap (either (look a e.1)) none ∙ either_none (look a e.1)
           | Greater ↦ λ p. elsewhere (not_tied (slot a) e.0 Greater p greater_not_equal)
         ] refl
 
-  passing : (p : List ℕ → Bool) (vs : List V) → map entry (filter (λ v. p (full v)) vs) ≡ where_key byte_cmp p (map entry vs)
-  passing p [] = refl
-  passing p (v ∷ vs) =
+  where_key-entries : (p : List ℕ → Bool) (vs : List V) → map entry (filter (λ v. p (full v)) vs) ≡ where_key byte_cmp p (map entry vs)
+  where_key-entries p [] = refl
+  where_key-entries p (v ∷ vs) =
       elim (p (full v)) as (λ b. map entry (cond b (v ∷ filter (λ v. p (full v)) vs) (filter (λ v. p (full v)) vs)) ≡ cond b (entry v ∷ where_key byte_cmp p (map entry vs)) (where_key byte_cmp p (map entry vs))) [
-        | true ↦ ap (λ l. entry v ∷ l) (passing p vs)
-        | false ↦ passing p vs
+        | true ↦ ap (λ l. entry v ∷ l) (where_key-entries p vs)
+        | false ↦ where_key-entries p vs
       ]
 
   -- of those that pass, as of all
   looks_passing : (p : List ℕ → Bool) (vs : List V) (q : List ℕ) → p q ≡ true → look q (filter (λ v. p (full v)) vs) ≡ look q vs
   looks_passing p vs q t =
-      ap (find byte_cmp q) (passing p vs)
+      ap (find byte_cmp q) (where_key-entries p vs)
       ∙ find-where_key byte_cmp p q (λ x e. ap p (sym (exact_bytes q x e))) (map entry vs)
       ∙ ap (λ b. cond b (look q vs) None) t
 
@@ -210,10 +210,10 @@ module _ {V X : Type 0} (entry : V → List ℕ × X) where
 
       module _ (v : V) (h : IsLeast (on full S) (filter (λ v. is_lt (S a (full v))) vs) (Some v)) where
         nearest_beyond : S a (full v) ≡ Less
-        nearest_beyond = less _ (subst T (sym (least_has (on_total full o) (λ v. is_lt (S a (full v)) ≡ true) _ v h (filter_passes (λ v. is_lt (S a (full v))) vs))) tt)
+        nearest_beyond = Less-is_lt _ (subst T (sym (least_has (on_total full o) (λ v. is_lt (S a (full v)) ≡ true) _ v h (filter_passes (λ v. is_lt (S a (full v))) vs))) tt)
 
-        bounds : All (λ w. IsLeBy S (full v) (full w)) (filter (λ v. is_lt (S a (full v))) vs)
-        bounds =
+        IsLeBy-filtered : All (λ w. IsLeBy S (full v) (full w)) (filter (λ v. is_lt (S a (full v))) vs)
+        IsLeBy-filtered =
             let Bound : V → Type 0 = λ w. IsLeBy S (full v) (full w) in
             subst (All Bound) (sym h.2) (All-append Bound h.0 (v ∷ h.1) (All-weaker (λ w. S (full v) (full w) ≡ Less) Bound (λ w q. ap is_gt q) h.0 h.3) (All-cons Bound v h.1 (ap is_gt (tied_itself o (full v))) h.4))
 
@@ -222,16 +222,16 @@ module _ {V X : Type 0} (entry : V → List ℕ × X) where
         none_ahead (w ∷ ws) k =
             elim (eq_by_cmp byte_cmp (full v) (full w)) as (λ b. eq_by_cmp byte_cmp (full v) (full w) ≡ b → cond b (Some (entry w).1) (look (full v) ws) ≡ None) [
               | true ↦ λ t. absurd (not_less (S (full v) (full w)) (All-head (λ w. S (full v) (full w) ≡ Less) w ws k)
-                  (ap is_lt (sym (ap (S (full v)) (exact_bytes (full v) (full w) (tied _ t))) ∙ tied_itself o (full v))))
+                  (ap is_lt (sym (ap (S (full v)) (exact_bytes (full v) (full w) (Equal-is_eq _ t))) ∙ tied_itself o (full v))))
               | false ↦ λ t. none_ahead ws (All-tail (λ w. S (full v) (full w) ≡ Less) w ws k)
             ] refl
 
-        bounded : (l : List V) (q : List ℕ) → All (λ w. IsLeBy S (full v) (full w)) l → is_some (look q l) ≡ true → IsLeBy S (full v) q
-        bounded [] q k f = absurd (false≢true f)
-        bounded (w ∷ ws) q k f =
+        IsLeBy-looked_up : (l : List V) (q : List ℕ) → All (λ w. IsLeBy S (full v) (full w)) l → is_some (look q l) ≡ true → IsLeBy S (full v) q
+        IsLeBy-looked_up [] q k f = absurd (false≢true f)
+        IsLeBy-looked_up (w ∷ ws) q k f =
             elim (eq_by_cmp byte_cmp q (full w)) as (λ b. eq_by_cmp byte_cmp q (full w) ≡ b → is_some (cond b (Some (entry w).1) (look q ws)) ≡ true → IsLeBy S (full v) q) [
-              | true ↦ λ t _. ap (λ x. is_gt (S (full v) x)) (exact_bytes q (full w) (tied _ t)) ∙ All-head (λ w. IsLeBy S (full v) (full w)) w ws k
-              | false ↦ λ t g. bounded ws q (All-tail (λ w. IsLeBy S (full v) (full w)) w ws k) g
+              | true ↦ λ t _. ap (λ x. is_gt (S (full v) x)) (exact_bytes q (full w) (Equal-is_eq _ t)) ∙ All-head (λ w. IsLeBy S (full v) (full w)) w ws k
+              | false ↦ λ t g. IsLeBy-looked_up ws q (All-tail (λ w. IsLeBy S (full v) (full w)) w ws k) g
             ] refl f
 
         nearest_found : find byte_cmp (full v) (entries m) ≡ Some (entry v).1
@@ -242,25 +242,25 @@ module _ {V X : Type 0} (entry : V → List ℕ × X) where
             ∙ ap (λ r. cond (is_eq r) (Some (entry v).1) (look (full v) h.1)) (tied_itself nat_list_cmp_total (full v))
 
         nearest_bounds : (q : List ℕ) → S a q ≡ Less → is_some (find byte_cmp q (entries m)) ≡ true → IsLeBy S (full v) q
-        nearest_bounds q e f = bounded _ q bounds (ap is_some (sym (beyond_told q e)) ∙ f)
+        nearest_bounds q e f = IsLeBy-looked_up _ q IsLeBy-filtered (ap is_some (sym (beyond_told q e)) ∙ f)
 
       none_beyond : filter (λ v. is_lt (S a (full v))) vs ≡ [] → (q : List ℕ) → S a q ≡ Less → is_some (find byte_cmp q (entries m)) ≡ true → ⊥
       none_beyond h q e f = false≢true (ap (λ l. is_some (look q l)) (sym h) ∙ ap is_some (sym (beyond_told q e)) ∙ f)
 
-    pub next_told : (a : List ℕ) (r : Option V) → IsLeast (cmp_keys full) (above full a vs) r → option_map entry r ≡ first_entry (entries_above byte_cmp (entries m) a)
-    next_told a None h =
-        sym (ap first_entry (none_passes nat_list_cmp_total exact_bytes (byte_cmp a) (entries m) (none_beyond byte_cmp nat_list_cmp_total a h)))
-    next_told a (Some v) h =
-        sym (first_above nat_list_cmp_total exact_bytes a (full v) (entry v).1 (entries m) (entries_sorted m)
+    pub first_entry-IsLeast : (a : List ℕ) (r : Option V) → IsLeast (cmp_keys full) (above full a vs) r → option_map entry r ≡ first_entry (entries_above byte_cmp (entries m) a)
+    first_entry-IsLeast a None h =
+        sym (ap first_entry (filter-none_found nat_list_cmp_total exact_bytes (byte_cmp a) (entries m) (none_beyond byte_cmp nat_list_cmp_total a h)))
+    first_entry-IsLeast a (Some v) h =
+        sym (first_entry-entries_above_found nat_list_cmp_total exact_bytes a (full v) (entry v).1 (entries m) (entries_sorted m)
         (nearest_found byte_cmp nat_list_cmp_total a v h) (nearest_beyond byte_cmp nat_list_cmp_total a v h) (nearest_bounds byte_cmp nat_list_cmp_total a v h))
 
     abbrev down : List ℕ → List ℕ → Ordering
     down = flip_args byte_cmp
 
-    pub prev_told : (a : List ℕ) (r : Option V) → IsLeast (flip_args (cmp_keys full)) (below full a vs) r → option_map entry r ≡ last_entry (entries_below byte_cmp (entries m) a)
-    prev_told a None h =
-        sym (ap last_entry (none_passes nat_list_cmp_total exact_bytes (down a) (entries m) (none_beyond down (back_total nat_list_cmp_total) a h)))
-    prev_told a (Some v) h =
+    pub last_entry-IsLeast : (a : List ℕ) (r : Option V) → IsLeast (flip_args (cmp_keys full)) (below full a vs) r → option_map entry r ≡ last_entry (entries_below byte_cmp (entries m) a)
+    last_entry-IsLeast a None h =
+        sym (ap last_entry (filter-none_found nat_list_cmp_total exact_bytes (down a) (entries m) (none_beyond down (back_total nat_list_cmp_total) a h)))
+    last_entry-IsLeast a (Some v) h =
         let total = back_total nat_list_cmp_total in
         sym (last_below nat_list_cmp_total exact_bytes a (full v) (entry v).1 (entries m) (entries_sorted m)
         (nearest_found down total a v h) (nearest_beyond down total a v h) (nearest_bounds down total a v h))

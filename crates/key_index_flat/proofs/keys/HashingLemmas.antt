@@ -18,15 +18,15 @@ eight_low_bytes (s ∷ t ∷ u ∷ v ∷ w ∷ x ∷ []) = omega arith
 eight_low_bytes (s ∷ t ∷ u ∷ v ∷ w ∷ x ∷ y ∷ []) = omega arith
 eight_low_bytes (s ∷ t ∷ u ∷ v ∷ w ∷ x ∷ y ∷ z ∷ rest) = omega arith
 
-no_bytes : (n : ℕ) → little_endian (padded n []) ≡ 0
-no_bytes zero = refl
-no_bytes (suc n) = let rest = no_bytes n in omega (arith, rest)
+little_endian-padded_none : (n : ℕ) → little_endian (padded n []) ≡ 0
+little_endian-padded_none zero = refl
+little_endian-padded_none (suc n) = let rest = little_endian-padded_none n in omega (arith, rest)
 
-split : (n : ℕ) (b : List ℕ) → little_endian b ≡ little_endian (padded n b) + little_endian (drop n b) * 256 ^ n
-split zero b = omega arith
-split (suc n) [] = let none = no_bytes (suc n) in omega (arith, none)
-split (suc n) (x ∷ xs) =
-    let rest = split n xs in
+little_endian-split : (n : ℕ) (b : List ℕ) → little_endian b ≡ little_endian (padded n b) + little_endian (drop n b) * 256 ^ n
+little_endian-split zero b = omega arith
+little_endian-split (suc n) [] = let none = little_endian-padded_none (suc n) in omega (arith, none)
+little_endian-split (suc n) (x ∷ xs) =
+    let rest = little_endian-split n xs in
     let power = pow-succ' 256 n in
     let moved : little_endian (drop n xs) * 256 ^ suc n ≡ little_endian (drop n xs) * (256 * 256 ^ n) = ap (λ m. little_endian (drop n xs) * m) power in
     let apart : little_endian (drop n xs) * (256 * 256 ^ n) ≡ 256 * (little_endian (drop n xs) * 256 ^ n) = omega arith in
@@ -34,7 +34,7 @@ split (suc n) (x ∷ xs) =
 
 pub first_eight : (b : List ℕ) → hash_product (little_endian (padded 8 b)) ≡ hash_product (little_endian b)
 first_eight b =
-    let whole = split 8 b in
+    let whole = little_endian-split 8 b in
     let front = little_endian (padded 8 b) in
     let behind = little_endian (drop 8 b) in
     let product : little_endian b * 0x9E3779B97F4A7C15 ≡ front * 0x9E3779B97F4A7C15 + (behind * 0x9E3779B97F4A7C15) * 2 ^ 64 = omega (arith, whole) in

@@ -17,35 +17,35 @@ use Rattle.std.specs.FinMap.Entries.{below_all, is_sorted-where_key}
 use Rattle.key_index_flat.specs.Content.{Content, is_filled, list_at, IsLawful}
 use Rattle.key_index_flat.specs.FullKeys.{IsBytes, byte_cmp, IsLeast, or_list, unflagged, cmp_keys, above, below, IsFiled, IsFullNext, IsFullPrev, IsNextCandidate, IsPrevCandidate}
 use Rattle.key_index_flat.specs.Values.{values_of}
-use Rattle.key_index_flat.specs.laws.Laws.{first, second, all_filled-where_key}
+use Rattle.key_index_flat.specs.laws.Laws.{T-and_first, T-and_second, all_filled-where_key}
 use Rattle.key_index_flat.specs.Neighbours.{entries_above, entries_below, first_entry, last_entry, or_cycled, KeepsOrder}
-use Rattle.key_index_flat.proofs.content.ContentLemmas.{absent, less}
+use Rattle.key_index_flat.proofs.content.ContentLemmas.{list_at-below_all, Less-is_lt}
 use Rattle.key_index_flat.proofs.neighbours.LeastLemmas.{IsLeast-front, IsLeast-back, least_has}
 
 -- each value of a list passes a test, or none does
-filter_all : {X : Type 0} (p : X → Bool) (l : List X) → All (λ x. p x ≡ true) l → filter p l ≡ l
-filter_all p [] h = refl
-filter_all p (x ∷ xs) h =
-    ap (λ b. cond b (x ∷ filter p xs) (filter p xs)) (All-head (λ x. p x ≡ true) x xs h) ∙ ap (λ l. x ∷ l) (filter_all p xs (All-tail (λ x. p x ≡ true) x xs h))
+filter-all_pass : {X : Type 0} (p : X → Bool) (l : List X) → All (λ x. p x ≡ true) l → filter p l ≡ l
+filter-all_pass p [] h = refl
+filter-all_pass p (x ∷ xs) h =
+    ap (λ b. cond b (x ∷ filter p xs) (filter p xs)) (All-head (λ x. p x ≡ true) x xs h) ∙ ap (λ l. x ∷ l) (filter-all_pass p xs (All-tail (λ x. p x ≡ true) x xs h))
 
-filter_none : {X : Type 0} (p : X → Bool) (l : List X) → All (λ x. p x ≡ false) l → filter p l ≡ []
-filter_none p [] h = refl
-filter_none p (x ∷ xs) h =
-    ap (λ b. cond b (x ∷ filter p xs) (filter p xs)) (All-head (λ x. p x ≡ false) x xs h) ∙ filter_none p xs (All-tail (λ x. p x ≡ false) x xs h)
+filter-none_pass : {X : Type 0} (p : X → Bool) (l : List X) → All (λ x. p x ≡ false) l → filter p l ≡ []
+filter-none_pass p [] h = refl
+filter-none_pass p (x ∷ xs) h =
+    ap (λ b. cond b (x ∷ filter p xs) (filter p xs)) (All-head (λ x. p x ≡ false) x xs h) ∙ filter-none_pass p xs (All-tail (λ x. p x ≡ false) x xs h)
 
-turned : (r : Ordering) → r ≡ Less → is_lt (ordering_reverse r) ≡ false
-turned r e = ap (λ x. is_lt (ordering_reverse x)) e
+is_lt-reverse_less : (r : Ordering) → r ≡ Less → is_lt (ordering_reverse r) ≡ false
+is_lt-reverse_less r e = ap (λ x. is_lt (ordering_reverse x)) e
 
-no_list : {V : Type 0} (x : V) (xs : List V) → x ∷ xs ≡ [] → ⊥
-no_list x xs e = cc
+cons_not_nil : {V : Type 0} (x : V) (xs : List V) → x ∷ xs ≡ [] → ⊥
+cons_not_nil x xs e = cc
 
 not_filled : {V : Type 0} (l : List V) → T (is_filled l) → l ≡ [] → ⊥
 not_filled [] h e = h
-not_filled (x ∷ xs) h e = no_list x xs e
+not_filled (x ∷ xs) h e = cons_not_nil x xs e
 
 not_filled_front : {V : Type 0} (l m : List V) → T (is_filled l) → l ++ m ≡ [] → ⊥
 not_filled_front [] m h e = h
-not_filled_front (x ∷ xs) m h e = no_list x (xs ++ m) e
+not_filled_front (x ∷ xs) m h e = cons_not_nil x (xs ++ m) e
 
 -- the first list of a filed content, and the others
 module _ {K V : Type 0} {cmp : K → K → Ordering} (o : IsTotalOrder cmp) (full_key : V → List ℕ) (slot : List ℕ → K) where
@@ -58,7 +58,7 @@ module _ {K V : Type 0} {cmp : K → K → Ordering} (o : IsTotalOrder cmp) (ful
       let Under : V → Type 0 = λ v. IsBytes (full_key v) × (slot (full_key v) ≡ k) in
       elim (cmp k e.0) as (λ r. cmp k e.0 ≡ r → All Under (unwrap_or (cond (is_eq r) (Some e.1) (find cmp k es)) []) → All Under (list_at cmp es k)) [
         | Less ↦ λ p x. x
-        | Equal ↦ λ p x. subst (All Under) (sym (absent o k e.0 es (λ y q. o.congr k e.0 y p ∙ q) h)) (All-nil Under)
+        | Equal ↦ λ p x. subst (All Under) (sym (list_at-below_all o k e.0 es (λ y q. o.congr k e.0 y p ∙ q) h)) (All-nil Under)
         | Greater ↦ λ p x. x
       ] refl (f k)
 
@@ -90,13 +90,13 @@ module _ {K V : Type 0} {cmp : K → K → Ordering} (o : IsTotalOrder cmp) (ful
 
   filed_entries : (c : Content K V) → T (is_sorted cmp c) → IsFiled full_key cmp slot c → Filed c
   filed_entries [] h f = tt
-  filed_entries (e ∷ es) h f = (filed_first o full_key slot e es f, filed_entries es (second _ _ h) (filed_rest o full_key slot e es (first _ _ h) f))
+  filed_entries (e ∷ es) h f = (filed_first o full_key slot e es f, filed_entries es (T-and_second _ _ h) (filed_rest o full_key slot e es (T-and_first _ _ h) f))
 
   behind_all : (x : K) (es : Content K V) → T (below_all cmp x es) → Filed es → All (Behind x) (values_of es)
   behind_all x [] h f = All-nil (Behind x)
   behind_all x (e ∷ es) h f =
-      let here : All (Behind x) e.1 = All-weaker (FiledUnder e.0) (Behind x) (λ v u. (u.0, ap (λ k. cmp x k) u.1 ∙ less _ (first _ _ h))) e.1 f.0 in
-      All-append (Behind x) e.1 (values_of es) here (behind_all x es (second _ _ h) f.1)
+      let here : All (Behind x) e.1 = All-weaker (FiledUnder e.0) (Behind x) (λ v u. (u.0, ap (λ k. cmp x k) u.1 ∙ Less-is_lt _ (T-and_first _ _ h))) e.1 f.0 in
+      All-append (Behind x) e.1 (values_of es) here (behind_all x es (T-and_second _ _ h) f.1)
 
   -- what stands under one index key is below what stands under a higher one
   less_behind : (x : K) (v w : V) → FiledUnder x v → Behind x w → cmp_keys full_key v w ≡ Less
@@ -108,10 +108,10 @@ module _ {K V : Type 0} {cmp : K → K → Ordering} (o : IsTotalOrder cmp) (ful
   less_ahead : (x : K) (v w : V) → FiledUnder x v → Ahead x w → cmp_keys full_key w v ≡ Less
   less_ahead x v w u b = less_by_slot (full_key w) (full_key v) b.0 u.0 (ap (λ k. cmp (slot (full_key w)) k) u.1 ∙ b.1)
 
-  behind_above : (k : K) (c : Content K V) → Filed c → All (Behind k) (values_of (entries_above cmp c k))
-  behind_above k [] f = All-nil (Behind k)
-  behind_above k (e ∷ es) f =
-      let rest = behind_above k es f.1 in
+  entries_above-all_behind : (k : K) (c : Content K V) → Filed c → All (Behind k) (values_of (entries_above cmp c k))
+  entries_above-all_behind k [] f = All-nil (Behind k)
+  entries_above-all_behind k (e ∷ es) f =
+      let rest = entries_above-all_behind k es f.1 in
       elim (cmp k e.0) as (λ r. cmp k e.0 ≡ r → All (Behind k) (values_of (cond (is_lt r) (e ∷ entries_above cmp es k) (entries_above cmp es k)))) [
         | Less ↦ λ p. All-append (Behind k) e.1 (values_of (entries_above cmp es k)) (All-weaker (FiledUnder e.0) (Behind k) (λ v u. (u.0, ap (λ x. cmp k x) u.1 ∙ p)) e.1 f.0) rest
         | Equal ↦ λ p. rest
@@ -131,33 +131,33 @@ module _ {K V : Type 0} {cmp : K → K → Ordering} (o : IsTotalOrder cmp) (ful
   -- its own list, and else the first of the higher lists
   own_or_first : (k : K) (own : List V) (d : Content K V) (other : Option (K × List V)) (r : Option V) → All (FiledUnder k) own → All (Behind k) (values_of d) → IsLawful cmp d → Filed d
       → IsLeast (cmp_keys full_key) (or_list own (unflagged (option_map (λ n. (n.0.1, n.1)) (or_cycled (first_entry d) other)))) r → IsLeast (cmp_keys full_key) (own ++ values_of d) r
-  own_or_first k (x ∷ xs) d other None u b h f least = absurd (no_list x xs least)
+  own_or_first k (x ∷ xs) d other None u b h f least = absurd (cons_not_nil x xs least)
   own_or_first k (x ∷ xs) d other (Some v) u b h f least =
       let keys = on_total full_key nat_list_cmp_total in
       IsLeast-front keys (x ∷ xs) (values_of d) v least (less_all k v (values_of d) (least_has keys (FiledUnder k) (x ∷ xs) v least u) b)
   own_or_first k [] [] None r u b h f least = least
   own_or_first k [] [] (Some e) r u b h f least = least
-  own_or_first k [] (e ∷ es) other None u b h f least = absurd (not_filled e.1 (first _ _ h.1) least)
+  own_or_first k [] (e ∷ es) other None u b h f least = absurd (not_filled e.1 (T-and_first _ _ h.1) least)
   own_or_first k [] (e ∷ es) other (Some v) u b h f least =
       let keys = on_total full_key nat_list_cmp_total in
-      IsLeast-front keys e.1 (values_of es) v least (less_all e.0 v (values_of es) (least_has keys (FiledUnder e.0) e.1 v least f.0) (behind_all e.0 es (first _ _ h.0) f.1))
+      IsLeast-front keys e.1 (values_of es) v least (less_all e.0 v (values_of es) (least_has keys (FiledUnder e.0) e.1 v least f.0) (behind_all e.0 es (T-and_first _ _ h.0) f.1))
 
   last_of_all : (e : K × List V) (es : Content K V) (other : Option (K × List V)) (r : Option V) → IsLawful cmp (e ∷ es) → Filed (e ∷ es)
       → IsLeast (flip_args (cmp_keys full_key)) (unflagged (option_map (λ n. (n.0.1, n.1)) (or_cycled (last_or (Some e) es) other))) r → IsLeast (flip_args (cmp_keys full_key)) (values_of (e ∷ es)) r
   last_of_all e [] other r h f least = subst (λ l. IsLeast (flip_args (cmp_keys full_key)) l r) (sym (append-nil e.1)) least
   last_of_all e (g ∷ gs) other None h f least =
-      let rest = last_of_all g gs other None (second _ _ h.0, second _ _ h.1) f.1 least in
-      absurd (not_filled_front g.1 (values_of gs) (first _ _ (second (is_filled e.1) _ h.1)) rest)
+      let rest = last_of_all g gs other None (T-and_second _ _ h.0, T-and_second _ _ h.1) f.1 least in
+      absurd (not_filled_front g.1 (values_of gs) (T-and_first _ _ (T-and_second (is_filled e.1) _ h.1)) rest)
   last_of_all e (g ∷ gs) other (Some v) h f least =
-      let rest = last_of_all g gs other (Some v) (second _ _ h.0, second _ _ h.1) f.1 least in
+      let rest = last_of_all g gs other (Some v) (T-and_second _ _ h.0, T-and_second _ _ h.1) f.1 least in
       let keys = back_total (on_total full_key nat_list_cmp_total) in
-      let behind = least_has keys (Behind e.0) (values_of (g ∷ gs)) v rest (behind_all e.0 (g ∷ gs) (first _ _ h.0) f.1) in
+      let behind = least_has keys (Behind e.0) (values_of (g ∷ gs)) v rest (behind_all e.0 (g ∷ gs) (T-and_first _ _ h.0) f.1) in
       IsLeast-back keys (values_of (g ∷ gs)) e.1 v rest (All-weaker (FiledUnder e.0) (λ w. cmp_keys full_key w v ≡ Less) (λ w u. less_behind e.0 w v u behind) e.1 f.0)
 
   -- its own list, and else the last of the lower lists
   own_or_last : (k : K) (own : List V) (d : Content K V) (other : Option (K × List V)) (r : Option V) → All (FiledUnder k) own → All (Ahead k) (values_of d) → IsLawful cmp d → Filed d
       → IsLeast (flip_args (cmp_keys full_key)) (or_list own (unflagged (option_map (λ n. (n.0.1, n.1)) (or_cycled (last_entry d) other)))) r → IsLeast (flip_args (cmp_keys full_key)) (values_of d ++ own) r
-  own_or_last k (x ∷ xs) d other None u b h f least = absurd (no_list x xs least)
+  own_or_last k (x ∷ xs) d other None u b h f least = absurd (cons_not_nil x xs least)
   own_or_last k (x ∷ xs) d other (Some v) u b h f least =
       let keys = back_total (on_total full_key nat_list_cmp_total) in
       let under = least_has keys (FiledUnder k) (x ∷ xs) v least u in
@@ -177,65 +177,65 @@ module _ {K V : Type 0} {cmp : K → K → Ordering} (o : IsTotalOrder cmp) (ful
 
   module _ (a : List ℕ) (bytes : IsBytes a) where
     -- a list under a higher index key, and one under a lower
-    higher : (x : K) (v : V) → FiledUnder x v → cmp (slot a) x ≡ Less → byte_cmp a (full_key v) ≡ Less
-    higher x v u e = less_by_slot a (full_key v) bytes u.0 (ap (λ k. cmp (slot a) k) u.1 ∙ e)
+    byte_cmp-slot_below : (x : K) (v : V) → FiledUnder x v → cmp (slot a) x ≡ Less → byte_cmp a (full_key v) ≡ Less
+    byte_cmp-slot_below x v u e = less_by_slot a (full_key v) bytes u.0 (ap (λ k. cmp (slot a) k) u.1 ∙ e)
 
-    lower : (x : K) (v : V) → FiledUnder x v → cmp x (slot a) ≡ Less → byte_cmp (full_key v) a ≡ Less
-    lower x v u e = less_by_slot (full_key v) a u.0 bytes (ap (λ k. cmp k (slot a)) u.1 ∙ e)
+    byte_cmp-slot_above : (x : K) (v : V) → FiledUnder x v → cmp x (slot a) ≡ Less → byte_cmp (full_key v) a ≡ Less
+    byte_cmp-slot_above x v u e = less_by_slot (full_key v) a u.0 bytes (ap (λ k. cmp k (slot a)) u.1 ∙ e)
 
     above_higher : (x : K) (l : List V) → All (FiledUnder x) l → cmp (slot a) x ≡ Less → above full_key a l ≡ l
     above_higher x l f e =
-        filter_all (λ v. is_lt (byte_cmp a (full_key v))) l (All-weaker (FiledUnder x) (λ v. is_lt (byte_cmp a (full_key v)) ≡ true) (λ v u. ap is_lt (higher x v u e)) l f)
+        filter-all_pass (λ v. is_lt (byte_cmp a (full_key v))) l (All-weaker (FiledUnder x) (λ v. is_lt (byte_cmp a (full_key v)) ≡ true) (λ v u. ap is_lt (byte_cmp-slot_below x v u e)) l f)
 
     above_lower : (x : K) (l : List V) → All (FiledUnder x) l → cmp x (slot a) ≡ Less → above full_key a l ≡ []
     above_lower x l f e =
-        filter_none (λ v. is_lt (byte_cmp a (full_key v))) l
-        (All-weaker (FiledUnder x) (λ v. is_lt (byte_cmp a (full_key v)) ≡ false) (λ v u. ap is_lt (nat_list_cmp_total.antisymm a (full_key v)) ∙ turned _ (lower x v u e)) l f)
+        filter-none_pass (λ v. is_lt (byte_cmp a (full_key v))) l
+        (All-weaker (FiledUnder x) (λ v. is_lt (byte_cmp a (full_key v)) ≡ false) (λ v u. ap is_lt (nat_list_cmp_total.antisymm a (full_key v)) ∙ is_lt-reverse_less _ (byte_cmp-slot_above x v u e)) l f)
 
     below_lower : (x : K) (l : List V) → All (FiledUnder x) l → cmp x (slot a) ≡ Less → below full_key a l ≡ l
     below_lower x l f e =
-        filter_all (λ v. is_lt (byte_cmp (full_key v) a)) l (All-weaker (FiledUnder x) (λ v. is_lt (byte_cmp (full_key v) a) ≡ true) (λ v u. ap is_lt (lower x v u e)) l f)
+        filter-all_pass (λ v. is_lt (byte_cmp (full_key v) a)) l (All-weaker (FiledUnder x) (λ v. is_lt (byte_cmp (full_key v) a) ≡ true) (λ v u. ap is_lt (byte_cmp-slot_above x v u e)) l f)
 
     below_higher : (x : K) (l : List V) → All (FiledUnder x) l → cmp (slot a) x ≡ Less → below full_key a l ≡ []
     below_higher x l f e =
-        filter_none (λ v. is_lt (byte_cmp (full_key v) a)) l
-        (All-weaker (FiledUnder x) (λ v. is_lt (byte_cmp (full_key v) a) ≡ false) (λ v u. ap is_lt (nat_list_cmp_total.antisymm (full_key v) a) ∙ turned _ (higher x v u e)) l f)
+        filter-none_pass (λ v. is_lt (byte_cmp (full_key v) a)) l
+        (All-weaker (FiledUnder x) (λ v. is_lt (byte_cmp (full_key v) a) ≡ false) (λ v u. ap is_lt (nat_list_cmp_total.antisymm (full_key v) a) ∙ is_lt-reverse_less _ (byte_cmp-slot_below x v u e)) l f)
 
     -- above the key stand those of its own list and all higher lists
     above_values : (c : Content K V) → T (is_sorted cmp c) → Filed c → above full_key a (values_of c) ≡ above full_key a (list_at cmp c (slot a)) ++ values_of (entries_above cmp c (slot a))
     above_values [] h f = refl
     above_values (e ∷ es) h f =
         let k = slot a in
-        let rest : above full_key a (values_of es) ≡ above full_key a (list_at cmp es k) ++ values_of (entries_above cmp es k) = above_values es (second _ _ h) f.1 in
+        let rest : above full_key a (values_of es) ≡ above full_key a (list_at cmp es k) ++ values_of (entries_above cmp es k) = above_values es (T-and_second _ _ h) f.1 in
         let none : ((y : K) → cmp e.0 y ≡ Less → cmp k y ≡ Less) → above full_key a (values_of es) ≡ values_of (entries_above cmp es k) = λ through.
-        rest ∙ ap (λ l. above full_key a l ++ values_of (entries_above cmp es k)) (absent o k e.0 es through (first _ _ h)) in
+        rest ∙ ap (λ l. above full_key a l ++ values_of (entries_above cmp es k)) (list_at-below_all o k e.0 es through (T-and_first _ _ h)) in
         filter-append (λ v. is_lt (byte_cmp a (full_key v))) e.1 (values_of es)
         ∙ elim (cmp k e.0) as (λ r. cmp k e.0 ≡ r → above full_key a e.1 ++ above full_key a (values_of es) ≡ above full_key a (unwrap_or (cond (is_eq r) (Some e.1) (find cmp k es)) []) ++ values_of (cond (is_lt r) (e ∷ entries_above cmp es k) (entries_above cmp es k))) [
           | Less ↦ λ p.
               let through : (y : K) → cmp e.0 y ≡ Less → cmp k y ≡ Less = λ y q. o.trans k e.0 y p q in
-              (λ i. above_higher e.0 e.1 f.0 p i ++ none through i) ∙ ap (λ l. above full_key a l ++ (e.1 ++ values_of (entries_above cmp es k))) (sym (absent o k e.0 es through (first _ _ h)))
+              (λ i. above_higher e.0 e.1 f.0 p i ++ none through i) ∙ ap (λ l. above full_key a l ++ (e.1 ++ values_of (entries_above cmp es k))) (sym (list_at-below_all o k e.0 es through (T-and_first _ _ h)))
           | Equal ↦ λ p. ap (λ l. above full_key a e.1 ++ l) (none (λ y q. o.congr k e.0 y p ∙ q))
           | Greater ↦ λ p. ap (λ l. l ++ above full_key a (values_of es)) (above_lower e.0 e.1 f.0 (o.antisymm e.0 k ∙ ap ordering_reverse p)) ∙ rest
         ] refl
 
     -- below the key stand those of all lower lists and those of its own
-    none_below : (x : K) (es : Content K V) → ((y : K) → cmp x y ≡ Less → cmp (slot a) y ≡ Less) → T (below_all cmp x es) → entries_below cmp es (slot a) ≡ []
-    none_below x [] through h = refl
-    none_below x (e ∷ es) through h =
-        ap (λ r. cond (is_lt r) (e ∷ entries_below cmp es (slot a)) (entries_below cmp es (slot a))) (o.antisymm e.0 (slot a) ∙ ap ordering_reverse (through e.0 (less _ (first _ _ h)))) ∙ none_below x es through (second _ _ h)
+    entries_below-below_all : (x : K) (es : Content K V) → ((y : K) → cmp x y ≡ Less → cmp (slot a) y ≡ Less) → T (below_all cmp x es) → entries_below cmp es (slot a) ≡ []
+    entries_below-below_all x [] through h = refl
+    entries_below-below_all x (e ∷ es) through h =
+        ap (λ r. cond (is_lt r) (e ∷ entries_below cmp es (slot a)) (entries_below cmp es (slot a))) (o.antisymm e.0 (slot a) ∙ ap ordering_reverse (through e.0 (Less-is_lt _ (T-and_first _ _ h)))) ∙ entries_below-below_all x es through (T-and_second _ _ h)
 
     below_values : (c : Content K V) → T (is_sorted cmp c) → Filed c → below full_key a (values_of c) ≡ values_of (entries_below cmp c (slot a)) ++ below full_key a (list_at cmp c (slot a))
     below_values [] h f = refl
     below_values (e ∷ es) h f =
         let k = slot a in
-        let rest : below full_key a (values_of es) ≡ values_of (entries_below cmp es k) ++ below full_key a (list_at cmp es k) = below_values es (second _ _ h) f.1 in
+        let rest : below full_key a (values_of es) ≡ values_of (entries_below cmp es k) ++ below full_key a (list_at cmp es k) = below_values es (T-and_second _ _ h) f.1 in
         filter-append (λ v. is_lt (byte_cmp (full_key v) a)) e.1 (values_of es)
         ∙ elim (cmp k e.0) as (λ r. cmp k e.0 ≡ r → below full_key a e.1 ++ below full_key a (values_of es) ≡ values_of (cond (is_lt (ordering_reverse r)) (e ∷ entries_below cmp es k) (entries_below cmp es k)) ++ below full_key a (unwrap_or (cond (is_eq r) (Some e.1) (find cmp k es)) [])) [
           | Less ↦ λ p. ap (λ l. l ++ below full_key a (values_of es)) (below_higher e.0 e.1 f.0 p) ∙ rest
           | Equal ↦ λ p.
               let through : (y : K) → cmp e.0 y ≡ Less → cmp k y ≡ Less = λ y q. o.congr k e.0 y p ∙ q in
-              let lists : below full_key a (list_at cmp es k) ≡ [] = ap (below full_key a) (absent o k e.0 es through (first _ _ h)) in
-              let lower_ones : values_of (entries_below cmp es k) ≡ [] = ap values_of (none_below e.0 es through (first _ _ h)) in
+              let lists : below full_key a (list_at cmp es k) ≡ [] = ap (below full_key a) (list_at-below_all o k e.0 es through (T-and_first _ _ h)) in
+              let lower_ones : values_of (entries_below cmp es k) ≡ [] = ap values_of (entries_below-below_all e.0 es through (T-and_first _ _ h)) in
               ap (λ l. below full_key a e.1 ++ l) (rest ∙ (λ i. lower_ones i ++ lists i)) ∙ append-nil (below full_key a e.1) ∙ ap (λ l. l ++ below full_key a e.1) (sym lower_ones)
           | Greater ↦ λ p.
               ap (λ l. l ++ below full_key a (values_of es)) (below_lower e.0 e.1 f.0 (o.antisymm e.0 k ∙ ap ordering_reverse p)) ∙ ap (λ l. e.1 ++ l) rest ∙ sym (append_assoc e.1 (values_of (entries_below cmp es k)) (below full_key a (list_at cmp es k)))
@@ -249,7 +249,7 @@ module _ {K V : Type 0} {cmp : K → K → Ordering} (o : IsTotalOrder cmp) (ful
         let kept : IsLawful cmp higher_ones = (is_sorted-where_key cmp (λ x. is_lt (cmp k x)) c h.0, all_filled-where_key o (λ x. is_lt (cmp k x)) c h.1) in
         let own = All-filter (λ v. is_lt (byte_cmp a (full_key v))) (FiledUnder k) (list_at cmp c k) (f k) in
         subst (λ l. IsLeast (cmp_keys full_key) l r) (sym (above_values c h.0 filed))
-        (own_or_first k (above full_key a (list_at cmp c k)) higher_ones (first_entry c) r own (behind_above k c filed) kept (filed_where (λ x. is_lt (cmp k x)) c filed) least)
+        (own_or_first k (above full_key a (list_at cmp c k)) higher_ones (first_entry c) r own (entries_above-all_behind k c filed) kept (filed_where (λ x. is_lt (cmp k x)) c filed) least)
 
     pub prev_of_filed : (c : Content K V) (r : Option V) → IsLawful cmp c → IsFiled full_key cmp slot c → IsPrevCandidate full_key cmp c (slot a) a r → IsFullPrev full_key c a r
     prev_of_filed c r h f least =

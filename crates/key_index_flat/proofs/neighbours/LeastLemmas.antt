@@ -2,7 +2,7 @@
 --     pushed_takes, pushed_keeps                  one more value at the end, which is or isn't less
 --     IsLeast-front, IsLeast-back                 a list of greater values behind, and in front
 --     least_has                                   what holds of each value holds of the least
---     told, told_before                           what a test of two keys told, and what `<` of them by `PartialOrd` did
+--     is_lt-same_keys, told_before                what a test of two keys told, and what `<` of them by `PartialOrd` did
 --     filter_push_passes, filter_push_fails       one more value that passes a filter, and one that doesn't
 use Rattle.std.proofs.Common.{◌≡◌, ℕ, Bool, true, false, cond, List, [], ◌∷◌, ◌++◌, map, Some, All, append_assoc, append-nil, refl, sym, ap, subst, ◌∙◌}
 use Rattle.std.proofs.lemmas.List.{map-append}
@@ -59,8 +59,8 @@ module _ {V : Type 0} {cmp : V → V → Ordering} (o : IsTotalOrder cmp) where
       All-drop_front P (x ∷ xs) ys h = All-drop_front P xs ys (All-tail P x (xs ++ ys) h)
 
 -- what a test of two keys told
-pub told : (cmp : List ℕ → List ℕ → Ordering) (a b p q : List ℕ) (r : Bool) → r ≡ is_lt (cmp a b) → a ≡ p → b ≡ q → is_lt (cmp p q) ≡ r
-told cmp a b p q r is first second = (λ i. is_lt (cmp (sym first i) (sym second i))) ∙ sym is
+pub is_lt-same_keys : (cmp : List ℕ → List ℕ → Ordering) (a b p q : List ℕ) (r : Bool) → r ≡ is_lt (cmp a b) → a ≡ p → b ≡ q → is_lt (cmp p q) ≡ r
+is_lt-same_keys cmp a b p q r is first second = (λ i. is_lt (cmp (sym first i) (sym second i))) ∙ sym is
 
 -- what `<` of two keys by `PartialOrd` told, by their order
 pub told_before : (a b : List ℕ) (r : Bool) → r ≡ is_some_and is_lt (slice_partial_cmp (λ m n. Some (nat_cmp m n)) a b) → r ≡ is_lt (slice_cmp nat_cmp a b)

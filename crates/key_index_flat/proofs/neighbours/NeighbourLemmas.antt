@@ -1,10 +1,10 @@
 -- On neighbours among entries in order.
---     slice_get-last, last_told    the entry at the last place, and what an ordered map says of it
---     last_taken                   what the first step of a walk from the end says
---     last_or-map                  the last of what a function makes of entries
---     content_of-in_order          newest values in order stand for a content entry by entry
---     next_list-in_order, ..       so its neighbours are theirs
---     range_below                  the entries that a range up to a key has
+--     slice_get-last, last_entry-by_place  the entry at the last place, and what an ordered map says of it
+--     last_taken                           what the first step of a walk from the end says
+--     last_or-map                          the last of what a function makes of entries
+--     content_of-in_order                  newest values in order stand for a content entry by entry
+--     next_list-in_order, ..               so its neighbours are theirs
+--     range_below                          the entries that a range up to a key has
 use Rattle.std.proofs.Common.{◌≡◌, suc, ◌-◌, ◌<◌, Bool, true, false, cond, not, T, List, [], ◌∷◌, ◌++◌, length, map, reverse, slice_get, Option, Some, None, IsSome, IfSome, MatchOption, ◌↔◌, refl, sym, ap, subst, ◌∙◌, arith}
 use Rattle.std.specs.List.{filter, last_or}
 use Rattle.std.specs.List.Sorted.{IsStrictlySortedBy}
@@ -33,10 +33,10 @@ pub slice_get-last : {E : Type 0} (es : List E) → slice_get es (length es - 1)
 slice_get-last [] = refl
 slice_get-last (e ∷ es) = let place : suc (length es) - 1 ≡ length es = omega arith in ap (λ i. slice_get (e ∷ es) i) place ∙ last_at e es
 
-pub last_told : {A E : Type 0} (shows : A → E) (r : Option A) (es : List E) → IsSome r ↔ (0 < length es) → IfSome r (λ p. slice_get es (length es - 1) ≡ Some (shows p)) → option_map shows r ≡ last_entry es
-last_told shows None [] has at = refl
-last_told {A = A} shows None (e ∷ es) has at = let held : IsSome {T = A} None = has.1 (omega arith) in absurd (subst T (sym held) tt)
-last_told shows (Some p) es has at = sym at ∙ slice_get-last es
+pub last_entry-by_place : {A E : Type 0} (shows : A → E) (r : Option A) (es : List E) → IsSome r ↔ (0 < length es) → IfSome r (λ p. slice_get es (length es - 1) ≡ Some (shows p)) → option_map shows r ≡ last_entry es
+last_entry-by_place shows None [] has at = refl
+last_entry-by_place {A = A} shows None (e ∷ es) has at = let held : IsSome {T = A} None = has.1 (omega arith) in absurd (subst T (sym held) tt)
+last_entry-by_place shows (Some p) es has at = sym at ∙ slice_get-last es
 
 last_or-append : {E : Type 0} (o : Option E) (es : List E) (e : E) → last_or o (es ++ e ∷ []) ≡ Some e
 last_or-append o [] e = refl
@@ -85,10 +85,10 @@ module _ {K V : Type 0} where
   abbrev pub listed : (K → List V) → K × V → List V
   listed older e = e.1 ∷ reverse (older e.0)
 
-  flagged : (older : K → List V) (a b : Option (K × V)) → option_map (λ n. (n.0.1, n.1)) (or_cycled (option_map (entry_of older) a) (option_map (entry_of older) b)) ≡ or_cycled (option_map (listed older) a) (option_map (listed older) b)
-  flagged older (Some e) b = refl
-  flagged older None (Some e) = refl
-  flagged older None None = refl
+  or_cycled-listed : (older : K → List V) (a b : Option (K × V)) → option_map (λ n. (n.0.1, n.1)) (or_cycled (option_map (entry_of older) a) (option_map (entry_of older) b)) ≡ or_cycled (option_map (listed older) a) (option_map (listed older) b)
+  or_cycled-listed older (Some e) b = refl
+  or_cycled-listed older None (Some e) = refl
+  or_cycled-listed older None None = refl
 
   lists_entry : (older : K → List V) (a : Option (K × V)) → option_map (λ e. e.1) (option_map (entry_of older) a) ≡ option_map (listed older) a
   lists_entry older None = refl
@@ -107,7 +107,7 @@ module _ {K V : Type 0} where
         ap first_entry (filter-map (λ e. is_lt (cmp k e.0)) (entry_of older) heads) ∙ first_entry-map (entry_of older) (entries_above cmp heads k) in
         ap (λ c. next_list cmp c k) (content_of-in_order cmp heads older h)
         ∙ (λ i. option_map (λ n. (n.0.1, n.1)) (or_cycled (above i) (first_entry-map (entry_of older) heads i)))
-        ∙ flagged older (first_entry (entries_above cmp heads k)) (first_entry heads)
+        ∙ or_cycled-listed older (first_entry (entries_above cmp heads k)) (first_entry heads)
 
     pub prev_list-in_order : (k : K) → prev_list cmp (content_of cmp heads older) k ≡ or_cycled (option_map (listed older) (last_entry (entries_below cmp heads k))) (option_map (listed older) (last_entry heads))
     prev_list-in_order k =
@@ -115,30 +115,30 @@ module _ {K V : Type 0} where
         ap last_entry (filter-map (λ e. is_lt (cmp e.0 k)) (entry_of older) heads) ∙ last_or-map (entry_of older) None (entries_below cmp heads k) in
         ap (λ c. prev_list cmp c k) (content_of-in_order cmp heads older h)
         ∙ (λ i. option_map (λ n. (n.0.1, n.1)) (or_cycled (below i) (last_or-map (entry_of older) None heads i)))
-        ∙ flagged older (last_entry (entries_below cmp heads k)) (last_entry heads)
+        ∙ or_cycled-listed older (last_entry (entries_below cmp heads k)) (last_entry heads)
 
     -- as the two steps of a look-up find it: above or below the key, or else at the other end
     pub next_found : (k : K) (l : List V) → option_map (listed older) (first_entry (entries_above cmp heads k)) ≡ Some l → next_list cmp (content_of cmp heads older) k ≡ Some (l, false)
     next_found k l is = next_list-in_order k ∙ ap (λ a. or_cycled a (option_map (listed older) (first_entry heads))) is
 
-    pub next_cycled : (k : K) (end : Option (List V)) → option_map (listed older) (first_entry (entries_above cmp heads k)) ≡ None → first_list (content_of cmp heads older) ≡ end
+    pub next_list-cycled : (k : K) (end : Option (List V)) → option_map (listed older) (first_entry (entries_above cmp heads k)) ≡ None → first_list (content_of cmp heads older) ≡ end
         → next_list cmp (content_of cmp heads older) k ≡ option_map (λ l. (l, true)) end
-    next_cycled k end none is = next_list-in_order k ∙ (λ i. or_cycled (none i) (option_map (listed older) (first_entry heads))) ∙ ap (option_map (λ l. (l, true))) (sym first_list-in_order ∙ is)
+    next_list-cycled k end none is = next_list-in_order k ∙ (λ i. or_cycled (none i) (option_map (listed older) (first_entry heads))) ∙ ap (option_map (λ l. (l, true))) (sym first_list-in_order ∙ is)
 
     pub prev_found : (k : K) (l : List V) → option_map (listed older) (last_entry (entries_below cmp heads k)) ≡ Some l → prev_list cmp (content_of cmp heads older) k ≡ Some (l, false)
     prev_found k l is = prev_list-in_order k ∙ ap (λ a. or_cycled a (option_map (listed older) (last_entry heads))) is
 
-    pub prev_cycled : (k : K) (end : Option (List V)) → option_map (listed older) (last_entry (entries_below cmp heads k)) ≡ None → last_list (content_of cmp heads older) ≡ end
+    pub prev_list-cycled : (k : K) (end : Option (List V)) → option_map (listed older) (last_entry (entries_below cmp heads k)) ≡ None → last_list (content_of cmp heads older) ≡ end
         → prev_list cmp (content_of cmp heads older) k ≡ option_map (λ l. (l, true)) end
-    prev_cycled k end none is = prev_list-in_order k ∙ (λ i. or_cycled (none i) (option_map (listed older) (last_entry heads))) ∙ ap (option_map (λ l. (l, true))) (sym last_list-in_order ∙ is)
+    prev_list-cycled k end none is = prev_list-in_order k ∙ (λ i. or_cycled (none i) (option_map (listed older) (last_entry heads))) ∙ ap (option_map (λ l. (l, true))) (sym last_list-in_order ∙ is)
 
 -- ---- what a range has
 
-turned : (r : Ordering) → not (is_le r) ≡ is_lt (ordering_reverse r)
-turned Less = refl
-turned Equal = refl
-turned Greater = refl
+is_lt-reverse : (r : Ordering) → not (is_le r) ≡ is_lt (ordering_reverse r)
+is_lt-reverse Less = refl
+is_lt-reverse Equal = refl
+is_lt-reverse Greater = refl
 
 module _ {K V : Type 0} (cmp : K → K → Ordering) (es : List (K × V)) (k : K) where
   pub range_below : IsTotalOrder cmp → entries_between cmp Unbounded (Excluded k) es ≡ entries_below cmp es k
-  range_below o = filter_alike _ _ (λ e. turned (cmp k e.0) ∙ ap is_lt (sym (o.antisymm e.0 k))) es
+  range_below o = filter_alike _ _ (λ e. is_lt-reverse (cmp k e.0) ∙ ap is_lt (sym (o.antisymm e.0 k))) es

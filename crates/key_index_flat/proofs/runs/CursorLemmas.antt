@@ -3,8 +3,8 @@
 --     length-list_at              no list is longer than all of them
 --     pruned_none, pruned_twice   no value more, and some more twice
 --     chain_more                  some steps and one more
---     on_value, past_end          a cursor on a value is active, and one that allows `insert` and is not active is done
---     inserted                    what `insert` leaves of a list, by the place of the next value
+--     IsOnValue-active, past_end  a cursor on a value is active, and one that allows `insert` and is not active is done
+--     insert-list_after_insert    what `insert` leaves of a list, by the place of the next value
 --     edits_index                 one edit of an index, as the cursor tells it
 --     EditedTo                    an index after some edits at one key: edited_none, edited_more
 use Rattle.std.proofs.Common.{◌≡◌, ℕ, ◌+◌, ◌≤◌, false, cond, List, [], ◌∷◌, ◌++◌, length, refl, sym, ap, subst, ◌∙◌, arith}
@@ -29,7 +29,7 @@ use Rattle.std.specs.declared.cmp.Ord as ord
 use Rattle.std.specs.declared.cmp.PartialEq as eq
 use Rattle.std.specs.declared.cmp.PartialOrd as partial
 use denote.Enum.Bare.{sameb}
-use Rattle.key_index_flat.proofs.runs.ViewLemmas.{same_content, same_pruned, same_slot, same_admitted}
+use Rattle.key_index_flat.proofs.runs.ViewLemmas.{content-same_view, same_pruned, same_slot, same_admitted}
 use Rattle.key_index_flat.proofs.content.ContentLemmas.{list_at-with_list, item_count-with_list, with_list-same, with_list-twice}
 
 module _ {K V : Type 0} {cmp : K → K → Ordering} (o : IsTotalOrder cmp) where
@@ -66,20 +66,20 @@ pub chain_more : {I : Type 0} (R : I → I → Type 0) (a b c : I) (ms : List I)
 chain_more R a b c [] e r = (subst (λ x. R x c) (sym e) r, refl)
 chain_more R a b c (m ∷ ms) h r = (h.0, chain_more R m b c ms h.1 r)
 
-pub on_value : (s : CursorState) (i : ℕ) → IsOnValue (place_of s i) → s ≡ state.Active
-on_value state.NeedNext i h = absurd (cc h)
-on_value state.Active i h = refl
-on_value state.Done i h = absurd (cc h)
+pub IsOnValue-active : (s : CursorState) (i : ℕ) → IsOnValue (place_of s i) → s ≡ state.Active
+IsOnValue-active state.NeedNext i h = absurd (cc h)
+IsOnValue-active state.Active i h = refl
+IsOnValue-active state.Done i h = absurd (cc h)
 
 pub past_end : (s : CursorState) (i : ℕ) → AllowsInsert (place_of s i) → false ≡ sameb the_type s state.Active → s ≡ state.Done
 past_end state.NeedNext i h e = absurd (cc h)
 past_end state.Active i h e = absurd (cc e)
 past_end state.Done i h e = refl
 
-pub inserted : {V : Type 0} (l : List V) (p : Place) (v : V) → AllowsInsert p → insert l (next_place l p) v ≡ list_after_insert l p v
-inserted l (NeedNext i) v h = absurd (cc h)
-inserted l (Active i) v h = refl
-inserted l Done v h = λ i. take_all (length l) l (omega arith) i ++ v ∷ drop_all (length l) l (omega arith) i
+pub insert-list_after_insert : {V : Type 0} (l : List V) (p : Place) (v : V) → AllowsInsert p → insert l (next_place l p) v ≡ list_after_insert l p v
+insert-list_after_insert l (NeedNext i) v h = absurd (cc h)
+insert-list_after_insert l (Active i) v h = refl
+insert-list_after_insert l Done v h = λ i. take_all (length l) l (omega arith) i ++ v ∷ drop_all (length l) l (omega arith) i
 
 module _ {I V K : Type 0} {r : runs.Ghosts I V K} {o : ord.Ghosts K} {e : eq.Ghosts K} {p : partial.Ghosts K} where
   pub edits_index : IsTotalOrder o.cmp → (old new : IndexCursor I V K r o e p) (l : List V) (taken pruned : ℕ)
@@ -89,7 +89,7 @@ module _ {I V K : Type 0} {r : runs.Ghosts I V K} {o : ord.Ghosts K} {e : eq.Gho
       → r.edited old.index.now new.index.now
       → EditsIndex old new taken
   edits_index total old new l taken pruned same_reference slot_kept changed count edited =
-      let list = ap (λ k. run_at o.cmp (r.view new.index.now) k) slot_kept ∙ list_at_edit total _ _ _ _ (same_content changed) in
+      let list = ap (λ k. run_at o.cmp (r.view new.index.now) k) slot_kept ∙ list_at_edit total _ _ _ _ (content-same_view changed) in
       record {
         same_reference = same_reference;
         slot_kept = slot_kept;
@@ -119,7 +119,7 @@ module _ {I V K : Type 0} (r : runs.Ghosts I V K) (cmp : K → K → Ordering) w
     pub edited_more : (now next : I) (key : K) (l : List V) (taken more : ℕ) → key ≡ k → taken + 1 ≡ more → EditedTo k old now taken
         → r.view next ≡ with_pruned (with_run cmp (r.view now) key l) 1 → r.edited now next → EditedTo k old next more
     edited_more now next key l taken more at count was changed edited =
-        let content = edit_more o exact (r.view old).content _ _ k _ l lawful (same_content was.changed) (same_content changed ∙ ap (λ x. with_list cmp (r.view now).content x l) at) in
+        let content = edit_more o exact (r.view old).content _ _ k _ l lawful (content-same_view was.changed) (content-same_view changed ∙ ap (λ x. with_list cmp (r.view now).content x l) at) in
         let pruned = same_pruned changed ∙ ap (λ n. pruned_after n 1) (same_pruned was.changed) ∙ pruned_twice (r.view old).pruned taken 1 ∙ ap (λ n. pruned_after (r.view old).pruned n) count in
         record {
           changed = λ i. record { content = content i; pruned = pruned i; slot = (same_slot changed ∙ same_slot was.changed) i; admitted = (same_admitted changed ∙ same_admitted was.changed) i };

@@ -1,15 +1,15 @@
 -- What a run of steps and of commands is made of.
---     not_full                    where another value has room
---     stays_edits, edits_more     a cursor that stays has edited nothing; one edit of its list after another
---     after_skipped               what a step leaves where the place does not allow it
---     stays_by, goes_by           such a step at a cursor, and one that moves it alone
---     flagged                     a step with its flag
---     RunTo                       the steps of an edit so far: run_first, run_more, run_all
---     edit_done                   what the steps leave of the index that the cursor was made on
---     filled, none_set            one flag for each step, and none set
---     put_if_absent               a key that has a value is left as it is, and any other gets one
---     room_more, room_length      places for outcomes
---     LegalTo                     the commands so far: legal_first, legal_more, legal_all
+--     not_full                              where another value has room
+--     stays_edits, edits_more               a cursor that stays has edited nothing; one edit of its list after another
+--     after_skipped                         what a step leaves where the place does not allow it
+--     stays_by, goes_by                     such a step at a cursor, and one that moves it alone
+--     EditsBy-flag                          a step with its flag
+--     RunTo                                 the steps of an edit so far: run_first, run_more, run_all
+--     edit_done                             what the steps leave of the index that the cursor was made on
+--     flags-all_false, replicate-map_false  one flag for each step, and none set
+--     put_if_absent                         a key that has a value is left as it is, and any other gets one
+--     room_more, room_length                places for outcomes
+--     LegalTo                               the commands so far: legal_first, legal_more, legal_all
 use Rattle.std.proofs.Common.{◌≡◌, ℕ, ◌+◌, zero, suc, ◌-◌, ◌<◌, ◌^◌, map, replicate, Bool, true, false, if◌then◌else◌, not, IsTrue, List, [], ◌∷◌, ◌++◌, length, take, drop, drop-cons, get_or, set, zero-add, add-one, append_assoc, append-nil, length-set, refl, sym, ap, subst, ◌∙◌, arith}
 use Rattle.std.proofs.Math.Seq.{take-suc}
 use Rattle.std.proofs.lemmas.List.{take_all, take_more_set, take-set}
@@ -41,7 +41,7 @@ use Rattle.key_index_flat.specs.Steps.{Edited, after_step, inserts, is_allowed}
 use Rattle.key_index_flat.specs.Run.{is_full, one_if_absent, CommandGives, EditAt, IsLegal, StepGives, EditGives, HasRoom, HaveRoom}
 use Rattle.key_index_flat.proofs.content.ContentLemmas.{item_count-with_list, with_list-same, with_list-twice}
 use Rattle.key_index_flat.proofs.runs.CursorLemmas.{pruned_none, pruned_twice}
-use Rattle.key_index_flat.proofs.runs.ViewLemmas.{same_content, same_pruned, same_slot, same_admitted}
+use Rattle.key_index_flat.proofs.runs.ViewLemmas.{content-same_view, same_pruned, same_slot, same_admitted}
 
 pub not_full : (m n : ℕ) → m < 2 ^ 64 - 1 → m ≡ n → IsTrue (not (is_full n))
 not_full m n h e =
@@ -50,27 +50,27 @@ not_full m n h e =
       | false ↦ λ p. refl
     ] refl
 
-pub none_more : (n : ℕ) → n + 0 ≡ n
-none_more n = omega arith
+pub add-zero : (n : ℕ) → n + 0 ≡ n
+add-zero n = omega arith
 
 module _ {V : Type 0} where
   abbrev at : List V → Place → ℕ → Edited V
   at l p n = record { items = l; place = p; taken = n }
 
-  skipped : (x : Step V) (l : List V) (p : Place) (n : ℕ) → is_allowed x p ≡ false → after_step x (at l p n) ≡ at l p n
-  skipped step.Next l p n e = absurd (cc e)
-  skipped (step.Insert v) l (NeedNext i) n e = refl
-  skipped (step.Insert v) l (Active i) n e = absurd (cc e)
-  skipped (step.Insert v) l Done n e = absurd (cc e)
-  skipped (step.Update v) l (NeedNext i) n e = refl
-  skipped (step.Update v) l (Active i) n e = absurd (cc e)
-  skipped (step.Update v) l Done n e = refl
-  skipped step.Delete l (NeedNext i) n e = ap (λ m. at l (NeedNext i) m) (none_more n)
-  skipped step.Delete l (Active i) n e = absurd (cc e)
-  skipped step.Delete l Done n e = ap (λ m. at l Done m) (none_more n)
+  after_step-not_allowed : (x : Step V) (l : List V) (p : Place) (n : ℕ) → is_allowed x p ≡ false → after_step x (at l p n) ≡ at l p n
+  after_step-not_allowed step.Next l p n e = absurd (cc e)
+  after_step-not_allowed (step.Insert v) l (NeedNext i) n e = refl
+  after_step-not_allowed (step.Insert v) l (Active i) n e = absurd (cc e)
+  after_step-not_allowed (step.Insert v) l Done n e = absurd (cc e)
+  after_step-not_allowed (step.Update v) l (NeedNext i) n e = refl
+  after_step-not_allowed (step.Update v) l (Active i) n e = absurd (cc e)
+  after_step-not_allowed (step.Update v) l Done n e = refl
+  after_step-not_allowed step.Delete l (NeedNext i) n e = ap (λ m. at l (NeedNext i) m) (add-zero n)
+  after_step-not_allowed step.Delete l (Active i) n e = absurd (cc e)
+  after_step-not_allowed step.Delete l Done n e = ap (λ m. at l Done m) (add-zero n)
 
   pub after_skipped : (x : Step V) (s : Edited V) → is_allowed x s.place ≡ false → after_step x s ≡ s
-  after_skipped x s e = skipped x s.items s.place s.taken e
+  after_skipped x s e = after_step-not_allowed x s.items s.place s.taken e
 
 pub chain_append : {I : Type 0} (R : I → I → Type 0) (a b c : I) (ms ns : List I) → Chain R a ms b → Chain R b ns c → Chain R a (ms ++ ns) c
 chain_append R a b c [] ns e h = subst (λ x. Chain R x ns c) (sym e) h
@@ -105,31 +105,31 @@ module _ {I V K : Type 0} {r : runs.Ghosts I V K} {o : ord.Ghosts K} {e : eq.Gho
     stays_by x disallowed = record {
       taken = 0;
       edits = stays_edits old (refl, refl, refl);
-      gives = λ n. ap (λ m. edited_at old m) (none_more n) ∙ sym (after_skipped x (edited_at old n) disallowed);
+      gives = λ n. ap (λ m. edited_at old m) (add-zero n) ∙ sym (after_skipped x (edited_at old n) disallowed);
     }
 
     pub goes_by : (new : IndexCursor I V K r o e p) → StaysAt old new → cursor_place new ≡ after_next (cursor_list old) (cursor_place old) → EditsBy (after_step step.Next) old new
     goes_by new s place = record {
       taken = 0;
       edits = stays_edits new s;
-      gives = λ n i. record { items = same_list old new s i; place = place i; taken = none_more n i };
+      gives = λ n i. record { items = same_list old new s i; place = place i; taken = add-zero n i };
     }
 
-    pub flagged : (new : IndexCursor I V K r o e p) (x : Step V) (flag : Bool) (answer : Result Bool Fault) → flag ≡ result_unwrap_or answer false
+    pub EditsBy-flag : (new : IndexCursor I V K r o e p) (x : Step V) (flag : Bool) (answer : Result Bool Fault) → flag ≡ result_unwrap_or answer false
         → IfOk answer (λ b. b ≡ is_allowed x (cursor_place old)) → OnOk answer (EditsBy (after_step x) old new)
         → OnOk answer (IsTrue (inserts x (cursor_place old)) → item_count (r.view old.index.now).content < 2 ^ 64 - 1)
         → OnErr answer (IsTrue (inserts x (cursor_place old)) × EditsBy (λ s. s) old new) → Flagged x flag old new
-    flagged new x flag (Ok true) said allowed edited room refused = subst (λ b. Flagged x b old new) (sym said) (record {
+    EditsBy-flag new x flag (Ok true) said allowed edited room refused = subst (λ b. Flagged x b old new) (sym said) (record {
       taken = edited.taken;
       edits = edited.edits;
       gives = λ before. (sym allowed, (λ i. not_full _ _ (room i) all_items), edited.gives before);
     })
-    flagged new x flag (Ok false) said allowed edited room refused = subst (λ b. Flagged x b old new) (sym said) (record {
+    EditsBy-flag new x flag (Ok false) said allowed edited room refused = subst (λ b. Flagged x b old new) (sym said) (record {
       taken = edited.taken;
       edits = edited.edits;
       gives = λ before. ((λ i. absurd (cc (i, allowed))), edited.gives before ∙ after_skipped x (edited_at old before) (sym allowed));
     })
-    flagged new x flag (Err f) said allowed edited room refused = subst (λ b. Flagged x b old new) (sym said) (record {
+    EditsBy-flag new x flag (Err f) said allowed edited room refused = subst (λ b. Flagged x b old new) (sym said) (record {
       taken = refused.1.taken;
       edits = refused.1.edits;
       gives = λ before. ((λ i. refused.0), refused.1.gives before);
@@ -140,7 +140,7 @@ module _ {I V K : Type 0} {r : runs.Ghosts I V K} {o : ord.Ghosts K} {e : eq.Gho
       same_reference = g.same_reference ∙ f.same_reference;
       slot_kept = g.slot_kept ∙ f.slot_kept;
       changed =
-          let content = same_content g.changed ∙ (λ i. with_list o.cmp (same_content f.changed i) (f.slot_kept i) (cursor_list new)) ∙ with_list-twice total exact (r.view old.index.now).content old.slot (cursor_list now) (cursor_list new) lawful in
+          let content = content-same_view g.changed ∙ (λ i. with_list o.cmp (content-same_view f.changed i) (f.slot_kept i) (cursor_list new)) ∙ with_list-twice total exact (r.view old.index.now).content old.slot (cursor_list now) (cursor_list new) lawful in
           let pruned = same_pruned g.changed ∙ ap (λ n. pruned_after n b) (same_pruned f.changed) ∙ pruned_twice (r.view old.index.now).pruned a b in
           λ i. record { content = content i; pruned = pruned i; slot = (same_slot g.changed ∙ same_slot f.changed) i; admitted = (same_admitted g.changed ∙ same_admitted f.changed) i };
       states = f.states ++ g.states;
@@ -148,7 +148,7 @@ module _ {I V K : Type 0} {r : runs.Ghosts I V K} {o : ord.Ghosts K} {e : eq.Gho
     }
 
     pub same_others : (now : IndexCursor I V K r o e p) (a : ℕ) → EditsIndex old now a → others_of now ≡ others_of old
-    same_others now a f = ap (λ c. item_count c) ((λ i. with_list o.cmp (same_content f.changed i) (f.slot_kept i) []) ∙ with_list-twice total exact (r.view old.index.now).content old.slot (cursor_list now) [] lawful)
+    same_others now a f = ap (λ c. item_count c) ((λ i. with_list o.cmp (content-same_view f.changed i) (f.slot_kept i) []) ∙ with_list-twice total exact (r.view old.index.now).content old.slot (cursor_list now) [] lawful)
 
   -- the steps before, with their flags, whatever becomes of those that are left
   pub record RunTo (steps rest : List (Step V)) (at : ℕ) (flags : List Bool) (start now : IndexCursor I V K r o e p) : Type 0 where
@@ -193,9 +193,9 @@ module _ {I V K : Type 0} {r : runs.Ghosts I V K} {o : ord.Ghosts K} {e : eq.Gho
               (was.gives [] (edited_at now was.taken) (subst (λ l. EditGives (others_of start) l [] (edited_at now was.taken) (edited_at now was.taken)) (sym none) refl));
         }
 
-pub no_items : {A : Type 0} (l : List A) (n : ℕ) → n ≡ length l → n ≡ 0 → l ≡ []
-no_items [] n e h = refl
-no_items (x ∷ xs) n e h = absurd (omega (arith, e, h))
+pub empty-by_count : {A : Type 0} (l : List A) (n : ℕ) → n ≡ length l → n ≡ 0 → l ≡ []
+empty-by_count [] n e h = refl
+empty-by_count (x ∷ xs) n e h = absurd (omega (arith, e, h))
 
 module _ {I V K : Type 0} {r : runs.Ghosts I V K} {o : ord.Ghosts K} {e : eq.Ghosts K} {p : partial.Ghosts K} where
   -- what the steps leave of an index, as the cursor found it
@@ -211,15 +211,15 @@ module _ {I V K : Type 0} {r : runs.Ghosts I V K} {o : ord.Ghosts K} {e : eq.Gho
         ap (λ z. r.view z) (sym into) ∙ changed ∙ (λ i. with_pruned (with_run o.cmp (r.view (from i)) (key i) (cursor_list new)) done.taken),
       )
 
-pub filled : {E : Type 0} (answer : Result (Unit {0}) E) (old new : List Bool) (n len : ℕ) → false ≡ is_err answer → new ≡ (if is_ok answer then take n old ++ replicate (n - len) false else old) → old ≡ [] → len ≡ 0 → new ≡ replicate n false
-filled (Ok u) old new n len said is none sized =
+pub flags-all_false : {E : Type 0} (answer : Result (Unit {0}) E) (old new : List Bool) (n len : ℕ) → false ≡ is_err answer → new ≡ (if is_ok answer then take n old ++ replicate (n - len) false else old) → old ≡ [] → len ≡ 0 → new ≡ replicate n false
+flags-all_false (Ok u) old new n len said is none sized =
     let all : n - 0 ≡ n = omega arith in
     is ∙ (λ i. take n (none i) ++ replicate (n - sized i) false) ∙ ap (λ l. l ++ replicate (n - 0) false) (take_all n [] (omega arith)) ∙ ap (λ k. replicate k false) all
-filled (Err x) old new n len said is none sized = absurd (cc said)
+flags-all_false (Err x) old new n len said is none sized = absurd (cc said)
 
-pub none_set : {V : Type 0} (steps : List V) → replicate (length steps) false ≡ map (λ x. false) steps
-none_set [] = refl
-none_set (x ∷ xs) = ap (λ l. false ∷ l) (none_set xs)
+pub replicate-map_false : {V : Type 0} (steps : List V) → replicate (length steps) false ≡ map (λ x. false) steps
+replicate-map_false [] = refl
+replicate-map_false (x ∷ xs) = ap (λ l. false ∷ l) (replicate-map_false xs)
 
 module _ {K V : Type 0} {cmp : K → K → Ordering} (total : IsTotalOrder cmp) (exact : (x y : K) → cmp x y ≡ Equal → x ≡ y) where
   kept_list : (m : List V) (v : V) → 0 < length m → one_if_absent v m ≡ m
@@ -253,8 +253,8 @@ module _ {V F : Type 0} where
   room_length (b ∷ cs) (a ∷ os) h = ap (λ n. suc n) (room_length cs os h.1)
 
 -- one more of a list, by the item there
-pub take_next : {A : Type 0} (xs : List A) (i : ℕ) (x : A) → i < length xs → x ≡ get_or xs i x → take (i + 1) xs ≡ take i xs ++ x ∷ []
-take_next xs i x h is = let next : suc i ≡ i + 1 = omega arith in (λ t. take (sym next t) xs) ∙ take-suc xs i x h ∙ ap (λ y. take i xs ++ y ∷ []) (sym is)
+pub take-next_item : {A : Type 0} (xs : List A) (i : ℕ) (x : A) → i < length xs → x ≡ get_or xs i x → take (i + 1) xs ≡ take i xs ++ x ∷ []
+take-next_item xs i x h is = let next : suc i ≡ i + 1 = omega arith in (λ t. take (sym next t) xs) ∙ take-suc xs i x h ∙ ap (λ y. take i xs ++ y ∷ []) (sym is)
 
 -- what is left behind a place that is set twice
 pub drop_set : {A : Type 0} (xs : List A) (i : ℕ) (x : A) → drop (i + 1) (set xs i x) ≡ drop (i + 1) xs

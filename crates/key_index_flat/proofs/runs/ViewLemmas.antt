@@ -1,10 +1,10 @@
--- The parts of one view and another: same_content, .., and same_view, a view by its parts.
+-- The parts of one view and another: content-same_view, .., and same_view, a view by its parts.
 use Rattle.std.proofs.Common.{◌≡◌, ap}
 use Rattle.key_index_flat.specs.View.{View}
 
 module _ {K V : Type 0} {s t : View K V} where
-  pub same_content : s ≡ t → s.content ≡ t.content
-  same_content e = ap (λ (v : View K V). v.content) e
+  pub content-same_view : s ≡ t → s.content ≡ t.content
+  content-same_view e = ap (λ (v : View K V). v.content) e
 
   pub same_pruned : s ≡ t → s.pruned ≡ t.pruned
   same_pruned e = ap (λ (v : View K V). v.pruned) e

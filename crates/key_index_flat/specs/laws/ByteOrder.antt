@@ -38,8 +38,8 @@ cap_number-below (suc n) (x ∷ xs) h =
     subst (λ m. m < 256 ^ suc n) (sym (cap_number-digit n x xs)) (subst (λ m. x * 256 ^ n + cap_number n xs < m) (sym (pow-succ' 256 n))
     (below_digit x (cap_number n xs) (256 ^ n) (All-head IsByte x xs h) (cap_number-below n xs (All-tail IsByte x xs h))))
 
-smaller_digit : (x y r s p : ℕ) → x < y → r < p → x * p + r ≤ y * p + s
-smaller_digit x y r s p h k = let e : suc x * p ≤ y * p = mul-le-mul_right p h in omega (arith, e)
+smaller_digit-at_most : (x y r s p : ℕ) → x < y → r < p → x * p + r ≤ y * p + s
+smaller_digit-at_most x y r s p h k = let e : suc x * p ≤ y * p = mul-le-mul_right p h in omega (arith, e)
 
 cap_number-rises : (n : ℕ) (a b : List ℕ) → All IsByte a → All IsByte b → is_gt (slice_cmp nat_cmp a b) ≡ false → cap_number n a ≤ cap_number n b
 cap_number-rises zero a b h k e = omega arith
@@ -51,7 +51,7 @@ cap_number-rises (suc n) (x ∷ xs) (y ∷ ys) h k e =
     let rest = cap_number-rises n xs ys tails (All-tail IsByte y ys k) in
     let digits : x * 256 ^ n + cap_number n xs ≤ y * 256 ^ n + cap_number n ys =
     elim (nat_cmp x y) as (λ r. r ≡ nat_cmp x y → is_gt (ordering_then r (slice_cmp nat_cmp xs ys)) ≡ false → x * 256 ^ n + cap_number n xs ≤ y * 256 ^ n + cap_number n ys) [
-      | Less ↦ λ p _. smaller_digit x y (cap_number n xs) (cap_number n ys) (256 ^ n) (ranked x y Less p) below
+      | Less ↦ λ p _. smaller_digit-at_most x y (cap_number n xs) (cap_number n ys) (256 ^ n) (ranked x y Less p) below
       | Equal ↦ λ p f. subst (λ d. x * 256 ^ n + cap_number n xs ≤ d * 256 ^ n + cap_number n ys) (ranked x y Equal p) (let r = rest f in omega (arith, r))
       | Greater ↦ λ p f. absurd (subst T f tt)
     ] refl e in

@@ -9,17 +9,17 @@ use Rattle.std.specs.FinMap.Entries.{by_order, where_key, is_sorted-put, is_sort
 use Rattle.key_index_flat.specs.Content.{Content, is_filled, all_filled, with_list, IsLawful}
 use Rattle.key_index_flat.specs.Storage.{content_of}
 
-pub both : (a b : Bool) → T a → T b → T (a && b)
-both true b p q = q
-both false b p q = p
+pub T-and : (a b : Bool) → T a → T b → T (a && b)
+T-and true b p q = q
+T-and false b p q = p
 
-pub first : (a b : Bool) → T (a && b) → T a
-first true b p = tt
-first false b p = p
+pub T-and_first : (a b : Bool) → T (a && b) → T a
+T-and_first true b p = tt
+T-and_first false b p = p
 
-pub second : (a b : Bool) → T (a && b) → T b
-second true b p = p
-second false b p = absurd p
+pub T-and_second : (a b : Bool) → T (a && b) → T b
+T-and_second true b p = p
+T-and_second false b p = absurd p
 
 module _ {K V : Type 0} {cmp : K → K → Ordering} (o : IsTotalOrder cmp) where
   all_filled-put : (k : K) (v : V) (vs : List V) (c : Content K V) → T (all_filled c) → T (all_filled (put cmp k (v ∷ vs) c))
@@ -27,16 +27,16 @@ module _ {K V : Type 0} {cmp : K → K → Ordering} (o : IsTotalOrder cmp) wher
   all_filled-put k v vs (e ∷ es) h =
       elim (cmp k e.0) as (λ r. T (all_filled (by_order r ((k, v ∷ vs) ∷ e ∷ es) ((e.0, v ∷ vs) ∷ es) (e ∷ put cmp k (v ∷ vs) es)))) [
         | Less ↦ h
-        | Equal ↦ second (is_filled e.1) _ h
-        | Greater ↦ both (is_filled e.1) _ (first (is_filled e.1) _ h) (all_filled-put k v vs es (second (is_filled e.1) _ h))
+        | Equal ↦ T-and_second (is_filled e.1) _ h
+        | Greater ↦ T-and (is_filled e.1) _ (T-and_first (is_filled e.1) _ h) (all_filled-put k v vs es (T-and_second (is_filled e.1) _ h))
       ]
 
   pub all_filled-where_key : (p : K → Bool) (c : Content K V) → T (all_filled c) → T (all_filled (where_key cmp p c))
   all_filled-where_key p [] h = tt
   all_filled-where_key p (e ∷ es) h =
-      let rest = all_filled-where_key p es (second (is_filled e.1) _ h) in
+      let rest = all_filled-where_key p es (T-and_second (is_filled e.1) _ h) in
       elim (p e.0) as (λ b. T (all_filled (cond b (e ∷ where_key cmp p es) (where_key cmp p es)))) [
-        | true ↦ both (is_filled e.1) _ (first (is_filled e.1) _ h) rest
+        | true ↦ T-and (is_filled e.1) _ (T-and_first (is_filled e.1) _ h) rest
         | false ↦ rest
       ]
 

@@ -12,10 +12,10 @@ use Rattle.key_index_parts.specs.Ahead.{Event, Found, Visit, SameVisits, TellsAt
 use Rattle.key_index_parts.specs.declared.index.partitioned.ordered.ahead.Ahead.{Ahead}
 use Rattle.key_index_parts.specs.declared.index.partitioned.ordered.ahead.Ahead.TheVariants as ahead
 
-take_next : {A : Type 0} (n : ℕ) (l : List A) → take (suc n) l ≡ take n l ++ take 1 (drop n l)
-take_next zero l = refl
-take_next (suc n) [] = refl
-take_next (suc n) (x ∷ l) = ap (λ r. x ∷ r) (take_next n l)
+take-suc : {A : Type 0} (n : ℕ) (l : List A) → take (suc n) l ≡ take n l ++ take 1 (drop n l)
+take-suc zero l = refl
+take-suc (suc n) [] = refl
+take-suc (suc n) (x ∷ l) = ap (λ r. x ∷ r) (take-suc n l)
 
 get_dropped : {A : Type 0} (n : ℕ) (l : List A) → slice_get (drop n l) 0 ≡ slice_get l n
 get_dropped zero l = refl
@@ -53,7 +53,7 @@ module _ {K V : Type 0} (run : K → List V) (probes : List (K × ℕ)) where
         let next : suc n ≡ n + 1 = omega arith in
         let all : map (found_at run) (take n probes) ++ map (found_at run) (take 1 later) ≡ map (found_at run) (take (n + 1) probes) =
         ap (λ l. map (found_at run) (take n probes) ++ map (found_at run) (take 1 l)) is ∙ sym (map-append (found_at run) (take n probes) (take 1 (drop n probes)))
-        ∙ ap (λ l. map (found_at run) l) (sym (take_next n probes) ∙ ap (λ m. take m probes) next) in
+        ∙ ap (λ l. map (found_at run) l) (sym (take-suc n probes) ∙ ap (λ m. take m probes) next) in
         subst (λ l. FoldsTo R f l u) all (folds_append R f q u (map (found_at run) (take n probes)) (map (found_at run) (take 1 later)) h k)
 
     -- what is left, behind the events of one probe

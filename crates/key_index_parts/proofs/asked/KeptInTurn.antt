@@ -1,7 +1,7 @@
 -- A closure that is asked on each value of a list in turn, where those that go are taken out at once.
---     KeptInTurn            what it said of the values before stands in `front`, `back` is still to be asked on, and `stays` is its last answer
---     turn_first, ..        at the start, after a value that stays, after one that goes, of the same lists, and at the end
---     filtered              without the last answer
+--     KeptInTurn             what it said of the values before stands in `front`, `back` is still to be asked on, and `stays` is its last answer
+--     turn_first, ..         at the start, after a value that stays, after one that goes, of the same lists, and at the end
+--     IsFiltered-AsksInTurn  without the last answer
 use Rattle.std.proofs.Common.{◌≡◌, suc, Bool, true, false, List, [], ◌∷◌, ◌++◌, length, append-nil, append_assoc, refl, sym, ap, subst, ◌∙◌}
 use Rattle.std.specs.List.{items_where_true}
 use Rattle.std.specs.List.Retain.{IsFiltered, ReturnsInTurn}
@@ -40,5 +40,5 @@ module _ {F V : Type 0} (R : F → V → Bool → F → Type 0) where
       let all = kept [] now refl refl in
       (all.0, now, all.1, all.2, sym (all.3 ∙ append-nil ys), sym all.4)
 
-  pub filtered : (f : F) (before : Bool) (xs ys : List V) (stays : Bool) → AsksInTurn R f before xs ys stays → IsFiltered R f xs ys
-  filtered f before xs ys stays asked = (asked.0, asked.1, asked.2, asked.3, asked.4)
+  pub IsFiltered-AsksInTurn : (f : F) (before : Bool) (xs ys : List V) (stays : Bool) → AsksInTurn R f before xs ys stays → IsFiltered R f xs ys
+  IsFiltered-AsksInTurn f before xs ys stays asked = (asked.0, asked.1, asked.2, asked.3, asked.4)

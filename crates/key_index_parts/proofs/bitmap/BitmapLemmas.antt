@@ -11,9 +11,9 @@ in_word : (words : List ℕ) (p place : ℕ) → p / 64 ≡ place → words_have
 unfolding words_have
 in_word words p place e = ap (λ j. word_has (slice_index words j) (p % 64)) e
 
-pub at_place : (words : List ℕ) (place within : ℕ) → within < 64
+pub words_have-place : (words : List ℕ) (place within : ℕ) → within < 64
     → words_have words (place * 64 + within) ≡ word_has (slice_index words place) within
-at_place words place within low =
+words_have-place words place within low =
     let high : (place * 64 + within) / 64 ≡ place = omega arith in
     let rest : (place * 64 + within) % 64 ≡ within = omega arith in
     in_word words _ place high ∙ ap (word_has (slice_index words place)) rest
@@ -29,8 +29,8 @@ has_within words p here =
     ]
 
 module _ (words : List ℕ) (summary : ℕ → Bool) (exact : (place : ℕ) → summary place ≡ not (slice_index words place == 0)) where
-  unsummed : (p : ℕ) → summary (p / 64) ≡ false → words_have words p ≡ false
-  unsummed p none =
+  words_have-summary_unset : (p : ℕ) → summary (p / 64) ≡ false → words_have words p ≡ false
+  words_have-summary_unset p none =
       in_empty_word words p (eqb-true (slice_index words (p / 64)) 0 (not-false _ (sym (exact (p / 64)) ∙ none)))
 
   -- and has a bit
@@ -45,18 +45,18 @@ module _ (words : List ℕ) (summary : ℕ → Bool) (exact : (place : ℕ) → 
     first_in_word within low first =
         let from = first.from in record {
           from = omega arith;
-          here = at_place words (start / 64) within low ∙ ap (λ w. word_has w within) (sym is) ∙ first.here;
+          here = words_have-place words (start / 64) within low ∙ ap (λ w. word_has w within) (sym is) ∙ first.here;
           before = λ p least below.
               let e : p / 64 ≡ start / 64 = omega arith in
               in_word words p (start / 64) e ∙ ap (λ w. word_has w (p % 64)) (sym is) ∙ first.before (p % 64) (omega arith) (omega arith);
         }
 
     module _ (none : (p : ℕ) → start % 64 ≤ p → word_has word p ≡ false) where
-      none_before : (p : ℕ) → (start / 64 + 1 ≤ p / 64 → summary (p / 64) ≡ false) → start ≤ p → words_have words p ≡ false
-      none_before p empty least =
+      words_have-from_start : (p : ℕ) → (start / 64 + 1 ≤ p / 64 → summary (p / 64) ≡ false) → start ≤ p → words_have words p ≡ false
+      words_have-from_start p empty least =
           elim (cases_eq (p / 64) (start / 64)) as (λ _. words_have words p ≡ false) [
             | inl e ↦ in_word words p (start / 64) e ∙ ap (λ w. word_has w (p % 64)) (sym is) ∙ none (p % 64) (omega arith)
-            | inr apart ↦ unsummed p (empty (omega arith))
+            | inr apart ↦ words_have-summary_unset p (empty (omega arith))
           ]
 
       pub first_in_next : (place other within : ℕ) → within < 64 → other ≡ slice_index words place
@@ -65,17 +65,17 @@ module _ (words : List ℕ) (summary : ℕ → Bool) (exact : (place : ℕ) → 
       first_in_next place other within low is_other above first =
           let from = above.from in record {
             from = omega arith;
-            here = at_place words place within low ∙ ap (λ w. word_has w within) (sym is_other) ∙ first.here;
+            here = words_have-place words place within low ∙ ap (λ w. word_has w within) (sym is_other) ∙ first.here;
             before = λ p least below.
                 elim (cases_eq (p / 64) place) as (λ _. words_have words p ≡ false) [
                   | inl e ↦ in_word words p place e ∙ ap (λ w. word_has w (p % 64)) (sym is_other) ∙ first.before (p % 64) (omega arith) (omega arith)
-                  | inr apart ↦ none_before p (λ behind. above.before (p / 64) behind (omega arith)) least
+                  | inr apart ↦ words_have-from_start p (λ behind. above.before (p / 64) behind (omega arith)) least
                 ];
           }
 
       pub first_is_none : ((place : ℕ) → start / 64 + 1 ≤ place → summary place ≡ false)
           → (p : ℕ) → start ≤ p → words_have words p ≡ false
-      first_is_none empty p least = none_before p (λ behind. empty (p / 64) behind) least
+      first_is_none empty p least = words_have-from_start p (λ behind. empty (p / 64) behind) least
 
   module _ (end word : ℕ) (is : word ≡ slice_index words (end / 64)) where
     pub last_in_word : (within : ℕ) → within < 64 → IsLast (word_has word) (end % 64) within
@@ -83,7 +83,7 @@ module _ (words : List ℕ) (summary : ℕ → Bool) (exact : (place : ℕ) → 
     last_in_word within low last =
         let under = last.below in record {
           below = omega arith;
-          here = at_place words (end / 64) within low ∙ ap (λ w. word_has w within) (sym is) ∙ last.here;
+          here = words_have-place words (end / 64) within low ∙ ap (λ w. word_has w within) (sym is) ∙ last.here;
           behind = λ p above below.
               let e : p / 64 ≡ end / 64 = omega arith in
               in_word words p (end / 64) e ∙ ap (λ w. word_has w (p % 64)) (sym is) ∙ last.behind (p % 64) (omega arith) (omega arith);
@@ -94,7 +94,7 @@ module _ (words : List ℕ) (summary : ℕ → Bool) (exact : (place : ℕ) → 
       none_behind p empty below =
           elim (cases_eq (p / 64) (end / 64)) as (λ _. words_have words p ≡ false) [
             | inl e ↦ in_word words p (end / 64) e ∙ ap (λ w. word_has w (p % 64)) (sym is) ∙ none (p % 64) (omega arith)
-            | inr apart ↦ unsummed p (empty (omega arith))
+            | inr apart ↦ words_have-summary_unset p (empty (omega arith))
           ]
 
       pub last_in_previous : (place other within : ℕ) → within < 64 → other ≡ slice_index words place
@@ -103,7 +103,7 @@ module _ (words : List ℕ) (summary : ℕ → Bool) (exact : (place : ℕ) → 
       last_in_previous place other within low is_other below last =
           let under = below.below in record {
             below = omega arith;
-            here = at_place words place within low ∙ ap (λ w. word_has w within) (sym is_other) ∙ last.here;
+            here = words_have-place words place within low ∙ ap (λ w. word_has w within) (sym is_other) ∙ last.here;
             behind = λ p above least.
                 elim (cases_eq (p / 64) place) as (λ _. words_have words p ≡ false) [
                   | inl e ↦ in_word words p place e ∙ ap (λ w. word_has w (p % 64)) (sym is_other) ∙ last.behind (p % 64) (omega arith) (omega arith)
@@ -162,14 +162,14 @@ module _ (words : List ℕ) (count : ℕ) where
   unfolding flags_of
   length-flags_of = length-map-range_with_len (words_have words) 0 count
 
-  flag_within : (p : ℕ) → p < count → flag_at (flags_of words count) p ≡ words_have words p
+  flag_at-flags_of : (p : ℕ) → p < count → flag_at (flags_of words count) p ≡ words_have words p
   unfolding flags_of
-  flag_within p within = get_or-map-range_with_len (words_have words) 0 count p p false within (omega arith)
+  flag_at-flags_of p within = get_or-map-range_with_len (words_have words) 0 count p p false within (omega arith)
 
   flag_is : ((p : ℕ) → count ≤ p → words_have words p ≡ false) → (p : ℕ) → flag_at (flags_of words count) p ≡ words_have words p
   flag_is none p =
       elim (cases_lt p count) as (λ _. flag_at (flags_of words count) p ≡ words_have words p) [
-        | inl within ↦ flag_within p within
+        | inl within ↦ flag_at-flags_of p within
         | inr past ↦ get_or_past (flags_of words count) p false (omega (arith, length-flags_of)) ∙ sym (none p past)
       ]
 
@@ -195,5 +195,5 @@ flags_set old new count place fills within here elsewhere =
     elim (cases_eq p place) as (λ _. get_or (slice_set (flags_of old count) place fills) p false ≡ words_have new p) [
       | inl e ↦ ap (λ q. get_or (slice_set (flags_of old count) place fills) q false) e
           ∙ get_or-set_same (flags_of old count) place fills false (omega (arith, sized)) ∙ sym here ∙ ap (words_have new) (sym e)
-      | inr other ↦ get_or-set_other (flags_of old count) place p fills false other ∙ flag_within old count p below ∙ sym (elsewhere p other)
+      | inr other ↦ get_or-set_other (flags_of old count) place p fills false other ∙ flag_at-flags_of old count p below ∙ sym (elsewhere p other)
     ])

@@ -48,16 +48,16 @@ module _ {V : Type 0} where
   update_same l (Active i) v = let a = length-set l i v in omega (arith, a)
   update_same l Done v = omega arith
 
-  one_more : (x : Step V) (s : Edited V) → length (after_step x s).items ≤ length s.items + 1
-  one_more step.Next s = omega arith
-  one_more (step.Insert v) s = insert_longer s.items s.place v
-  one_more (step.Update v) s = update_same s.items s.place v
-  one_more step.Delete s = delete_shorter s.items s.place
+  length-after_step : (x : Step V) (s : Edited V) → length (after_step x s).items ≤ length s.items + 1
+  length-after_step step.Next s = omega arith
+  length-after_step (step.Insert v) s = insert_longer s.items s.place v
+  length-after_step (step.Update v) s = update_same s.items s.place v
+  length-after_step step.Delete s = delete_shorter s.items s.place
 
   pub steps_legal : (others : ℕ) (xs : List (Step V)) (s : Edited V) → others + length s.items + length xs < 2 ^ 64 → EditGives others xs (flags_of xs s) s (after_steps xs s)
   steps_legal others [] s h = refl
   steps_legal others (x ∷ xs) s h =
-      let more = one_more x s in
+      let more = length-after_step x s in
       let long : length (x ∷ xs) ≡ length xs + 1 = sym (add-one (length xs)) in
       (after_step x s, step_legal others x s (omega (arith, h, long)), steps_legal others xs (after_step x s) (omega (arith, h, more, long)))
 

@@ -14,9 +14,9 @@ module _ {A : Type 0} where
   take_whole [] = refl
   take_whole (x ∷ xs) = ap (λ l. x ∷ l) (take_whole xs)
 
-  here : (xs ys : List A) (y : A) → slice_get (xs ++ y ∷ ys) (length xs) ≡ Some y
-  here [] ys y = refl
-  here (x ∷ xs) ys y = here xs ys y
+  slice_get-append_length : (xs ys : List A) (y : A) → slice_get (xs ++ y ∷ ys) (length xs) ≡ Some y
+  slice_get-append_length [] ys y = refl
+  slice_get-append_length (x ∷ xs) ys y = slice_get-append_length xs ys y
 
   pub split_more : (done rest left all : List A) (x : A) → rest ≡ x ∷ left → done ++ rest ≡ all → (done ++ x ∷ []) ++ left ≡ all
   split_more done rest left all x e was = append_assoc done (x ∷ []) left ∙ ap (λ l. done ++ l) (sym e) ∙ was
@@ -25,4 +25,4 @@ module _ {A : Type 0} where
   split_all done rest all e was = sym (append-nil done) ∙ ap (λ l. done ++ l) (sym e) ∙ was
 
   pub get_done : (xs ys all : List A) (y : A) → xs ++ y ∷ ys ≡ all → slice_get all (length xs) ≡ Some y
-  get_done xs ys all y e = ap (λ l. slice_get l (length xs)) (sym e) ∙ here xs ys y
+  get_done xs ys all y e = ap (λ l. slice_get l (length xs)) (sym e) ∙ slice_get-append_length xs ys y

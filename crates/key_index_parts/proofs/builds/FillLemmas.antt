@@ -20,7 +20,7 @@ use Rattle.key_index_flat.specs.Run.{edit_start}
 use Rattle.key_index_flat.specs.Steps.{Edited, after_step}
 use Rattle.key_index_flat.proofs.content.ContentLemmas.{with_list-same}
 use Rattle.key_index_flat.proofs.runs.CursorLemmas.{pruned_none}
-use Rattle.key_index_flat.proofs.runs.RunLemmas.{stays_edits, edits_more, none_more}
+use Rattle.key_index_flat.proofs.runs.RunLemmas.{stays_edits, edits_more, add-zero}
 use Rattle.key_index_parts.specs.Ops.{after_steps, edit_held, edited_by}
 use Rattle.key_index_parts.specs.Fill.{RefusesStep}
 use Rattle.key_index_parts.proofs.builds.DoneLemmas.{take_done, split_more, split_all}
@@ -29,9 +29,9 @@ sum_more : (n a b : ℕ) → n + (a + b) ≡ n + a + b
 sum_more n a b = omega arith
 
 -- of an answer that is an error
-pub if_err : {A E : Type 0} (P : E → Type 0) (r : Result A E) (x : E) → IsErrAnd r (λ e. e ≡ x) → P x → IfErr r P
-if_err P (Ok a) x is h = tt
-if_err P (Err e) x is h = subst P (sym is) h
+pub IfErr-IsErrAnd : {A E : Type 0} (P : E → Type 0) (r : Result A E) (x : E) → IsErrAnd r (λ e. e ≡ x) → P x → IfErr r P
+IfErr-IsErrAnd P (Ok a) x is h = tt
+IfErr-IsErrAnd P (Err e) x is h = subst P (sym is) h
 
 module _ {V : Type 0} where
   after_steps-append : (xs : List (Step V)) (x : Step V) (s : Edited V) → after_steps (xs ++ x ∷ []) s ≡ after_step x (after_steps xs s)
@@ -63,7 +63,7 @@ module _ {I V K : Type 0} {r : runs.Ghosts I V K} {o : ord.Ghosts K} {e : eq.Gho
   fill_first steps rest same = record {
     done = [];
     split = same;
-    edits = record { taken = 0; edits = stays_edits total exact old lawful old (refl, refl, refl); gives = λ n. ap (λ m. edited_at old m) (none_more n) };
+    edits = record { taken = 0; edits = stays_edits total exact old lawful old (refl, refl, refl); gives = λ n. ap (λ m. edited_at old m) (add-zero n) };
   }
 
   pub fill_more : (steps rest left : List (Step V)) (x : Step V) (now next : IndexCursor I V K r o e p) → rest ≡ x ∷ left → EditsBy (after_step x) now next → FillTo steps rest old now → FillTo steps left old next

@@ -1,9 +1,9 @@
 -- Ranges between cuts.
---     cuts_rise                    a cut is at most each one behind it
---     after_ops-append, within_in, within_out     one op more, where it falls within and where it does not
---     filled_more                  an op in the one range that covers it
---     install_filled               filled ranges can be installed in turn, and leave what the ops below each cut make
---     below_none, below_all        ops below 0, and below all
+--     cuts_rise                                a cut is at most each one behind it
+--     after_ops-append, within_in, within_out  one op more, where it falls within and where it does not
+--     filled_more                              an op in the one range that covers it
+--     install_filled                           filled ranges can be installed in turn, and leave what the ops below each cut make
+--     ops_below-zero, below_all                ops below 0, and below all
 use Rattle.std.proofs.Common.{◌≡◌, ℕ, ◌+◌, ◌-◌, zero, suc, ◌≤◌, ◌<◌, Bool, true, false, cond, if◌then◌else◌, not, ◌&&◌, nat_lt, List, [], ◌∷◌, ◌++◌, length, set, take, drop, Some, inl, inr, append-nil, refl, sym, ap, subst, ◌∙◌, arith}
 use Rattle.std.specs.Prelude.{IsTrue, nat_le, filter, slice_index, Result, Ok, Err, OnOk, IfErr}
 use Rattle.std.specs.List.{slice_get}
@@ -29,6 +29,7 @@ use Rattle.key_index_parts.specs.declared.index.partitioned.builds.op.Op.TheVari
 use Rattle.key_index_parts.proofs.family.JoinedLemmas.{joined-empty}
 use Rattle.key_index_parts.proofs.builds.DoneLemmas.{take_whole}
 use Rattle.key_index_parts.proofs.builds.OpLemmas.{join_ops, free_above}
+use Rattle.key_index_parts.specs.laws.RangeLaws.{is_between-within}
 
 filter_out : {X : Type 0} (p : X → Bool) (xs : List X) (x : X) → p x ≡ false → filter p (xs ++ x ∷ []) ≡ filter p xs
 filter_out p [] x e = ap (λ b. cond b (x ∷ []) []) e
@@ -43,12 +44,9 @@ filter_in p (y ∷ ys) x e =
       | false ↦ refl
     ]
 
-filter_none : {X : Type 0} (p : X → Bool) (xs : List X) → ((x : X) → p x ≡ false) → filter p xs ≡ []
-filter_none p [] h = refl
-filter_none p (x ∷ xs) h = ap (λ b. cond b (x ∷ filter p xs) (filter p xs)) (h x) ∙ filter_none p xs h
-
-pub between : (a b n : ℕ) → a ≤ n → n < b → is_between a b n ≡ true
-between a b n le lt = λ i. not (le-ltb n a le i) && lt-ltb n b lt i
+filter-never : {X : Type 0} (p : X → Bool) (xs : List X) → ((x : X) → p x ≡ false) → filter p xs ≡ []
+filter-never p [] h = refl
+filter-never p (x ∷ xs) h = ap (λ b. cond b (x ∷ filter p xs) (filter p xs)) (h x) ∙ filter-never p xs h
 
 pub not_between_below : (a b n : ℕ) → n < a → is_between a b n ≡ false
 not_between_below a b n lt = ap (λ v. not v && nat_lt n b) (lt-ltb n a lt)
@@ -190,7 +188,7 @@ module _ {R K V : Type 0} {cmp : K → K → Ordering} {view : R → View K V} {
                     let is : n ≡ y = set_same ranges j n y (ap (λ m. slice_get (set ranges j n) m) same ∙ e) in
                     subst (λ m. IsFilled cmp view keys partition (ops ++ x ∷ []) (slice_index cuts m) (slice_index cuts (m + 1)) y) same
                     (subst (λ m. IsFilled cmp view keys partition (ops ++ x ∷ []) (slice_index cuts j) (slice_index cuts (j + 1)) m) is
-                    (filled_here ops x _ _ r n (between _ _ number low high) fills (was.each j r here)))
+                    (filled_here ops x _ _ r n (is_between-within _ _ number low high) fills (was.each j r here)))
               ] refl
         ] refl;
   }
@@ -232,8 +230,8 @@ module _ {R K V : Type 0} {cmp : K → K → Ordering} {view : R → View K V} {
           ],
         )
 
-pub below_none : {V : Type 0} (number : List ℕ → ℕ) (ops : List (Op V)) → ops_below number 0 ops ≡ []
-below_none number ops = filter_none _ ops (λ x. le-ltb (number (op_key x)) 0 (omega arith))
+pub ops_below-zero : {V : Type 0} (number : List ℕ → ℕ) (ops : List (Op V)) → ops_below number 0 ops ≡ []
+ops_below-zero number ops = filter-never _ ops (λ x. le-ltb (number (op_key x)) 0 (omega arith))
 
 pub below_all : {V : Type 0} (number : List ℕ → ℕ) (n : ℕ) (ops : List (Op V)) → AreBelow number n ops → ops_below number n ops ≡ ops
 below_all number n [] h = refl
@@ -266,7 +264,7 @@ module _ {R K V : Type 0} {cmp : K → K → Ordering} {view : R → View K V} {
       → CanInstall cmp view ranges start × ((n : ℕ) → n ≤ length ranges → installed cmp view (take n ranges) start ≡ upto cmp partition ops start (slice_index cuts n))
   install_filled o exact cuts total lawful ops ranges start empty are =
       let long = are.long in
-      let none : upto cmp partition ops start (slice_index cuts 0) ≡ start = ap (λ a. upto cmp partition ops start a) lawful.starts ∙ ap (λ l. after_ops cmp l start) (below_none (number_of partition start.slot) ops) in
+      let none : upto cmp partition ops start (slice_index cuts 0) ≡ start = ap (λ a. upto cmp partition ops start a) lawful.starts ∙ ap (λ l. after_ops cmp l start) (ops_below-zero (number_of partition start.slot) ops) in
       let shift : (j : ℕ) → j ≡ 0 + j = λ j. omega arith in
       let all = install_from {view = view} {partition = partition} o exact ops start (subst (λ c. IsLawful cmp c) (sym empty) (tt, tt)) (λ j. slice_index cuts j) 0 ranges
       (λ j k h. ap (λ c. list_at cmp c k) empty)
@@ -280,9 +278,9 @@ pub on_ok_map : {A E : Type 0} {P Q : Type 0} (r : Result A E) → (P → Q) →
 on_ok_map (Ok a) f p = f p
 on_ok_map (Err e) f p = tt
 
-pub pushed : {A E X : Type 0} (r : Result A E) (b : Bool) (new xs ys : List X) → b ≡ is_err r → b ≡ false → new ≡ (if is_ok r then ys else xs) → new ≡ ys
-pushed (Ok a) b new xs ys said f is = is
-pushed (Err e) b new xs ys said f is = let bad : true ≡ false = sym said ∙ f in absurd (cc bad)
+pub pushed-by_is_err : {A E X : Type 0} (r : Result A E) (b : Bool) (new xs ys : List X) → b ≡ is_err r → b ≡ false → new ≡ (if is_ok r then ys else xs) → new ≡ ys
+pushed-by_is_err (Ok a) b new xs ys said f is = is
+pushed-by_is_err (Err e) b new xs ys said f is = let bad : true ≡ false = sym said ∙ f in absurd (cc bad)
 
 module _ {K V : Type 0} (cmp : K → K → Ordering) where
   -- what ops make of a content, whatever was pruned and is admitted
@@ -328,8 +326,8 @@ module _ {R K V : Type 0} {cmp : K → K → Ordering} {view : R → View K V} {
   )
 
 -- a vector that was lent as a slice, and the slice put back
-pub put_back : {A : Type 0} (n : ℕ) (new items : List A) → n ≡ length items → length new ≡ length items → take n (new ++ drop (length new) items) ≡ new
-put_back n new items known same =
+pub take-refilled : {A : Type 0} (n : ℕ) (new items : List A) → n ≡ length items → length new ≡ length items → take n (new ++ drop (length new) items) ≡ new
+take-refilled n new items known same =
     ap (λ l. take n (new ++ l)) (drop_all (length new) items (omega (arith, same))) ∙ ap (λ l. take n l) (append-nil new) ∙ take_all n new (omega (arith, known, same))
 
 module _ {R K V : Type 0} {cmp : K → K → Ordering} {view : R → View K V} {partition : K → ℕ}

@@ -6,7 +6,7 @@ use Rattle.std.proofs.Common.{◌≡◌, ℕ, ◌+◌, ◌≤◌, true, false, B
 use Rattle.std.specs.List.{items_where_true}
 use Rattle.std.specs.List.Retain.{IsFiltered}
 use Rattle.key_index_flat.specs.Content.{Content, is_filled, all_filled, item_count, key_count}
-use Rattle.key_index_flat.specs.laws.Laws.{first, second}
+use Rattle.key_index_flat.specs.laws.Laws.{T-and_first, T-and_second}
 use Rattle.key_index_flat.proofs.content.ContentLemmas.{entries_for}
 
 one_at_least : {V : Type 0} (l : List V) (n : ℕ) → T (is_filled l) → 1 + n ≤ length l + n
@@ -16,8 +16,8 @@ one_at_least (v ∷ vs) n h = omega arith
 pub keys_at_most : {K V : Type 0} (c : Content K V) → T (all_filled c) → key_count c ≤ item_count c
 keys_at_most [] h = omega arith
 keys_at_most (e ∷ es) h =
-    let rest = keys_at_most es (second (is_filled e.1) _ h) in
-    let one = one_at_least e.1 (item_count es) (first (is_filled e.1) _ h) in omega (arith, rest, one)
+    let rest = keys_at_most es (T-and_second (is_filled e.1) _ h) in
+    let one = one_at_least e.1 (item_count es) (T-and_first (is_filled e.1) _ h) in omega (arith, rest, one)
 
 pub as_many_entries : {V : Type 0} (l m : List V) → length l ≡ length m → entries_for l ≡ entries_for m
 as_many_entries [] [] e = refl

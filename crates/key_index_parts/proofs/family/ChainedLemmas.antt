@@ -8,7 +8,7 @@ use Rattle.std.specs.Cmp.{IsTotalOrder}
 use Rattle.key_index_flat.specs.Content.{Content, is_filled, IsLawful, list_at, with_list, key_count}
 use Rattle.key_index_flat.proofs.content.ContentLemmas.{key_count-with_list, entries_for}
 use Rattle.key_index_flat.proofs.asked.KeptLemmas.{lawful_edit}
-use Rattle.key_index_parts.proofs.family.StorageLemmas.{one_entry}
+use Rattle.key_index_parts.proofs.family.StorageLemmas.{entries_for-filled}
 
 more_keys : {V : Type 0} (old : List V) (keys now : ℕ) → now + entries_for old ≡ keys + 1 → nat_lt keys now ≡ not (is_filled old)
 more_keys [] keys now e = lt-ltb keys now (omega (arith, e))
@@ -19,7 +19,7 @@ module _ {K V : Type 0} {cmp : K → K → Ordering} (o : IsTotalOrder cmp) wher
       → keys ≡ key_count c → now ≡ key_count d → nat_lt keys now ≡ not (is_filled (list_at cmp c k))
   absent_key c d k l keys now lawful e filled was is =
       let counts = key_count-with_list o c k l lawful in
-      let one = one_entry l filled in
+      let one = entries_for-filled l filled in
       let same = ap (λ x. key_count x) e in
       more_keys (list_at cmp c k) keys now (omega (arith, counts, one, same, was, is))
 

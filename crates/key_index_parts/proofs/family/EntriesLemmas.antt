@@ -1,6 +1,6 @@
 -- On the entries of one bucket in the content of them all.
---     counts                   there are as many values as the bucket holds, of buckets that are numbered from n
---     item_count-entries_of    there are as many values as the bucket holds
+--     item_count-entries_of_from  there are as many values as the bucket holds, of buckets that are numbered from n
+--     item_count-entries_of       there are as many values as the bucket holds
 use Rattle.std.proofs.Common.{◌≡◌, ℕ, zero, suc, ◌+◌, ◌<◌, cond, List, [], ◌∷◌, ◌++◌, get_or, length, add-zero, zero-add, refl, sym, ap, ◌∙◌, arith}
 use Rattle.std.proofs.lemmas.Bool.{eq-eqb, ne_eqb}
 use Rattle.key_index_flat.specs.Content.{Content, item_count}
@@ -25,16 +25,16 @@ module _ {K V : Type 0} where
   none_later q n [] h = refl
   none_later q n (c ∷ cs) h = none_other q n c (gathered_from (suc q) cs) (λ e. omega (arith, e, h)) ∙ none_later (suc q) n cs (omega (arith, h))
 
-  pub counts : (n : ℕ) (cs : List (Content K V)) (p : ℕ) → item_count (entries_of (gathered_from n cs) (n + p)) ≡ item_count (get_or cs p [])
-  counts n [] p = refl
-  counts n (c ∷ cs) zero =
+  pub item_count-entries_of_from : (n : ℕ) (cs : List (Content K V)) (p : ℕ) → item_count (entries_of (gathered_from n cs) (n + p)) ≡ item_count (get_or cs p [])
+  item_count-entries_of_from n [] p = refl
+  item_count-entries_of_from n (c ∷ cs) zero =
       let own = count_own n c (gathered_from (suc n) cs) in
       let none = ap (λ d. item_count d) (none_later (suc n) n cs (omega arith)) in
       ap (λ m. item_count (entries_of (tagged n c ++ gathered_from (suc n) cs) m)) (add-zero n) ∙ omega (arith, own, none)
-  counts n (c ∷ cs) (suc p) =
+  item_count-entries_of_from n (c ∷ cs) (suc p) =
       let one_on : n + suc p ≡ suc n + p = omega arith in
       ap (λ d. item_count d) (none_other n (n + suc p) c (gathered_from (suc n) cs) (λ e. omega (arith, e)))
-      ∙ ap (λ m. item_count (entries_of (gathered_from (suc n) cs) m)) one_on ∙ counts (suc n) cs p
+      ∙ ap (λ m. item_count (entries_of (gathered_from (suc n) cs) m)) one_on ∙ item_count-entries_of_from (suc n) cs p
 
   pub item_count-entries_of : (buckets : List (Content K V)) (n : ℕ) → item_count (entries_of (gathered buckets) n) ≡ item_count (bucket_at buckets n)
-  item_count-entries_of buckets n = ap (λ m. item_count (entries_of (gathered buckets) m)) (sym (zero-add n)) ∙ counts 0 buckets n
+  item_count-entries_of buckets n = ap (λ m. item_count (entries_of (gathered buckets) m)) (sym (zero-add n)) ∙ item_count-entries_of_from 0 buckets n

@@ -1,22 +1,22 @@
 -- On a family of buckets, by what each holds.
---     held_within                a slot that has a value is of some bucket
---     filled_by, filled_held     what holds a value is filled
---     IsBucket, bucket_taken         a bucket that was taken from its place
---     bucket_told, list_told       what a bucket holds is what the family tells of it
---     bucket_edited, bucket_stays    the family after one list of a bucket was edited, and after none was
---     all_alike, none_filled     buckets that are all alike, and that hold nothing
---     flags_edited, flags_stay   which buckets are filled after such a call
---     standing_told, listed      how a bucket stands is what the family tells of it
---     leaves, grows                  how the buckets stand after a call that says it of one
---     spills_to                  how they stand where one spilled if it was due
---     family_stays               the family after a call that changed nothing
---     family_back                how the buckets stand after one was moved back
---     none_refused, refused_so   what is said of a refusal, of an outcome that is known
---     on_refusal                 and of any outcome
---     spills_so                  a bucket of which a spill would move values is of a kind that spills
---     due_told, due_none         how many values are due to spill, by how many a spill would move
---     counted_buckets              each bucket stands with as many values as it holds
---     left_fewer                 no more values of a bucket once its list became no longer
+--     held_within                       a slot that has a value is of some bucket
+--     is_filled-with_list, filled_held  what holds a value is filled
+--     IsBucket, bucket_taken            a bucket that was taken from its place
+--     bucket_told, list_told            what a bucket holds is what the family tells of it
+--     bucket_edited, bucket_stays       the family after one list of a bucket was edited, and after none was
+--     all_alike, none_filled            buckets that are all alike, and that hold nothing
+--     flags_edited, flags_stay          which buckets are filled after such a call
+--     standing_told, within_mapped      how a bucket stands is what the family tells of it
+--     LeavesIn-set, GrowsIn-set         how the buckets stand after a call that says it of one
+--     spills_to                         how they stand where one spilled if it was due
+--     family_stays                      the family after a call that changed nothing
+--     family_back                       how the buckets stand after one was moved back
+--     none_refused, refused_so          what is said of a refusal, of an outcome that is known
+--     on_refusal                        and of any outcome
+--     spills_so                         a bucket of which a spill would move values is of a kind that spills
+--     due_told, due_none                how many values are due to spill, by how many a spill would move
+--     counted_buckets                   each bucket stands with as many values as it holds
+--     left_fewer                        no more values of a bucket once its list became no longer
 use Rattle.std.proofs.Common.{◌≡◌, ℕ, zero, suc, ◌<◌, Bool, true, false, not, nat_le, List, [], ◌∷◌, ◌++◌, map, insert, take, drop, replicate, All, set, length, refl, sym, ap, subst, ◌∙◌, ◌≤◌, ◌&&◌, ◌||◌, nat_lt, arith, lt_of_not-le, slice_index_or}
 use Rattle.std.proofs.lemmas.Bool.{le-leb, lt-leb}
 use Rattle.std.proofs.lemmas.List.{get_or-map, get_or-set_same, set-set, map-set, get_or_past, length-map}
@@ -38,9 +38,9 @@ some_among : {V : Type 0} (xs ys : List V) (v : V) → 0 < length (xs ++ v ∷ y
 some_among [] ys v = omega arith
 some_among (x ∷ xs) ys v = let rest = some_among xs ys v in omega (arith, rest)
 
-pub positive : (n : ℕ) → (n ≡ 0 → ⊥) → 0 < n
-positive zero h = absurd (h refl)
-positive (suc n) h = omega arith
+pub not_zero-positive : (n : ℕ) → (n ≡ 0 → ⊥) → 0 < n
+not_zero-positive zero h = absurd (h refl)
+not_zero-positive (suc n) h = omega arith
 
 pub not_not : (b c : Bool) → b ≡ not c → not b ≡ c
 not_not b true e = ap not e
@@ -61,16 +61,16 @@ module _ {K V : Type 0} (cmp : K → K → Ordering) where
         | Greater ↦ refl
       ]
 
-  pub filled_by : (c : Content K V) (k : K) (l : List V) → 0 < length l → is_filled (with_list cmp c k l) ≡ true
-  filled_by c k [] h = absurd (omega (arith, h))
-  filled_by c k (v ∷ vs) h = filled_with c k v vs
+  pub is_filled-with_list : (c : Content K V) (k : K) (l : List V) → 0 < length l → is_filled (with_list cmp c k l) ≡ true
+  is_filled-with_list c k [] h = absurd (omega (arith, h))
+  is_filled-with_list c k (v ∷ vs) h = filled_with c k v vs
 
   pub filled_insert : (c : Content K V) (k : K) (l : List V) (i : ℕ) (v : V) → is_filled (with_list cmp c k (insert l i v)) ≡ true
-  filled_insert c k l i v = filled_by c k (insert l i v) (some_among (take i l) (drop i l) v)
+  filled_insert c k l i v = is_filled-with_list c k (insert l i v) (some_among (take i l) (drop i l) v)
 
-  pub filled_put : (c : Content K V) (k : K) (l : List V) (first : Bool) (v : V) → is_filled (with_list cmp c k (put_value first v l)) ≡ true
-  filled_put c k l true v = filled_with c k v l
-  filled_put c k l false v = filled_by c k (l ++ v ∷ []) (some_among l [] v)
+  pub is_filled-with_put : (c : Content K V) (k : K) (l : List V) (first : Bool) (v : V) → is_filled (with_list cmp c k (put_value first v l)) ≡ true
+  is_filled-with_put c k l true v = filled_with c k v l
+  is_filled-with_put c k l false v = is_filled-with_list c k (l ++ v ∷ []) (some_among l [] v)
 
   pub filled_held : (c : Content K V) (k : K) → 0 < length (list_at cmp c k) → is_filled c ≡ true
   filled_held [] k h = absurd (omega (arith, h))
@@ -124,8 +124,8 @@ module _ {X K V : Type 0} {f : X → Content K V} {xs : List X} {p : ℕ} {x : X
   pub standing_told : how x ≡ standing_in (map how xs) p
   standing_told = ap how bucket.at ∙ sym (get_or-map how xs p x (record { entries = 0; spilled = false }) bucket.inside)
 
-  pub listed : p < length (map how xs)
-  listed = let same = length-map xs how in let inside = bucket.inside in omega (arith, same, inside)
+  pub within_mapped : p < length (map how xs)
+  within_mapped = let same = length-map xs how in let inside = bucket.inside in omega (arith, same, inside)
 
   pub standing_new : (y : X) → standing_in (map how (set xs p y)) p ≡ how y
   standing_new y =
@@ -134,23 +134,23 @@ module _ {X K V : Type 0} {f : X → Content K V} {xs : List X} {p : ℕ} {x : X
       ap (λ l. standing_in l p) (map-set how xs p y)
       ∙ get_or-set_same (map how xs) p (how y) (record { entries = 0; spilled = false }) (omega (arith, same, inside))
 
-  changed : (y : X) (after : Standing → ℕ → Standing) → how y ≡ after (how x) (item_count (f y))
+  map-set_standing : (y : X) (after : Standing → ℕ → Standing) → how y ≡ after (how x) (item_count (f y))
       → map how (set xs p y) ≡ set (map how xs) p (after (standing_in (map how xs) p) (standing_in (map how (set xs p y)) p).entries)
-  changed y after e =
+  map-set_standing y after e =
       map-set how xs p y ∙ ap (λ z. set (map how xs) p z) (e ∙ (λ i. after (standing_told i) (sym (standing_new y) i).entries))
 
-  pub leaves : (y : X) → s y ≡ stays_spilled (s x) (f y) → LeavesIn (map how xs) p (map how (set xs p y))
-  leaves y e = changed y left_with (ap (λ b. stands (f y) b) e)
+  pub LeavesIn-set : (y : X) → s y ≡ stays_spilled (s x) (f y) → LeavesIn (map how xs) p (map how (set xs p y))
+  LeavesIn-set y e = map-set_standing y left_with (ap (λ b. stands (f y) b) e)
 
   -- a bucket that y stands for, once it was left with what y holds, and so many values of it moved
-  pub grows : (spills : Bool) (limit moved : ℕ) (y : X) → Grows spills limit (s x) moved (f y) (s y)
+  pub GrowsIn-set : (spills : Bool) (limit moved : ℕ) (y : X) → Grows spills limit (s x) moved (f y) (s y)
       → GrowsIn spills limit (map how xs) p moved (map how (set xs p y))
-  grows spills limit moved y told =
+  GrowsIn-set spills limit moved y told =
       let m = (standing_in (map how (set xs p y)) p).entries in
       let left = left_with (standing_in (map how xs) p) m in
       let at : stands (f y) (stays_spilled (s x) (f y)) ≡ standing_in (with_left (map how xs) p m) p =
       (λ i. left_with (standing_told i) (sym (standing_new y) i).entries)
-      ∙ sym (get_or-set_same (map how xs) p left (record { entries = 0; spilled = false }) listed) in (
+      ∙ sym (get_or-set_same (map how xs) p left (record { entries = 0; spilled = false }) within_mapped) in (
         told.0 ∙ ap (λ z. due_in spills limit z) at,
         map-set how xs p y ∙ ap (λ z. set (map how xs) p z) (told.1 ∙ ap (λ z. spilled_by moved z) at) ∙ sym (set-set (map how xs) p left _),
       )

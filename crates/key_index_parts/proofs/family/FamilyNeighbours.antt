@@ -1,9 +1,9 @@
 -- The neighbours of a slot among the buckets of a family, by which of them are filled.
---     flag_told, flag_within       the flag of a bucket, and a flag that is set is of one
---     first_of, first_none         the first list of the buckets from a number on, by the first of them that is filled, and where none is
---     last_of, last_none           the last list of the buckets below a number, by the last of them that is filled, and where none is
---     next_own, next_later, ..     the next list of a slot: in its own bucket, in a later one, and past the end
---     prev_own, prev_earlier, ..   the same before it
+--     flag_told, flag_at-within               the flag of a bucket, and a flag that is set is of one
+--     first_of, first_none                    the first list of the buckets from a number on, by the first of them that is filled, and where none is
+--     last_of, last_list-no_flags             the last list of the buckets below a number, by the last of them that is filled, and where none is
+--     next_list-own_bucket, next_later, ..    the next list of a slot: in its own bucket, in a later one, and past the end
+--     prev_list-own_bucket, prev_earlier, ..  the same before it
 use Rattle.std.proofs.Common.{◌≡◌, ℕ, zero, suc, ◌+◌, ◌-◌, ◌<◌, ◌≤◌, nat_lt, true, false, T, List, [], ◌∷◌, ◌++◌, get_or, take, drop, length, Option, Some, None, append-nil, refl, sym, ap, subst, ◌∙◌, arith}
 use Rattle.std.proofs.lemmas.Bool.{ltb-true, ltb-false}
 use Rattle.std.proofs.lemmas.List.{get_or-drop, get_or-take, get_or_past}
@@ -17,9 +17,9 @@ use Rattle.key_index_parts.specs.Bitmap.{IsFirst, IsLast, flag_at}
 use Rattle.key_index_parts.specs.Gathered.{pair_cmp, tagged, gathered_from, gathered}
 use Rattle.key_index_parts.proofs.family.GatheredNeighbours.{above-gathered, below-gathered}
 
-last_or-append : {E : Type 0} (o : Option E) (xs : List E) (y : E) (ys : List E) → last_or o (xs ++ y ∷ ys) ≡ last_or None (y ∷ ys)
-last_or-append o [] y ys = refl
-last_or-append o (x ∷ xs) y ys = last_or-append (Some x) xs y ys
+last_or-append_more : {E : Type 0} (o : Option E) (xs : List E) (y : E) (ys : List E) → last_or o (xs ++ y ∷ ys) ≡ last_or None (y ∷ ys)
+last_or-append_more o [] y ys = refl
+last_or-append_more o (x ∷ xs) y ys = last_or-append_more (Some x) xs y ys
 
 module _ {K V : Type 0} where
   -- the flag of a bucket
@@ -28,22 +28,22 @@ module _ {K V : Type 0} where
   flag_told (c ∷ cs) zero = refl
   flag_told (c ∷ cs) (suc n) = flag_told cs n
 
-  pub flag_within : (buckets : List (Content K V)) (n : ℕ) → flag_at (filled_buckets buckets) n ≡ true → n < length buckets
-  flag_within [] n h = absurd (subst T (sym h) tt)
-  flag_within (c ∷ cs) zero h = omega arith
-  flag_within (c ∷ cs) (suc n) h = let l = flag_within cs n h in omega (arith, l)
+  pub flag_at-within : (buckets : List (Content K V)) (n : ℕ) → flag_at (filled_buckets buckets) n ≡ true → n < length buckets
+  flag_at-within [] n h = absurd (subst T (sym h) tt)
+  flag_at-within (c ∷ cs) zero h = omega arith
+  flag_at-within (c ∷ cs) (suc n) h = let l = flag_at-within cs n h in omega (arith, l)
 
-  pub unfilled : (c : Content K V) → is_filled c ≡ false → c ≡ []
-  unfilled [] h = refl
-  unfilled (e ∷ es) h = absurd (subst T h tt)
+  pub empty-is_filled : (c : Content K V) → is_filled c ≡ false → c ≡ []
+  empty-is_filled [] h = refl
+  empty-is_filled (e ∷ es) h = absurd (subst T h tt)
 
   first-append : (p : ℕ) (c : Content K V) (d : Content (ℕ × K) V) (l : List V) → first_list c ≡ Some l → first_list (tagged p c ++ d) ≡ Some l
   first-append p [] d l h = cc
   first-append p (e ∷ es) d l h = h
 
-  none_first : (c : Content K V) → first_list c ≡ None → c ≡ []
-  none_first [] h = refl
-  none_first (e ∷ es) h = cc
+  first_list-none : (c : Content K V) → first_list c ≡ None → c ≡ []
+  first_list-none [] h = refl
+  first_list-none (e ∷ es) h = cc
 
   first_some : (c : Content K V) → is_filled c ≡ true → (e : K × List V) × (first_list c ≡ Some e.1)
   first_some [] h = absurd (subst T (sym h) tt)
@@ -53,14 +53,14 @@ module _ {K V : Type 0} where
 
   none_from : (m : ℕ) (cs : List (Content K V)) → ((i : ℕ) → is_filled (get_or cs i []) ≡ false) → gathered_from m cs ≡ []
   none_from m [] h = refl
-  none_from m (c ∷ cs) h = ap (λ d. tagged m d ++ gathered_from (suc m) cs) (unfilled c (h 0)) ∙ none_from (suc m) cs (λ i. h (suc i))
+  none_from m (c ∷ cs) h = ap (λ d. tagged m d ++ gathered_from (suc m) cs) (empty-is_filled c (h 0)) ∙ none_from (suc m) cs (λ i. h (suc i))
 
   first_from : (m : ℕ) (cs : List (Content K V)) (j : ℕ) → is_filled (get_or cs j []) ≡ true → ((i : ℕ) → i < j → is_filled (get_or cs i []) ≡ false)
       → first_list (gathered_from m cs) ≡ first_list (get_or cs j [])
   first_from m [] j h before = absurd (subst T (sym h) tt)
   first_from m (c ∷ cs) zero h before = let some = first_some c h in first-append m c (gathered_from (suc m) cs) some.0.1 some.1 ∙ sym some.1
   first_from m (c ∷ cs) (suc j) h before =
-      ap (λ d. first_list (tagged m d ++ gathered_from (suc m) cs)) (unfilled c (before 0 (omega arith)))
+      ap (λ d. first_list (tagged m d ++ gathered_from (suc m) cs)) (empty-is_filled c (before 0 (omega arith)))
       ∙ first_from (suc m) cs j h (λ i l. before (suc i) (omega (arith, l)))
 
   module _ (buckets : List (Content K V)) (start : ℕ) where
@@ -83,7 +83,7 @@ module _ {K V : Type 0} where
 
   last-append : (c d : Content K V) (l : List V) → last_list d ≡ Some l → last_list (c ++ d) ≡ Some l
   last-append c [] l h = cc
-  last-append c (e ∷ es) l h = ap (λ o. option_map (λ f. f.1) o) (last_or-append None c e es) ∙ h
+  last-append c (e ∷ es) l h = ap (λ o. option_map (λ f. f.1) o) (last_or-append_more None c e es) ∙ h
 
   last-tagged_from : (p : ℕ) (o : Option (K × List V)) (q : Option ((ℕ × K) × List V)) (c : Content K V) → option_map (λ e. e.1) q ≡ option_map (λ e. e.1) o
       → option_map (λ e. e.1) (last_or q (tagged p c)) ≡ option_map (λ e. e.1) (last_or o c)
@@ -131,15 +131,15 @@ module _ {K V : Type 0} where
         last_from 0 (take end buckets) n (ap is_filled here ∙ sym (flag_told buckets n) ∙ last.here) (λ i l. below_end i (λ b. last.behind i l b))
         ∙ ap (λ c. last_list c) here
 
-    pub last_none : ((p : ℕ) → p < end → flag_at (filled_buckets buckets) p ≡ false) → last_list (gathered (take end buckets)) ≡ None
-    last_none h = ap (λ c. last_list c) (none_from 0 (take end buckets) (λ i. below_end i (h i)))
+    pub last_list-no_flags : ((p : ℕ) → p < end → flag_at (filled_buckets buckets) p ≡ false) → last_list (gathered (take end buckets)) ≡ None
+    last_list-no_flags h = ap (λ c. last_list c) (none_from 0 (take end buckets) (λ i. below_end i (h i)))
 
 -- ---- neighbours
 
-cycled : {K V : Type 0} (o p : Option (K × List V)) → option_map (λ n. (n.0.1, n.1)) (or_cycled o p) ≡ or_cycled (option_map (λ e. e.1) o) (option_map (λ e. e.1) p)
-cycled (Some e) p = refl
-cycled None (Some e) = refl
-cycled None None = refl
+or_cycled-lists : {K V : Type 0} (o p : Option (K × List V)) → option_map (λ n. (n.0.1, n.1)) (or_cycled o p) ≡ or_cycled (option_map (λ e. e.1) o) (option_map (λ e. e.1) p)
+or_cycled-lists (Some e) p = refl
+or_cycled-lists None (Some e) = refl
+or_cycled-lists None None = refl
 
 module _ {K V : Type 0} (cmp : K → K → Ordering) (buckets : List (Content K V)) (slot : ℕ × K) where
   abbrev own_above : Content K V
@@ -154,46 +154,46 @@ module _ {K V : Type 0} (cmp : K → K → Ordering) (buckets : List (Content K 
   abbrev earlier : Content (ℕ × K) V
   earlier = gathered (take slot.0 buckets)
 
-  all_above : entries_above (pair_cmp cmp) (gathered buckets) slot ≡ tagged slot.0 own_above ++ later
-  all_above =
+  entries_above-gathered : entries_above (pair_cmp cmp) (gathered buckets) slot ≡ tagged slot.0 own_above ++ later
+  entries_above-gathered =
       let next : suc slot.0 ≡ slot.0 + 1 = omega arith in
       above-gathered cmp buckets slot.0 slot.1 ∙ ap (λ n. tagged slot.0 own_above ++ gathered_from n (drop n buckets)) next
 
   above_none : first_list own_above ≡ None → entries_above (pair_cmp cmp) (gathered buckets) slot ≡ later
-  above_none h = all_above ∙ ap (λ c. tagged slot.0 c ++ later) (none_first own_above h)
+  above_none h = entries_above-gathered ∙ ap (λ c. tagged slot.0 c ++ later) (first_list-none own_above h)
 
   next_by : (o : Option (List V)) → first_list (entries_above (pair_cmp cmp) (gathered buckets) slot) ≡ o → next_list (pair_cmp cmp) (gathered buckets) slot ≡ or_cycled o (first_list (gathered buckets))
-  next_by o h = cycled (first_entry (entries_above (pair_cmp cmp) (gathered buckets) slot)) (first_entry (gathered buckets)) ∙ ap (λ p. or_cycled p (first_list (gathered buckets))) h
+  next_by o h = or_cycled-lists (first_entry (entries_above (pair_cmp cmp) (gathered buckets) slot)) (first_entry (gathered buckets)) ∙ ap (λ p. or_cycled p (first_list (gathered buckets))) h
 
-  pub next_own : (l : List V) → first_list own_above ≡ Some l → next_list (pair_cmp cmp) (gathered buckets) slot ≡ Some (l, false)
-  next_own l h = next_by (Some l) (ap (λ c. first_list c) all_above ∙ first-append slot.0 own_above later l h)
+  pub next_list-own_bucket : (l : List V) → first_list own_above ≡ Some l → next_list (pair_cmp cmp) (gathered buckets) slot ≡ Some (l, false)
+  next_list-own_bucket l h = next_by (Some l) (ap (λ c. first_list c) entries_above-gathered ∙ first-append slot.0 own_above later l h)
 
   pub next_later : (l : List V) → first_list own_above ≡ None → first_list later ≡ Some l → next_list (pair_cmp cmp) (gathered buckets) slot ≡ Some (l, false)
   next_later l h k = next_by (Some l) (ap (λ c. first_list c) (above_none h) ∙ k)
 
-  pub next_cycled : (o : Option (List V)) → first_list own_above ≡ None → first_list later ≡ None → first_list (gathered buckets) ≡ o
+  pub next_list-gathered_cycled : (o : Option (List V)) → first_list own_above ≡ None → first_list later ≡ None → first_list (gathered buckets) ≡ o
       → next_list (pair_cmp cmp) (gathered buckets) slot ≡ option_map (λ l. (l, true)) o
-  next_cycled o h k f = next_by None (ap (λ c. first_list c) (above_none h) ∙ k) ∙ ap (λ p. option_map (λ l. (l, true)) p) f
+  next_list-gathered_cycled o h k f = next_by None (ap (λ c. first_list c) (above_none h) ∙ k) ∙ ap (λ p. option_map (λ l. (l, true)) p) f
 
-  all_below : entries_below (pair_cmp cmp) (gathered buckets) slot ≡ earlier ++ tagged slot.0 own_below
-  all_below = below-gathered cmp buckets slot.0 slot.1
+  entries_below-gathered : entries_below (pair_cmp cmp) (gathered buckets) slot ≡ earlier ++ tagged slot.0 own_below
+  entries_below-gathered = below-gathered cmp buckets slot.0 slot.1
 
   none_last : (c : Content K V) → last_list c ≡ None → c ≡ []
   none_last [] h = refl
   none_last (e ∷ es) h = let some = last_some (e ∷ es) refl in cc
 
-  below_none : last_list own_below ≡ None → entries_below (pair_cmp cmp) (gathered buckets) slot ≡ earlier
-  below_none h = all_below ∙ ap (λ c. earlier ++ tagged slot.0 c) (none_last own_below h) ∙ append-nil earlier
+  entries_below-own_none : last_list own_below ≡ None → entries_below (pair_cmp cmp) (gathered buckets) slot ≡ earlier
+  entries_below-own_none h = entries_below-gathered ∙ ap (λ c. earlier ++ tagged slot.0 c) (none_last own_below h) ∙ append-nil earlier
 
   prev_by : (o : Option (List V)) → last_list (entries_below (pair_cmp cmp) (gathered buckets) slot) ≡ o → prev_list (pair_cmp cmp) (gathered buckets) slot ≡ or_cycled o (last_list (gathered buckets))
-  prev_by o h = cycled (last_entry (entries_below (pair_cmp cmp) (gathered buckets) slot)) (last_entry (gathered buckets)) ∙ ap (λ p. or_cycled p (last_list (gathered buckets))) h
+  prev_by o h = or_cycled-lists (last_entry (entries_below (pair_cmp cmp) (gathered buckets) slot)) (last_entry (gathered buckets)) ∙ ap (λ p. or_cycled p (last_list (gathered buckets))) h
 
-  pub prev_own : (l : List V) → last_list own_below ≡ Some l → prev_list (pair_cmp cmp) (gathered buckets) slot ≡ Some (l, false)
-  prev_own l h = prev_by (Some l) (ap (λ c. last_list c) all_below ∙ last-append earlier (tagged slot.0 own_below) l (last-tagged slot.0 own_below ∙ h))
+  pub prev_list-own_bucket : (l : List V) → last_list own_below ≡ Some l → prev_list (pair_cmp cmp) (gathered buckets) slot ≡ Some (l, false)
+  prev_list-own_bucket l h = prev_by (Some l) (ap (λ c. last_list c) entries_below-gathered ∙ last-append earlier (tagged slot.0 own_below) l (last-tagged slot.0 own_below ∙ h))
 
   pub prev_earlier : (l : List V) → last_list own_below ≡ None → last_list earlier ≡ Some l → prev_list (pair_cmp cmp) (gathered buckets) slot ≡ Some (l, false)
-  prev_earlier l h k = prev_by (Some l) (ap (λ c. last_list c) (below_none h) ∙ k)
+  prev_earlier l h k = prev_by (Some l) (ap (λ c. last_list c) (entries_below-own_none h) ∙ k)
 
-  pub prev_cycled : (o : Option (List V)) → last_list own_below ≡ None → last_list earlier ≡ None → last_list (gathered buckets) ≡ o
+  pub prev_list-gathered_cycled : (o : Option (List V)) → last_list own_below ≡ None → last_list earlier ≡ None → last_list (gathered buckets) ≡ o
       → prev_list (pair_cmp cmp) (gathered buckets) slot ≡ option_map (λ l. (l, true)) o
-  prev_cycled o h k f = prev_by None (ap (λ c. last_list c) (below_none h) ∙ k) ∙ ap (λ p. option_map (λ l. (l, true)) p) f
+  prev_list-gathered_cycled o h k f = prev_by None (ap (λ c. last_list c) (entries_below-own_none h) ∙ k) ∙ ap (λ p. option_map (λ l. (l, true)) p) f

@@ -15,33 +15,33 @@ use Rattle.std.specs.Cmp.{IsTotalOrder, ranked}
 use Rattle.std.specs.FinMap.{find}
 use Rattle.std.specs.FinMap.Entries.{below_all}
 use Rattle.key_index_flat.specs.Content.{Content, IsLawful, list_at, with_list, item_count, key_count}
-use Rattle.key_index_flat.specs.laws.Laws.{first, second, IsLawful-with_list}
-use Rattle.key_index_flat.proofs.content.ContentLemmas.{less, same_content, list_at-with_list}
+use Rattle.key_index_flat.specs.laws.Laws.{T-and_first, T-and_second, IsLawful-with_list}
+use Rattle.key_index_flat.proofs.content.ContentLemmas.{Less-is_lt, same_content, list_at-with_list}
 use Rattle.key_index_parts.specs.Gathered.{pair_cmp, tagged, gathered_from, gathered}
 use Rattle.key_index_flat.specs.laws.NumberOrder.{nat_self, nat_above}
-use Rattle.key_index_parts.specs.laws.GatheredLaws.{pair_total, below_later, IsLawful-gathered}
+use Rattle.key_index_parts.specs.laws.GatheredLaws.{pair_total, below_all-gathered_later, IsLawful-gathered}
 
 module _ {K V : Type 0} (cmp : K → K → Ordering) where
-  none_below : (q : ℕ × K) (es : Content (ℕ × K) V) → T (below_all (pair_cmp cmp) q es) → find (pair_cmp cmp) q es ≡ None
-  none_below q [] h = refl
-  none_below q (e ∷ es) h = ap (λ r. cond (is_eq r) (Some e.1) (find (pair_cmp cmp) q es)) (less _ (first _ _ h)) ∙ none_below q es (second _ _ h)
+  find-below_all : (q : ℕ × K) (es : Content (ℕ × K) V) → T (below_all (pair_cmp cmp) q es) → find (pair_cmp cmp) q es ≡ None
+  find-below_all q [] h = refl
+  find-below_all q (e ∷ es) h = ap (λ r. cond (is_eq r) (Some e.1) (find (pair_cmp cmp) q es)) (Less-is_lt _ (T-and_first _ _ h)) ∙ find-below_all q es (T-and_second _ _ h)
 
-  here : (p : ℕ) (k : K) (c : Content K V) (d : Content (ℕ × K) V) → find (pair_cmp cmp) (p, k) d ≡ None → find (pair_cmp cmp) (p, k) (tagged p c ++ d) ≡ find cmp k c
-  here p k [] d h = h
-  here p k (e ∷ es) d h = λ i. cond (is_eq (ordering_then (nat_self p i) (cmp k e.0))) (Some e.1) (here p k es d h i)
+  find-tagged_same : (p : ℕ) (k : K) (c : Content K V) (d : Content (ℕ × K) V) → find (pair_cmp cmp) (p, k) d ≡ None → find (pair_cmp cmp) (p, k) (tagged p c ++ d) ≡ find cmp k c
+  find-tagged_same p k [] d h = h
+  find-tagged_same p k (e ∷ es) d h = λ i. cond (is_eq (ordering_then (nat_self p i) (cmp k e.0))) (Some e.1) (find-tagged_same p k es d h i)
 
-  passed : (p q : ℕ) (k : K) (c : Content K V) (d : Content (ℕ × K) V) → nat_cmp q p ≡ Greater → find (pair_cmp cmp) (q, k) (tagged p c ++ d) ≡ find (pair_cmp cmp) (q, k) d
-  passed p q k [] d h = refl
-  passed p q k (e ∷ es) d h = ap (λ r. cond (is_eq (ordering_then r (cmp k e.0))) (Some e.1) (find (pair_cmp cmp) (q, k) (tagged p es ++ d))) h ∙ passed p q k es d h
+  find-tagged_smaller : (p q : ℕ) (k : K) (c : Content K V) (d : Content (ℕ × K) V) → nat_cmp q p ≡ Greater → find (pair_cmp cmp) (q, k) (tagged p c ++ d) ≡ find (pair_cmp cmp) (q, k) d
+  find-tagged_smaller p q k [] d h = refl
+  find-tagged_smaller p q k (e ∷ es) d h = ap (λ r. cond (is_eq (ordering_then r (cmp k e.0))) (Some e.1) (find (pair_cmp cmp) (q, k) (tagged p es ++ d))) h ∙ find-tagged_smaller p q k es d h
 
   find-gathered_from : (n : ℕ) (cs : List (Content K V)) (p : ℕ) (k : K) → find (pair_cmp cmp) (n + p, k) (gathered_from n cs) ≡ find cmp k (get_or cs p [])
   find-gathered_from n [] p k = refl
   find-gathered_from n (c ∷ cs) zero k =
       ap (λ m. find (pair_cmp cmp) (m, k) (tagged n c ++ gathered_from (suc n) cs)) (add-zero n)
-      ∙ here n k c (gathered_from (suc n) cs) (none_below (n, k) (gathered_from (suc n) cs) (below_later cmp n (suc n) k cs (omega arith)))
+      ∙ find-tagged_same n k c (gathered_from (suc n) cs) (find-below_all (n, k) (gathered_from (suc n) cs) (below_all-gathered_later cmp n (suc n) k cs (omega arith)))
   find-gathered_from n (c ∷ cs) (suc p) k =
       let one_on : n + suc p ≡ suc n + p = omega arith in
-      passed n (n + suc p) k c (gathered_from (suc n) cs) (nat_above (n + suc p) n (omega arith))
+      find-tagged_smaller n (n + suc p) k c (gathered_from (suc n) cs) (nat_above (n + suc p) n (omega arith))
       ∙ ap (λ m. find (pair_cmp cmp) (m, k) (gathered_from (suc n) cs)) one_on
       ∙ find-gathered_from (suc n) cs p k
 

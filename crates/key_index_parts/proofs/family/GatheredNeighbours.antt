@@ -73,16 +73,16 @@ module _ {K V : Type 0} (cmp : K → K → Ordering) where
   below_later_one q p k (e ∷ es) d h =
       (λ i. cond (is_lt (ordering_then (nat_above q p h i) (cmp e.0 k))) (((q, e.0), e.1) ∷ below (tagged q es ++ d) p k) (below (tagged q es ++ d) p k)) ∙ below_later_one q p k es d h
 
-  below_later : (q p : ℕ) (k : K) (cs : List (Content K V)) → p < q → below (gathered_from q cs) p k ≡ []
-  below_later q p k [] h = refl
-  below_later q p k (c ∷ cs) h = below_later_one q p k c (gathered_from (suc q) cs) h ∙ below_later (suc q) p k cs (omega (arith, h))
+  below-gathered_later : (q p : ℕ) (k : K) (cs : List (Content K V)) → p < q → below (gathered_from q cs) p k ≡ []
+  below-gathered_later q p k [] h = refl
+  below-gathered_later q p k (c ∷ cs) h = below_later_one q p k c (gathered_from (suc q) cs) h ∙ below-gathered_later (suc q) p k cs (omega (arith, h))
 
   below-gathered_from : (n : ℕ) (cs : List (Content K V)) (p : ℕ) (k : K) → below (gathered_from n cs) (n + p) k ≡ gathered_from n (take p cs) ++ tagged (n + p) (entries_below cmp (get_or cs p []) k)
   below-gathered_from n [] zero k = refl
   below-gathered_from n [] (suc p) k = refl
   below-gathered_from n (c ∷ cs) zero k =
       subst (λ m. below (tagged n c ++ gathered_from (suc n) cs) m k ≡ tagged m (entries_below cmp c k)) (sym (add-zero n))
-      (below_own n k c (gathered_from (suc n) cs) ∙ ap (λ d. tagged n (entries_below cmp c k) ++ d) (below_later (suc n) n k cs (omega arith)) ∙ append-nil (tagged n (entries_below cmp c k)))
+      (below_own n k c (gathered_from (suc n) cs) ∙ ap (λ d. tagged n (entries_below cmp c k) ++ d) (below-gathered_later (suc n) n k cs (omega arith)) ∙ append-nil (tagged n (entries_below cmp c k)))
   below-gathered_from n (c ∷ cs) (suc p) k =
       let one_on : suc n + p ≡ n + suc p = omega arith in
       below_earlier n (n + suc p) k c (gathered_from (suc n) cs) (omega arith)

@@ -1,10 +1,10 @@
 -- On buckets that are put in the place of others.
---     put_more, put_none         one bucket more, and none left; no_items: of an empty list
---     free_none, free_far, free_near    whether so many buckets hold nothing, by the first that is filled
---     free_in, free_buckets        that they do, and that the whole is free of their keys
---     keeps, counted, seen_joined    the buckets after it, where the places held nothing, their counts, and the index as it is seen
---     refused_fault              why a range is refused
---     fits_inside, room_inside, free_inside    the same of what two storages keep
+--     put_more, put_none                                        one bucket more, and none left
+--     free_none, free_far, free_near                            whether so many buckets hold nothing, by the first that is filled
+--     free_in, free_buckets                                     that they do, and that the whole is free of their keys
+--     KeepsBuckets-installed, IsCounted-installed, seen_joined  the buckets after it, where the places held nothing, their counts, and the index as it is seen
+--     refused_fault                                             why a range is refused
+--     fits_inside, room_inside, free_inside                     the same of what two storages keep
 use Rattle.std.proofs.Common.{◌≡◌, ℕ, suc, ◌+◌, ◌-◌, ◌^◌, ◌<◌, ◌≤◌, true, false, not, ◌&&◌, nat_lt, nat_eq, T, if◌then◌else◌, List, [], ◌∷◌, ◌++◌, get_or, set, take, drop, length, All, length-append, append_assoc, append-nil, add-zero, refl, sym, ap, subst, ◌∙◌, arith, lt_of_not-le, ◌⊎◌, inl, inr}
 use Rattle.std.proofs.lemmas.Bool.{lt-ltb, ltb-true, ltb-false, eq-eqb, ne_eqb}
 use Rattle.std.proofs.lemmas.List.{get_or_append_left, get_or-append-add, get_or-take, get_or-drop, get_or_past, length-take-le, length-drop, take_more_set, drop-set-lt, take-append-drop}
@@ -24,8 +24,8 @@ use Rattle.key_index_parts.specs.Standing.{new_standings}
 use Rattle.key_index_parts.specs.Gathered.{pair_cmp, gathered_from, gathered}
 use Rattle.key_index_parts.specs.laws.GatheredLaws.{pair_total, IsLawful-gathered}
 use Rattle.key_index_parts.specs.Joined.{joined, joined_view, IsFree, is_between, install_fault}
-use Rattle.key_index_parts.specs.laws.RangeLaws.{IsLawful-gathered_from, gathered_from-covers, between}
-use Rattle.key_index_parts.proofs.family.FamilyNeighbours.{flag_told, unfilled}
+use Rattle.key_index_parts.specs.laws.RangeLaws.{IsLawful-gathered_from, gathered_from-covers, is_between-within}
+use Rattle.key_index_parts.proofs.family.FamilyNeighbours.{flag_told, empty-is_filled}
 use Rattle.key_index_parts.proofs.family.GatheredLemmas.{list_at-gathered, item_count-gathered_from, key_count-gathered_from, item_count-gathered, key_count-gathered}
 use Rattle.key_index_parts.proofs.family.JoinedLemmas.{IsApart, apart_by, list_at-joined, IsLawful-joined, item_count-joined, key_count-joined}
 use Rattle.key_index_parts.proofs.family.ShiftedLemmas.{list_from}
@@ -44,15 +44,15 @@ module _ {A : Type 0} where
 
 module _ {K V : Type 0} where
   module _ (buckets : List (Content K V)) (start count : ℕ) where
-    unset : (n : ℕ) → flag_at (filled_buckets buckets) n ≡ false → bucket_at buckets n ≡ []
-    unset n h = unfilled (bucket_at buckets n) (sym (flag_told buckets n) ∙ h)
+    bucket_at-flag_unset : (n : ℕ) → flag_at (filled_buckets buckets) n ≡ false → bucket_at buckets n ≡ []
+    bucket_at-flag_unset n h = empty-is_filled (bucket_at buckets n) (sym (flag_told buckets n) ∙ h)
 
     pub free_none : ((p : ℕ) → start ≤ p → flag_at (filled_buckets buckets) p ≡ false) → AreFree buckets start count
-    free_none h n from upto = unset n (h n from)
+    free_none h n from upto = bucket_at-flag_unset n (h n from)
 
     module _ (n : ℕ) (first : IsFirst (flag_at (filled_buckets buckets)) start n) where
       pub free_far : count ≤ n - start → AreFree buckets start count
-      free_far far p low high = let from = first.from in unset p (first.before p low (omega (arith, high, far, from)))
+      free_far far p low high = let from = first.from in bucket_at-flag_unset p (first.before p low (omega (arith, high, far, from)))
 
       pub free_near : AreFree buckets start count → count ≤ n - start
       free_near free =
@@ -61,16 +61,16 @@ module _ {K V : Type 0} where
           subst T (sym first.here ∙ flag_told buckets n ∙ ap is_filled (free n from (omega (arith, near, from)))) tt) in
           omega (arith, far)
 
-pub within : (a b n : ℕ) → is_between a b n ≡ true → (a ≤ n) × (n < b)
-within a b n =
+pub is_between-bounds : (a b n : ℕ) → is_between a b n ≡ true → (a ≤ n) × (n < b)
+is_between-bounds a b n =
     elim (nat_lt n a) as (λ u. nat_lt n a ≡ u → not u && nat_lt n b ≡ true → (a ≤ n) × (n < b)) [
       | true ↦ λ e f. absurd (subst T (sym f) tt)
       | false ↦ λ e f. (ltb-false n a e, ltb-true n b f)
     ] refl
 
 -- one partition alone
-pub alone : (n m : ℕ) → is_between n (n + 1) m ≡ nat_eq m n
-alone n m =
+pub is_between-one : (n m : ℕ) → is_between n (n + 1) m ≡ nat_eq m n
+is_between-one n m =
     elim (nat_lt m n) as (λ u. nat_lt m n ≡ u → not u && nat_lt m (n + 1) ≡ nat_eq m n) [
       | true ↦ λ e. let below = ltb-true m n e in sym (ne_eqb m n (λ same. omega (arith, same, below)))
       | false ↦ λ e.
@@ -82,8 +82,8 @@ alone n m =
     ] refl
 
 -- of an index key outside
-without : (a b n : ℕ) → is_between a b n ≡ false → (n < a) ⊎ (b ≤ n)
-without a b n =
+is_between-outside : (a b n : ℕ) → is_between a b n ≡ false → (n < a) ⊎ (b ≤ n)
+is_between-outside a b n =
     elim (nat_lt n a) as (λ u. nat_lt n a ≡ u → not u && nat_lt n b ≡ false → (n < a) ⊎ (b ≤ n)) [
       | true ↦ λ e f. inl (ltb-true n a e)
       | false ↦ λ e f. inr (ltb-false n b f)
@@ -92,7 +92,7 @@ without a b n =
 module _ {K V : Type 0} {cmp : K → K → Ordering} (o : IsTotalOrder cmp) (exact : (x y : K) → cmp x y ≡ Equal → x ≡ y) where
   pub free_in : (buckets : List (Content K V)) (start count : ℕ) → AreFree buckets start count → IsFree (pair_cmp cmp) (λ slot. is_between start (start + count) slot.0) (gathered buckets)
   free_in buckets start count free slot h =
-      let at = within start (start + count) slot.0 h in
+      let at = is_between-bounds start (start + count) slot.0 h in
       list_at-gathered cmp buckets slot.0 slot.1 ∙ ap (λ c. list_at cmp c slot.1) (free slot.0 at.0 at.1)
 
   each_at : (buckets : List (Content K V)) (m : ℕ) → All (IsLawful cmp) buckets → IsLawful cmp (bucket_at buckets m)
@@ -106,7 +106,7 @@ module _ {K V : Type 0} {cmp : K → K → Ordering} (o : IsTotalOrder cmp) (exa
       → IsFree (pair_cmp cmp) (λ slot. is_between start (start + count) slot.0) (gathered buckets) → AreFree buckets start count
   free_buckets buckets start count each free n from upto =
       same_content o exact (bucket_at buckets n) [] (each_at buckets n each) (tt, tt)
-      (λ k. sym (list_at-gathered cmp buckets n k) ∙ free (n, k) (between start (start + count) n from upto))
+      (λ k. sym (list_at-gathered cmp buckets n k) ∙ free (n, k) (is_between-within start (start + count) n from upto))
 
   module _ {p : ℕ} {own other : List (Content K V)} {items keys more_items more_keys : ℕ} (h : IsCounted cmp p own items keys) (k : IsCounted cmp p other more_items more_keys)
       (start : ℕ) (fits : start + length other ≤ length own)
@@ -120,8 +120,8 @@ module _ {K V : Type 0} {cmp : K → K → Ordering} (o : IsTotalOrder cmp) (exa
     front_size : length (take start own) ≡ start
     front_size = length-take-le start own (omega (arith, fits))
 
-    sized : length (with_buckets_from own start other) ≡ length own
-    sized =
+    length-with_buckets_from : length (with_buckets_from own start other) ≡ length own
+    length-with_buckets_from =
         let front = front_size in
         let all = length-append (take start own) (other ++ behind) in
         let rest = length-append other behind in
@@ -132,8 +132,8 @@ module _ {K V : Type 0} {cmp : K → K → Ordering} (o : IsTotalOrder cmp) (exa
         All-append (IsLawful cmp) (take start own) (other ++ behind) (All-take (IsLawful cmp) start own h.each)
         (All-append (IsLawful cmp) other behind k.each (All-drop (IsLawful cmp) (start + length other) own h.each))
 
-    lawful : IsLawful (pair_cmp cmp) (gathered (with_buckets_from own start other))
-    lawful = IsLawful-gathered cmp new each_new
+    IsLawful-with_buckets_from : IsLawful (pair_cmp cmp) (gathered (with_buckets_from own start other))
+    IsLawful-with_buckets_from = IsLawful-gathered cmp new each_new
 
     lawful_own : IsLawful (pair_cmp cmp) (gathered own)
     lawful_own = IsLawful-gathered cmp own h.each
@@ -147,8 +147,8 @@ module _ {K V : Type 0} {cmp : K → K → Ordering} (o : IsTotalOrder cmp) (exa
         ap (λ n. get_or new (n + j) []) (sym front) ∙ get_or-append-add (take start own) (other ++ behind) j []
         ∙ get_or_append_left other behind [] j inside
 
-    at_front : (n : ℕ) → n < start → bucket_at new n ≡ bucket_at own n
-    at_front n below =
+    bucket_at-before_start : (n : ℕ) → n < start → bucket_at new n ≡ bucket_at own n
+    bucket_at-before_start n below =
         let front = front_size in
         get_or_append_left (take start own) (other ++ behind) [] n (omega (arith, below, front)) ∙ get_or-take start own n [] below
 
@@ -159,8 +159,8 @@ module _ {K V : Type 0} {cmp : K → K → Ordering} (o : IsTotalOrder cmp) (exa
         ∙ get_or-append-add other behind j [] ∙ get_or-drop (start + length other) own j []
 
     at_outside : (n : ℕ) → is_between start (start + length other) n ≡ false → bucket_at new n ≡ bucket_at own n
-    at_outside n out = elim (without start (start + length other) n out) [
-      | inl below ↦ at_front n below
+    at_outside n out = elim (is_between-outside start (start + length other) n out) [
+      | inl below ↦ bucket_at-before_start n below
       | inr above ↦
           let j : (i : ℕ) × (start + length other + i ≡ n) = (n - (start + length other), omega (arith, above)) in
           let same : start + (length other + j.0) ≡ n = omega (arith, j.1) in
@@ -169,7 +169,7 @@ module _ {K V : Type 0} {cmp : K → K → Ordering} (o : IsTotalOrder cmp) (exa
 
     list_other : (slot : ℕ × K) → is_between start (start + length other) slot.0 ≡ true → list_at (pair_cmp cmp) (gathered_from start other) slot ≡ list_at cmp (bucket_at new slot.0) slot.1
     list_other slot is =
-        let at = within start (start + length other) slot.0 is in
+        let at = is_between-bounds start (start + length other) slot.0 is in
         let j : (i : ℕ) × (start + i ≡ slot.0) = (slot.0 - start, omega (arith, at.0)) in
         ap (λ n. list_at (pair_cmp cmp) (gathered_from start other) (n, slot.1)) (sym j.1)
         ∙ list_from cmp start other (j.0, slot.1) ∙ list_at-gathered cmp other j.0 slot.1
@@ -178,12 +178,12 @@ module _ {K V : Type 0} {cmp : K → K → Ordering} (o : IsTotalOrder cmp) (exa
     pair_exact : (x y : ℕ × K) → pair_cmp cmp x y ≡ Equal → x ≡ y
     pair_exact = exact_pairs nat_cmp cmp exact_unsigned exact
 
-    apart : IsApart (pair_cmp cmp) (gathered own) (gathered_from start other)
-    apart = apart_by (pair_cmp cmp) (λ slot. is_between start (start + length other) slot.0) (gathered own) (gathered_from start other) free (gathered_from-covers cmp start other)
+    IsApart-gathered : IsApart (pair_cmp cmp) (gathered own) (gathered_from start other)
+    IsApart-gathered = apart_by (pair_cmp cmp) (λ slot. is_between start (start + length other) slot.0) (gathered own) (gathered_from start other) free (gathered_from-covers cmp start other)
 
     joined_by : gathered (with_buckets_from own start other) ≡ joined (pair_cmp cmp) (gathered own) (gathered_from start other)
     joined_by =
-        same_content (pair_total o) pair_exact _ _ lawful (IsLawful-joined (pair_total o) (gathered own) (gathered_from start other) lawful_other) (λ slot.
+        same_content (pair_total o) pair_exact _ _ IsLawful-with_buckets_from (IsLawful-joined (pair_total o) (gathered own) (gathered_from start other) lawful_other) (λ slot.
         list_at-gathered cmp new slot.0 slot.1
         ∙ elim (is_between start (start + length other) slot.0) as (λ b. is_between start (start + length other) slot.0 ≡ b
         → list_at cmp (bucket_at new slot.0) slot.1 ≡ list_at (pair_cmp cmp) (gathered own) slot ++ list_at (pair_cmp cmp) (gathered_from start other) slot) [
@@ -195,15 +195,15 @@ module _ {K V : Type 0} {cmp : K → K → Ordering} (o : IsTotalOrder cmp) (exa
         ∙ sym (list_at-joined (pair_total o) pair_exact (gathered own) (gathered_from start other) slot lawful_own))
 
     module _ (buckets : List (Content K V)) (is : buckets ≡ with_buckets_from own start other) where
-      pub keeps : KeepsBuckets cmp own buckets
-      keeps = record { lawful = subst (λ cs. IsLawful (pair_cmp cmp) (gathered cs)) (sym is) lawful; sized = ap (λ cs. length cs) is ∙ sized }
+      pub KeepsBuckets-installed : KeepsBuckets cmp own buckets
+      KeepsBuckets-installed = record { lawful = subst (λ cs. IsLawful (pair_cmp cmp) (gathered cs)) (sym is) IsLawful-with_buckets_from; sized = ap (λ cs. length cs) is ∙ length-with_buckets_from }
 
-      pub counted : (a b : ℕ) → a ≡ items + more_items → b ≡ keys + more_keys → IsCounted cmp p buckets a b
-      counted a b items_told keys_told =
-          let size = ap (λ cs. length cs) is ∙ sized in
+      pub IsCounted-installed : (a b : ℕ) → a ≡ items + more_items → b ≡ keys + more_keys → IsCounted cmp p buckets a b
+      IsCounted-installed a b items_told keys_told =
+          let size = ap (λ cs. length cs) is ∙ length-with_buckets_from in
           let most = h.sized in
           let of_items = ap (λ cs. item_count (gathered cs)) is ∙ ap (λ c. item_count c) joined_by ∙ item_count-joined (pair_total o) (gathered own) (gathered_from start other) lawful_other in
-          let of_keys = ap (λ cs. key_count (gathered cs)) is ∙ ap (λ c. key_count c) joined_by ∙ key_count-joined (pair_total o) pair_exact (gathered own) (gathered_from start other) lawful_own lawful_other apart in
+          let of_keys = ap (λ cs. key_count (gathered cs)) is ∙ ap (λ c. key_count c) joined_by ∙ key_count-joined (pair_total o) pair_exact (gathered own) (gathered_from start other) lawful_own lawful_other IsApart-gathered in
           let other_items = item_count-gathered_from start other ∙ sym (item_count-gathered other) in
           let other_keys = key_count-gathered_from start other ∙ sym (key_count-gathered other) in
           let was = h.counted in let had = h.keyed in let was_other = k.counted in let had_other = k.keyed in
@@ -228,10 +228,6 @@ module _ {K V : Type 0} {cmp : K → K → Ordering} (o : IsTotalOrder cmp) (exa
 pub refused_fault : (m n : ℕ) → (m + n ≤ 2 ^ 64 - 1 → ⊥) → Full ≡ install_fault m n
 refused_fault m n full =
     let more : 2 ^ 64 - 1 < m + n = lt_of_not-le full in ap (λ b. if b then Full else Memory) (sym (lt-ltb (2 ^ 64 - 1) (m + n) more))
-
-pub no_items : {A : Type 0} (xs : List A) → length xs ≡ 0 → xs ≡ []
-no_items [] h = refl
-no_items (x ∷ xs) h = absurd (omega (arith, h))
 
 -- of what two storages keep
 module _ {T K V : Type 0} (cmp : K → K → Ordering) (start : ℕ) {s t r q : Kept T K V} (own : s ≡ t) (other : r ≡ q) where

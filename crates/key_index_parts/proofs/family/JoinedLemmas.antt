@@ -12,8 +12,8 @@ use Rattle.std.specs.Ordering.{eq_by_cmp}
 use Rattle.std.specs.Cmp.{IsTotalOrder, eq_by_cmp_equiv}
 use Rattle.std.specs.FinMap.{find}
 use Rattle.key_index_flat.specs.Content.{Content, is_filled, key_count, item_count, list_at, with_list, IsLawful}
-use Rattle.key_index_flat.specs.laws.Laws.{first, second, IsLawful-with_list}
-use Rattle.key_index_flat.proofs.content.ContentLemmas.{list_at-with_list, same_content, item_count-with_list, key_count-with_list, entries_for, absent, tied}
+use Rattle.key_index_flat.specs.laws.Laws.{T-and_first, T-and_second, IsLawful-with_list}
+use Rattle.key_index_flat.proofs.content.ContentLemmas.{list_at-with_list, same_content, item_count-with_list, key_count-with_list, entries_for, list_at-below_all, Equal-is_eq}
 use Rattle.key_index_parts.specs.Joined.{joined, IsFree}
 
 filled_entries : {V : Type 0} (l : List V) → T (is_filled l) → entries_for l ≡ 1
@@ -48,10 +48,10 @@ module _ {K V : Type 0} {cmp : K → K → Ordering} (o : IsTotalOrder cmp) wher
 
   -- the first key of a lawful content is not among the others
   first_absent : (e : K × List V) (es : Content K V) → IsLawful cmp (e ∷ es) → list_at cmp es e.0 ≡ []
-  first_absent e es h = absent o e.0 e.0 es (λ y p. p) (first _ _ h.0)
+  first_absent e es h = list_at-below_all o e.0 e.0 es (λ y p. p) (T-and_first _ _ h.0)
 
   rest_lawful : (e : K × List V) (es : Content K V) → IsLawful cmp (e ∷ es) → IsLawful cmp es
-  rest_lawful e es h = (second _ _ h.0, second _ _ h.1)
+  rest_lawful e es h = (T-and_second _ _ h.0, T-and_second _ _ h.1)
 
   module _ (exact : (x y : K) → cmp x y ≡ Equal → x ≡ y) where
     pub list_at-joined : (c d : Content K V) (q : K) → IsLawful cmp c → list_at cmp (joined cmp c d) q ≡ list_at cmp c q ++ list_at cmp d q
@@ -61,21 +61,21 @@ module _ {K V : Type 0} {cmp : K → K → Ordering} (o : IsTotalOrder cmp) wher
         let rest : (k : K) → list_at cmp J k ≡ list_at cmp es k ++ list_at cmp d k = λ k. list_at-joined es d k (rest_lawful e es h) in
         list_at-with_list o J e.0 (e.1 ++ list_at cmp J e.0) q
         ∙ elim (eq_by_cmp cmp q e.0) as (λ b. eq_by_cmp cmp q e.0 ≡ b → cond b (e.1 ++ list_at cmp J e.0) (list_at cmp J q) ≡ unwrap_or (cond b (Some e.1) (find cmp q es)) [] ++ list_at cmp d q) [
-          | true ↦ λ p. ap (λ l. e.1 ++ l) (rest e.0 ∙ ap (λ l. l ++ list_at cmp d e.0) (first_absent e es h) ∙ ap (λ x. list_at cmp d x) (sym (exact q e.0 (tied _ p))))
+          | true ↦ λ p. ap (λ l. e.1 ++ l) (rest e.0 ∙ ap (λ l. l ++ list_at cmp d e.0) (first_absent e es h) ∙ ap (λ x. list_at cmp d x) (sym (exact q e.0 (Equal-is_eq _ p))))
           | false ↦ λ p. rest q
         ] refl
 
     apart_rest : (e : K × List V) (es d : Content K V) → IsLawful cmp (e ∷ es) → IsApart cmp (e ∷ es) d → IsApart cmp es d
     apart_rest e es d h apart q =
         elim (eq_by_cmp cmp q e.0) as (λ b. eq_by_cmp cmp q e.0 ≡ b → ((unwrap_or (cond b (Some e.1) (find cmp q es)) [] ≡ []) ⊎ (list_at cmp d q ≡ [])) → (list_at cmp es q ≡ []) ⊎ (list_at cmp d q ≡ [])) [
-          | true ↦ λ p s. inl (ap (λ x. list_at cmp es x) (exact q e.0 (tied _ p)) ∙ first_absent e es h)
+          | true ↦ λ p s. inl (ap (λ x. list_at cmp es x) (exact q e.0 (Equal-is_eq _ p)) ∙ first_absent e es h)
           | false ↦ λ p s. s
         ] refl (apart q)
 
     apart_first : (e : K × List V) (es d : Content K V) → IsLawful cmp (e ∷ es) → IsApart cmp (e ∷ es) d → list_at cmp d e.0 ≡ []
     apart_first e es d h apart =
         elim (eq_by_cmp cmp e.0 e.0) as (λ b. eq_by_cmp cmp e.0 e.0 ≡ b → ((unwrap_or (cond b (Some e.1) (find cmp e.0 es)) [] ≡ []) ⊎ (list_at cmp d e.0 ≡ [])) → list_at cmp d e.0 ≡ []) [
-          | true ↦ λ p s. elim s [ inl z ↦ absurd (subst (λ l. T (is_filled l)) z (first _ _ h.1)) | inr z ↦ z ]
+          | true ↦ λ p s. elim s [ inl z ↦ absurd (subst (λ l. T (is_filled l)) z (T-and_first _ _ h.1)) | inr z ↦ z ]
           | false ↦ λ p s. let bad : true ≡ false = sym ((eq_by_cmp_equiv o).refl e.0) ∙ p in absurd (cc bad)
         ] refl (apart e.0)
 
@@ -86,7 +86,7 @@ module _ {K V : Type 0} {cmp : K → K → Ordering} (o : IsTotalOrder cmp) wher
         let none : list_at cmp J e.0 ≡ [] = list_at-joined es d e.0 (rest_lawful e es g) ∙ ap (λ l. l ++ list_at cmp d e.0) (first_absent e es g) ∙ apart_first e es d g apart in
         let n = key_count-with_list o J e.0 (e.1 ++ list_at cmp J e.0) (IsLawful-joined es d h) in
         let before : entries_for (list_at cmp J e.0) ≡ 0 = ap (λ l. entries_for l) none in
-        let after : entries_for (e.1 ++ list_at cmp J e.0) ≡ 1 = ap (λ l. entries_for l) (ap (λ l. e.1 ++ l) none ∙ append-nil e.1) ∙ filled_entries e.1 (first _ _ g.1) in
+        let after : entries_for (e.1 ++ list_at cmp J e.0) ≡ 1 = ap (λ l. entries_for l) (ap (λ l. e.1 ++ l) none ∙ append-nil e.1) ∙ filled_entries e.1 (T-and_first _ _ g.1) in
         let rest = key_count-joined es d (rest_lawful e es g) h (apart_rest e es d g apart) in
         omega (arith, n, before, after, rest)
 
@@ -97,7 +97,7 @@ module _ {K V : Type 0} {cmp : K → K → Ordering} (o : IsTotalOrder cmp) wher
         list_at-joined (with_list cmp c k l) d q (IsLawful-with_list o c k l g)
         ∙ ap (λ m. m ++ list_at cmp d q) (list_at-with_list o c k l q)
         ∙ elim (eq_by_cmp cmp q k) as (λ b. eq_by_cmp cmp q k ≡ b → cond b l (list_at cmp c q) ++ list_at cmp d q ≡ cond b (l ++ list_at cmp d k) (list_at cmp (joined cmp c d) q)) [
-          | true ↦ λ p. ap (λ x. l ++ list_at cmp d x) (exact q k (tied _ p))
+          | true ↦ λ p. ap (λ x. l ++ list_at cmp d x) (exact q k (Equal-is_eq _ p))
           | false ↦ λ p. sym (list_at-joined c d q g)
         ] refl
         ∙ sym (list_at-with_list o (joined cmp c d) k (l ++ list_at cmp d k) q))
@@ -109,7 +109,7 @@ module _ {K V : Type 0} {cmp : K → K → Ordering} (o : IsTotalOrder cmp) wher
         list_at-joined c (with_list cmp d k l) q g
         ∙ ap (λ m. list_at cmp c q ++ m) (list_at-with_list o d k l q)
         ∙ elim (eq_by_cmp cmp q k) as (λ b. eq_by_cmp cmp q k ≡ b → list_at cmp c q ++ cond b l (list_at cmp d q) ≡ cond b (list_at cmp c k ++ l) (list_at cmp (joined cmp c d) q)) [
-          | true ↦ λ p. ap (λ x. list_at cmp c x ++ l) (exact q k (tied _ p))
+          | true ↦ λ p. ap (λ x. list_at cmp c x ++ l) (exact q k (Equal-is_eq _ p))
           | false ↦ λ p. sym (list_at-joined c d q g)
         ] refl
         ∙ sym (list_at-with_list o (joined cmp c d) k (list_at cmp c k ++ l) q))
@@ -121,6 +121,6 @@ module _ {K V : Type 0} {cmp : K → K → Ordering} (o : IsTotalOrder cmp) wher
     IsFree-with_list p c k l out free q in_p =
         list_at-with_list o c k l q
         ∙ elim (eq_by_cmp cmp q k) as (λ b. eq_by_cmp cmp q k ≡ b → cond b l (list_at cmp c q) ≡ []) [
-          | true ↦ λ e. let bad : true ≡ false = sym in_p ∙ ap (λ x. p x) (exact q k (tied _ e)) ∙ out in absurd (cc bad)
+          | true ↦ λ e. let bad : true ≡ false = sym in_p ∙ ap (λ x. p x) (exact q k (Equal-is_eq _ e)) ∙ out in absurd (cc bad)
           | false ↦ λ e. free q in_p
         ] refl

@@ -1,10 +1,10 @@
 -- On buckets that are numbered from another start.
---     if_ok, if_err, on_ok    what a call answered
---     items_from, keys_from   the counts
---     list_from, read_from    a list read
---     below_from, held_from   there is none below the first number
---     edited_from             and one put in
---     seen_edited, seen_pruned    a range as it is seen, after its storage was edited
+--     if_ok, IfErr-implied, OnOk-implied  what a call answered
+--     items_from, keys_from               the counts
+--     list_from, read_from                a list read
+--     below_from, held_from               there is none below the first number
+--     edited_from                         and one put in
+--     seen_edited, seen_pruned            a range as it is seen, after its storage was edited
 use Rattle.std.proofs.Common.{◌≡◌, ℕ, suc, ◌+◌, ◌<◌, ◌≤◌, true, false, cond, not, ◌&&◌, nat_lt, List, [], ◌∷◌, Some, unwrap_or, length, Result, Ok, Err, IfOk, IfErr, OnOk, OnErr, refl, sym, ap, ◌∙◌, arith, lt_of_not-le}
 use Rattle.std.proofs.lemmas.Bool.{lt-ltb}
 use Rattle.std.specs.declared.cmp.Ordering.{Ordering}
@@ -14,7 +14,7 @@ use Rattle.std.specs.FinMap.{find, put}
 use Rattle.std.specs.FinMap.Entries.{by_order}
 use Rattle.key_index_flat.specs.Content.{Content, item_count, key_count, list_at, with_list, with_list_by}
 use Rattle.key_index_flat.specs.View.{with_edit, with_pruned}
-use Rattle.key_index_flat.proofs.runs.ViewLemmas.{same_content, same_pruned, same_slot, same_view}
+use Rattle.key_index_flat.proofs.runs.ViewLemmas.{content-same_view, same_pruned, same_slot, same_view}
 use Rattle.key_index_parts.specs.Family.{Kept, view_of, view_from}
 use Rattle.key_index_parts.specs.Gathered.{pair_cmp, gathered_from, gathered}
 use Rattle.key_index_parts.specs.Joined.{is_between}
@@ -27,17 +27,17 @@ module _ {A E : Type 0} where
   if_ok (Ok a) P Q f h = f a h
   if_ok (Err e) P Q f h = tt
 
-  pub if_err : (r : Result A E) (P Q : E → Type 0) → ((e : E) → P e → Q e) → IfErr r P → IfErr r Q
-  if_err (Ok a) P Q f h = tt
-  if_err (Err e) P Q f h = f e h
+  pub IfErr-implied : (r : Result A E) (P Q : E → Type 0) → ((e : E) → P e → Q e) → IfErr r P → IfErr r Q
+  IfErr-implied (Ok a) P Q f h = tt
+  IfErr-implied (Err e) P Q f h = f e h
 
-  pub on_ok : (r : Result A E) (P Q : Type 0) → (P → Q) → OnOk r P → OnOk r Q
-  on_ok (Ok a) P Q f h = f h
-  on_ok (Err e) P Q f h = tt
+  pub OnOk-implied : (r : Result A E) (P Q : Type 0) → (P → Q) → OnOk r P → OnOk r Q
+  OnOk-implied (Ok a) P Q f h = f h
+  OnOk-implied (Err e) P Q f h = tt
 
-  pub on_err : (r : Result A E) (P Q : Type 0) → (P → Q) → OnErr r P → OnErr r Q
-  on_err (Ok a) P Q f h = tt
-  on_err (Err e) P Q f h = f h
+  pub OnErr-implied : (r : Result A E) (P Q : Type 0) → (P → Q) → OnErr r P → OnErr r Q
+  OnErr-implied (Ok a) P Q f h = tt
+  OnErr-implied (Err e) P Q f h = f h
 
 module _ {K V : Type 0} (n : ℕ) (buckets : List (Content K V)) where
   pub items_from : item_count (gathered buckets) ≡ item_count (gathered_from n buckets)
@@ -113,8 +113,8 @@ module _ {T K V : Type 0} (cmp : K → K → Ordering) (p : ℕ) (translated : T
 
   pub seen_edited : view_of p translated new ≡ with_edit (pair_cmp cmp) (view_of p translated old) k f
       → view_from p translated n new ≡ with_edit (pair_cmp cmp) (view_from p translated n old) slot f
-  seen_edited is = same_view (content_edited (same_content is)) (same_pruned is) (same_slot is) (λ i s. is_between n (n + sized i) s.0)
+  seen_edited is = same_view (content_edited (content-same_view is)) (same_pruned is) (same_slot is) (λ i s. is_between n (n + sized i) s.0)
 
   pub seen_pruned : (more : ℕ) → view_of p translated new ≡ with_pruned (with_edit (pair_cmp cmp) (view_of p translated old) k f) more
       → view_from p translated n new ≡ with_pruned (with_edit (pair_cmp cmp) (view_from p translated n old) slot f) more
-  seen_pruned more is = same_view (content_edited (same_content is)) (same_pruned is) (same_slot is) (λ i s. is_between n (n + sized i) s.0)
+  seen_pruned more is = same_view (content_edited (content-same_view is)) (same_pruned is) (same_slot is) (λ i s. is_between n (n + sized i) s.0)

@@ -58,9 +58,9 @@ pair_cmp-padded cmp f p n rests a b h k =
     ∙ sym (λ i. byte_cmp (padded-rest_of p n a i) (padded-rest_of p n b i))
 
 -- what compares alike is one alike
-alike : {K : Type 0} {cmp : K → K → Ordering} → IsTotalOrder cmp → CmpEqualImpliesEq cmp → (slot : List ℕ → K) (bytes : List ℕ → List ℕ)
+ComparesAs-exact : {K : Type 0} {cmp : K → K → Ordering} → IsTotalOrder cmp → CmpEqualImpliesEq cmp → (slot : List ℕ → K) (bytes : List ℕ → List ℕ)
     → ((a b : List ℕ) → IsBytes a → IsBytes b → cmp (slot a) (slot b) ≡ byte_cmp (bytes a) (bytes b)) → ComparesAs cmp slot bytes
-alike {cmp = cmp} total exact slot bytes same a b h k = (
+ComparesAs-exact {cmp = cmp} total exact slot bytes same a b h k = (
   same a b h k,
   (
     λ e. exact_bytes (bytes a) (bytes b) (sym (same a b h k) ∙ ap (λ s. cmp (slot a) s) (sym e) ∙ tied_itself total (slot a)),
@@ -69,15 +69,15 @@ alike {cmp = cmp} total exact slot bytes same a b h k = (
 )
 
 pub flat_compares : (n : ℕ) → ComparesAs nat_cmp (cap_number n) (padded n)
-flat_compares n = alike nat_cmp_total exact_unsigned (cap_number n) (padded n) (cap_cmp n)
+flat_compares n = ComparesAs-exact nat_cmp_total exact_unsigned (cap_number n) (padded n) (cap_cmp n)
 
 pub partitioned_compares : (p n : ℕ) → ComparesAs (pair_cmp nat_cmp) (slot_by p (cap_number n)) (padded (p + n))
 partitioned_compares p n =
-    alike (pair_total nat_cmp_total) (exact_pairs nat_cmp nat_cmp exact_unsigned exact_unsigned) (slot_by p (cap_number n)) (padded (p + n)) (pair_cmp-padded nat_cmp (cap_number n) p n (cap_cmp n))
+    ComparesAs-exact (pair_total nat_cmp_total) (exact_pairs nat_cmp nat_cmp exact_unsigned exact_unsigned) (slot_by p (cap_number n)) (padded (p + n)) (pair_cmp-padded nat_cmp (cap_number n) p n (cap_cmp n))
 
 pub arrays_compare : (n : ℕ) → ComparesAs array_cmp (array_of n) (padded n)
-arrays_compare n = alike (array_cmp-total n) (array_cmp-exact n) (array_of n) (padded n) (λ a b h k. refl)
+arrays_compare n = ComparesAs-exact (array_cmp-total n) (array_cmp-exact n) (array_of n) (padded n) (λ a b h k. refl)
 
 pub partitioned_arrays_compare : (p n : ℕ) → ComparesAs (pair_cmp array_cmp) (slot_by p (array_of n)) (padded (p + n))
 partitioned_arrays_compare p n =
-    alike (pair_total (array_cmp-total n)) (exact_pairs nat_cmp array_cmp exact_unsigned (array_cmp-exact n)) (slot_by p (array_of n)) (padded (p + n)) (pair_cmp-padded array_cmp (array_of n) p n (λ a b h k. refl))
+    ComparesAs-exact (pair_total (array_cmp-total n)) (exact_pairs nat_cmp array_cmp exact_unsigned (array_cmp-exact n)) (slot_by p (array_of n)) (padded (p + n)) (pair_cmp-padded array_cmp (array_of n) p n (λ a b h k. refl))

@@ -1,7 +1,7 @@
 -- On the number of a key's first bytes, byte by byte.
---     cap_number-more    one byte more
---     fits_three         a number of fewer than three bytes has room for one more
---     shifted            how the code counts partitions
+--     cap_number-more        one byte more
+--     fits_three             a number of fewer than three bytes has room for one more
+--     partition_count-power  how the code counts partitions
 use Rattle.std.proofs.Common.{◌≡◌, ℕ, zero, suc, ◌+◌, ◌*◌, ◌^◌, ◌%◌, ◌<◌, ◌≤◌, List, [], ◌∷◌, ◌++◌, length, length-append, get_or, refl, ap, ◌∙◌, arith}
 use Rattle.std.proofs.Math.Nat.{pow-succ'}
 use Rattle.key_index_flat.specs.Padding.{padded, big_endian, cap_number}
@@ -32,9 +32,9 @@ fits_three i (suc zero) h k = omega (arith, h)
 fits_three i (suc (suc zero)) h k = omega (arith, h)
 fits_three i (suc (suc (suc n))) h k = absurd (omega (arith, k))
 
-pub shifted : (p : ℕ) → p ≤ 3 → 1 * 2 ^ (8 * p) % 18446744073709551616 ≡ partition_count p
-shifted zero h = refl
-shifted (suc zero) h = refl
-shifted (suc (suc zero)) h = refl
-shifted (suc (suc (suc zero))) h = refl
-shifted (suc (suc (suc (suc p)))) h = absurd (omega (arith, h))
+pub partition_count-power : (p : ℕ) → p ≤ 3 → 1 * 2 ^ (8 * p) % 18446744073709551616 ≡ partition_count p
+partition_count-power zero h = refl
+partition_count-power (suc zero) h = refl
+partition_count-power (suc (suc zero)) h = refl
+partition_count-power (suc (suc (suc zero))) h = refl
+partition_count-power (suc (suc (suc (suc p)))) h = absurd (omega (arith, h))

@@ -22,16 +22,16 @@ use Rattle.std.specs.Vec.{vec_capacity}
 use Rattle.key_index_flat.specs.Content.{Content}
 use Rattle.key_index_flat.specs.Neighbours.{entries_above}
 use Rattle.key_index_parts.specs.Pairs.{run_of, grouped, list_of, room_of, room_for}
-use Rattle.key_index_parts.proofs.pairs.SearchLemmas.{Rises, Rises-drop, rises}
+use Rattle.key_index_parts.proofs.pairs.SearchLemmas.{Rises, Rises-drop, Rises-IsSorted}
 use Rattle.key_index_parts.proofs.pairs.ZipLemmas.{length-zip}
 use Rattle.key_index_parts.proofs.pairs.PairLemmas.{filter-none, length-filter-keys, length-filter-upto}
-use Rattle.key_index_parts.proofs.pairs.RunLemmas.{all_keys, above_too, none_at, parts, pairs_at}
+use Rattle.key_index_parts.proofs.pairs.RunLemmas.{all_keys, above_too, pairs_at-all_greater, pairs-below_at_above, pairs_at}
 use Rattle.key_index_parts.proofs.pairs.GroupLemmas.{list_at-grouped, run_of-alike}
 
 module _ {K V : Type 0} {cmp : K → K → Ordering} (o : IsTotalOrder cmp) where
   -- what stands at the front once a first pair is put to a content that begins with this entry
-  put_first : (k : K) (l : List V) (f : K) (m : List V) (c : Content K V) (r : Ordering) → cmp k f ≡ r → put cmp k l ((f, m) ∷ c) ≡ by_order r ((k, l) ∷ (f, m) ∷ c) ((f, l) ∷ c) ((f, m) ∷ put cmp k l c)
-  put_first k l f m c r e = ap (λ r. by_order r ((k, l) ∷ (f, m) ∷ c) ((f, l) ∷ c) ((f, m) ∷ put cmp k l c)) e
+  put-by_order : (k : K) (l : List V) (f : K) (m : List V) (c : Content K V) (r : Ordering) → cmp k f ≡ r → put cmp k l ((f, m) ∷ c) ≡ by_order r ((k, l) ∷ (f, m) ∷ c) ((f, l) ∷ c) ((f, m) ∷ put cmp k l c)
+  put-by_order k l f m c r e = ap (λ r. by_order r ((k, l) ∷ (f, m) ∷ c) ((f, l) ∷ c) ((f, m) ∷ put cmp k l c)) e
 
   abbrev FirstRun : K × V → List (K × V) → Content K V → K → List V → Type 0
   FirstRun e es c d r =
@@ -49,10 +49,10 @@ module _ {K V : Type 0} {cmp : K → K → Ordering} (o : IsTotalOrder cmp) wher
             let least : All (λ g. is_lt (cmp g.0 e.0) ≡ false) (f ∷ fs) = all_keys (λ x. is_lt (cmp x e.0) ≡ false) (f ∷ fs) h.0 in
             let first : All (λ g. is_lt (cmp g.0 f.0) ≡ false) fs = all_keys (λ x. is_lt (cmp x f.0) ≡ false) fs h.1.0 in
             let over : All (λ g. cmp e.0 g.0 ≡ Less) (f ∷ fs) = All-cons (λ g. cmp e.0 g.0 ≡ Less) f fs q (All-weaker (λ g. is_lt (cmp g.0 f.0) ≡ false) (λ g. cmp e.0 g.0 ≡ Less) (λ g n. above_too o e.0 f.0 g.0 n q) fs first) in
-            let none : run_of cmp (f ∷ fs) e.0 ≡ [] = ap values_of (none_at o (f ∷ fs) e.0 over) in
+            let none : run_of cmp (f ∷ fs) e.0 ≡ [] = ap values_of (pairs_at-all_greater o (f ∷ fs) e.0 over) in
             subst (λ r. FirstRun e (f ∷ fs) (grouped cmp (e ∷ f ∷ fs)) d r) (sym none) (
               ap (λ l. put cmp e.0 (e.1 ∷ l) (grouped cmp (f ∷ fs))) (list_at-grouped o (f ∷ fs) e.0 ∙ none)
-                  ∙ ap (put cmp e.0 (e.1 ∷ [])) rest.0 ∙ put_first e.0 (e.1 ∷ []) k _ behind Less (same ∙ q) ∙ ap (λ c. (e.0, e.1 ∷ []) ∷ c) (sym rest.0),
+                  ∙ ap (put cmp e.0 (e.1 ∷ [])) rest.0 ∙ put-by_order e.0 (e.1 ∷ []) k _ behind Less (same ∙ q) ∙ ap (λ c. (e.0, e.1 ∷ []) ∷ c) (sym rest.0),
               tied_itself o e.0,
             )
         | Equal ↦ λ q.
@@ -61,7 +61,7 @@ module _ {K V : Type 0} {cmp : K → K → Ordering} (o : IsTotalOrder cmp) wher
             run_of-alike o (f ∷ fs) e.0 f.0 q ∙ ap (λ r. values_of (cond (is_eq r) (f ∷ at) at)) (tied_itself o f.0) in
             subst (λ r. FirstRun e (f ∷ fs) (grouped cmp (e ∷ f ∷ fs)) d r) (sym run) (
               ap (λ l. put cmp e.0 (e.1 ∷ l) (grouped cmp (f ∷ fs))) (list_at-grouped o (f ∷ fs) e.0 ∙ run)
-                  ∙ ap (put cmp e.0 (e.1 ∷ f.1 ∷ run_of cmp fs f.0)) rest.0 ∙ put_first e.0 _ k _ behind Equal (same ∙ q),
+                  ∙ ap (put cmp e.0 (e.1 ∷ f.1 ∷ run_of cmp fs f.0)) rest.0 ∙ put-by_order e.0 _ k _ behind Equal (same ∙ q),
               same ∙ q,
             )
         | Greater ↦ λ q.
@@ -71,7 +71,7 @@ module _ {K V : Type 0} {cmp : K → K → Ordering} (o : IsTotalOrder cmp) wher
 
   -- the others of the first run stand first
   behind_first : (e : K × V) (es : List (K × V)) → Rises cmp (keys_of (e ∷ es)) → es ≡ pairs_at o es e.0 ++ entries_above cmp es e.0
-  behind_first e es h = parts o es e.0 h.1 ∙ ap (λ l. l ++ (pairs_at o es e.0 ++ entries_above cmp es e.0)) (filter-none (λ f. is_lt (cmp f.0 e.0)) es (all_keys (λ x. is_lt (cmp x e.0) ≡ false) es h.0))
+  behind_first e es h = pairs-below_at_above o es e.0 h.1 ∙ ap (λ l. l ++ (pairs_at o es e.0 ++ entries_above cmp es e.0)) (filter-none (λ f. is_lt (cmp f.0 e.0)) es (all_keys (λ x. is_lt (cmp x e.0) ≡ false) es h.0))
 
   rest_rises : (n : ℕ) (es : List (K × V)) → Rises cmp (keys_of es) → Rises cmp (keys_of (drop n es))
   rest_rises n es h = subst (Rises cmp) (drop-map (λ e. e.0) n es) (Rises-drop o n (keys_of es) h)
@@ -125,7 +125,7 @@ module _ {K V : Type 0} {cmp : K → K → Ordering} (o : IsTotalOrder cmp) wher
         let keys : keys_of (f ∷ fs) ≡ drop start ks = ap keys_of (sym is) ∙ sym (drop-map (λ e. e.0) start es) ∙ ap (drop start) (keys_of-zip ks vs (sym sized)) in
         let begin : start + 0 ≡ start = omega arith in
         let same : k ≡ f.0 = here ∙ sym (ap (λ l. get_or l 0 d) keys ∙ get_or-drop start ks 0 d ∙ ap (λ n. get_or ks n d) begin) in
-        let up : Rises cmp (keys_of (f ∷ fs)) = subst (Rises cmp) (sym keys) (Rises-drop o start ks (rises o ks h)) in
+        let up : Rises cmp (keys_of (f ∷ fs)) = subst (Rises cmp) (sym keys) (Rises-drop o start ks (Rises-IsSorted o ks h)) in
         first_room f fs d count up (counted ∙ (λ i. length (filter (λ x. is_le (cmp x (same i))) (sym keys i))))
         ∙ (λ i. ((get_or (keys i) (count - 1) d, []), count) ∷ map room_for (grouped cmp (drop count (sym is i))))
         ∙ (λ i. ((get_or-drop start ks (count - 1) d i, []), count) ∷ map room_for (grouped cmp (drop-drop count start es i)))
@@ -135,18 +135,18 @@ module _ {K V : Type 0} {cmp : K → K → Ordering} (o : IsTotalOrder cmp) wher
 
 -- ---- runs that are filled in turn
 
-take_next : {X : Type 0} (i : ℕ) (xs : List X) (x : X) (rest : List X) → drop i xs ≡ x ∷ rest → take (i + 1) xs ≡ take i xs ++ x ∷ []
-take_next zero [] x rest h = cc
-take_next zero (y ∷ ys) x rest h = let same : y ≡ x = cc in ap (λ z. z ∷ []) same
-take_next (suc i) [] x rest h = cc
-take_next (suc i) (y ∷ ys) x rest h = let next : suc i + 1 ≡ suc (i + 1) = omega arith in ap (λ n. take n (y ∷ ys)) next ∙ ap (λ l. y ∷ l) (take_next i ys x rest h)
+take-next_dropped : {X : Type 0} (i : ℕ) (xs : List X) (x : X) (rest : List X) → drop i xs ≡ x ∷ rest → take (i + 1) xs ≡ take i xs ++ x ∷ []
+take-next_dropped zero [] x rest h = cc
+take-next_dropped zero (y ∷ ys) x rest h = let same : y ≡ x = cc in ap (λ z. z ∷ []) same
+take-next_dropped (suc i) [] x rest h = cc
+take-next_dropped (suc i) (y ∷ ys) x rest h = let next : suc i + 1 ≡ suc (i + 1) = omega arith in ap (λ n. take n (y ∷ ys)) next ∙ ap (λ l. y ∷ l) (take-next_dropped i ys x rest h)
 
 module _ {K V A : Type 0} (c : Content K V) (rs : List (K × Vec V A)) (i : ℕ) (r : K × Vec V A) (within : i < length rs) (here : r ≡ get_or rs i r)
     (rooms : map room_of (drop i rs) ≡ map room_for (drop i c)) where
-  found_at : (l : Content K V) → drop i c ≡ l → (e : K × List V) × (drop i c ≡ e ∷ drop (i + 1) c) × (room_of r ≡ room_for e) × (map room_of (drop (i + 1) rs) ≡ map room_for (drop (i + 1) c))
-  found_at [] is =
+  drop-found : (l : Content K V) → drop i c ≡ l → (e : K × List V) × (drop i c ≡ e ∷ drop (i + 1) c) × (room_of r ≡ room_for e) × (map room_of (drop (i + 1) rs) ≡ map room_for (drop (i + 1) c))
+  drop-found [] is =
       let none : room_of (get_or rs i r) ∷ map room_of (drop (i + 1) rs) ≡ [] = ap (map room_of) (sym (drop_more rs i r within)) ∙ rooms ∙ ap (map room_for) is in cc
-  found_at (e ∷ es) is =
+  drop-found (e ∷ es) is =
       let behind : es ≡ drop (i + 1) c = ap (drop 1) (sym is) ∙ drop-drop 1 i c in
       let both : room_of (get_or rs i r) ∷ map room_of (drop (i + 1) rs) ≡ room_for e ∷ map room_for es = ap (map room_of) (sym (drop_more rs i r within)) ∙ rooms ∙ ap (map room_for) is in
       let first : room_of (get_or rs i r) ≡ room_for e = cc in
@@ -154,32 +154,32 @@ module _ {K V A : Type 0} (c : Content K V) (rs : List (K × Vec V A)) (i : ℕ)
       (e, is ∙ ap (λ l. e ∷ l) behind, ap room_of here ∙ first, others ∙ ap (map room_for) behind)
 
   -- the entry that stands beside the run at a place
-  pub at_place : (e : K × List V) × (drop i c ≡ e ∷ drop (i + 1) c) × (room_of r ≡ room_for e) × (map room_of (drop (i + 1) rs) ≡ map room_for (drop (i + 1) c))
-  at_place = found_at (drop i c) refl
+  pub drop-at_place : (e : K × List V) × (drop i c ≡ e ∷ drop (i + 1) c) × (room_of r ≡ room_for e) × (map room_of (drop (i + 1) rs) ≡ map room_for (drop (i + 1) c))
+  drop-at_place = drop-found (drop i c) refl
 
   module _ (left : List V) (is : left ≡ flat_map (λ e. e.1) (drop i c)) where
-    next_values : left ≡ at_place.0.1 ++ flat_map (λ e. e.1) (drop (i + 1) c)
-    next_values = is ∙ ap (flat_map (λ e. e.1)) at_place.1
+    next_values : left ≡ drop-at_place.0.1 ++ flat_map (λ e. e.1) (drop (i + 1) c)
+    next_values = is ∙ ap (flat_map (λ e. e.1)) drop-at_place.1
 
-    room_is : vec_capacity r.1 ≡ length at_place.0.1
-    room_is = ap (λ p. p.1) at_place.2
+    room_is : vec_capacity r.1 ≡ length drop-at_place.0.1
+    room_is = ap (λ p. p.1) drop-at_place.2
 
     pub run_empty : r.1.items ≡ []
-    run_empty = ap (λ p. p.0.1) at_place.2
+    run_empty = ap (λ p. p.0.1) drop-at_place.2
 
     pub run_enough : vec_capacity r.1 ≤ length left
-    run_enough = let whole = ap length next_values ∙ length-append at_place.0.1 (flat_map (λ e. e.1) (drop (i + 1) c)) in let room = room_is in omega (arith, whole, room)
+    run_enough = let whole = ap length next_values ∙ length-append drop-at_place.0.1 (flat_map (λ e. e.1) (drop (i + 1) c)) in let room = room_is in omega (arith, whole, room)
 
     -- once it has its values
     pub run_filled : (new : Vec V A) → new.items ≡ take (vec_capacity r.1) left → map list_of (take i rs) ≡ take i c → map list_of (take (i + 1) (slice_set rs i (r.0, new))) ≡ take (i + 1) c
     run_filled new filled done =
-        let values : new.items ≡ at_place.0.1 = filled ∙ (λ j. take (room_is j) (next_values j)) ∙ take-append_seam at_place.0.1 (flat_map (λ e. e.1) (drop (i + 1) c)) in
+        let values : new.items ≡ drop-at_place.0.1 = filled ∙ (λ j. take (room_is j) (next_values j)) ∙ take-append_seam drop-at_place.0.1 (flat_map (λ e. e.1) (drop (i + 1) c)) in
         ap (map list_of) (take_more_set rs i (r.0, new) within) ∙ map_push list_of (take i rs) (r.0, new)
-        ∙ (λ j. done j ++ (ap (λ p. p.0.0) at_place.2 j, values j) ∷ [])
-        ∙ sym (take_next i c at_place.0 (drop (i + 1) c) at_place.1)
+        ∙ (λ j. done j ++ (ap (λ p. p.0.0) drop-at_place.2 j, values j) ∷ [])
+        ∙ sym (take-next_dropped i c drop-at_place.0 (drop (i + 1) c) drop-at_place.1)
 
     pub rooms_left : (new : Vec V A) → map room_of (drop (i + 1) (slice_set rs i (r.0, new))) ≡ map room_for (drop (i + 1) c)
-    rooms_left new = ap (map room_of) (drop-set-lt (i + 1) rs i (r.0, new) (omega arith)) ∙ at_place.3
+    rooms_left new = ap (map room_of) (drop-set-lt (i + 1) rs i (r.0, new) (omega arith)) ∙ drop-at_place.3
 
-    pub values_left : (rest : List V) → rest ≡ drop (vec_capacity r.1) left → rest ≡ flat_map (λ e. e.1) (drop (i + 1) c)
-    values_left rest h = h ∙ (λ j. drop (room_is j) (next_values j)) ∙ drop-append_seam at_place.0.1 (flat_map (λ e. e.1) (drop (i + 1) c))
+    pub flat_map-rest : (rest : List V) → rest ≡ drop (vec_capacity r.1) left → rest ≡ flat_map (λ e. e.1) (drop (i + 1) c)
+    flat_map-rest rest h = h ∙ (λ j. drop (room_is j) (next_values j)) ∙ drop-append_seam drop-at_place.0.1 (flat_map (λ e. e.1) (drop (i + 1) c))

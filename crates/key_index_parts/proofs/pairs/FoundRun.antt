@@ -1,13 +1,14 @@
 -- What edits at the places of a run that was found make of the content, whose list at the key it is.
---     run_list, run_count          the list at the key is the run
---     none_there                   it is empty where the run is
---     place_within                 a place of the list is one of the pairs
---     value_in                     the value there
---     may_insert, inserted, inserted_last, set_in, removed, removed_all     edits at a place of the list, and of the whole run
---     may_append                   behind the last of the run
---     found_after                  where the run stands after one of its pairs is taken out
---     found_appended, ..           and after a pair was put behind it
---     left_held, few_held, retains     what is left, where each value was asked on then
+--     run_list, run_count                                   the list at the key is the run
+--     none_there                                            it is empty where the run is
+--     place_within                                          a place of the list is one of the pairs
+--     slice_get-values_of                                   the value there
+--     may_insert, grouped-inserted, grouped-inserted_last   a value put in at a place of the list
+--     grouped-set_in, grouped-removed, grouped-removed_all  one in the place of another, one taken out, and the whole run
+--     may_append                                            behind the last of the run
+--     IsFound-removed                                       where the run stands after one of its pairs is taken out
+--     found_appended, ..                                    and after a pair was put behind it
+--     length-kept_of_run, few_of_run, RetainsWith-run       what is left, where each value was asked on then
 use Rattle.std.proofs.Common.{◌≡◌, ℕ, suc, ◌+◌, ◌-◌, ◌<◌, ◌≤◌, Bool, cond, true, false, not, nat_eq, List, [], ◌∷◌, ◌++◌, length, insert, remove, slice_set, slice_get, Some, length-append, refl, sym, ap, subst, ◌∙◌, arith}
 use Rattle.std.proofs.lemmas.Bool.{eq-eqb, ne_eqb}
 use Rattle.std.proofs.lemmas.List.Edits.{length-remove, length-insert, insert_end}
@@ -30,19 +31,19 @@ use Rattle.key_index_flat.proofs.asked.TurnLemmas.{held_answers, kept_few}
 use Rattle.key_index_parts.specs.Family.{RetainsWith}
 use Rattle.key_index_parts.specs.laws.PairLaws.{IsLawful-grouped}
 use Rattle.key_index_parts.specs.Pairs.{run_of, grouped, with_value, IsFound}
-use Rattle.key_index_parts.proofs.pairs.SearchLemmas.{Rises, rises, IsSorted-remove_range}
+use Rattle.key_index_parts.proofs.pairs.SearchLemmas.{Rises, Rises-IsSorted, IsSorted-remove_range}
 use Rattle.key_index_parts.proofs.pairs.PairLemmas.{place_among, filter-insert, filter-remove}
 use Rattle.key_index_parts.proofs.pairs.RunLemmas.{run_within}
 use Rattle.key_index_parts.proofs.pairs.GroupLemmas.{list_at-grouped}
-use Rattle.key_index_parts.proofs.pairs.PairEdits.{map-insert, map-remove, run_at, IsSorted-insert, grouped-insert, grouped-set, grouped-remove, grouped-remove_run}
+use Rattle.key_index_parts.proofs.pairs.PairEdits.{map-insert, map-remove, slice_get-run_of, IsSorted-insert, grouped-insert, grouped-set, grouped-remove, grouped-remove_run}
 
 module _ {K V : Type 0} {cmp : K → K → Ordering} (o : IsTotalOrder cmp) (exact : (x y : K) → cmp x y ≡ Equal → x ≡ y) {es : List (K × V)} {k : K}
     {start end : ℕ} (found : IsFound cmp es k start end) where
   abbrev list : List V
   list = list_at cmp (grouped cmp es) k
 
-  up : Rises cmp (keys_of es)
-  up = rises o (keys_of es) found.sorted
+  Rises-found : Rises cmp (keys_of es)
+  Rises-found = Rises-IsSorted o (keys_of es) found.sorted
 
   pub run_list : list ≡ run_of cmp es k
   run_list = list_at-grouped o es k
@@ -51,11 +52,11 @@ module _ {K V : Type 0} {cmp : K → K → Ordering} (o : IsTotalOrder cmp) (exa
   run_count = found.run.upto ∙ ap (λ l. start + length l) (sym run_list)
 
   pub none_there : nat_eq start end ≡ not (is_filled list)
-  none_there = told list run_count
+  none_there = empty_by_count list run_count
     where
-      told : (l : List V) → end ≡ start + length l → nat_eq start end ≡ not (is_filled l)
-      told [] e = let same : start ≡ end = omega (arith, e) in eq-eqb start end same
-      told (v ∷ vs) e = ne_eqb start end (λ same. absurd (omega (arith, same, e)))
+      empty_by_count : (l : List V) → end ≡ start + length l → nat_eq start end ≡ not (is_filled l)
+      empty_by_count [] e = let same : start ≡ end = omega (arith, e) in eq-eqb start end same
+      empty_by_count (v ∷ vs) e = ne_eqb start end (λ same. absurd (omega (arith, same, e)))
 
   run_place : (i : ℕ) → i ≤ length list → i ≤ length (run_of cmp es k)
   run_place i l = let e = ap (λ l. length l) run_list in omega (arith, e, l)
@@ -63,60 +64,60 @@ module _ {K V : Type 0} {cmp : K → K → Ordering} (o : IsTotalOrder cmp) (exa
   run_below : (i : ℕ) → i < length list → i < length (run_of cmp es k)
   run_below i l = let e = ap (λ l. length l) run_list in omega (arith, e, l)
 
-  at : (i : ℕ) → start + i ≡ length (entries_below cmp es k) + i
-  at i = ap (λ n. n + i) found.run.from
+  start-entries_below : (i : ℕ) → start + i ≡ length (entries_below cmp es k) + i
+  start-entries_below i = ap (λ n. n + i) found.run.from
 
   pub place_within : (i : ℕ) → i < length list → start + i < length es
-  place_within i l = let all = run_within o es k up in let from = found.run.from in let e = ap (λ l. length l) run_list in omega (arith, all, from, e, l)
+  place_within i l = let all = run_within o es k Rises-found in let from = found.run.from in let e = ap (λ l. length l) run_list in omega (arith, all, from, e, l)
 
   pub place_upto : (i : ℕ) → i ≤ length list → start + i ≤ length es
-  place_upto i l = let all = run_within o es k up in let from = found.run.from in let e = ap (λ l. length l) run_list in omega (arith, all, from, e, l)
+  place_upto i l = let all = run_within o es k Rises-found in let from = found.run.from in let e = ap (λ l. length l) run_list in omega (arith, all, from, e, l)
 
-  pub value_in : (i : ℕ) → i < length list → slice_get (values_of es) (start + i) ≡ slice_get list i
-  value_in i l =
-      let there = run_at o es k up i (run_below i l) in
-      ap (λ n. slice_get (values_of es) n) (at i) ∙ slice_get-map (λ e. e.1) es _ ∙ ap (option_map (λ e. e.1)) there.1
+  pub slice_get-values_of : (i : ℕ) → i < length list → slice_get (values_of es) (start + i) ≡ slice_get list i
+  slice_get-values_of i l =
+      let there = slice_get-run_of o es k Rises-found i (run_below i l) in
+      ap (λ n. slice_get (values_of es) n) (start-entries_below i) ∙ slice_get-map (λ e. e.1) es _ ∙ ap (option_map (λ e. e.1)) there.1
       ∙ sym there.2 ∙ ap (λ m. slice_get m i) (sym run_list)
 
   pub may_insert : (i : ℕ) → i ≤ length list → IsSorted cmp (insert (keys_of es) (start + i) k)
-  may_insert i l = subst (λ n. IsSorted cmp (insert (keys_of es) n k)) (sym (at i)) (IsSorted-insert o es k up i (run_place i l))
+  may_insert i l = subst (λ n. IsSorted cmp (insert (keys_of es) n k)) (sym (start-entries_below i)) (IsSorted-insert o es k Rises-found i (run_place i l))
 
-  pub inserted : (i : ℕ) (v : V) → i ≤ length list → grouped cmp (insert es (start + i) (k, v)) ≡ with_list_by cmp (grouped cmp es) k (λ l. insert l i v)
-  inserted i v l = ap (λ n. grouped cmp (insert es n (k, v))) (at i) ∙ grouped-insert o es k up exact i v (run_place i l)
+  pub grouped-inserted : (i : ℕ) (v : V) → i ≤ length list → grouped cmp (insert es (start + i) (k, v)) ≡ with_list_by cmp (grouped cmp es) k (λ l. insert l i v)
+  grouped-inserted i v l = ap (λ n. grouped cmp (insert es n (k, v))) (start-entries_below i) ∙ grouped-insert o es k Rises-found exact i v (run_place i l)
 
   pub may_append : IsSorted cmp (insert (keys_of es) end k)
   may_append = let whole : length list ≤ length list = omega arith in subst (λ n. IsSorted cmp (insert (keys_of es) n k)) (sym run_count) (may_insert (length list) whole)
 
-  pub inserted_last : (v : V) → grouped cmp (insert es end (k, v)) ≡ with_list_by cmp (grouped cmp es) k (put_value false v)
-  inserted_last v =
+  pub grouped-inserted_last : (v : V) → grouped cmp (insert es end (k, v)) ≡ with_list_by cmp (grouped cmp es) k (put_value false v)
+  grouped-inserted_last v =
       let whole : length list ≤ length list = omega arith in
-      ap (λ n. grouped cmp (insert es n (k, v))) run_count ∙ inserted (length list) v whole ∙ ap (λ l. with_list cmp (grouped cmp es) k l) (insert_end list v)
+      ap (λ n. grouped cmp (insert es n (k, v))) run_count ∙ grouped-inserted (length list) v whole ∙ ap (λ l. with_list cmp (grouped cmp es) k l) (insert_end list v)
 
-  pub set_in : (i : ℕ) (v : V) → i < length list → grouped cmp (with_value es (start + i) v) ≡ with_list_by cmp (grouped cmp es) k (λ l. slice_set l i v)
-  set_in i v l = ap (λ n. grouped cmp (with_value es n v)) (at i) ∙ grouped-set o es k up exact i v (run_below i l)
+  pub grouped-set_in : (i : ℕ) (v : V) → i < length list → grouped cmp (with_value es (start + i) v) ≡ with_list_by cmp (grouped cmp es) k (λ l. slice_set l i v)
+  grouped-set_in i v l = ap (λ n. grouped cmp (with_value es n v)) (start-entries_below i) ∙ grouped-set o es k Rises-found exact i v (run_below i l)
 
-  pub removed : (i : ℕ) → i < length list → grouped cmp (remove es (start + i)) ≡ with_list_by cmp (grouped cmp es) k (λ l. remove l i)
-  removed i l = ap (λ n. grouped cmp (remove es n)) (at i) ∙ grouped-remove o es k up exact i (run_below i l)
+  pub grouped-removed : (i : ℕ) → i < length list → grouped cmp (remove es (start + i)) ≡ with_list_by cmp (grouped cmp es) k (λ l. remove l i)
+  grouped-removed i l = ap (λ n. grouped cmp (remove es n)) (start-entries_below i) ∙ grouped-remove o es k Rises-found exact i (run_below i l)
 
-  pub removed_all : grouped cmp (remove_range es start end) ≡ with_list cmp (grouped cmp es) k []
-  removed_all = grouped-remove_run o es k up exact start end found.run
+  pub grouped-removed_all : grouped cmp (remove_range es start end) ≡ with_list cmp (grouped cmp es) k []
+  grouped-removed_all = grouped-remove_run o es k Rises-found exact start end found.run
 
-  pub list_after : (i : ℕ) → i < length list → list_at cmp (grouped cmp (remove es (start + i))) k ≡ remove list i
-  list_after i l =
-      ap (λ c. list_at cmp c k) (removed i l) ∙ list_at-with_list o (grouped cmp es) k (remove list i) k
+  pub list_at-removed : (i : ℕ) → i < length list → list_at cmp (grouped cmp (remove es (start + i))) k ≡ remove list i
+  list_at-removed i l =
+      ap (λ c. list_at cmp c k) (grouped-removed i l) ∙ list_at-with_list o (grouped cmp es) k (remove list i) k
       ∙ ap (λ r. cond (is_eq r) (remove list i) list) (tied_itself o k)
 
   -- where one of its pairs is taken out
-  pub found_after : (i : ℕ) → i < length list → IsFound cmp (remove es (start + i)) k start (end - 1)
-  found_after i l =
-      let there = run_at o es k up i (run_below i l) in
+  pub IsFound-removed : (i : ℕ) → i < length list → IsFound cmp (remove es (start + i)) k start (end - 1)
+  IsFound-removed i l =
+      let there = slice_get-run_of o es k Rises-found i (run_below i l) in
       let e = there.0 in
-      let place : slice_get es (start + i) ≡ Some e = ap (λ n. slice_get es n) (at i) ∙ there.1 in
+      let place : slice_get es (start + i) ≡ Some e = ap (λ n. slice_get es n) (start-entries_below i) ∙ there.1 in
       let below : entries_below cmp (remove es (start + i)) k ≡ entries_below cmp es k =
       filter-remove (λ f. is_lt (cmp f.0 k)) es (start + i) e place
       ∙ ap (λ r. cond (is_lt r) (remove (entries_below cmp es k) (place_among (λ f. is_lt (cmp f.0 k)) es (start + i))) (entries_below cmp es k)) (tied_back o k e.0 there.3) in
       let fewer = length-remove list i l in
-      let left = ap (λ m. length m) (sym (list_at-grouped o (remove es (start + i)) k) ∙ list_after i l) in
+      let left = ap (λ m. length m) (sym (list_at-grouped o (remove es (start + i)) k) ∙ list_at-removed i l) in
       let whole = run_count in
       let less = length-remove es (start + i) (place_within i l) in
       let all = found.within in
@@ -131,12 +132,12 @@ module _ {K V : Type 0} {cmp : K → K → Ordering} (o : IsTotalOrder cmp) (exa
     abbrev more : List (K × V)
     more = insert es end (k, v)
 
-    appended : grouped cmp new ≡ with_list cmp (grouped cmp es) k (list ++ v ∷ [])
-    appended = ap (grouped cmp) is ∙ inserted_last v
+    grouped-appended : grouped cmp new ≡ with_list cmp (grouped cmp es) k (list ++ v ∷ [])
+    grouped-appended = ap (grouped cmp) is ∙ grouped-inserted_last v
 
     list_appended : list_at cmp (grouped cmp new) k ≡ list ++ v ∷ []
     list_appended =
-        ap (λ c. list_at cmp c k) appended ∙ list_at-with_list o (grouped cmp es) k (list ++ v ∷ []) k
+        ap (λ c. list_at cmp c k) grouped-appended ∙ list_at-with_list o (grouped cmp es) k (list ++ v ∷ []) k
         ∙ ap (λ r. cond (is_eq r) (list ++ v ∷ []) list) (tied_itself o k)
 
     pub length_appended : length new ≡ length es + 1
@@ -161,32 +162,32 @@ module _ {K V : Type 0} {cmp : K → K → Ordering} (o : IsTotalOrder cmp) (exa
     -- and each value of it was asked on
     module _ {F : Type 0} (ask : F → V → Bool → F → Type 0) (f : F) {kept : List V} {stays : Bool}
         (asked : AsksInTurn ask f true (list_at cmp (grouped cmp new) k) kept stays) where
-      answered : length asked.0 ≡ length list + 1
-      answered = asked.2 ∙ ap (λ l. length l) list_appended ∙ length-append list (v ∷ [])
+      length-asked_run : length asked.0 ≡ length list + 1
+      length-asked_run = asked.2 ∙ ap (λ l. length l) list_appended ∙ length-append list (v ∷ [])
 
-      kept_is : kept ≡ items_where_true asked.0 (list ++ v ∷ [])
-      kept_is = asked.4 ∙ ap (λ l. items_where_true asked.0 l) list_appended
+      kept-of_run : kept ≡ items_where_true asked.0 (list ++ v ∷ [])
+      kept-of_run = asked.4 ∙ ap (λ l. items_where_true asked.0 l) list_appended
 
-      pub left_held : length kept ≡ length (items_where_true asked.0 list) + cond stays 1 0
-      left_held = ap (λ l. length l) kept_is ∙ held_answers true asked.0 list v answered ∙ ap (λ b. length (items_where_true asked.0 list) + cond b 1 0) (sym asked.5)
+      pub length-kept_of_run : length kept ≡ length (items_where_true asked.0 list) + cond stays 1 0
+      length-kept_of_run = ap (λ l. length l) kept-of_run ∙ held_answers true asked.0 list v length-asked_run ∙ ap (λ b. length (items_where_true asked.0 list) + cond b 1 0) (sym asked.5)
 
-      pub few_held : length (items_where_true asked.0 list) ≤ length list
-      few_held = kept_few asked.0 list
+      pub few_of_run : length (items_where_true asked.0 list) ≤ length list
+      few_of_run = kept_few asked.0 list
 
-      pub retains : (last : List (K × V)) (had left taken : ℕ) → grouped cmp last ≡ with_list cmp (grouped cmp new) k kept → had ≡ length list → left ≡ length kept
+      pub RetainsWith-run : (last : List (K × V)) (had left taken : ℕ) → grouped cmp last ≡ with_list cmp (grouped cmp new) k kept → had ≡ length list → left ≡ length kept
           → taken + length (items_where_true asked.0 list) ≡ length list
           → RetainsWith ask f list v had left taken (λ l. grouped cmp last ≡ with_list cmp (grouped cmp es) k l)
-      retains last had left taken now had_is left_is taken_is = (
+      RetainsWith-run last had left taken now had_is left_is taken_is = (
         kept,
         record {
           answers = asked.0;
           last = asked.1;
-          long = answered;
+          long = length-asked_run;
           asked = subst (λ l. ReturnsInTurn ask f asked.0 l asked.1) list_appended asked.3;
-          kept = kept_is;
+          kept = kept-of_run;
           taken = taken_is;
         },
-        now ∙ ap (λ c. with_list cmp c k kept) appended ∙ with_list-twice o exact (grouped cmp es) k (list ++ v ∷ []) kept (IsLawful-grouped o es),
+        now ∙ ap (λ c. with_list cmp c k kept) grouped-appended ∙ with_list-twice o exact (grouped cmp es) k (list ++ v ∷ []) kept (IsLawful-grouped o es),
         had_is,
         left_is,
       )

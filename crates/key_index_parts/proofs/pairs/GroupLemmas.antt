@@ -15,9 +15,9 @@ use Rattle.std.specs.declared.cmp.Ordering.{Ordering}
 use Rattle.std.specs.declared.cmp.Ordering.TheVariants.{Less, Equal, Greater}
 use Rattle.std.specs.Ordering.{is_lt, is_eq, eq_by_cmp}
 use Rattle.key_index_flat.specs.Content.{Content, is_filled, all_filled, list_at, item_count}
-use Rattle.key_index_flat.specs.laws.Laws.{both, first, second}
+use Rattle.key_index_flat.specs.laws.Laws.{T-and, T-and_first, T-and_second}
 use Rattle.key_index_flat.specs.Neighbours.{entries_above, entries_below}
-use Rattle.key_index_flat.proofs.content.ContentLemmas.{list_at-with_list, item_count-with_list, tied, less}
+use Rattle.key_index_flat.proofs.content.ContentLemmas.{list_at-with_list, item_count-with_list, Equal-is_eq, Less-is_lt}
 use Rattle.key_index_parts.specs.Pairs.{run_of, grouped}
 use Rattle.key_index_parts.specs.laws.PairLaws.{IsLawful-grouped}
 
@@ -33,7 +33,7 @@ module _ {K V : Type 0} {cmp : K → K → Ordering} (o : IsTotalOrder cmp) wher
       ∙ (λ i. cond (eq_by_cmp cmp q e.0) (e.1 ∷ list_at-grouped es e.0 i) (list_at-grouped es q i))
       ∙ elim (eq_by_cmp cmp q e.0) as (λ b. eq_by_cmp cmp q e.0 ≡ b → cond b (e.1 ∷ run_of cmp es e.0) (run_of cmp es q)
       ≡ values_of (cond b (e ∷ filter (λ f. eq_by_cmp cmp q f.0) es) (filter (λ f. eq_by_cmp cmp q f.0) es))) [
-        | true ↦ λ p. ap (λ l. e.1 ∷ l) (sym (run_of-alike es q e.0 (tied _ p)))
+        | true ↦ λ p. ap (λ l. e.1 ∷ l) (sym (run_of-alike es q e.0 (Equal-is_eq _ p)))
         | false ↦ λ _. refl
       ] refl
 
@@ -46,11 +46,11 @@ module _ {K V : Type 0} {cmp : K → K → Ordering} (o : IsTotalOrder cmp) wher
 
   -- there is no pair exactly where there is no entry
   pub none_grouped : (es : List (K × V)) → nat_eq (length es) 0 ≡ not (is_filled (grouped cmp es))
-  none_grouped es = told (grouped cmp es) (IsLawful-grouped o es).1 (item_count-grouped es)
+  none_grouped es = empty_by_count (grouped cmp es) (IsLawful-grouped o es).1 (item_count-grouped es)
     where
-      told : (c : Content K V) → T (all_filled c) → item_count c ≡ length es → nat_eq (length es) 0 ≡ not (is_filled c)
-      told [] h e = eq-eqb (length es) 0 (sym e)
-      told (x ∷ xs) h e = let some = filled_count x.1 (first _ _ h) in ne_eqb (length es) 0 (λ none. absurd (omega (arith, some, none, e)))
+      empty_by_count : (c : Content K V) → T (all_filled c) → item_count c ≡ length es → nat_eq (length es) 0 ≡ not (is_filled c)
+      empty_by_count [] h e = eq-eqb (length es) 0 (sym e)
+      empty_by_count (x ∷ xs) h e = let some = filled_count x.1 (T-and_first _ _ h) in ne_eqb (length es) 0 (λ none. absurd (omega (arith, some, none, e)))
         where
           filled_count : (l : List V) → T (is_filled l) → 1 ≤ length l
           filled_count [] f = absurd f
@@ -71,19 +71,19 @@ filter-filter p q wider (x ∷ xs) =
 module _ {K X : Type 0} {cmp : K → K → Ordering} (o : IsTotalOrder cmp) where
   put-below : (k : K) (x : X) (c : List (K × X)) → T (below_all cmp k c) → put cmp k x c ≡ (k, x) ∷ c
   put-below k x [] h = refl
-  put-below k x (e ∷ es) h = ap (λ r. by_order r ((k, x) ∷ e ∷ es) ((e.0, x) ∷ es) (e ∷ put cmp k x es)) (less _ (first (is_lt (cmp k e.0)) _ h))
+  put-below k x (e ∷ es) h = ap (λ r. by_order r ((k, x) ∷ e ∷ es) ((e.0, x) ∷ es) (e ∷ put cmp k x es)) (Less-is_lt _ (T-and_first (is_lt (cmp k e.0)) _ h))
 
   below_all-through : (k q : K) (c : List (K × X)) → cmp k q ≡ Less → T (below_all cmp q c) → T (below_all cmp k c)
   below_all-through k q [] l h = tt
   below_all-through k q (e ∷ es) l h =
-      both (is_lt (cmp k e.0)) _ (subst (λ r. T (is_lt r)) (sym (o.trans k q e.0 l (less _ (first (is_lt (cmp q e.0)) _ h)))) tt) (below_all-through k q es l (second (is_lt (cmp q e.0)) _ h))
+      T-and (is_lt (cmp k e.0)) _ (subst (λ r. T (is_lt r)) (sym (o.trans k q e.0 l (Less-is_lt _ (T-and_first (is_lt (cmp q e.0)) _ h)))) tt) (below_all-through k q es l (T-and_second (is_lt (cmp q e.0)) _ h))
 
   below_all-filter : (p : K → Bool) (k : K) (c : List (K × X)) → T (below_all cmp k c) → T (below_all cmp k (filter (λ e. p e.0) c))
   below_all-filter p k [] h = tt
   below_all-filter p k (e ∷ es) h =
-      let rest = below_all-filter p k es (second (is_lt (cmp k e.0)) _ h) in
+      let rest = below_all-filter p k es (T-and_second (is_lt (cmp k e.0)) _ h) in
       elim (p e.0) as (λ b. T (below_all cmp k (cond b (e ∷ filter (λ e. p e.0) es) (filter (λ e. p e.0) es)))) [
-        | true ↦ both (is_lt (cmp k e.0)) _ (first (is_lt (cmp k e.0)) _ h) rest
+        | true ↦ T-and (is_lt (cmp k e.0)) _ (T-and_first (is_lt (cmp k e.0)) _ h) rest
         | false ↦ rest
       ]
 
@@ -94,10 +94,10 @@ module _ {K X : Type 0} {cmp : K → K → Ordering} (o : IsTotalOrder cmp) wher
       let kept = filter (λ e. p e.0) es in
       let whole = filter (λ e. p e.0) (e ∷ es) in
       let after = filter (λ e. p e.0) (put cmp k x es) in
-      let rest : after ≡ cond (p k) (put cmp k x kept) kept = filter-put p alike k x es (second (below_all cmp e.0 es) _ h) in
+      let rest : after ≡ cond (p k) (put cmp k x kept) kept = filter-put p alike k x es (T-and_second (below_all cmp e.0 es) _ h) in
       elim (cmp k e.0) as (λ r. cmp k e.0 ≡ r → filter (λ e. p e.0) (by_order r ((k, x) ∷ e ∷ es) ((e.0, x) ∷ es) (e ∷ put cmp k x es)) ≡ cond (p k) (put cmp k x whole) whole) [
         | Less ↦ λ q.
-            let lowest = both (is_lt (cmp k e.0)) (below_all cmp k es) (subst (λ r. T (is_lt r)) (sym q) tt) (below_all-through k e.0 es q (first (below_all cmp e.0 es) _ h)) in
+            let lowest = T-and (is_lt (cmp k e.0)) (below_all cmp k es) (subst (λ r. T (is_lt r)) (sym q) tt) (below_all-through k e.0 es q (T-and_first (below_all cmp e.0 es) _ h)) in
             ap (λ l. cond (p k) l whole) (sym (put-below k x whole (below_all-filter p k (e ∷ es) lowest)))
         | Equal ↦ λ q.
             elim (p e.0) as (λ b. p k ≡ b → cond b ((e.0, x) ∷ kept) kept ≡ cond (p k) (put cmp k x (cond b (e ∷ kept) kept)) (cond b (e ∷ kept) kept)) [
@@ -127,7 +127,7 @@ module _ {K V : Type 0} {cmp : K → K → Ordering} (o : IsTotalOrder cmp) wher
       ∙ elim (p e.0) as (λ b. p e.0 ≡ b → cond b (put cmp e.0 list (grouped cmp kept)) (grouped cmp kept) ≡ grouped cmp (cond b (e ∷ kept) kept)) [
         | true ↦ λ y.
             let run : run_of cmp kept e.0 ≡ run_of cmp es e.0 =
-            ap values_of (filter-filter (λ f. p f.0) (λ f. eq_by_cmp cmp e.0 f.0) (λ f t. sym (alike e.0 f.0 (tied _ t)) ∙ y) es) in
+            ap values_of (filter-filter (λ f. p f.0) (λ f. eq_by_cmp cmp e.0 f.0) (λ f t. sym (alike e.0 f.0 (Equal-is_eq _ t)) ∙ y) es) in
             ap (λ l. put cmp e.0 (e.1 ∷ l) (grouped cmp kept)) (list_at-grouped o es e.0 ∙ sym run ∙ sym (list_at-grouped o kept e.0))
         | false ↦ λ _. refl
       ] refl

@@ -1,8 +1,8 @@
 -- What an edit of the pairs in a key's run makes of the content. A place of the run is a number `i` beside the start of the run.
---     place_in_run        how many pairs of the run stand before a place of it
---     run_at              the pair at a place of a run
---     IsSorted-insert     a pair of the key may go in at each place of its run
---     grouped-insert, grouped-set, grouped-remove, grouped-remove_run     the content after it
+--     place_in_run                                                     how many pairs of the run stand before a place of it
+--     slice_get-run_of                                                 the pair at a place of a run
+--     IsSorted-insert                                                  a pair of the key may go in at each place of its run
+--     grouped-insert, grouped-set, grouped-remove, grouped-remove_run  the content after it
 use Rattle.std.proofs.Common.{◌≡◌, ℕ, zero, suc, ◌+◌, ◌<◌, ◌≤◌, true, false, cond, T, List, [], ◌∷◌, ◌++◌, length, take, drop, map, insert, remove, slice_set, slice_get, Some, All, refl, sym, ap, subst, ◌∙◌, arith}
 use Rattle.std.proofs.Math.Seq.{drop-length, take-append-add, drop-append-add}
 use Rattle.std.proofs.lemmas.List.{map-append, map-set, length-map, take-map, drop-map, take-append-le, drop-append-le, length-take-le}
@@ -19,11 +19,11 @@ use Rattle.std.specs.Ordering.{is_lt, is_eq, eq_by_cmp, ordering_reverse}
 use Rattle.key_index_flat.specs.Content.{list_at, with_list, with_list_by}
 use Rattle.key_index_flat.specs.laws.Laws.{IsLawful-with_list}
 use Rattle.key_index_flat.specs.Neighbours.{entries_below, entries_above}
-use Rattle.key_index_flat.proofs.content.ContentLemmas.{same_content, list_at-with_list, tied, less}
+use Rattle.key_index_flat.proofs.content.ContentLemmas.{same_content, list_at-with_list, Equal-is_eq, Less-is_lt}
 use Rattle.key_index_parts.specs.Pairs.{run_of, grouped, with_value, IsRun}
-use Rattle.key_index_parts.proofs.pairs.SearchLemmas.{Rises, sorted}
+use Rattle.key_index_parts.proofs.pairs.SearchLemmas.{Rises, IsSorted-Rises}
 use Rattle.key_index_parts.proofs.pairs.PairLemmas.{filter-none, filter-all, place_among, filter-insert, filter-remove, filter-set}
-use Rattle.key_index_parts.proofs.pairs.RunLemmas.{parts, pairs_at, below_part}
+use Rattle.key_index_parts.proofs.pairs.RunLemmas.{pairs-below_at_above, pairs_at, below_part}
 use Rattle.key_index_parts.specs.laws.PairLaws.{IsLawful-grouped}
 use Rattle.key_index_parts.proofs.pairs.GroupLemmas.{list_at-grouped}
 
@@ -42,10 +42,10 @@ slice_get-append-add (x ∷ xs) ys n =
     ap (λ m. slice_get (x ∷ xs ++ ys) m) next ∙ slice_get-append-add xs ys n
 
 -- the element at a place, of which a fact of each is true
-picked : {X : Type 0} (P : X → Type 0) (xs ys : List X) (i : ℕ) → i < length xs → All P xs → (x : X) × (slice_get (xs ++ ys) i ≡ Some x) × (slice_get xs i ≡ Some x) × P x
-picked P [] ys i l h = absurd (omega arith)
-picked P (x ∷ xs) ys zero l h = (x, refl, refl, All-head P x xs h)
-picked P (x ∷ xs) ys (suc i) l h = picked P xs ys i (omega arith) (All-tail P x xs h)
+slice_get-append_picked : {X : Type 0} (P : X → Type 0) (xs ys : List X) (i : ℕ) → i < length xs → All P xs → (x : X) × (slice_get (xs ++ ys) i ≡ Some x) × (slice_get xs i ≡ Some x) × P x
+slice_get-append_picked P [] ys i l h = absurd (omega arith)
+slice_get-append_picked P (x ∷ xs) ys zero l h = (x, refl, refl, All-head P x xs h)
+slice_get-append_picked P (x ∷ xs) ys (suc i) l h = slice_get-append_picked P xs ys i (omega arith) (All-tail P x xs h)
 
 zip-back : {K V : Type 0} (es : List (K × V)) → zip (keys_of es) (values_of es) ≡ es
 zip-back [] = refl
@@ -77,22 +77,22 @@ module _ {K V : Type 0} {cmp : K → K → Ordering} (o : IsTotalOrder cmp) (es 
   all_at : All (λ e. eq_by_cmp cmp k e.0 ≡ true) at
   all_at = filter_passes (λ e. eq_by_cmp cmp k e.0) es
 
-  all_below : All (λ e. is_lt (cmp e.0 k) ≡ true) below
-  all_below = filter_passes (λ e. is_lt (cmp e.0 k)) es
+  below-all_less : All (λ e. is_lt (cmp e.0 k) ≡ true) below
+  below-all_less = filter_passes (λ e. is_lt (cmp e.0 k)) es
 
   -- up to a place of the run, and from it on
   front_is : (i : ℕ) → i ≤ length (run_of cmp es k) → take (length below + i) es ≡ below ++ take i at
   front_is i l =
       let within : i ≤ length at = let len = length-map at (λ e. e.1) in omega (arith, len, l) in
-      ap (take (length below + i)) (parts o es k h) ∙ take-append-add below (at ++ above) i ∙ ap (λ t. below ++ t) (take-append-le i at above within)
+      ap (take (length below + i)) (pairs-below_at_above o es k h) ∙ take-append-add below (at ++ above) i ∙ ap (λ t. below ++ t) (take-append-le i at above within)
 
   back_is : (i : ℕ) → i ≤ length (run_of cmp es k) → drop (length below + i) es ≡ drop i at ++ above
   back_is i l =
       let within : i ≤ length at = let len = length-map at (λ e. e.1) in omega (arith, len, l) in
-      ap (drop (length below + i)) (parts o es k h) ∙ drop-append-add below (at ++ above) i ∙ drop-append-le i at above within
+      ap (drop (length below + i)) (pairs-below_at_above o es k h) ∙ drop-append-add below (at ++ above) i ∙ drop-append-le i at above within
 
   not_at : (e : K × V) → is_lt (cmp e.0 k) ≡ true → eq_by_cmp cmp k e.0 ≡ false
-  not_at e l = ap is_eq (o.antisymm k e.0 ∙ ap ordering_reverse (less (cmp e.0 k) (subst T (sym l) tt)))
+  not_at e l = ap is_eq (o.antisymm k e.0 ∙ ap ordering_reverse (Less-is_lt (cmp e.0 k) (subst T (sym l) tt)))
 
   pub place_in_run : (i : ℕ) → i ≤ length (run_of cmp es k) → place_among (λ e. eq_by_cmp cmp k e.0) es (length below + i) ≡ i
   place_in_run i l =
@@ -100,30 +100,30 @@ module _ {K V : Type 0} {cmp : K → K → Ordering} (o : IsTotalOrder cmp) (es 
       let within : i ≤ length at = let len = length-map at (λ e. e.1) in omega (arith, len, l) in
       ap (λ t. length (filter P t)) (front_is i l)
       ∙ ap length (filter-append P below (take i at)
-      ∙ (λ j. filter-none P below (All-weaker (λ e. is_lt (cmp e.0 k) ≡ true) (λ e. P e ≡ false) not_at below all_below) j ++ filter-all P (take i at) (All-take (λ e. P e ≡ true) i at all_at) j))
+      ∙ (λ j. filter-none P below (All-weaker (λ e. is_lt (cmp e.0 k) ≡ true) (λ e. P e ≡ false) not_at below below-all_less) j ++ filter-all P (take i at) (All-take (λ e. P e ≡ true) i at all_at) j))
       ∙ length-take-le i at within
 
-  pub run_at : (i : ℕ) → i < length (run_of cmp es k) → (e : K × V) × (slice_get es (length below + i) ≡ Some e) × (slice_get (run_of cmp es k) i ≡ Some e.1) × (cmp k e.0 ≡ Equal)
-  run_at i l =
+  pub slice_get-run_of : (i : ℕ) → i < length (run_of cmp es k) → (e : K × V) × (slice_get es (length below + i) ≡ Some e) × (slice_get (run_of cmp es k) i ≡ Some e.1) × (cmp k e.0 ≡ Equal)
+  slice_get-run_of i l =
       let within : i < length at = let len = length-map at (λ e. e.1) in omega (arith, len, l) in
-      let found = picked (λ e. eq_by_cmp cmp k e.0 ≡ true) at above i within all_at in (
+      let found = slice_get-append_picked (λ e. eq_by_cmp cmp k e.0 ≡ true) at above i within all_at in (
         found.0,
-        ap (λ t. slice_get t (length below + i)) (parts o es k h) ∙ slice_get-append-add below (at ++ above) i ∙ found.1,
+        ap (λ t. slice_get t (length below + i)) (pairs-below_at_above o es k h) ∙ slice_get-append-add below (at ++ above) i ∙ found.1,
         slice_get-map (λ e. e.1) at i ∙ ap (option_map (λ e. e.1)) found.2,
-        tied _ found.3,
+        Equal-is_eq _ found.3,
       )
 
   pub IsSorted-insert : (i : ℕ) → i ≤ length (run_of cmp es k) → IsSorted cmp (insert (keys_of es) (length below + i) k)
   IsSorted-insert i l =
       let not_over : All (λ e. is_lt (cmp k e.0) ≡ false) (below ++ take i at) = All-append (λ e. is_lt (cmp k e.0) ≡ false) below (take i at)
-      (All-weaker (λ e. is_lt (cmp e.0 k) ≡ true) (λ e. is_lt (cmp k e.0) ≡ false) (λ e t. ap is_lt (o.antisymm k e.0 ∙ ap ordering_reverse (less (cmp e.0 k) (subst T (sym t) tt)))) below all_below)
-      (All-weaker (λ e. eq_by_cmp cmp k e.0 ≡ true) (λ e. is_lt (cmp k e.0) ≡ false) (λ e t. ap is_lt (tied _ t)) (take i at) (All-take (λ e. eq_by_cmp cmp k e.0 ≡ true) i at all_at)) in
+      (All-weaker (λ e. is_lt (cmp e.0 k) ≡ true) (λ e. is_lt (cmp k e.0) ≡ false) (λ e t. ap is_lt (o.antisymm k e.0 ∙ ap ordering_reverse (Less-is_lt (cmp e.0 k) (subst T (sym t) tt)))) below below-all_less)
+      (All-weaker (λ e. eq_by_cmp cmp k e.0 ≡ true) (λ e. is_lt (cmp k e.0) ≡ false) (λ e t. ap is_lt (Equal-is_eq _ t)) (take i at) (All-take (λ e. eq_by_cmp cmp k e.0 ≡ true) i at all_at)) in
       let not_under : All (λ e. is_lt (cmp e.0 k) ≡ false) (drop i at ++ above) = All-append (λ e. is_lt (cmp e.0 k) ≡ false) (drop i at) above
-      (All-weaker (λ e. eq_by_cmp cmp k e.0 ≡ true) (λ e. is_lt (cmp e.0 k) ≡ false) (λ e t. ap is_lt (tied_back o k e.0 (tied _ t))) (drop i at) (All-drop (λ e. eq_by_cmp cmp k e.0 ≡ true) i at all_at))
-      (All-weaker (λ e. is_lt (cmp k e.0) ≡ true) (λ e. is_lt (cmp e.0 k) ≡ false) (λ e t. ap is_lt (o.antisymm e.0 k ∙ ap ordering_reverse (less (cmp k e.0) (subst T (sym t) tt)))) above (filter_passes (λ e. is_lt (cmp k e.0)) es)) in
+      (All-weaker (λ e. eq_by_cmp cmp k e.0 ≡ true) (λ e. is_lt (cmp e.0 k) ≡ false) (λ e t. ap is_lt (tied_back o k e.0 (Equal-is_eq _ t))) (drop i at) (All-drop (λ e. eq_by_cmp cmp k e.0 ≡ true) i at all_at))
+      (All-weaker (λ e. is_lt (cmp k e.0) ≡ true) (λ e. is_lt (cmp e.0 k) ≡ false) (λ e t. ap is_lt (o.antisymm e.0 k ∙ ap ordering_reverse (Less-is_lt (cmp k e.0) (subst T (sym t) tt)))) above (filter_passes (λ e. is_lt (cmp k e.0)) es)) in
       let front = subst (λ l. All (λ x. is_lt (cmp k x) ≡ false) l) (ap keys_of (sym (front_is i l)) ∙ sym (take-map (λ e. e.0) (length below + i) es)) (All-map (λ x. is_lt (cmp k x) ≡ false) (λ e. e.0) (below ++ take i at) not_over) in
       let back = subst (λ l. All (λ x. is_lt (cmp x k) ≡ false) l) (ap keys_of (sym (back_is i l)) ∙ sym (drop-map (λ e. e.0) (length below + i) es)) (All-map (λ x. is_lt (cmp x k) ≡ false) (λ e. e.0) (drop i at ++ above) not_under) in
-      sorted o (insert (keys_of es) (length below + i) k) (Rises-insert cmp (length below + i) (keys_of es) k h front back)
+      IsSorted-Rises o (insert (keys_of es) (length below + i) k) (Rises-insert cmp (length below + i) (keys_of es) k h front back)
 
   module _ (exact : (x y : K) → cmp x y ≡ Equal → x ≡ y) where
     -- an edit that changes one run and leaves the others
@@ -140,14 +140,14 @@ module _ {K V : Type 0} {cmp : K → K → Ordering} (o : IsTotalOrder cmp) (es 
         ap values_of (filter-insert P es (length below + i) (k, v))
         ∙ elim (eq_by_cmp cmp q k) as (λ b. eq_by_cmp cmp q k ≡ b → values_of (cond b (insert (filter P es) (place_among P es (length below + i)) (k, v)) (filter P es)) ≡ cond b (insert (run_of cmp es k) i v) (run_of cmp es q)) [
           | true ↦ λ y. map-insert (λ e. e.1) (filter P es) (place_among P es (length below + i)) (k, v)
-              ∙ ap (λ z. insert (run_of cmp es z) (place_among (λ e. eq_by_cmp cmp z e.0) es (length below + i)) v) (exact q k (tied _ y))
+              ∙ ap (λ z. insert (run_of cmp es z) (place_among (λ e. eq_by_cmp cmp z e.0) es (length below + i)) v) (exact q k (Equal-is_eq _ y))
               ∙ ap (λ n. insert (run_of cmp es k) n v) (place_in_run i l)
           | false ↦ λ _. refl
         ] refl)
 
     pub grouped-set : (i : ℕ) (v : V) → i < length (run_of cmp es k) → grouped cmp (with_value es (length below + i) v) ≡ with_list_by cmp (grouped cmp es) k (λ l. slice_set l i v)
     grouped-set i v l =
-        let pair = run_at i l in
+        let pair = slice_get-run_of i l in
         let e = pair.0 in
         let whole : i ≤ length (run_of cmp es k) = omega (arith, l) in
         let same : e.0 ≡ k = sym (exact k e.0 pair.3) in
@@ -158,14 +158,14 @@ module _ {K V : Type 0} {cmp : K → K → Ordering} (o : IsTotalOrder cmp) (es 
         ∙ ap (λ z. values_of (cond (eq_by_cmp cmp q z) (slice_set (filter P es) (place_among P es (length below + i)) (e.0, v)) (filter P es))) same
         ∙ elim (eq_by_cmp cmp q k) as (λ b. eq_by_cmp cmp q k ≡ b → values_of (cond b (slice_set (filter P es) (place_among P es (length below + i)) (e.0, v)) (filter P es)) ≡ cond b (slice_set (run_of cmp es k) i v) (run_of cmp es q)) [
           | true ↦ λ y. map-set (λ e. e.1) (filter P es) (place_among P es (length below + i)) (e.0, v)
-              ∙ ap (λ z. slice_set (run_of cmp es z) (place_among (λ e. eq_by_cmp cmp z e.0) es (length below + i)) v) (exact q k (tied _ y))
+              ∙ ap (λ z. slice_set (run_of cmp es z) (place_among (λ e. eq_by_cmp cmp z e.0) es (length below + i)) v) (exact q k (Equal-is_eq _ y))
               ∙ ap (λ n. slice_set (run_of cmp es k) n v) (place_in_run i whole)
           | false ↦ λ _. refl
         ] refl)
 
     pub grouped-remove : (i : ℕ) → i < length (run_of cmp es k) → grouped cmp (remove es (length below + i)) ≡ with_list_by cmp (grouped cmp es) k (λ l. remove l i)
     grouped-remove i l =
-        let pair = run_at i l in
+        let pair = slice_get-run_of i l in
         let e = pair.0 in
         let whole : i ≤ length (run_of cmp es k) = omega (arith, l) in
         let same : e.0 ≡ k = sym (exact k e.0 pair.3) in
@@ -175,7 +175,7 @@ module _ {K V : Type 0} {cmp : K → K → Ordering} (o : IsTotalOrder cmp) (es 
         ∙ ap (λ z. values_of (cond (eq_by_cmp cmp q z) (remove (filter P es) (place_among P es (length below + i))) (filter P es))) same
         ∙ elim (eq_by_cmp cmp q k) as (λ b. eq_by_cmp cmp q k ≡ b → values_of (cond b (remove (filter P es) (place_among P es (length below + i))) (filter P es)) ≡ cond b (remove (run_of cmp es k) i) (run_of cmp es q)) [
           | true ↦ λ y. map-remove (λ e. e.1) (filter P es) (place_among P es (length below + i))
-              ∙ ap (λ z. remove (run_of cmp es z) (place_among (λ e. eq_by_cmp cmp z e.0) es (length below + i))) (exact q k (tied _ y))
+              ∙ ap (λ z. remove (run_of cmp es z) (place_among (λ e. eq_by_cmp cmp z e.0) es (length below + i))) (exact q k (Equal-is_eq _ y))
               ∙ ap (λ n. remove (run_of cmp es k) n) (place_in_run i whole)
           | false ↦ λ _. refl
         ] refl)
@@ -183,10 +183,10 @@ module _ {K V : Type 0} {cmp : K → K → Ordering} (o : IsTotalOrder cmp) (es 
     -- none of another key's pairs stands in the run
     others_at : (q : K) → eq_by_cmp cmp q k ≡ false → filter (λ e. eq_by_cmp cmp q e.0) at ≡ []
     others_at q n = filter-none (λ e. eq_by_cmp cmp q e.0) at (All-weaker (λ e. eq_by_cmp cmp k e.0 ≡ true) (λ e. eq_by_cmp cmp q e.0 ≡ false)
-        (λ e t. ap (λ z. eq_by_cmp cmp q z) (sym (exact k e.0 (tied _ t))) ∙ n) at all_at)
+        (λ e t. ap (λ z. eq_by_cmp cmp q z) (sym (exact k e.0 (Equal-is_eq _ t))) ∙ n) at all_at)
 
     above_other : All (λ e. eq_by_cmp cmp k e.0 ≡ false) above
-    above_other = All-weaker (λ e. is_lt (cmp k e.0) ≡ true) (λ e. eq_by_cmp cmp k e.0 ≡ false) (λ e t. ap is_eq (less (cmp k e.0) (subst T (sym t) tt))) above (filter_passes (λ e. is_lt (cmp k e.0)) es)
+    above_other = All-weaker (λ e. is_lt (cmp k e.0) ≡ true) (λ e. eq_by_cmp cmp k e.0 ≡ false) (λ e t. ap is_eq (Less-is_lt (cmp k e.0) (subst T (sym t) tt))) above (filter_passes (λ e. is_lt (cmp k e.0)) es)
 
     pub grouped-remove_run : (start end : ℕ) → IsRun cmp es k start end → grouped cmp (remove_range es start end) ≡ with_list cmp (grouped cmp es) k []
     grouped-remove_run start end run =
@@ -199,13 +199,13 @@ module _ {K V : Type 0} {cmp : K → K → Ordering} (o : IsTotalOrder cmp) (es 
         ap (grouped cmp) left ∙ grouped-edit (below ++ above) (λ _. []) (λ q.
         let P = λ (e : K × V). eq_by_cmp cmp q e.0 in
         elim (eq_by_cmp cmp q k) as (λ b. eq_by_cmp cmp q k ≡ b → values_of (filter P (below ++ above)) ≡ cond b [] (run_of cmp es q)) [
-          | true ↦ λ y. ap (λ z. run_of cmp (below ++ above) z) (exact q k (tied _ y))
+          | true ↦ λ y. ap (λ z. run_of cmp (below ++ above) z) (exact q k (Equal-is_eq _ y))
               ∙ ap values_of (filter-append (λ e. eq_by_cmp cmp k e.0) below above
-              ∙ (λ j. filter-none (λ e. eq_by_cmp cmp k e.0) below (All-weaker (λ e. is_lt (cmp e.0 k) ≡ true) (λ e. eq_by_cmp cmp k e.0 ≡ false) not_at below all_below) j
+              ∙ (λ j. filter-none (λ e. eq_by_cmp cmp k e.0) below (All-weaker (λ e. is_lt (cmp e.0 k) ≡ true) (λ e. eq_by_cmp cmp k e.0 ≡ false) not_at below below-all_less) j
               ++ filter-none (λ e. eq_by_cmp cmp k e.0) above above_other j))
           | false ↦ λ n. ap values_of (filter-append P below above
               ∙ ap (λ t. filter P below ++ (t ++ filter P above)) (sym (others_at q n))
               ∙ ap (λ t. filter P below ++ t) (sym (filter-append P at above))
               ∙ sym (filter-append P below (at ++ above))
-              ∙ ap (filter P) (sym (parts o es k h)))
+              ∙ ap (filter P) (sym (pairs-below_at_above o es k h)))
         ] refl)

@@ -1,14 +1,14 @@
 -- Where a search of sorted keys ends.
---     not_above               of two keys where the second is not below the first
---     length-filter-point     a partition point is a count
---     lower_partitions, upper_partitions     what a binary search asks for
---     Rises, rises, sorted    that keys never fall, by recursion
---     IsSorted-remove_range     it stays so without some of them
---     first_lowest, last_highest     no key is below the first, nor above the last
---     counted, uncounted      whether a place is below the count of those that pass
---     count_behind, count_before     that count by those from a place on, and by those up to one
---     count_within            it is no more than all
---     below_upto, last_uncounted     the counts of a key, and of the last
+--     cmp-not_greater                             of two keys where the second is not below the first
+--     length-filter-point                         a partition point is a count
+--     lower_partitions, upper_partitions          what a binary search asks for
+--     Rises, Rises-IsSorted, IsSorted-Rises       that keys never fall, by recursion
+--     IsSorted-remove_range                       it stays so without some of them
+--     first_lowest, last_highest                  no key is below the first, nor above the last
+--     length-filter_above, length-filter_at_most  whether a place is below the count of those that pass
+--     count_behind, count_before                  that count by those from a place on, and by those up to one
+--     count_within                                it is no more than all
+--     below_upto, last_uncounted                  the counts of a key, and of the last
 use Rattle.std.proofs.Common.{◌≡◌, ℕ, suc, ◌+◌, ◌<◌, ◌≤◌, Bool, true, false, cond, T, List, [], ◌∷◌, length, ◌⊎◌, All, take, drop, inl, inr, refl, sym, ap, subst, ◌∙◌, arith, zero, get_or, ◌-◌, slice_get, Some}
 use Rattle.std.specs.declared.cmp.Ordering.{Ordering}
 use Rattle.std.specs.declared.cmp.Ordering.TheVariants.{Less, Equal, Greater}
@@ -32,8 +32,8 @@ length-filter-point p (x ∷ xs) (suc i) h at =
     ∙ ap (λ b. length (cond b (x ∷ filter p xs) (filter p xs))) (sym (at.0 0 x (omega arith) (omega arith)))
 
 module _ {K : Type 0} {cmp : K → K → Ordering} (o : IsTotalOrder cmp) where
-  pub not_above : (x y : K) → is_lt (cmp y x) ≡ false → (cmp x y ≡ Less) ⊎ (cmp x y ≡ Equal)
-  not_above x y h =
+  pub cmp-not_greater : (x y : K) → is_lt (cmp y x) ≡ false → (cmp x y ≡ Less) ⊎ (cmp x y ≡ Equal)
+  cmp-not_greater x y h =
       elim (cmp y x) as (λ r. cmp x y ≡ ordering_reverse r → is_lt r ≡ false → (cmp x y ≡ Less) ⊎ (cmp x y ≡ Equal)) [
         | Less ↦ λ _ f. absurd (subst T f tt)
         | Equal ↦ λ e _. inr e
@@ -43,7 +43,7 @@ module _ {K : Type 0} {cmp : K → K → Ordering} (o : IsTotalOrder cmp) where
   -- below what is below, and not above what is not
   below_too : (x y k : K) → is_lt (cmp y x) ≡ false → is_lt (cmp y k) ≡ true → is_lt (cmp x k) ≡ true
   below_too x y k h b =
-      elim (not_above x y h) [
+      elim (cmp-not_greater x y h) [
         | inl l ↦ elim (cmp y k) as (λ r. cmp y k ≡ r → is_lt r ≡ true → is_lt (cmp x k) ≡ true) [
           | Less ↦ λ e _. ap is_lt (o.trans x y k l e)
           | Equal ↦ λ _ f. absurd (subst T (sym f) tt)
@@ -54,7 +54,7 @@ module _ {K : Type 0} {cmp : K → K → Ordering} (o : IsTotalOrder cmp) where
 
   upto_too : (x y k : K) → is_lt (cmp y x) ≡ false → is_le (cmp y k) ≡ true → is_le (cmp x k) ≡ true
   upto_too x y k h b =
-      elim (not_above x y h) [
+      elim (cmp-not_greater x y h) [
         | inl l ↦ elim (cmp y k) as (λ r. cmp y k ≡ r → is_le r ≡ true → is_le (cmp x k) ≡ true) [
           | Less ↦ λ e _. ap is_le (o.trans x y k l e)
           | Equal ↦ λ e _. ap is_le (sym (alike_right o y k x e) ∙ l)
@@ -73,7 +73,7 @@ module _ {K : Type 0} {cmp : K → K → Ordering} (o : IsTotalOrder cmp) where
   pub never_falls : (x y z : K) → is_lt (cmp y x) ≡ false → is_lt (cmp z y) ≡ false → is_lt (cmp z x) ≡ false
   never_falls x y z h k =
       elim (cmp z x) as (λ r. cmp z x ≡ r → is_lt r ≡ false) [
-        | Less ↦ λ e. elim (not_above x y h) [
+        | Less ↦ λ e. elim (cmp-not_greater x y h) [
           | inl l ↦ sym (ap is_lt (o.trans z x y e l)) ∙ k
           | inr q ↦ sym (ap is_lt (sym (alike_right o x y z q) ∙ e)) ∙ k
         ]
@@ -86,25 +86,25 @@ Rises cmp [] = Unit {0}
 Rises cmp (k ∷ ks) = All (λ x. is_lt (cmp x k) ≡ false) ks × Rises cmp ks
 
 module _ {K : Type 0} {cmp : K → K → Ordering} (o : IsTotalOrder cmp) where
-  pub rises : (ks : List K) → IsSorted cmp ks → Rises cmp ks
-  rises [] h = tt
-  rises (k ∷ []) h = (All-nil _, tt)
-  rises (k ∷ l ∷ ls) h =
+  pub Rises-IsSorted : (ks : List K) → IsSorted cmp ks → Rises cmp ks
+  Rises-IsSorted [] h = tt
+  Rises-IsSorted (k ∷ []) h = (All-nil _, tt)
+  Rises-IsSorted (k ∷ l ∷ ls) h =
       let later : IsSorted cmp (l ∷ ls) = λ i d m b.
       let place : suc i + 1 ≡ suc (i + 1) = omega arith in
       subst (λ n. is_lt (cmp (get_or (k ∷ l ∷ ls) n d) (get_or (l ∷ ls) i d)) ≡ false) place (h (suc i) d (omega arith) (omega arith)) in
       let P : K → Type 0 = λ x. is_lt (cmp x k) ≡ false in
-      let rest = rises (l ∷ ls) later in
+      let rest = Rises-IsSorted (l ∷ ls) later in
       let next : is_lt (cmp l k) ≡ false = h 0 k (omega arith) (omega arith) in
       (All-cons P l ls next (All-weaker (λ x. is_lt (cmp x l) ≡ false) P (λ x n. never_falls o k l x next n) ls rest.0), rest)
 
-  pub sorted : (ks : List K) → Rises cmp ks → IsSorted cmp ks
-  sorted [] h i d m b = absurd (omega arith)
-  sorted (k ∷ []) h i d m b = absurd (omega arith)
-  sorted (k ∷ l ∷ ls) h zero d m b = All-head (λ x. is_lt (cmp x k) ≡ false) l ls h.0
-  sorted (k ∷ l ∷ ls) h (suc i) d m b =
+  pub IsSorted-Rises : (ks : List K) → Rises cmp ks → IsSorted cmp ks
+  IsSorted-Rises [] h i d m b = absurd (omega arith)
+  IsSorted-Rises (k ∷ []) h i d m b = absurd (omega arith)
+  IsSorted-Rises (k ∷ l ∷ ls) h zero d m b = All-head (λ x. is_lt (cmp x k) ≡ false) l ls h.0
+  IsSorted-Rises (k ∷ l ∷ ls) h (suc i) d m b =
       let place : suc (i + 1) ≡ suc i + 1 = omega arith in
-      subst (λ n. is_lt (cmp (get_or (k ∷ l ∷ ls) n d) (get_or (l ∷ ls) i d)) ≡ false) place (sorted (l ∷ ls) h.1 i d (omega arith) (omega arith))
+      subst (λ n. is_lt (cmp (get_or (k ∷ l ∷ ls) n d) (get_or (l ∷ ls) i d)) ≡ false) place (IsSorted-Rises (l ∷ ls) h.1 i d (omega arith) (omega arith))
 
   pub Rises-drop : (j : ℕ) (ks : List K) → Rises cmp ks → Rises cmp (drop j ks)
   Rises-drop zero ks h = h
@@ -120,7 +120,7 @@ module _ {K : Type 0} {cmp : K → K → Ordering} (o : IsTotalOrder cmp) where
       (All-append P (take i ks) (drop j ks) (All-take P i ks h.0) (All-drop P j ks h.0), Rises-remove_range i j ks (omega arith) h.1)
 
   pub IsSorted-remove_range : (ks : List K) (i j : ℕ) → i ≤ j → IsSorted cmp ks → IsSorted cmp (remove_range ks i j)
-  IsSorted-remove_range ks i j le h = sorted (remove_range ks i j) (Rises-remove_range i j ks le (rises ks h))
+  IsSorted-remove_range ks i j le h = IsSorted-Rises (remove_range ks i j) (Rises-remove_range i j ks le (Rises-IsSorted ks h))
 
   Rises-take : (n : ℕ) (ks : List K) → Rises cmp ks → Rises cmp (take n ks)
   Rises-take zero ks h = tt
@@ -143,43 +143,43 @@ module _ {X : Type 0} (p : X → Bool) where
   abbrev Parted : List X → Type 0
   Parted xs = IsPartitionedBy p xs
 
-  later : (x : X) (xs : List X) → Parted (x ∷ xs) → Parted xs
-  later x xs h i j d le l = h (suc i) (suc j) d (omega arith) (omega arith)
+  Parted-tail : (x : X) (xs : List X) → Parted (x ∷ xs) → Parted xs
+  Parted-tail x xs h i j d le l = h (suc i) (suc j) d (omega arith) (omega arith)
 
-  one_more : (x : X) (xs : List X) → p x ≡ true → length (filter p (x ∷ xs)) ≡ suc (length (filter p xs))
-  one_more x xs e = ap (λ b. length (cond b (x ∷ filter p xs) (filter p xs))) e
+  length-filter_pass : (x : X) (xs : List X) → p x ≡ true → length (filter p (x ∷ xs)) ≡ suc (length (filter p xs))
+  length-filter_pass x xs e = ap (λ b. length (cond b (x ∷ filter p xs) (filter p xs))) e
 
-  none_more : (x : X) (xs : List X) → p x ≡ false → length (filter p (x ∷ xs)) ≡ length (filter p xs)
-  none_more x xs e = ap (λ b. length (cond b (x ∷ filter p xs) (filter p xs))) e
+  length-filter_fail : (x : X) (xs : List X) → p x ≡ false → length (filter p (x ∷ xs)) ≡ length (filter p xs)
+  length-filter_fail x xs e = ap (λ b. length (cond b (x ∷ filter p xs) (filter p xs))) e
 
   -- an element that passes is counted, with all before it
-  pub counted : (xs : List X) (i : ℕ) (d : X) → Parted xs → i < length xs → p (get_or xs i d) ≡ true → i < length (filter p xs)
-  counted [] i d h l e = absurd (omega arith)
-  counted (x ∷ xs) zero d h l e = let more = one_more x xs e in omega (arith, more)
-  counted (x ∷ xs) (suc i) d h l e =
-      let more = one_more x xs (h 0 (suc i) d (omega arith) (omega arith) e) in
-      let rest = counted xs i d (later x xs h) (omega arith) e in
+  pub length-filter_above : (xs : List X) (i : ℕ) (d : X) → Parted xs → i < length xs → p (get_or xs i d) ≡ true → i < length (filter p xs)
+  length-filter_above [] i d h l e = absurd (omega arith)
+  length-filter_above (x ∷ xs) zero d h l e = let more = length-filter_pass x xs e in omega (arith, more)
+  length-filter_above (x ∷ xs) (suc i) d h l e =
+      let more = length-filter_pass x xs (h 0 (suc i) d (omega arith) (omega arith) e) in
+      let rest = length-filter_above xs i d (Parted-tail x xs h) (omega arith) e in
       omega (arith, more, rest)
 
   -- where the first fails, none passes
-  none_passes : (xs : List X) → Parted xs → ((d : X) → 0 < length xs → p (get_or xs 0 d) ≡ false) → length (filter p xs) ≡ 0
-  none_passes [] h e = refl
-  none_passes (x ∷ xs) h e =
+  length-filter_none : (xs : List X) → Parted xs → ((d : X) → 0 < length xs → p (get_or xs 0 d) ≡ false) → length (filter p xs) ≡ 0
+  length-filter_none [] h e = refl
+  length-filter_none (x ∷ xs) h e =
       let fails : p x ≡ false = e x (omega arith) in
-      none_more x xs fails ∙ none_passes xs (later x xs h) (λ d l. elim (p (get_or xs 0 d)) as (λ b. p (get_or xs 0 d) ≡ b → b ≡ false) [
+      length-filter_fail x xs fails ∙ length-filter_none xs (Parted-tail x xs h) (λ d l. elim (p (get_or xs 0 d)) as (λ b. p (get_or xs 0 d) ≡ b → b ≡ false) [
         | true ↦ λ q. sym (h 0 1 d (omega arith) (omega arith) q) ∙ fails
         | false ↦ λ _. refl
       ] refl)
 
   -- one that fails is not, nor any behind it
-  pub uncounted : (xs : List X) (i : ℕ) (d : X) → Parted xs → i < length xs → p (get_or xs i d) ≡ false → length (filter p xs) ≤ i
-  uncounted [] i d h l e = absurd (omega arith)
-  uncounted (x ∷ xs) zero d h l e = let none = none_passes (x ∷ xs) h (λ _ _. e) in omega (arith, none)
-  uncounted (x ∷ xs) (suc i) d h l e =
-      let rest = uncounted xs i d (later x xs h) (omega arith) e in
+  pub length-filter_at_most : (xs : List X) (i : ℕ) (d : X) → Parted xs → i < length xs → p (get_or xs i d) ≡ false → length (filter p xs) ≤ i
+  length-filter_at_most [] i d h l e = absurd (omega arith)
+  length-filter_at_most (x ∷ xs) zero d h l e = let none = length-filter_none (x ∷ xs) h (λ _ _. e) in omega (arith, none)
+  length-filter_at_most (x ∷ xs) (suc i) d h l e =
+      let rest = length-filter_at_most xs i d (Parted-tail x xs h) (omega arith) e in
       elim (p x) as (λ b. p x ≡ b → length (filter p (x ∷ xs)) ≤ suc i) [
-        | true ↦ λ q. let more = one_more x xs q in omega (arith, more, rest)
-        | false ↦ λ q. let more = none_more x xs q in omega (arith, more, rest)
+        | true ↦ λ q. let more = length-filter_pass x xs q in omega (arith, more, rest)
+        | false ↦ λ q. let more = length-filter_fail x xs q in omega (arith, more, rest)
       ] refl
 
   -- the count from a place on, and up to a place
@@ -189,10 +189,10 @@ module _ {X : Type 0} (p : X → Bool) where
   count_behind (x ∷ xs) (suc i) h l =
       elim (p x) as (λ b. p x ≡ b → suc i + length (filter p (drop i xs)) ≡ length (filter p (x ∷ xs))) [
         | true ↦ λ q.
-            let more = one_more x xs q in
-            let rest = count_behind xs i (later x xs h) (omega (arith, more, l)) in
+            let more = length-filter_pass x xs q in
+            let rest = count_behind xs i (Parted-tail x xs h) (omega (arith, more, l)) in
             omega (arith, more, rest)
-        | false ↦ λ q. let none = none_passes (x ∷ xs) h (λ _ _. q) in absurd (omega (arith, none, l))
+        | false ↦ λ q. let none = length-filter_none (x ∷ xs) h (λ _ _. q) in absurd (omega (arith, none, l))
       ] refl
 
   pub count_before : (xs : List X) (i : ℕ) → Parted xs → length (filter p xs) ≤ i → length (filter p (take i xs)) ≡ length (filter p xs)
@@ -201,13 +201,13 @@ module _ {X : Type 0} (p : X → Bool) where
   count_before (x ∷ xs) (suc i) h l =
       elim (p x) as (λ b. p x ≡ b → length (cond b (x ∷ filter p (take i xs)) (filter p (take i xs))) ≡ length (filter p (x ∷ xs))) [
         | true ↦ λ q.
-            let more = one_more x xs q in
-            let rest = count_before xs i (later x xs h) (omega (arith, more, l)) in
+            let more = length-filter_pass x xs q in
+            let rest = count_before xs i (Parted-tail x xs h) (omega (arith, more, l)) in
             omega (arith, more, rest)
         | false ↦ λ q.
-            let more = none_more x xs q in
-            let none = none_passes (x ∷ xs) h (λ _ _. q) in
-            count_before xs i (later x xs h) (omega (arith, more, none)) ∙ sym more
+            let more = length-filter_fail x xs q in
+            let none = length-filter_none (x ∷ xs) h (λ _ _. q) in
+            count_before xs i (Parted-tail x xs h) (omega (arith, more, none)) ∙ sym more
       ] refl
 
   pub count_within : (xs : List X) → length (filter p xs) ≤ length xs
@@ -236,5 +236,5 @@ module _ {K : Type 0} {cmp : K → K → Ordering} (o : IsTotalOrder cmp) where
   last_uncounted ks k h at =
       let within = slice_get_within ks (length ks - 1) k at in
       let test = ap (λ x. is_lt (cmp x k)) (get_or_from_slice_get ks (length ks - 1) k k at) ∙ ap is_lt (tied_itself o k) in
-      let most = uncounted (λ x. is_lt (cmp x k)) ks (length ks - 1) k (lower_partitions o ks k h) within test in
+      let most = length-filter_at_most (λ x. is_lt (cmp x k)) ks (length ks - 1) k (lower_partitions o ks k h) within test in
       omega (arith, within, most)

@@ -85,20 +85,20 @@ module _ {owed : ℕ → Standing → ℕ} (pays : Pays owed) where
   -- taken: how many of the values that were held are gone
   module _ (old new : Standings) (n pruned after taken : ℕ) (inside : n < length old.buckets) (left : entries_at old n ≤ entries_at new n + taken)
       (after_is : after ≡ pruned_after pruned taken) (before : IsPaid (owed old.threshold) old pruned) where
-    edit_paid : IsPaid (owed old.threshold) (with_entries old n (entries_at new n)) after
-    edit_paid =
+    IsPaid-with_entries : IsPaid (owed old.threshold) (with_entries old n (entries_at new n)) after
+    IsPaid-with_entries =
         let cheap = pays.edit old.threshold (entries_at old n) (entries_at new n) taken (standing_at old n).spilled left in
         step_keeps (owed old.threshold) old.buckets n (record { entries = entries_at new n; spilled = (standing_at old n).spilled && nat_lt 0 (entries_at new n) }) old.moved old.moved pruned after taken 0
         inside (omega arith) after_is (omega (arith, cheap)) before
 
     pub leaves_paid : Leaves old n new → IsPaid (owed new.threshold) new after
-    leaves_paid is = subst (λ s. IsPaid (owed s.threshold) s after) (sym is) edit_paid
+    leaves_paid is = subst (λ s. IsPaid (owed s.threshold) s after) (sym is) IsPaid-with_entries
 
     pub grows_paid : (spills : Bool) → new ≡ settled_in spills (with_entries old n (entries_at new n)) n → IsPaid (owed new.threshold) new after
     grows_paid spills is =
         let same = length-set old.buckets n (record { entries = entries_at new n; spilled = (standing_at old n).spilled && nat_lt 0 (entries_at new n) }) in
         subst (λ s. IsPaid (owed s.threshold) s after) (sym is)
-        (settled_paid spills (with_entries old n (entries_at new n)) n after (omega (arith, same, inside)) edit_paid)
+        (settled_paid spills (with_entries old n (entries_at new n)) n after (omega (arith, same, inside)) IsPaid-with_entries)
 
 pub back_within : (old new : Standings) (n pruned : ℕ) → n < length old.buckets → MovesBack old n new → IsWithin old pruned → IsWithin new pruned
 back_within old new n pruned inside (inl same) before = subst (λ s. IsWithin s pruned) (sym same) before
@@ -122,30 +122,30 @@ pub range_within : (s : Standings) (pruned t : ℕ) → IsRangeWithin s pruned �
 range_within s pruned t h low = let bound = h low in let least = credits_least t s.buckets in omega (arith, bound, least)
 
 module _ (ps : List Standing) (first : ℕ) where
-  one_more : (f : Standing → ℕ) (count : ℕ) → first + suc count ≤ length ps
+  sum_by-drop_first : (f : Standing → ℕ) (count : ℕ) → first + suc count ≤ length ps
       → sum_by f (drop (first + count) ps) ≡ f (get_or ps (first + count) (record { entries = 0; spilled = false })) + sum_by f (drop (first + suc count) ps)
-  one_more f count fits =
+  sum_by-drop_first f count fits =
       let next = sum_by-drop_more f ps (first + count) (record { entries = 0; spilled = false }) (omega arith) in
       let same : first + suc count ≡ first + count + 1 = omega arith in
       let moved = ap (λ j. sum_by f (drop j ps)) same in omega (arith, next, moved)
 
-  none_more : (f : Standing → ℕ) → sum_by f (drop (first + 0) ps) ≡ sum_by f (drop first ps)
-  none_more f = let same : first + 0 ≡ first = omega arith in ap (λ j. sum_by f (drop j ps)) same
+  sum_by-drop_none : (f : Standing → ℕ) → sum_by f (drop (first + 0) ps) ≡ sum_by f (drop first ps)
+  sum_by-drop_none f = let same : first + 0 ≡ first = omega arith in ap (λ j. sum_by f (drop j ps)) same
 
   -- those from `first` on have no values
-  free_entries : (count : ℕ) → first + count ≤ length ps
+  sum_by-drop_free : (count : ℕ) → first + count ≤ length ps
       → ((n : ℕ) → first ≤ n → n < first + count → (get_or ps n (record { entries = 0; spilled = false })).entries ≡ 0)
       → sum_by (λ p. p.entries) (drop first ps) ≡ sum_by (λ p. p.entries) (drop (first + count) ps)
-  free_entries zero fits free = sym (none_more (λ p. p.entries))
-  free_entries (suc count) fits free =
-      let rest = free_entries count (omega arith) (λ n from below. free n from (omega arith)) in
-      let next = one_more (λ p. p.entries) count fits in
+  sum_by-drop_free zero fits free = sym (sum_by-drop_none (λ p. p.entries))
+  sum_by-drop_free (suc count) fits free =
+      let rest = sum_by-drop_free count (omega arith) (λ n from below. free n from (omega arith)) in
+      let next = sum_by-drop_first (λ p. p.entries) count fits in
       let none = free (first + count) (omega arith) (omega arith) in omega (arith, rest, next, none)
 
   fewer_credits : (t count : ℕ) → first + count ≤ length ps → sum_by (credit t) (drop (first + count) ps) ≤ sum_by (credit t) (drop first ps)
-  fewer_credits t zero fits = let none = none_more (credit t) in omega (arith, none)
+  fewer_credits t zero fits = let none = sum_by-drop_none (credit t) in omega (arith, none)
   fewer_credits t (suc count) fits =
-      let rest = fewer_credits t count (omega arith) in let next = one_more (credit t) count fits in omega (arith, rest, next)
+      let rest = fewer_credits t count (omega arith) in let next = sum_by-drop_first (credit t) count fits in omega (arith, rest, next)
 
 -- a range of any threshold goes into partitions without values
 pub install_within : (s range : Standings) (first pruned taken : ℕ) → first + length range.buckets ≤ length s.buckets
@@ -154,7 +154,7 @@ pub install_within : (s range : Standings) (first pruned taken : ℕ) → first 
 install_within s range first pruned taken fits free before apart low =
     let own = before (omega arith) in
     let other = range_within range taken s.threshold apart (omega arith) in
-    let gap = free_entries s.buckets first (length range.buckets) fits free in
+    let gap = sum_by-drop_free s.buckets first (length range.buckets) fits free in
     let whole = sum_by-take-drop (λ p. p.entries) s.buckets first in
     let all = sum_by-append (λ p. p.entries) (take first s.buckets) (range.buckets ++ drop (first + length range.buckets) s.buckets) in
     let late = sum_by-append (λ p. p.entries) range.buckets (drop (first + length range.buckets) s.buckets) in

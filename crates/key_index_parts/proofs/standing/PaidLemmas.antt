@@ -3,8 +3,8 @@
 --     listed_by                     and so the one of a number is among them
 --     entries_sum                   and as many values in all
 --     counted_joined                buckets in the place of others
---     free_entries                  places that hold nothing have no values
---     edit_paid                     an edit of a slot's list, in its bucket as that stands
+--     entries-AreFree               places that hold nothing have no values
+--     IsPaid-LeavesIn               an edit of a slot's list, in its bucket as that stands
 --     growth_paid                   an insertion there
 use Rattle.std.proofs.Common.{◌≡◌, ℕ, ◌+◌, ◌<◌, ◌≤◌, Bool, false, List, [], ◌∷◌, ◌++◌, map, take, drop, length, get_or, refl, sym, ap, ◌∙◌, arith}
 use Rattle.std.proofs.lemmas.List.{get_or-map, get_or-set_same, length-map, map-append, take-map, drop-map}
@@ -20,7 +20,7 @@ use Rattle.key_index_parts.specs.Family.{AreCounted, AreFree, IsCounted, list_in
 use Rattle.key_index_parts.specs.Moves.{IsPaid}
 use Rattle.key_index_parts.specs.Standing.{LeavesIn, Standing, Standings, standing_in, with_entries}
 use Rattle.key_index_parts.proofs.standing.MoveLemmas.{Pays, grows_paid, leaves_paid}
-use Rattle.key_index_parts.proofs.family.StorageLemmas.{resized}
+use Rattle.key_index_parts.proofs.family.StorageLemmas.{length-with_list_in}
 
 module _ {K V : Type 0} (contents : List (Content K V)) (standing : List Standing) (told : AreCounted contents standing) where
   pub counted_size : length standing ≡ length contents
@@ -63,10 +63,10 @@ counted_joined contents others standing more n told also =
         ∙ ap (λ m. take n (map f xs) ++ (map f ys ++ drop (n + m) (map f xs))) (sym (length-map ys f))
 
 -- places that hold nothing have no values
-pub free_entries : {K V : Type 0} (contents : List (Content K V)) (standing : List Standing) → AreCounted contents standing
+pub entries-AreFree : {K V : Type 0} (contents : List (Content K V)) (standing : List Standing) → AreCounted contents standing
     → (start count : ℕ) → start + count ≤ length contents → AreFree contents start count
     → (n : ℕ) → start ≤ n → n < start + count → (standing_in standing n).entries ≡ 0
-free_entries contents standing told start count fits free n from upto =
+entries-AreFree contents standing told start count fits free n from upto =
     entries_told contents standing told n (omega (arith, fits, upto)) ∙ ap (λ c. item_count c) (free n from upto)
 
 module _ {K V : Type 0} {cmp : K → K → Ordering} {p : ℕ} {buckets : List (Content K V)} {items keys : ℕ} (h : IsCounted cmp p buckets items keys)
@@ -74,7 +74,7 @@ module _ {K V : Type 0} {cmp : K → K → Ordering} {p : ℕ} {buckets : List (
     (ps qs : List Standing) (told : AreCounted buckets ps) (now : AreCounted new qs) where
   entries_edited : (standing_in qs slot.0).entries + length (list_in cmp buckets slot) ≡ (standing_in ps slot.0).entries + length l
   entries_edited =
-      let size = resized cmp buckets slot l new is in
+      let size = length-with_list_in cmp buckets slot l new is in
       let was = entries_told buckets ps told slot.0 inside in
       let then_is = entries_told new qs now slot.0 (omega (arith, size, inside)) in
       let at : bucket_at new slot.0 ≡ with_list cmp (bucket_at buckets slot.0) slot.1 l =
@@ -90,15 +90,15 @@ module _ {K V : Type 0} {cmp : K → K → Ordering} {p : ℕ} {buckets : List (
     within_buckets : slot.0 < length ps
     within_buckets = let same = counted_size buckets ps told in omega (arith, same, inside)
 
-    left : (standing_in ps slot.0).entries ≤ (standing_in qs slot.0).entries + taken
-    left = let sum = entries_edited in omega (arith, sum, fits)
+    entries-left_and_taken : (standing_in ps slot.0).entries ≤ (standing_in qs slot.0).entries + taken
+    entries-left_and_taken = let sum = entries_edited in omega (arith, sum, fits)
 
     module _ {owed : ℕ → Standing → ℕ} (pays : Pays owed) where
-      pub edit_paid : LeavesIn ps slot.0 qs → IsPaid (owed t) (standing_so ps) pruned → IsPaid (owed t) (standing_so qs) after
-      edit_paid stays before = leaves_paid pays (standing_so ps) (standing_so qs) slot.0 pruned after taken within_buckets left after_is before (λ i. standing_so (stays i))
+      pub IsPaid-LeavesIn : LeavesIn ps slot.0 qs → IsPaid (owed t) (standing_so ps) pruned → IsPaid (owed t) (standing_so qs) after
+      IsPaid-LeavesIn stays before = leaves_paid pays (standing_so ps) (standing_so qs) slot.0 pruned after taken within_buckets entries-left_and_taken after_is before (λ i. standing_so (stays i))
 
       pub growth_paid : (kind : Bool) (a b : ℕ)
           → record { threshold = t; buckets = qs; spills = a; moved = b } ≡ settled_in kind (with_entries (standing_so ps) slot.0 (standing_in qs slot.0).entries) slot.0
           → IsPaid (owed t) (standing_so ps) pruned → IsPaid (owed t) (record { threshold = t; buckets = qs; spills = a; moved = b }) after
       growth_paid kind a b grows before =
-          grows_paid pays (standing_so ps) (record { threshold = t; buckets = qs; spills = a; moved = b }) slot.0 pruned after taken within_buckets left after_is before kind grows
+          grows_paid pays (standing_so ps) (record { threshold = t; buckets = qs; spills = a; moved = b }) slot.0 pruned after taken within_buckets entries-left_and_taken after_is before kind grows

@@ -1,14 +1,14 @@
 -- On how partitions stand after calls.
---     none_more                   a count after none more
---     raised, at_raised           a partition that was spilled if it had reached the threshold
---     settles_edit                a call by key that puts nothing in: a partition is spilled if due, and then left with no more values
---     settles_alone               one that changes no value
---     settled_so                  a partition that was spilled if it was due
---     moved_back, resettles       a small one that was moved back or not, and a call by key that does that last
---     grows_to                    an insertion into a partition as it stands
---     settles_grown               a call by key that puts a value in: a partition is spilled if due, and then grows
---     leaves_some, leaves_either  an edit that was refused; one that was done or refused
---     left_standing               a refused insertion
+--     pruned_after-zero                a count after none more
+--     raised, at_raised                a partition that was spilled if it had reached the threshold
+--     settles_edit                     a call by key that puts nothing in: a partition is spilled if due, and then left with no more values
+--     settles_alone                    one that changes no value
+--     settled_so                       a partition that was spilled if it was due
+--     moved_back, Resettles-MovesBack  a small one that was moved back or not, and a call by key that does that last
+--     grows_to                         an insertion into a partition as it stands
+--     settles_grown                    a call by key that puts a value in: a partition is spilled if due, and then grows
+--     leaves_some, leaves_either       an edit that was refused; one that was done or refused
+--     left_standing                    a refused insertion
 use Rattle.std.proofs.Common.{◌≡◌, ℕ, zero, suc, ◌<◌, ◌≤◌, Bool, true, false, not, ◌&&◌, ◌||◌, if◌then◌else◌, nat_le, nat_lt, T, List, length, set, inl, inr, refl, sym, ap, subst, ◌∙◌, arith}
 use Rattle.std.specs.Prelude.{IsTrue, Result, Ok, Err, OnOk, OnErr}
 use Rattle.std.proofs.lemmas.Bool.{leb-false, leb-true, lt-ltb, lt-leb}
@@ -21,8 +21,8 @@ use Rattle.key_index_parts.specs.Gathered.{gathered}
 use Rattle.key_index_parts.specs.laws.StandingLaws.{settles_by, resettles_by}
 use Rattle.key_index_parts.specs.Standing.{Standing, Standings, GrowsIn, Leaves, LeavesSome, MovesBack, Refuses, Resettles, Settles, SpillsIn, after_call, entries_at, is_reached, is_reached_by, is_small, left_with, spilled_if_reached, standing_at, standing_in, with_entries, with_inline, with_left, with_spill, with_spilled}
 
-pub none_more : (n : ℕ) → pruned_after n 0 ≡ n
-none_more n = omega arith
+pub pruned_after-zero : (n : ℕ) → pruned_after n 0 ≡ n
+pruned_after-zero n = omega arith
 
 abbrev nothing : Standing
 nothing = record { entries = 0; spilled = false }
@@ -37,8 +37,8 @@ raised_entries t p =
       | false ↦ refl
     ]
 
-unless : (s : Standings) (n : ℕ) → is_reached s n ≡ false → spilled_if_reached s n ≡ s
-unless s n e = ap (λ b. if b then with_spill s n else s) e
+spilled_if_reached-not_reached : (s : Standings) (n : ℕ) → is_reached s n ≡ false → spilled_if_reached s n ≡ s
+spilled_if_reached-not_reached s n e = ap (λ b. if b then with_spill s n else s) e
 
 module _ (s : Standings) (n : ℕ) (inside : n < length s.buckets) where
   at_spilled : standing_at (with_spill s n) n ≡ record { entries = entries_at s n; spilled = true }
@@ -74,19 +74,19 @@ both_true true b e = e
 both_true false b e = absurd (subst T (sym e) tt)
 
 -- a partition that was spilled if it had reached the threshold doesn't reach it by having no more values
-not_reached : (t e m : ℕ) (b u : Bool) → 1 ≤ t → m ≤ e → nat_le t e ≡ u
+is_reached_by-left_with : (t e m : ℕ) (b u : Bool) → 1 ≤ t → m ≤ e → nat_le t e ≡ u
     → is_reached_by t (left_with (if not b && u then record { entries = e; spilled = true } else record { entries = e; spilled = b }) m) ≡ false
-not_reached t e m true u least few told = spilled_left t m least
+is_reached_by-left_with t e m true u least few told = spilled_left t m least
   where
     spilled_left : (t m : ℕ) → 1 ≤ t → (not (true && nat_lt 0 m) && nat_le t m) ≡ false
     spilled_left t zero least = lt-leb t 0 (omega (arith, least))
     spilled_left t (suc m) least = ap (λ b. not b && nat_le t (suc m)) (lt-ltb 0 (suc m) (omega arith))
-not_reached t e m false true least few told = spilled_left t m least
+is_reached_by-left_with t e m false true least few told = spilled_left t m least
   where
     spilled_left : (t m : ℕ) → 1 ≤ t → (not (true && nat_lt 0 m) && nat_le t m) ≡ false
     spilled_left t zero least = lt-leb t 0 (omega (arith, least))
     spilled_left t (suc m) least = ap (λ b. not b && nat_le t (suc m)) (lt-ltb 0 (suc m) (omega arith))
-not_reached t e m false false least few told = let below = leb-false t e told in lt-leb t m (omega (arith, below, few))
+is_reached_by-left_with t e m false false least few told = let below = leb-false t e told in lt-leb t m (omega (arith, below, few))
 
 module _ (s : Standings) (n : ℕ) (inside : n < length s.buckets) (least : 1 ≤ s.threshold) where
   abbrev pub mid : Standings
@@ -97,15 +97,15 @@ module _ (s : Standings) (n : ℕ) (inside : n < length s.buckets) (least : 1 �
       let size = raised_size s n inside in
       ap (λ t. is_reached_by t (standing_at (with_entries mid n m) n)) (raised_threshold s n inside)
       ∙ ap (λ p. is_reached_by s.threshold p) (at_left mid n (omega (arith, inside, size)) m ∙ ap (λ p. left_with p m) (at_raised s n inside))
-      ∙ not_reached s.threshold (entries_at s n) m (standing_at s n).spilled (nat_le s.threshold (entries_at s n)) least few refl
+      ∙ is_reached_by-left_with s.threshold (entries_at s n) m (standing_at s n).spilled (nat_le s.threshold (entries_at s n)) least few refl
 
   pub settles_edit : (new : Standings) → Leaves mid n new → entries_at new n ≤ entries_at mid n → Settles s n new
   settles_edit new left fewer =
       let same : entries_at mid n ≡ entries_at s n = ap (λ p. p.entries) (at_raised s n inside) ∙ raised_entries s.threshold (standing_at s n) in
-      settles_by s new n inside least (left ∙ sym (unless (with_entries mid n (entries_at new n)) n (stays_below (entries_at new n) (omega (arith, fewer, same)))))
+      settles_by s new n inside least (left ∙ sym (spilled_if_reached-not_reached (with_entries mid n (entries_at new n)) n (stays_below (entries_at new n) (omega (arith, fewer, same)))))
 
-  still : (p : Standing) → (IsTrue p.spilled → 0 < p.entries) → left_with p p.entries ≡ p
-  still p some =
+  left_with-own_entries : (p : Standing) → (IsTrue p.spilled → 0 < p.entries) → left_with p p.entries ≡ p
+  left_with-own_entries p some =
       elim p.spilled as (λ b. (IsTrue b → 0 < p.entries) → ◌≡◌ {A = Standing} (record { entries = p.entries; spilled = b && nat_lt 0 p.entries }) (record { entries = p.entries; spilled = b })) [
         | true ↦ λ h. ap (λ b. record { entries = p.entries; spilled = b }) (lt-ltb 0 p.entries (h refl))
         | false ↦ λ h. refl
@@ -124,7 +124,7 @@ module _ (s : Standings) (n : ℕ) (inside : n < length s.buckets) (least : 1 �
   pub settles_alone : (IsTrue (standing_at s n).spilled → 0 < entries_at s n) → (new : Standings) → new ≡ mid → Settles s n new
   settles_alone some new is =
       let at = at_raised s n inside in
-      let same = still (standing_at mid n) (subst (λ p. IsTrue p.spilled → 0 < p.entries) (sym at) (filled_raised some)) in
+      let same = left_with-own_entries (standing_at mid n) (subst (λ p. IsTrue p.spilled → 0 < p.entries) (sym at) (filled_raised some)) in
       let kept : with_entries mid n (entries_at mid n) ≡ mid =
       (λ i. record mid { buckets = set mid.buckets n (same i) }) ∙ (λ i. record mid { buckets = set-get_or mid.buckets n nothing i }) in
       settles_edit new (is ∙ sym kept ∙ ap (λ x. with_entries mid n (entries_at x n)) (sym is)) (let e = ap (λ x. entries_at x n) is in omega (arith, e))
@@ -165,8 +165,8 @@ settled_so spills s n moved inside least buckets is {a} {b} one more =
     by_case false = λ i. record {
       threshold = s.threshold;
       buckets = set-get_or s.buckets n nothing i;
-      spills = none_more s.spills i;
-      moved = none_more s.moved i;
+      spills = pruned_after-zero s.spills i;
+      moved = pruned_after-zero s.moved i;
     }
 
 -- the same of an insertion
@@ -184,7 +184,7 @@ pub moved_back : (s : Standings) (n moved : ℕ) → (0 < moved → IsTrue (is_s
     → {a b : ℕ} → a ≡ s.spills → b ≡ pruned_after s.moved moved
     → MovesBack s n (record { threshold = s.threshold; buckets = buckets; spills = a; moved = b })
 moved_back s n zero small all buckets is same more =
-    inl (λ i. record { threshold = s.threshold; buckets = is i; spills = same i; moved = (more ∙ none_more s.moved) i })
+    inl (λ i. record { threshold = s.threshold; buckets = is i; spills = same i; moved = (more ∙ pruned_after-zero s.moved) i })
 moved_back s n (suc m) small all buckets is same more =
     let some : 0 < suc m = omega arith in
     inr (
@@ -204,9 +204,9 @@ call_size s n m inside =
     let last = raised_size (with_entries (spilled_if_reached s n) n m) n (omega (arith, first, left, inside)) in
     omega (arith, first, left, last, inside)
 
-pub resettles : (old between new : Standings) (n : ℕ) → n < length old.buckets → 1 ≤ old.threshold → between ≡ after_call old n (entries_at between n)
+pub Resettles-MovesBack : (old between new : Standings) (n : ℕ) → n < length old.buckets → 1 ≤ old.threshold → between ≡ after_call old n (entries_at between n)
     → MovesBack between n new → Resettles old n new
-resettles old between new n inside least settles back =
+Resettles-MovesBack old between new n inside least settles back =
     let size = subst (λ s. n < length s.buckets) (sym settles) (call_size old n (entries_at between n) inside) in
     resettles_by old new n inside least (subst (λ s. MovesBack s n new) (settles ∙ ap (λ m. after_call old n m) (sym (as_many_values size back))) back)
   where

@@ -1,24 +1,24 @@
 -- On an ordered map of lists: what it has at a key, what an edit makes of the content, and its neighbours.
---     held_list, no_list          the list at a key, by what the map has there
---     present, absent             whether it has one
---     is_held, lent_at            a key with values is held, and what is lent of it
---     held_some                   no list is empty
---     put_first, first_put        the first value of a key, as a list and as an edit of it
---     over_same                   an edit of the same entries
---     insert_alone                a value put into an empty list
---     take_list, taken            an entry taken out
---     edited, emptied             another list in the place of a key's, and the entry taken out where that one is empty
---     unchanged                   the same list again
---     lawful_after                the law of contents holds after it
---     had_within, counted_after   a key has no more values than all keys, and the count of all after it
---     put_back, left_out          the count and the law once the list is in its place, or out of the tree where it is empty
---     left_absent                 a key that has no list stays so
---     grown                       a length after an insertion that may be refused
---     left_held, few_held         how many are left, where a value is put in behind a list and each is asked on then
---     retained, retained_alone    which is an insertion with retention, also where the list is empty
---     first_shown, last_shown     the list of the first entry, and of the last
---     above_shown, below_shown    of the first one above a key, and of the last one below it
---     values-lists                all values, list by list
+--     held_list, list_at-lookup_none       the list at a key, by what the map has there
+--     is_filled-present, is_filled-absent  whether it has one
+--     is_held, lent_at                     a key with values is held, and what is lent of it
+--     held_some                            no list is empty
+--     map-insert_entry, first_put          the first value of a key, as a list and as an edit of it
+--     over_same                            an edit of the same entries
+--     insert_alone                         a value put into an empty list
+--     take_list, map-remove_entry          an entry taken out
+--     map-set_value, map-remove_emptied    another list in the place of a key's, and the entry taken out where that one is empty
+--     map-set_same_value                   the same list again
+--     lawful_after                         the law of contents holds after it
+--     had_within, counted_after            a key has no more values than all keys, and the count of all after it
+--     IsLawful-set_value, left_out         the count and the law once the list is in its place, or out of the tree where it is empty
+--     left_absent                          a key that has no list stays so
+--     at_least-by_cond                     a length after an insertion that may be refused
+--     left_held, few_held                  how many are left, where a value is put in behind a list and each is asked on then
+--     RetainsWith-asked, retained_alone    which is an insertion with retention, also where the list is empty
+--     first_shown, last_shown              the list of the first entry, and of the last
+--     above_shown, below_shown             of the first one above a key, and of the last one below it
+--     values-lists                         all values, list by list
 use Rattle.std.proofs.Common.{◌≡◌, ℕ, zero, suc, ◌+◌, ◌<◌, ◌≤◌, Bool, true, false, cond, not, T, List, [], ◌∷◌, ◌++◌, map, length, insert, Option, Some, None, IsSome, MatchOption, unwrap_or, length-append, refl, sym, ap, subst, ◌∙◌, arith}
 use Rattle.std.specs.List.{filter, flat_map, items_where_true}
 use Rattle.std.specs.List.Retain.{ReturnsInTurn}
@@ -35,12 +35,13 @@ use Rattle.std.specs.declared.cmp.Ordering.{Ordering}
 use Rattle.std.specs.declared.cmp.Ordering.TheVariants.{Less, Equal, Greater}
 use Rattle.std.specs.Ordering.{is_eq, is_lt, eq_by_cmp, match_ordering}
 use Rattle.std.specs.declared.vec.Vec.{Vec}
+use Rattle.std.proofs.lemmas.List.{nil_from_length}
 use Rattle.key_index_flat.specs.Content.{Content, is_filled, all_filled, item_count, list_at, with_list, with_list_by, IsLawful}
-use Rattle.key_index_flat.specs.laws.Laws.{first, second, IsLawful-with_list}
+use Rattle.key_index_flat.specs.laws.Laws.{T-and_first, T-and_second, IsLawful-with_list}
 use Rattle.key_index_flat.specs.Neighbours.{first_entry, last_entry, first_list, last_list, entries_above, entries_below}
 use Rattle.key_index_flat.specs.Retention.{AsksInTurn}
 use Rattle.key_index_flat.specs.Values.{values_of}
-use Rattle.key_index_flat.proofs.content.ContentLemmas.{item_count-with_list, less, with_list-same}
+use Rattle.key_index_flat.proofs.content.ContentLemmas.{item_count-with_list, Less-is_lt, with_list-same}
 use Rattle.key_index_flat.proofs.neighbours.NeighbourLemmas.{last_or-map, last_taken, range_below}
 use Rattle.key_index_flat.proofs.asked.TurnLemmas.{held_answers, kept_few}
 use Rattle.key_index_parts.specs.Family.{RetainsWith}
@@ -58,8 +59,8 @@ module _ {K V A : Type 0} (cmp : K → K → Ordering) (k : K) where
   pub held_list : (es : List (K × Vec V A)) (l : Vec V A) → lookup (is_at (cmp k)) es ≡ Some l → list_at cmp (map list_of es) k ≡ l.items
   held_list es l h = ap (λ r. unwrap_or r []) (found_lists es ∙ ap (option_map (λ (l : Vec V A). l.items)) h)
 
-  pub no_list : (es : List (K × Vec V A)) → lookup (is_at (cmp k)) es ≡ None → list_at cmp (map list_of es) k ≡ []
-  no_list es h = ap (λ r. unwrap_or r []) (found_lists es ∙ ap (option_map (λ (l : Vec V A). l.items)) h)
+  pub list_at-lookup_none : (es : List (K × Vec V A)) → lookup (is_at (cmp k)) es ≡ None → list_at cmp (map list_of es) k ≡ []
+  list_at-lookup_none es h = ap (λ r. unwrap_or r []) (found_lists es ∙ ap (option_map (λ (l : Vec V A). l.items)) h)
 
   put_entry : (w : Vec V A) (es : List (K × Vec V A)) → map list_of (insert_entry cmp es k w) ≡ put cmp k w.items (map list_of es)
   put_entry w [] = refl
@@ -71,17 +72,17 @@ module _ {K V A : Type 0} (cmp : K → K → Ordering) (k : K) where
         | Greater ↦ ap (λ c. list_of e ∷ c) (put_entry w es)
       ]
 
-filled_put : {K V : Type 0} (cmp : K → K → Ordering) (c : Content K V) (k : K) (l : List V) → is_filled l ≡ true → put cmp k l c ≡ with_list cmp c k l
-filled_put cmp c k [] h = absurd (subst T (sym h) tt)
-filled_put cmp c k (v ∷ vs) h = refl
+put-with_list : {K V : Type 0} (cmp : K → K → Ordering) (c : Content K V) (k : K) (l : List V) → is_filled l ≡ true → put cmp k l c ≡ with_list cmp c k l
+put-with_list cmp c k [] h = absurd (subst T (sym h) tt)
+put-with_list cmp c k (v ∷ vs) h = refl
 
 module _ {K V A : Type 0} {cmp : K → K → Ordering} (o : IsTotalOrder cmp) (k : K) where
   -- none of the entries above another key that is above k is at k
-  none_at : (x : K) → cmp k x ≡ Less → (es : List (K × Vec V A)) → T (below_all cmp x (map list_of es)) → lookup (is_at (cmp k)) es ≡ None
-  none_at x p [] h = refl
-  none_at x p (e ∷ es) h =
-      ap (λ r. cond (is_eq r) (Some e.1) (lookup (is_at (cmp k)) es)) (o.trans k x e.0 p (less _ (first _ _ h)))
-      ∙ none_at x p es (second _ _ h)
+  lookup-below_all : (x : K) → cmp k x ≡ Less → (es : List (K × Vec V A)) → T (below_all cmp x (map list_of es)) → lookup (is_at (cmp k)) es ≡ None
+  lookup-below_all x p [] h = refl
+  lookup-below_all x p (e ∷ es) h =
+      ap (λ r. cond (is_eq r) (Some e.1) (lookup (is_at (cmp k)) es)) (o.trans k x e.0 p (Less-is_lt _ (T-and_first _ _ h)))
+      ∙ lookup-below_all x p es (T-and_second _ _ h)
 
   -- at a key that is held, to set its value is to put it in
   set_entry : (l w : Vec V A) (es : List (K × Vec V A)) → T (is_sorted cmp (map list_of es)) → lookup (is_at (cmp k)) es ≡ Some l
@@ -90,57 +91,53 @@ module _ {K V A : Type 0} {cmp : K → K → Ordering} (o : IsTotalOrder cmp) (k
   set_entry l w (e ∷ es) h held =
       elim (cmp k e.0) as (λ r. cmp k e.0 ≡ r → cond (is_eq r) (Some e.1) (lookup (is_at (cmp k)) es) ≡ Some l
       → cond (is_eq r) ((e.0, w) ∷ es) (e ∷ set_value (is_at (cmp k)) es w) ≡ match_ordering r ((k, w) ∷ e ∷ es) ((e.0, w) ∷ es) (e ∷ insert_entry cmp es k w)) [
-        | Less ↦ λ p is. let none = none_at e.0 p es (first _ _ h) in cc
+        | Less ↦ λ p is. let none = lookup-below_all e.0 p es (T-and_first _ _ h) in cc
         | Equal ↦ λ p is. refl
-        | Greater ↦ λ p is. ap (λ fs. e ∷ fs) (set_entry l w es (second _ _ h) is)
+        | Greater ↦ λ p is. ap (λ fs. e ∷ fs) (set_entry l w es (T-and_second _ _ h) is)
       ] refl held
 
   put_list : (es : List (K × Vec V A)) (w : Vec V A) (l : List V) → w.items ≡ l → is_filled l ≡ true
       → map list_of (insert_entry cmp es k w) ≡ with_list cmp (map list_of es) k l
-  put_list es w l is filled = put_entry cmp k w es ∙ ap (λ l. put cmp k l (map list_of es)) is ∙ filled_put cmp (map list_of es) k l filled
+  put_list es w l is filled = put_entry cmp k w es ∙ ap (λ l. put cmp k l (map list_of es)) is ∙ put-with_list cmp (map list_of es) k l filled
 
   set_list : (es : List (K × Vec V A)) (old w : Vec V A) (l : List V) → T (is_sorted cmp (map list_of es)) → lookup (is_at (cmp k)) es ≡ Some old → w.items ≡ l
       → is_filled l ≡ true → map list_of (set_value (is_at (cmp k)) es w) ≡ with_list cmp (map list_of es) k l
   set_list es old w l h held is filled = ap (λ fs. map list_of fs) (set_entry old w es h held) ∙ put_list es w l is filled
 
   -- entries whose keys are above x stay
-  untouched : (x : K) → ((y : K) → cmp x y ≡ Less → cmp k y ≡ Less) → (es : List (K × Vec V A)) → T (below_all cmp x (map list_of es))
+  where_key-below_all : (x : K) → ((y : K) → cmp x y ≡ Less → cmp k y ≡ Less) → (es : List (K × Vec V A)) → T (below_all cmp x (map list_of es))
       → where_key cmp (λ y. not (eq_by_cmp cmp k y)) (map list_of es) ≡ map list_of es
-  untouched x through [] h = refl
-  untouched x through (e ∷ es) h =
+  where_key-below_all x through [] h = refl
+  where_key-below_all x through (e ∷ es) h =
       let rest = where_key cmp (λ y. not (eq_by_cmp cmp k y)) (map list_of es) in
-      ap (λ r. cond (not (is_eq r)) (list_of e ∷ rest) rest) (through e.0 (less _ (first _ _ h)))
-      ∙ ap (λ c. list_of e ∷ c) (untouched x through es (second _ _ h))
+      ap (λ r. cond (not (is_eq r)) (list_of e ∷ rest) rest) (through e.0 (Less-is_lt _ (T-and_first _ _ h)))
+      ∙ ap (λ c. list_of e ∷ c) (where_key-below_all x through es (T-and_second _ _ h))
 
   pub take_list : (es : List (K × Vec V A)) → T (is_sorted cmp (map list_of es)) → map list_of (remove_entry (is_at (cmp k)) es) ≡ with_list cmp (map list_of es) k []
   take_list [] h = refl
   take_list (e ∷ es) h =
       let rest = where_key cmp (λ y. not (eq_by_cmp cmp k y)) (map list_of es) in
       elim (cmp k e.0) as (λ r. cmp k e.0 ≡ r → map list_of (cond (is_eq r) es (e ∷ remove_entry (is_at (cmp k)) es)) ≡ cond (not (is_eq r)) (list_of e ∷ rest) rest) [
-        | Less ↦ λ p. ap (λ c. list_of e ∷ c) (take_list es (second _ _ h))
-        | Equal ↦ λ p. sym (untouched e.0 (λ y q. o.congr k e.0 y p ∙ q) es (first _ _ h))
-        | Greater ↦ λ p. ap (λ c. list_of e ∷ c) (take_list es (second _ _ h))
+        | Less ↦ λ p. ap (λ c. list_of e ∷ c) (take_list es (T-and_second _ _ h))
+        | Equal ↦ λ p. sym (where_key-below_all e.0 (λ y q. o.congr k e.0 y p ∙ q) es (T-and_first _ _ h))
+        | Greater ↦ λ p. ap (λ c. list_of e ∷ c) (take_list es (T-and_second _ _ h))
       ] refl
 
-remove-set : {K X : Type 0} (test : K → Bool) (es : List (K × X)) (w : X) → remove_entry test (set_value test es w) ≡ remove_entry test es
-remove-set test [] w = refl
-remove-set test (e ∷ es) w =
+remove_entry-set_value : {K X : Type 0} (test : K → Bool) (es : List (K × X)) (w : X) → remove_entry test (set_value test es w) ≡ remove_entry test es
+remove_entry-set_value test [] w = refl
+remove_entry-set_value test (e ∷ es) w =
     elim (test e.0) as (λ b. test e.0 ≡ b → remove_entry test (cond b ((e.0, w) ∷ es) (e ∷ set_value test es w)) ≡ cond b es (e ∷ remove_entry test es)) [
       | true ↦ λ p. ap (λ b. cond b es ((e.0, w) ∷ remove_entry test es)) p
-      | false ↦ λ p. ap (λ b. cond b (set_value test es w) (e ∷ remove_entry test (set_value test es w))) p ∙ ap (λ fs. e ∷ fs) (remove-set test es w)
+      | false ↦ λ p. ap (λ b. cond b (set_value test es w) (e ∷ remove_entry test (set_value test es w))) p ∙ ap (λ fs. e ∷ fs) (remove_entry-set_value test es w)
     ] refl
 
 pub insert_alone : {V : Type 0} (i : ℕ) (v : V) → i ≤ 0 → v ∷ [] ≡ insert [] i v
 insert_alone zero v h = refl
 insert_alone (suc i) v h = absurd (omega (arith, h))
 
-pub grown : (b : Bool) (n m : ℕ) → m ≡ cond b (n + 1) n → n ≤ m
-grown true n m h = omega (arith, h)
-grown false n m h = omega (arith, h)
-
-no_items : {V : Type 0} (l : List V) → length l ≡ 0 → l ≡ []
-no_items [] h = refl
-no_items (v ∷ vs) h = absurd (omega (arith, h))
+pub at_least-by_cond : (b : Bool) (n m : ℕ) → m ≡ cond b (n + 1) n → n ≤ m
+at_least-by_cond true n m h = omega (arith, h)
+at_least-by_cond false n m h = omega (arith, h)
 
 length_filled : {V : Type 0} (l : List V) → is_filled l ≡ true → 0 < length l
 length_filled [] h = absurd (subst T (sym h) tt)
@@ -150,50 +147,50 @@ some_items : {V : Type 0} (l : List V) → 0 < length l → is_filled l ≡ true
 some_items [] h = absurd (omega (arith, h))
 some_items (v ∷ vs) h = refl
 
-filled : (b : Bool) → T b → b ≡ true
-filled true h = refl
-filled false h = absurd h
+true-T : (b : Bool) → T b → b ≡ true
+true-T true h = refl
+true-T false h = absurd h
 
 module _ {K V A : Type 0} (test : K → Bool) (old : Vec V A) where
   held_filled : (es : List (K × Vec V A)) → T (all_filled (map list_of es)) → Some old ≡ lookup test es → is_filled old.items ≡ true
   held_filled [] h held = cc
   held_filled (e ∷ es) h held =
       elim (test e.0) as (λ b. Some old ≡ cond b (Some e.1) (lookup test es) → is_filled old.items ≡ true) [
-        | true ↦ λ is. let same : old ≡ e.1 = cc in ap (λ l. is_filled l.items) same ∙ filled _ (first (is_filled e.1.items) _ h)
-        | false ↦ λ is. held_filled es (second (is_filled e.1.items) _ h) is
+        | true ↦ λ is. let same : old ≡ e.1 = cc in ap (λ l. is_filled l.items) same ∙ true-T _ (T-and_first (is_filled e.1.items) _ h)
+        | false ↦ λ is. held_filled es (T-and_second (is_filled e.1.items) _ h) is
       ] held
 
-  pub unchanged : (es : List (K × Vec V A)) (w : Vec V A) → Some old ≡ lookup test es → w.items ≡ old.items → map list_of (set_value test es w) ≡ map list_of es
-  unchanged [] w held is = refl
-  unchanged (e ∷ es) w held is =
+  pub map-set_same_value : (es : List (K × Vec V A)) (w : Vec V A) → Some old ≡ lookup test es → w.items ≡ old.items → map list_of (set_value test es w) ≡ map list_of es
+  map-set_same_value [] w held is = refl
+  map-set_same_value (e ∷ es) w held is =
       elim (test e.0) as (λ b. Some old ≡ cond b (Some e.1) (lookup test es) → map list_of (cond b ((e.0, w) ∷ es) (e ∷ set_value test es w)) ≡ map list_of (e ∷ es)) [
         | true ↦ λ h. let same : old ≡ e.1 = cc in ap (λ l. (e.0, l) ∷ map list_of es) (is ∙ ap (λ l. l.items) same)
-        | false ↦ λ h. ap (λ c. list_of e ∷ c) (unchanged es w h is)
+        | false ↦ λ h. ap (λ c. list_of e ∷ c) (map-set_same_value es w h is)
       ] held
 
 module _ {K V A : Type 0} (cmp : K → K → Ordering) (k : K) (es : List (K × Vec V A)) (lent : Option (MutBor (Vec V A))) (is : option_copied_mut lent ≡ lookup (is_at (cmp k)) es) where
   -- a key with values is held
   pub is_held : 0 < length (list_at cmp (map list_of es) k) → IsSome lent
-  is_held some = by lent is
+  is_held some = some_lent lent is
     where
-      by : (r : Option (MutBor (Vec V A))) → option_copied_mut r ≡ lookup (is_at (cmp k)) es → IsSome r
-      by None none = let e = ap (λ l. length l) (no_list cmp k es (sym none)) in absurd (omega (arith, e, some))
-      by (Some r) h = refl
+      some_lent : (r : Option (MutBor (Vec V A))) → option_copied_mut r ≡ lookup (is_at (cmp k)) es → IsSome r
+      some_lent None none = let e = ap (λ l. length l) (list_at-lookup_none cmp k es (sym none)) in absurd (omega (arith, e, some))
+      some_lent (Some r) h = refl
 
   pub lent_at : (values : MutBor (Vec V A)) → lent ≡ Some values → Some values.now ≡ lookup (is_at (cmp k)) es
   lent_at values h = sym (ap option_copied_mut h) ∙ is
 
 module _ {K V A : Type 0} (cmp : K → K → Ordering) (k : K) (es : List (K × Vec V A)) where
-  pub present : (old : Vec V A) → T (all_filled (map list_of es)) → Some old ≡ lookup (is_at (cmp k)) es → false ≡ not (is_filled (list_at cmp (map list_of es) k))
-  present old h held = sym (ap (λ l. not (is_filled l)) (held_list cmp k es old (sym held)) ∙ ap not (held_filled (is_at (cmp k)) old es h held))
+  pub is_filled-present : (old : Vec V A) → T (all_filled (map list_of es)) → Some old ≡ lookup (is_at (cmp k)) es → false ≡ not (is_filled (list_at cmp (map list_of es) k))
+  is_filled-present old h held = sym (ap (λ l. not (is_filled l)) (held_list cmp k es old (sym held)) ∙ ap not (held_filled (is_at (cmp k)) old es h held))
 
-  pub absent : None ≡ lookup (is_at (cmp k)) es → true ≡ not (is_filled (list_at cmp (map list_of es) k))
-  absent none = sym (ap (λ l. not (is_filled l)) (no_list cmp k es (sym none)))
+  pub is_filled-absent : None ≡ lookup (is_at (cmp k)) es → true ≡ not (is_filled (list_at cmp (map list_of es) k))
+  is_filled-absent none = sym (ap (λ l. not (is_filled l)) (list_at-lookup_none cmp k es (sym none)))
 
 module _ {K V A : Type 0} {cmp : K → K → Ordering} (o : IsTotalOrder cmp) (k : K) (es : List (K × Vec V A)) where
-  pub put_first : (fs : List (K × Vec V A)) (w : Vec V A) (v : V) → fs ≡ insert_entry cmp es k w → w.items ≡ v ∷ []
+  pub map-insert_entry : (fs : List (K × Vec V A)) (w : Vec V A) (v : V) → fs ≡ insert_entry cmp es k w → w.items ≡ v ∷ []
       → map list_of fs ≡ with_list cmp (map list_of es) k (v ∷ [])
-  put_first fs w v put is = ap (λ l. map list_of l) put ∙ put_list o k es w (v ∷ []) is refl
+  map-insert_entry fs w v put is = ap (λ l. map list_of l) put ∙ put_list o k es w (v ∷ []) is refl
 
   pub over_same : (fs hs : List (K × Vec V A)) (l : List V) → hs ≡ es → map list_of fs ≡ with_list cmp (map list_of hs) k l → map list_of fs ≡ with_list cmp (map list_of es) k l
   over_same fs hs l same put = put ∙ ap (λ t. with_list cmp (map list_of t) k l) same
@@ -202,11 +199,11 @@ module _ {K V A : Type 0} {cmp : K → K → Ordering} (o : IsTotalOrder cmp) (k
   pub first_put : (fs hs : List (K × Vec V A)) (v : V) (f : List V → List V) → None ≡ lookup (is_at (cmp k)) es → v ∷ [] ≡ f [] → hs ≡ es
       → map list_of fs ≡ with_list cmp (map list_of hs) k (v ∷ []) → map list_of fs ≡ with_list_by cmp (map list_of es) k f
   first_put fs hs v f none is same put =
-      over_same fs hs (v ∷ []) same put ∙ ap (λ l. with_list cmp (map list_of es) k l) (is ∙ ap f (sym (no_list cmp k es (sym none))))
+      over_same fs hs (v ∷ []) same put ∙ ap (λ l. with_list cmp (map list_of es) k l) (is ∙ ap f (sym (list_at-lookup_none cmp k es (sym none))))
 
   module _ (lawful : IsLawful cmp (map list_of es)) where
-    pub taken : (fs : List (K × Vec V A)) → fs ≡ remove_entry (is_at (cmp k)) es → map list_of fs ≡ with_list cmp (map list_of es) k []
-    taken fs is = ap (λ l. map list_of l) is ∙ take_list o k es lawful.0
+    pub map-remove_entry : (fs : List (K × Vec V A)) → fs ≡ remove_entry (is_at (cmp k)) es → map list_of fs ≡ with_list cmp (map list_of es) k []
+    map-remove_entry fs is = ap (λ l. map list_of l) is ∙ take_list o k es lawful.0
 
     pub lawful_after : (fs : List (K × Vec V A)) (l : List V) → map list_of fs ≡ with_list cmp (map list_of es) k l → IsLawful cmp (map list_of fs)
     lawful_after fs l is = subst (λ c. IsLawful cmp c) (sym is) (IsLawful-with_list o (map list_of es) k l lawful)
@@ -228,65 +225,65 @@ module _ {K V A : Type 0} {cmp : K → K → Ordering} (o : IsTotalOrder cmp) (k
       held_some = length_filled old.items (held_filled (is_at (cmp k)) old es lawful.1 held)
 
       module _ (w : Vec V A) (f : List V → List V) (is : w.items ≡ f old.items) where
-        here : w.items ≡ f (list_at cmp (map list_of es) k)
-        here = is ∙ ap f (sym (held_list cmp k es old (sym held)))
+        items-edited_list : w.items ≡ f (list_at cmp (map list_of es) k)
+        items-edited_list = is ∙ ap f (sym (held_list cmp k es old (sym held)))
 
-        pub edited : (fs : List (K × Vec V A)) → fs ≡ set_value (is_at (cmp k)) es w → 0 < length w.items → map list_of fs ≡ with_list_by cmp (map list_of es) k f
-        edited fs set some =
+        pub map-set_value : (fs : List (K × Vec V A)) → fs ≡ set_value (is_at (cmp k)) es w → 0 < length w.items → map list_of fs ≡ with_list_by cmp (map list_of es) k f
+        map-set_value fs set some =
             ap (λ l. map list_of l) set ∙ set_list o k es old w w.items lawful.0 (sym held) refl (some_items w.items some)
-            ∙ ap (λ l. with_list cmp (map list_of es) k l) here
+            ∙ ap (λ l. with_list cmp (map list_of es) k l) items-edited_list
 
-        pub emptied : (fs ws : List (K × Vec V A)) → ws ≡ set_value (is_at (cmp k)) es w → fs ≡ remove_entry (is_at (cmp k)) ws → length w.items ≡ 0
+        pub map-remove_emptied : (fs ws : List (K × Vec V A)) → ws ≡ set_value (is_at (cmp k)) es w → fs ≡ remove_entry (is_at (cmp k)) ws → length w.items ≡ 0
             → map list_of fs ≡ with_list_by cmp (map list_of es) k f
-        emptied fs ws set taken none =
-            ap (λ l. map list_of l) (taken ∙ ap (remove_entry (is_at (cmp k))) set ∙ remove-set (is_at (cmp k)) es w) ∙ take_list o k es lawful.0
-            ∙ ap (λ l. with_list cmp (map list_of es) k l) (sym (no_items w.items none) ∙ here)
+        map-remove_emptied fs ws set taken none =
+            ap (λ l. map list_of l) (taken ∙ ap (remove_entry (is_at (cmp k))) set ∙ remove_entry-set_value (is_at (cmp k)) es w) ∙ take_list o k es lawful.0
+            ∙ ap (λ l. with_list cmp (map list_of es) k l) (sym (nil_from_length w.items none) ∙ items-edited_list)
 
       -- the count and the law once a list stands in the place of the old one, and once its entry is taken out where it is empty
       module _ (w : Vec V A) (len new : ℕ) (was : len ≡ item_count (map list_of es)) (more : new + length old.items ≡ len + length w.items) where
-        settled : (fs : List (K × Vec V A)) → map list_of fs ≡ with_list cmp (map list_of es) k w.items
+        IsLawful-with_items : (fs : List (K × Vec V A)) → map list_of fs ≡ with_list cmp (map list_of es) k w.items
             → (new ≡ item_count (map list_of fs)) × IsLawful cmp (map list_of fs)
-        settled fs now = (
+        IsLawful-with_items fs now = (
           counted_after len (length old.items) was (sym (ap (λ l. length l) (held_list cmp k es old (sym held)))) fs w.items now new more,
           lawful_after fs w.items now,
         )
 
-        pub put_back : (fs : List (K × Vec V A)) → fs ≡ set_value (is_at (cmp k)) es w → 0 < length w.items
+        pub IsLawful-set_value : (fs : List (K × Vec V A)) → fs ≡ set_value (is_at (cmp k)) es w → 0 < length w.items
             → (new ≡ item_count (map list_of fs)) × IsLawful cmp (map list_of fs)
-        put_back fs set some = settled fs (edited w (λ _. w.items) refl fs set some)
+        IsLawful-set_value fs set some = IsLawful-with_items fs (map-set_value w (λ _. w.items) refl fs set some)
 
         pub left_out : (fs ws : List (K × Vec V A)) → ws ≡ set_value (is_at (cmp k)) es w → fs ≡ remove_entry (is_at (cmp k)) ws → length w.items ≡ 0
             → (new ≡ item_count (map list_of fs)) × IsLawful cmp (map list_of fs)
-        left_out fs ws set taken none = settled fs (emptied w (λ _. w.items) refl fs ws set taken none)
+        left_out fs ws set taken none = IsLawful-with_items fs (map-remove_emptied w (λ _. w.items) refl fs ws set taken none)
 
 module _ {K V A : Type 0} {cmp : K → K → Ordering} (o : IsTotalOrder cmp) (exact : (x y : K) → cmp x y ≡ Equal → x ≡ y) (k : K) (es : List (K × Vec V A)) where
   pub left_absent : IsLawful cmp (map list_of es) → None ≡ lookup (is_at (cmp k)) es → map list_of es ≡ with_list cmp (map list_of es) k []
-  left_absent lawful none = sym (with_list-same o exact (map list_of es) k lawful) ∙ ap (λ l. with_list cmp (map list_of es) k l) (no_list cmp k es (sym none))
+  left_absent lawful none = sym (with_list-same o exact (map list_of es) k lawful) ∙ ap (λ l. with_list cmp (map list_of es) k l) (list_at-lookup_none cmp k es (sym none))
 
 -- ---- a value behind a list, and each of them asked on
 
 module _ {F V : Type 0} (ask : F → V → Bool → F → Type 0) (f : F) where
   module _ (held : List V) (v : V) (pushed kept : List V) (stays : Bool) (is : pushed ≡ held ++ v ∷ []) (asked : AsksInTurn ask f true pushed kept stays) where
-    answered : length asked.0 ≡ length held + 1
-    answered = asked.2 ∙ ap (λ l. length l) is ∙ length-append held (v ∷ [])
+    length-asked_list : length asked.0 ≡ length held + 1
+    length-asked_list = asked.2 ∙ ap (λ l. length l) is ∙ length-append held (v ∷ [])
 
     kept_is : kept ≡ items_where_true asked.0 (held ++ v ∷ [])
     kept_is = asked.4 ∙ ap (λ l. items_where_true asked.0 l) is
 
     pub left_held : length kept ≡ length (items_where_true asked.0 held) + cond stays 1 0
-    left_held = ap (λ l. length l) kept_is ∙ held_answers true asked.0 held v answered ∙ ap (λ b. length (items_where_true asked.0 held) + cond b 1 0) (sym asked.5)
+    left_held = ap (λ l. length l) kept_is ∙ held_answers true asked.0 held v length-asked_list ∙ ap (λ b. length (items_where_true asked.0 held) + cond b 1 0) (sym asked.5)
 
     pub few_held : length (items_where_true asked.0 held) ≤ length held
     few_held = kept_few asked.0 held
 
-    pub retained : (Becomes : List V → Type 0) (had left taken : ℕ) → Becomes kept → had ≡ length held → left ≡ length kept → taken + length (items_where_true asked.0 held) ≡ length held
+    pub RetainsWith-asked : (Becomes : List V → Type 0) (had left taken : ℕ) → Becomes kept → had ≡ length held → left ≡ length kept → taken + length (items_where_true asked.0 held) ≡ length held
         → RetainsWith ask f held v had left taken Becomes
-    retained Becomes had left taken now had_is left_is taken_is = (
+    RetainsWith-asked Becomes had left taken now had_is left_is taken_is = (
       kept,
       record {
         answers = asked.0;
         last = asked.1;
-        long = answered;
+        long = length-asked_list;
         asked = subst (λ l. ReturnsInTurn ask f asked.0 l asked.1) is asked.3;
         kept = kept_is;
         taken = taken_is;
@@ -310,12 +307,12 @@ module _ {K V A : Type 0} where
   first_lists [] = refl
   first_lists (e ∷ es) = refl
 
-  listed : (r : Option (K × Vec V A)) → option_map (λ e. e.1) (option_map list_of r) ≡ option_map (λ e. e.1.items) r
-  listed None = refl
-  listed (Some e) = refl
+  option_map-list_of : (r : Option (K × Vec V A)) → option_map (λ e. e.1) (option_map list_of r) ≡ option_map (λ e. e.1.items) r
+  option_map-list_of None = refl
+  option_map-list_of (Some e) = refl
 
   last_lists : (es : List (K × Vec V A)) → last_list (map list_of es) ≡ option_map (λ e. e.1.items) (last_entry es)
-  last_lists es = ap (option_map (λ e. e.1)) (last_or-map list_of None es) ∙ listed (last_entry es)
+  last_lists es = ap (option_map (λ e. e.1)) (last_or-map list_of None es) ∙ option_map-list_of (last_entry es)
 
   filter-lists : (p : K → Bool) (es : List (K × Vec V A)) → filter (λ e. p e.0) (map list_of es) ≡ map list_of (filter (λ e. p e.0) es)
   filter-lists p [] = refl
@@ -327,15 +324,15 @@ module _ {K V A : Type 0} where
 
   -- the values of an entry, if one was found
   module _ {P : Type 0} (shows : P → K × Vec V A) (found : Option P) (values : Option (List V)) (told : values ≡ option_map (λ p. (shows p).1.items) found) where
-    shown : (r : Option P) → option_map (λ p. (shows p).1.items) r ≡ option_map (λ e. e.1.items) (option_map shows r)
-    shown None = refl
-    shown (Some p) = refl
+    option_map-shows : (r : Option P) → option_map (λ p. (shows p).1.items) r ≡ option_map (λ e. e.1.items) (option_map shows r)
+    option_map-shows None = refl
+    option_map-shows (Some p) = refl
 
     pub first_shown : (es : List (K × Vec V A)) → option_map shows found ≡ first_entry es → values ≡ first_list (map list_of es)
-    first_shown es is = told ∙ shown found ∙ ap (option_map (λ (e : K × Vec V A). e.1.items)) is ∙ sym (first_lists es)
+    first_shown es is = told ∙ option_map-shows found ∙ ap (option_map (λ (e : K × Vec V A). e.1.items)) is ∙ sym (first_lists es)
 
     pub last_shown : (es : List (K × Vec V A)) → option_map shows found ≡ last_entry es → values ≡ last_list (map list_of es)
-    last_shown es is = told ∙ shown found ∙ ap (option_map (λ (e : K × Vec V A). e.1.items)) is ∙ sym (last_lists es)
+    last_shown es is = told ∙ option_map-shows found ∙ ap (option_map (λ (e : K × Vec V A). e.1.items)) is ∙ sym (last_lists es)
 
     module _ (cmp : K → K → Ordering) (es : List (K × Vec V A)) (k : K) where
       pub above_shown : option_map shows found ≡ first_entry (entries_above cmp es k) → values ≡ first_list (entries_above cmp (map list_of es) k)

@@ -97,30 +97,30 @@ module _ (s : Standings) (n m : ℕ) (inside : n < length s.buckets) (least : 1 
       regroup false b c = refl
 
   -- what a spill adds to a count, by the values that the partition has
-  counted : (count : Standings → ℕ) (adds : ℕ → ℕ)
+  count-after_call : (count : Standings → ℕ) (adds : ℕ → ℕ)
       → ((r : Standings) (b : Bool) → count (if b then with_spill r n else r) ≡ (if b then pruned_after (count r) (adds (entries_at r n)) else count r))
       → ((r : Standings) → count (with_entries r n m) ≡ count r)
       → count (after_call s n m) ≡ pruned_after (count s) (
       if is_reached s n then adds (entries_at s n) else if not (standing_at s n).spilled && nat_le s.threshold m then adds m else 0)
-  counted count adds spilled left =
+  count-after_call count adds spilled left =
       spilled (with_entries (spilled_if_reached s n) n m) (is_reached (with_entries (spilled_if_reached s n) n m) n)
       ∙ (λ i. if b_reached i then pruned_after (before i) (adds (b_stands i).entries) else before i)
-      ∙ told (standing_at s n).spilled (nat_le s.threshold (entries_at s n))
+      ∙ spill_adds (standing_at s n).spilled (nat_le s.threshold (entries_at s n))
     where
       before : count (with_entries (spilled_if_reached s n) n m) ≡ (if is_reached s n then pruned_after (count s) (adds (entries_at s n)) else count s)
       before = left (spilled_if_reached s n) ∙ spilled s (is_reached s n)
 
-      told : (a b : Bool) → (if not ((a || b) && nat_lt 0 m) && nat_le s.threshold m
+      spill_adds : (a b : Bool) → (if not ((a || b) && nat_lt 0 m) && nat_le s.threshold m
           then pruned_after (if not a && b then pruned_after (count s) (adds (entries_at s n)) else count s) (adds m)
           else (if not a && b then pruned_after (count s) (adds (entries_at s n)) else count s))
           ≡ pruned_after (count s) (if not a && b then adds (entries_at s n) else if not a && nat_le s.threshold m then adds m else 0)
-      told true b = ap (λ r. if r then pruned_after (count s) (adds m) else count s) (not_reached s.threshold m true refl least) ∙ none
+      spill_adds true b = ap (λ r. if r then pruned_after (count s) (adds m) else count s) (not_reached s.threshold m true refl least) ∙ none
         where
           none : count s ≡ pruned_after (count s) 0
           none = omega arith
-      told false true =
+      spill_adds false true =
           ap (λ r. if r then pruned_after (pruned_after (count s) (adds (entries_at s n))) (adds m) else pruned_after (count s) (adds (entries_at s n))) (not_reached s.threshold m true refl least)
-      told false false = elim (nat_le s.threshold m) as (λ r. (if r then pruned_after (count s) (adds m) else count s) ≡ pruned_after (count s) (if r then adds m else 0)) [
+      spill_adds false false = elim (nat_le s.threshold m) as (λ r. (if r then pruned_after (count s) (adds m) else count s) ≡ pruned_after (count s) (if r then adds m else 0)) [
         | true ↦ refl
         | false ↦ omega arith
       ]
@@ -128,43 +128,43 @@ module _ (s : Standings) (n m : ℕ) (inside : n < length s.buckets) (least : 1 
   pub call_spills : (after_call s n m).spills ≡ pruned_after s.spills (
       if not (standing_at s n).spilled && (nat_le s.threshold (entries_at s n) || nat_le s.threshold m) then 1 else 0)
   call_spills =
-      counted (λ r. r.spills) (λ _. 1) adds_one (λ r. refl)
-      ∙ ap (pruned_after s.spills) (either (standing_at s n).spilled (nat_le s.threshold (entries_at s n)) (nat_le s.threshold m))
+      count-after_call (λ r. r.spills) (λ _. 1) adds_one (λ r. refl)
+      ∙ ap (pruned_after s.spills) (either_reached (standing_at s n).spilled (nat_le s.threshold (entries_at s n)) (nat_le s.threshold m))
     where
       adds_one : (r : Standings) (b : Bool) → (if b then with_spill r n else r).spills ≡ (if b then pruned_after r.spills 1 else r.spills)
       adds_one r true = refl
       adds_one r false = refl
 
-      either : (a b c : Bool) → ◌≡◌ {A = ℕ} (if not a && b then 1 else if not a && c then 1 else 0) (if not a && (b || c) then 1 else 0)
-      either true b c = refl
-      either false true c = refl
-      either false false c = refl
+      either_reached : (a b c : Bool) → ◌≡◌ {A = ℕ} (if not a && b then 1 else if not a && c then 1 else 0) (if not a && (b || c) then 1 else 0)
+      either_reached true b c = refl
+      either_reached false true c = refl
+      either_reached false false c = refl
 
   pub call_moved : (after_call s n m).moved ≡ pruned_after s.moved (
       if is_reached s n then entries_at s n else if not (standing_at s n).spilled && nat_le s.threshold m then m else 0)
-  call_moved = counted (λ r. r.moved) (λ k. k) adds_all (λ r. refl)
+  call_moved = count-after_call (λ r. r.moved) (λ k. k) adds_all (λ r. refl)
     where
       adds_all : (r : Standings) (b : Bool) → (if b then with_spill r n else r).moved ≡ (if b then pruned_after r.moved (entries_at r n) else r.moved)
       adds_all r true = refl
       adds_all r false = refl
 
-  few : (b : Bool) → (if (b || nat_le s.threshold m) && nat_lt 0 m then 0 else m) < s.threshold
-  few true = grind (arith, nat_tests, least)
-  few false = grind (arith, nat_tests, least)
+  entries-below_threshold : (b : Bool) → (if (b || nat_le s.threshold m) && nat_lt 0 m then 0 else m) < s.threshold
+  entries-below_threshold true = grind (arith, nat_tests, least)
+  entries-below_threshold false = grind (arith, nat_tests, least)
 
   pub call_inline : IsBelow (after_call s n m) n
   call_inline =
       subst (λ t. (if (standing_at (after_call s n m) n).spilled then 0 else entries_at (after_call s n m) n) < t) (sym same_limit)
       (subst (λ p. (if p.spilled then 0 else p.entries) < s.threshold) (sym call_stands)
-      (subst (λ b. (if b && nat_lt 0 m then 0 else m) < s.threshold) (apart (standing_at s n).spilled (nat_le s.threshold (entries_at s n)) (nat_le s.threshold m))
-      (few ((standing_at s n).spilled || nat_le s.threshold (entries_at s n)))))
+      (subst (λ b. (if b && nat_lt 0 m then 0 else m) < s.threshold) (or-assoc (standing_at s n).spilled (nat_le s.threshold (entries_at s n)) (nat_le s.threshold m))
+      (entries-below_threshold ((standing_at s n).spilled || nat_le s.threshold (entries_at s n)))))
     where
       same_limit : (after_call s n m).threshold ≡ s.threshold
       same_limit = same_threshold (with_entries (spilled_if_reached s n) n m) n ∙ same_threshold s n
 
-      apart : (a b c : Bool) → ((a || b) || c) ≡ (a || b || c)
-      apart true b c = refl
-      apart false b c = refl
+      or-assoc : (a b c : Bool) → ((a || b) || c) ≡ (a || b || c)
+      or-assoc true b c = refl
+      or-assoc false b c = refl
 
 pub settles_by : (s new : Standings) (n : ℕ) → n < length s.buckets → 1 ≤ s.threshold → new ≡ after_call s n (entries_at new n) → Settles s n new
 settles_by s new n inside least is = (is, subst (λ x. IsBelow x n) (sym is) (call_inline s n (entries_at new n) inside least))
@@ -190,16 +190,16 @@ module _ (s new : Standings) (n : ℕ) (told : MovesBack (after_call s n (entrie
   called = after_call s n (entries_at new n)
 
   pub back_spills : new.spills ≡ called.spills
-  back_spills = by told where
-    by : MovesBack called n new → new.spills ≡ called.spills
-    by (inl same) = ap (λ r. r.spills) same
-    by (inr back) = ap (λ r. r.spills) back.1
+  back_spills = same_spills told where
+    same_spills : MovesBack called n new → new.spills ≡ called.spills
+    same_spills (inl same) = ap (λ r. r.spills) same
+    same_spills (inr back) = ap (λ r. r.spills) back.1
 
   pub back_others : (j : ℕ) → j ≢ n → standing_at new j ≡ standing_at s j
-  back_others j other = by told ∙ call_others n j other s (entries_at new n) where
-    by : MovesBack called n new → standing_at new j ≡ standing_at called j
-    by (inl same) = ap (λ r. standing_at r j) same
-    by (inr back) =
+  back_others j other = same_standing told ∙ call_others n j other s (entries_at new n) where
+    same_standing : MovesBack called n new → standing_at new j ≡ standing_at called j
+    same_standing (inl same) = ap (λ r. standing_at r j) same
+    same_standing (inr back) =
         ap (λ r. standing_at r j) back.1
         ∙ get_or-set_other called.buckets n j (record { entries = entries_at called n; spilled = false }) (record { entries = 0; spilled = false }) other
 
@@ -216,12 +216,12 @@ module _ (s new : Standings) (n : ℕ) (told : MovesBack (after_call s n (entrie
     pub back_stands : ((standing_at new n ≡ standing_at called n) × (new.moved ≡ called.moved))
         ⊎ (IsTrue (is_small called n) × (standing_at new n ≡ record { entries = entries_at new n; spilled = false })
         × (new.moved ≡ pruned_after called.moved (entries_at new n)))
-    back_stands = by told where
-      by : MovesBack called n new → ((standing_at new n ≡ standing_at called n) × (new.moved ≡ called.moved))
+    back_stands = stands_or_small told where
+      stands_or_small : MovesBack called n new → ((standing_at new n ≡ standing_at called n) × (new.moved ≡ called.moved))
           ⊎ (IsTrue (is_small called n) × (standing_at new n ≡ record { entries = entries_at new n; spilled = false })
           × (new.moved ≡ pruned_after called.moved (entries_at new n)))
-      by (inl same) = inl (ap (λ r. standing_at r n) same, ap (λ r. r.moved) same)
-      by (inr back) =
+      stands_or_small (inl same) = inl (ap (λ r. standing_at r n) same, ap (λ r. r.moved) same)
+      stands_or_small (inr back) =
           inr (
             back.0,
             ap (λ r. standing_at r n) back.1 ∙ at_set called n still_inside (entries_at called n) false ∙ ap (λ m. record { entries = m; spilled = false }) as_left,
@@ -229,14 +229,14 @@ module _ (s new : Standings) (n : ℕ) (told : MovesBack (after_call s n (entrie
           )
 
     pub back_inline : IsBelow new n
-    back_inline = by told where
+    back_inline = below_threshold told where
       few_left : (spilled : Bool) (limit m : ℕ) → IsTrue (spilled && nat_lt (2 * m) limit) → m < limit
       few_left true limit m small = grind (arith, nat_tests)
       few_left false limit m small = grind (arith, nat_tests)
 
-      by : MovesBack called n new → IsBelow new n
-      by (inl same) = subst (λ x. IsBelow x n) (sym same) (call_inline s n (entries_at new n) inside least)
-      by (inr back) =
+      below_threshold : MovesBack called n new → IsBelow new n
+      below_threshold (inl same) = subst (λ x. IsBelow x n) (sym same) (call_inline s n (entries_at new n) inside least)
+      below_threshold (inr back) =
           let few = few_left (standing_at called n).spilled called.threshold (entries_at called n) back.0 in
           subst (λ x. IsBelow x n) (sym back.1)
           (subst (λ p. (if p.spilled then 0 else p.entries) < called.threshold) (sym (at_set called n still_inside (entries_at called n) false)) few)

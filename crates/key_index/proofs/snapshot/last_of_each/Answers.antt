@@ -1,8 +1,8 @@
-use Rattle.key_index.proofs.snapshots.BuildLemmas.{last_none, last_step}
+use Rattle.key_index.proofs.snapshots.BuildLemmas.{entries_of-none, last_step}
 use Rattle.key_index.proofs.snapshot.last_of_each.Goals as goal
 
 pub loop-item-init : goal.loop-item-init
-loop-item-init c = last_none c.new-last.result.entries c.new-last.ensures.empty
+loop-item-init c = entries_of-none c.new-last.result.entries c.new-last.ensures.empty
 
 pub loop-item-preserved : goal.loop-item-preserved
 loop-item-preserved c =

@@ -9,7 +9,7 @@ use Rattle.key_index_flat.specs.Neighbours.{KeepsOrder}
 use Rattle.key_index_parts.specs.Ops.{after_ops}
 use Rattle.key_index_parts.proofs.builds.OpLemmas.{IsLawful-after_ops}
 use Rattle.key_index_parts.proofs.builds.RangeLemmas.{after_ops-append, slot-after_ops}
-use Rattle.key_index.proofs.snapshots.BuildLemmas.{Filling, cmp_keys, filling_none, filling_step, split_at, unmapped}
+use Rattle.key_index.proofs.snapshots.BuildLemmas.{Filling, cmp_keys, filling_none, filling_step, split-around_index, map-identity}
 use Rattle.key_index.proofs.snapshot.ops_of.Goals as goal
 
 pub loop-key-init : goal.loop-key-init
@@ -33,7 +33,7 @@ loop-key-preserved g c =
     let turn = YieldsList-turn road done _ c.loop-key.yielded_by _ _ (key, c.in-Some.position) c.in-Some.is c.next.ensures.steps in
     let so_far = YieldsList-so_far road done _ c.loop-key.yielded_by in
     let rest = drop (suc (length done)) all in
-    let whole = sym gives.0 ∙ split_at all (length done) (key, c.in-Some.position) turn.0 turn.1 ∙ ap (λ l. l ++ (key, c.in-Some.position) ∷ rest) (sym so_far ∙ unmapped done) in
+    let whole = sym gives.0 ∙ split-around_index all (length done) (key, c.in-Some.position) turn.0 turn.1 ∙ ap (λ l. l ++ (key, c.in-Some.position) ∷ rest) (sym so_far ∙ map-identity done) in
     let sorted = subst (λ l. IsStrictlySortedBy cmp_keys (keys_of l)) whole gives.5 in
     let bytes : IsBytes key.items = subst IsBytes c.as_slice.ensures.value c.slot_of_bytes-slot.ensures.bytes in
     let slot = c.slot_of_bytes-slot.ensures.slot ∙ ap view.slot c.as_slice.ensures.value ∙ ap (λ f. f key.items) (sym slots) in

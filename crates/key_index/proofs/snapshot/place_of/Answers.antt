@@ -2,7 +2,7 @@ use Rattle.std.proofs.Common.{[], ◌∷◌, length, refl, sym, ap, slice_get, �
 use Rattle.std.proofs.lemmas.Iterator.Consumers.{YieldsList-turn, YieldsList-so_far, YieldsList-from_first}
 use Rattle.std.specs.Option.{option_map}
 use Rattle.std.specs.Str.{bytes_eq}
-use Rattle.key_index_flat.proofs.entries.EntryLemmas.{found_at, key_told, passed_by}
+use Rattle.key_index_flat.proofs.entries.EntryLemmas.{look-at_place, key-slice_get, passed_by}
 use Rattle.key_index.specs.Snapshot.{entry_of, key_of, position_in}
 use Rattle.key_index.proofs.snapshot.place_of.Goals as goal
 
@@ -14,7 +14,7 @@ returns-then-eq-clause-found c =
     let turn = YieldsList-turn road c.loop-record.yielded _ c.loop-record.yielded_by _ _ c.in-Some.record c.in-Some.is c.next.ensures.steps in
     let so_far = YieldsList-so_far road c.loop-record.yielded _ c.loop-record.yielded_by in
     let own = (λ i. bytes_eq (sym c.as_slice.ensures.value i) key) ∙ sym c.eq.ensures ∙ c.if-eq.true in
-    let found = found_at entry_of key all (length c.loop-record.yielded) c.in-Some.record.now turn.0 turn.1 (ap (position_in key) (sym so_far) ∙ c.loop-record.invariant.none) own in
+    let found = look-at_place entry_of key all (length c.loop-record.yielded) c.in-Some.record.now turn.0 turn.1 (ap (position_in key) (sym so_far) ∙ c.loop-record.invariant.none) own in
     sym (ap is_some (ap (position_in key) (sym c.into_iter-record-iterator.ensures.into_iter_gives) ∙ found))
 
 pub returns-then-eq-clause-at : goal.returns-then-eq-clause-at
@@ -25,7 +25,7 @@ returns-then-eq-clause-at c =
     let turn = YieldsList-turn road c.loop-record.yielded _ c.loop-record.yielded_by _ _ c.in-Some.record c.in-Some.is c.next.ensures.steps in
     let own = (λ i. bytes_eq (sym c.as_slice.ensures.value i) key) ∙ sym c.eq.ensures ∙ c.if-eq.true in
     (λ i. option_map key_of (slice_get (sym c.into_iter-record-iterator.ensures.into_iter_gives i) (c.loop-record.invariant.counted i)))
-    ∙ key_told entry_of key all (length c.loop-record.yielded) c.in-Some.record.now turn.0 turn.1 own
+    ∙ key-slice_get entry_of key all (length c.loop-record.yielded) c.in-Some.record.now turn.0 turn.1 own
 
 pub loop-record-preserved : goal.loop-record-preserved
 loop-record-preserved c =

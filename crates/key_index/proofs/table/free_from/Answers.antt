@@ -1,10 +1,10 @@
 use Rattle.std.proofs.Common.{◌≡◌, slice_index, nat_lt, ◌-◌, sym, ap, ◌∙◌, arith}
 use Rattle.std.specs.List.{find, range_with_len}
-use Rattle.key_index.proofs.tables.TableLemmas.{found_first, found_second, free_exists}
+use Rattle.key_index.proofs.tables.TableLemmas.{find-append_found, found_second, free_exists}
 use Rattle.key_index.proofs.table.free_from.Goals as goal
 
 pub returns-in-Some-clause-first : goal.returns-in-Some-clause-first
-returns-in-Some-clause-first c = found_first (λ i. nat_lt (slice_index c.args.controls.now i) 2) _ _ _ (sym c.free_between.ensures.first ∙ c.in-Some.is)
+returns-in-Some-clause-first c = find-append_found (λ i. nat_lt (slice_index c.args.controls.now i) 2) _ _ _ (sym c.free_between.ensures.first ∙ c.in-Some.is)
 
 pub unreachable-requires : goal.unreachable-requires
 unreachable-requires c =

@@ -4,7 +4,7 @@ use Rattle.std.proofs.lemmas.List.Edits.{length-insert}
 use Rattle.key_index_flat.specs.Content.{item_count, list_at}
 use Rattle.key_index_plain.specs.Entries.{listed}
 use Rattle.key_index_plain.proofs.EntryLemmas.{content_of-listed}
-use Rattle.key_index_plain.proofs.IndexLemmas.{told, told_same, kept_or}
+use Rattle.key_index_plain.proofs.IndexLemmas.{content_of-edited, content_of-same, kept_or}
 use Rattle.key_index_flat.proofs.runs.ViewLemmas.{same_view}
 use Rattle.key_index_plain.proofs.IndexRuns.insert_at.Goals as goal
 
@@ -24,8 +24,8 @@ invariant_of-self g c =
 
 pub returns-in-Ok-clause-accepted : goal.returns-in-Ok-clause-accepted
 returns-in-Ok-clause-accepted g c =
-    same_view (told g.met.T.Key.Ord.total c.args.self.now.entries.items c.insert_at.new.entries.items c.args.slot c.args.slot (λ x k. insert (list_at g.T.Key.Ord.cmp x k) c.args.place c.args.value) c.args.self.now.lawful c.in-Ok.ensures.accepted refl) (refl) refl refl
+    same_view (content_of-edited g.met.T.Key.Ord.total c.args.self.now.entries.items c.insert_at.new.entries.items c.args.slot c.args.slot (λ x k. insert (list_at g.T.Key.Ord.cmp x k) c.args.place c.args.value) c.args.self.now.lawful c.in-Ok.ensures.accepted refl) (refl) refl refl
 
 pub returns-in-Err-clause-refused : goal.returns-in-Err-clause-refused
 returns-in-Err-clause-refused g c =
-    same_view (told_same g.met.T.Key.Ord.total c.args.self.now.entries.items c.insert_at.new.entries.items c.args.self.now.lawful c.in-Err.ensures.refused) (refl) refl refl
+    same_view (content_of-same g.met.T.Key.Ord.total c.args.self.now.entries.items c.insert_at.new.entries.items c.args.self.now.lawful c.in-Err.ensures.refused) (refl) refl refl

@@ -3,7 +3,7 @@ use Rattle.key_index_flat.specs.Content.{list_at, item_count}
 use Rattle.key_index_flat.specs.Fault.{growth_fault}
 use Rattle.key_index_plain.specs.Entries.{listed}
 use Rattle.key_index_plain.proofs.EntryLemmas.{content_of-listed}
-use Rattle.key_index_plain.proofs.IndexLemmas.{told, told_same, kept_or, growth_memory}
+use Rattle.key_index_plain.proofs.IndexLemmas.{content_of-edited, content_of-same, kept_or, memory-growth_fault}
 use Rattle.key_index_flat.proofs.runs.ViewLemmas.{same_view}
 use Rattle.key_index_plain.proofs.IndexUnordered.insert.Goals as goal
 
@@ -21,7 +21,7 @@ invariant_of-self g c =
 
 pub returns-in-Ok-clause-accepted : goal.returns-in-Ok-clause-accepted
 returns-in-Ok-clause-accepted g c =
-    same_view (told g.met.T.Key.Ord.total c.args.self.now.entries.items c.insert_first.new.entries.items c.transform-slot.result _ (λ x k. c.args.value ∷ list_at g.T.Key.Ord.cmp x k) c.args.self.now.lawful
+    same_view (content_of-edited g.met.T.Key.Ord.total c.args.self.now.entries.items c.insert_first.new.entries.items c.transform-slot.result _ (λ x k. c.args.value ∷ list_at g.T.Key.Ord.cmp x k) c.args.self.now.lawful
     c.in-Ok.ensures.accepted c.transform-slot.ensures) (refl) refl refl
 
 pub returns-in-Ok-clause-room : goal.returns-in-Ok-clause-room
@@ -31,10 +31,10 @@ returns-in-Ok-clause-room g c =
 
 pub returns-in-Err-clause-refused : goal.returns-in-Err-clause-refused
 returns-in-Err-clause-refused g c = (
-  same_view (told_same g.met.T.Key.Ord.total c.args.self.now.entries.items c.insert_first.new.entries.items c.args.self.now.lawful c.in-Err.ensures.refused) (refl) refl refl,
+  same_view (content_of-same g.met.T.Key.Ord.total c.args.self.now.entries.items c.insert_first.new.entries.items c.args.self.now.lawful c.in-Err.ensures.refused) (refl) refl refl,
   tt,
 )
 
 pub returns-in-Err-clause-fault : goal.returns-in-Err-clause-fault
 returns-in-Err-clause-fault g c =
-    c.memory.ensures.fault ∙ growth_memory _ (λ full. c.if-items-eq18446744073709551615.false (c.items.ensures ∙ full))
+    c.memory.ensures.fault ∙ memory-growth_fault _ (λ full. c.if-items-eq18446744073709551615.false (c.items.ensures ∙ full))

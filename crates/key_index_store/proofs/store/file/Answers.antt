@@ -2,7 +2,7 @@ use Rattle.std.proofs.Common.{rules, All, sym, ◌∙◌, subst}
 use Rattle.std.proofs.lemmas.Result.{on_ok_weaker}
 use Rattle.key_index_store.specs.Indexed.{IsLive, entry_at}
 use Rattle.key_index_store.specs.Record.{entry_of}
-use Rattle.key_index_store.proofs.IndexLemmas.{IsAt, filed, is_at, some_mapped}
+use Rattle.key_index_store.proofs.IndexLemmas.{IsAt, Indexes-filed, is_at, some_mapped}
 use Rattle.key_index_flat.specs.FullKeys.{IsBytes}
 use Rattle.key_index_store.proofs.StoreLemmas.{live_whole}
 use Rattle.key_index_store.proofs.store.file.Goals as goal
@@ -16,7 +16,7 @@ returns-clause-filed g c = λ front back h whole end fits indexed.
     let key = c.as_slice-key.result.now in
     let at = is_at (entry_at content) key c.positions_of.result c.in_ok-found.found (c.in_ok-found.ensures.found h) (c.in_ok-found.ensures.at h) in
     on_ok_weaker c.settle.result (λ is.
-    filed g.met.I.Key.Ord.total g.met.I.Runs.exact g.I.Unordered.INSERT_FIRST front back content r fits (subst IsBytes c.as_slice-key.ensures.value c.positions_of.ensures.bytes) s t (g.met.I.Runs.lawful c.args.index.now) (g.met.I.Runs.lawful c.settle.new.index) indexed whole
+    Indexes-filed g.met.I.Key.Ord.total g.met.I.Runs.exact g.I.Unordered.INSERT_FIRST front back content r fits (subst IsBytes c.as_slice-key.ensures.value c.positions_of.ensures.bytes) s t (g.met.I.Runs.lawful c.args.index.now) (g.met.I.Runs.lawful c.settle.new.index) indexed whole
     key c.positions_of.result c.as_slice-key.ensures.value c.positions_of.ensures.run _ (c.is_some.ensures ∙ some_mapped (λ v. v.items) c.args.entry.now.value)
     _ (subst (IsAt (entry_at content) key c.positions_of.result) (sym c.place_of-place.ensures) at) c.args.position end is)
     c.settle.ensures.settled

@@ -6,7 +6,7 @@ use Rattle.std.specs.List.{FoldsTo}
 use Rattle.key_index_flat.specs.View.{run_at}
 use Rattle.key_index_flat.specs.Visits.{VisitsAt, probes_from, visits_of}
 use Rattle.key_index_flat.proofs.asked.VisitLemmas.{folds_through}
-use Rattle.key_index_uses.proofs.VisitLemmas.{kept}
+use Rattle.key_index_uses.proofs.VisitLemmas.{FoldsTo-inside}
 use Rattle.key_index_uses.proofs.callers.visit_with.Goals as goal
 
 pub visit_by_place-requires : goal.visit_by_place-requires
@@ -22,7 +22,7 @@ returns g c =
     let view = g.I.Runs.view c.args.index.now in
     let items = items_from_drains h.1.0 (h.1.1.1.0, h.1.1.1.1, λ _. (h.1.1.0, h.1.1.1.2)) (YieldsList-from_slice c.args.keys.now c.iter.ensures.rest) in
     let probes = h.1.2 ∙ ap (λ bs. probes_from view.slot 0 bs) (sym (map-map (λ k. k.now) (λ y. y.now) h.1.0) ∙ ap (λ ks. map (λ k. k.now) ks) items) in
-    let same = kept _ (λ q. q.0.ghost_name) (λ p x q e. search (rules, of_calls)) _ last _ h.2 in
+    let same = FoldsTo-inside _ (λ q. q.0.ghost_name) (λ p x q e. search (rules, of_calls)) _ last _ h.2 in
     let calls = folds_through _ (VisitsAt g.F.FnMut) (λ s. s.0.now) (λ s x t e. (e.0, e.1, search (rules, of_calls))) _ last _ h.2 in
     let told = subst (λ ps. FoldsTo (VisitsAt g.F.FnMut) c.args.visit.now (visits_of (run_at g.I.Key.Ord.cmp view) ps) last.0.now) probes calls in
     search (rules, same, told)

@@ -9,7 +9,7 @@ use Rattle.key_index_flat.specs.View.{run_at}
 use Rattle.key_index_flat.specs.Visits.{probes_from}
 use Rattle.key_index_parts.specs.Ahead.{events_of}
 use Rattle.key_index_uses.specs.Records.{records_of, with_visit}
-use Rattle.key_index_uses.proofs.RecordLemmas.{answers, beside, fold-beside, told, kept_events, folded_events, zip-map}
+use Rattle.key_index_uses.proofs.RecordLemmas.{fold-visits_of, beside, fold-beside, fold-with_event, kept_events, folded_events, zip-map}
 use Rattle.key_index_uses.proofs.records.find_records.Goals as goal
 
 pub returns-clause-found : goal.returns-clause-found
@@ -26,8 +26,8 @@ returns-clause-found g c = on_ok_weaker c.visit_ahead.result (λ h.
     let moved = subst (λ ps. IsPermutation ps h.0) probes h.1.2 in
     let size : length c.args.answers.now ≡ length keys = c.requires ∙ sym (length-map c.args.keys.now (λ key. key.now)) in
     let filled =
-    told log keys c.args.answers.now (events_of run h.0) ∙ ap (λ vs. fold (with_visit log keys) c.args.answers.now vs) (c.same_visits.ensures run h.0)
-    ∙ answers log keys run slot c.args.answers.now h.0 size moved
+    fold-with_event log keys c.args.answers.now (events_of run h.0) ∙ ap (λ vs. fold (with_visit log keys) c.args.answers.now vs) (c.same_visits.ensures run h.0)
+    ∙ fold-visits_of log keys run slot c.args.answers.now h.0 size moved
     ∙ zip-map (λ p. last_or p.0 (records_of log p.1 (run (slot p.1)))) (λ key. key.now) c.args.answers.now c.args.keys.now in
     let same = kept_events _ (λ q. q.1.ghost_name) (λ p x q e. search (rules, of_calls)) _ last _ h.2 in
     let folds = folded_events _ (λ q. (map (λ key. key.now) q.2.now, map (λ key. key.now) q.0.now, q.1.now)) beside (λ p x q e. search (rules, of_calls)) _ last _ h.2 ∙ fold-beside log keys c.args.answers.now (events_of run h.0) in

@@ -4,9 +4,10 @@ use Rattle.std.proofs.lemmas.List.Elements.{All-from_get_or}
 use Rattle.std.specs.FinMap.{get, insert, len}
 use Rattle.std.specs.Option.{option_map}
 use Rattle.key_index_flat.specs.View.{items_in, run_at, run_of, with_edit}
+use Rattle.key_index_flat.proofs.content.ChainLemmas.{None-is_some}
 use Rattle.key_index.specs.Snapshot.{key_of, position_in}
-use Rattle.key_index.proofs.snapshots.KeptLemmas.{growth_memory, held_told, len_told, put_held, put_new}
-use Rattle.key_index.proofs.snapshots.SnapshotLemmas.{is_none, place_within}
+use Rattle.key_index.proofs.snapshots.KeptLemmas.{growth_fault-memory, held_told, len_told, put_held, put_new}
+use Rattle.key_index.proofs.snapshots.SnapshotLemmas.{within_by_key}
 use Rattle.key_index.proofs.snapshot.Snapshot.set.Goals as goal
 
 pub returns-then-full-clause-full : goal.returns-then-full-clause-full
@@ -17,7 +18,7 @@ returns-then-full-clause-full g c =
     let lawful = g.met.I.Runs.lawful old in
     let held = held_told g.met.I.Key.Ord.total g.met.I.Runs.exact s lawful c.self.invariant c.args.self.now c.self.view_is key in
     let many = len_told g.met.I.Key.Ord.total g.met.I.Runs.exact s lawful c.self.invariant c.args.self.now c.self.view_is in
-    let absent : position_in key (run_of g.I.Key.Ord.cmp s key) ≡ None = is_none _ (ap (λ l. is_some (position_in key l)) (sym c.get.ensures) ∙ sym c.in_default.ensures.found) in
+    let absent : position_in key (run_of g.I.Key.Ord.cmp s key) ≡ None = None-is_some _ (ap (λ l. is_some (position_in key l)) (sym c.get.ensures) ∙ sym c.in_default.ensures.found) in
     (λ _. (held ∙ absent, omega (arith, many, c.items-full.ensures, c.if-full.true)), λ _. refl)
 
 pub returns-in_err-record-clause-full : goal.returns-in_err-record-clause-full
@@ -40,7 +41,7 @@ returns-in_err-insert-clause-full g c =
     let held = held_told g.met.I.Key.Ord.total g.met.I.Runs.exact s lawful c.self.invariant c.args.self.now c.self.view_is key in
     let many = len_told g.met.I.Key.Ord.total g.met.I.Runs.exact s lawful c.self.invariant c.args.self.now c.self.view_is in
     let never : ¬ (len c.args.self.now ≡ 2 ^ 64 - 1) = λ e. omega (arith, many, c.items-full.ensures, c.if-full.false, e) in
-    let memory = growth_memory (items_in s) (λ e. never (many ∙ e)) in
+    let memory = growth_fault-memory (items_in s) (λ e. never (many ∙ e)) in
     search (rules, never, memory)
 
 pub invariant_of-self-in_default : goal.invariant_of-self-in_default
@@ -52,7 +53,7 @@ invariant_of-self-in_default g c =
     let held = held_told g.met.I.Key.Ord.total g.met.I.Runs.exact s lawful c.self.invariant c.args.self.now c.self.view_is key in
     let many = len_told g.met.I.Key.Ord.total g.met.I.Runs.exact s lawful c.self.invariant c.args.self.now c.self.view_is in
     let bytes = All-from_get_or (λ n. n < 256) key 0 (λ i within. omega (arith, c.type_inv.key i)) in
-    let absent : position_in key (run_of g.I.Key.Ord.cmp s key) ≡ None = is_none _ (ap (λ l. is_some (position_in key l)) (sym c.get.ensures) ∙ sym c.in_default.ensures.found) in
+    let absent : position_in key (run_of g.I.Key.Ord.cmp s key) ≡ None = None-is_some _ (ap (λ l. is_some (position_in key l)) (sym c.get.ensures) ∙ sym c.in_default.ensures.found) in
     let t = g.I.Runs.view c.insert.new.self in
     let done = put_new g.met.I.Key.Ord.total g.met.I.Runs.exact s t key lawful (g.met.I.Runs.lawful c.insert.new.self) c.self.invariant g.I.Unordered.INSERT_FIRST c.in_ok-record.record c.in_ok-record.ensures.key bytes absent
     c.in_ok-insert.ensures.accepted in
@@ -67,7 +68,7 @@ returns-in_default-clause-set g c =
     let held = held_told g.met.I.Key.Ord.total g.met.I.Runs.exact s lawful c.self.invariant c.args.self.now c.self.view_is key in
     let many = len_told g.met.I.Key.Ord.total g.met.I.Runs.exact s lawful c.self.invariant c.args.self.now c.self.view_is in
     let bytes = All-from_get_or (λ n. n < 256) key 0 (λ i within. omega (arith, c.type_inv.key i)) in
-    let absent : position_in key (run_of g.I.Key.Ord.cmp s key) ≡ None = is_none _ (ap (λ l. is_some (position_in key l)) (sym c.get.ensures) ∙ sym c.in_default.ensures.found) in
+    let absent : position_in key (run_of g.I.Key.Ord.cmp s key) ≡ None = None-is_some _ (ap (λ l. is_some (position_in key l)) (sym c.get.ensures) ∙ sym c.in_default.ensures.found) in
     let t = g.I.Runs.view c.insert.new.self in
     let done = put_new g.met.I.Key.Ord.total g.met.I.Runs.exact s t key lawful (g.met.I.Runs.lawful c.insert.new.self) c.self.invariant g.I.Unordered.INSERT_FIRST c.in_ok-record.record c.in_ok-record.ensures.key bytes absent
     c.in_ok-insert.ensures.accepted in
@@ -104,7 +105,7 @@ set_at-requires g c =
     let held = held_told g.met.I.Key.Ord.total g.met.I.Runs.exact s lawful c.self.invariant c.args.self.now c.self.view_is key in
     let many = len_told g.met.I.Key.Ord.total g.met.I.Runs.exact s lawful c.self.invariant c.args.self.now c.self.view_is in
     let at = ap (λ l. option_map key_of (slice_get l c.in-Some.place)) (sym c.get.ensures) ∙ c.in-Some.ensures.at in
-    subst (λ k. c.in-Some.place < length (run_at g.I.Key.Ord.cmp s k)) (sym c.slot_of-slot.ensures) (place_within key (run_of g.I.Key.Ord.cmp s key) c.in-Some.place at)
+    subst (λ k. c.in-Some.place < length (run_at g.I.Key.Ord.cmp s k)) (sym c.slot_of-slot.ensures) (within_by_key key (run_of g.I.Key.Ord.cmp s key) c.in-Some.place at)
 
 pub invariant_of-self-2 : goal.invariant_of-self-2
 invariant_of-self-2 g c =

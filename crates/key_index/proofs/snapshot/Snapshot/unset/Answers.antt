@@ -4,7 +4,7 @@ use Rattle.std.specs.FinMap.{get, remove}
 use Rattle.std.specs.Str.{bytes_eq}
 use Rattle.key_index_flat.specs.View.{run_of}
 use Rattle.key_index.specs.Snapshot.{key_of}
-use Rattle.key_index.proofs.snapshots.KeptLemmas.{taken_out, fewer_items}
+use Rattle.key_index.proofs.snapshots.KeptLemmas.{IsKept-removed, fewer_items}
 use Rattle.key_index.proofs.snapshot.Snapshot.unset.Goals as goal
 
 pub invariant_of-self-2 : goal.invariant_of-self-2
@@ -14,7 +14,7 @@ invariant_of-self-2 g c =
     let key = c.args.key.now in
     let said = c.in_ok-retain.ensures.accepted in
     let left = filter_same _ (λ r. not (bytes_eq (key_of r) key)) _ (λ x b f k. search rules) (run_of g.I.Key.Ord.cmp (g.I.Runs.view old) key) said.0 said.1 in
-    (taken_out g.met.I.Key.Ord.total g.met.I.Runs.exact (g.I.Runs.view old) (g.I.Runs.view new) key (g.met.I.Runs.lawful old) (g.met.I.Runs.lawful new) c.self.invariant said.0 _ left said.2).0
+    (IsKept-removed g.met.I.Key.Ord.total g.met.I.Runs.exact (g.I.Runs.view old) (g.I.Runs.view new) key (g.met.I.Runs.lawful old) (g.met.I.Runs.lawful new) c.self.invariant said.0 _ left said.2).0
 
 pub returns-clause-unset : goal.returns-clause-unset
 returns-clause-unset g c =
@@ -23,7 +23,7 @@ returns-clause-unset g c =
     let key = c.args.key.now in
     let said = c.in_ok-retain.ensures.accepted in
     let left = filter_same _ (λ r. not (bytes_eq (key_of r) key)) _ (λ x b f k. search rules) (run_of g.I.Key.Ord.cmp (g.I.Runs.view old) key) said.0 said.1 in
-    (taken_out g.met.I.Key.Ord.total g.met.I.Runs.exact (g.I.Runs.view old) (g.I.Runs.view new) key (g.met.I.Runs.lawful old) (g.met.I.Runs.lawful new) c.self.invariant said.0 _ left said.2).1
+    (IsKept-removed g.met.I.Key.Ord.total g.met.I.Runs.exact (g.I.Runs.view old) (g.I.Runs.view new) key (g.met.I.Runs.lawful old) (g.met.I.Runs.lawful new) c.self.invariant said.0 _ left said.2).1
     ∙ ap (λ m. remove m key) c.self.view_is
 
 pub returns-clause-was_there : goal.returns-clause-was_there

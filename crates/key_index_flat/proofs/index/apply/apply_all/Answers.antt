@@ -3,7 +3,7 @@ use Rattle.std.proofs.Common.{length, sym, ap, subst, ◌∙◌, arith}
 use Rattle.std.specs.Fn.{CalledAt}
 use Rattle.std.specs.Vec.Iter.{into_iter_items, into_iter_len}
 use Rattle.key_index_flat.specs.Run.{HaveTests}
-use Rattle.key_index_flat.proofs.runs.RunLemmas.{legal_first, legal_more, legal_all, no_items}
+use Rattle.key_index_flat.proofs.runs.RunLemmas.{legal_first, legal_more, legal_all, empty-by_count}
 use Rattle.key_index_flat.proofs.index.apply.apply_all.Goals as goal
 
 pub commands-init : goal.commands-init
@@ -40,4 +40,4 @@ returns g c =
     let start = c.args.index.now in
     let at = c.commands in
     legal_all g.I.Key.Ord.cmp g.I.Unordered.INSERT_FIRST (CalledAt g.F.Fn) c.args.commands.items (into_iter_items at.rest) at.at at.outcomes (g.I.Runs.view start) (g.I.Runs.view at.index)
-    (no_items (into_iter_items at.rest) (into_iter_len at.rest) at.invariant.known c.in_default.ensures.cases.0) at.invariant.legal
+    (empty-by_count (into_iter_items at.rest) (into_iter_len at.rest) at.invariant.known c.in_default.ensures.cases.0) at.invariant.legal

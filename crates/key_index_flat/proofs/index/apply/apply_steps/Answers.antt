@@ -1,6 +1,6 @@
 use Rattle.std.proofs.Common.{length, sym, ap, ◌∙◌, arith}
 use Rattle.std.specs.Vec.Iter.{into_iter_items, into_iter_len}
-use Rattle.key_index_flat.proofs.runs.RunLemmas.{flagged, run_first, run_more, run_all, no_items}
+use Rattle.key_index_flat.proofs.runs.RunLemmas.{EditsBy-flag, run_first, run_more, run_all, empty-by_count}
 use Rattle.key_index_flat.proofs.index.apply.apply_steps.Goals as goal
 
 pub steps-init : goal.steps-init
@@ -21,7 +21,7 @@ steps-preserved g c =
     let known = at.invariant.known in
     let len = c.in-Some.ensures.len in
     let said = c.step.ensures in
-    let flag = flagged g.met.I.Key.Ord.total g.met.I.Runs.exact at.cursor (g.met.I.Runs.lawful at.cursor.index.now) c.step.new.self c.in-Some.step c.unwrap_or.result c.step.result c.unwrap_or.ensures said.allowed said.edited said.room said.refused in
+    let flag = EditsBy-flag g.met.I.Key.Ord.total g.met.I.Runs.exact at.cursor (g.met.I.Runs.lawful at.cursor.index.now) c.step.new.self c.in-Some.step c.unwrap_or.result c.step.result c.unwrap_or.ensures said.allowed said.edited said.room said.refused in
     record {
       known = omega (arith, long, known, len);
       runs = run_more g.met.I.Key.Ord.total g.met.I.Runs.exact start (g.met.I.Runs.lawful start.index.now) c.args.steps.items (into_iter_items at.rest) (into_iter_items c.next.new.self) c.in-Some.step at.at at.flags c.unwrap_or.result at.cursor c.step.new.self split flag at.invariant.runs;
@@ -31,4 +31,4 @@ pub returns : goal.returns
 returns g c =
     let start = c.args.cursor.now in
     let at = c.steps in
-    run_all g.met.I.Key.Ord.total g.met.I.Runs.exact start (g.met.I.Runs.lawful start.index.now) c.args.steps.items (into_iter_items at.rest) at.at at.flags at.cursor (no_items (into_iter_items at.rest) (into_iter_len at.rest) at.invariant.known c.in_default.ensures.cases.0) at.invariant.runs
+    run_all g.met.I.Key.Ord.total g.met.I.Runs.exact start (g.met.I.Runs.lawful start.index.now) c.args.steps.items (into_iter_items at.rest) at.at at.flags at.cursor (empty-by_count (into_iter_items at.rest) (into_iter_len at.rest) at.invariant.known c.in_default.ensures.cases.0) at.invariant.runs

@@ -1,19 +1,20 @@
 use Rattle.std.proofs.Common.{rules, ◌≡◌, ◌<◌, ℕ, List, length, take, Some, is_some, false, sym, ap, subst, ◌∙◌, arith}
 use Rattle.std.proofs.lemmas.Bool.{false≢true}
+use Rattle.std.proofs.lemmas.List.{nil_from_length}
 use Rattle.std.specs.FinMap.{get}
 use Rattle.std.specs.Option.{option_map}
 use Rattle.key_index_flat.specs.Neighbours.{first_entry}
 use Rattle.key_index_store.specs.Record.{Entry, Fits}
 use Rattle.key_index_store.specs.Stored.{entries_behind, held, in_bytes, put_of, with_record}
 use Rattle.key_index_store.specs.declared.store.Fault.TheVariants as fault
-use Rattle.key_index_store.proofs.CompactLemmas.{copied_all, copied_more, copied_none, ends, may_copy, next_fits, next_held, next_there, nothing, room}
+use Rattle.key_index_store.proofs.CompactLemmas.{copied_all, copied_more, copied_none, end-copy, may_copy, next_fits, next_held, next_there, len-held_copy}
 use Rattle.key_index_store.proofs.store.Store.compact.Goals as goal
 
 pub loop-copied-init : goal.loop-copied-init
 loop-copied-init g c = record {
   counted = c.len-copied-end.ensures;
   copied = λ h.
-      let none = nothing (g.L.Log.content c.args.into) (omega (arith, c.len.ensures h, c.if-len-ne0.false)) in
+      let none = nil_from_length (g.L.Log.content c.args.into) (omega (arith, c.len.ensures h, c.if-len-ne0.false)) in
       copied_none (held c.args.self.now) c.without_records-copy.result (c.without_records-copy.ensures ∙ (λ i. record { log = none i; end = 0 }));
 }
 
@@ -42,8 +43,8 @@ returns-in_err-put-clause-fault g c = λ h.
     let fits : Fits (put_of e) =
     next_fits (take c.self.inside.end (g.L.Log.content c.self.inside.log)) (c.self.invariant h).1.fit e.0 e.1 (ap (λ s. get (held s) e.0) c.self.view_is ∙ there) in
     let copied = c.loop-copied.invariant.copied h in
-    let few = room m last n copy copied in
-    let may = may_copy copy r c.in_err-put.field-0.0 ((c.in_err-put.field-0.0 ≡ fault.Tail) × (0 < length (g.L.Log.content c.args.into))) (subst Fits (sym same) fits) (ends m last n copy copied)
+    let few = len-held_copy m last n copy copied in
+    let may = may_copy copy r c.in_err-put.field-0.0 ((c.in_err-put.field-0.0 ≡ fault.Tail) × (0 < length (g.L.Log.content c.args.into))) (subst Fits (sym same) fits) (end-copy m last n copy copied)
     (omega (arith, few, c.loop-copied-test.true, c.len-copied-end.type_inv)) (c.in_err-put.ensures.fault h) in
     search (rules, may)
 

@@ -6,7 +6,7 @@ use Rattle.key_index_store.specs.Record.{Entry, Fits, encoded}
 use Rattle.key_index_store.specs.Stored.{held}
 use Rattle.key_index_flat.proofs.entries.EntryLemmas.{bytes_in}
 use Rattle.key_index_store.proofs.IndexLemmas.{IsAt, indexes_kept, is_at}
-use Rattle.key_index_store.proofs.StoreLemmas.{left_front, looked_up, mapped_none, remove_absent, written}
+use Rattle.key_index_store.proofs.StoreLemmas.{left_front, looked_up, mapped_none, remove_absent, Indexes-written}
 use Rattle.key_index_store.proofs.store.Store.delete.Goals as goal
 
 pub returns-then-is_none-clause-removed : goal.returns-then-is_none-clause-removed
@@ -40,7 +40,7 @@ invariant_of-self-2 g c = λ h.
     let none : end ≡ length old = omega (arith, c.len.ensures h, c.if-len-self.false) in
     let at = is_at (entry_at old) key c.get.result c.in_ok-found.found (c.in_ok-found.ensures.found h) (c.in_ok-found.ensures.at h) in
     let bytes : c.as_slice.result.now ≡ encoded r = c.as_slice.ensures.value ∙ c.in_ok-bytes.ensures in
-    let done = written g.met.I.Key.Ord.total g.met.I.Runs.exact g.I.Unordered.INSERT_FIRST old new end c.len-self-inside.result r fits (bytes_in key c.type_inv.key) s t (g.met.I.Runs.lawful c.self.inside.index) (g.met.I.Runs.lawful c.write.new.index)
+    let done = Indexes-written g.met.I.Key.Ord.total g.met.I.Runs.exact g.I.Unordered.INSERT_FIRST old new end c.len-self-inside.result r fits (bytes_in key c.type_inv.key) s t (g.met.I.Runs.lawful c.self.inside.index) (g.met.I.Runs.lawful c.write.new.index)
     (c.self.invariant h).1 none c.get.result c.get.ensures false refl c.place_of-place.result (subst (IsAt (entry_at old) key c.get.result) (sym c.place_of-place.ensures) at)
     c.in_ok-write.ensures.settled (c.in_ok-write.ensures.appended h ∙ ap (λ l. old ++ l) bytes) (c.len-self-inside.ensures h) in
     (done.within, done.indexed)
@@ -58,7 +58,7 @@ returns-clause-removed g c = λ h.
     let none : end ≡ length old = omega (arith, c.len.ensures h, c.if-len-self.false) in
     let at = is_at (entry_at old) key c.get.result c.in_ok-found.found (c.in_ok-found.ensures.found h) (c.in_ok-found.ensures.at h) in
     let bytes : c.as_slice.result.now ≡ encoded r = c.as_slice.ensures.value ∙ c.in_ok-bytes.ensures in
-    let done = written g.met.I.Key.Ord.total g.met.I.Runs.exact g.I.Unordered.INSERT_FIRST old new end c.len-self-inside.result r fits (bytes_in key c.type_inv.key) s t (g.met.I.Runs.lawful c.self.inside.index) (g.met.I.Runs.lawful c.write.new.index)
+    let done = Indexes-written g.met.I.Key.Ord.total g.met.I.Runs.exact g.I.Unordered.INSERT_FIRST old new end c.len-self-inside.result r fits (bytes_in key c.type_inv.key) s t (g.met.I.Runs.lawful c.self.inside.index) (g.met.I.Runs.lawful c.write.new.index)
     (c.self.invariant h).1 none c.get.result c.get.ensures false refl c.place_of-place.result (subst (IsAt (entry_at old) key c.get.result) (sym c.place_of-place.ensures) at)
     c.in_ok-write.ensures.settled (c.in_ok-write.ensures.appended h ∙ ap (λ l. old ++ l) bytes) (c.len-self-inside.ensures h) in
     done.held ∙ ap (λ x. remove (held x) key) c.self.view_is

@@ -3,7 +3,7 @@ use Rattle.std.specs.FinMap.{entries, get}
 use Rattle.std.specs.Option.{option_map}
 use Rattle.key_index_flat.specs.Neighbours.{first_entry}
 use Rattle.key_index_store.specs.Stored.{entry_after, held}
-use Rattle.key_index_store.proofs.CompactLemmas.{first_above, first_held}
+use Rattle.key_index_store.proofs.CompactLemmas.{first_entry-above_empty_key, first_held}
 use Rattle.key_index_store.proofs.NearestLemmas.{told_ok}
 use Rattle.key_index_store.proofs.store.Store.first.Goals as goal
 
@@ -19,4 +19,4 @@ returns-clause-first g c = λ h.
     let m = held c.args.self.now in
     let key = c.as_slice-empty.result.now in
     let at : None ≡ get m [] = ap (option_map (λ v. v.items)) (sym c.in_default.is) ∙ c.in_ok-found.ensures.value h ∙ ap (get m) c.as_slice-empty.ensures in
-    told_ok c.next.result (first_entry (entries m)) (λ f. f ≡ entry_after m key) (λ f e. e ∙ ap (entry_after m) c.as_slice-empty.ensures ∙ first_above m at) (c.next.ensures.next h)
+    told_ok c.next.result (first_entry (entries m)) (λ f. f ≡ entry_after m key) (λ f e. e ∙ ap (entry_after m) c.as_slice-empty.ensures ∙ first_entry-above_empty_key m at) (c.next.ensures.next h)

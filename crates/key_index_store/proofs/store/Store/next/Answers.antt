@@ -3,7 +3,7 @@ use Rattle.key_index_flat.specs.FullKeys.{byte_cmp, unflagged}
 use Rattle.key_index_store.specs.Indexed.{IsLive, IsNearest}
 use Rattle.key_index_store.specs.Stored.{entry_after, held}
 use Rattle.key_index_flat.proofs.entries.EntryLemmas.{bytes_in}
-use Rattle.key_index_store.proofs.NearestLemmas.{live_above, next_other, next_own, shown_some, told_ok}
+use Rattle.key_index_store.proofs.NearestLemmas.{live_above, next_other, entry_after-own_list, shown_some, told_ok}
 use Rattle.key_index_store.proofs.StoreLemmas.{live_whole}
 use Rattle.key_index_store.proofs.store.Store.next.Goals as goal
 
@@ -14,7 +14,7 @@ returns-then-is_some-clause-next g c = λ h.
     let s = g.I.Runs.view c.self.inside.index in
     let key = c.args.key.now in
     let some = shown_some c.in_ok-own.own ∙ sym c.is_some.ensures ∙ c.if-is_some.true in
-    next_own g.met.I.Key.Ord.total log end s (g.met.I.Ordered.keeps_order c.self.inside.index) (g.met.I.Runs.lawful c.self.inside.index) (c.self.invariant h).1 key (bytes_in key c.type_inv.key)
+    entry_after-own_list g.met.I.Key.Ord.total log end s (g.met.I.Ordered.keeps_order c.self.inside.index) (g.met.I.Runs.lawful c.self.inside.index) (c.self.invariant h).1 key (bytes_in key c.type_inv.key)
     c.get.result c.get.ensures _ (c.in_ok-own.ensures.nearest h) some
     ∙ ap (λ x. entry_after (held x) key) c.self.view_is
 

@@ -6,7 +6,7 @@ use Rattle.key_index_store.specs.Stored.{held}
 use Rattle.key_index_flat.proofs.entries.EntryLemmas.{bytes_in}
 use Rattle.key_index_store.proofs.IndexLemmas.{IsAt, indexes_kept, is_at}
 use Rattle.key_index_store.proofs.RecordLemmas.{if_err_all}
-use Rattle.key_index_store.proofs.StoreLemmas.{left_front, left_same, written}
+use Rattle.key_index_store.proofs.StoreLemmas.{left_front, left_same, Indexes-written}
 use Rattle.key_index_store.proofs.store.Store.put.Goals as goal
 
 pub returns-in_err-found-clause-left : goal.returns-in_err-found-clause-left
@@ -33,7 +33,7 @@ invariant_of-self-2 g c = λ h.
     let none : end ≡ length old = omega (arith, c.len.ensures h, c.if-len-self.false) in
     let at = is_at (entry_at old) key c.get.result c.in_ok-found.found (c.in_ok-found.ensures.found h) (c.in_ok-found.ensures.at h) in
     let bytes : c.as_slice.result.now ≡ encoded r = c.as_slice.ensures.value ∙ c.in_ok-bytes.ensures in
-    let done = written g.met.I.Key.Ord.total g.met.I.Runs.exact g.I.Unordered.INSERT_FIRST old new end c.len-self-inside.result r fits (bytes_in key c.type_inv.key) s t (g.met.I.Runs.lawful c.self.inside.index) (g.met.I.Runs.lawful c.write.new.index)
+    let done = Indexes-written g.met.I.Key.Ord.total g.met.I.Runs.exact g.I.Unordered.INSERT_FIRST old new end c.len-self-inside.result r fits (bytes_in key c.type_inv.key) s t (g.met.I.Runs.lawful c.self.inside.index) (g.met.I.Runs.lawful c.write.new.index)
     (c.self.invariant h).1 none c.get.result c.get.ensures true refl c.place_of-place.result (subst (IsAt (entry_at old) key c.get.result) (sym c.place_of-place.ensures) at)
     c.in_ok-write.ensures.settled (c.in_ok-write.ensures.appended h ∙ ap (λ l. old ++ l) bytes) (c.len-self-inside.ensures h) in
     (done.within, done.indexed)
@@ -51,7 +51,7 @@ returns-clause-set g c = λ h.
     let none : end ≡ length old = omega (arith, c.len.ensures h, c.if-len-self.false) in
     let at = is_at (entry_at old) key c.get.result c.in_ok-found.found (c.in_ok-found.ensures.found h) (c.in_ok-found.ensures.at h) in
     let bytes : c.as_slice.result.now ≡ encoded r = c.as_slice.ensures.value ∙ c.in_ok-bytes.ensures in
-    let done = written g.met.I.Key.Ord.total g.met.I.Runs.exact g.I.Unordered.INSERT_FIRST old new end c.len-self-inside.result r fits (bytes_in key c.type_inv.key) s t (g.met.I.Runs.lawful c.self.inside.index) (g.met.I.Runs.lawful c.write.new.index)
+    let done = Indexes-written g.met.I.Key.Ord.total g.met.I.Runs.exact g.I.Unordered.INSERT_FIRST old new end c.len-self-inside.result r fits (bytes_in key c.type_inv.key) s t (g.met.I.Runs.lawful c.self.inside.index) (g.met.I.Runs.lawful c.write.new.index)
     (c.self.invariant h).1 none c.get.result c.get.ensures true refl c.place_of-place.result (subst (IsAt (entry_at old) key c.get.result) (sym c.place_of-place.ensures) at)
     c.in_ok-write.ensures.settled (c.in_ok-write.ensures.appended h ∙ ap (λ l. old ++ l) bytes) (c.len-self-inside.ensures h) in
     done.held ∙ ap (λ x. insert (held x) key c.args.value.now) c.self.view_is

@@ -3,14 +3,14 @@ use Rattle.std.specs.Option.{option_map}
 use Rattle.std.specs.Ordering.{is_lt}
 use Rattle.key_index_store.specs.Indexed.{IsNearest, beyond, is_behind}
 use Rattle.key_index_store.specs.Stored.{in_bytes}
-use Rattle.key_index_store.proofs.NearestLemmas.{came_behind, came_first, came_nearer, passed}
+use Rattle.key_index_store.proofs.NearestLemmas.{came_behind, came_first, came_nearer, IsNearest-passed}
 use Rattle.key_index_store.proofs.store.neighbours.nearer.Goals as goal
 
 pub returns-then-not-passes : goal.returns-then-not-passes
 returns-then-not-passes g c = λ log ps p at h.
     let after = option_map {T = Bor (List ℕ)} (λ a. a.now) c.args.after in
     let told : false ≡ is_behind g.S.Side.cmp after c.args.entry.0.items = sym c.if-not-passes.true ∙ c.is_beyond-passes.ensures ∙ ap (is_behind g.S.Side.cmp after) c.as_slice.ensures.value in
-    passed log g.met.S.Side.total after ps p _ at _ told h
+    IsNearest-passed log g.met.S.Side.total after ps p _ at _ told h
 
 pub returns-in_default : goal.returns-in_default
 returns-in_default g c = λ log ps p at h.

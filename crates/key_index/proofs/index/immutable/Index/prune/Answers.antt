@@ -1,6 +1,6 @@
 use Rattle.std.proofs.Common.{◌≡◌, ◌<◌, ◌≤◌, length, sym, subst}
 use Rattle.key_index.specs.Immutable.{IsReleased}
-use Rattle.key_index.proofs.positions.PruneLemmas.{jumped_log, jumped}
+use Rattle.key_index.proofs.positions.PruneLemmas.{jumped_log, Pruned-all_released}
 use Rattle.key_index.proofs.index.immutable.Index.prune.Goals as goal
 
 pub release_below-requires-clause-lawful : goal.release_below-requires-clause-lawful
@@ -14,12 +14,12 @@ invariant_of-self g c =
 
 pub returns-clause-keys : goal.returns-clause-keys
 returns-clause-keys g c =
-    (jumped c.args.self.now _ c.args.start (subst (λ t. t.start ≤ c.args.start) (sym c.self-2.view_is) c.release_below.ensures.below)
+    (Pruned-all_released c.args.self.now _ c.args.start (subst (λ t. t.start ≤ c.args.start) (sym c.self-2.view_is) c.release_below.ensures.below)
     (subst (λ t. 0 < length t.keys → t.start ≡ c.args.start) (sym c.self-2.view_is) c.release_below.ensures.reached)
     (subst (λ t. IsReleased c.args.self.now t) (sym c.self-2.view_is) c.release_below.ensures.released)).keys
 
 pub returns-clause-pruned : goal.returns-clause-pruned
 returns-clause-pruned g c =
-    (jumped c.args.self.now _ c.args.start (subst (λ t. t.start ≤ c.args.start) (sym c.self-2.view_is) c.release_below.ensures.below)
+    (Pruned-all_released c.args.self.now _ c.args.start (subst (λ t. t.start ≤ c.args.start) (sym c.self-2.view_is) c.release_below.ensures.below)
     (subst (λ t. 0 < length t.keys → t.start ≡ c.args.start) (sym c.self-2.view_is) c.release_below.ensures.reached)
     (subst (λ t. IsReleased c.args.self.now t) (sym c.self-2.view_is) c.release_below.ensures.released)).pruned

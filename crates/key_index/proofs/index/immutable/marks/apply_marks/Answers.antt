@@ -1,7 +1,7 @@
 use Rattle.std.proofs.Common.{length, sym, ap, ◌∙◌, arith}
 use Rattle.std.specs.Vec.Iter.{into_iter_items, into_iter_len}
-use Rattle.key_index_flat.proofs.runs.RunLemmas.{no_items}
-use Rattle.key_index.proofs.positions.MarkLemmas.{marked_first, marked_more, marked_all}
+use Rattle.key_index_flat.proofs.runs.RunLemmas.{empty-by_count}
+use Rattle.key_index.proofs.positions.MarkLemmas.{MarkedTo-first, marked_more, marked_all}
 use Rattle.key_index.proofs.index.immutable.marks.apply_marks.Goals as goal
 
 pub marks-init : goal.marks-init
@@ -10,7 +10,7 @@ marks-init g c =
     record {
       known = iter.ensures.len ∙ c.args.marks.ok.0 ∙ ap (λ l. length l) (sym iter.ensures.rest);
       room = c.requires.room;
-      marked = marked_first g.T.Translator.translated c.args.marks.items (into_iter_items iter.result) c.args.outcomes.now.items c.args.index.now iter.ensures.rest c.requires.empty;
+      marked = MarkedTo-first g.T.Translator.translated c.args.marks.items (into_iter_items iter.result) c.args.outcomes.now.items c.args.index.now iter.ensures.rest c.requires.empty;
     }
 
 pub marks-preserved : goal.marks-preserved
@@ -32,4 +32,4 @@ pub returns : goal.returns
 returns g c =
     let at = c.marks in
     marked_all g.T.Translator.translated c.args.marks.items (into_iter_items at.rest) at.outcomes.items c.args.index.now at.index
-    (no_items (into_iter_items at.rest) (into_iter_len at.rest) at.invariant.known c.in_default.ensures.cases.0) at.invariant.marked
+    (empty-by_count (into_iter_items at.rest) (into_iter_len at.rest) at.invariant.known c.in_default.ensures.cases.0) at.invariant.marked

@@ -5,7 +5,7 @@ use borrow.Author.Rules.{of_calls}
 use Rattle.key_index_flat.specs.Content.{list_at}
 use Rattle.key_index_flat.specs.Cursor.{next_place, place_from}
 use Rattle.key_index_flat.specs.IndexCursor.{cursor_list, cursor_place}
-use Rattle.key_index_flat.proofs.asked.Asked.{asked_more, found, found_none}
+use Rattle.key_index_flat.proofs.asked.Asked.{asked_more, Finds-by_asking, FindsNone-by_asking}
 use Rattle.key_index_flat.proofs.index.index_cursor.IndexCursorCursor.find.Goals as goal
 use Rattle.key_index_flat.proofs.index.index_cursor.IndexCursorCursor.find.Goals.{then-loop-place-test+else-not-predicate, else-loop-place-test}
 
@@ -40,11 +40,11 @@ returns-clause-place g c =
       | then-loop-place-test+else-not-predicate w ↦
           let value : slice_get xs at.place ≡ Some w.value_at.result.now = ap (λ l. slice_get l at.place) (sym list) ∙ w.value_at.ensures in
           let goes = c.go.ensures.place ∙ ap (λ l. place_from l at.place) (ap (λ s. cursor_list s) w.self-is ∙ list) in
-          found (CalledAt g.F.FnMut) c.args.predicate at.predicate w.predicate.new.self xs p at.place len w.value_at.result.now (cursor_place new) known from value (called_at g.F.FnMut w.predicate.ensures w.if-not-predicate.false) at.invariant.asked goes
+          Finds-by_asking (CalledAt g.F.FnMut) c.args.predicate at.predicate w.predicate.new.self xs p at.place len w.value_at.result.now (cursor_place new) known from value (called_at g.F.FnMut w.predicate.ensures w.if-not-predicate.false) at.invariant.asked goes
       | else-loop-place-test w ↦
           let goes = c.go.ensures.place ∙ ap (λ l. place_from l at.place) (ap (λ s. cursor_list s) w.self-is ∙ list) in
           let most = at.invariant.within in
           let past = w.loop-place-test.false in
           let all : at.place ≡ len = omega (arith, most, past) in
-          found_none (CalledAt g.F.FnMut) c.args.predicate at.predicate xs p at.place len (cursor_place new) known from all at.invariant.asked goes
+          FindsNone-by_asking (CalledAt g.F.FnMut) c.args.predicate at.predicate xs p at.place len (cursor_place new) known from all at.invariant.asked goes
     ]

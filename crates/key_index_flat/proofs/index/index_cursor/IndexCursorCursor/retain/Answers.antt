@@ -8,9 +8,9 @@ use borrow.Author.Rules.{of_calls}
 use Rattle.key_index_flat.specs.Cursor.{next_place}
 use Rattle.key_index_flat.specs.IndexCursor.{cursor_list, cursor_place}
 use Rattle.key_index_flat.specs.declared.index.traits.cursor.CursorState.TheVariants.{Done}
-use Rattle.key_index_flat.proofs.asked.Asked.{drop-value, take-value, drop-remove, take-remove, kept_first, kept_more, kept_less, kept_parts, retained}
+use Rattle.key_index_flat.proofs.asked.Asked.{drop-value, take-value, drop-remove, take-remove, kept_first, kept_more, kept_less, kept_parts, Retains-KeptTo}
 use Rattle.key_index_flat.proofs.runs.CursorLemmas.{list_at_edit, edited_none, edited_more}
-use Rattle.key_index_flat.proofs.runs.ViewLemmas.{same_content, same_admitted}
+use Rattle.key_index_flat.proofs.runs.ViewLemmas.{content-same_view, same_admitted}
 use Rattle.key_index_flat.proofs.index.index_cursor.IndexCursorCursor.retain.Goals as goal
 
 pub loop-place-init : goal.loop-place-init
@@ -63,7 +63,7 @@ invariant_of-self-else-should_retain g c =
     let known : at.len ≡ length ys = at.known in
     let here : place < at.len = c.loop-place-test.true in
     let less : length (remove ys place) + 1 ≡ length ys = length-remove ys place (omega (arith, here, known)) in
-    let now = list_at_edit g.met.I.Key.Ord.total _ _ _ _ (same_content c.remove_at.ensures.changed) in
+    let now = list_at_edit g.met.I.Key.Ord.total _ _ _ _ (content-same_view c.remove_at.ensures.changed) in
     let count : at.len - 1 ≡ length (remove ys place) = omega (arith, known, less) in
     let front : at.place ≡ 0 = c.loop-place.invariant.front in
     let within : at.place ≤ at.len - 1 = omega (arith, front) in
@@ -88,7 +88,7 @@ loop-place-preserved g c =
     let fewer : at.self.len ≤ c.args.self.now.len = held.fewer in
     let x = c.value_at.result.now in
     let R = CalledAt g.F.FnMut in
-    let now = list_at_edit g.met.I.Key.Ord.total _ _ _ _ (same_content c.remove_at.ensures.changed) in
+    let now = list_at_edit g.met.I.Key.Ord.total _ _ _ _ (content-same_view c.remove_at.ensures.changed) in
     record {
       same_reference = held.same_reference;
       slot_kept = held.slot_kept;
@@ -114,5 +114,5 @@ returns-clause-items g c =
     let known : at.self.len ≡ length ys = at.self.known in
     let all : length ys ≤ at.place = omega (arith, past, known) in
     let R = CalledAt g.F.FnMut in
-    retained R c.args.should_retain at.should_retain xs ys (cursor_place c.args.self.now)
+    Retains-KeptTo R c.args.should_retain at.should_retain xs ys (cursor_place c.args.self.now)
     (kept_parts R c.args.should_retain at.should_retain xs _ _ _ _ start (take_all at.place ys all) (drop_all at.place ys all) at.invariant.kept)

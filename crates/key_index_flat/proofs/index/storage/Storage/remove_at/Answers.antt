@@ -1,7 +1,7 @@
 use Rattle.std.proofs.Common.{◌<◌, length, subst, sym, arith}
 use Rattle.std.proofs.lemmas.List.Edits.{length-remove}
 use Rattle.key_index_flat.specs.Content.{list_at}
-use Rattle.key_index_flat.proofs.asked.KeptLemmas.{lawful_edit, counted_edit, within_count}
+use Rattle.key_index_flat.proofs.asked.KeptLemmas.{lawful_edit, IsCounted-with_list, within_count}
 use Rattle.key_index_flat.proofs.index.storage.Storage.remove_at.Goals as goal
 
 pub overflow_sub-self : goal.overflow_sub-self
@@ -17,7 +17,7 @@ invariant_of-self g c =
     let within = within_count g.met.T.Key.Ord.total c.self.inside.chains c.args.slot _ c.self.invariant in
     let place : c.args.place < length list = subst (λ s. c.args.place < length (list_at g.T.Key.Ord.cmp s.content c.args.slot)) (sym c.self.view_is) c.requires.place in
     let less = length-remove list c.args.place place in
-    counted_edit g.met.T.Key.Ord.total _ _ _ _ _ _ c.self.invariant c.remove_at-value.ensures.content (omega (arith, within, place, less))
+    IsCounted-with_list g.met.T.Key.Ord.total _ _ _ _ _ _ c.self.invariant c.remove_at-value.ensures.content (omega (arith, within, place, less))
 
 pub returns-clause-lawful : goal.returns-clause-lawful
 returns-clause-lawful g c = lawful_edit g.met.T.Key.Ord.total _ _ _ _ c.self.invariant.lawful c.remove_at-value.ensures.content

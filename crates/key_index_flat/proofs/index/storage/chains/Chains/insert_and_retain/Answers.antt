@@ -7,7 +7,7 @@ use Rattle.key_index_flat.specs.laws.Laws.{IsLawful-content_of}
 use Rattle.key_index_flat.proofs.asked.FromLemmas.{few_left, one_gone, asks_from}
 use Rattle.key_index_flat.proofs.asked.PutLemmas.{asks_alone, taken_put}
 use Rattle.key_index_flat.proofs.content.ChainLemmas.{list_at-content_of}
-use Rattle.key_index_flat.proofs.content.EditLemmas.{list_is, list_later, rest_alone, rest_edited}
+use Rattle.key_index_flat.proofs.content.EditLemmas.{list-newest_first, list_later, rest_alone, rest_edited}
 use Rattle.key_index_flat.proofs.index.storage.chains.Chains.insert_and_retain.Goals as goal
 
 pub returns-in_default-clause-had : goal.returns-in_default-clause-had
@@ -112,7 +112,7 @@ pub returns-then-newest_stays-clause-had : goal.returns-then-newest_stays-clause
 returns-then-newest_stays-clause-had g c =
     let told = c.in_ok-newest_stays.ensures in
     let older = older_at g.T.Key.PartialEq.eq c.self.inside.older in
-    let long = ap (λ l. length l) (list_is g.met.T.Key.Ord.total g.met.T.Translator.exact (g.M.Heads.entries c.self.inside.heads) (older_at g.T.Key.PartialEq.eq c.self.inside.older) older c.args.slot c.self.invariant c.in-Some.newest.now (sym c.in-Some.ensures)) in
+    let long = ap (λ l. length l) (list-newest_first g.met.T.Key.Ord.total g.met.T.Translator.exact (g.M.Heads.entries c.self.inside.heads) (older_at g.T.Key.PartialEq.eq c.self.inside.older) older c.args.slot c.self.invariant c.in-Some.newest.now (sym c.in-Some.ensures)) in
     let back = length-reverse (older c.args.slot) in
     rw (← c.self.view_is) (omega (arith, long, back, told.had))
 
@@ -120,7 +120,7 @@ pub returns-clause-had : goal.returns-clause-had
 returns-clause-had g c =
     let told = c.in_ok-newest_stays.ensures in
     let older = older_at g.T.Key.PartialEq.eq c.self.inside.older in
-    let long = ap (λ l. length l) (list_is g.met.T.Key.Ord.total g.met.T.Translator.exact (g.M.Heads.entries c.self.inside.heads) (older_at g.T.Key.PartialEq.eq c.self.inside.older) older c.args.slot c.self.invariant c.in-Some.newest.now (sym c.in-Some.ensures)) in
+    let long = ap (λ l. length l) (list-newest_first g.met.T.Key.Ord.total g.met.T.Translator.exact (g.M.Heads.entries c.self.inside.heads) (older_at g.T.Key.PartialEq.eq c.self.inside.older) older c.args.slot c.self.invariant c.in-Some.newest.now (sym c.in-Some.ensures)) in
     let back = length-reverse (older c.args.slot) in
     rw (← c.self.view_is) (omega (arith, long, back, told.had))
 

@@ -2,13 +2,13 @@ use Rattle.std.proofs.Common.{rules, ◌+◌, ◌<◌, [], ◌∷◌, ◌++◌, 
 use Rattle.std.proofs.lemmas.List.{length-reverse}
 use Rattle.key_index_flat.specs.Storage.{older_at, content_of}
 use Rattle.key_index_flat.specs.Content.{list_at}
-use Rattle.key_index_flat.proofs.content.EditLemmas.{list_is, place_within, remove_among_older, value_among_older, value_newest, newest, newest_removed, only_removed}
+use Rattle.key_index_flat.proofs.content.EditLemmas.{list-newest_first, place_within_older, remove_among_older, value_among_older, value_newest, value_of-list_filled, newest_removed, only_removed}
 use Rattle.key_index_flat.proofs.index.storage.chains.Chains.remove_at.Goals as goal
 
 pub remove_older-value-requires-clause-within : goal.remove_older-value-requires-clause-within
 remove_older-value-requires-clause-within g c =
     let place = subst (λ now. c.args.place < length (list_at g.T.Key.Ord.cmp now c.args.slot)) (sym c.self.view_is) c.requires.place in
-    place_within g.met.T.Key.Ord.total g.met.T.Translator.exact (g.M.Heads.entries c.self.inside.heads) (older_at g.T.Key.PartialEq.eq c.self.inside.older) (older_at g.T.Key.PartialEq.eq c.self.inside.older) c.args.slot c.self.invariant c.args.place place
+    place_within_older g.met.T.Key.Ord.total g.met.T.Translator.exact (g.M.Heads.entries c.self.inside.heads) (older_at g.T.Key.PartialEq.eq c.self.inside.older) (older_at g.T.Key.PartialEq.eq c.self.inside.older) c.args.slot c.self.invariant c.args.place place
 
 pub invariant_of-self : goal.invariant_of-self
 invariant_of-self g c =
@@ -33,14 +33,14 @@ pub unwrap-requires : goal.unwrap-requires
 unwrap-requires g c =
     let place = subst (λ now. c.args.place < length (list_at g.T.Key.Ord.cmp now c.args.slot)) (sym c.self.view_is) c.requires.place in
     let h : 0 < length (list_at g.T.Key.Ord.cmp (content_of g.T.Key.Ord.cmp (g.M.Heads.entries c.self.inside.heads) (older_at g.T.Key.PartialEq.eq c.self.inside.older)) c.args.slot) = omega (arith, place) in
-    let n = newest g.met.T.Key.Ord.total g.met.T.Translator.exact (g.M.Heads.entries c.self.inside.heads) (older_at g.T.Key.PartialEq.eq c.self.inside.older) (older_at g.T.Key.PartialEq.eq c.self.inside.older) c.args.slot c.self.invariant h in
+    let n = value_of-list_filled g.met.T.Key.Ord.total g.met.T.Translator.exact (g.M.Heads.entries c.self.inside.heads) (older_at g.T.Key.PartialEq.eq c.self.inside.older) (older_at g.T.Key.PartialEq.eq c.self.inside.older) c.args.slot c.self.invariant h in
     let some = ap (λ o. is_some o) (c.remove.ensures.value ∙ n.1) in search rules
 
 pub invariant_of-self-in_default : goal.invariant_of-self-in_default
 invariant_of-self-in_default g c =
     let place = subst (λ now. c.args.place < length (list_at g.T.Key.Ord.cmp now c.args.slot)) (sym c.self.view_is) c.requires.place in
     let h : 0 < length (list_at g.T.Key.Ord.cmp (content_of g.T.Key.Ord.cmp (g.M.Heads.entries c.self.inside.heads) (older_at g.T.Key.PartialEq.eq c.self.inside.older)) c.args.slot) = omega (arith, place) in
-    let n = newest g.met.T.Key.Ord.total g.met.T.Translator.exact (g.M.Heads.entries c.self.inside.heads) (older_at g.T.Key.PartialEq.eq c.self.inside.older) (older_at g.T.Key.PartialEq.eq c.self.inside.older) c.args.slot c.self.invariant h in
+    let n = value_of-list_filled g.met.T.Key.Ord.total g.met.T.Translator.exact (g.M.Heads.entries c.self.inside.heads) (older_at g.T.Key.PartialEq.eq c.self.inside.older) (older_at g.T.Key.PartialEq.eq c.self.inside.older) c.args.slot c.self.invariant h in
     (only_removed g.met.T.Key.Ord.total g.met.T.Translator.exact (g.M.Heads.entries c.self.inside.heads) (older_at g.T.Key.PartialEq.eq c.self.inside.older) (older_at g.T.Key.PartialEq.eq c.pop_older.new.older) c.args.slot c.self.invariant (g.M.Heads.entries c.remove.new.self) c.args.place n.0 c.if-place-ne0.false n.1 c.remove.ensures.sets (ap (λ o. length (g.M.Heads.entries c.remove.new.self) + cond (is_some o) 1 0) (sym c.remove.ensures.value) ∙ c.remove.ensures.len) (c.in_default.ensures.at ∙ ap (λ l. l ++ []) c.in_default.ensures.none) c.in_default.ensures.none c.pop_older.ensures.others).linked
 
 pub returns-in_default-clause-value : goal.returns-in_default-clause-value
@@ -54,7 +54,7 @@ returns-in_default-clause-content g c =
     let place = subst (λ now. c.args.place < length (list_at g.T.Key.Ord.cmp now c.args.slot)) (sym c.self.view_is) c.requires.place in
     rw (← c.self.view_is) (
     let h : 0 < length (list_at g.T.Key.Ord.cmp (content_of g.T.Key.Ord.cmp (g.M.Heads.entries c.self.inside.heads) (older_at g.T.Key.PartialEq.eq c.self.inside.older)) c.args.slot) = omega (arith, place) in
-    let n = newest g.met.T.Key.Ord.total g.met.T.Translator.exact (g.M.Heads.entries c.self.inside.heads) (older_at g.T.Key.PartialEq.eq c.self.inside.older) (older_at g.T.Key.PartialEq.eq c.self.inside.older) c.args.slot c.self.invariant h in
+    let n = value_of-list_filled g.met.T.Key.Ord.total g.met.T.Translator.exact (g.M.Heads.entries c.self.inside.heads) (older_at g.T.Key.PartialEq.eq c.self.inside.older) (older_at g.T.Key.PartialEq.eq c.self.inside.older) c.args.slot c.self.invariant h in
     (only_removed g.met.T.Key.Ord.total g.met.T.Translator.exact (g.M.Heads.entries c.self.inside.heads) (older_at g.T.Key.PartialEq.eq c.self.inside.older) (older_at g.T.Key.PartialEq.eq c.pop_older.new.older) c.args.slot c.self.invariant (g.M.Heads.entries c.remove.new.self) c.args.place n.0 c.if-place-ne0.false n.1 c.remove.ensures.sets (ap (λ o. length (g.M.Heads.entries c.remove.new.self) + cond (is_some o) 1 0) (sym c.remove.ensures.value) ∙ c.remove.ensures.len) (c.in_default.ensures.at ∙ ap (λ l. l ++ []) c.in_default.ensures.none) c.in_default.ensures.none c.pop_older.ensures.others).content
     )
 
@@ -62,7 +62,7 @@ pub invariant_of-self-2 : goal.invariant_of-self-2
 invariant_of-self-2 g c =
     let place = subst (λ now. c.args.place < length (list_at g.T.Key.Ord.cmp now c.args.slot)) (sym c.self.view_is) c.requires.place in
     let h : 0 < length (list_at g.T.Key.Ord.cmp (content_of g.T.Key.Ord.cmp (g.M.Heads.entries c.self.inside.heads) (older_at g.T.Key.PartialEq.eq c.self.inside.older)) c.args.slot) = omega (arith, place) in
-    let n = newest g.met.T.Key.Ord.total g.met.T.Translator.exact (g.M.Heads.entries c.self.inside.heads) (older_at g.T.Key.PartialEq.eq c.self.inside.older) (older_at g.T.Key.PartialEq.eq c.self.inside.older) c.args.slot c.self.invariant h in
+    let n = value_of-list_filled g.met.T.Key.Ord.total g.met.T.Translator.exact (g.M.Heads.entries c.self.inside.heads) (older_at g.T.Key.PartialEq.eq c.self.inside.older) (older_at g.T.Key.PartialEq.eq c.self.inside.older) c.args.slot c.self.invariant h in
     (newest_removed g.met.T.Key.Ord.total g.met.T.Translator.exact (g.M.Heads.entries c.self.inside.heads) (older_at g.T.Key.PartialEq.eq c.self.inside.older) (older_at g.T.Key.PartialEq.eq c.pop_older.new.older) c.args.slot c.self.invariant (g.M.Heads.entries c.insert.new.self) c.args.place n.0 c.in-Some.next c.if-place-ne0.false n.1 c.in-Ok-Some.ensures.sets (c.in-Ok-Some.ensures.len ∙ ap (λ o. length (g.M.Heads.entries c.self.inside.heads) + cond (is_some o) 0 1) (c.in-Ok-Some.ensures.old ∙ n.1)) c.in-Some.ensures.at c.pop_older.ensures.others).linked
 
 pub returns-clause-value : goal.returns-clause-value
@@ -76,7 +76,7 @@ returns-clause-content g c =
     let place = subst (λ now. c.args.place < length (list_at g.T.Key.Ord.cmp now c.args.slot)) (sym c.self.view_is) c.requires.place in
     rw (← c.self.view_is) (
     let h : 0 < length (list_at g.T.Key.Ord.cmp (content_of g.T.Key.Ord.cmp (g.M.Heads.entries c.self.inside.heads) (older_at g.T.Key.PartialEq.eq c.self.inside.older)) c.args.slot) = omega (arith, place) in
-    let n = newest g.met.T.Key.Ord.total g.met.T.Translator.exact (g.M.Heads.entries c.self.inside.heads) (older_at g.T.Key.PartialEq.eq c.self.inside.older) (older_at g.T.Key.PartialEq.eq c.self.inside.older) c.args.slot c.self.invariant h in
+    let n = value_of-list_filled g.met.T.Key.Ord.total g.met.T.Translator.exact (g.M.Heads.entries c.self.inside.heads) (older_at g.T.Key.PartialEq.eq c.self.inside.older) (older_at g.T.Key.PartialEq.eq c.self.inside.older) c.args.slot c.self.invariant h in
     (newest_removed g.met.T.Key.Ord.total g.met.T.Translator.exact (g.M.Heads.entries c.self.inside.heads) (older_at g.T.Key.PartialEq.eq c.self.inside.older) (older_at g.T.Key.PartialEq.eq c.pop_older.new.older) c.args.slot c.self.invariant (g.M.Heads.entries c.insert.new.self) c.args.place n.0 c.in-Some.next c.if-place-ne0.false n.1 c.in-Ok-Some.ensures.sets (c.in-Ok-Some.ensures.len ∙ ap (λ o. length (g.M.Heads.entries c.self.inside.heads) + cond (is_some o) 0 1) (c.in-Ok-Some.ensures.old ∙ n.1)) c.in-Some.ensures.at c.pop_older.ensures.others).content
     )
 
@@ -85,8 +85,8 @@ returns-then-place-ne0-clause-left g c =
     let place = subst (λ now. c.args.place < length (list_at g.T.Key.Ord.cmp now c.args.slot)) (sym c.self.view_is) c.requires.place in
     rw (← c.self.view_is) (
     let h : 0 < length (list_at g.T.Key.Ord.cmp (content_of g.T.Key.Ord.cmp (g.M.Heads.entries c.self.inside.heads) (older_at g.T.Key.PartialEq.eq c.self.inside.older)) c.args.slot) = omega (arith, place) in
-    let n = newest g.met.T.Key.Ord.total g.met.T.Translator.exact (g.M.Heads.entries c.self.inside.heads) (older_at g.T.Key.PartialEq.eq c.self.inside.older) (older_at g.T.Key.PartialEq.eq c.self.inside.older) c.args.slot c.self.invariant h in
-    let long = ap (λ l. length l) (list_is g.met.T.Key.Ord.total g.met.T.Translator.exact (g.M.Heads.entries c.self.inside.heads) (older_at g.T.Key.PartialEq.eq c.self.inside.older) (older_at g.T.Key.PartialEq.eq c.self.inside.older) c.args.slot c.self.invariant n.0 n.1) in
+    let n = value_of-list_filled g.met.T.Key.Ord.total g.met.T.Translator.exact (g.M.Heads.entries c.self.inside.heads) (older_at g.T.Key.PartialEq.eq c.self.inside.older) (older_at g.T.Key.PartialEq.eq c.self.inside.older) c.args.slot c.self.invariant h in
+    let long = ap (λ l. length l) (list-newest_first g.met.T.Key.Ord.total g.met.T.Translator.exact (g.M.Heads.entries c.self.inside.heads) (older_at g.T.Key.PartialEq.eq c.self.inside.older) (older_at g.T.Key.PartialEq.eq c.self.inside.older) c.args.slot c.self.invariant n.0 n.1) in
     let back = length-reverse (older_at g.T.Key.PartialEq.eq c.self.inside.older c.args.slot) in
     omega (arith, long, back, c.remove_older-value.ensures.left)
     )
@@ -96,8 +96,8 @@ returns-in_default-clause-left g c =
     let place = subst (λ now. c.args.place < length (list_at g.T.Key.Ord.cmp now c.args.slot)) (sym c.self.view_is) c.requires.place in
     rw (← c.self.view_is) (
     let h : 0 < length (list_at g.T.Key.Ord.cmp (content_of g.T.Key.Ord.cmp (g.M.Heads.entries c.self.inside.heads) (older_at g.T.Key.PartialEq.eq c.self.inside.older)) c.args.slot) = omega (arith, place) in
-    let n = newest g.met.T.Key.Ord.total g.met.T.Translator.exact (g.M.Heads.entries c.self.inside.heads) (older_at g.T.Key.PartialEq.eq c.self.inside.older) (older_at g.T.Key.PartialEq.eq c.self.inside.older) c.args.slot c.self.invariant h in
-    let long = ap (λ l. length l) (list_is g.met.T.Key.Ord.total g.met.T.Translator.exact (g.M.Heads.entries c.self.inside.heads) (older_at g.T.Key.PartialEq.eq c.self.inside.older) (older_at g.T.Key.PartialEq.eq c.self.inside.older) c.args.slot c.self.invariant n.0 n.1) in
+    let n = value_of-list_filled g.met.T.Key.Ord.total g.met.T.Translator.exact (g.M.Heads.entries c.self.inside.heads) (older_at g.T.Key.PartialEq.eq c.self.inside.older) (older_at g.T.Key.PartialEq.eq c.self.inside.older) c.args.slot c.self.invariant h in
+    let long = ap (λ l. length l) (list-newest_first g.met.T.Key.Ord.total g.met.T.Translator.exact (g.M.Heads.entries c.self.inside.heads) (older_at g.T.Key.PartialEq.eq c.self.inside.older) (older_at g.T.Key.PartialEq.eq c.self.inside.older) c.args.slot c.self.invariant n.0 n.1) in
     let back = length-reverse (older_at g.T.Key.PartialEq.eq c.self.inside.older c.args.slot) in
     let none = ap (λ l. length l) (c.in_default.ensures.at ∙ ap (λ l. l ++ []) c.in_default.ensures.none) in
     omega (arith, long, back, none)
@@ -108,8 +108,8 @@ returns-clause-left g c =
     let place = subst (λ now. c.args.place < length (list_at g.T.Key.Ord.cmp now c.args.slot)) (sym c.self.view_is) c.requires.place in
     rw (← c.self.view_is) (
     let h : 0 < length (list_at g.T.Key.Ord.cmp (content_of g.T.Key.Ord.cmp (g.M.Heads.entries c.self.inside.heads) (older_at g.T.Key.PartialEq.eq c.self.inside.older)) c.args.slot) = omega (arith, place) in
-    let n = newest g.met.T.Key.Ord.total g.met.T.Translator.exact (g.M.Heads.entries c.self.inside.heads) (older_at g.T.Key.PartialEq.eq c.self.inside.older) (older_at g.T.Key.PartialEq.eq c.self.inside.older) c.args.slot c.self.invariant h in
-    let long = ap (λ l. length l) (list_is g.met.T.Key.Ord.total g.met.T.Translator.exact (g.M.Heads.entries c.self.inside.heads) (older_at g.T.Key.PartialEq.eq c.self.inside.older) (older_at g.T.Key.PartialEq.eq c.self.inside.older) c.args.slot c.self.invariant n.0 n.1) in
+    let n = value_of-list_filled g.met.T.Key.Ord.total g.met.T.Translator.exact (g.M.Heads.entries c.self.inside.heads) (older_at g.T.Key.PartialEq.eq c.self.inside.older) (older_at g.T.Key.PartialEq.eq c.self.inside.older) c.args.slot c.self.invariant h in
+    let long = ap (λ l. length l) (list-newest_first g.met.T.Key.Ord.total g.met.T.Translator.exact (g.M.Heads.entries c.self.inside.heads) (older_at g.T.Key.PartialEq.eq c.self.inside.older) (older_at g.T.Key.PartialEq.eq c.self.inside.older) c.args.slot c.self.invariant n.0 n.1) in
     let back = length-reverse (older_at g.T.Key.PartialEq.eq c.self.inside.older c.args.slot) in
     let more = ap (λ l. length l) c.in-Some.ensures.at in
     let one = length-append (older_at g.T.Key.PartialEq.eq c.pop_older.new.older c.args.slot) (c.in-Some.next ∷ []) in

@@ -4,10 +4,10 @@ use Rattle.std.specs.Fn.{CalledAt}
 use Rattle.key_index_flat.specs.Storage.{older_at, content_of, list_of}
 use Rattle.key_index_flat.specs.Content.{with_list}
 use Rattle.key_index_flat.specs.laws.Laws.{IsLawful-content_of}
-use Rattle.key_index_flat.proofs.asked.TurnLemmas.{asked_few, asked_none, asked_same}
+use Rattle.key_index_flat.proofs.asked.TurnLemmas.{asked_few, AsksInTurn-none, asked_same}
 use Rattle.key_index_flat.proofs.content.ContentLemmas.{with_list-same}
 use Rattle.key_index_flat.proofs.content.ChainLemmas.{list_at-content_of}
-use Rattle.key_index_flat.proofs.content.EditLemmas.{list_is, list_later, rest_alone, rest_edited}
+use Rattle.key_index_flat.proofs.content.EditLemmas.{list-newest_first, list_later, rest_alone, rest_edited}
 use Rattle.key_index_flat.proofs.index.storage.chains.Chains.retain_in_turn.Goals as goal
 
 pub returns-in_default : goal.returns-in_default
@@ -20,7 +20,7 @@ returns-in_default g c =
     record {
       kept = (
         [],
-        asked_same (CalledAt g.F.FnMut) c.args.should_retain true [] [] _ [] true (asked_none (CalledAt g.F.FnMut) c.args.should_retain true) (sym list) refl,
+        asked_same (CalledAt g.F.FnMut) c.args.should_retain true [] [] _ [] true (AsksInTurn-none (CalledAt g.F.FnMut) c.args.should_retain true) (sym list) refl,
         sym (with_list-same g.met.T.Key.Ord.total g.met.T.Translator.exact held c.args.slot (IsLawful-content_of g.met.T.Key.Ord.total heads older)) ∙ ap (λ l. with_list g.T.Key.Ord.cmp held c.args.slot l) list,
         refl,
         sym (ap (λ l. length l) list),
@@ -51,7 +51,7 @@ returns-then-newest_stays g c =
     let newest = c.in-Some.newest.now in
     let told = c.retain_older-newest_stays.ensures in
     let stays = c.retain_older-newest_stays.result.3 in
-    let list = list_is g.met.T.Key.Ord.total g.met.T.Translator.exact heads older older c.args.slot c.self.invariant newest (sym c.in-Some.ensures) in
+    let list = list-newest_first g.met.T.Key.Ord.total g.met.T.Translator.exact heads older older c.args.slot c.self.invariant newest (sym c.in-Some.ensures) in
     let asked = asked_same (CalledAt g.F.FnMut) c.args.should_retain true _ _ _ _ stays told.asked (sym list) (ap (λ b. cond b (newest ∷ reverse (later c.args.slot)) (reverse (later c.args.slot))) c.if-newest_stays.true) in
     let long = ap (λ l. length l) list in
     let before = length-reverse (older c.args.slot) in
@@ -78,7 +78,7 @@ returns g c =
     let newest = c.in-Some.newest.now in
     let told = c.retain_older-newest_stays.ensures in
     let stays = c.retain_older-newest_stays.result.3 in
-    let list = list_is g.met.T.Key.Ord.total g.met.T.Translator.exact heads older older c.args.slot c.self.invariant newest (sym c.in-Some.ensures) in
+    let list = list-newest_first g.met.T.Key.Ord.total g.met.T.Translator.exact heads older older c.args.slot c.self.invariant newest (sym c.in-Some.ensures) in
     let asked = asked_same (CalledAt g.F.FnMut) c.args.should_retain true _ _ _ _ stays told.asked (sym list) (ap (λ b. cond b (newest ∷ reverse (later c.args.slot)) (reverse (later c.args.slot))) c.if-newest_stays.false) in
     let long = ap (λ l. length l) list in
     let before = length-reverse (older c.args.slot) in

@@ -1,13 +1,13 @@
 use Rattle.std.proofs.Common.{◌+◌, ◌<◌, length, cond, is_some, T, refl, sym, ap, subst, ◌∙◌, arith}
 use Rattle.key_index_flat.specs.Storage.{older_at, content_of}
 use Rattle.key_index_flat.specs.Content.{list_at}
-use Rattle.key_index_flat.proofs.content.EditLemmas.{place_within, set_among_older, newest, newest_set}
+use Rattle.key_index_flat.proofs.content.EditLemmas.{place_within_older, set_among_older, value_of-list_filled, newest_set}
 use Rattle.key_index_flat.proofs.index.storage.chains.Chains.set_at.Goals as goal
 
 pub set_older-requires-clause-within : goal.set_older-requires-clause-within
 set_older-requires-clause-within g c =
     let place = subst (λ now. c.args.place < length (list_at g.T.Key.Ord.cmp now c.args.slot)) (sym c.self.view_is) c.requires.place in
-    place_within g.met.T.Key.Ord.total g.met.T.Translator.exact (g.M.Heads.entries c.self.inside.heads) (older_at g.T.Key.PartialEq.eq c.self.inside.older) (older_at g.T.Key.PartialEq.eq c.self.inside.older) c.args.slot c.self.invariant c.args.place place
+    place_within_older g.met.T.Key.Ord.total g.met.T.Translator.exact (g.M.Heads.entries c.self.inside.heads) (older_at g.T.Key.PartialEq.eq c.self.inside.older) (older_at g.T.Key.PartialEq.eq c.self.inside.older) c.args.slot c.self.invariant c.args.place place
 
 pub invariant_of-self : goal.invariant_of-self
 invariant_of-self g c =
@@ -23,18 +23,18 @@ pub unreachable-requires : goal.unreachable-requires
 unreachable-requires g c =
     let place = subst (λ now. c.args.place < length (list_at g.T.Key.Ord.cmp now c.args.slot)) (sym c.self.view_is) c.requires.place in
     let h : 0 < length (list_at g.T.Key.Ord.cmp (content_of g.T.Key.Ord.cmp (g.M.Heads.entries c.self.inside.heads) (older_at g.T.Key.PartialEq.eq c.self.inside.older)) c.args.slot) = omega (arith, place) in
-    let n = newest g.met.T.Key.Ord.total g.met.T.Translator.exact (g.M.Heads.entries c.self.inside.heads) (older_at g.T.Key.PartialEq.eq c.self.inside.older) (older_at g.T.Key.PartialEq.eq c.self.inside.older) c.args.slot c.self.invariant h in absurd (subst T (ap (λ o. is_some o) (sym n.1 ∙ c.in_default.ensures.absent)) tt)
+    let n = value_of-list_filled g.met.T.Key.Ord.total g.met.T.Translator.exact (g.M.Heads.entries c.self.inside.heads) (older_at g.T.Key.PartialEq.eq c.self.inside.older) (older_at g.T.Key.PartialEq.eq c.self.inside.older) c.args.slot c.self.invariant h in absurd (subst T (ap (λ o. is_some o) (sym n.1 ∙ c.in_default.ensures.absent)) tt)
 
 pub invariant_of-self-2 : goal.invariant_of-self-2
 invariant_of-self-2 g c =
     let place = subst (λ now. c.args.place < length (list_at g.T.Key.Ord.cmp now c.args.slot)) (sym c.self.view_is) c.requires.place in
     let h : 0 < length (list_at g.T.Key.Ord.cmp (content_of g.T.Key.Ord.cmp (g.M.Heads.entries c.self.inside.heads) (older_at g.T.Key.PartialEq.eq c.self.inside.older)) c.args.slot) = omega (arith, place) in
-    let n = newest g.met.T.Key.Ord.total g.met.T.Translator.exact (g.M.Heads.entries c.self.inside.heads) (older_at g.T.Key.PartialEq.eq c.self.inside.older) (older_at g.T.Key.PartialEq.eq c.self.inside.older) c.args.slot c.self.invariant h in
+    let n = value_of-list_filled g.met.T.Key.Ord.total g.met.T.Translator.exact (g.M.Heads.entries c.self.inside.heads) (older_at g.T.Key.PartialEq.eq c.self.inside.older) (older_at g.T.Key.PartialEq.eq c.self.inside.older) c.args.slot c.self.invariant h in
     (newest_set g.met.T.Key.Ord.total g.met.T.Translator.exact (g.M.Heads.entries c.self.inside.heads) (older_at g.T.Key.PartialEq.eq c.self.inside.older) (older_at g.T.Key.PartialEq.eq c.self.inside.older) c.args.slot c.self.invariant (g.M.Heads.entries c.insert.new.self) c.args.place n.0 c.args.value c.if-place-ne0.false n.1 c.in-Ok.ensures.sets (c.in-Ok.ensures.len ∙ ap (λ o. length (g.M.Heads.entries c.self.inside.heads) + cond (is_some o) 0 1) (c.in-Ok.ensures.old ∙ n.1)) (λ q. refl)).linked
 
 pub returns : goal.returns
 returns g c =
     let place = subst (λ now. c.args.place < length (list_at g.T.Key.Ord.cmp now c.args.slot)) (sym c.self.view_is) c.requires.place in
     let h : 0 < length (list_at g.T.Key.Ord.cmp (content_of g.T.Key.Ord.cmp (g.M.Heads.entries c.self.inside.heads) (older_at g.T.Key.PartialEq.eq c.self.inside.older)) c.args.slot) = omega (arith, place) in
-    let n = newest g.met.T.Key.Ord.total g.met.T.Translator.exact (g.M.Heads.entries c.self.inside.heads) (older_at g.T.Key.PartialEq.eq c.self.inside.older) (older_at g.T.Key.PartialEq.eq c.self.inside.older) c.args.slot c.self.invariant h in
+    let n = value_of-list_filled g.met.T.Key.Ord.total g.met.T.Translator.exact (g.M.Heads.entries c.self.inside.heads) (older_at g.T.Key.PartialEq.eq c.self.inside.older) (older_at g.T.Key.PartialEq.eq c.self.inside.older) c.args.slot c.self.invariant h in
     rw (← c.self.view_is) (record { content = (newest_set g.met.T.Key.Ord.total g.met.T.Translator.exact (g.M.Heads.entries c.self.inside.heads) (older_at g.T.Key.PartialEq.eq c.self.inside.older) (older_at g.T.Key.PartialEq.eq c.self.inside.older) c.args.slot c.self.invariant (g.M.Heads.entries c.insert.new.self) c.args.place n.0 c.args.value c.if-place-ne0.false n.1 c.in-Ok.ensures.sets (c.in-Ok.ensures.len ∙ ap (λ o. length (g.M.Heads.entries c.self.inside.heads) + cond (is_some o) 0 1) (c.in-Ok.ensures.old ∙ n.1)) (λ q. refl)).content })

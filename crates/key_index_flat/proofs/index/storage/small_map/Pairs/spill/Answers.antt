@@ -2,7 +2,7 @@ use Rattle.std.proofs.Common.{◌+◌, length, ap, ◌∙◌}
 use Rattle.std.specs.HashMap.{get, hash_map_len}
 use Rattle.std.specs.Map.{lookup}
 use Rattle.key_index_flat.proofs.content.MoveLemmas.{set_new}
-use Rattle.key_index_flat.proofs.content.PairLemmas.{by_eq}
+use Rattle.key_index_flat.proofs.content.PairLemmas.{lookup-value_of}
 use Rattle.key_index_flat.proofs.index.storage.small_map.Pairs.spill.Goals as goal
 
 pub put_new-requires-clause-absent : goal.put_new-requires-clause-absent
@@ -10,7 +10,7 @@ put_new-requires-clause-absent g c =
     let eq = g.K.PartialEq.eq in
     let key = c.args.key in
     ap (λ m. get eq m key) c.deref_mut-2.ensures.value ∙ c.move_into.ensures.values key ∙ ap (λ l. lookup (eq key) l) c.self.view_is
-    ∙ by_eq eq g.K.Ord.cmp g.met.K.Ord.matches_eq c.args.self.now key ∙ c.requires
+    ∙ lookup-value_of eq g.K.Ord.cmp g.met.K.Ord.matches_eq c.args.self.now key ∙ c.requires
 
 pub returns-clause-sets : goal.returns-clause-sets
 returns-clause-sets g c =

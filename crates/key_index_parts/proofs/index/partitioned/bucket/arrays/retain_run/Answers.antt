@@ -10,7 +10,7 @@ use Rattle.key_index_flat.proofs.content.ContentLemmas.{with_list-same, with_lis
 use Rattle.key_index_parts.specs.Pairs.{IsFound, grouped}
 use Rattle.key_index_parts.specs.laws.PairLaws.{IsLawful-grouped}
 use Rattle.key_index_parts.proofs.asked.KeptInTurn.{turn_first, turn_more, turn_less, turn_buckets, turn_stays, turn_last}
-use Rattle.key_index_parts.proofs.pairs.FoundRun.{run_count, place_within, value_in, removed, list_after, found_after}
+use Rattle.key_index_parts.proofs.pairs.FoundRun.{run_count, place_within, slice_get-values_of, grouped-removed, list_at-removed, IsFound-removed}
 use Rattle.key_index_parts.proofs.index.partitioned.bucket.arrays.retain_run.Goals as goal
 
 pub loop-place-init : goal.loop-place-init
@@ -61,7 +61,7 @@ loop-place-preserved-then-stays g c =
     let place : start + i ≡ at.place = omega (arith, from) in
     let next : i + 1 ≡ at.place + 1 - start = omega (arith, from) in
     let x = c.value_at.result.now in
-    let found : slice_get ys i ≡ Some x = sym (value_in o exact held.found i (omega (arith, count, here, from))) ∙ ap (λ n. slice_get (values_of at.pairs.pairs) n) place ∙ c.value_at.ensures in
+    let found : slice_get ys i ≡ Some x = sym (slice_get-values_of o exact held.found i (omega (arith, count, here, from))) ∙ ap (λ n. slice_get (values_of at.pairs.pairs) n) place ∙ c.value_at.ensures in
     let R = CalledAt g.F.FnMut in
     record {
       from = omega (arith, from);
@@ -106,15 +106,15 @@ loop-place-preserved g c =
     let below : i < length ys = omega (arith, count, here, from) in
     let place : start + i ≡ at.place = omega (arith, from) in
     let x = c.value_at.result.now in
-    let found : slice_get ys i ≡ Some x = sym (value_in o exact held.found i below) ∙ ap (λ n. slice_get (values_of es) n) place ∙ c.value_at.ensures in
+    let found : slice_get ys i ≡ Some x = sym (slice_get-values_of o exact held.found i below) ∙ ap (λ n. slice_get (values_of es) n) place ∙ c.value_at.ensures in
     let new : c.remove.new.self.pairs ≡ remove es (start + i) = c.remove.ensures.pairs ∙ ap (λ n. remove es n) (sym place) in
-    let list : list_at cmp (grouped cmp c.remove.new.self.pairs) k ≡ remove ys i = ap (λ fs. list_at cmp (grouped cmp fs) k) new ∙ list_after o exact held.found i below in
+    let list : list_at cmp (grouped cmp c.remove.new.self.pairs) k ≡ remove ys i = ap (λ fs. list_at cmp (grouped cmp fs) k) new ∙ list_at-removed o exact held.found i below in
     let R = CalledAt g.F.FnMut in
     record {
       from = from;
       within = omega (arith, here);
-      found = subst (λ fs. IsFound cmp fs k start (at.end - 1)) (sym new) (found_after o exact held.found i below);
-      content = ap (grouped cmp) new ∙ removed o exact held.found i below ∙ ap (λ c. with_list cmp c k (remove ys i)) held.content
+      found = subst (λ fs. IsFound cmp fs k start (at.end - 1)) (sym new) (IsFound-removed o exact held.found i below);
+      content = ap (grouped cmp) new ∙ grouped-removed o exact held.found i below ∙ ap (λ c. with_list cmp c k (remove ys i)) held.content
           ∙ with_list-twice o exact first k ys (remove ys i) (IsLawful-grouped o c.args.pairs.now.pairs) ∙ ap (λ l. with_list cmp first k l) (sym list);
       kept = turn_stays R c.args.should_retain c.should_retain-stays.new.self true false c.should_retain-stays.result xs _ _ (sym c.if-stays.false)
           (turn_buckets R c.args.should_retain c.should_retain-stays.new.self true false xs _ _ _ _ (sym (take-remove ys i below) ∙ ap (λ l. take i l) (sym list)) (sym (drop-remove ys i below) ∙ ap (λ l. drop i l) (sym list))

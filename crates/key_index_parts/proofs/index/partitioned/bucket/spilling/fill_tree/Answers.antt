@@ -2,8 +2,8 @@ use Rattle.std.proofs.Common.{◌≡◌, T, [], ◌∷◌, ◌++◌, is_some, ap
 use Rattle.std.specs.List.Sorted.{IsStrictlySortedBy}
 use Rattle.std.specs.Map.{keys_of}
 use Rattle.std.specs.Vec.Iter.{into_iter_items}
-use Rattle.key_index_parts.proofs.family.InstallLemmas.{no_items}
-use Rattle.key_index_parts.proofs.standing.SpillLemmas.{keys_of-append, moved, no_keys}
+use Rattle.std.proofs.lemmas.List.{nil_from_length}
+use Rattle.key_index_parts.proofs.standing.SpillLemmas.{keys_of-append, insert_entry-moved, empty-keys_of}
 use Rattle.key_index_parts.proofs.index.partitioned.bucket.spilling.fill_tree.Goals as goal
 
 pub unreachable-requires : goal.unreachable-requires
@@ -19,7 +19,7 @@ unreachable-requires g c =
     let items = c.in-Some.ensures.items in
     let all : done ++ (k, v) ∷ behind ≡ c.args.runs.items = ap (λ xs. done ++ xs) (sym items) ∙ inv.4 in
     let up = subst (λ ks. IsStrictlySortedBy cmp ks) (ap keys_of (sym all) ∙ keys_of-append done ((k, v) ∷ behind)) c.requires.rising in
-    let m = moved o c.runs.lists.entries done inv.1 behind k v inv.2 (inv.3 ∙ ap keys_of items) up in
+    let m = insert_entry-moved o c.runs.lists.entries done inv.1 behind k v inv.2 (inv.3 ∙ ap keys_of items) up in
     subst (λ r. T (is_some r)) (sym m.3.1 ∙ c.in_default-put.ensures.absent) tt
 
 pub runs-preserved : goal.runs-preserved
@@ -35,11 +35,11 @@ runs-preserved g c =
     let items = c.in-Some.ensures.items in
     let all : done ++ (k, v) ∷ behind ≡ c.args.runs.items = ap (λ xs. done ++ xs) (sym items) ∙ inv.4 in
     let up = subst (λ ks. IsStrictlySortedBy cmp ks) (ap keys_of (sym all) ∙ keys_of-append done ((k, v) ∷ behind)) c.requires.rising in
-    let m = moved o c.runs.lists.entries done inv.1 behind k v inv.2 (inv.3 ∙ ap keys_of items) up in
+    let m = insert_entry-moved o c.runs.lists.entries done inv.1 behind k v inv.2 (inv.3 ∙ ap keys_of items) up in
     (done ++ (k, v) ∷ [], m.0, c.in-Ok.ensures.accepted ∙ m.1, m.2, append_assoc done ((k, v) ∷ []) behind ∙ all)
 
 pub returns : goal.returns
 returns g c =
     let inv = c.runs.invariant in
-    let none : into_iter_items c.runs.rest ≡ [] = no_items (into_iter_items c.runs.rest) (sym c.runs.rest.rest.ok.0 ∙ c.in_default.ensures.cases.0) in
-    inv.2 ∙ ap (λ os. inv.0 ++ os) (no_keys inv.1 (inv.3 ∙ ap keys_of none)) ∙ ap (λ xs. inv.0 ++ xs) (sym none) ∙ inv.4
+    let none : into_iter_items c.runs.rest ≡ [] = nil_from_length (into_iter_items c.runs.rest) (sym c.runs.rest.rest.ok.0 ∙ c.in_default.ensures.cases.0) in
+    inv.2 ∙ ap (λ os. inv.0 ++ os) (empty-keys_of inv.1 (inv.3 ∙ ap keys_of none)) ∙ ap (λ xs. inv.0 ++ xs) (sym none) ∙ inv.4

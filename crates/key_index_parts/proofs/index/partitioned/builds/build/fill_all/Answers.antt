@@ -6,8 +6,9 @@ use Rattle.key_index_parts.specs.Joined.{is_between}
 use Rattle.key_index_parts.specs.Ops.{op_key}
 use Rattle.key_index_parts.specs.Ranges.{number_of}
 use Rattle.key_index_parts.proofs.builds.DoneLemmas.{split_more}
-use Rattle.key_index_parts.proofs.builds.FillLemmas.{if_err}
-use Rattle.key_index_parts.proofs.builds.RangeLemmas.{between, filled_slot, filled_covers, filled_more, below_more, fills_up}
+use Rattle.key_index_parts.proofs.builds.FillLemmas.{IfErr-IsErrAnd}
+use Rattle.key_index_parts.proofs.builds.RangeLemmas.{filled_slot, filled_covers, filled_more, below_more, fills_up}
+use Rattle.key_index_parts.specs.laws.RangeLaws.{is_between-within}
 use Rattle.key_index_parts.proofs.index.partitioned.builds.build.fill_all.Goals as goal
 
 pub fill-requires : goal.fill-requires
@@ -23,7 +24,7 @@ fill-requires g c =
     filled_covers c.ops.invariant.done (slice_index cuts at) (slice_index cuts (at + 1)) r is ((g.I.Range.Runs.view r).slot key)
     ∙ ap (λ s. is_between (slice_index cuts at) (slice_index cuts (at + 1)) (g.I.Partitioned.partition (s key))) (filled_slot c.ops.invariant.done (slice_index cuts at) (slice_index cuts (at + 1)) r is)
     ∙ ap (λ n. is_between (slice_index cuts at) (slice_index cuts (at + 1)) n) (sym (c.partition_at.ensures.is c.args.index.now))
-    ∙ between (slice_index cuts at) (slice_index cuts (at + 1)) c.partition_at.result c.place_among-at.ensures.low c.place_among-at.ensures.high
+    ∙ is_between-within (slice_index cuts at) (slice_index cuts (at + 1)) c.partition_at.result c.place_among-at.ensures.low c.place_among-at.ensures.high
 
 pub ops-preserved : goal.ops-preserved
 ops-preserved g c =
@@ -60,7 +61,7 @@ returns-in_err-fill-clause-refused g c =
     let is = was.filled.each at r (slice_get-get_or c.ops.ranges at c.index-ranges-at.result (omega (arith, long, within))) in
     let a = slice_index c.args.cuts.now at in
     let b = slice_index c.args.cuts.now (at + 1) in
-    let goes = ap (λ n. is_between a b n) (sym (c.partition_at.ensures.is c.args.index.now)) ∙ between a b c.partition_at.result c.place_among-at.ensures.low c.place_among-at.ensures.high in
+    let goes = ap (λ n. is_between a b n) (sym (c.partition_at.ensures.is c.args.index.now)) ∙ is_between-within a b c.partition_at.result c.place_among-at.ensures.low c.place_among-at.ensures.high in
     let split = ap (λ l. was.done ++ l) (sym c.in-Some.ensures.items) ∙ was.split in
-    if_err _ c.from_residual.result c.in_err-fill.field-0.0 c.from_residual.ensures.1
+    IfErr-IsErrAnd _ c.from_residual.result c.in_err-fill.field-0.0 c.from_residual.ensures.1
     (fills_up c.args.cuts.now c.args.ops.items (g.I.Runs.view c.args.index.now) c.requires.none at was.done r is (into_iter_items c.next.new.self) c.in-Some.op _ split within goes c.in_err-fill.ensures.refused)

@@ -3,7 +3,7 @@ use Rattle.std.specs.Fn.{CalledAt}
 use Rattle.std.specs.List.{flat_map}
 use Rattle.key_index_flat.specs.Values.{values_of}
 use Rattle.key_index_parts.specs.Gathered.{gathered}
-use Rattle.key_index_parts.proofs.asked.VisitLemmas.{Continues, continues, some_more, ended, values-gathered, none_left}
+use Rattle.key_index_parts.proofs.asked.VisitLemmas.{Continues, Continues-start, some_more, VisitsEach-ended, values-gathered, length-no_values}
 use Rattle.key_index_parts.proofs.index.partitioned.directory.Directory.for_each_value.Goals as goal
 
 pub loop-bucket-init : goal.loop-bucket-init
@@ -12,7 +12,7 @@ loop-bucket-init g c =
     let all : values ≡ flat_map values_of (map g.X.Held.content c.as_slice-rest.result.now) =
     values-gathered 0 c.args.self.now.contents ∙ sym (ap (λ xs. flat_map values_of (map g.X.Held.content xs)) c.as_slice-rest.ensures.value ∙ ap (λ s. flat_map values_of s.contents) c.self.view_is) in (
       c.requires,
-      subst (λ l. Continues (CalledAt g.F.FnMut) c.args.visit.now values c.args.visit.now l) all (continues (CalledAt g.F.FnMut) c.args.visit.now values),
+      subst (λ l. Continues (CalledAt g.F.FnMut) c.args.visit.now values c.args.visit.now l) all (Continues-start (CalledAt g.F.FnMut) c.args.visit.now values),
     )
 
 pub loop-bucket-smaller : goal.loop-bucket-smaller
@@ -33,5 +33,5 @@ loop-bucket-preserved g c =
 pub returns-clause-visits : goal.returns-clause-visits
 returns-clause-visits g c =
     let values = values_of (gathered c.args.self.now.contents) in
-    ended (CalledAt g.F.FnMut) c.args.visit.now c.loop-bucket.visit values (flat_map values_of (map g.X.Held.content c.loop-bucket.rest.now))
-    (none_left g.X.Held.content c.loop-bucket.rest.now c.in_default.ensures.cases) c.loop-bucket.invariant.1
+    VisitsEach-ended (CalledAt g.F.FnMut) c.args.visit.now c.loop-bucket.visit values (flat_map values_of (map g.X.Held.content c.loop-bucket.rest.now))
+    (length-no_values g.X.Held.content c.loop-bucket.rest.now c.in_default.ensures.cases) c.loop-bucket.invariant.1

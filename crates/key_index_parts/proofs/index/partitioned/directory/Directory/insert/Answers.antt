@@ -1,7 +1,7 @@
 use Rattle.std.proofs.Common.{◌≡◌, ◌<◌, true, false, not, T, List, [], ◌∷◌, length, ap, subst, sym, ◌∙◌, arith}
 use Rattle.key_index_flat.specs.Content.{is_filled, list_at}
 use Rattle.key_index_flat.specs.View.{put_value}
-use Rattle.key_index_parts.proofs.family.FamilyLemmas.{bucket_taken, list_told, bucket_edited, flags_edited, flags_stay, on_refusal, filled_held, filled_put, grows, family_stays}
+use Rattle.key_index_parts.proofs.family.FamilyLemmas.{bucket_taken, list_told, bucket_edited, flags_edited, flags_stay, on_refusal, filled_held, is_filled-with_put, GrowsIn-set, family_stays}
 use Rattle.key_index_parts.proofs.family.FamilyLemmas.{counted_buckets}
 use Rattle.key_index_parts.proofs.index.partitioned.directory.Directory.insert.Goals as goal
 
@@ -22,7 +22,7 @@ invariant_of-self-then-absent g c =
     let bucket = bucket_taken g.X.Held.content c.self.inside.buckets.items (ap (λ s. s.contents) c.self.view_is) c.requires.within c.index_mut.ensures.value in
     let x = c.index_mut.result.now in
     c.set.ensures ∙ flags_edited cmp bucket c.self.inside.filled c.insert.new.self true c.self.invariant
-    (sym (ap is_filled c.in_ok-absent.ensures.accepted.0 ∙ filled_put cmp (f x) k (list_at cmp (f x) k) g.X.Bucket.FIRST c.args.value))
+    (sym (ap is_filled c.in_ok-absent.ensures.accepted.0 ∙ is_filled-with_put cmp (f x) k (list_at cmp (f x) k) g.X.Bucket.FIRST c.args.value))
 
 pub invariant_of-self-else-absent : goal.invariant_of-self-else-absent
 invariant_of-self-else-absent g c =
@@ -33,7 +33,7 @@ invariant_of-self-else-absent g c =
     let bucket = bucket_taken g.X.Held.content c.self.inside.buckets.items (ap (λ s. s.contents) c.self.view_is) c.requires.within c.index_mut.ensures.value in
     let told = c.in_ok-absent.ensures.accepted in
     flags_stay cmp bucket c.self.inside.filled c.insert.new.self c.self.invariant
-    (ap is_filled told.0 ∙ filled_put cmp (g.X.Held.content x) k list g.X.Bucket.FIRST c.args.value
+    (ap is_filled told.0 ∙ is_filled-with_put cmp (g.X.Held.content x) k list g.X.Bucket.FIRST c.args.value
     ∙ sym (filled_held cmp (g.X.Held.content x) k (some_value list (sym c.if-absent.false ∙ told.1))))
 
 pub returns-clause-accepted : goal.returns-clause-accepted
@@ -52,7 +52,7 @@ returns-in_err-absent-clause-refused g c =
 pub returns-clause-standing : goal.returns-clause-standing
 returns-clause-standing g c =
     let bucket = bucket_taken g.X.Held.content c.self.inside.buckets.items (ap (λ s. s.contents) c.self.view_is) c.requires.within c.index_mut.ensures.value in
-    rw (← c.self.view_is) (grows bucket g.X.Held.spilled g.X.Bucket.SPILLS c.args.limit _ c.insert.new.self c.in_ok-absent.ensures.standing)
+    rw (← c.self.view_is) (GrowsIn-set bucket g.X.Held.spilled g.X.Bucket.SPILLS c.args.limit _ c.insert.new.self c.in_ok-absent.ensures.standing)
 
 pub returns-clause-counted : goal.returns-clause-counted
 returns-clause-counted g c = counted_buckets g.X.Held.content g.X.Held.spilled _
@@ -71,7 +71,7 @@ returns-then-absent-clause-accepted g c =
 pub returns-then-absent-clause-standing : goal.returns-then-absent-clause-standing
 returns-then-absent-clause-standing g c =
     let bucket = bucket_taken g.X.Held.content c.self.inside.buckets.items (ap (λ s. s.contents) c.self.view_is) c.requires.within c.index_mut.ensures.value in
-    rw (← c.self.view_is) (grows bucket g.X.Held.spilled g.X.Bucket.SPILLS c.args.limit _ c.insert.new.self c.in_ok-absent.ensures.standing)
+    rw (← c.self.view_is) (GrowsIn-set bucket g.X.Held.spilled g.X.Bucket.SPILLS c.args.limit _ c.insert.new.self c.in_ok-absent.ensures.standing)
 
 pub returns-then-absent-clause-counted : goal.returns-then-absent-clause-counted
 returns-then-absent-clause-counted g c = counted_buckets g.X.Held.content g.X.Held.spilled _

@@ -1,6 +1,6 @@
 use Rattle.std.proofs.Common.{true, [], ◌∷◌, ap, sym, ◌∙◌}
 use Rattle.key_index_flat.specs.Content.{is_filled}
-use Rattle.key_index_parts.proofs.family.FamilyLemmas.{positive, bucket_taken, bucket_edited, flags_edited, flags_stay, filled_with, grows, family_stays}
+use Rattle.key_index_parts.proofs.family.FamilyLemmas.{not_zero-positive, bucket_taken, bucket_edited, flags_edited, flags_stay, filled_with, GrowsIn-set, family_stays}
 use Rattle.key_index_parts.proofs.family.FamilyLemmas.{counted_buckets}
 use Rattle.key_index_parts.proofs.index.partitioned.directory.Directory.insert_absent.Goals as goal
 
@@ -18,7 +18,7 @@ invariant_of-self g c =
 pub invariant_of-self-in-Ok : goal.invariant_of-self-in-Ok
 invariant_of-self-in-Ok g c =
     let bucket = bucket_taken g.X.Held.content c.self.inside.buckets.items (ap (λ s. s.contents) c.self.view_is) c.requires.within c.index_mut.ensures.value in
-    flags_stay g.T.Key.Ord.cmp bucket c.self.inside.filled c.insert_absent.new.self c.self.invariant (ap is_filled (c.in-Ok.ensures.found (positive _ c.in-Ok.len-test.1)))
+    flags_stay g.T.Key.Ord.cmp bucket c.self.inside.filled c.insert_absent.new.self c.self.invariant (ap is_filled (c.in-Ok.ensures.found (not_zero-positive _ c.in-Ok.len-test.1)))
 
 pub invariant_of-self-in-Err : goal.invariant_of-self-in-Err
 invariant_of-self-in-Err g c =
@@ -35,7 +35,7 @@ returns-in-Ok-eq0-default-clause-inserted g c =
 pub returns-in-Ok-clause-found : goal.returns-in-Ok-clause-found
 returns-in-Ok-clause-found g c =
     let bucket = bucket_taken g.X.Held.content c.self.inside.buckets.items (ap (λ s. s.contents) c.self.view_is) c.requires.within c.index_mut.ensures.value in
-    λ _. rw (← c.self.view_is) (family_stays bucket g.X.Held.spilled c.insert_absent.new.self (c.in-Ok.ensures.found (positive _ c.in-Ok.len-test.1)) (c.in-Ok.ensures.found_stands (positive _ c.in-Ok.len-test.1)))
+    λ _. rw (← c.self.view_is) (family_stays bucket g.X.Held.spilled c.insert_absent.new.self (c.in-Ok.ensures.found (not_zero-positive _ c.in-Ok.len-test.1)) (c.in-Ok.ensures.found_stands (not_zero-positive _ c.in-Ok.len-test.1)))
 
 pub returns-in-Err-clause-refused : goal.returns-in-Err-clause-refused
 returns-in-Err-clause-refused g c =
@@ -45,7 +45,7 @@ returns-in-Err-clause-refused g c =
 pub returns-in-Ok-eq0-default-clause-standing : goal.returns-in-Ok-eq0-default-clause-standing
 returns-in-Ok-eq0-default-clause-standing g c =
     let bucket = bucket_taken g.X.Held.content c.self.inside.buckets.items (ap (λ s. s.contents) c.self.view_is) c.requires.within c.index_mut.ensures.value in
-    λ _. rw (← c.self.view_is) (grows bucket g.X.Held.spilled g.X.Bucket.SPILLS c.args.limit _ c.insert_absent.new.self (c.in-Ok-eq0-default.ensures.standing c.in-Ok-eq0-default.field-0-0-test))
+    λ _. rw (← c.self.view_is) (GrowsIn-set bucket g.X.Held.spilled g.X.Bucket.SPILLS c.args.limit _ c.insert_absent.new.self (c.in-Ok-eq0-default.ensures.standing c.in-Ok-eq0-default.field-0-0-test))
 
 pub returns-in-Ok-eq0-default-clause-counted : goal.returns-in-Ok-eq0-default-clause-counted
 returns-in-Ok-eq0-default-clause-counted g c = counted_buckets g.X.Held.content g.X.Held.spilled _

@@ -2,7 +2,7 @@ use Rattle.std.proofs.Common.{◌≡◌, map, set, ap, subst, ◌∙◌}
 use Rattle.std.specs.Fn.{CalledAt}
 use Rattle.key_index_flat.specs.Content.{is_filled}
 use Rattle.key_index_parts.specs.Family.{RetainsWith, with_list_in}
-use Rattle.key_index_parts.proofs.family.FamilyLemmas.{bucket_taken, not_not, list_told, bucket_edited, flags_edited, flags_stay, on_refusal, grows, family_stays}
+use Rattle.key_index_parts.proofs.family.FamilyLemmas.{bucket_taken, not_not, list_told, bucket_edited, flags_edited, flags_stay, on_refusal, GrowsIn-set, family_stays}
 use Rattle.key_index_parts.proofs.family.FamilyLemmas.{counted_buckets}
 use Rattle.key_index_parts.proofs.index.partitioned.directory.Directory.insert_and_retain.Goals as goal
 
@@ -40,7 +40,7 @@ returns-in_err-told-clause-refused g c =
 pub returns-clause-standing : goal.returns-clause-standing
 returns-clause-standing g c =
     let bucket = bucket_taken g.X.Held.content c.self.inside.buckets.items (ap (λ s. s.contents) c.self.view_is) c.requires.within c.index_mut-bucket.ensures.value in
-    rw (← c.self.view_is) (grows bucket g.X.Held.spilled g.X.Bucket.SPILLS c.args.limit _ c.insert_and_retain.new.self c.in_ok-told.ensures.standing)
+    rw (← c.self.view_is) (GrowsIn-set bucket g.X.Held.spilled g.X.Bucket.SPILLS c.args.limit _ c.insert_and_retain.new.self c.in_ok-told.ensures.standing)
 
 pub returns-clause-counted : goal.returns-clause-counted
 returns-clause-counted g c = counted_buckets g.X.Held.content g.X.Held.spilled _

@@ -1,6 +1,6 @@
 use Rattle.std.proofs.Common.{insert, true, not, ap, sym, ◌∙◌}
 use Rattle.key_index_flat.specs.Content.{is_filled, list_at}
-use Rattle.key_index_parts.proofs.family.FamilyLemmas.{bucket_taken, list_told, bucket_edited, flags_edited, flags_stay, on_refusal, filled_insert, leaves, family_stays}
+use Rattle.key_index_parts.proofs.family.FamilyLemmas.{bucket_taken, list_told, bucket_edited, flags_edited, flags_stay, on_refusal, filled_insert, LeavesIn-set, family_stays}
 use Rattle.key_index_parts.proofs.family.FamilyLemmas.{counted_buckets}
 use Rattle.key_index_parts.proofs.index.partitioned.directory.Directory.insert_at.Goals as goal
 
@@ -35,7 +35,7 @@ returns-in_err-absent-clause-refused g c =
 pub returns-clause-standing : goal.returns-clause-standing
 returns-clause-standing g c =
     let bucket = bucket_taken g.X.Held.content c.self.inside.buckets.items (ap (λ s. s.contents) c.self.view_is) c.requires.within c.index_mut.ensures.value in
-    rw (← c.self.view_is) (leaves bucket g.X.Held.spilled c.insert_at.new.self c.in_ok-absent.ensures.standing)
+    rw (← c.self.view_is) (LeavesIn-set bucket g.X.Held.spilled c.insert_at.new.self c.in_ok-absent.ensures.standing)
 
 pub returns-clause-counted : goal.returns-clause-counted
 returns-clause-counted g c = counted_buckets g.X.Held.content g.X.Held.spilled _

@@ -1,9 +1,9 @@
 use Rattle.std.proofs.Common.{◌≡◌, ◌+◌, [], length, map, refl, sym, ap, ◌∙◌, arith}
-use Rattle.std.proofs.lemmas.List.{length-map, length-set}
+use Rattle.std.proofs.lemmas.List.{length-map, length-set, nil_from_length}
 use Rattle.std.specs.Vec.Iter.{into_iter_items}
 use Rattle.key_index_parts.specs.Family.{stands, with_items_from}
 use Rattle.key_index_parts.specs.Standing.{Standing}
-use Rattle.key_index_parts.proofs.family.InstallLemmas.{put_more, put_none, no_items}
+use Rattle.key_index_parts.proofs.family.InstallLemmas.{put_more, put_none}
 use Rattle.key_index_parts.proofs.index.partitioned.directory.Directory.install.Goals as goal
 
 pub loop-bucket-init : goal.loop-bucket-init
@@ -54,11 +54,11 @@ loop-bucket-preserved g c =
 pub returns-clause-buckets : goal.returns-clause-buckets
 returns-clause-buckets g c =
     let f = g.X.Held.content in
-    let none : into_iter_items c.loop-bucket.rest ≡ [] = no_items (into_iter_items c.loop-bucket.rest) (sym c.loop-bucket.rest.rest.ok.0 ∙ c.in_default.ensures.cases.0) in
+    let none : into_iter_items c.loop-bucket.rest ≡ [] = nil_from_length (into_iter_items c.loop-bucket.rest) (sym c.loop-bucket.rest.rest.ok.0 ∙ c.in_default.ensures.cases.0) in
     sym (put_none c.loop-bucket.self.contents c.loop-bucket.number) ∙ ap (λ xs. with_items_from c.loop-bucket.self.contents c.loop-bucket.number (map f xs)) (sym none) ∙ c.loop-bucket.invariant.2
 
 pub returns-clause-standing : goal.returns-clause-standing
 returns-clause-standing g c =
     let how : g.row.X.Denot → Standing = λ x. stands (g.X.Held.content x) (g.X.Held.spilled x) in
-    let none : into_iter_items c.loop-bucket.rest ≡ [] = no_items (into_iter_items c.loop-bucket.rest) (sym c.loop-bucket.rest.rest.ok.0 ∙ c.in_default.ensures.cases.0) in
+    let none : into_iter_items c.loop-bucket.rest ≡ [] = nil_from_length (into_iter_items c.loop-bucket.rest) (sym c.loop-bucket.rest.rest.ok.0 ∙ c.in_default.ensures.cases.0) in
     sym (put_none c.loop-bucket.self.standing c.loop-bucket.number) ∙ ap (λ xs. with_items_from c.loop-bucket.self.standing c.loop-bucket.number (map how xs)) (sym none) ∙ c.loop-bucket.invariant.3

@@ -4,7 +4,7 @@ use Rattle.std.specs.Prelude.{if◌then◌else◌}
 use Rattle.key_index_flat.specs.Content.{is_filled}
 use Rattle.key_index_parts.specs.Family.{stands}
 use Rattle.key_index_parts.specs.Standing.{Standing, with_inline}
-use Rattle.key_index_parts.proofs.family.FamilyLemmas.{counted_buckets, bucket_taken, bucket_stays, flags_stay, family_stays, family_back, positive}
+use Rattle.key_index_parts.proofs.family.FamilyLemmas.{counted_buckets, bucket_taken, bucket_stays, flags_stay, family_stays, family_back, not_zero-positive}
 use Rattle.key_index_parts.proofs.index.partitioned.directory.Directory.move_back.Goals as goal
 use Rattle.key_index_parts.proofs.index.partitioned.directory.Directory.move_back.Goals.{in-Ok, in-Err}
 
@@ -22,7 +22,7 @@ pub returns-clause-standing : goal.returns-clause-standing
 returns-clause-standing g c =
     let bucket = bucket_taken g.X.Held.content c.self.inside.buckets.items (ap (λ s. s.contents) c.self.view_is) c.requires c.index_mut-bucket.ensures.value in
     let values = c.spilled_len-values.result in
-    let some : 0 < values = positive values c.if-values-eq0.false in
+    let some : 0 < values = not_zero-positive values c.if-values-eq0.false in
     let how : g.row.X.Denot → Standing = λ x. stands (g.X.Held.content x) (g.X.Held.spilled x) in
     let was = c.args.self.now.standing in
     let now = map how (set c.self.inside.buckets.items c.args.number c.move_back.new.self) in

@@ -1,6 +1,6 @@
 use Rattle.std.proofs.Common.{◌∙◌, ap}
 use Rattle.std.proofs.lemmas.List.{map-set}
-use Rattle.key_index_parts.proofs.family.FamilyLemmas.{bucket_taken, not_not, flags_edited, listed}
+use Rattle.key_index_parts.proofs.family.FamilyLemmas.{bucket_taken, not_not, flags_edited, within_mapped}
 use Rattle.key_index_parts.specs.Family.{stands}
 use Rattle.key_index_parts.proofs.index.partitioned.directory.Directory.put.Goals as goal
 
@@ -19,4 +19,4 @@ returns-clause-standing g c =
 pub returns-clause-listed : goal.returns-clause-listed
 returns-clause-listed g c =
     let bucket = bucket_taken g.X.Held.content c.self.inside.buckets.items (ap (λ s. s.contents) c.self.view_is) c.requires c.index_mut.ensures.value in
-    rw (← c.self.view_is) (listed bucket g.X.Held.spilled)
+    rw (← c.self.view_is) (within_mapped bucket g.X.Held.spilled)

@@ -1,5 +1,5 @@
 use Rattle.std.proofs.Common.{[], ◌∙◌, ap, arith}
-use Rattle.key_index_parts.proofs.family.FamilyLemmas.{bucket_taken, not_not, bucket_edited, flags_edited, leaves, left_fewer}
+use Rattle.key_index_parts.proofs.family.FamilyLemmas.{bucket_taken, not_not, bucket_edited, flags_edited, LeavesIn-set, left_fewer}
 use Rattle.key_index_parts.proofs.family.FamilyLemmas.{counted_buckets}
 use Rattle.key_index_parts.proofs.index.partitioned.directory.Directory.remove.Goals as goal
 
@@ -17,7 +17,7 @@ returns-clause-buckets g c =
 pub returns-clause-standing : goal.returns-clause-standing
 returns-clause-standing g c =
     let bucket = bucket_taken g.X.Held.content c.self.inside.buckets.items (ap (λ s. s.contents) c.self.view_is) c.requires c.index_mut-bucket.ensures.value in
-    rw (← c.self.view_is) (leaves bucket g.X.Held.spilled c.remove-taken.new.self c.remove-taken.ensures.standing)
+    rw (← c.self.view_is) (LeavesIn-set bucket g.X.Held.spilled c.remove-taken.new.self c.remove-taken.ensures.standing)
 
 pub returns-clause-fewer : goal.returns-clause-fewer
 returns-clause-fewer g c =

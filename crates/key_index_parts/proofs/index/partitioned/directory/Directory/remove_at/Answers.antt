@@ -1,5 +1,5 @@
 use Rattle.std.proofs.Common.{remove, ◌∙◌, ap}
-use Rattle.key_index_parts.proofs.family.FamilyLemmas.{held_within, bucket_taken, not_not, bucket_edited, flags_edited, leaves}
+use Rattle.key_index_parts.proofs.family.FamilyLemmas.{held_within, bucket_taken, not_not, bucket_edited, flags_edited, LeavesIn-set}
 use Rattle.key_index_parts.proofs.family.FamilyLemmas.{counted_buckets}
 use Rattle.key_index_parts.proofs.index.partitioned.directory.Directory.remove_at.Goals as goal
 
@@ -19,7 +19,7 @@ returns-clause-buckets g c =
 pub returns-clause-standing : goal.returns-clause-standing
 returns-clause-standing g c =
     let bucket = bucket_taken g.X.Held.content c.self.inside.buckets.items (ap (λ s. s.contents) c.self.view_is) (held_within g.T.Key.Ord.cmp c.args.self.now.contents c.args.slot c.args.place c.requires) c.index_mut-bucket.ensures.value in
-    rw (← c.self.view_is) (leaves bucket g.X.Held.spilled c.remove_at-removed.new.self c.remove_at-removed.ensures.standing)
+    rw (← c.self.view_is) (LeavesIn-set bucket g.X.Held.spilled c.remove_at-removed.new.self c.remove_at-removed.ensures.standing)
 
 pub returns-clause-counted : goal.returns-clause-counted
 returns-clause-counted g c = counted_buckets g.X.Held.content g.X.Held.spilled _

@@ -1,7 +1,7 @@
 use Rattle.std.proofs.Common.{subst, ◌∙◌, ap}
 use Rattle.std.specs.Fn.{CalledAt}
 use Rattle.std.specs.List.Retain.{IsFiltered}
-use Rattle.key_index_parts.proofs.family.FamilyLemmas.{bucket_taken, not_not, list_told, bucket_edited, flags_edited, leaves, left_fewer}
+use Rattle.key_index_parts.proofs.family.FamilyLemmas.{bucket_taken, not_not, list_told, bucket_edited, flags_edited, LeavesIn-set, left_fewer}
 use Rattle.key_index_parts.proofs.family.BucketLemmas.{kept_at_most}
 use Rattle.key_index_parts.proofs.family.FamilyLemmas.{counted_buckets}
 use Rattle.key_index_parts.proofs.index.partitioned.directory.Directory.retain.Goals as goal
@@ -27,7 +27,7 @@ returns-clause-kept g c =
 pub returns-clause-standing : goal.returns-clause-standing
 returns-clause-standing g c =
     let bucket = bucket_taken g.X.Held.content c.self.inside.buckets.items (ap (λ s. s.contents) c.self.view_is) c.requires.within c.index_mut-bucket.ensures.value in
-    rw (← c.self.view_is) (leaves bucket g.X.Held.spilled c.retain-counts.new.self c.retain-counts.ensures.standing)
+    rw (← c.self.view_is) (LeavesIn-set bucket g.X.Held.spilled c.retain-counts.new.self c.retain-counts.ensures.standing)
 
 pub returns-clause-fewer : goal.returns-clause-fewer
 returns-clause-fewer g c =

@@ -2,7 +2,7 @@ use Rattle.std.proofs.Common.{◌<◌, length, slice_set, ap, sym, subst, ◌∙
 use Rattle.std.proofs.Math.ListN.{length-set}
 use Rattle.key_index_flat.specs.Content.{is_filled, list_at}
 use Rattle.key_index_parts.specs.Family.{list_in}
-use Rattle.key_index_parts.proofs.family.FamilyLemmas.{held_within, bucket_taken, list_told, bucket_edited, flags_stay, filled_by, filled_held, leaves}
+use Rattle.key_index_parts.proofs.family.FamilyLemmas.{held_within, bucket_taken, list_told, bucket_edited, flags_stay, is_filled-with_list, filled_held, LeavesIn-set}
 use Rattle.key_index_parts.proofs.family.FamilyLemmas.{counted_buckets}
 use Rattle.key_index_parts.proofs.index.partitioned.directory.Directory.set_at.Goals as goal
 
@@ -17,7 +17,7 @@ invariant_of-self g c =
     let held : c.args.place < length l = subst (λ m. c.args.place < length m) (ap (λ s. list_in cmp s.contents c.args.slot) (sym c.self.view_is) ∙ sym (list_told cmp bucket k)) c.requires in
     let same = length-set l c.args.place c.args.value in
     flags_stay cmp bucket c.self.inside.filled c.set_at.new.self c.self.invariant
-    (ap is_filled c.set_at.ensures.content ∙ filled_by cmp (f x) k (slice_set l c.args.place c.args.value) (omega (arith, same, held)) ∙ sym (filled_held cmp (f x) k (omega (arith, held))))
+    (ap is_filled c.set_at.ensures.content ∙ is_filled-with_list cmp (f x) k (slice_set l c.args.place c.args.value) (omega (arith, same, held)) ∙ sym (filled_held cmp (f x) k (omega (arith, held))))
 
 pub returns-clause-buckets : goal.returns-clause-buckets
 returns-clause-buckets g c =
@@ -29,7 +29,7 @@ returns-clause-buckets g c =
 pub returns-clause-standing : goal.returns-clause-standing
 returns-clause-standing g c =
     let bucket = bucket_taken g.X.Held.content c.self.inside.buckets.items (ap (λ s. s.contents) c.self.view_is) (held_within g.T.Key.Ord.cmp c.args.self.now.contents c.args.slot c.args.place c.requires) c.index_mut.ensures.value in
-    rw (← c.self.view_is) (leaves bucket g.X.Held.spilled c.set_at.new.self c.set_at.ensures.standing)
+    rw (← c.self.view_is) (LeavesIn-set bucket g.X.Held.spilled c.set_at.new.self c.set_at.ensures.standing)
 
 pub returns-clause-counted : goal.returns-clause-counted
 returns-clause-counted g c = counted_buckets g.X.Held.content g.X.Held.spilled _

@@ -1,9 +1,9 @@
 use Rattle.std.proofs.Common.{rules, ◌∙◌, arith}
-use Rattle.key_index_parts.proofs.keys.PrefixLemmas.{shifted}
+use Rattle.key_index_parts.proofs.keys.PrefixLemmas.{partition_count-power}
 use Rattle.key_index_parts.proofs.index.partitioned.ordered.Index.with_threshold.Goals as goal
 
 pub new-requires : goal.new-requires
-new-requires g c = let is = shifted g.row.P c.requires.greatest in (search rules, (c.requires.least, (c.requires.greatest, (c.requires.threshold, omega (arith, is)))))
+new-requires g c = let is = partition_count-power g.row.P c.requires.greatest in (search rules, (c.requires.least, (c.requires.greatest, (c.requires.threshold, omega (arith, is)))))
 
 pub invariant_of-result : goal.invariant_of-result
 invariant_of-result g c = record {
@@ -11,6 +11,6 @@ invariant_of-result g c = record {
     least = c.requires.least;
     greatest = c.requires.greatest;
     lawful = c.in-Ok.ensures.lawful;
-    whole = c.in-Ok.ensures.sized ∙ shifted g.row.P c.requires.greatest;
+    whole = c.in-Ok.ensures.sized ∙ partition_count-power g.row.P c.requires.greatest;
   };
 }

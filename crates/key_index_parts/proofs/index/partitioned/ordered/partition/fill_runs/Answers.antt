@@ -1,6 +1,6 @@
 use Rattle.std.proofs.Common.{◌<◌, length, sym, ◌∙◌, arith}
 use Rattle.std.proofs.lemmas.List.{length-set}
-use Rattle.key_index_parts.proofs.pairs.DrainLemmas.{run_empty, run_enough, run_filled, rooms_left, values_left}
+use Rattle.key_index_parts.proofs.pairs.DrainLemmas.{run_empty, run_enough, run_filled, rooms_left, flat_map-rest}
 use Rattle.key_index_parts.proofs.index.partitioned.ordered.partition.fill_runs.Goals as goal
 
 pub fill-requires-clause-empty : goal.fill-requires-clause-empty
@@ -40,5 +40,5 @@ loop-place-preserved g c =
       empty = λ k rooms flat.
           rooms_left k rs place run within c.index_mut.ensures.value (c.loop-place.invariant.empty k rooms flat) _ (c.loop-place.invariant.left k rooms flat) c.fill.new.run;
       left = λ k rooms flat.
-          values_left k rs place run within c.index_mut.ensures.value (c.loop-place.invariant.empty k rooms flat) _ (c.loop-place.invariant.left k rooms flat) _ c.fill.ensures.left;
+          flat_map-rest k rs place run within c.index_mut.ensures.value (c.loop-place.invariant.empty k rooms flat) _ (c.loop-place.invariant.left k rooms flat) _ c.fill.ensures.left;
     }

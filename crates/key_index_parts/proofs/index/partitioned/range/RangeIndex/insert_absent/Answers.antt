@@ -4,7 +4,7 @@ use Rattle.key_index_flat.specs.Content.{item_count}
 use Rattle.key_index_parts.specs.Family.{view_from}
 use Rattle.key_index_parts.specs.Gathered.{gathered}
 use Rattle.key_index_parts.specs.Standing.{Refuses, Settles}
-use Rattle.key_index_parts.proofs.family.ShiftedLemmas.{if_ok, if_err, on_ok, on_err, items_from, read_from, seen_edited}
+use Rattle.key_index_parts.proofs.family.ShiftedLemmas.{if_ok, IfErr-implied, OnOk-implied, OnErr-implied, items_from, read_from, seen_edited}
 use Rattle.key_index_parts.proofs.standing.StandingLemmas.{left_standing}
 use Rattle.key_index_parts.proofs.index.partitioned.range.RangeIndex.insert_absent.Goals as goal
 
@@ -24,12 +24,12 @@ returns-clause-len g c =
 pub returns-clause-room : goal.returns-clause-room
 returns-clause-room g c =
     let range = c.args.self.now in
-    on_ok c.insert_absent.result _ _ (λ h. subst (λ n. n < 2 ^ 64 - 1) (items_from range.offset range.storage.buckets) h) c.insert_absent.ensures.room
+    OnOk-implied c.insert_absent.result _ _ (λ h. subst (λ n. n < 2 ^ 64 - 1) (items_from range.offset range.storage.buckets) h) c.insert_absent.ensures.room
 
 pub returns-clause-fault : goal.returns-clause-fault
 returns-clause-fault g c =
     let range = c.args.self.now in
-    if_err c.insert_absent.result _ _ (λ r e. e ∙ ap (λ n. growth_fault n) (items_from range.offset range.storage.buckets)) c.insert_absent.ensures.fault
+    IfErr-implied c.insert_absent.result _ _ (λ r e. e ∙ ap (λ n. growth_fault n) (items_from range.offset range.storage.buckets)) c.insert_absent.ensures.fault
 
 pub returns-clause-found : goal.returns-clause-found
 returns-clause-found g c =
@@ -39,12 +39,12 @@ returns-clause-found g c =
 pub returns-clause-refused : goal.returns-clause-refused
 returns-clause-refused g c =
     let range = c.args.self.now in
-    on_err c.insert_absent.result _ _ (λ e. ap (λ s. view_from g.row.P g.T.Translator.translated range.offset s) e) c.insert_absent.ensures.refused
+    OnErr-implied c.insert_absent.result _ _ (λ e. ap (λ s. view_from g.row.P g.T.Translator.translated range.offset s) e) c.insert_absent.ensures.refused
 
 pub returns-clause-settled : goal.returns-clause-settled
 returns-clause-settled g c =
     let range = c.args.self.now in
-    on_ok c.insert_absent.result _ _ (λ h. (
+    OnOk-implied c.insert_absent.result _ _ (λ h. (
       (refl, c.insert_absent.ensures.kept.sized),
       λ is.
           subst (λ n. Settles range.storage.standings n c.insert_absent.new.self.standings) c.own-own.ensures.number (h is),
@@ -53,7 +53,7 @@ returns-clause-settled g c =
 pub returns-clause-left : goal.returns-clause-left
 returns-clause-left g c =
     let range = c.args.self.now in
-    on_err c.insert_absent.result _ _ (λ h. (
+    OnErr-implied c.insert_absent.result _ _ (λ h. (
       (refl, c.insert_absent.ensures.kept.sized),
       λ is.
           subst (λ n. Refuses (item_count (gathered range.storage.buckets)) range.storage.standings n c.insert_absent.new.self.standings) c.own-own.ensures.number

@@ -2,7 +2,7 @@ use Rattle.std.proofs.Common.{refl, ap, subst, inl, ◌&&◌}
 use Rattle.key_index_flat.specs.Fault.{IsWant}
 use Rattle.key_index_parts.specs.Family.{view_from}
 use Rattle.key_index_parts.specs.Standing.{Settles, is_reached}
-use Rattle.key_index_parts.proofs.family.ShiftedLemmas.{if_err, on_ok, on_err}
+use Rattle.key_index_parts.proofs.family.ShiftedLemmas.{IfErr-implied, OnOk-implied, OnErr-implied}
 use Rattle.key_index_parts.proofs.index.partitioned.range.RangeIndex.settle.Goals as goal
 
 pub returns-clause-view : goal.returns-clause-view
@@ -11,7 +11,7 @@ returns-clause-view g c = ap (λ s. view_from g.row.P g.T.Translator.translated 
 pub returns-clause-settled : goal.returns-clause-settled
 returns-clause-settled g c =
     let range = c.args.self.now in
-    on_ok c.settle.result _ _ (λ h. (
+    OnOk-implied c.settle.result _ _ (λ h. (
       (refl, c.settle.ensures.kept.sized),
       λ is.
           subst (λ n. Settles range.storage.standings n c.settle.new.self.standings) c.own-own.ensures.number (h is),
@@ -19,9 +19,9 @@ returns-clause-settled g c =
 
 pub returns-clause-left : goal.returns-clause-left
 returns-clause-left g c =
-    on_err c.settle.result _ _ (λ h. ((refl, c.settle.ensures.kept.sized), λ is. inl (ap (λ s. s.standings) h))) c.settle.ensures.refused
+    OnErr-implied c.settle.result _ _ (λ h. ((refl, c.settle.ensures.kept.sized), λ is. inl (ap (λ s. s.standings) h))) c.settle.ensures.refused
 
 pub returns-clause-want : goal.returns-clause-want
 returns-clause-want g c =
     let range = c.args.self.now in
-    if_err c.settle.result _ _ (λ f h. subst (λ n. IsWant f (g.X.Bucket.SPILLS && is_reached range.storage.standings n)) c.own-own.ensures.number h) c.settle.ensures.want
+    IfErr-implied c.settle.result _ _ (λ f h. subst (λ n. IsWant f (g.X.Bucket.SPILLS && is_reached range.storage.standings n)) c.own-own.ensures.number h) c.settle.ensures.want

@@ -5,7 +5,7 @@ use Rattle.key_index_flat.specs.View.{View, InsertsAndRetains}
 use Rattle.key_index_parts.specs.Family.{Kept, settled_in, view_of}
 use Rattle.key_index_parts.specs.Gathered.{gathered, pair_cmp}
 use Rattle.key_index_parts.specs.Standing.{entries_at, with_entries}
-use Rattle.key_index_parts.proofs.standing.StandingLemmas.{resettles}
+use Rattle.key_index_parts.proofs.standing.StandingLemmas.{Resettles-MovesBack}
 use Rattle.key_index_parts.proofs.family.StorageLemmas.{kept_twice, memory_fault}
 use Rattle.key_index_parts.proofs.index.partitioned.storage.Storage.insert_and_retain.Goals as goal
 
@@ -36,7 +36,7 @@ returns-in-Ok-put_and_retain-clause-settled g c = λ is.
     let left = c.put_and_retain.new.self.standings in
     let n = c.args.slot.0 in
     let raised = ap (λ s. s.standings) c.in-Ok.ensures.settled ∙ ap (λ b. settled_in b old n) is in
-    resettles old left c.move_back.new.self.standings n c.in-Ok.ensures.within c.in-Ok.ensures.least
+    Resettles-MovesBack old left c.move_back.new.self.standings n c.in-Ok.ensures.within c.in-Ok.ensures.least
     (c.in-Ok-put_and_retain.ensures.standing ∙ (λ i. settled_in (is i) (with_entries (raised i) n (entries_at left n)) n))
     c.move_back.ensures.back
 

@@ -3,16 +3,16 @@ use Rattle.std.proofs.lemmas.List.Edits.{length-insert}
 use Rattle.key_index_flat.specs.Content.{item_count}
 use Rattle.key_index_parts.specs.Gathered.{gathered}
 use Rattle.key_index_parts.specs.Family.{held_at, list_in}
-use Rattle.key_index_parts.proofs.family.StorageLemmas.{list_is, within, keys_below, counted_gain, keeps, keeps_all, view_edited}
+use Rattle.key_index_parts.proofs.family.StorageLemmas.{list_at-gathered_buckets, within_buckets, keys_below, counted_gain, KeepsBuckets-edited, keeps_all, view_edited}
 use Rattle.key_index_parts.proofs.standing.MoveLemmas.{credit_pays, range_pays}
-use Rattle.key_index_parts.proofs.standing.PaidLemmas.{edit_paid}
-use Rattle.key_index_parts.proofs.standing.StandingLemmas.{none_more}
+use Rattle.key_index_parts.proofs.standing.PaidLemmas.{IsPaid-LeavesIn}
+use Rattle.key_index_parts.proofs.standing.StandingLemmas.{pruned_after-zero}
 use Rattle.key_index_parts.proofs.index.partitioned.storage.Storage.insert_at.Goals as goal
 
 pub insert_at-requires : goal.insert_at-requires
 insert_at-requires g c =
     let seen = subst (λ s. c.args.place ≤ length (held_at g.T.Key.Ord.cmp s.buckets c.args.slot)) (sym c.self.view_is) c.requires.place in
-    record { within = within c.self.view_is c.args.slot.0 c.requires.admits; place = subst (λ l. c.args.place ≤ length l) (list_is c.self.invariant c.args.slot) seen }
+    record { within = within_buckets c.self.view_is c.args.slot.0 c.requires.admits; place = subst (λ l. c.args.place ≤ length l) (list_at-gathered_buckets c.self.invariant c.args.slot) seen }
 
 pub gain-requires : goal.gain-requires
 gain-requires g c =
@@ -25,16 +25,16 @@ gain-requires g c =
 pub invariant_of-self : goal.invariant_of-self
 invariant_of-self g c =
     let list = list_in g.T.Key.Ord.cmp c.self.inside.buckets.contents c.args.slot in
-    let inside = within c.self.view_is c.args.slot.0 c.requires.admits in
+    let inside = within_buckets c.self.view_is c.args.slot.0 c.requires.admits in
     let seen = subst (λ s. c.args.place ≤ length (held_at g.T.Key.Ord.cmp s.buckets c.args.slot)) (sym c.self.view_is) c.requires.place in
-    let more = length-insert list c.args.place c.args.value (subst (λ l. c.args.place ≤ length l) (list_is c.self.invariant c.args.slot) seen) in
+    let more = length-insert list c.args.place c.args.value (subst (λ l. c.args.place ≤ length l) (list_at-gathered_buckets c.self.invariant c.args.slot) seen) in
     let told = c.in-Ok.ensures.accepted in
     counted_gain c.self.invariant g.met.T.Key.Ord.total g.met.T.Translator.exact c.args.slot (insert list c.args.place c.args.value) c.insert_at.new.self.contents inside told.0 _ _ c.in-Ok.absent told.1
     (omega (arith, more)) c.gain.ensures.items c.gain.ensures.keys
 
 pub returns-in-Ok-clause-accepted : goal.returns-in-Ok-clause-accepted
 returns-in-Ok-clause-accepted g c =
-    let inside = within c.self.view_is c.args.slot.0 c.requires.admits in
+    let inside = within_buckets c.self.view_is c.args.slot.0 c.requires.admits in
     rw (← c.self.view_is) (
     view_edited c.self.invariant g.met.T.Key.Ord.total g.met.T.Translator.exact c.args.slot _ c.insert_at.new.self.contents inside c.in-Ok.ensures.accepted.0 g.T.Translator.translated c.self.inside.translator _ _ (λ l. insert l c.args.place c.args.value) refl c.gain.ensures.pruned
     )
@@ -44,8 +44,8 @@ returns-then-is_full-clause-kept g c = rw (← c.self.view_is) (keeps_all c.self
 
 pub returns-in-Ok-clause-kept : goal.returns-in-Ok-clause-kept
 returns-in-Ok-clause-kept g c =
-    let inside = within c.self.view_is c.args.slot.0 c.requires.admits in
-    rw (← c.self.view_is) (keeps c.self.invariant g.met.T.Key.Ord.total g.met.T.Translator.exact c.args.slot _ c.insert_at.new.self.contents inside c.in-Ok.ensures.accepted.0)
+    let inside = within_buckets c.self.view_is c.args.slot.0 c.requires.admits in
+    rw (← c.self.view_is) (KeepsBuckets-edited c.self.invariant g.met.T.Key.Ord.total g.met.T.Translator.exact c.args.slot _ c.insert_at.new.self.contents inside c.in-Ok.ensures.accepted.0)
 
 pub returns-in-Err-clause-kept : goal.returns-in-Err-clause-kept
 returns-in-Err-clause-kept g c = rw (← c.self.view_is) (keeps_all c.self.invariant _ (ap (λ s. s.contents) c.in-Err.ensures.refused))
@@ -53,15 +53,15 @@ returns-in-Err-clause-kept g c = rw (← c.self.view_is) (keeps_all c.self.invar
 pub invariant_of-self-inside : goal.invariant_of-self-inside
 invariant_of-self-inside g c =
     let list = list_in g.T.Key.Ord.cmp c.self.inside.buckets.contents c.args.slot in
-    let inside = within c.self.view_is c.args.slot.0 c.requires.admits in
+    let inside = within_buckets c.self.view_is c.args.slot.0 c.requires.admits in
     let seen = subst (λ s. c.args.place ≤ length (held_at g.T.Key.Ord.cmp s.buckets c.args.slot)) (sym c.self.view_is) c.requires.place in
-    let more = length-insert list c.args.place c.args.value (subst (λ l. c.args.place ≤ length l) (list_is c.self.invariant c.args.slot) seen) in
-    (c.self.inside.least, (c.insert_at.ensures.counted, (edit_paid c.self.invariant g.met.T.Key.Ord.total c.args.slot (insert list c.args.place c.args.value) c.insert_at.new.self.contents inside c.in-Ok.ensures.accepted.0 c.self.inside.buckets.standing _ c.self.inside.told c.insert_at.ensures.counted c.self.inside.threshold c.self.inside.moves.spills c.self.inside.moves.moved c.self.inside.counts.pruned _ 0 (omega (arith, more)) (c.gain.ensures.pruned ∙ sym (none_more c.self.inside.counts.pruned)) credit_pays c.in-Ok.ensures.standing c.self.inside.within, tt)))
+    let more = length-insert list c.args.place c.args.value (subst (λ l. c.args.place ≤ length l) (list_at-gathered_buckets c.self.invariant c.args.slot) seen) in
+    (c.self.inside.least, (c.insert_at.ensures.counted, (IsPaid-LeavesIn c.self.invariant g.met.T.Key.Ord.total c.args.slot (insert list c.args.place c.args.value) c.insert_at.new.self.contents inside c.in-Ok.ensures.accepted.0 c.self.inside.buckets.standing _ c.self.inside.told c.insert_at.ensures.counted c.self.inside.threshold c.self.inside.moves.spills c.self.inside.moves.moved c.self.inside.counts.pruned _ 0 (omega (arith, more)) (c.gain.ensures.pruned ∙ sym (pruned_after-zero c.self.inside.counts.pruned)) credit_pays c.in-Ok.ensures.standing c.self.inside.within, tt)))
 
 pub returns-in-Ok-clause-range_bound : goal.returns-in-Ok-clause-range_bound
 returns-in-Ok-clause-range_bound g c =
     let list = list_in g.T.Key.Ord.cmp c.self.inside.buckets.contents c.args.slot in
-    let inside = within c.self.view_is c.args.slot.0 c.requires.admits in
+    let inside = within_buckets c.self.view_is c.args.slot.0 c.requires.admits in
     let seen = subst (λ s. c.args.place ≤ length (held_at g.T.Key.Ord.cmp s.buckets c.args.slot)) (sym c.self.view_is) c.requires.place in
-    let more = length-insert list c.args.place c.args.value (subst (λ l. c.args.place ≤ length l) (list_is c.self.invariant c.args.slot) seen) in
-    rw (← c.self.view_is) (edit_paid c.self.invariant g.met.T.Key.Ord.total c.args.slot (insert list c.args.place c.args.value) c.insert_at.new.self.contents inside c.in-Ok.ensures.accepted.0 c.self.inside.buckets.standing _ c.self.inside.told c.insert_at.ensures.counted c.self.inside.threshold c.self.inside.moves.spills c.self.inside.moves.moved c.self.inside.counts.pruned _ 0 (omega (arith, more)) (c.gain.ensures.pruned ∙ sym (none_more c.self.inside.counts.pruned)) range_pays c.in-Ok.ensures.standing)
+    let more = length-insert list c.args.place c.args.value (subst (λ l. c.args.place ≤ length l) (list_at-gathered_buckets c.self.invariant c.args.slot) seen) in
+    rw (← c.self.view_is) (IsPaid-LeavesIn c.self.invariant g.met.T.Key.Ord.total c.args.slot (insert list c.args.place c.args.value) c.insert_at.new.self.contents inside c.in-Ok.ensures.accepted.0 c.self.inside.buckets.standing _ c.self.inside.told c.insert_at.ensures.counted c.self.inside.threshold c.self.inside.moves.spills c.self.inside.moves.moved c.self.inside.counts.pruned _ 0 (omega (arith, more)) (c.gain.ensures.pruned ∙ sym (pruned_after-zero c.self.inside.counts.pruned)) range_pays c.in-Ok.ensures.standing)

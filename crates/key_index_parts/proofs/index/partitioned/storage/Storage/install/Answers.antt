@@ -5,7 +5,7 @@ use Rattle.key_index_parts.specs.Moves.{IsRangeWithin, IsWithin}
 use Rattle.key_index_parts.specs.Standing.{Standing, Standings, standing_in, standings_of}
 use Rattle.key_index_parts.proofs.family.InstallLemmas as put
 use Rattle.key_index_parts.proofs.standing.MoveLemmas.{install_within}
-use Rattle.key_index_parts.proofs.standing.PaidLemmas.{counted_joined, counted_size, free_entries}
+use Rattle.key_index_parts.proofs.standing.PaidLemmas.{counted_joined, counted_size, entries-AreFree}
 use Rattle.key_index_parts.proofs.family.StorageLemmas as of_storage
 use Rattle.key_index_parts.proofs.index.partitioned.storage.Storage.install.Goals as goal
 
@@ -39,7 +39,7 @@ invariant_of-self-inside g c =
     let old : Standings = record { threshold = own.threshold; buckets = own.buckets.standing; spills = own.moves.spills; moved = own.moves.moved } in
     let range : Standings = record { threshold = other.threshold; buckets = other.buckets.standing; spills = other.moves.spills; moved = other.moves.moved } in
     let none : (n : ℕ) → start ≤ n → n < start + length other.buckets.standing → (standing_in own.buckets.standing n).entries ≡ 0 = λ n from upto.
-    free_entries own.buckets.contents own.buckets.standing own.told start (length other.buckets.contents) fits gap n from (omega (arith, upto, more)) in
+    entries-AreFree own.buckets.contents own.buckets.standing own.told start (length other.buckets.contents) fits gap n from (omega (arith, upto, more)) in
     let apart = subst (λ k. IsRangeWithin k.standings k.pruned) (sym c.range.view_is) c.requires.within in (
       own.least,
       (
@@ -60,7 +60,7 @@ invariant_of-self g c =
     let start = c.args.first in
     let fits = put.fits_inside cmp start c.self.view_is c.range.view_is c.requires.fits in
     let free = put.free_inside cmp start c.self.view_is c.range.view_is c.requires.free in
-    put.counted g.met.T.Key.Ord.total g.met.T.Translator.exact c.self.invariant c.range.invariant start fits free c.install.new.self.contents c.install.ensures.buckets _ _ c.join.ensures.items c.join.ensures.keys
+    put.IsCounted-installed g.met.T.Key.Ord.total g.met.T.Translator.exact c.self.invariant c.range.invariant start fits free c.install.new.self.contents c.install.ensures.buckets _ _ c.join.ensures.items c.join.ensures.keys
 
 pub returns-clause-joined : goal.returns-clause-joined
 returns-clause-joined g c =
@@ -78,4 +78,4 @@ returns-clause-kept g c =
     let start = c.args.first in
     let fits = put.fits_inside cmp start c.self.view_is c.range.view_is c.requires.fits in
     let free = put.free_inside cmp start c.self.view_is c.range.view_is c.requires.free in
-    rw (← c.self.view_is) (put.keeps g.met.T.Key.Ord.total g.met.T.Translator.exact c.self.invariant c.range.invariant start fits free c.install.new.self.contents c.install.ensures.buckets)
+    rw (← c.self.view_is) (put.KeepsBuckets-installed g.met.T.Key.Ord.total g.met.T.Translator.exact c.self.invariant c.range.invariant start fits free c.install.new.self.contents c.install.ensures.buckets)

@@ -1,13 +1,13 @@
 use Rattle.std.proofs.Common.{arith}
 use Rattle.key_index_parts.specs.Standing.{Standings, standings_of}
-use Rattle.key_index_parts.proofs.family.StorageLemmas.{within, keeps_all, same_but}
+use Rattle.key_index_parts.proofs.family.StorageLemmas.{within_buckets, keeps_all, same_but}
 use Rattle.key_index_parts.proofs.standing.StandingLemmas.{moved_back}
 use Rattle.key_index_parts.proofs.standing.MoveLemmas.{back_within}
 use Rattle.key_index_parts.proofs.standing.PaidLemmas.{counted_size}
 use Rattle.key_index_parts.proofs.index.partitioned.storage.Storage.move_back.Goals as goal
 
 pub move_back-moved-requires : goal.move_back-moved-requires
-move_back-moved-requires g c = within c.self.view_is c.args.number c.requires
+move_back-moved-requires g c = within_buckets c.self.view_is c.args.number c.requires
 
 pub returns-clause-back : goal.returns-clause-back
 returns-clause-back g c =
@@ -28,7 +28,7 @@ invariant_of-self-inside g c =
     let old : Standings = standings_of c.self.inside.threshold c.self.inside.buckets.standing c.self.inside.moves.spills c.self.inside.moves.moved in
     let told = c.move_back-moved.ensures in
     let size = counted_size c.self.inside.buckets.contents c.self.inside.buckets.standing c.self.inside.told in
-    let inside = within c.self.view_is c.args.number c.requires in (
+    let inside = within_buckets c.self.view_is c.args.number c.requires in (
       c.self.inside.least,
       (
         c.move_back-moved.ensures.counted,

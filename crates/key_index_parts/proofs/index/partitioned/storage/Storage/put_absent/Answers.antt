@@ -1,18 +1,18 @@
 use Rattle.std.proofs.Common.{◌≡◌, [], ◌∷◌, length, not, true, refl, ap, sym, ◌∙◌, arith}
+use Rattle.std.proofs.lemmas.List.{nil_from_length}
 use Rattle.key_index_flat.specs.Content.{is_filled}
 use Rattle.key_index_parts.specs.Family.{list_in}
-use Rattle.key_index_parts.proofs.family.InstallLemmas.{no_items}
 use Rattle.key_index_flat.specs.Content.{item_count}
 use Rattle.key_index_parts.specs.Gathered.{gathered}
-use Rattle.key_index_parts.proofs.family.StorageLemmas.{list_is, within, keys_below, counted_gain, keeps, keeps_all, view_edited}
-use Rattle.key_index_parts.proofs.standing.StandingLemmas.{grows_to, none_more}
+use Rattle.key_index_parts.proofs.family.StorageLemmas.{list_at-gathered_buckets, within_buckets, keys_below, counted_gain, KeepsBuckets-edited, keeps_all, view_edited}
+use Rattle.key_index_parts.proofs.standing.StandingLemmas.{grows_to, pruned_after-zero}
 use Rattle.key_index_parts.proofs.standing.MoveLemmas.{credit_pays, range_pays}
 use Rattle.key_index_parts.proofs.standing.PaidLemmas.{growth_paid, listed_by}
 use Rattle.key_index_parts.specs.Standing.{standings_of}
 use Rattle.key_index_parts.proofs.index.partitioned.storage.Storage.put_absent.Goals as goal
 
 pub insert_absent-requires : goal.insert_absent-requires
-insert_absent-requires g c = record { within = within c.self.view_is c.args.slot.0 c.requires.within; limit = c.self.inside.least }
+insert_absent-requires g c = record { within = within_buckets c.self.view_is c.args.slot.0 c.requires.within; limit = c.self.inside.least }
 
 pub gain-requires : goal.gain-requires
 gain-requires g c =
@@ -24,16 +24,16 @@ gain-requires g c =
 pub invariant_of-self : goal.invariant_of-self
 invariant_of-self g c =
     let list = list_in g.T.Key.Ord.cmp c.self.inside.buckets.contents c.args.slot in
-    let inside = within c.self.view_is c.args.slot.0 c.requires.within in
+    let inside = within_buckets c.self.view_is c.args.slot.0 c.requires.within in
     let zero = c.in-Ok-eq0-default.field-0-0-test in
     let none : length list ≡ 0 = sym c.in-Ok-eq0-default.ensures.len ∙ zero in
-    let absent : true ≡ not (is_filled list) = ap (λ l. not (is_filled l)) (sym (no_items list none)) in
+    let absent : true ≡ not (is_filled list) = ap (λ l. not (is_filled l)) (sym (nil_from_length list none)) in
     counted_gain c.self.invariant g.met.T.Key.Ord.total g.met.T.Translator.exact c.args.slot (c.args.value ∷ []) c.insert_absent.new.self.contents inside (c.in-Ok-eq0-default.ensures.inserted zero) _ _ true absent
     (omega (arith, none)) c.gain.ensures.items c.gain.ensures.keys
 
 pub returns-in-Ok-eq0-default-clause-inserted : goal.returns-in-Ok-eq0-default-clause-inserted
 returns-in-Ok-eq0-default-clause-inserted g c =
-    let inside = within c.self.view_is c.args.slot.0 c.requires.within in
+    let inside = within_buckets c.self.view_is c.args.slot.0 c.requires.within in
     let made = c.in-Ok-eq0-default.ensures.inserted c.in-Ok-eq0-default.field-0-0-test in
     rw (← c.self.view_is) (λ _.
     view_edited c.self.invariant g.met.T.Key.Ord.total g.met.T.Translator.exact c.args.slot (c.args.value ∷ []) c.insert_absent.new.self.contents inside made g.T.Translator.translated c.self.inside.translator _ _ (λ _. c.args.value ∷ []) refl c.gain.ensures.pruned
@@ -41,16 +41,16 @@ returns-in-Ok-eq0-default-clause-inserted g c =
 
 pub returns-in-Ok-eq0-default-clause-len : goal.returns-in-Ok-eq0-default-clause-len
 returns-in-Ok-eq0-default-clause-len g c =
-    rw (← c.self.view_is) (sym c.in-Ok-eq0-default.field-0-0-test ∙ c.in-Ok-eq0-default.ensures.len ∙ ap (λ l. length l) (sym (list_is c.self.invariant c.args.slot)))
+    rw (← c.self.view_is) (sym c.in-Ok-eq0-default.field-0-0-test ∙ c.in-Ok-eq0-default.ensures.len ∙ ap (λ l. length l) (sym (list_at-gathered_buckets c.self.invariant c.args.slot)))
 
 pub returns-in-Ok-clause-len : goal.returns-in-Ok-clause-len
-returns-in-Ok-clause-len g c = rw (← c.self.view_is) (c.in-Ok.ensures.len ∙ ap (λ l. length l) (sym (list_is c.self.invariant c.args.slot)))
+returns-in-Ok-clause-len g c = rw (← c.self.view_is) (c.in-Ok.ensures.len ∙ ap (λ l. length l) (sym (list_at-gathered_buckets c.self.invariant c.args.slot)))
 
 pub returns-in-Ok-eq0-default-clause-kept : goal.returns-in-Ok-eq0-default-clause-kept
 returns-in-Ok-eq0-default-clause-kept g c =
-    let inside = within c.self.view_is c.args.slot.0 c.requires.within in
+    let inside = within_buckets c.self.view_is c.args.slot.0 c.requires.within in
     let made = c.in-Ok-eq0-default.ensures.inserted c.in-Ok-eq0-default.field-0-0-test in
-    rw (← c.self.view_is) (keeps c.self.invariant g.met.T.Key.Ord.total g.met.T.Translator.exact c.args.slot (c.args.value ∷ []) c.insert_absent.new.self.contents inside made)
+    rw (← c.self.view_is) (KeepsBuckets-edited c.self.invariant g.met.T.Key.Ord.total g.met.T.Translator.exact c.args.slot (c.args.value ∷ []) c.insert_absent.new.self.contents inside made)
 
 pub returns-in-Ok-clause-kept : goal.returns-in-Ok-clause-kept
 returns-in-Ok-clause-kept g c = rw (← c.self.view_is) (keeps_all c.self.invariant _ (ap (λ s. s.contents) (c.in-Ok.ensures.found (omega (arith, c.in-Ok.len-test.1)))))
@@ -60,20 +60,20 @@ returns-in-Err-clause-kept g c = rw (← c.self.view_is) (keeps_all c.self.invar
 
 pub returns-in-Ok-eq0-default-clause-standing : goal.returns-in-Ok-eq0-default-clause-standing
 returns-in-Ok-eq0-default-clause-standing g c =
-    rw (← c.self.view_is) (λ _. grows_to g.X.Bucket.SPILLS (standings_of c.self.inside.threshold c.self.inside.buckets.standing c.self.inside.moves.spills c.self.inside.moves.moved) c.args.slot.0 _ (listed_by _ _ c.self.inside.told c.args.slot.0 (within c.self.view_is c.args.slot.0 c.requires.within)) c.self.inside.least _ (c.in-Ok-eq0-default.ensures.standing c.in-Ok-eq0-default.field-0-0-test) c.spill.ensures.spills c.spill.ensures.moved)
+    rw (← c.self.view_is) (λ _. grows_to g.X.Bucket.SPILLS (standings_of c.self.inside.threshold c.self.inside.buckets.standing c.self.inside.moves.spills c.self.inside.moves.moved) c.args.slot.0 _ (listed_by _ _ c.self.inside.told c.args.slot.0 (within_buckets c.self.view_is c.args.slot.0 c.requires.within)) c.self.inside.least _ (c.in-Ok-eq0-default.ensures.standing c.in-Ok-eq0-default.field-0-0-test) c.spill.ensures.spills c.spill.ensures.moved)
 
 pub invariant_of-self-inside : goal.invariant_of-self-inside
 invariant_of-self-inside g c =
     let list = list_in g.T.Key.Ord.cmp c.self.inside.buckets.contents c.args.slot in
-    let inside = within c.self.view_is c.args.slot.0 c.requires.within in
+    let inside = within_buckets c.self.view_is c.args.slot.0 c.requires.within in
     let zero = c.in-Ok-eq0-default.field-0-0-test in
     let none : length list ≡ 0 = sym c.in-Ok-eq0-default.ensures.len ∙ zero in
-    (c.self.inside.least, (c.insert_absent.ensures.counted, (growth_paid c.self.invariant g.met.T.Key.Ord.total c.args.slot (c.args.value ∷ []) c.insert_absent.new.self.contents inside (c.in-Ok-eq0-default.ensures.inserted zero) c.self.inside.buckets.standing _ c.self.inside.told c.insert_absent.ensures.counted c.self.inside.threshold c.self.inside.moves.spills c.self.inside.moves.moved c.self.inside.counts.pruned _ 0 (omega (arith, none)) (c.gain.ensures.pruned ∙ sym (none_more c.self.inside.counts.pruned)) credit_pays g.X.Bucket.SPILLS _ _ (grows_to g.X.Bucket.SPILLS (standings_of c.self.inside.threshold c.self.inside.buckets.standing c.self.inside.moves.spills c.self.inside.moves.moved) c.args.slot.0 _ (listed_by _ _ c.self.inside.told c.args.slot.0 (within c.self.view_is c.args.slot.0 c.requires.within)) c.self.inside.least _ (c.in-Ok-eq0-default.ensures.standing zero) c.spill.ensures.spills c.spill.ensures.moved) c.self.inside.within, tt)))
+    (c.self.inside.least, (c.insert_absent.ensures.counted, (growth_paid c.self.invariant g.met.T.Key.Ord.total c.args.slot (c.args.value ∷ []) c.insert_absent.new.self.contents inside (c.in-Ok-eq0-default.ensures.inserted zero) c.self.inside.buckets.standing _ c.self.inside.told c.insert_absent.ensures.counted c.self.inside.threshold c.self.inside.moves.spills c.self.inside.moves.moved c.self.inside.counts.pruned _ 0 (omega (arith, none)) (c.gain.ensures.pruned ∙ sym (pruned_after-zero c.self.inside.counts.pruned)) credit_pays g.X.Bucket.SPILLS _ _ (grows_to g.X.Bucket.SPILLS (standings_of c.self.inside.threshold c.self.inside.buckets.standing c.self.inside.moves.spills c.self.inside.moves.moved) c.args.slot.0 _ (listed_by _ _ c.self.inside.told c.args.slot.0 (within_buckets c.self.view_is c.args.slot.0 c.requires.within)) c.self.inside.least _ (c.in-Ok-eq0-default.ensures.standing zero) c.spill.ensures.spills c.spill.ensures.moved) c.self.inside.within, tt)))
 
 pub returns-in-Ok-eq0-default-clause-range_bound : goal.returns-in-Ok-eq0-default-clause-range_bound
 returns-in-Ok-eq0-default-clause-range_bound g c =
     let list = list_in g.T.Key.Ord.cmp c.self.inside.buckets.contents c.args.slot in
-    let inside = within c.self.view_is c.args.slot.0 c.requires.within in
+    let inside = within_buckets c.self.view_is c.args.slot.0 c.requires.within in
     let zero = c.in-Ok-eq0-default.field-0-0-test in
     let none : length list ≡ 0 = sym c.in-Ok-eq0-default.ensures.len ∙ zero in
-    rw (← c.self.view_is) (growth_paid c.self.invariant g.met.T.Key.Ord.total c.args.slot (c.args.value ∷ []) c.insert_absent.new.self.contents inside (c.in-Ok-eq0-default.ensures.inserted zero) c.self.inside.buckets.standing _ c.self.inside.told c.insert_absent.ensures.counted c.self.inside.threshold c.self.inside.moves.spills c.self.inside.moves.moved c.self.inside.counts.pruned _ 0 (omega (arith, none)) (c.gain.ensures.pruned ∙ sym (none_more c.self.inside.counts.pruned)) range_pays g.X.Bucket.SPILLS _ _ (grows_to g.X.Bucket.SPILLS (standings_of c.self.inside.threshold c.self.inside.buckets.standing c.self.inside.moves.spills c.self.inside.moves.moved) c.args.slot.0 _ (listed_by _ _ c.self.inside.told c.args.slot.0 (within c.self.view_is c.args.slot.0 c.requires.within)) c.self.inside.least _ (c.in-Ok-eq0-default.ensures.standing zero) c.spill.ensures.spills c.spill.ensures.moved))
+    rw (← c.self.view_is) (growth_paid c.self.invariant g.met.T.Key.Ord.total c.args.slot (c.args.value ∷ []) c.insert_absent.new.self.contents inside (c.in-Ok-eq0-default.ensures.inserted zero) c.self.inside.buckets.standing _ c.self.inside.told c.insert_absent.ensures.counted c.self.inside.threshold c.self.inside.moves.spills c.self.inside.moves.moved c.self.inside.counts.pruned _ 0 (omega (arith, none)) (c.gain.ensures.pruned ∙ sym (pruned_after-zero c.self.inside.counts.pruned)) range_pays g.X.Bucket.SPILLS _ _ (grows_to g.X.Bucket.SPILLS (standings_of c.self.inside.threshold c.self.inside.buckets.standing c.self.inside.moves.spills c.self.inside.moves.moved) c.args.slot.0 _ (listed_by _ _ c.self.inside.told c.args.slot.0 (within_buckets c.self.view_is c.args.slot.0 c.requires.within)) c.self.inside.least _ (c.in-Ok-eq0-default.ensures.standing zero) c.spill.ensures.spills c.spill.ensures.moved))

@@ -3,7 +3,7 @@ use Rattle.key_index_flat.specs.View.{View, with_edit, with_pruned}
 use Rattle.key_index_parts.specs.Family.{Kept, settled_in, held_at, view_of}
 use Rattle.key_index_parts.specs.Gathered.{pair_cmp}
 use Rattle.key_index_parts.specs.Standing.{Leaves, entries_at}
-use Rattle.key_index_parts.proofs.standing.StandingLemmas.{resettles, settles_edit}
+use Rattle.key_index_parts.proofs.standing.StandingLemmas.{Resettles-MovesBack, settles_edit}
 use Rattle.key_index_parts.proofs.family.StorageLemmas.{kept_twice}
 use Rattle.key_index_parts.proofs.index.partitioned.storage.Storage.remove.Goals as goal
 
@@ -21,7 +21,7 @@ returns-in-Ok-clause-settled g c = λ is.
     let left = c.take.new.self.standings in
     let n = c.args.slot.0 in
     let raised = ap (λ s. s.standings) c.in-Ok.ensures.settled ∙ ap (λ b. settled_in b old n) is in
-    resettles old left c.move_back.new.self.standings n c.in-Ok.ensures.within c.in-Ok.ensures.least
+    Resettles-MovesBack old left c.move_back.new.self.standings n c.in-Ok.ensures.within c.in-Ok.ensures.least
     (settles_edit old n c.in-Ok.ensures.within c.in-Ok.ensures.least left
     (subst (λ s. Leaves s n left) raised c.take.ensures.standing)
     (subst (λ s. entries_at left n ≤ entries_at s n) raised c.take.ensures.fewer)).0

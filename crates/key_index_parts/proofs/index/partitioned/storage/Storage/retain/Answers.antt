@@ -4,7 +4,7 @@ use Rattle.key_index_flat.specs.View.{View, Retains}
 use Rattle.key_index_parts.specs.Family.{Kept, settled_in, view_of}
 use Rattle.key_index_parts.specs.Gathered.{pair_cmp}
 use Rattle.key_index_parts.specs.Standing.{Leaves, entries_at}
-use Rattle.key_index_parts.proofs.standing.StandingLemmas.{resettles, settles_edit}
+use Rattle.key_index_parts.proofs.standing.StandingLemmas.{Resettles-MovesBack, settles_edit}
 use Rattle.key_index_parts.proofs.family.StorageLemmas.{kept_twice}
 use Rattle.key_index_parts.proofs.index.partitioned.storage.Storage.retain.Goals as goal
 
@@ -22,7 +22,7 @@ returns-in-Ok-clause-settled g c = λ is.
     let left = c.retain_in_bucket.new.self.standings in
     let n = c.args.slot.0 in
     let raised = ap (λ s. s.standings) c.in-Ok.ensures.settled ∙ ap (λ b. settled_in b old n) is in
-    resettles old left c.move_back.new.self.standings n c.in-Ok.ensures.within c.in-Ok.ensures.least
+    Resettles-MovesBack old left c.move_back.new.self.standings n c.in-Ok.ensures.within c.in-Ok.ensures.least
     (settles_edit old n c.in-Ok.ensures.within c.in-Ok.ensures.least left
     (subst (λ s. Leaves s n left) raised c.retain_in_bucket.ensures.standing)
     (subst (λ s. entries_at left n ≤ entries_at s n) raised c.retain_in_bucket.ensures.fewer)).0

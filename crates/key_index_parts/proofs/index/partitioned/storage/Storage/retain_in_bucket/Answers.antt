@@ -4,13 +4,13 @@ use Rattle.std.specs.List.Retain.{IsFiltered}
 use Rattle.key_index_flat.specs.View.{pruned_after}
 use Rattle.key_index_parts.specs.Family.{held_at, list_in}
 use Rattle.key_index_parts.proofs.family.BucketLemmas.{kept_at_most}
-use Rattle.key_index_parts.proofs.family.StorageLemmas.{list_is, within, can_change, counted_change, keeps, view_pruned}
+use Rattle.key_index_parts.proofs.family.StorageLemmas.{list_at-gathered_buckets, within_buckets, can_change, counted_change, KeepsBuckets-edited, view_pruned}
 use Rattle.key_index_parts.proofs.standing.MoveLemmas.{credit_pays}
-use Rattle.key_index_parts.proofs.standing.PaidLemmas.{edit_paid}
+use Rattle.key_index_parts.proofs.standing.PaidLemmas.{IsPaid-LeavesIn}
 use Rattle.key_index_parts.proofs.index.partitioned.storage.Storage.retain_in_bucket.Goals as goal
 
 pub retain-had-requires-clause-within : goal.retain-had-requires-clause-within
-retain-had-requires-clause-within g c = within c.self.view_is c.args.slot.0 c.requires.within
+retain-had-requires-clause-within g c = within_buckets c.self.view_is c.args.slot.0 c.requires.within
 
 pub overflow_sub-taken : goal.overflow_sub-taken
 overflow_sub-taken g c =
@@ -24,20 +24,20 @@ change-requires g c =
     let had = c.retain-had.ensures.had in
     let fewer = kept_at_most (CalledAt g.F.FnMut) c.args.should_retain (list_in g.T.Key.Ord.cmp c.self.inside.buckets.contents c.args.slot) kept.0 kept.1 in
     let small : c.self.inside.counts.items < 2 ^ 64 = search rules in
-    can_change c.self.invariant g.met.T.Key.Ord.total g.met.T.Translator.exact c.args.slot kept.0 c.retain-had.new.self.contents (within c.self.view_is c.args.slot.0 c.requires.within) kept.2
+    can_change c.self.invariant g.met.T.Key.Ord.total g.met.T.Translator.exact c.args.slot kept.0 c.retain-had.new.self.contents (within_buckets c.self.view_is c.args.slot.0 c.requires.within) kept.2
     _ _ had kept.3 (omega (arith, small, had, kept.3, fewer))
 
 pub invariant_of-self : goal.invariant_of-self
 invariant_of-self g c =
     let kept = c.retain-had.ensures.kept in
-    counted_change c.self.invariant g.met.T.Key.Ord.total g.met.T.Translator.exact c.args.slot kept.0 c.retain-had.new.self.contents (within c.self.view_is c.args.slot.0 c.requires.within) kept.2
+    counted_change c.self.invariant g.met.T.Key.Ord.total g.met.T.Translator.exact c.args.slot kept.0 c.retain-had.new.self.contents (within_buckets c.self.view_is c.args.slot.0 c.requires.within) kept.2
     _ _ c.retain-had.ensures.had kept.3 _ _ c.change.ensures.items c.change.ensures.keys
 
 pub returns-clause-retained : goal.returns-clause-retained
 returns-clause-retained g c =
     let kept = c.retain-had.ensures.kept in
-    let inside = within c.self.view_is c.args.slot.0 c.requires.within in
-    let told = list_is c.self.invariant c.args.slot in
+    let inside = within_buckets c.self.view_is c.args.slot.0 c.requires.within in
+    let told = list_at-gathered_buckets c.self.invariant c.args.slot in
     let whole = held_at g.T.Key.Ord.cmp c.self.inside.buckets.contents c.args.slot in
     let same : length whole ≡ length (list_in g.T.Key.Ord.cmp c.self.inside.buckets.contents c.args.slot) = ap (λ l. length l) told in
     let taken : c.retain-had.result.0 - c.retain-had.result.1 ≡ length whole - length kept.0 = omega (arith, same, c.retain-had.ensures.had, kept.3) in
@@ -51,12 +51,12 @@ returns-clause-retained g c =
 
 pub returns-clause-kept : goal.returns-clause-kept
 returns-clause-kept g c =
-    let inside = within c.self.view_is c.args.slot.0 c.requires.within in
-    rw (← c.self.view_is) (keeps c.self.invariant g.met.T.Key.Ord.total g.met.T.Translator.exact c.args.slot _ c.retain-had.new.self.contents inside c.retain-had.ensures.kept.2)
+    let inside = within_buckets c.self.view_is c.args.slot.0 c.requires.within in
+    rw (← c.self.view_is) (KeepsBuckets-edited c.self.invariant g.met.T.Key.Ord.total g.met.T.Translator.exact c.args.slot _ c.retain-had.new.self.contents inside c.retain-had.ensures.kept.2)
 
 pub invariant_of-self-inside : goal.invariant_of-self-inside
 invariant_of-self-inside g c =
-    let inside = within c.self.view_is c.args.slot.0 c.requires.within in
+    let inside = within_buckets c.self.view_is c.args.slot.0 c.requires.within in
     let kept = c.retain-had.ensures.kept in
     let fewer = kept_at_most (CalledAt g.F.FnMut) c.args.should_retain (list_in g.T.Key.Ord.cmp c.self.inside.buckets.contents c.args.slot) kept.0 kept.1 in
-    (c.self.inside.least, (c.retain-had.ensures.counted, (edit_paid c.self.invariant g.met.T.Key.Ord.total c.args.slot kept.0 c.retain-had.new.self.contents inside kept.2 c.self.inside.buckets.standing _ c.self.inside.told c.retain-had.ensures.counted c.self.inside.threshold c.self.inside.moves.spills c.self.inside.moves.moved c.self.inside.counts.pruned _ _ (omega (arith, c.retain-had.ensures.had, kept.3, fewer)) c.change.ensures.pruned credit_pays c.retain-had.ensures.standing c.self.inside.within, tt)))
+    (c.self.inside.least, (c.retain-had.ensures.counted, (IsPaid-LeavesIn c.self.invariant g.met.T.Key.Ord.total c.args.slot kept.0 c.retain-had.new.self.contents inside kept.2 c.self.inside.buckets.standing _ c.self.inside.told c.retain-had.ensures.counted c.self.inside.threshold c.self.inside.moves.spills c.self.inside.moves.moved c.self.inside.counts.pruned _ _ (omega (arith, c.retain-had.ensures.had, kept.3, fewer)) c.change.ensures.pruned credit_pays c.retain-had.ensures.standing c.self.inside.within, tt)))

@@ -1,9 +1,9 @@
 use Rattle.std.proofs.Common.{rules, ◌∙◌, arith}
-use Rattle.key_index_parts.proofs.keys.PrefixLemmas.{shifted}
+use Rattle.key_index_parts.proofs.keys.PrefixLemmas.{partition_count-power}
 use Rattle.key_index_parts.proofs.index.partitioned.unordered.IndexFactory.new.Goals as goal
 
 pub new-requires : goal.new-requires
-new-requires g c = let is = shifted g.row.P c.requires.1 in (search rules, (c.requires.0, (c.requires.1, omega (arith, is))))
+new-requires g c = let is = partition_count-power g.row.P c.requires.1 in (search rules, (c.requires.0, (c.requires.1, omega (arith, is))))
 
 pub invariant_of-result : goal.invariant_of-result
 invariant_of-result g c = record {
@@ -11,6 +11,6 @@ invariant_of-result g c = record {
     least = c.requires.0;
     greatest = c.requires.1;
     lawful = c.in-Ok.ensures.lawful;
-    whole = c.in-Ok.ensures.sized ∙ shifted g.row.P c.requires.1;
+    whole = c.in-Ok.ensures.sized ∙ partition_count-power g.row.P c.requires.1;
   };
 }

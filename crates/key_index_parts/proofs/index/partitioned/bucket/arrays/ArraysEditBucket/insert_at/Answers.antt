@@ -1,6 +1,6 @@
 use Rattle.std.proofs.Common.{rules, ◌<◌, ◌^◌, ap, ◌∙◌, arith}
 use Rattle.key_index_parts.specs.Pairs.{grouped}
-use Rattle.key_index_parts.proofs.pairs.FoundRun.{run_count, place_upto, may_insert, inserted, none_there}
+use Rattle.key_index_parts.proofs.pairs.FoundRun.{run_count, place_upto, may_insert, grouped-inserted, none_there}
 use Rattle.key_index_parts.proofs.index.partitioned.bucket.arrays.ArraysEditBucket.insert_at.Goals as goal
 
 pub overflow_add-run : goal.overflow_add-run
@@ -17,4 +17,4 @@ insert_at-requires-clause-sorted g c = may_insert g.met.T.Key.Ord.total g.met.T.
 
 pub returns-in-Ok-clause-accepted : goal.returns-in-Ok-clause-accepted
 returns-in-Ok-clause-accepted g c =
-    (ap (grouped g.T.Key.Ord.cmp) c.in-Ok.ensures.accepted ∙ inserted g.met.T.Key.Ord.total g.met.T.Translator.exact c.run_range-run.ensures c.args.place c.args.value c.requires, none_there g.met.T.Key.Ord.total g.met.T.Translator.exact c.run_range-run.ensures)
+    (ap (grouped g.T.Key.Ord.cmp) c.in-Ok.ensures.accepted ∙ grouped-inserted g.met.T.Key.Ord.total g.met.T.Translator.exact c.run_range-run.ensures c.args.place c.args.value c.requires, none_there g.met.T.Key.Ord.total g.met.T.Translator.exact c.run_range-run.ensures)

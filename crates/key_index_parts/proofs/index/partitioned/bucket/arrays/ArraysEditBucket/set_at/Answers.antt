@@ -1,6 +1,6 @@
 use Rattle.std.proofs.Common.{rules, ◌<◌, ◌^◌, ap, ◌∙◌, arith}
 use Rattle.key_index_parts.specs.Pairs.{grouped}
-use Rattle.key_index_parts.proofs.pairs.FoundRun.{run_count, place_within, set_in}
+use Rattle.key_index_parts.proofs.pairs.FoundRun.{run_count, place_within, grouped-set_in}
 use Rattle.key_index_parts.proofs.index.partitioned.bucket.arrays.ArraysEditBucket.set_at.Goals as goal
 
 pub overflow_add-run : goal.overflow_add-run
@@ -13,4 +13,4 @@ pub set-requires : goal.set-requires
 set-requires g c = place_within g.met.T.Key.Ord.total g.met.T.Translator.exact c.run_range-run.ensures c.args.place c.requires
 
 pub returns-clause-content : goal.returns-clause-content
-returns-clause-content g c = ap (grouped g.T.Key.Ord.cmp) c.set.ensures.pairs ∙ set_in g.met.T.Key.Ord.total g.met.T.Translator.exact c.run_range-run.ensures c.args.place c.args.value c.requires
+returns-clause-content g c = ap (grouped g.T.Key.Ord.cmp) c.set.ensures.pairs ∙ grouped-set_in g.met.T.Key.Ord.total g.met.T.Translator.exact c.run_range-run.ensures c.args.place c.args.value c.requires

@@ -2,7 +2,7 @@ use Rattle.std.proofs.Common.{rules, ◌≡◌, ◌+◌, ◌-◌, ◌<◌, ◌�
 use Rattle.std.specs.Fn.{CalledAt}
 use mir.Val.{bool_byte}
 use Rattle.key_index_parts.specs.Pairs.{IsFound}
-use Rattle.key_index_parts.proofs.pairs.FoundRun.{run_count, may_append, length_appended, found_appended, left_held, few_held, retains}
+use Rattle.key_index_parts.proofs.pairs.FoundRun.{run_count, may_append, length_appended, found_appended, length-kept_of_run, few_of_run, RetainsWith-run}
 use Rattle.key_index_parts.proofs.index.partitioned.bucket.arrays.ArraysForm.insert_and_retain.Goals as goal
 
 as_byte : (b : Bool) → cond b 1 0 ≡ bool_byte b
@@ -33,8 +33,8 @@ pub overflow_sub-taken : goal.overflow_sub-taken
 overflow_sub-taken g c =
     let count = run_count g.met.T.Key.Ord.total g.met.T.Translator.exact c.run_range-run.ensures in
     let new = c.in-Ok.ensures.accepted in
-    let left = left_held g.met.T.Key.Ord.total g.met.T.Translator.exact c.run_range-run.ensures c.args.value c.insert_at.new.self.pairs new (CalledAt g.F.FnMut) c.args.should_retain c.retain_run-left.ensures.kept.1 in
-    let few = few_held g.met.T.Key.Ord.total g.met.T.Translator.exact c.run_range-run.ensures c.args.value c.insert_at.new.self.pairs new (CalledAt g.F.FnMut) c.args.should_retain c.retain_run-left.ensures.kept.1 in
+    let left = length-kept_of_run g.met.T.Key.Ord.total g.met.T.Translator.exact c.run_range-run.ensures c.args.value c.insert_at.new.self.pairs new (CalledAt g.F.FnMut) c.args.should_retain c.retain_run-left.ensures.kept.1 in
+    let few = few_of_run g.met.T.Key.Ord.total g.met.T.Translator.exact c.run_range-run.ensures c.args.value c.insert_at.new.self.pairs new (CalledAt g.F.FnMut) c.args.should_retain c.retain_run-left.ensures.kept.1 in
     let last = as_byte c.retain_run-left.result.1 in
     omega (arith, count, left, few, last, c.from.ensures, c.retain_run-left.ensures.kept.3)
 
@@ -43,8 +43,8 @@ returns-in-Ok-clause-accepted g c =
     let count = run_count g.met.T.Key.Ord.total g.met.T.Translator.exact c.run_range-run.ensures in
     let new = c.in-Ok.ensures.accepted in
     let kept = c.retain_run-left.ensures.kept in
-    let left = left_held g.met.T.Key.Ord.total g.met.T.Translator.exact c.run_range-run.ensures c.args.value c.insert_at.new.self.pairs new (CalledAt g.F.FnMut) c.args.should_retain c.retain_run-left.ensures.kept.1 in
-    let few = few_held g.met.T.Key.Ord.total g.met.T.Translator.exact c.run_range-run.ensures c.args.value c.insert_at.new.self.pairs new (CalledAt g.F.FnMut) c.args.should_retain c.retain_run-left.ensures.kept.1 in
+    let left = length-kept_of_run g.met.T.Key.Ord.total g.met.T.Translator.exact c.run_range-run.ensures c.args.value c.insert_at.new.self.pairs new (CalledAt g.F.FnMut) c.args.should_retain c.retain_run-left.ensures.kept.1 in
+    let few = few_of_run g.met.T.Key.Ord.total g.met.T.Translator.exact c.run_range-run.ensures c.args.value c.insert_at.new.self.pairs new (CalledAt g.F.FnMut) c.args.should_retain c.retain_run-left.ensures.kept.1 in
     let last = as_byte c.retain_run-left.result.1 in
-    retains g.met.T.Key.Ord.total g.met.T.Translator.exact c.run_range-run.ensures c.args.value c.insert_at.new.self.pairs new (CalledAt g.F.FnMut) c.args.should_retain c.retain_run-left.ensures.kept.1 c.retain_run-left.new.pairs.pairs _ _ _ kept.2 (omega (arith, count)) kept.3
+    RetainsWith-run g.met.T.Key.Ord.total g.met.T.Translator.exact c.run_range-run.ensures c.args.value c.insert_at.new.self.pairs new (CalledAt g.F.FnMut) c.args.should_retain c.retain_run-left.ensures.kept.1 c.retain_run-left.new.pairs.pairs _ _ _ kept.2 (omega (arith, count)) kept.3
     (omega (arith, count, left, few, last, c.from.ensures, kept.3))

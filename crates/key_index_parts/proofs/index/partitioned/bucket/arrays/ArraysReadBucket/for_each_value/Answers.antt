@@ -4,8 +4,8 @@ use Rattle.std.specs.Fn.{CalledAt}
 use Rattle.std.specs.Map.{keys_of}
 use Rattle.key_index_flat.specs.Values.{values_of}
 use Rattle.key_index_parts.proofs.pairs.DrainLemmas.{values_of-grouped}
-use Rattle.key_index_parts.proofs.pairs.SearchLemmas.{rises}
-use Rattle.key_index_parts.proofs.asked.VisitLemmas.{Continues, continues, one_more, ended, values_flat}
+use Rattle.key_index_parts.proofs.pairs.SearchLemmas.{Rises-IsSorted}
+use Rattle.key_index_parts.proofs.asked.VisitLemmas.{Continues, Continues-start, Continues-visited, VisitsEach-ended, values_flat}
 use Rattle.key_index_parts.specs.Pairs.{grouped}
 use Rattle.key_index_parts.proofs.index.partitioned.bucket.arrays.ArraysReadBucket.for_each_value.Goals as goal
 
@@ -13,11 +13,11 @@ pub loop-value-init : goal.loop-value-init
 loop-value-init g c =
     let pairs = c.args.self.now.pairs.pairs in
     let values = values_of (grouped g.T.Key.Ord.cmp pairs) in
-    let up = rises g.met.T.Key.Ord.total (keys_of pairs) c.values_iter.ensures.sorted in (
+    let up = Rises-IsSorted g.met.T.Key.Ord.total (keys_of pairs) c.values_iter.ensures.sorted in (
       c.requires,
       subst (λ l. Continues (CalledAt g.F.FnMut) c.args.visit.now values c.args.visit.now l)
           (values_flat (grouped g.T.Key.Ord.cmp pairs) ∙ values_of-grouped g.met.T.Key.Ord.total pairs up ∙ sym c.values_iter.ensures.values ∙ sym c.as_slice-rest.ensures.value)
-          (continues (CalledAt g.F.FnMut) c.args.visit.now values),
+          (Continues-start (CalledAt g.F.FnMut) c.args.visit.now values),
     )
 
 pub loop-value-smaller : goal.loop-value-smaller
@@ -29,11 +29,11 @@ loop-value-preserved g c =
     let ask = CalledAt g.F.FnMut in
     let at = c.loop-value.visit in (
       search of_calls,
-      one_more ask c.args.visit.now at c.visit.new.self values c.in-Some.value.now c.in-Some.behind.now
+      Continues-visited ask c.args.visit.now at c.visit.new.self values c.in-Some.value.now c.in-Some.behind.now
           (subst (λ l. Continues ask c.args.visit.now values at l) c.in-Some.ensures.cases.0 c.loop-value.invariant.1) (called_at g.F.FnMut c.visit.ensures refl),
     )
 
 pub returns-clause-visits : goal.returns-clause-visits
 returns-clause-visits g c =
     let values = values_of (grouped g.T.Key.Ord.cmp c.args.self.now.pairs.pairs) in
-    ended (CalledAt g.F.FnMut) c.args.visit.now c.loop-value.visit values c.loop-value.rest.now c.in_default.ensures.cases c.loop-value.invariant.1
+    VisitsEach-ended (CalledAt g.F.FnMut) c.args.visit.now c.loop-value.visit values c.loop-value.rest.now c.in_default.ensures.cases c.loop-value.invariant.1

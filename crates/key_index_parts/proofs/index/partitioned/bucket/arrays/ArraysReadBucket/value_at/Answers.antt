@@ -1,5 +1,5 @@
 use Rattle.std.proofs.Common.{rules, ◌<◌, ◌^◌, sym, ◌∙◌, arith}
-use Rattle.key_index_parts.proofs.pairs.FoundRun.{run_count, place_within, value_in}
+use Rattle.key_index_parts.proofs.pairs.FoundRun.{run_count, place_within, slice_get-values_of}
 use Rattle.key_index_parts.proofs.index.partitioned.bucket.arrays.ArraysReadBucket.value_at.Goals as goal
 
 pub overflow_add-run : goal.overflow_add-run
@@ -12,4 +12,4 @@ pub value_at-requires : goal.value_at-requires
 value_at-requires g c = place_within g.met.T.Key.Ord.total g.met.T.Translator.exact c.run_range-run.ensures c.args.place c.requires
 
 pub returns : goal.returns
-returns g c = sym (value_in g.met.T.Key.Ord.total g.met.T.Translator.exact c.run_range-run.ensures c.args.place c.requires) ∙ c.value_at.ensures
+returns g c = sym (slice_get-values_of g.met.T.Key.Ord.total g.met.T.Translator.exact c.run_range-run.ensures c.args.place c.requires) ∙ c.value_at.ensures

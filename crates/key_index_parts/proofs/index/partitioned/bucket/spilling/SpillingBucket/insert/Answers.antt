@@ -3,7 +3,7 @@ use Rattle.key_index_flat.specs.Content.{is_filled, item_count, list_at}
 use Rattle.key_index_flat.specs.View.{put_value}
 use Rattle.key_index_parts.specs.Pairs.{grouped, list_of}
 use Rattle.key_index_parts.specs.laws.PairLaws.{IsLawful-grouped}
-use Rattle.key_index_parts.proofs.standing.SpillingLemmas.{below, held_now, grown, one_more, reached}
+use Rattle.key_index_parts.proofs.standing.SpillingLemmas.{Grows-below_limit, held_now, item_count-stays_positive, item_count-one_more, Grows-limit_reached}
 use Rattle.key_index_parts.proofs.index.partitioned.bucket.spilling.SpillingBucket.insert.Goals as goal
 
 pub invariant_of-self : goal.invariant_of-self
@@ -14,7 +14,7 @@ invariant_of-self g c =
     let some = held_now c.args.self.now.tree (λ t. map list_of t.lists.entries) c.in-Some.tree tree c.in-Some.is c.deref_mut.ensures.value c.args.self.now.filled in
     let long = length-append l (c.args.value ∷ []) in
     record {
-      filled = grown g.met.T.Key.Ord.total c.insert.result held (map list_of c.insert.new.self.lists.entries) c.args.key (put_value false c.args.value)
+      filled = item_count-stays_positive g.met.T.Key.Ord.total c.insert.result held (map list_of c.insert.new.self.lists.entries) c.args.key (put_value false c.args.value)
           (not (is_filled l)) tree.lawful some (omega (arith, long)) c.insert.ensures.accepted c.insert.ensures.refused;
     }
 
@@ -23,16 +23,16 @@ returns-then-len-limit-clause-standing g c =
     let pairs = c.args.self.now.arrays.pairs.pairs in
     let held = grouped g.T.Key.Ord.cmp pairs in
     let l = list_at g.T.Key.Ord.cmp held c.args.key in
-    let more = one_more g.met.T.Key.Ord.total held (grouped g.T.Key.Ord.cmp c.insert-then-len-limit.new.self.pairs.pairs) c.args.key _ (IsLawful-grouped g.met.T.Key.Ord.total pairs)
+    let more = item_count-one_more g.met.T.Key.Ord.total held (grouped g.T.Key.Ord.cmp c.insert-then-len-limit.new.self.pairs.pairs) c.args.key _ (IsLawful-grouped g.met.T.Key.Ord.total pairs)
     (length-append l (c.args.value ∷ [])) c.in_ok-absent-2.ensures.accepted.0 in
-    rw c.in_default.is (below c.args.limit _ (omega (arith, more, c.len.ensures, c.if-len-limit.true)))
+    rw c.in_default.is (Grows-below_limit c.args.limit _ (omega (arith, more, c.len.ensures, c.if-len-limit.true)))
 
 pub invariant_of-self-in-Ok-insert : goal.invariant_of-self-in-Ok-insert
 invariant_of-self-in-Ok-insert g c =
     let tree = c.deref_mut-2.result.now in
     let held = map list_of tree.lists.entries in
     let l = list_at g.T.Key.Ord.cmp held c.args.key in
-    let more = one_more g.met.T.Key.Ord.total held (map list_of c.insert-2.new.self.lists.entries) c.args.key _ tree.lawful (length-append l (c.args.value ∷ []))
+    let more = item_count-one_more g.met.T.Key.Ord.total held (map list_of c.insert-2.new.self.lists.entries) c.args.key _ tree.lawful (length-append l (c.args.value ∷ []))
     c.in-Ok-insert.ensures.accepted.0 in
     record { filled = omega (arith, more) }
 
@@ -41,9 +41,9 @@ returns-in-Ok-insert-clause-standing g c =
     let tree = c.deref_mut-2.result.now in
     let held = map list_of tree.lists.entries in
     let l = list_at g.T.Key.Ord.cmp held c.args.key in
-    let more = one_more g.met.T.Key.Ord.total held (map list_of c.insert-2.new.self.lists.entries) c.args.key _ tree.lawful (length-append l (c.args.value ∷ []))
+    let more = item_count-one_more g.met.T.Key.Ord.total held (map list_of c.insert-2.new.self.lists.entries) c.args.key _ tree.lawful (length-append l (c.args.value ∷ []))
     c.in-Ok-insert.ensures.accepted.0 in
     let same = ap (λ t. item_count (map list_of t.lists.entries)) c.deref_mut-2.ensures.value ∙ ap item_count c.in-Ok.ensures.tree in
     let told = c.len-moved.ensures ∙ ap (λ t. item_count (map list_of t.lists.entries)) c.deref.ensures in
-    rw c.in_default.is (reached c.args.limit _ (map list_of c.insert-2.new.self.lists.entries) c.requires
+    rw c.in_default.is (Grows-limit_reached c.args.limit _ (map list_of c.insert-2.new.self.lists.entries) c.requires
     (omega (arith, told, more, same, c.len.ensures, c.if-len-limit.false, c.requires)) told)

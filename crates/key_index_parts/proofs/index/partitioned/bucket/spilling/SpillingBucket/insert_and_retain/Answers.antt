@@ -3,7 +3,7 @@ use Rattle.std.specs.Fn.{CalledAt}
 use Rattle.key_index_flat.specs.Content.{item_count}
 use Rattle.key_index_parts.specs.Pairs.{grouped, list_of}
 use Rattle.key_index_parts.specs.laws.PairLaws.{IsLawful-grouped}
-use Rattle.key_index_parts.proofs.standing.SpillingLemmas.{below, in_tree, reached, retained}
+use Rattle.key_index_parts.proofs.standing.SpillingLemmas.{Grows-below_limit, in_tree, Grows-limit_reached, item_count-retained}
 use Rattle.key_index_parts.proofs.index.partitioned.bucket.spilling.SpillingBucket.insert_and_retain.Goals as goal
 
 pub returns-in-Some-clause-standing : goal.returns-in-Some-clause-standing
@@ -13,9 +13,9 @@ pub returns-then-len-limit-clause-standing : goal.returns-then-len-limit-clause-
 returns-then-len-limit-clause-standing g c =
     let pairs = c.args.self.now.arrays.pairs.pairs in
     let told = c.in_ok-told-2.told in
-    let few = retained g.met.T.Key.Ord.total (CalledAt g.F.FnMut) c.args.should_retain (grouped g.T.Key.Ord.cmp pairs) (grouped g.T.Key.Ord.cmp c.insert_and_retain-then-len-limit.new.self.pairs.pairs)
+    let few = item_count-retained g.met.T.Key.Ord.total (CalledAt g.F.FnMut) c.args.should_retain (grouped g.T.Key.Ord.cmp pairs) (grouped g.T.Key.Ord.cmp c.insert_and_retain-then-len-limit.new.self.pairs.pairs)
     c.args.key c.args.value told.had told.left told.taken (IsLawful-grouped g.met.T.Key.Ord.total pairs) c.in_ok-told-2.ensures.accepted in
-    rw c.in_default.is (below c.args.limit _ (omega (arith, few, c.len-len.ensures, c.if-len-limit.true)))
+    rw c.in_default.is (Grows-below_limit c.args.limit _ (omega (arith, few, c.len-len.ensures, c.if-len-limit.true)))
 
 pub lower-requires-clause-room : goal.lower-requires-clause-room
 lower-requires-clause-room g c =
@@ -26,7 +26,7 @@ pub returns-then-left-limit-clause-standing : goal.returns-then-left-limit-claus
 returns-then-left-limit-clause-standing g c =
     let told = c.len-left.ensures ∙ ap (λ t. item_count (map list_of t.lists.entries)) c.deref.ensures in
     let same = ap item_count c.lower.ensures in
-    rw c.in_default.is (below c.args.limit _ (omega (arith, told, same, c.if-left-limit.true)))
+    rw c.in_default.is (Grows-below_limit c.args.limit _ (omega (arith, told, same, c.if-left-limit.true)))
 
 pub invariant_of-self-in-Ok-insert_and_retain : goal.invariant_of-self-in-Ok-insert_and_retain
 invariant_of-self-in-Ok-insert_and_retain g c =
@@ -36,4 +36,4 @@ invariant_of-self-in-Ok-insert_and_retain g c =
 pub returns-else-left-limit-clause-standing : goal.returns-else-left-limit-clause-standing
 returns-else-left-limit-clause-standing g c =
     let told = c.len-left.ensures ∙ ap (λ t. item_count (map list_of t.lists.entries)) c.deref.ensures in
-    rw c.in_default.is (reached c.args.limit _ (map list_of c.insert_and_retain-2.new.self.lists.entries) c.requires.limit (omega (arith, c.if-left-limit.false)) told)
+    rw c.in_default.is (Grows-limit_reached c.args.limit _ (map list_of c.insert_and_retain-2.new.self.lists.entries) c.requires.limit (omega (arith, c.if-left-limit.false)) told)

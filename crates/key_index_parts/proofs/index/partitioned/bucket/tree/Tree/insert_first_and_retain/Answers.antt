@@ -1,14 +1,14 @@
 use Rattle.std.proofs.Common.{length, sym, arith, rules, ◌≡◌, true, false, [], ◌∷◌, get_or, ap, subst, ◌∙◌}
 use Rattle.std.proofs.lemmas.Fn.{called_at}
 use Rattle.std.specs.Fn.{CalledAt}
-use Rattle.key_index_parts.proofs.standing.TreeLemmas.{put_first, taken, lawful_after, counted_after}
+use Rattle.key_index_parts.proofs.standing.TreeLemmas.{map-insert_entry, map-remove_entry, lawful_after, counted_after}
 use Rattle.key_index_parts.proofs.index.partitioned.bucket.tree.Tree.insert_first_and_retain.Goals as goal
 
 pub invariant_of-self : goal.invariant_of-self
 invariant_of-self g c =
     let o = g.met.T.Key.Ord.total in
     let es = c.args.self.now.lists.entries in
-    let now = put_first o c.args.key es _ c.in_ok-values.values c.args.value (search rules) c.in_ok-values.ensures.list in
+    let now = map-insert_entry o c.args.key es _ c.in_ok-values.values c.args.value (search rules) c.in_ok-values.ensures.list in
     let none = ap (λ l. length l) c.requires.absent in
     record {
       counted = counted_after o c.args.key es c.args.self.now.lawful c.args.self.now.len 0 c.args.self.now.counted (sym none) _ (c.args.value ∷ []) now _ (omega arith);
@@ -17,7 +17,7 @@ invariant_of-self g c =
 
 pub returns-then-should_retain-clause-accepted : goal.returns-then-should_retain-clause-accepted
 returns-then-should_retain-clause-accepted g c =
-    put_first g.met.T.Key.Ord.total c.args.key c.args.self.now.lists.entries _ c.in_ok-values.values c.args.value (search rules) c.in_ok-values.ensures.list
+    map-insert_entry g.met.T.Key.Ord.total c.args.key c.args.self.now.lists.entries _ c.in_ok-values.values c.args.value (search rules) c.in_ok-values.ensures.list
 
 pub returns-then-should_retain-clause-asked : goal.returns-then-should_retain-clause-asked
 returns-then-should_retain-clause-asked g c =
@@ -29,7 +29,7 @@ pub invariant_of-self-in-Ok : goal.invariant_of-self-in-Ok
 invariant_of-self-in-Ok g c =
     let o = g.met.T.Key.Ord.total in
     let es = c.args.self.now.lists.entries in
-    let now = taken o c.args.key es c.args.self.now.lawful _ (search rules) in
+    let now = map-remove_entry o c.args.key es c.args.self.now.lawful _ (search rules) in
     let none = ap (λ l. length l) c.requires.absent in
     record {
       counted = counted_after o c.args.key es c.args.self.now.lawful c.args.self.now.len 0 c.args.self.now.counted (sym none) _ [] now c.args.self.now.len (omega arith);
@@ -37,7 +37,7 @@ invariant_of-self-in-Ok g c =
     }
 
 pub returns-in-Ok-clause-accepted : goal.returns-in-Ok-clause-accepted
-returns-in-Ok-clause-accepted g c = taken g.met.T.Key.Ord.total c.args.key c.args.self.now.lists.entries c.args.self.now.lawful _ (search rules)
+returns-in-Ok-clause-accepted g c = map-remove_entry g.met.T.Key.Ord.total c.args.key c.args.self.now.lists.entries c.args.self.now.lawful _ (search rules)
 
 pub returns-in-Ok-clause-asked : goal.returns-in-Ok-clause-asked
 returns-in-Ok-clause-asked g c =

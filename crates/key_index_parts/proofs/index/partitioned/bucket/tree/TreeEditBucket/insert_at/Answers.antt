@@ -4,7 +4,7 @@ use Rattle.std.specs.BTreeMap.{is_at}
 use Rattle.std.specs.Vec.{vec_len}
 use Rattle.key_index_flat.specs.Content.{IsLawful, item_count, list_at}
 use Rattle.key_index_parts.specs.Pairs.{list_of}
-use Rattle.key_index_parts.proofs.standing.TreeLemmas.{held_list, no_list, insert_alone, grown, first_put, present, absent, held_some, edited, unchanged, put_back}
+use Rattle.key_index_parts.proofs.standing.TreeLemmas.{held_list, list_at-lookup_none, insert_alone, at_least-by_cond, first_put, is_filled-present, is_filled-absent, held_some, map-set_value, map-set_same_value, IsLawful-set_value}
 use Rattle.key_index_parts.proofs.index.partitioned.bucket.tree.TreeEditBucket.insert_at.Goals as goal
 
 pub insert-requires : goal.insert-requires
@@ -25,18 +25,18 @@ pub insert_first-requires-clause-absent : goal.insert_first-requires-clause-abse
 insert_first-requires-clause-absent g c =
     let cmp = g.T.Key.Ord.cmp in
     ap (λ m. list_at cmp (map list_of m.entries) c.args.key) c.get_mut.follows.holds-at-none
-    ∙ no_list cmp c.args.key c.args.self.now.lists.entries (sym c.in-None.ensures.value)
+    ∙ list_at-lookup_none cmp c.args.key c.args.self.now.lists.entries (sym c.in-None.ensures.value)
 
 pub invariant_of-self : goal.invariant_of-self
 invariant_of-self g c =
     let t = c.args.self.now in
     let old = c.in-Some.values.now in
     let w = c.insert.new.self in
-    let some : 0 < length w.items = omega (arith, held_some g.met.T.Key.Ord.total c.args.key t.lists.entries t.lawful old c.in-Some.ensures.value, grown (is_ok c.insert.result) (vec_len old) (vec_len w) c.insert.ensures.len, old.ok.0, w.ok.0) in
+    let some : 0 < length w.items = omega (arith, held_some g.met.T.Key.Ord.total c.args.key t.lists.entries t.lawful old c.in-Some.ensures.value, at_least-by_cond (is_ok c.insert.result) (vec_len old) (vec_len w) c.insert.ensures.len, old.ok.0, w.ok.0) in
     let list = ap (λ l. length l) (held_list g.T.Key.Ord.cmp c.args.key t.lists.entries old (sym c.in-Some.ensures.value)) in
     let more = ap (λ l. length l) c.in-Ok.ensures.items in
     let long = length-insert old.items c.args.place c.args.value (omega (arith, list, c.requires)) in
-    let after = put_back g.met.T.Key.Ord.total c.args.key t.lists.entries t.lawful old c.in-Some.ensures.value w t.len _ t.counted (omega (arith, more, long)) _ (c.get_mut.follows.holds w).0 some in
+    let after = IsLawful-set_value g.met.T.Key.Ord.total c.args.key t.lists.entries t.lawful old c.in-Some.ensures.value w t.len _ t.counted (omega (arith, more, long)) _ (c.get_mut.follows.holds w).0 some in
     record { counted = after.0; lawful = after.1 }
 
 pub invariant_of-self-in-Err-1 : goal.invariant_of-self-in-Err-1
@@ -44,9 +44,9 @@ invariant_of-self-in-Err-1 g c =
     let t = c.args.self.now in
     let old = c.in-Some.values.now in
     let w = c.insert.new.self in
-    let some : 0 < length w.items = omega (arith, held_some g.met.T.Key.Ord.total c.args.key t.lists.entries t.lawful old c.in-Some.ensures.value, grown (is_ok c.insert.result) (vec_len old) (vec_len w) c.insert.ensures.len, old.ok.0, w.ok.0) in
+    let some : 0 < length w.items = omega (arith, held_some g.met.T.Key.Ord.total c.args.key t.lists.entries t.lawful old c.in-Some.ensures.value, at_least-by_cond (is_ok c.insert.result) (vec_len old) (vec_len w) c.insert.ensures.len, old.ok.0, w.ok.0) in
     let same = ap (λ l. length l) c.in-Err.ensures.items in
-    let after = put_back g.met.T.Key.Ord.total c.args.key t.lists.entries t.lawful old c.in-Some.ensures.value w t.len _ t.counted (omega (arith, same)) _ (c.get_mut.follows.holds w).0 some in
+    let after = IsLawful-set_value g.met.T.Key.Ord.total c.args.key t.lists.entries t.lawful old c.in-Some.ensures.value w t.len _ t.counted (omega (arith, same)) _ (c.get_mut.follows.holds w).0 some in
     record { counted = after.0; lawful = after.1 }
 
 pub returns-in-Ok-clause-accepted : goal.returns-in-Ok-clause-accepted
@@ -57,16 +57,16 @@ returns-in-Ok-clause-accepted g c =
     let old = c.in-Some.values.now in
     let held = c.in-Some.ensures.value in
     let w = c.insert.new.self in
-    let some : 0 < length w.items = omega (arith, held_some o c.args.key es lawful old held, grown (is_ok c.insert.result) (vec_len old) (vec_len w) c.insert.ensures.len, old.ok.0, w.ok.0) in (
-      edited o c.args.key es lawful old held w (λ l. insert l c.args.place c.args.value) c.in-Ok.ensures.items _ (c.get_mut.follows.holds w).0 some,
-      present g.T.Key.Ord.cmp c.args.key es old lawful.1 held,
+    let some : 0 < length w.items = omega (arith, held_some o c.args.key es lawful old held, at_least-by_cond (is_ok c.insert.result) (vec_len old) (vec_len w) c.insert.ensures.len, old.ok.0, w.ok.0) in (
+      map-set_value o c.args.key es lawful old held w (λ l. insert l c.args.place c.args.value) c.in-Ok.ensures.items _ (c.get_mut.follows.holds w).0 some,
+      is_filled-present g.T.Key.Ord.cmp c.args.key es old lawful.1 held,
     )
 
 pub returns-in-Err-clause-refused : goal.returns-in-Err-clause-refused
 returns-in-Err-clause-refused g c =
     let es = c.args.self.now.lists.entries in
     let w = c.insert.new.self in
-    ap (λ l. map list_of l) (c.get_mut.follows.holds w).0 ∙ unchanged (is_at (g.T.Key.Ord.cmp c.args.key)) c.in-Some.values.now es w c.in-Some.ensures.value c.in-Err.ensures.items
+    ap (λ l. map list_of l) (c.get_mut.follows.holds w).0 ∙ map-set_same_value (is_at (g.T.Key.Ord.cmp c.args.key)) c.in-Some.values.now es w c.in-Some.ensures.value c.in-Err.ensures.items
 
 pub returns-in_ok-insert_first-in-None-clause-accepted : goal.returns-in_ok-insert_first-in-None-clause-accepted
 returns-in_ok-insert_first-in-None-clause-accepted g c =
@@ -74,7 +74,7 @@ returns-in_ok-insert_first-in-None-clause-accepted g c =
     let es = c.args.self.now.lists.entries in
     let v = c.args.value in
     let none = c.in-None.ensures.value in
-    let len = ap (λ l. length l) (no_list cmp c.args.key es (sym none)) in (
+    let len = ap (λ l. length l) (list_at-lookup_none cmp c.args.key es (sym none)) in (
       first_put g.met.T.Key.Ord.total c.args.key es c.insert_first.new.self.lists.entries c.get_mut.follows.lender-at-none.entries v (λ l. insert l c.args.place v) none (insert_alone c.args.place v (omega (arith, len, c.requires))) (ap (λ m. m.entries) c.get_mut.follows.holds-at-none) c.in_ok-insert_first-in-None.ensures.accepted,
-      absent cmp c.args.key es none,
+      is_filled-absent cmp c.args.key es none,
     )

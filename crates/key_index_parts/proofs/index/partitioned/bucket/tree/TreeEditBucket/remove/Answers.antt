@@ -1,6 +1,6 @@
 use Rattle.std.proofs.Common.{refl, [], map, length, ap, sym, ◌∙◌, arith}
 use Rattle.key_index_parts.specs.Pairs.{list_of}
-use Rattle.key_index_parts.proofs.standing.TreeLemmas.{held_list, no_list, take_list, lawful_after, counted_after, had_within}
+use Rattle.key_index_parts.proofs.standing.TreeLemmas.{held_list, list_at-lookup_none, take_list, lawful_after, counted_after, had_within}
 use Rattle.key_index_parts.proofs.index.partitioned.bucket.tree.TreeEditBucket.remove.Goals as goal
 
 pub invariant_of-self : goal.invariant_of-self
@@ -38,4 +38,4 @@ returns-in-None-clause-content g c =
     ap (λ l. map list_of l) c.remove.ensures.entries ∙ take_list g.met.T.Key.Ord.total c.args.key c.args.self.now.lists.entries c.args.self.now.lawful.0
 
 pub returns-in-None-clause-taken : goal.returns-in-None-clause-taken
-returns-in-None-clause-taken g c = ap (λ l. length l) (sym (no_list g.T.Key.Ord.cmp c.args.key c.args.self.now.lists.entries (sym c.in-None.ensures.value)))
+returns-in-None-clause-taken g c = ap (λ l. length l) (sym (list_at-lookup_none g.T.Key.Ord.cmp c.args.key c.args.self.now.lists.entries (sym c.in-None.ensures.value)))

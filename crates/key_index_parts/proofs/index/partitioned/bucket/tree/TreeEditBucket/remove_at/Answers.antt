@@ -2,7 +2,7 @@ use Rattle.std.proofs.Common.{◌≡◌, ◌<◌, length, map, remove, refl, ap,
 use Rattle.std.proofs.lemmas.Option.{slice_get_read}
 use Rattle.std.specs.List.{slice_get}
 use Rattle.key_index_parts.specs.Pairs.{list_of}
-use Rattle.key_index_parts.proofs.standing.TreeLemmas.{held_list, is_held, lent_at, edited, emptied, had_within, put_back, left_out}
+use Rattle.key_index_parts.proofs.standing.TreeLemmas.{held_list, is_held, lent_at, map-set_value, map-remove_emptied, had_within, IsLawful-set_value, left_out}
 use Rattle.key_index_parts.proofs.index.partitioned.bucket.tree.TreeEditBucket.remove_at.Goals as goal
 use Rattle.key_index_parts.proofs.index.partitioned.bucket.tree.TreeEditBucket.remove_at.Goals.{then-left-eq0+in-Some-1, then-left-eq0+in-None-1, else-left-eq0}
 
@@ -46,7 +46,7 @@ invariant_of-self-else-left-eq0 g c =
     let some : 0 < length w.items = omega (arith, c.if-left-eq0.false, c.len-left.ensures, w.ok.0) in
     let list = ap (λ l. length l) (held_list g.T.Key.Ord.cmp c.args.key t.lists.entries old (sym held)) in
     let had = had_within g.met.T.Key.Ord.total c.args.key t.lists.entries t.lawful t.len _ t.counted refl in
-    let after = put_back g.met.T.Key.Ord.total c.args.key t.lists.entries t.lawful old held w t.len _ t.counted (omega (arith, list, had, c.requires, c.remove-value.ensures.len, old.ok.0, w.ok.0)) _ (c.get_mut.follows.holds w).0 some in
+    let after = IsLawful-set_value g.met.T.Key.Ord.total c.args.key t.lists.entries t.lawful old held w t.len _ t.counted (omega (arith, list, had, c.requires, c.remove-value.ensures.len, old.ok.0, w.ok.0)) _ (c.get_mut.follows.holds w).0 some in
     record { counted = after.0; lawful = after.1 }
 
 pub returns-clause-value : goal.returns-clause-value
@@ -70,13 +70,13 @@ returns-clause-content g c =
     elim c.if-left-eq0.branch [
       | then-left-eq0+in-Some-1 w ↦
           let none : length v.items ≡ 0 = omega (arith, w.if-left-eq0.true, c.len-left.ensures, v.ok.0) in
-          ap (λ p. map list_of p.lists.entries) w.self-is ∙ emptied o c.args.key es lawful values.now held v (λ l. remove l c.args.place) c.remove-value.ensures.items _ _ set w.remove.ensures.entries none
+          ap (λ p. map list_of p.lists.entries) w.self-is ∙ map-remove_emptied o c.args.key es lawful values.now held v (λ l. remove l c.args.place) c.remove-value.ensures.items _ _ set w.remove.ensures.entries none
       | then-left-eq0+in-None-1 w ↦
           let none : length v.items ≡ 0 = omega (arith, w.if-left-eq0.true, c.len-left.ensures, v.ok.0) in
-          ap (λ p. map list_of p.lists.entries) w.self-is ∙ emptied o c.args.key es lawful values.now held v (λ l. remove l c.args.place) c.remove-value.ensures.items _ _ set w.remove.ensures.entries none
+          ap (λ p. map list_of p.lists.entries) w.self-is ∙ map-remove_emptied o c.args.key es lawful values.now held v (λ l. remove l c.args.place) c.remove-value.ensures.items _ _ set w.remove.ensures.entries none
       | else-left-eq0 w ↦
           let some : 0 < length v.items = omega (arith, w.if-left-eq0.false, c.len-left.ensures, v.ok.0) in
-          ap (λ p. map list_of p.lists.entries) w.self-is ∙ edited o c.args.key es lawful values.now held v (λ l. remove l c.args.place) c.remove-value.ensures.items _ set some
+          ap (λ p. map list_of p.lists.entries) w.self-is ∙ map-set_value o c.args.key es lawful values.now held v (λ l. remove l c.args.place) c.remove-value.ensures.items _ set some
     ]
 
 pub returns-clause-left : goal.returns-clause-left

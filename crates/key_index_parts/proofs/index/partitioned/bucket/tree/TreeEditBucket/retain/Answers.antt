@@ -5,7 +5,7 @@ use Rattle.key_index_flat.proofs.content.EditLemmas.{filtered_none}
 use Rattle.key_index_flat.specs.Content.{IsLawful, item_count}
 use Rattle.key_index_parts.specs.Pairs.{list_of}
 use Rattle.key_index_parts.proofs.family.BucketLemmas.{kept_at_most}
-use Rattle.key_index_parts.proofs.standing.TreeLemmas.{held_list, no_list, left_absent, edited, emptied, had_within, put_back, left_out}
+use Rattle.key_index_parts.proofs.standing.TreeLemmas.{held_list, list_at-lookup_none, left_absent, map-set_value, map-remove_emptied, had_within, IsLawful-set_value, left_out}
 use Rattle.key_index_parts.proofs.index.partitioned.bucket.tree.TreeEditBucket.retain.Goals as goal
 
 pub invariant_of-self : goal.invariant_of-self
@@ -23,13 +23,13 @@ returns-in_default-clause-kept g c =
     let none = c.in_default.ensures.value in
     let R = CalledAt g.F.FnMut in (
       [],
-      subst (λ l. IsFiltered R c.args.should_retain l []) (sym (no_list cmp c.args.key es (sym none))) (filtered_none R c.args.should_retain),
+      subst (λ l. IsFiltered R c.args.should_retain l []) (sym (list_at-lookup_none cmp c.args.key es (sym none))) (filtered_none R c.args.should_retain),
       ap (λ m. map list_of m.entries) c.get_mut.follows.holds-at-none ∙ left_absent g.met.T.Key.Ord.total g.met.T.Translator.exact c.args.key es c.args.self.now.lawful none,
       refl,
     )
 
 pub returns-in_default-clause-had : goal.returns-in_default-clause-had
-returns-in_default-clause-had g c = ap (λ l. length l) (sym (no_list g.T.Key.Ord.cmp c.args.key c.args.self.now.lists.entries (sym c.in_default.ensures.value)))
+returns-in_default-clause-had g c = ap (λ l. length l) (sym (list_at-lookup_none g.T.Key.Ord.cmp c.args.key c.args.self.now.lists.entries (sym c.in_default.ensures.value)))
 
 pub overflow_sub-self-2 : goal.overflow_sub-self-2
 overflow_sub-self-2 g c =
@@ -60,7 +60,7 @@ invariant_of-self-else-left-eq0 g c =
     let list = ap (λ l. length l) (held_list g.T.Key.Ord.cmp c.args.key t.lists.entries old (sym c.in-Some.ensures.value)) in
     let had = had_within g.met.T.Key.Ord.total c.args.key t.lists.entries t.lawful t.len _ t.counted refl in
     let few = kept_at_most (CalledAt g.F.FnMut) c.args.should_retain old.items w.items c.retain.ensures.filtered in
-    let after = put_back g.met.T.Key.Ord.total c.args.key t.lists.entries t.lawful old c.in-Some.ensures.value w t.len _ t.counted (omega (arith, list, had, few, c.len-had.ensures, c.len-left.ensures, old.ok.0, w.ok.0)) _ (c.get_mut.follows.holds w).0 some in
+    let after = IsLawful-set_value g.met.T.Key.Ord.total c.args.key t.lists.entries t.lawful old c.in-Some.ensures.value w t.len _ t.counted (omega (arith, list, had, few, c.len-had.ensures, c.len-left.ensures, old.ok.0, w.ok.0)) _ (c.get_mut.follows.holds w).0 some in
     record { counted = after.0; lawful = after.1 }
 
 pub returns-then-left-eq0-clause-kept : goal.returns-then-left-eq0-clause-kept
@@ -72,7 +72,7 @@ returns-then-left-eq0-clause-kept g c =
     let none : length v.items ≡ 0 = omega (arith, c.if-left-eq0.true, c.len-left.ensures, v.ok.0) in (
       v.items,
       subst (λ l. IsFiltered (CalledAt g.F.FnMut) c.args.should_retain l v.items) (sym (held_list g.T.Key.Ord.cmp c.args.key es c.in-Some.values.now (sym held))) c.retain.ensures.filtered,
-      emptied o c.args.key es c.args.self.now.lawful c.in-Some.values.now held v (λ _. v.items) refl _ _ (c.get_mut.follows.holds v).0 c.remove.ensures.entries none,
+      map-remove_emptied o c.args.key es c.args.self.now.lawful c.in-Some.values.now held v (λ _. v.items) refl _ _ (c.get_mut.follows.holds v).0 c.remove.ensures.entries none,
       omega (arith, c.len-left.ensures, v.ok.0),
     )
 
@@ -91,7 +91,7 @@ returns-else-left-eq0-clause-kept g c =
     let some : 0 < length v.items = omega (arith, c.if-left-eq0.false, c.len-left.ensures, v.ok.0) in (
       v.items,
       subst (λ l. IsFiltered (CalledAt g.F.FnMut) c.args.should_retain l v.items) (sym (held_list g.T.Key.Ord.cmp c.args.key es c.in-Some.values.now (sym held))) c.retain.ensures.filtered,
-      edited o c.args.key es c.args.self.now.lawful c.in-Some.values.now held v (λ _. v.items) refl _ (c.get_mut.follows.holds v).0 some,
+      map-set_value o c.args.key es c.args.self.now.lawful c.in-Some.values.now held v (λ _. v.items) refl _ (c.get_mut.follows.holds v).0 some,
       omega (arith, c.len-left.ensures, v.ok.0),
     )
 

@@ -1,7 +1,7 @@
 use Rattle.std.proofs.Common.{◌<◌, length, slice_set, refl, ap, sym, arith}
 use Rattle.std.proofs.lemmas.List.{length-set}
 use Rattle.std.specs.Vec.{with_item}
-use Rattle.key_index_parts.proofs.standing.TreeLemmas.{held_list, is_held, lent_at, edited, held_some, put_back}
+use Rattle.key_index_parts.proofs.standing.TreeLemmas.{held_list, is_held, lent_at, map-set_value, held_some, IsLawful-set_value}
 use Rattle.key_index_parts.proofs.index.partitioned.bucket.tree.TreeEditBucket.set_at.Goals as goal
 
 pub unwrap-values-requires : goal.unwrap-values-requires
@@ -26,7 +26,7 @@ invariant_of-self g c =
     let w = with_item old c.args.place c.args.value in
     let some : 0 < length w.items = omega (arith, held_some g.met.T.Key.Ord.total c.args.key t.lists.entries t.lawful old held, length-set old.items c.args.place c.args.value) in
     let same = length-set old.items c.args.place c.args.value in
-    let after = put_back g.met.T.Key.Ord.total c.args.key t.lists.entries t.lawful old held w t.len _ t.counted (omega (arith, same)) _ (c.get_mut.follows.holds w).0 some in
+    let after = IsLawful-set_value g.met.T.Key.Ord.total c.args.key t.lists.entries t.lawful old held w t.len _ t.counted (omega (arith, same)) _ (c.get_mut.follows.holds w).0 some in
     record { counted = after.0; lawful = after.1 }
 
 pub returns-clause-content : goal.returns-clause-content
@@ -38,4 +38,4 @@ returns-clause-content g c =
     let held = lent_at g.T.Key.Ord.cmp c.args.key es c.get_mut.result c.get_mut.ensures.value values c.unwrap-values.ensures in
     let w = with_item values.now c.args.place c.args.value in
     let some : 0 < length w.items = omega (arith, held_some o c.args.key es lawful values.now held, length-set values.now.items c.args.place c.args.value) in
-    edited o c.args.key es lawful values.now held w (λ l. slice_set l c.args.place c.args.value) refl _ (c.get_mut.follows.holds w).0 some
+    map-set_value o c.args.key es lawful values.now held w (λ l. slice_set l c.args.place c.args.value) refl _ (c.get_mut.follows.holds w).0 some

@@ -5,7 +5,7 @@ use mir.Val.{bool_byte}
 use Rattle.key_index_flat.specs.Content.{IsLawful, item_count, list_at, with_list}
 use Rattle.key_index_parts.specs.Family.{RetainsWith}
 use Rattle.key_index_parts.specs.Pairs.{list_of}
-use Rattle.key_index_parts.proofs.standing.TreeLemmas.{held_list, no_list, over_same, held_some, edited, emptied, unchanged, left_held, few_held, retained, retained_alone, had_within, put_back, left_out}
+use Rattle.key_index_parts.proofs.standing.TreeLemmas.{held_list, list_at-lookup_none, over_same, held_some, map-set_value, map-remove_emptied, map-set_same_value, left_held, few_held, RetainsWith-asked, retained_alone, had_within, IsLawful-set_value, left_out}
 use Rattle.key_index_parts.proofs.index.partitioned.bucket.tree.TreeForm.insert_and_retain.Goals as goal
 use Rattle.key_index_parts.proofs.index.partitioned.bucket.tree.TreeForm.insert_and_retain.Goals.{then-left-eq0+in-Some-1, then-left-eq0+in-None-1, else-left-eq0}
 
@@ -29,7 +29,7 @@ pub insert_first_and_retain-requires-clause-absent : goal.insert_first_and_retai
 insert_first_and_retain-requires-clause-absent g c =
     let cmp = g.T.Key.Ord.cmp in
     ap (λ m. list_at cmp (map list_of m.entries) c.args.key) c.get_mut.follows.holds-at-none
-    ∙ no_list cmp c.args.key c.args.self.now.lists.entries (sym c.in-None.ensures.value)
+    ∙ list_at-lookup_none cmp c.args.key c.args.self.now.lists.entries (sym c.in-None.ensures.value)
 
 pub invariant_of-self : goal.invariant_of-self
 invariant_of-self g c =
@@ -38,14 +38,14 @@ invariant_of-self g c =
     let w = c.push.new.self in
     let some : 0 < length w.items = omega (arith, held_some g.met.T.Key.Ord.total c.args.key t.lists.entries t.lawful old c.in-Some.ensures.value, c.push.ensures.lower_bound, old.ok.0, w.ok.0) in
     let same = ap (λ l. length l) c.in-Err.ensures.items in
-    let after = put_back g.met.T.Key.Ord.total c.args.key t.lists.entries t.lawful old c.in-Some.ensures.value w t.len _ t.counted (omega (arith, same)) _ (c.get_mut.follows.holds w).0 some in
+    let after = IsLawful-set_value g.met.T.Key.Ord.total c.args.key t.lists.entries t.lawful old c.in-Some.ensures.value w t.len _ t.counted (omega (arith, same)) _ (c.get_mut.follows.holds w).0 some in
     record { counted = after.0; lawful = after.1 }
 
 pub returns-in-Err-clause-refused : goal.returns-in-Err-clause-refused
 returns-in-Err-clause-refused g c =
     let es = c.args.self.now.lists.entries in
     let w = c.push.new.self in
-    ap (λ l. map list_of l) (c.get_mut.follows.holds w).0 ∙ unchanged (is_at (g.T.Key.Ord.cmp c.args.key)) c.in-Some.values.now es w c.in-Some.ensures.value c.in-Err.ensures.items
+    ap (λ l. map list_of l) (c.get_mut.follows.holds w).0 ∙ map-set_same_value (is_at (g.T.Key.Ord.cmp c.args.key)) c.in-Some.values.now es w c.in-Some.ensures.value c.in-Err.ensures.items
 
 pub overflow_sub-self : goal.overflow_sub-self
 overflow_sub-self g c =
@@ -93,7 +93,7 @@ invariant_of-self-else-left-eq0 g c =
     let some : 0 < length w.items = omega (arith, c.if-left-eq0.false, c.len-left.ensures, w.ok.0) in
     let list = ap (λ l. length l) (held_list g.T.Key.Ord.cmp c.args.key t.lists.entries old (sym c.in-Some.ensures.value)) in
     let had = had_within g.met.T.Key.Ord.total c.args.key t.lists.entries t.lawful t.len _ t.counted refl in
-    let after = put_back g.met.T.Key.Ord.total c.args.key t.lists.entries t.lawful old c.in-Some.ensures.value w t.len _ t.counted (omega (arith, list, had, c.len-had.ensures, c.len-left.ensures, old.ok.0, w.ok.0)) _ (c.get_mut.follows.holds w).0 some in
+    let after = IsLawful-set_value g.met.T.Key.Ord.total c.args.key t.lists.entries t.lawful old c.in-Some.ensures.value w t.len _ t.counted (omega (arith, list, had, c.len-had.ensures, c.len-left.ensures, old.ok.0, w.ok.0)) _ (c.get_mut.follows.holds w).0 some in
     record { counted = after.0; lawful = after.1 }
 
 pub overflow_sub-taken : goal.overflow_sub-taken
@@ -125,17 +125,17 @@ returns-after-left-eq0-clause-accepted g c =
     let now : map list_of c.if-left-eq0.self.lists.entries ≡ with_list cmp (map list_of es) k v.items = elim c.if-left-eq0.branch [
       | then-left-eq0+in-Some-1 w ↦
           let none : length v.items ≡ 0 = omega (arith, w.if-left-eq0.true, c.len-left.ensures, v.ok.0) in
-          ap (λ p. map list_of p.lists.entries) w.self-is ∙ emptied o k es lawful old held v (λ _. v.items) refl _ _ set w.remove.ensures.entries none
+          ap (λ p. map list_of p.lists.entries) w.self-is ∙ map-remove_emptied o k es lawful old held v (λ _. v.items) refl _ _ set w.remove.ensures.entries none
       | then-left-eq0+in-None-1 w ↦
           let none : length v.items ≡ 0 = omega (arith, w.if-left-eq0.true, c.len-left.ensures, v.ok.0) in
-          ap (λ p. map list_of p.lists.entries) w.self-is ∙ emptied o k es lawful old held v (λ _. v.items) refl _ _ set w.remove.ensures.entries none
+          ap (λ p. map list_of p.lists.entries) w.self-is ∙ map-remove_emptied o k es lawful old held v (λ _. v.items) refl _ _ set w.remove.ensures.entries none
       | else-left-eq0 w ↦
           let some : 0 < length v.items = omega (arith, w.if-left-eq0.false, c.len-left.ensures, v.ok.0) in
-          ap (λ p. map list_of p.lists.entries) w.self-is ∙ edited o k es lawful old held v (λ _. v.items) refl _ set some
+          ap (λ p. map list_of p.lists.entries) w.self-is ∙ map-set_value o k es lawful old held v (λ _. v.items) refl _ set some
     ] in
     subst (λ (l : List g.row.V.Denot). RetainsWith R c.args.should_retain l c.args.value c.len-had.result c.len-left.result (c.len-had.result + c.from.result - c.len-left.result)
     (λ m. map list_of c.if-left-eq0.self.lists.entries ≡ with_list cmp (map list_of es) k m)) (sym (held_list cmp k es old (sym held)))
-    (retained R c.args.should_retain old.items c.args.value c.push.new.self.items v.items c.retain_in_turn-stays.result behind asked (λ m. map list_of c.if-left-eq0.self.lists.entries ≡ with_list cmp (map list_of es) k m) _ _ _ now
+    (RetainsWith-asked R c.args.should_retain old.items c.args.value c.push.new.self.items v.items c.retain_in_turn-stays.result behind asked (λ m. map list_of c.if-left-eq0.self.lists.entries ≡ with_list cmp (map list_of es) k m) _ _ _ now
     (omega (arith, c.len-had.ensures, old.ok.0)) (omega (arith, c.len-left.ensures, v.ok.0))
     (omega (arith, left, few, last, c.from.ensures, c.len-had.ensures, c.len-left.ensures, old.ok.0, v.ok.0)))
 
@@ -149,7 +149,7 @@ returns-in_ok-stays-in-None-clause-accepted g c =
     let stays = c.in_ok-stays-in-None.stays in
     let last = as_byte stays in
     let Becomes = λ (m : List g.row.V.Denot). map list_of c.insert_first_and_retain.new.self.lists.entries ≡ with_list cmp (map list_of es) k m in
-    subst (λ (l : List g.row.V.Denot). RetainsWith R c.args.should_retain l v 0 c.from-left.result 0 Becomes) (sym (no_list cmp k es (sym c.in-None.ensures.value)))
+    subst (λ (l : List g.row.V.Denot). RetainsWith R c.args.should_retain l v 0 c.from-left.result 0 Becomes) (sym (list_at-lookup_none cmp k es (sym c.in-None.ensures.value)))
     (retained_alone R c.args.should_retain v stays c.in_ok-stays-in-None.ensures.asked.0 _ Becomes c.in_ok-stays-in-None.ensures.asked.1
     (over_same g.met.T.Key.Ord.total k es c.insert_first_and_retain.new.self.lists.entries c.get_mut.follows.lender-at-none.entries (cond stays (v ∷ []) [])
     (ap (λ m. m.entries) c.get_mut.follows.holds-at-none) c.in_ok-stays-in-None.ensures.accepted)
