@@ -1,6 +1,6 @@
 use Rattle.std.proofs.Common.{rules, ◌≡◌, ◌<◌, ◌≤◌, ◌^◌, length, ap, arith}
 use Rattle.key_index_flat.proofs.runs.CursorLemmas.{list_at_edit}
-use Rattle.key_index_flat.proofs.asked.KeptLemmas.{lawful_edit, counted_edit, within_count}
+use Rattle.key_index_flat.proofs.asked.KeptLemmas.{lawful_edit, IsCounted-with_list, within_count}
 use Rattle.key_index_flat.proofs.asked.TurnLemmas.{few_kept}
 use Rattle.key_index_flat.proofs.index.storage.Storage.insert_and_retain.Goals as goal
 
@@ -21,7 +21,7 @@ pub invariant_of-self : goal.invariant_of-self
 invariant_of-self g c =
     let within = within_count g.met.T.Key.Ord.total c.self.inside.chains c.args.slot _ c.self.invariant in
     let said = c.in-Ok.ensures.accepted in
-    counted_edit g.met.T.Key.Ord.total _ _ _ _ _ _ c.self.invariant said.2 (omega (arith, within, said.3, c.in-Ok.ensures.had))
+    IsCounted-with_list g.met.T.Key.Ord.total _ _ _ _ _ _ c.self.invariant said.2 (omega (arith, within, said.3, c.in-Ok.ensures.had))
 
 pub returns-in-Ok-clause-left : goal.returns-in-Ok-clause-left
 returns-in-Ok-clause-left g c =
