@@ -1,4 +1,4 @@
-use Rattle.std.proofs.Common.{rules, ◌≡◌, ◌<◌, ◌≤◌, ◌^◌, length, ap, arith}
+use Rattle.std.proofs.Common.{rules, ◌<◌, ◌^◌, length, ap, arith}
 use Rattle.key_index_flat.proofs.runs.CursorLemmas.{list_at_edit}
 use Rattle.key_index_flat.proofs.asked.KeptLemmas.{lawful_edit, IsCounted-with_list, within_count}
 use Rattle.key_index_flat.proofs.asked.TurnLemmas.{few_kept}
