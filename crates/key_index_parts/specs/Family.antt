@@ -23,7 +23,7 @@
 --     view_from                  the same of a range's storage, whose buckets are numbered from `first`
 --     with_items_from             with other items in the place of those from a number on
 --     with_buckets_from, AreFree    the same of buckets; so many from there hold nothing
-use Rattle.std.specs.Prelude.{◌≡◌, ◌⊎◌, ℕ, ◌+◌, ◌-◌, ◌^◌, ◌<◌, ◌≤◌, Bool, not, ◌&&◌, ◌||◌, if◌then◌else◌, nat_lt, nat_le, List, [], ◌++◌, length, map, take, drop, All, slice_index_or, slice_set}
+use Rattle.std.specs.Prelude.{◌≡◌, ◌⊎◌, ℕ, ◌+◌, ◌-◌, ◌^◌, ◌<◌, ◌≤◌, Bool, not, ◌&&◌, if◌then◌else◌, nat_lt, List, [], ◌++◌, length, map, take, drop, All, slice_index_or, slice_set}
 use Rattle.std.specs.declared.cmp.Ordering.{Ordering}
 use Rattle.key_index_flat.specs.Retention.{AsksBehind}
 use Rattle.key_index_flat.specs.Content.{Content, is_filled, IsLawful, list_at, with_list, item_count, key_count}

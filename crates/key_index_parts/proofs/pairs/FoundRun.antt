@@ -9,7 +9,7 @@
 --     IsFound-removed                                       where the run stands after one of its pairs is taken out
 --     found_appended, ..                                    and after a pair was put behind it
 --     length-kept_of_run, few_of_run, RetainsWith-run       what is left, where each value was asked on then
-use Rattle.std.proofs.Common.{◌≡◌, ℕ, suc, ◌+◌, ◌-◌, ◌<◌, ◌≤◌, Bool, cond, true, false, not, nat_eq, List, [], ◌∷◌, ◌++◌, length, insert, remove, slice_set, slice_get, Some, length-append, refl, sym, ap, subst, ◌∙◌, arith}
+use Rattle.std.proofs.Common.{◌≡◌, ℕ, suc, ◌+◌, ◌-◌, ◌<◌, ◌≤◌, Bool, cond, true, false, not, nat_eq, List, [], ◌∷◌, ◌++◌, length, insert, remove, slice_set, slice_get, Some, length-append, sym, ap, subst, ◌∙◌, arith}
 use Rattle.std.proofs.lemmas.Bool.{eq-eqb, ne_eqb}
 use Rattle.std.proofs.lemmas.List.Edits.{length-remove, length-insert, insert_end}
 use Rattle.std.proofs.lemmas.Option.{slice_get-map}

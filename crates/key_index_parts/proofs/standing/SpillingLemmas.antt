@@ -4,7 +4,7 @@
 --     item_count-retained                              an insertion with retention leaves at most one value more
 --     in_tree, Grows-below_limit, Grows-limit_reached  how a tree stands after an insertion, arrays below the limit, and a tree that arrays became
 --     held_by-tree, held_now                           what a bucket with a tree holds, which is something
-use Rattle.std.proofs.Common.{◌≡◌, ℕ, zero, suc, ◌+◌, ◌<◌, ◌≤◌, Bool, true, false, not, ◌&&◌, ◌||◌, nat_lt, nat_le, if◌then◌else◌, List, [], length, Option, Some, Result, Ok, Err, IfOk, OnErr, Box, refl, sym, ap, subst, ◌∙◌, arith}
+use Rattle.std.proofs.Common.{◌≡◌, ℕ, zero, suc, ◌+◌, ◌<◌, ◌≤◌, Bool, true, false, not, ◌&&◌, ◌||◌, nat_lt, nat_le, if◌then◌else◌, List, length, Option, Some, Result, Ok, Err, IfOk, OnErr, Box, refl, sym, ap, subst, ◌∙◌, arith}
 use Rattle.std.proofs.lemmas.Bool.{lt-leb, le-leb, lt-ltb}
 use Rattle.std.specs.Cmp.{IsTotalOrder}
 use Rattle.std.specs.declared.cmp.Ordering.{Ordering}

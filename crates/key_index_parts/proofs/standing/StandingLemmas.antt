@@ -12,14 +12,14 @@
 use Rattle.std.proofs.Common.{◌≡◌, ℕ, zero, suc, ◌<◌, ◌≤◌, Bool, true, false, not, ◌&&◌, ◌||◌, if◌then◌else◌, nat_le, nat_lt, T, List, length, set, inl, inr, refl, sym, ap, subst, ◌∙◌, arith}
 use Rattle.std.specs.Prelude.{IsTrue, Result, Ok, Err, OnOk, OnErr}
 use Rattle.std.proofs.lemmas.Bool.{leb-false, leb-true, lt-ltb, lt-leb}
-use Rattle.std.proofs.lemmas.List.{get_or-set_same, set-set, set-get_or, set_past, length-set}
+use Rattle.std.proofs.lemmas.List.{get_or-set_same, set-get_or, set_past, length-set}
 use Rattle.key_index_flat.specs.View.{pruned_after}
 use Rattle.key_index_parts.specs.Counts.{one_if}
 use Rattle.key_index_flat.specs.Content.{item_count}
 use Rattle.key_index_parts.specs.Family.{Kept, IsLeft, settled_in}
 use Rattle.key_index_parts.specs.Gathered.{gathered}
 use Rattle.key_index_parts.specs.laws.StandingLaws.{settles_by, resettles_by}
-use Rattle.key_index_parts.specs.Standing.{Standing, Standings, GrowsIn, Leaves, LeavesSome, MovesBack, Refuses, Resettles, Settles, SpillsIn, after_call, entries_at, is_reached, is_reached_by, is_small, left_with, spilled_if_reached, standing_at, standing_in, with_entries, with_inline, with_left, with_spill, with_spilled}
+use Rattle.key_index_parts.specs.Standing.{Standing, Standings, GrowsIn, Leaves, LeavesSome, MovesBack, Refuses, Resettles, Settles, SpillsIn, after_call, entries_at, is_reached, is_reached_by, is_small, left_with, spilled_if_reached, standing_at, standing_in, with_entries, with_inline, with_spill}
 
 pub pruned_after-zero : (n : ℕ) → pruned_after n 0 ≡ n
 pruned_after-zero n = omega arith

@@ -1,4 +1,4 @@
-use Rattle.std.proofs.Common.{◌≡◌, ◌<◌, ◌||◌, refl, ap, sym, arith, ◌∙◌}
+use Rattle.std.proofs.Common.{◌<◌, ◌||◌, refl, ap, sym, arith, ◌∙◌}
 use Rattle.std.proofs.lemmas.Bool.{lt-ltb}
 use Rattle.key_index_flat.specs.Content.{is_filled}
 use Rattle.key_index_parts.proofs.family.FamilyLemmas.{bucket_taken, bucket_stays, flags_stay, family_stays, spills_to, due_told, due_none, none_refused, refused_so, spills_so, counted_buckets}

@@ -1,7 +1,5 @@
-use Rattle.std.proofs.Common.{inr, rules, ◌<◌, ◌^◌, refl, ap, ◌∙◌, arith}
-use Rattle.key_index_flat.specs.Content.{item_count}
+use Rattle.std.proofs.Common.{inr, ap, ◌∙◌}
 use Rattle.key_index_parts.specs.Family.{settled_in}
-use Rattle.key_index_parts.specs.Gathered.{gathered}
 use Rattle.key_index_parts.specs.Standing.{entries_at, with_entries}
 use Rattle.key_index_parts.specs.laws.StandingLaws.{settles_by}
 use Rattle.key_index_parts.proofs.family.StorageLemmas.{memory_fault}

@@ -1,9 +1,8 @@
-use Rattle.std.proofs.Common.{inr, rules, ◌≡◌, ℕ, subst, sym, ◌<◌, ◌^◌, refl, ap, ◌∙◌, arith}
+use Rattle.std.proofs.Common.{inr, ◌≡◌, ℕ, subst, sym, ap, ◌∙◌}
 use Rattle.std.specs.Fn.{CalledAt}
-use Rattle.key_index_flat.specs.Content.{item_count}
 use Rattle.key_index_flat.specs.View.{View, InsertsAndRetains}
 use Rattle.key_index_parts.specs.Family.{Kept, settled_in, view_of}
-use Rattle.key_index_parts.specs.Gathered.{gathered, pair_cmp}
+use Rattle.key_index_parts.specs.Gathered.{pair_cmp}
 use Rattle.key_index_parts.specs.Standing.{entries_at, with_entries}
 use Rattle.key_index_parts.proofs.standing.StandingLemmas.{Resettles-MovesBack}
 use Rattle.key_index_parts.proofs.family.StorageLemmas.{kept_twice, memory_fault}
