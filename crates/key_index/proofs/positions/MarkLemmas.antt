@@ -1,13 +1,11 @@
 -- What marks leave of an immutable index, one after another.
 --     MarkedTo                         the marks so far: MarkedTo-first, marked_more, marked_all
 --     marks_start, marks_keys          the start and the keys by position at the end
-use Rattle.std.proofs.Common.{◌≡◌, ◌≢◌, ℕ, ◌+◌, ◌^◌, ◌-◌, ◌≤◌, true, false, cond, nat_le, ◌==◌, List, [], ◌∷◌, ◌++◌, length, append_assoc, append-nil, Option, Some, None, ◌↔◌, refl, sym, ap, subst, ◌∙◌, arith}
+use Rattle.std.proofs.Common.{◌≡◌, ℕ, ◌+◌, ◌≤◌, true, false, cond, nat_le, ◌==◌, List, [], ◌∷◌, ◌++◌, length, append_assoc, append-nil, Option, Some, None, refl, sym, ap, subst, ◌∙◌, arith}
 use Rattle.std.proofs.lemmas.Bool.{leb-true, leb-false, le-leb}
 use Rattle.std.proofs.lemmas.List.{length_push}
-use Rattle.key_index_flat.specs.declared.index.Fault.{Fault}
-use Rattle.key_index_flat.specs.declared.index.Fault.TheVariants.{Memory, Full, TooFar}
 use Rattle.key_index.specs.Immutable.{Log, key_at}
-use Rattle.key_index.specs.Marks.{MarkGives, AreMarked, insertion_fault, start_with, start_after, keys_with, keys_after}
+use Rattle.key_index.specs.Marks.{MarkGives, AreMarked, start_with, start_after, keys_with, keys_after}
 use Rattle.key_index.specs.declared.index.immutable.marks.Mark.{Mark}
 use Rattle.key_index.specs.declared.index.immutable.marks.Mark.TheVariants as mark
 use Rattle.key_index.specs.declared.index.immutable.marks.Marked.{Marked}
