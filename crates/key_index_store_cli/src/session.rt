@@ -1,106 +1,79 @@
 //! A session: commands, and a line that answers each.
 
+use crate::answer::{Answer, reason};
 use crate::failure::Failure;
 use crate::file_log::FileLog;
-use crate::line::{Command, parse};
-use crate::order::Order;
-use key_index_flat::index::Factory;
+use crate::line::{Command, InOrder, parse};
+use key_index_flat::index::{Factory, Ordered, Unordered};
 use key_index_flat::translator::EightCap;
 use key_index_store::store::{Fault, Store};
-use std::io::{self, BufRead, Write};
+use std::io::{BufRead, Write};
+use std::str;
 
-/// The line that answers a refused command.
-pub fn refusal(fault: Fault) -> &'static str {
-    match fault {
-        Fault::Memory => "refused memory",
-        Fault::Full => "refused full",
-        Fault::TooLong => "refused long",
-        Fault::ReadFailed => "refused read",
-        Fault::WriteFailed => "refused write",
-        Fault::Tail => "refused tail",
-        Fault::Changed => "refused changed",
-    }
-}
-
-/// Writes two hexadecimal digits for each byte, or `-` for none.
-pub fn write_bytes<W: Write>(bytes: &[u8], output: &mut W) -> io::Result<()> {
-    if bytes.is_empty() {
-        write!(output, "-")?;
-    }
-    for byte in bytes {
-        write!(output, "{byte:02x}")?;
-    }
-    Ok(())
-}
-
-/// Runs one command, and writes its answer.
-fn answer<I: Factory<Translator = EightCap, Value = u64> + Drop, O: Order<I>, W: Write>(
+/// Runs the commands of the input's lines, to its end. `in_order` runs those that ask for the order of the keys.
+pub fn run_lines<I, O, R: BufRead, W: Write>(
     rt: &HostRuntime,
     store: &mut Store<FileLog, I>,
-    command: &Command,
-    output: &mut W,
-) -> io::Result<()>
-    requires { I.makes }
-{
-    match command {
-        Command::Put(key, value) => match store.put(key.as_slice(), value.as_slice()) {
-            Ok(()) => writeln!(output, "ok"),
-            Err(fault) => writeln!(output, "{}", refusal(fault)),
-        },
-        Command::Get(key) => match store.get(key.as_slice()) {
-            Ok(Some(value)) => {
-                write!(output, "value ")?;
-                write_bytes(value.as_slice(), output)?;
-                writeln!(output, "")
-            }
-            Ok(None) => writeln!(output, "none"),
-            Err(fault) => writeln!(output, "{}", refusal(fault)),
-        },
-        Command::Delete(key) => match store.delete(key.as_slice()) {
-            Ok(true) => writeln!(output, "ok"),
-            Ok(false) => writeln!(output, "none"),
-            Err(fault) => writeln!(output, "{}", refusal(fault)),
-        },
-        Command::Count => writeln!(output, "count {}", store.len()),
-        Command::InOrder(command) => O::answer(rt, store, command, output),
-    }
-}
-
-/// Runs the commands of the input's lines, to its end.
-pub fn run_lines<
-    I: Factory<Translator = EightCap, Value = u64> + Drop,
-    O: Order<I>,
-    R: BufRead,
-    W: Write,
->(
-    rt: &HostRuntime,
-    store: &mut Store<FileLog, I>,
+    in_order: &O,
     input: &mut R,
     output: &mut W,
 ) -> Result<(), Failure>
-    requires { I.makes }
+where
+    I: Unordered<Value = u64>,
+    O: Fn(&HostRuntime, &Store<FileLog, I>, &InOrder) -> Result<Answer, Fault>,
+    requires { O.IsAlwaysCallable in_order.now }
 {
-    let alloc = rt.alloc();
-    let mut line = Vec::new(alloc);
+    let mut line = Vec::new(rt.alloc());
     for number in 1..u64::MAX {
         line.clear();
-        match input.read_until(b'\n', &mut line) {
-            Ok(0) => return Ok(()),
-            Ok(_) => {}
-            Err(_) => return Err(Failure::Failed),
+        let read = input.read_until(b'\n', &mut line);
+        if read.map_err(|_| Failure::Failed)? == 0 {
+            return Ok(());
         }
         if line.last() == Some(&b'\n') {
             let _ = line.pop();
         }
-        let Ok(parsed) = parse(alloc, line.as_slice()) else {
-            return Err(Failure::Failed);
+        let answer = match parse(rt.alloc(), number, &line)? {
+            Command::Put(key, value) => store.put(&key, &value).map(|()| Answer::Done),
+            Command::Get(key) => store.get(&key).map(Answer::Value),
+            Command::Delete(key) => store.delete(&key).map(Answer::Deleted),
+            Command::Count => Ok(Answer::Count(store.len())),
+            Command::InOrder(command) => in_order(rt, store, &command),
         };
-        let Some(command) = parsed else {
-            return Err(Failure::BadLine(number));
-        };
-        if answer::<I, O, W>(rt, store, &command, output).is_err() {
-            return Err(Failure::Failed);
-        }
+        let answer = answer.unwrap_or_else(|fault| Answer::Refused(reason(fault)));
+        writeln!(output, "{answer}").map_err(|_| Failure::Failed)?;
     }
     Ok(())
+}
+
+/// Refuses a command that asks for the order of the keys.
+pub fn refuse<I: Unordered<Value = u64>>(
+    _rt: &HostRuntime,
+    _store: &Store<FileLog, I>,
+    _command: &InOrder,
+) -> Result<Answer, Fault> {
+    Ok(Answer::Refused("unordered"))
+}
+
+/// Runs a command that asks for the order of the keys.
+pub fn run_in_order<I: Ordered<Value = u64> + Factory<Translator = EightCap> + Drop>(
+    rt: &HostRuntime,
+    store: &Store<FileLog, I>,
+    command: &InOrder,
+) -> Result<Answer, Fault>
+    requires { I.makes }
+{
+    match command {
+        InOrder::Next(key) => store.next(key).map(Answer::Entry),
+        InOrder::Prev(key) => store.prev(key).map(Answer::Entry),
+        InOrder::Absent(key) => store.absent(key).map(Answer::Gap),
+        InOrder::Compact(name) => {
+            let path = str::from_utf8(name).ok();
+            let Some(log) = path.and_then(|path| FileLog::open(rt, path).ok()) else {
+                return Ok(Answer::Refused("open"));
+            };
+            let index = I::new(rt.alloc(), EightCap).map_err(|_| Fault::Memory)?;
+            store.compact(log, index).map(|_| Answer::Done)
+        }
+    }
 }
