@@ -372,8 +372,10 @@ impl<L: Log, I: Unordered<Value = u64>> Store<L, I> {
             option_map (λ v. v.items) o ≡ map.get (held self.now) key.now) }
         ensures fault { L.is_honest → IfErr result MayRead }
     {
-        let found = find(self.alloc, &self.log, self.index.get(key), key)?;
-        Ok(found.map(|found| found.value))
+        match find(self.alloc, &self.log, self.index.get(key), key)? {
+            Some(found) => Ok(Some(found.value)),
+            None => Ok(None),
+        }
     }
 
     /// Sets the value of a key, by a record behind the others. A key and a value have fewer than 2^32 bytes each.
