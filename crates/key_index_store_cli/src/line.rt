@@ -1,5 +1,7 @@
 //! One line of input, parsed into a command.
 
+ghost use Rattle.std.specs.Prelude.{◌<◌, IfOk};
+
 use crate::failure::Failure;
 use std::alloc::Global;
 use std::str;
@@ -24,6 +26,14 @@ pub enum InOrder {
     Compact(Vec<u8>),
 }
 
+/// The value of a hexadecimal digit of either case, in a line.
+fn digit(number: u64, byte: u8) -> Result<u8, Failure>
+    ensures { IfOk result (λ value. value < 16) }
+{
+    let value = char::from(byte).to_digit(16);
+    Ok(value.ok_or(Failure::BadLine(number))? as u8)
+}
+
 /// The bytes that a word of a line writes: two hexadecimal digits for each, or `-` for none.
 fn bytes_of(alloc: Global, number: u64, word: &[u8]) -> Result<Vec<u8>, Failure> {
     let mut bytes = Vec::new(alloc);
@@ -34,15 +44,8 @@ fn bytes_of(alloc: Global, number: u64, word: &[u8]) -> Result<Vec<u8>, Failure>
         let [high, low] = pair else {
             return Err(Failure::BadLine(number));
         };
-        let high = char::from(*high)
-            .to_digit(16)
-            .ok_or(Failure::BadLine(number))?;
-        let low = char::from(*low)
-            .to_digit(16)
-            .ok_or(Failure::BadLine(number))?;
-        bytes
-            .push((16 * high + low) as u8)
-            .map_err(|_| Failure::Failed)?;
+        let (high, low) = (digit(number, *high)?, digit(number, *low)?);
+        bytes.push(16 * high + low).map_err(|_| Failure::Failed)?;
     }
     if bytes.is_empty() {
         Err(Failure::BadLine(number))

@@ -5,28 +5,27 @@ mod answer;
 mod failure;
 mod file_log;
 mod line;
+mod order;
 mod session;
 
-use answer::Answer;
 use failure::Failure;
 use file_log::FileLog;
 use key_index_flat::index::{Factory, ordered, unordered};
 use key_index_flat::translator::EightCap;
 use key_index_parts::index::partitioned::{ordered as pordered, unordered as punordered};
-use key_index_store::store::{Fault, Store, Tail};
-use line::InOrder;
-use session::{refuse, run_in_order, run_lines};
+use key_index_store::store::{Store, Tail};
+use order::{Order, With, Without};
+use session::run_lines;
 use std::env;
 use std::io::{BufReader, BufWriter, ErrorKind, Write};
 use std::process::ExitCode;
 
 /// Runs the commands on the file at a path, over an index of a kind. What stands behind the last whole record is cut off.
-fn over<I, O>(rt: &HostRuntime, path: &str, in_order: O) -> Result<(), Failure>
-where
-    I: Factory<Translator = EightCap, Value = u64> + Drop,
-    O: Fn(&HostRuntime, &Store<FileLog, I>, &InOrder) -> Result<Answer, Fault> + Drop,
-    requires makes { I.makes }
-    requires callable { O.IsAlwaysCallable in_order }
+fn over<I: Factory<Translator = EightCap, Value = u64> + Drop, O: Order<I>>(
+    rt: &HostRuntime,
+    path: &str,
+) -> Result<(), Failure>
+    requires { I.makes }
 {
     let alloc = rt.alloc();
     let log = FileLog::open(rt, path).map_err(|_| Failure::Failed)?;
@@ -39,7 +38,7 @@ where
     }
     let mut input = BufReader::new(alloc, rt.stdin()).map_err(|_| Failure::Failed)?;
     let mut output = BufWriter::new(alloc, rt.stdout()).map_err(|_| Failure::Failed)?;
-    let ended = run_lines(rt, &mut store, &in_order, &mut input, &mut output);
+    let ended = run_lines::<I, O, _, _>(rt, &mut store, &mut input, &mut output);
     output.flush().map_err(|_| Failure::Failed)?;
     ended
 }
@@ -60,10 +59,10 @@ fn run(rt: &HostRuntime) -> Result<(), Failure> {
         _ => return Err(Failure::Usage),
     };
     match kind {
-        "unordered" => over::<unordered::Index<EightCap, u64>, _>(rt, path, refuse),
-        "ordered" => over::<ordered::Index<EightCap, u64>, _>(rt, path, run_in_order),
-        "punordered" => over::<punordered::Index<EightCap, u64, 1>, _>(rt, path, refuse),
-        "pordered" => over::<pordered::Index<EightCap, u64, 1>, _>(rt, path, run_in_order),
+        "unordered" => over::<unordered::Index<EightCap, u64>, Without>(rt, path),
+        "ordered" => over::<ordered::Index<EightCap, u64>, With>(rt, path),
+        "punordered" => over::<punordered::Index<EightCap, u64, 1>, Without>(rt, path),
+        "pordered" => over::<pordered::Index<EightCap, u64, 1>, With>(rt, path),
         _ => Err(Failure::Usage),
     }
 }
@@ -73,7 +72,7 @@ fn main(rt: HostRuntime) -> ExitCode {
         Ok(()) => ExitCode::from(0),
         Err(failure) => {
             let _ = writeln!(rt.stderr(), "{failure}");
-            ExitCode::from(failure.status())
+            ExitCode::from(if failure == Failure::Usage { 2 } else { 1 })
         }
     }
 }
