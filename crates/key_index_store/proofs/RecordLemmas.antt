@@ -258,7 +258,3 @@ read_piece bytes nine enough =
 pub if_err_never : {A E : Type 0} {P : Type 0} (Q : E → Type 0) (r : Result A E) → (P → ⊥) → OnErr r P → IfErr r Q
 if_err_never Q (Ok x) never h = tt
 if_err_never Q (Err x) never h = absurd (never h)
-
-pub if_err_all : {A E : Type 0} (Q : E → Type 0) (r : Result A E) → ((e : E) → Q e) → IfErr r Q
-if_err_all Q (Ok x) h = tt
-if_err_all Q (Err x) h = h x
