@@ -4,7 +4,7 @@
 --     IsFound-reading  what is read was encoded
 use Rattle.std.proofs.Common.{◌≡◌, ℕ, zero, suc, ◌+◌, ◌^◌, ◌<◌, ◌≤◌, Bool, true, false, cond, not, ◌||◌, List, [], ◌∷◌, ◌++◌, length, take, drop, slice_index_or, Option, Some, None, Result, Ok, Err, inl, inr, refl, sym, ap, subst, ◌∙◌, append_assoc, length-append, length-drop, length-take, arith}
 use Rattle.std.specs.Int.{w32, from_le_bytes}
-use Rattle.std.specs.Result.{IfErr, OnErr, OnOk, is_err}
+use Rattle.std.specs.Result.{IfErr, OnErr, OnOk, is_ok}
 use Rattle.std.specs.Str.{bytes_eq}
 use Rattle.std.proofs.lemmas.Bool.{false≢true, cases_lt, le-ltb, ltb-false}
 use Rattle.std.proofs.lemmas.List.{take_at, drop_at, take-append-drop, take-append-le, drop-append-le, drop-drop, get_or-drop, get_or-take, get_or_past}
@@ -60,9 +60,9 @@ checked_front bytes whole fits =
     let n = body_length bytes in
     ap (λ t. cond t Torn (checked (take n bytes) (drop n bytes))) whole ∙ ap (λ t. cond t (fields_of (take n bytes)) Damaged) fits
 
-pub on_ok_told : {A E : Type 0} {P : Type 0} (r : Result A E) → is_err r ≡ false → OnOk r P → P
+pub on_ok_told : {A E : Type 0} {P : Type 0} (r : Result A E) → is_ok r ≡ true → OnOk r P → P
 on_ok_told (Ok x) e h = h
-on_ok_told (Err x) e h = absurd (false≢true (sym e))
+on_ok_told (Err x) e h = absurd (false≢true e)
 
 pub was_equal : (b : Bool) → not b ≡ false → b ≡ true
 was_equal true e = refl
@@ -258,7 +258,3 @@ read_piece bytes nine enough =
 pub if_err_never : {A E : Type 0} {P : Type 0} (Q : E → Type 0) (r : Result A E) → (P → ⊥) → OnErr r P → IfErr r Q
 if_err_never Q (Ok x) never h = tt
 if_err_never Q (Err x) never h = absurd (never h)
-
-pub if_err_all : {A E : Type 0} (Q : E → Type 0) (r : Result A E) → ((e : E) → Q e) → IfErr r Q
-if_err_all Q (Ok x) h = tt
-if_err_all Q (Err x) h = h x

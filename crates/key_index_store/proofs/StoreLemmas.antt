@@ -1,7 +1,7 @@
 -- On a store: what it holds before and after a call.
 --     looked_up                  the value of a key, by the positions in the index
 --     Indexes-written            after a record was appended and its position filed
---     left_same, left_front      after a refused call
+--     left_front                 after a refused call
 --     open_held, open_end        a log that is opened
 --     remove_absent              a key without a value is taken out
 use Rattle.std.proofs.Common.{◌≡◌, ◌==◌, ◌↔◌, ℕ, ◌≤◌, Bool, true, false, cond, List, [], ◌++◌, length, take, drop, Option, Some, None, is_some, All, refl, sym, ap, subst, ◌∙◌, length-append, length-take, take-append-drop, arith}
@@ -66,15 +66,6 @@ module _ {K : Type 0} {cmp : K → K → Ordering} (o : IsTotalOrder cmp) (exact
       }
 
 -- ---- a refused call
-
-pub left_same : (f : Fault) (old bytes : List ℕ) → LeavesLog f old bytes old
-left_same fault.Memory old bytes = refl
-left_same fault.Full old bytes = refl
-left_same fault.TooLong old bytes = refl
-left_same fault.ReadFailed old bytes = refl
-left_same fault.WriteFailed old bytes = (0, sym (append-nil old))
-left_same fault.Tail old bytes = refl
-left_same fault.Changed old bytes = refl
 
 -- the log begins as before
 pub left_front : (f : Fault) (old bytes new : List ℕ) (end : ℕ) → end ≤ length old → LeavesLog f old bytes new → (end ≤ length new) × (take end new ≡ take end old)

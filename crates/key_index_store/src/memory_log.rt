@@ -16,9 +16,8 @@ impl MemoryLog {
     pub fn new(alloc: Global) -> MemoryLog
         ensures { result.bytes.items ≡ [] }
     {
-        MemoryLog {
-            bytes: Vec::new(alloc),
-        }
+        let bytes = Vec::new(alloc);
+        MemoryLog { bytes }
     }
 }
 
@@ -32,33 +31,21 @@ impl Log for MemoryLog {
     }
 
     fn append(&mut self, bytes: &[u8]) -> Result<(), Failed> {
-        match self.bytes.extend_from_slice(bytes) {
-            Ok(()) => Ok(()),
-            Err(_) => Err(Failed),
-        }
+        self.bytes.extend_from_slice(bytes).map_err(|_| Failed)
     }
 
     fn read(&self, position: u64, buffer: &mut [u8]) -> Result<(), Failed>
         ensures read { OnOk result (buffer.new ≡ take (length buffer.old) (drop position self.now.bytes.items)) }
         ensures within { IsTrue (is_ok result) ↔ (position + length buffer.old ≤ length self.now.bytes.items) }
     {
-        let bytes = self.bytes.as_slice();
-        if (bytes.len() as u64) < position {
-            return Err(Failed);
-        }
-        let (_, rest) = bytes.split_at(position as usize);
-        if rest.len() < buffer.len() {
-            return Err(Failed);
-        }
-        let (wanted, _) = rest.split_at(buffer.len());
+        let rest = self.bytes.get(position as usize..).ok_or(Failed)?;
+        let wanted = rest.get(..buffer.len()).ok_or(Failed)?;
         buffer.copy_from_slice(wanted);
         Ok(())
     }
 
     fn cut(&mut self, len: u64) -> Result<(), Failed> {
-        if len < self.bytes.len() as u64 {
-            self.bytes.truncate(len as usize);
-        }
+        self.bytes.truncate(len as usize);
         Ok(())
     }
 }

@@ -28,10 +28,7 @@ impl Record {
         requires { Fits (entry_of self.now) }
         ensures { result ≡ length (encoded (entry_of self.now)) }
     {
-        let value_length = match &self.value {
-            Some(value) => value.len(),
-            None => 0,
-        };
+        let value_length = self.value.as_ref().map_or(0, |value| value.len());
         (HEAD + SUM) as u64 + self.key.len() as u64 + value_length as u64
     }
 }

@@ -1,12 +1,12 @@
 //! A key-value store on a log. The index keeps positions alone: it gives those that a shortened key may mean, and the log confirms.
-ghost use Rattle.std.specs.Prelude.{◌≡◌, ◌↔◌, ◌⊎◌, ◌<◌, ◌≤◌, ◌^◌, ◌-◌, ℕ, List, [], ◌++◌, if◌then◌else◌, length, take, drop, slice_get, false, Some, None, is_some, All, IsSome, IsTrue, IfSome, IfOk, IfErr, OnOk, OnErr};
+ghost use Rattle.std.specs.Prelude.{◌≡◌, ◌↔◌, ◌⊎◌, ◌<◌, ◌≤◌, ◌^◌, ◌-◌, ◌||◌, ℕ, List, [], ◌++◌, if◌then◌else◌, length, take, drop, slice_get, false, Some, None, is_some, All, IsSome, IsTrue, IfSome, IfOk, IfErr, OnOk, OnErr};
 ghost use Rattle.std.specs.FinMap as map;
 ghost use Rattle.std.specs.Option.{option_map};
 ghost use Rattle.key_index_flat.specs.FullKeys.{IsBytes};
 ghost use Rattle.key_index_flat.specs.View.{growth_fault_in, run_of, with_edit, with_pruned};
 ghost use Rattle.key_index_store.specs.Indexed.{Indexes, IsLive, KeepsLists, Settles, key_at, value_in, without_newest};
 ghost use Rattle.key_index_store.specs.Record.{Complete, Fits, IsFound, IsWithin, Stops, encoded, entry_of, outcome_of, reading};
-ghost use Rattle.key_index_store.specs.Stored.{Leaves, LeavesLog, MayRead, MayRefuse, refusal_of, held, held_by, opened, tail_of, with_record, without_tail};
+ghost use Rattle.key_index_store.specs.Stored.{Leaves, LeavesLog, MayRead, MayRefuse, refusal_of, held, held_by, opened, tail_of, with_record, with_value, without_tail};
 
 mod compact;
 mod neighbours;
@@ -84,10 +84,9 @@ fn read_bytes<L: Log>(alloc: Global, log: &L, position: u64, count: u64) -> Resu
     ensures fault { IfErr result MayRead }
 {
     let mut bytes = vec![in alloc; 0; count as usize]?;
-    match log.read(position, bytes.as_mut_slice()) {
-        Ok(()) => Ok(bytes),
-        Err(_) => Err(Fault::ReadFailed),
-    }
+    let read = log.read(position, bytes.as_mut_slice());
+    read.map_err(|_| Fault::ReadFailed)?;
+    Ok(bytes)
 }
 
 impl<L: Log, I: Unordered<Value = u64>> Model for Store<L, I> {
@@ -117,9 +116,8 @@ fn read_record<L: Log>(alloc: Global, log: &L, position: u64, len: u64) -> Resul
         return Ok(Reading::Torn);
     }
     let mut head = [0; HEAD];
-    if log.read(position, &mut head).is_err() {
-        return Err(Fault::ReadFailed);
-    }
+    let read = log.read(position, &mut head);
+    read.map_err(|_| Fault::ReadFailed)?;
     let length = record_length(&head);
     if rest < length {
         return Ok(Reading::Torn);
@@ -198,11 +196,7 @@ fn settle<I: Unordered<Value = u64>>(
         Some(place) => {
             index.remove_at(slot, place);
         }
-        None if has_value => {
-            if let Err(refused) = index.insert(key, position) {
-                return Err(fault_of(refused));
-            }
-        }
+        None if has_value => index.insert(key, position).map_err(fault_of)?,
         None => {}
     }
     Ok(())
@@ -225,12 +219,8 @@ fn withdraw<I: Unordered<Value = u64>>(index: &mut I, key: &[u8])
         ≡ with_pruned (with_edit I.Key.cmp s (s.slot key.now) (without_newest I.INSERT_FIRST)) 1 }
 {
     let slot = index.slot_of(key);
-    let place = if I::INSERT_FIRST {
-        0
-    } else {
-        index.run_len(slot) - 1
-    };
-    index.remove_at(slot, place);
+    let last = index.run_len(slot) - 1;
+    index.remove_at(slot, if I::INSERT_FIRST { 0 } else { last });
 }
 
 /// The positions that may be those of a key, whose items are bytes.
@@ -289,10 +279,7 @@ fn write<L: Log, I: Unordered<Value = u64>>(
         }
         return Ok(());
     }
-    let appended = log.append(bytes);
-    if appended.is_err() {
-        return Err(Fault::WriteFailed);
-    }
+    log.append(bytes).map_err(|_| Fault::WriteFailed)?;
     settle(index, key, has_value, place, position)
 }
 
@@ -350,15 +337,13 @@ impl<L: Log, I: Unordered<Value = u64>> Store<L, I> {
         ensures fault { L.is_honest → IfErr result (λ f. MayRead f ⊎ (f ≡ Fault.Full)) }
     {
         let (end, tail) = replay(alloc, &log, &mut index)?;
-        Ok((
-            Store {
-                alloc,
-                log,
-                index,
-                end,
-            },
-            tail,
-        ))
+        let store = Store {
+            alloc,
+            log,
+            index,
+            end,
+        };
+        Ok((store, tail))
     }
 
     /// How many keys have a value. It reads nothing.
@@ -407,22 +392,7 @@ impl<L: Log, I: Unordered<Value = u64>> Store<L, I> {
         if key.len() > u32::MAX as usize || value.len() > u32::MAX as usize {
             return Err(Fault::TooLong);
         }
-        if self.log.len() != self.end {
-            return Err(Fault::Tail);
-        }
-        let bytes = encode(self.alloc, key, Some(value))?;
-        let found = find(self.alloc, &self.log, self.index.get(key), key)?;
-        let place = place_of(&found);
-        write(
-            &mut self.log,
-            &mut self.index,
-            key,
-            true,
-            place,
-            self.end,
-            bytes.as_slice(),
-        )?;
-        self.end = self.log.len();
+        self.change(key, Some(value))?;
         Ok(())
     }
 
@@ -440,26 +410,44 @@ impl<L: Log, I: Unordered<Value = u64>> Store<L, I> {
         if key.len() > u32::MAX as usize {
             return Err(Fault::TooLong);
         }
+        self.change(key, None)
+    }
+
+    /// Sets the value of a key, or takes the key out where none is given, and tells whether it had one.
+    fn change(&mut self, key: &[u8], value: Option<&[u8]>) -> Result<bool, Fault>
+        requires { Fits (record { key = key.now; value = option_map (λ v. v.now) value }) }
+        ensures changed { L.is_honest → OnOk result
+            (held self.new ≡ with_value (held self.old) key.now (option_map (λ v. v.now) value.entry)) }
+        ensures was_there { L.is_honest → IfOk result (λ had. had ≡ is_some (map.get (held self.old) key.now)) }
+        ensures logged { L.is_honest → IfOk result (λ had. self.new ≡ (if is_some value.entry || had
+            then with_record self.old (record { key = key.now; value = option_map (λ v. v.now) value.entry })
+            else self.old)) }
+        ensures refused { L.is_honest → OnErr result (held self.new ≡ held self.old) }
+        ensures left { L.is_honest → IfErr result (λ f. Leaves f self.old
+            (encoded (record { key = key.now; value = option_map (λ v. v.now) value.entry })) self.new) }
+        ensures fault { L.is_honest → IfErr result
+            (MayRefuse self.old (record { key = key.now; value = option_map (λ v. v.now) value.entry })) }
+    {
         if self.log.len() != self.end {
             return Err(Fault::Tail);
         }
         let found = find(self.alloc, &self.log, self.index.get(key), key)?;
         let place = place_of(&found);
-        if place.is_none() {
+        if value.is_none() && place.is_none() {
             return Ok(false);
         }
-        let bytes = encode(self.alloc, key, None)?;
+        let bytes = encode(self.alloc, key, value)?;
         write(
             &mut self.log,
             &mut self.index,
             key,
-            false,
+            value.is_some(),
             place,
             self.end,
             bytes.as_slice(),
         )?;
         self.end = self.log.len();
-        Ok(true)
+        Ok(place.is_some())
     }
 
     /// Cuts off what stands behind the last whole record. `put` and `delete` are then answered again.
@@ -469,10 +457,7 @@ impl<L: Log, I: Unordered<Value = u64>> Store<L, I> {
         ensures refused { L.is_honest → OnErr result (self.new.end ≡ self.old.end) }
         ensures fault { IfErr result (λ f. f ≡ Fault.WriteFailed) }
     {
-        match self.log.cut(self.end) {
-            Ok(()) => Ok(()),
-            Err(_) => Err(Fault::WriteFailed),
-        }
+        self.log.cut(self.end).map_err(|_| Fault::WriteFailed)
     }
 
     /// The log, to be opened anew.

@@ -1,4 +1,4 @@
-//! Why the program ends early, and with which status.
+//! Why the program ends early.
 use thiserror::Error;
 
 /// Why the program ends before its input does. The text is what it prints on standard error.
@@ -13,14 +13,4 @@ pub enum Failure {
     /// The file, a stream or memory failed outside a command.
     #[error("failed")]
     Failed,
-}
-
-impl Failure {
-    /// The status with which the program ends.
-    pub fn status(&self) -> u8 {
-        match self {
-            Failure::Usage => 2,
-            Failure::BadLine(_) | Failure::Failed => 1,
-        }
-    }
 }

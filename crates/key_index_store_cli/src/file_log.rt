@@ -2,23 +2,22 @@
 
 use key_index_store::log::{Failed, Log};
 use std::fs::{File, OpenFile, OpenOptions};
+use std::io;
 use std::os::unix::fs::FileExt;
 
 /// A log over a file. No contract says what a file gives back, so nothing is said of its bytes.
 #[derive(Drop)]
 pub struct FileLog {
-    pub file: File,
+    file: File,
 }
 
 impl FileLog {
     /// The log of the file at a path, which it makes where there is none.
-    pub fn open(rt: &HostRuntime, path: &str) -> Option<FileLog> {
+    pub fn open(rt: &HostRuntime, path: &str) -> io::Result<FileLog> {
         let mut how = OpenOptions::new();
         how.read(true).write(true).create(true);
-        match how.open(rt, path) {
-            Ok(file) => Some(FileLog { file }),
-            Err(_) => None,
-        }
+        let file = how.open(rt, path)?;
+        Ok(FileLog { file })
     }
 }
 
@@ -30,33 +29,24 @@ impl Log for FileLog {
     ghost is_honest = { ⊥ };
 
     fn len(&self) -> u64 {
-        match self.file.metadata() {
-            Ok(metadata) => metadata.len(),
-            Err(_) => 0,
-        }
+        self.file.metadata().map_or(0, |metadata| metadata.len())
     }
 
     fn append(&mut self, bytes: &[u8]) -> Result<(), Failed> {
-        match self.file.write_all_at(bytes, self.len()) {
-            Ok(()) => Ok(()),
-            Err(_) => Err(Failed),
-        }
+        let end = self.len();
+        self.file.write_all_at(bytes, end).map_err(|_| Failed)
     }
 
     fn read(&self, position: u64, buffer: &mut [u8]) -> Result<(), Failed> {
-        match self.file.read_exact_at(buffer, position) {
-            Ok(()) => Ok(()),
-            Err(_) => Err(Failed),
-        }
+        self.file
+            .read_exact_at(buffer, position)
+            .map_err(|_| Failed)
     }
 
     fn cut(&mut self, len: u64) -> Result<(), Failed> {
-        if self.len() <= len {
-            return Ok(());
+        if len < self.len() {
+            OpenFile::set_len(&self.file, len).map_err(|_| Failed)?;
         }
-        match OpenFile::set_len(&self.file, len) {
-            Ok(()) => Ok(()),
-            Err(_) => Err(Failed),
-        }
+        Ok(())
     }
 }

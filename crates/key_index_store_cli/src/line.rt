@@ -1,7 +1,10 @@
 //! One line of input, parsed into a command.
-ghost use Rattle.std.specs.Prelude.{◌<◌, IfSome};
 
-use std::alloc::{AllocError, Global};
+ghost use Rattle.std.specs.Prelude.{◌<◌, IfOk};
+
+use crate::failure::Failure;
+use std::alloc::Global;
+use std::str;
 
 /// What a line says.
 #[derive(Debug, Drop)]
@@ -23,86 +26,51 @@ pub enum InOrder {
     Compact(Vec<u8>),
 }
 
-/// The value of a hexadecimal digit of either case.
-fn digit(byte: u8) -> Option<u8>
-    ensures { IfSome result (λ value. value < 16) }
+/// The value of a hexadecimal digit of either case, in a line.
+fn digit(number: u64, byte: u8) -> Result<u8, Failure>
+    ensures { IfOk result (λ value. value < 16) }
 {
-    match byte {
-        b'0'..=b'9' => Some(byte - b'0'),
-        b'a'..=b'f' => Some(byte - b'a' + 10),
-        b'A'..=b'F' => Some(byte - b'A' + 10),
-        _ => None,
-    }
+    let value = char::from(byte).to_digit(16);
+    Ok(value.ok_or(Failure::BadLine(number))? as u8)
 }
 
-/// The bytes that a word writes: two hexadecimal digits for each, or `-` for none.
-fn bytes_of(alloc: Global, word: &[u8]) -> Result<Option<Vec<u8>>, AllocError> {
+/// The bytes that a word of a line writes: two hexadecimal digits for each, or `-` for none.
+fn bytes_of(alloc: Global, number: u64, word: &[u8]) -> Result<Vec<u8>, Failure> {
     let mut bytes = Vec::new(alloc);
     if word == b"-".as_slice() {
-        return Ok(Some(bytes));
-    }
-    if word.is_empty() {
-        return Ok(None);
+        return Ok(bytes);
     }
     for pair in word.chunks(2) {
         let [high, low] = pair else {
-            return Ok(None);
+            return Err(Failure::BadLine(number));
         };
-        let (Some(high), Some(low)) = (digit(*high), digit(*low)) else {
-            return Ok(None);
-        };
-        bytes.push(16 * high + low)?;
+        let (high, low) = (digit(number, *high)?, digit(number, *low)?);
+        bytes.push(16 * high + low).map_err(|_| Failure::Failed)?;
     }
-    Ok(Some(bytes))
-}
-
-/// What a line says, or none where it is no command.
-pub fn parse(alloc: Global, line: &[u8]) -> Result<Option<Command>, AllocError> {
-    let mut words = line.split(|byte| *byte == b' ');
-    let (first, second, third, fourth) = (words.next(), words.next(), words.next(), words.next());
-    let Some(name) = first else {
-        return Ok(None);
-    };
-    if fourth.is_some() {
-        return Ok(None);
-    }
-    let Some(second) = second else {
-        return Ok(if name == b"count".as_slice() {
-            Some(Command::Count)
-        } else {
-            None
-        });
-    };
-    let Some(third) = third else {
-        return one_word(alloc, name, second);
-    };
-    let (key, value) = (bytes_of(alloc, second)?, bytes_of(alloc, third)?);
-    match (key, value) {
-        (Some(key), Some(value)) if name == b"put".as_slice() => Ok(Some(Command::Put(key, value))),
-        _ => Ok(None),
-    }
-}
-
-/// The command of a name with one word.
-fn one_word(alloc: Global, name: &[u8], word: &[u8]) -> Result<Option<Command>, AllocError> {
-    if name == b"compact".as_slice() {
-        let path = Vec::from_slice(alloc, word)?;
-        return Ok(Some(Command::InOrder(InOrder::Compact(path))));
-    }
-    let Some(key) = bytes_of(alloc, word)? else {
-        return Ok(None);
-    };
-    Ok(if name == b"get".as_slice() {
-        Some(Command::Get(key))
-    } else if name == b"delete".as_slice() {
-        Some(Command::Delete(key))
-    } else if name == b"next".as_slice() {
-        Some(Command::InOrder(InOrder::Next(key)))
-    } else if name == b"prev".as_slice() {
-        Some(Command::InOrder(InOrder::Prev(key)))
-    } else if name == b"absent".as_slice() {
-        Some(Command::InOrder(InOrder::Absent(key)))
+    if bytes.is_empty() {
+        Err(Failure::BadLine(number))
     } else {
-        None
-    })
+        Ok(bytes)
+    }
+}
+
+/// What a line says, the `number`th from 1 on.
+pub fn parse(alloc: Global, number: u64, line: &[u8]) -> Result<Command, Failure> {
+    let bytes = |word: &[u8]| bytes_of(alloc, number, word);
+    let mut words = line.split(|byte| *byte == b' ');
+    let name = str::from_utf8(words.next().unwrap_or(line)).unwrap_or("");
+    match (name, words.next(), words.next(), words.next()) {
+        ("count", None, _, _) => Ok(Command::Count),
+        ("put", Some(key), Some(value), None) => Ok(Command::Put(bytes(key)?, bytes(value)?)),
+        ("get", Some(key), None, _) => Ok(Command::Get(bytes(key)?)),
+        ("delete", Some(key), None, _) => Ok(Command::Delete(bytes(key)?)),
+        ("next", Some(key), None, _) => Ok(Command::InOrder(InOrder::Next(bytes(key)?))),
+        ("prev", Some(key), None, _) => Ok(Command::InOrder(InOrder::Prev(bytes(key)?))),
+        ("absent", Some(key), None, _) => Ok(Command::InOrder(InOrder::Absent(bytes(key)?))),
+        ("compact", Some(name), None, _) => {
+            let name = Vec::from_slice(alloc, name).map_err(|_| Failure::Failed)?;
+            Ok(Command::InOrder(InOrder::Compact(name)))
+        }
+        _ => Err(Failure::BadLine(number)),
+    }
 }

@@ -1,6 +1,7 @@
 //! The program `key_index_store`: a key-value store over a file, on the process's arguments and standard streams.
 #![tactic(auto)]
 
+mod answer;
 mod failure;
 mod file_log;
 mod line;
@@ -11,26 +12,13 @@ use failure::Failure;
 use file_log::FileLog;
 use key_index_flat::index::{Factory, ordered, unordered};
 use key_index_flat::translator::EightCap;
-use key_index_parts::index::partitioned;
+use key_index_parts::index::partitioned::{ordered as pordered, unordered as punordered};
 use key_index_store::store::{Store, Tail};
 use order::{Order, With, Without};
 use session::run_lines;
 use std::env;
 use std::io::{BufReader, BufWriter, ErrorKind, Write};
 use std::process::ExitCode;
-
-/// The arguments without the program's name. One that is no text names no file and no kind.
-fn words(rt: &HostRuntime) -> Result<Vec<String>, Failure> {
-    let args = match env::args(rt) {
-        Ok(args) => args,
-        Err(error) if error.kind() == ErrorKind::InvalidData => return Err(Failure::Usage),
-        Err(_) => return Err(Failure::Failed),
-    };
-    match args.skip(1).collect(rt.alloc()) {
-        Ok(words) => Ok(words),
-        Err(_) => Err(Failure::Failed),
-    }
-}
 
 /// Runs the commands on the file at a path, over an index of a kind. What stands behind the last whole record is cut off.
 fn over<I: Factory<Translator = EightCap, Value = u64> + Drop, O: Order<I>>(
@@ -40,39 +28,31 @@ fn over<I: Factory<Translator = EightCap, Value = u64> + Drop, O: Order<I>>(
     requires { I.makes }
 {
     let alloc = rt.alloc();
-    let Some(log) = FileLog::open(rt, path) else {
-        return Err(Failure::Failed);
-    };
-    let Ok(index) = I::new(alloc, EightCap) else {
-        return Err(Failure::Failed);
-    };
-    let Ok((mut store, tail)) = Store::open(alloc, log, index) else {
-        return Err(Failure::Failed);
-    };
+    let log = FileLog::open(rt, path).map_err(|_| Failure::Failed)?;
+    let index = I::new(alloc, EightCap).map_err(|_| Failure::Failed)?;
+    let (mut store, tail) = Store::open(alloc, log, index).map_err(|_| Failure::Failed)?;
     if tail != Tail::Nothing {
-        let _ = rt
-            .stderr()
-            .write_all(b"cut off what stood behind the last whole record\n");
-        if store.cut_tail().is_err() {
-            return Err(Failure::Failed);
-        }
+        let told = "cut off what stood behind the last whole record";
+        let _ = writeln!(rt.stderr(), "{told}");
+        store.cut_tail().map_err(|_| Failure::Failed)?;
     }
-    let Ok(mut input) = BufReader::new(alloc, rt.stdin()) else {
-        return Err(Failure::Failed);
-    };
-    let Ok(mut output) = BufWriter::new(alloc, rt.stdout()) else {
-        return Err(Failure::Failed);
-    };
+    let mut input = BufReader::new(alloc, rt.stdin()).map_err(|_| Failure::Failed)?;
+    let mut output = BufWriter::new(alloc, rt.stdout()).map_err(|_| Failure::Failed)?;
     let ended = run_lines::<I, O, _, _>(rt, &mut store, &mut input, &mut output);
-    match output.flush() {
-        Ok(()) => ended,
-        Err(_) => Err(Failure::Failed),
-    }
+    output.flush().map_err(|_| Failure::Failed)?;
+    ended
 }
 
-/// Runs the program.
+/// Runs the program. An argument that is no text names no file and no kind.
 fn run(rt: &HostRuntime) -> Result<(), Failure> {
-    let words = words(rt)?;
+    let args = env::args(rt).map_err(|error| match error.kind() {
+        ErrorKind::InvalidData => Failure::Usage,
+        _ => Failure::Failed,
+    })?;
+    let words: Vec<String> = args
+        .skip(1)
+        .collect(rt.alloc())
+        .map_err(|_| Failure::Failed)?;
     let (path, kind) = match words.as_slice() {
         [path] => (path.as_str(), "ordered"),
         [path, kind] => (path.as_str(), kind.as_str()),
@@ -81,8 +61,8 @@ fn run(rt: &HostRuntime) -> Result<(), Failure> {
     match kind {
         "unordered" => over::<unordered::Index<EightCap, u64>, Without>(rt, path),
         "ordered" => over::<ordered::Index<EightCap, u64>, With>(rt, path),
-        "punordered" => over::<partitioned::unordered::Index<EightCap, u64, 1>, Without>(rt, path),
-        "pordered" => over::<partitioned::ordered::Index<EightCap, u64, 1>, With>(rt, path),
+        "punordered" => over::<punordered::Index<EightCap, u64, 1>, Without>(rt, path),
+        "pordered" => over::<pordered::Index<EightCap, u64, 1>, With>(rt, path),
         _ => Err(Failure::Usage),
     }
 }
@@ -92,7 +72,7 @@ fn main(rt: HostRuntime) -> ExitCode {
         Ok(()) => ExitCode::from(0),
         Err(failure) => {
             let _ = writeln!(rt.stderr(), "{failure}");
-            ExitCode::from(failure.status())
+            ExitCode::from(if failure == Failure::Usage { 2 } else { 1 })
         }
     }
 }

@@ -34,8 +34,7 @@ impl<L: Log, I: Ordered<Value = u64>> Store<L, I> {
         ensures fault { L.is_honest → IfErr result MayRead }
     {
         let empty = b"".as_slice();
-        let found = self.get(empty)?;
-        if let Some(value) = found {
+        if let Some(value) = self.get(empty)? {
             return Ok(Some((Vec::new(self.alloc), value)));
         }
         self.next(empty)

@@ -122,12 +122,9 @@ fn nearest_without_cycling<S: Side, L: Log>(
         IsNearest (L.content log.now) S.cmp (unflagged found.entry) (in_bytes o)) }
     ensures fault { L.is_honest → All (IsLive (L.content log.now)) (unflagged found.entry) → IfErr result MayRead }
 {
-    let Some((positions, cycled)) = found else {
+    let Some((positions, false)) = found else {
         return Ok(None);
     };
-    if cycled {
-        return Ok(None);
-    }
     nearest::<S, L>(alloc, log, positions, None)
 }
 
@@ -165,12 +162,10 @@ impl<L: Log, I: Ordered<Value = u64>> Store<L, I> {
             option_map (λ gap. (in_bytes gap.before, in_bytes gap.after)) o ≡ gap_in (held self.now) key.now) }
         ensures fault { L.is_honest → IfErr result MayRead }
     {
-        let found = self.get(key)?;
-        if found.is_some() {
+        if self.get(key)?.is_some() {
             return Ok(None);
         }
-        let before = self.prev(key)?;
-        let after = self.next(key)?;
+        let (before, after) = (self.prev(key)?, self.next(key)?);
         Ok(Some(Gap { before, after }))
     }
 }

@@ -1,4 +1,4 @@
-use Rattle.std.proofs.Common.{◌≡◌, ◌+◌, length, take, drop, sym, ap, subst, ◌∙◌, length-drop, take-append-drop, arith}
+use Rattle.std.proofs.Common.{is_ok, ◌≡◌, ◌+◌, length, take, drop, sym, ap, subst, ◌∙◌, length-drop, take-append-drop, arith}
 use Rattle.key_index_store.specs.Record.{body_length, outcome_of, reading, IsFound}
 use Rattle.key_index_store.proofs.RecordLemmas.{found_front, read_piece, within_found, on_ok_told}
 use Rattle.key_index_store.proofs.store.read_record.Goals as goal
@@ -7,7 +7,7 @@ pub returns-clause-told : goal.returns-clause-told
 returns-clause-told g c = λ h same.
     let rest = drop c.args.position (g.L.Log.content c.args.log.now) in
     let left = length-drop c.args.position (g.L.Log.content c.args.log.now) in
-    let head = on_ok_told c.read.result (sym c.is_err.ensures.value ∙ c.if-is_err.false) (c.read.ensures h) in
+    let head = on_ok_told c.read-read.result (sym c.map_err.ensures.variant ∙ ap is_ok c.in_ok-map_err.was) (c.read-read.ensures h) in
     let size : c.record_length-length.result ≡ body_length (take 9 rest) + 4 = c.record_length-length.ensures ∙ ap (λ l. body_length l + 4) head in
     let piece = c.as_slice.ensures.value ∙ c.in_ok-bytes.ensures.told h ∙ ap (λ n. take n rest) size in
     c.in_ok-decode.ensures.exact ∙ ap reading piece
