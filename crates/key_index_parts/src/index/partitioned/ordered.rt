@@ -10,9 +10,8 @@ mod ahead;
 pub mod partition;
 
 use super::bucket::spilling::Spilling;
-use super::range;
 use super::storage::Storage;
-use super::{PartitionRange, Partitioned, partition_index_and_sub_key};
+use super::{PartitionRange, Partitioned, partition_index_and_sub_key, range};
 pub use ahead::{Ahead, same_visits, show_ahead, visit_ahead};
 use key_index_flat::index::implement::{Lists, show_by_key, visit_by_key};
 use key_index_flat::index::{

@@ -78,7 +78,8 @@ impl<T: Translator, V: Drop, X: Bucket<T, V> + Drop, const P: usize> RangeIndex<
     }
 }
 
-impl<T: Translator, V: Drop, X: Bucket<T, V> + Drop, const P: usize> Runs for RangeIndex<T, V, X, P> {
+impl<T: Translator, V: Drop, X: Bucket<T, V> + Drop, const P: usize> Runs
+    for RangeIndex<T, V, X, P> {
     ghost use Rattle.std.proofs.lemmas.Map.Lookups.{exact_pairs, exact_unsigned};
     ghost use Rattle.std.specs.Ordering.{nat_cmp};
     ghost use Rattle.key_index_parts.specs.laws.RangeLaws.{IsLawful-gathered_from};
@@ -143,7 +144,8 @@ impl<T: Translator, V: Drop, X: Bucket<T, V> + Drop, const P: usize> Runs for Ra
     }
 }
 
-impl<T: Translator, V: Drop, X: Bucket<T, V> + Drop, const P: usize> Search for RangeIndex<T, V, X, P> {
+impl<T: Translator, V: Drop, X: Bucket<T, V> + Drop, const P: usize> Search
+    for RangeIndex<T, V, X, P> {
     ghost settled = { λ x slot y. IsSpanKept (λ range. range.offset) (λ range. length range.storage.buckets) x y
         × (IsTrue X.SPILLS → Settles x.storage.standings (slot.0 - x.offset) y.storage.standings) };
 
@@ -172,7 +174,10 @@ impl<T: Translator, V: Drop, X: Bucket<T, V> + Drop, const P: usize> Search for 
         Ok((slot, len))
     }
 
-    fn search(&mut self, key: &[u8]) -> Result<IndexCursor<'_, RangeIndex<T, V, X, P>>, Option<Fault>> {
+    fn search(
+        &mut self,
+        key: &[u8],
+    ) -> Result<IndexCursor<'_, RangeIndex<T, V, X, P>>, Option<Fault>> {
         match self.reach(key) {
             Ok((_, 0)) => Err(None),
             Ok((slot, len)) => Ok(IndexCursor::with_len(self, slot, len)),

@@ -5,9 +5,8 @@ ghost use Rattle.key_index_parts.specs.Gathered.{pair_cmp};
 ghost use Rattle.key_index_parts.specs.Prefix.{partition_count, partition_by, slot_by};
 
 use super::bucket::chained::Chained;
-use super::range;
 use super::storage::Storage;
-use super::{Partitioned, partition_index_and_sub_key};
+use super::{Partitioned, partition_index_and_sub_key, range};
 use key_index_flat::index::implement::{Lists, show_by_place, visit_by_place};
 use key_index_flat::index::{
     Factory, Fault, IndexCursor, Refused, Runs, Search, Unordered, Values,
