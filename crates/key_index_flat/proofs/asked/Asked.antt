@@ -47,9 +47,6 @@ module _ {F V : Type 0} where
     ReturnsInTurn-same_values : (f : F) (bs : List Bool) (xs ys : List V) (last : F) → xs ≡ ys → ReturnsInTurn R f bs xs last → ReturnsInTurn R f bs ys last
     ReturnsInTurn-same_values f bs xs ys last e h = subst (λ (x : List V). ReturnsInTurn R f bs x last) e h
 
-    pub AskedTo-none : (f : F) (xs : List V) (start : ℕ) → AskedTo f xs start start f
-    AskedTo-none f xs start bs last h = let none : 0 ≡ start - start = omega arith in ReturnsInTurn-same_answers f bs _ (drop start xs) last (ap (λ n. replicate n false ++ bs) none) h
-
     pub asked_more : (f now next : F) (xs : List V) (start at : ℕ) (x : V) → start ≤ at → slice_get xs at ≡ Some x → R now x false next → AskedTo f xs start at now → AskedTo f xs start (at + 1) next
     asked_more f now next xs start at x from e said asked bs last h =
         let more : at - start + 1 ≡ at + 1 - start = omega (arith, from) in

@@ -218,7 +218,3 @@ pub taken_in : {K V : Type 0} (cmp : K → K → Ordering) (old new : List (K ×
     → Sets cmp old new k (Some w) × (length new ≡ length old + 0)
 taken_in cmp old new k v w (Ok was) held had sets len absent = (sets, len ∙ ap (λ o. length old + cond (is_some o) 0 1) (had ∙ held))
 taken_in cmp old new k v w (Err e) held had sets len absent = absurd (subst T (ap is_some (sym held ∙ absent)) tt)
-
-pub OnErr-of : {A E : Type 0} {P : Type 0} (r : Result A E) → P → OnErr r P
-OnErr-of (Ok x) p = tt
-OnErr-of (Err e) p = p

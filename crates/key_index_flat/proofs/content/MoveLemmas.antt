@@ -41,10 +41,6 @@ last_found (Some x) b v is = refl
 last_found None true v is = refl
 last_found None false v is = cc
 
-or_none : {X : Type 0} (o : Option X) → option_or o None ≡ o
-or_none (Some x) = refl
-or_none None = refl
-
 module _ {K V : Type 0} {eq : K → K → Bool} (laws : IsEquivalence eq) where
   pub record Moving (start pairs moved : List (K × V)) : Type 0 where
     pub values : (q : K) → option_or (lookup (eq q) pairs) (lookup (eq q) moved) ≡ lookup (eq q) start

@@ -4,10 +4,9 @@
 --     filled_more                              an op in the one range that covers it
 --     install_filled                           filled ranges can be installed in turn, and leave what the ops below each cut make
 --     ops_below-zero, below_all                ops below 0, and below all
-use Rattle.std.proofs.Common.{◌≡◌, ℕ, ◌+◌, ◌-◌, zero, suc, ◌≤◌, ◌<◌, Bool, true, false, cond, if◌then◌else◌, not, ◌&&◌, nat_lt, List, [], ◌∷◌, ◌++◌, length, set, take, drop, Some, inl, inr, append-nil, refl, sym, ap, subst, ◌∙◌, arith}
+use Rattle.std.proofs.Common.{◌≡◌, ℕ, ◌+◌, ◌-◌, zero, suc, ◌≤◌, ◌<◌, Bool, true, false, cond, not, ◌&&◌, nat_lt, List, [], ◌∷◌, ◌++◌, length, set, take, drop, Some, inl, inr, append-nil, refl, sym, ap, subst, ◌∙◌, arith}
 use Rattle.std.specs.Prelude.{IsTrue, nat_le, filter, slice_index, Result, Ok, Err, OnOk, IfErr}
 use Rattle.std.specs.List.{slice_get}
-use Rattle.std.specs.Result.{is_ok, is_err}
 use Rattle.std.proofs.lemmas.Bool.{lt-ltb, ltb-true, le-ltb, ltb-false, leb-true, leb-false}
 use Rattle.std.proofs.lemmas.List.Sorted.{IsNonDecreasingBy-from_default}
 use Rattle.std.specs.List.Sorted.{IsNonDecreasingBy, IsPartitionPoint}
@@ -277,10 +276,6 @@ module _ {R K V : Type 0} {cmp : K → K → Ordering} {view : R → View K V} {
 pub on_ok_map : {A E : Type 0} {P Q : Type 0} (r : Result A E) → (P → Q) → OnOk r P → OnOk r Q
 on_ok_map (Ok a) f p = f p
 on_ok_map (Err e) f p = tt
-
-pub pushed-by_is_err : {A E X : Type 0} (r : Result A E) (b : Bool) (new xs ys : List X) → b ≡ is_err r → b ≡ false → new ≡ (if is_ok r then ys else xs) → new ≡ ys
-pushed-by_is_err (Ok a) b new xs ys said f is = is
-pushed-by_is_err (Err e) b new xs ys said f is = let bad : true ≡ false = sym said ∙ f in absurd (cc bad)
 
 module _ {K V : Type 0} (cmp : K → K → Ordering) where
   -- what ops make of a content, whatever was pruned and is admitted
