@@ -1,5 +1,5 @@
 //! A log in memory.
-ghost use Rattle.std.specs.Prelude.{◌≡◌, ◌↔◌, ◌+◌, ◌≤◌, [], length, take, drop, is_ok, IsTrue, OnOk};
+ghost use Rattle.std.specs.Prelude.{◌≡◌, ◌↔◌, ◌+◌, ◌<◌, ◌≤◌, [], ◌++◌, length, take, drop, is_ok, IsTrue, OnOk, OnErr, vec_capacity};
 
 use crate::log::{Failed, Log};
 use std::alloc::Global;
@@ -30,7 +30,11 @@ impl Log for MemoryLog {
         self.bytes.len() as u64
     }
 
-    fn append(&mut self, bytes: &[u8]) -> Result<(), Failed> {
+    fn append(&mut self, bytes: &[u8]) -> Result<(), Failed>
+        ensures appended { OnOk result (self.new.bytes.items ≡ self.old.bytes.items ++ bytes.now) }
+        ensures kept { OnErr result (self.new.bytes.items ≡ self.old.bytes.items) }
+        ensures full { OnErr result (vec_capacity self.old.bytes < length self.old.bytes.items + length bytes.now) }
+    {
         self.bytes.extend_from_slice(bytes).map_err(|_| Failed)
     }
 

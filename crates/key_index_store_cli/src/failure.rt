@@ -14,3 +14,8 @@ pub enum Failure {
     #[error("failed")]
     Failed,
 }
+
+/// What any failure outside a command ends the program with.
+pub fn failed<E: Drop>(_error: E) -> Failure {
+    Failure::Failed
+}

@@ -21,6 +21,10 @@ impl FileLog {
     }
 }
 
+fn failed(_error: io::Error) -> Failed {
+    Failed
+}
+
 impl Log for FileLog {
     ghost use Rattle.std.specs.Prelude.{[]};
 
@@ -34,18 +38,16 @@ impl Log for FileLog {
 
     fn append(&mut self, bytes: &[u8]) -> Result<(), Failed> {
         let end = self.len();
-        self.file.write_all_at(bytes, end).map_err(|_| Failed)
+        self.file.write_all_at(bytes, end).map_err(failed)
     }
 
     fn read(&self, position: u64, buffer: &mut [u8]) -> Result<(), Failed> {
-        self.file
-            .read_exact_at(buffer, position)
-            .map_err(|_| Failed)
+        self.file.read_exact_at(buffer, position).map_err(failed)
     }
 
     fn cut(&mut self, len: u64) -> Result<(), Failed> {
         if len < self.len() {
-            OpenFile::set_len(&self.file, len).map_err(|_| Failed)?;
+            OpenFile::set_len(&self.file, len).map_err(failed)?;
         }
         Ok(())
     }

@@ -2,12 +2,12 @@
 
 ghost use Rattle.std.specs.Prelude.{◌<◌, IfOk};
 
-use crate::failure::Failure;
+use crate::failure::{Failure, failed};
 use std::alloc::Global;
 use std::str;
 
 /// What a line says.
-#[derive(Debug, Drop)]
+#[derive(Drop)]
 pub enum Command {
     Put(Vec<u8>, Vec<u8>),
     Get(Vec<u8>),
@@ -17,7 +17,7 @@ pub enum Command {
 }
 
 /// A command that asks for the order of the keys.
-#[derive(Debug, Drop)]
+#[derive(Drop)]
 pub enum InOrder {
     Next(Vec<u8>),
     Prev(Vec<u8>),
@@ -45,7 +45,7 @@ fn bytes_of(alloc: Global, number: u64, word: &[u8]) -> Result<Vec<u8>, Failure>
             return Err(Failure::BadLine(number));
         };
         let (high, low) = (digit(number, *high)?, digit(number, *low)?);
-        bytes.push(16 * high + low).map_err(|_| Failure::Failed)?;
+        bytes.push(16 * high + low).map_err(failed)?;
     }
     if bytes.is_empty() {
         Err(Failure::BadLine(number))
@@ -68,7 +68,7 @@ pub fn parse(alloc: Global, number: u64, line: &[u8]) -> Result<Command, Failure
         ("prev", Some(key), None, _) => Ok(Command::InOrder(InOrder::Prev(bytes(key)?))),
         ("absent", Some(key), None, _) => Ok(Command::InOrder(InOrder::Absent(bytes(key)?))),
         ("compact", Some(name), None, _) => {
-            let name = Vec::from_slice(alloc, name).map_err(|_| Failure::Failed)?;
+            let name = Vec::from_slice(alloc, name).map_err(failed)?;
             Ok(Command::InOrder(InOrder::Compact(name)))
         }
         _ => Err(Failure::BadLine(number)),

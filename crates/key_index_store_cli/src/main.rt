@@ -8,7 +8,7 @@ mod line;
 mod order;
 mod session;
 
-use failure::Failure;
+use failure::{Failure, failed};
 use file_log::FileLog;
 use key_index_flat::index::{Factory, ordered, unordered};
 use key_index_flat::translator::EightCap;
@@ -28,18 +28,18 @@ fn over<I: Factory<Translator = EightCap, Value = u64> + Drop, O: Order<I>>(
     requires { I.makes }
 {
     let alloc = rt.alloc();
-    let log = FileLog::open(rt, path).map_err(|_| Failure::Failed)?;
-    let index = I::new(alloc, EightCap).map_err(|_| Failure::Failed)?;
-    let (mut store, tail) = Store::open(alloc, log, index).map_err(|_| Failure::Failed)?;
+    let log = FileLog::open(rt, path).map_err(failed)?;
+    let index = I::new(alloc, EightCap).map_err(failed)?;
+    let (mut store, tail) = Store::open(alloc, log, index).map_err(failed)?;
     if tail != Tail::Nothing {
         let told = "cut off what stood behind the last whole record";
         let _ = writeln!(rt.stderr(), "{told}");
-        store.cut_tail().map_err(|_| Failure::Failed)?;
+        store.cut_tail().map_err(failed)?;
     }
-    let mut input = BufReader::new(alloc, rt.stdin()).map_err(|_| Failure::Failed)?;
-    let mut output = BufWriter::new(alloc, rt.stdout()).map_err(|_| Failure::Failed)?;
+    let mut input = BufReader::new(alloc, rt.stdin()).map_err(failed)?;
+    let mut output = BufWriter::new(alloc, rt.stdout()).map_err(failed)?;
     let ended = run_lines::<I, O, _, _>(rt, &mut store, &mut input, &mut output);
-    output.flush().map_err(|_| Failure::Failed)?;
+    output.flush().map_err(failed)?;
     ended
 }
 
@@ -49,10 +49,7 @@ fn run(rt: &HostRuntime) -> Result<(), Failure> {
         ErrorKind::InvalidData => Failure::Usage,
         _ => Failure::Failed,
     })?;
-    let words: Vec<String> = args
-        .skip(1)
-        .collect(rt.alloc())
-        .map_err(|_| Failure::Failed)?;
+    let words: Vec<String> = args.skip(1).collect(rt.alloc()).map_err(failed)?;
     let (path, kind) = match words.as_slice() {
         [path] => (path.as_str(), "ordered"),
         [path, kind] => (path.as_str(), kind.as_str()),

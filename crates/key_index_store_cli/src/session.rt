@@ -1,7 +1,7 @@
 //! A session: commands, and a line that answers each.
 
 use crate::answer::{Answer, reason};
-use crate::failure::Failure;
+use crate::failure::{Failure, failed};
 use crate::file_log::FileLog;
 use crate::line::{Command, parse};
 use crate::order::Order;
@@ -27,8 +27,7 @@ pub fn run_lines<
     let mut line = Vec::new(rt.alloc());
     for number in 1..u64::MAX {
         line.clear();
-        let read = input.read_until(b'\n', &mut line);
-        if read.map_err(|_| Failure::Failed)? == 0 {
+        if input.read_until(b'\n', &mut line).map_err(failed)? == 0 {
             return Ok(());
         }
         if line.last() == Some(&b'\n') {
@@ -42,7 +41,7 @@ pub fn run_lines<
             Command::InOrder(command) => O::answer(rt, store, &command),
         };
         let answer = answer.unwrap_or_else(|fault| Answer::Refused(reason(fault)));
-        writeln!(output, "{answer}").map_err(|_| Failure::Failed)?;
+        writeln!(output, "{answer}").map_err(failed)?;
     }
     Ok(())
 }
