@@ -1,6 +1,6 @@
 //! How the partitions of a partitioned ordered index and of its ranges stand, through one trait, and what the tests assert of it.
 
-use key_index_flat::index::Unordered;
+use super::checks::Tested;
 use key_index_flat::translator::{OneCap, TwoCap};
 use key_index_parts::index::partitioned::PartitionRange;
 use key_index_parts::index::partitioned::ordered::{Index, RangeIndex};
@@ -150,13 +150,10 @@ pub(super) fn has_moved<S: Stands>(rt: &impl Abort, stands: &S, moved: u64, spil
 
 /// The bound of the values that were ever moved, two for each value that is held and three for each that was taken out, is this number,
 /// and no more were moved.
-pub(super) fn moves_within<I: Unordered<Value = u64> + Stands>(
-    rt: &impl Abort,
-    index: &I,
-    bound: u64,
-) {
-    let held = (index.items() as u64).saturating_mul(2);
-    let taken = index.pruned().saturating_mul(3);
+pub(super) fn moves_within<I: Tested + Stands>(rt: &impl Abort, index: &I, bound: u64) {
+    let (_, items, pruned) = index.totals();
+    let held = (items as u64).saturating_mul(2);
+    let taken = pruned.saturating_mul(3);
     assert_eq!(rt; held.saturating_add(taken), bound);
     assert!(rt; index.moved() <= bound);
 }
