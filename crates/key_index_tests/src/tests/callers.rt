@@ -15,7 +15,7 @@ pub(super) trait Called: Tested {
     /// `replace_first` is accepted, and tells whether the key had a value.
     fn replaces_first(&mut self, rt: &impl Abort, key: &[u8], value: u64, had: bool);
 
-    /// `update` is accepted.
+    /// `update` of a value by another one is accepted.
     fn updates(&mut self, rt: &impl Abort, key: &[u8], old: u64, new: u64);
 }
 
@@ -36,6 +36,7 @@ impl<I: Unordered<Value = u64>> Called for I {
     }
 
     fn updates(&mut self, rt: &impl Abort, key: &[u8], old: u64, new: u64) {
+        assert!(rt; new != old);
         assert!(rt; update(self, key, old, new).is_ok());
     }
 }

@@ -4,7 +4,7 @@ use super::extremes::numbers_below;
 use super::lists::Way;
 use super::neighbours::{InOrder, next_has};
 use super::numbers::Numbers;
-use super::stands::{StandsWhole, Wide, has_spilled, is_inline, is_spilled};
+use super::stands::{StandsWhole, SubjectThatSpills, Wide, has_spilled, is_inline, is_spilled};
 use key_index_flat::index::Factory;
 use key_index_flat::translator::TwoCap;
 use key_index_parts::index::partitioned::unordered;
@@ -172,33 +172,33 @@ enum Flood {
 }
 
 /// Floods of an index by one byte and then two more.
-fn on<I: Tested + InOrder + StandsWhole>(rt: &impl Abort, alloc: Global, flood: Flood) {
+fn on<K: SubjectThatSpills>(rt: &impl Abort, alloc: Global, kind: &K, flood: Flood) {
     match flood {
-        Flood::Both => two_partitions(rt, alloc, &mut I::spilling_at(rt, alloc, 512)),
-        Flood::Keys => floods_of_keys::<I>(rt, alloc),
-        Flood::Values => floods_of_values::<I>(rt, alloc),
+        Flood::Both => two_partitions(rt, alloc, &mut kind.spilling_at(rt, alloc, 512)),
+        Flood::Keys => floods_of_keys(rt, alloc, kind),
+        Flood::Values => floods_of_values(rt, alloc, kind),
     }
 }
 
 /// A thousand keys at each threshold, in each order.
-fn floods_of_keys<I: Tested + InOrder + StandsWhole>(rt: &impl Abort, alloc: Global) {
+fn floods_of_keys<K: SubjectThatSpills>(rt: &impl Abort, alloc: Global, kind: &K) {
     for threshold in THRESHOLDS {
         for order in [Order::Rising, Order::Falling, Order::Mixed] {
-            many_keys(rt, &mut I::spilling_at(rt, alloc, threshold), order);
+            many_keys(rt, &mut kind.spilling_at(rt, alloc, threshold), order);
         }
     }
 }
 
 /// A thousand values at each threshold, by calls and by a cursor.
-fn floods_of_values<I: Tested + InOrder + StandsWhole>(rt: &impl Abort, alloc: Global) {
+fn floods_of_values<K: SubjectThatSpills>(rt: &impl Abort, alloc: Global, kind: &K) {
     for threshold in THRESHOLDS {
-        many_values(rt, alloc, &mut I::spilling_at(rt, alloc, threshold));
-        many_by_cursor(rt, alloc, &mut I::spilling_at(rt, alloc, threshold));
+        many_values(rt, alloc, &mut kind.spilling_at(rt, alloc, threshold));
+        many_by_cursor(rt, alloc, &mut kind.spilling_at(rt, alloc, threshold));
     }
 }
 
 fn on_wide(rt: &impl Abort, alloc: Global, flood: Flood) {
-    on::<Wide>(rt, alloc, flood)
+    on(rt, alloc, &Wide, flood)
 }
 
 #[test]

@@ -1,13 +1,15 @@
 //! What the partitioned ordered index alone has: how much a partition holds, and neighbours across sixteen million partitions.
 use super::checks::{Tested, fill, fresh};
 use super::neighbours::{InOrder, next_has, prev_has};
-use super::stands::{Small, StandsWhole, is_inline};
+use super::stands::{Small, SubjectThatSpills, is_inline};
 use key_index_flat::translator::TwoCap;
 use key_index_parts::index::partitioned::ordered;
+use std::alloc::Global;
 use std::process::Abort;
 
 /// Values are put in behind those of their key, and a partition tells how many it holds.
-fn behind<I: Tested + StandsWhole>(rt: &impl Abort, index: &mut I) {
+fn behind<K: SubjectThatSpills>(rt: &impl Abort, alloc: Global, kind: &K) {
+    let index = &mut kind.spilling_at(rt, alloc, 512);
     fill(rt, index, b"\x10\x02", &[1, 2, 3]);
     index.holds(rt, b"\x10\x02", &[1, 2, 3]);
     fill(rt, index, b"\x10\x01", &[4]);
@@ -35,7 +37,7 @@ fn far_apart<I: Tested + InOrder>(rt: &impl Abort, index: &mut I) {
 
 #[test]
 fn values_go_behind(rt: HostRuntime) {
-    behind(&rt, &mut Small::spilling_at(&rt, rt.alloc(), 512));
+    behind(&rt, rt.alloc(), &Small);
 }
 
 #[test]

@@ -7,7 +7,8 @@ use super::extremes::numbers_below;
 use super::neighbours::{InOrder, next_has, prev_has};
 use super::ranges::{InPartitions, Ranged};
 use super::stands::{
-    Small, Stands, StandsWhole, has_moved, has_spilled, is_inline, is_spilled, moves_within,
+    Small, Stands, StandsWhole, SubjectThatSpills, has_moved, has_spilled, is_inline, is_spilled,
+    moves_within,
 };
 use key_index_flat::translator::OneCap;
 use key_index_parts::index::partitioned::ordered::Index;
@@ -528,71 +529,62 @@ enum Case {
 }
 
 /// Which insertions spill.
-fn insertions<I: Tested + StandsWhole>(rt: &impl Abort, alloc: Global) {
-    spilled_by_insertions(rt, &mut I::spilling_at(rt, alloc, 2));
-    spilled_by_one(rt, &mut I::spilling_at(rt, alloc, 1));
-    spilled_by_what_is_left(rt, alloc, &mut I::spilling_at(rt, alloc, 3));
+fn insertions<K: SubjectThatSpills>(rt: &impl Abort, alloc: Global, kind: &K) {
+    spilled_by_insertions(rt, &mut kind.spilling_at(rt, alloc, 2));
+    spilled_by_one(rt, &mut kind.spilling_at(rt, alloc, 1));
+    spilled_by_what_is_left(rt, alloc, &mut kind.spilling_at(rt, alloc, 3));
 }
 
 /// Each call that spills what a cursor let grow.
-fn calls_that_spill<I: Tested + StandsWhole>(rt: &impl Abort, alloc: Global) {
-    spilled_by_remove(rt, alloc, &mut I::spilling_at(rt, alloc, 2));
-    spilled_by_retain(rt, alloc, &mut I::spilling_at(rt, alloc, 2));
-    spilled_by_get_mut(rt, alloc, &mut I::spilling_at(rt, alloc, 2));
-    spilled_by_get_mut_or_insert(rt, alloc, &mut I::spilling_at(rt, alloc, 2));
-    spilled_by_insert(rt, alloc, &mut I::spilling_at(rt, alloc, 2));
-    spilled_by_insert_and_retain(rt, alloc, &mut I::spilling_at(rt, alloc, 2));
-    spilled_and_emptied(rt, alloc, &mut I::spilling_at(rt, alloc, 2));
-    others_stand(rt, alloc, &mut I::spilling_at(rt, alloc, 2));
+fn calls_that_spill<K: SubjectThatSpills>(rt: &impl Abort, alloc: Global, kind: &K) {
+    spilled_by_remove(rt, alloc, &mut kind.spilling_at(rt, alloc, 2));
+    spilled_by_retain(rt, alloc, &mut kind.spilling_at(rt, alloc, 2));
+    spilled_by_get_mut(rt, alloc, &mut kind.spilling_at(rt, alloc, 2));
+    spilled_by_get_mut_or_insert(rt, alloc, &mut kind.spilling_at(rt, alloc, 2));
+    spilled_by_insert(rt, alloc, &mut kind.spilling_at(rt, alloc, 2));
+    spilled_by_insert_and_retain(rt, alloc, &mut kind.spilling_at(rt, alloc, 2));
+    spilled_and_emptied(rt, alloc, &mut kind.spilling_at(rt, alloc, 2));
+    others_stand(rt, alloc, &mut kind.spilling_at(rt, alloc, 2));
 }
 
 /// Partitions that are emptied and filled again.
-fn lives<I: Tested + StandsWhole>(rt: &impl Abort, alloc: Global) {
-    lived(rt, alloc, &mut I::spilling_at(rt, alloc, 2));
-    emptied_and_grown_by_cursor(rt, alloc, &mut I::spilling_at(rt, alloc, 2));
+fn lives<K: SubjectThatSpills>(rt: &impl Abort, alloc: Global, kind: &K) {
+    lived(rt, alloc, &mut kind.spilling_at(rt, alloc, 2));
+    emptied_and_grown_by_cursor(rt, alloc, &mut kind.spilling_at(rt, alloc, 2));
 }
 
 /// Spilled partitions that move back.
-fn returns<I: InOrder + InPartitions + StandsWhole>(rt: &impl Abort, alloc: Global)
-where
-    I::Range: Stands,
-{
-    moved_back_by_remove(rt, &mut I::spilling_at(rt, alloc, 8));
-    moved_back_by_the_next_call(rt, alloc, &mut I::spilling_at(rt, alloc, 8));
-    moved_back_and_spilled_again(rt, &mut I::spilling_at(rt, alloc, 3));
-    spilled_and_moved_back(rt, alloc, &mut I::spilling_at(rt, alloc, 8));
-    moved_back_in_order(rt, alloc, &mut I::spilling_at(rt, alloc, 8));
-    let other = I::spilling_at(rt, alloc, 2);
-    moved_back_where_installed(rt, &mut I::spilling_at(rt, alloc, 8), &other);
+fn returns<K: SubjectThatSpills>(rt: &impl Abort, alloc: Global, kind: &K) {
+    moved_back_by_remove(rt, &mut kind.spilling_at(rt, alloc, 8));
+    moved_back_by_the_next_call(rt, alloc, &mut kind.spilling_at(rt, alloc, 8));
+    moved_back_and_spilled_again(rt, &mut kind.spilling_at(rt, alloc, 3));
+    spilled_and_moved_back(rt, alloc, &mut kind.spilling_at(rt, alloc, 8));
+    moved_back_in_order(rt, alloc, &mut kind.spilling_at(rt, alloc, 8));
+    let other = kind.spilling_at(rt, alloc, 2);
+    moved_back_where_installed(rt, &mut kind.spilling_at(rt, alloc, 8), &other);
 }
 
 /// Ranges that spill.
-fn ranges_that_spill<I: InPartitions + StandsWhole>(rt: &impl Abort, alloc: Global)
-where
-    I::Range: Stands,
-{
-    spilled_and_drained_in_range(rt, alloc, &mut I::spilling_at(rt, alloc, 2));
-    installed_spilled(rt, &mut I::spilling_at(rt, alloc, 2));
-    installed_grown(rt, alloc, &mut I::spilling_at(rt, alloc, 2));
+fn ranges_that_spill<K: SubjectThatSpills>(rt: &impl Abort, alloc: Global, kind: &K) {
+    spilled_and_drained_in_range(rt, alloc, &mut kind.spilling_at(rt, alloc, 2));
+    installed_spilled(rt, &mut kind.spilling_at(rt, alloc, 2));
+    installed_grown(rt, alloc, &mut kind.spilling_at(rt, alloc, 2));
 }
 
 /// A case of an index by one byte and then one more.
-fn on<I: InOrder + InPartitions + StandsWhole>(rt: &impl Abort, alloc: Global, case: Case)
-where
-    I::Range: Stands,
-{
+fn on<K: SubjectThatSpills>(rt: &impl Abort, alloc: Global, kind: &K, case: Case) {
     match case {
-        Case::Insertions => insertions::<I>(rt, alloc),
-        Case::Calls => calls_that_spill::<I>(rt, alloc),
-        Case::Lives => lives::<I>(rt, alloc),
-        Case::Returns => returns::<I>(rt, alloc),
-        Case::Neighbours => next_to_spilled(rt, &mut I::spilling_at(rt, alloc, 2)),
-        Case::Ranges => ranges_that_spill::<I>(rt, alloc),
+        Case::Insertions => insertions(rt, alloc, kind),
+        Case::Calls => calls_that_spill(rt, alloc, kind),
+        Case::Lives => lives(rt, alloc, kind),
+        Case::Returns => returns(rt, alloc, kind),
+        Case::Neighbours => next_to_spilled(rt, &mut kind.spilling_at(rt, alloc, 2)),
+        Case::Ranges => ranges_that_spill(rt, alloc, kind),
     }
 }
 
 fn on_small(rt: &impl Abort, alloc: Global, case: Case) {
-    on::<Small>(rt, alloc, case)
+    on(rt, alloc, &Small, case)
 }
 
 #[test]
@@ -613,7 +605,7 @@ fn each_call_spills_what_is_due(rt: HostRuntime) {
 
 #[test]
 fn default_threshold_is_512(rt: HostRuntime) {
-    let mut index: Small = fresh(&rt, rt.alloc(), OneCap);
+    let mut index: Index<OneCap, u64, 1> = fresh(&rt, rt.alloc(), OneCap);
     spilled_at_512(&rt, rt.alloc(), &mut index);
 }
 

@@ -6,7 +6,7 @@ use super::lists::{self, Edited, KeptLists, Way, counts_as, list_at, place};
 use super::neighbours::InOrder;
 use super::numbers::Numbers;
 use super::ranges::{InPartitions, Ranged};
-use super::stands::{Small, Stands, StandsWhole};
+use super::stands::{Small, Stands, StandsWhole, SubjectThatSpills};
 use std::alloc::Global;
 use std::process::Abort;
 
@@ -495,24 +495,17 @@ where
 const THRESHOLDS: [usize; 6] = [1, 2, 3, 8, 64, 512];
 
 /// So does one that spills at a threshold, and ranges that spill at this or another one.
-fn stands_at<I: InOrder + InPartitions + StandsWhole>(
-    rt: &impl Abort,
-    alloc: Global,
-    threshold: usize,
-)
-where
-    I::Range: Stands,
-{
-    let mut index = I::spilling_at(rt, alloc, threshold);
+fn stands_at<K: SubjectThatSpills>(rt: &impl Abort, alloc: Global, kind: &K, threshold: usize) {
+    let mut index = kind.spilling_at(rt, alloc, threshold);
     let mut others = Vec::new(alloc);
     for other in THRESHOLDS {
-        push(rt, &mut others, I::spilling_at(rt, alloc, other));
+        push(rt, &mut others, kind.spilling_at(rt, alloc, other));
     }
     stands_beside(rt, alloc, &mut index, others.as_slice());
 }
 
 fn at(rt: &impl Abort, alloc: Global, threshold: usize) {
-    stands_at::<Small>(rt, alloc, threshold)
+    stands_at(rt, alloc, &Small, threshold)
 }
 
 #[test]
