@@ -32,7 +32,7 @@ pub(super) fn fresh<K: Kind<V>, V>(rt: &impl Abort, alloc: Global, kind: &K) -> 
     kind.make(alloc).expect(rt, "an index")
 }
 
-/// A kind as the cases see it. Its index has no trait that promises anything, so that a test that names the kind is quickly proved.
+/// A kind as the cases see it. Its index has no trait that promises anything, so that what goes over it is quickly proved.
 pub(super) trait Subject {
     type Index: Called + Placed + Commanded + Drop;
 
