@@ -1,9 +1,7 @@
 //! Batches that look ahead: which lists are found and which values are visited, in what order, on examples and beside lists that the
 //! test keeps.
-use super::checks::{fill, fresh, inserts, push, removes};
+use super::checks::{Tested, fill, fresh, push};
 use super::numbers::Numbers;
-use key_index_flat::index::implement::Lists;
-use key_index_flat::index::{Fault, Unordered};
 use key_index_flat::translator::OneCap;
 use key_index_parts::index::partitioned::ordered::{Ahead, Index, visit_ahead};
 use key_index_uses::records::find_records;
@@ -12,7 +10,7 @@ use std::process::Abort;
 
 /// What a batch tells, with the value that it visits.
 #[derive(Debug, Clone, Copy, PartialEq)]
-enum Event {
+pub(super) enum Event {
     Found(usize, usize),
     Visit(usize, u64),
 }
@@ -26,55 +24,58 @@ fn event_of(told: Ahead<'_, u64>) -> Event {
 }
 
 /// An index whose batches look ahead.
-pub(super) trait LooksAhead: Unordered<Value = u64> {
+pub(super) trait LooksAhead: Tested {
     /// How many bytes of a key its index key has.
-    const BYTES: usize;
+    fn bytes(&self) -> usize;
 
-    /// Tells a closure what a batch does.
-    fn look_ahead<F: FnMut(Ahead<'_, u64>)>(&self, keys: &[&[u8]], on: F) -> Result<(), Fault>
-        requires { F.IsAlwaysCallable on };
-}
+    /// What a batch of these keys tells.
+    fn told(&self, rt: &impl Abort, alloc: Global, keys: &[&[u8]]) -> Vec<Event>;
 
-impl LooksAhead for Index<OneCap, u64, 1> {
-    const BYTES: usize = 2;
-
-    fn look_ahead<F: FnMut(Ahead<'_, u64>)>(&self, keys: &[&[u8]], on: F) -> Result<(), Fault> {
-        self.get_many_ahead(keys.iter().copied(), on)
-    }
-}
-
-impl LooksAhead for Index<OneCap, u64, 2> {
-    const BYTES: usize = 3;
-
-    fn look_ahead<F: FnMut(Ahead<'_, u64>)>(&self, keys: &[&[u8]], on: F) -> Result<(), Fault> {
-        self.get_many_ahead(keys.iter().copied(), on)
-    }
-}
-
-/// What a batch of these keys tells.
-fn told<I: LooksAhead>(rt: &impl Abort, alloc: Global, index: &I, keys: &[&[u8]]) -> Vec<Event> {
-    let mut told = Vec::new(alloc);
-    let done = index.look_ahead(
-        keys,
-        |event: Ahead<'_, u64>| push(rt, &mut told, event_of(event)),
+    /// `find_records` is accepted.
+    fn finds(
+        &self,
+        rt: &impl Abort,
+        alloc: Global,
+        log: &[&[u8]],
+        keys: &[&[u8]],
+        answers: &mut [Option<u64>],
     );
-    assert!(rt; done.is_ok());
-    told
+}
+
+impl<const P: usize> LooksAhead for Index<OneCap, u64, P> {
+    fn bytes(&self) -> usize {
+        P.saturating_add(1)
+    }
+
+    fn told(&self, rt: &impl Abort, alloc: Global, keys: &[&[u8]]) -> Vec<Event> {
+        let mut told = Vec::new(alloc);
+        let done = self.get_many_ahead(
+            keys.iter().copied(),
+            |event: Ahead<'_, u64>| push(rt, &mut told, event_of(event)),
+        );
+        assert!(rt; done.is_ok());
+        told
+    }
+
+    fn finds(
+        &self,
+        rt: &impl Abort,
+        alloc: Global,
+        log: &[&[u8]],
+        keys: &[&[u8]],
+        answers: &mut [Option<u64>],
+    ) {
+        assert!(rt; answers.len() == keys.len());
+        assert!(rt; find_records(alloc, self, log, keys, answers).is_ok());
+    }
 }
 
 /// What a batch of these keys visits that doesn't look ahead.
-fn visited<I: Unordered<Value = u64>>(
-    rt: &impl Abort,
-    alloc: Global,
-    index: &I,
-    keys: &[&[u8]],
-) -> Vec<Event> {
+fn visited<I: Tested>(rt: &impl Abort, alloc: Global, index: &I, keys: &[&[u8]]) -> Vec<Event> {
     let mut visited = Vec::new(alloc);
-    let done = index.get_many(
-        keys.iter().copied(),
-        |place: usize, value: &u64| push(rt, &mut visited, Event::Visit(place, *value)),
-    );
-    assert!(rt; done.is_ok());
+    for (place, value) in index.seen(rt, alloc, keys).iter() {
+        push(rt, &mut visited, Event::Visit(*place, *value));
+    }
     visited
 }
 
@@ -88,7 +89,7 @@ fn is_visit(event: &Event) -> bool {
 
 /// A batch of these keys tells this, in this order, and one that doesn't look ahead visits the same.
 fn tells<I: LooksAhead>(rt: &impl Abort, alloc: Global, index: &I, keys: &[&[u8]], want: &[Event]) {
-    let told = told(rt, alloc, index, keys);
+    let told = index.told(rt, alloc, keys);
     assert!(rt; told.iter().eq(want.iter()), "told {told:?}, not {want:?}");
     let visited = visited(rt, alloc, index, keys);
     let visits = want.iter().filter(|event| is_visit(*event));
@@ -134,7 +135,7 @@ pub(super) fn four_lists_ahead<I: LooksAhead>(rt: &impl Abort, alloc: Global, in
             Event::Visit(0, 8),
         ],
     );
-    removes(rt, index, b"\x20\x05");
+    index.removes(rt, b"\x20\x05");
     fill(rt, index, b"\x10\x02", &[22]);
     fill(rt, index, b"\x20\x01", &[5]);
     tells(
@@ -258,34 +259,35 @@ fn wanted(
 pub(super) fn told_beside<I: LooksAhead>(rt: &impl Abort, alloc: Global, index: &mut I) {
     let mut numbers = Numbers::new();
     let mut kept: Vec<(u32, u64)> = Vec::new(alloc);
+    let bytes = index.bytes();
     for _ in 0..1000 {
         let key = some_key(numbers.next());
         let value = numbers.next();
         if value % 4 == 0 {
-            removes(rt, index, key);
-            kept.retain(|item: &(u32, u64)| item.0 != front(key, I::BYTES));
+            index.removes(rt, key);
+            kept.retain(|item: &(u32, u64)| item.0 != front(key, bytes));
         } else {
-            inserts(rt, index, key, value);
-            push(rt, &mut kept, (front(key, I::BYTES), value));
+            index.inserts(rt, key, value);
+            push(rt, &mut kept, (front(key, bytes), value));
         }
         let mut keys: Vec<&[u8]> = Vec::new(alloc);
         for _ in 0..numbers.next() % 41 {
             push(rt, &mut keys, some_key(numbers.next()));
         }
-        let want = wanted(rt, alloc, &kept, &keys, I::BYTES);
+        let want = wanted(rt, alloc, &kept, &keys, bytes);
         tells(rt, alloc, index, &keys, &want);
     }
 }
 
 /// Records of keys of which the index tells some not apart: the newest record of each key, and none of an absent one.
-pub(super) fn found_records<I: LooksAhead + Lists>(rt: &impl Abort, alloc: Global, index: &mut I) {
+pub(super) fn found_records<I: LooksAhead>(rt: &impl Abort, alloc: Global, index: &mut I) {
     let log: [&[u8]; 6] = [b"one", b"only", b"two", b"one", b"on", b"once"];
     for (position, key) in log.iter().enumerate() {
-        inserts(rt, index, *key, position as u64);
+        index.inserts(rt, *key, position as u64);
     }
     let keys: [&[u8]; 7] = [b"two", b"one", b"onto", b"only", b"tw", b"one", b""];
     let mut answers = [None, None, None, None, None, None, Some(9)];
-    assert!(rt; find_records(alloc, index, &log, &keys, &mut answers).is_ok());
+    index.finds(rt, alloc, &log, &keys, &mut answers);
     assert_eq!(rt;
         answers,
         [Some(2), Some(3), None, Some(1), None, Some(3), Some(9)]

@@ -6,7 +6,7 @@ use std::process::Abort;
 /// The asks of a closure, which answers them by the bits of a number, the lowest first.
 #[derive(Drop)]
 pub(super) struct Asks {
-    values: Vec<u64>,
+    pub(super) values: Vec<u64>,
     answers: u64,
 }
 

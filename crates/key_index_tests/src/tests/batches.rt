@@ -1,6 +1,6 @@
 //! Batches: which values are visited with which places, in the order of each index.
 
-use super::checks::{fill, push};
+use super::checks::{Tested, fill};
 use super::kinds::{Ordered, fresh};
 use key_index_flat::index::Unordered;
 use key_index_flat::index::implement::Lists;
@@ -8,30 +8,15 @@ use key_index_uses::callers::last_values;
 use std::alloc::Global;
 use std::process::Abort;
 
-/// What a batch of these keys visits.
-fn seen<I: Unordered<Value = u64>>(
-    rt: &impl Abort,
-    alloc: Global,
-    index: &I,
-    keys: &[&[u8]],
-) -> Vec<(usize, u64)> {
-    let mut seen = Vec::new(alloc);
-    let visited = index.get_many(keys.iter().copied(), |place: usize, value: &u64| {
-        push(rt, &mut seen, (place, *value))
-    });
-    assert!(rt; visited.is_ok());
-    seen
-}
-
 /// A batch of these keys visits these places with these values, in this order.
-fn visits<I: Unordered<Value = u64>>(
+fn visits<I: Tested>(
     rt: &impl Abort,
     alloc: Global,
     index: &I,
     keys: &[&[u8]],
     want: &[(usize, u64)],
 ) {
-    let seen = seen(rt, alloc, index, keys);
+    let seen = index.seen(rt, alloc, keys);
     assert!(rt;
         seen.iter().copied().eq(want.iter().copied()),
         "visits {seen:?}, not {want:?}"
@@ -39,14 +24,14 @@ fn visits<I: Unordered<Value = u64>>(
 }
 
 /// A batch of two keys visits the whole list of each, in whatever order the places come.
-pub(super) fn visits_lists<I: Unordered<Value = u64>>(
+pub(super) fn visits_lists<I: Tested>(
     rt: &impl Abort,
     alloc: Global,
     index: &I,
     keys: &[&[u8]],
     lists: [&[u64]; 2],
 ) {
-    let seen = seen(rt, alloc, index, keys);
+    let seen = index.seen(rt, alloc, keys);
     for place in 0..2 {
         let values = seen.iter().filter(|visit| visit.0 == place);
         assert!(rt;
@@ -58,18 +43,14 @@ pub(super) fn visits_lists<I: Unordered<Value = u64>>(
 }
 
 /// Three keys by their first bytes: 0b with the value 1, 1c with 22 and 21, 2d with 3.
-fn three<I: Unordered<Value = u64>>(rt: &impl Abort, index: &mut I) {
+fn three<I: Tested>(rt: &impl Abort, index: &mut I) {
     fill(rt, index, b"\x0b\x02\xaa", &[1]);
     fill(rt, index, b"\x1c\x04\xcc", &[22, 21]);
     fill(rt, index, b"\x2d\x06\xee", &[3]);
 }
 
 /// A batch of an ordered index with partitions by one byte goes by partition, and in it by index key.
-pub(super) fn by_partition_and_key<I: Unordered<Value = u64>>(
-    rt: &impl Abort,
-    alloc: Global,
-    index: &mut I,
-) {
+pub(super) fn by_partition_and_key<I: Tested>(rt: &impl Abort, alloc: Global, index: &mut I) {
     fill(rt, index, b"\x10\x02", &[2, 22]);
     fill(rt, index, b"\x20\x01", &[5]);
     visits(
@@ -91,7 +72,7 @@ pub(super) fn by_partition_and_key<I: Unordered<Value = u64>>(
 }
 
 /// A batch of the flat unordered index by one byte goes by place.
-pub(super) fn by_place<I: Unordered<Value = u64>>(rt: &impl Abort, alloc: Global, index: &mut I) {
+pub(super) fn by_place<I: Tested>(rt: &impl Abort, alloc: Global, index: &mut I) {
     three(rt, index);
     visits(
         rt,
@@ -104,7 +85,7 @@ pub(super) fn by_place<I: Unordered<Value = u64>>(rt: &impl Abort, alloc: Global
 }
 
 /// A batch of the flat ordered index by one byte goes by index key, and of one key by place.
-pub(super) fn by_key<I: Unordered<Value = u64>>(rt: &impl Abort, alloc: Global, index: &mut I) {
+pub(super) fn by_key<I: Tested>(rt: &impl Abort, alloc: Global, index: &mut I) {
     three(rt, index);
     visits(
         rt,
@@ -124,11 +105,7 @@ pub(super) fn by_key<I: Unordered<Value = u64>>(rt: &impl Abort, alloc: Global, 
 }
 
 /// A batch of the unordered index with partitions by one byte goes by place.
-pub(super) fn by_place_in_partitions<I: Unordered<Value = u64>>(
-    rt: &impl Abort,
-    alloc: Global,
-    index: &mut I,
-) {
+pub(super) fn by_place_in_partitions<I: Tested>(rt: &impl Abort, alloc: Global, index: &mut I) {
     fill(rt, index, b"\x10\x02", &[2, 22]);
     fill(rt, index, b"\x20\x01", &[5]);
     fill(rt, index, b"\x00", &[7]);
@@ -142,7 +119,7 @@ pub(super) fn by_place_in_partitions<I: Unordered<Value = u64>>(
 }
 
 /// The last values of three keys, one of which has none.
-fn slice_is_filled<I: Unordered<Value = u64> + Lists>(rt: &impl Abort, index: &mut I) {
+fn slice_is_filled<I: Tested + Lists<Value = u64>>(rt: &impl Abort, index: &mut I) {
     three(rt, index);
     let keys: [&[u8]; 3] = [b"\x1c", b"\x55", b"\x0b"];
     let mut answers = [None, Some(9), None];

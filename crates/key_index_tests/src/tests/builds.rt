@@ -2,13 +2,13 @@
 ghost use Rattle.std.specs.Prelude.{IsTrue};
 ghost use Rattle.key_index_parts.specs.Ops.{IsCuts};
 
-use super::checks::{counts, holds, push};
+use super::checks::{Tested, push};
 use super::command_lists::{edit, has_all, key};
 use super::lists::{KeptLists, place};
 use super::numbers::Numbers;
+use super::ranges::InPartitions;
 use key_index_flat::index::Step;
-use key_index_parts::index::partitioned::{Op, Partitioned, build_in_ranges};
-use key_index_uses::builds::newest_positions;
+use key_index_parts::index::partitioned::Op;
 use std::alloc::Global;
 use std::process::Abort;
 
@@ -29,22 +29,6 @@ pub(super) fn are_cuts(cuts: &[usize], count: usize) -> bool
     true
 }
 
-/// A build of an empty index is accepted.
-fn builds<I: Partitioned<Value = u64>>(
-    rt: &impl Abort,
-    alloc: Global,
-    index: &mut I,
-    cuts: &[usize],
-    ops: Vec<Op<u64>>,
-) {
-    assert_eq!(rt; index.keys(), 0);
-    assert!(rt;
-        are_cuts(cuts, index.partition_count()),
-        "{cuts:?} are cuts"
-    );
-    assert!(rt; build_in_ranges(alloc, index, cuts, ops).is_ok());
-}
-
 /// A key in a vector.
 fn bytes(rt: &impl Abort, alloc: Global, key: &[u8]) -> Vec<u8> {
     let mut bytes = Vec::new(alloc);
@@ -53,7 +37,7 @@ fn bytes(rt: &impl Abort, alloc: Global, key: &[u8]) -> Vec<u8> {
 }
 
 /// Five ops in two ranges: two values come behind others, and a key loses both that it had.
-pub(super) fn built<I: Partitioned<Value = u64>>(rt: &impl Abort, alloc: Global, index: &mut I) {
+pub(super) fn built<I: InPartitions>(rt: &impl Abort, alloc: Global, index: &mut I) {
     let mut insert = Vec::new(alloc);
     push(rt, &mut insert, Step::Next);
     push(rt, &mut insert, Step::Insert(3));
@@ -88,37 +72,29 @@ pub(super) fn built<I: Partitioned<Value = u64>>(rt: &impl Abort, alloc: Global,
         &mut ops,
         Op::Edit(bytes(rt, alloc, b"\x90\x01"), replace),
     );
-    builds(rt, alloc, index, &[0, 0x80, 256], ops);
-    holds(rt, index, b"\x10\x01", &[1, 3]);
-    holds(rt, index, b"\x90\x01", &[5]);
-    counts(rt, index, (2, 3, 1));
+    index.builds(rt, alloc, &[0, 0x80, 256], ops);
+    index.holds(rt, b"\x10\x01", &[1, 3]);
+    index.holds(rt, b"\x90\x01", &[5]);
+    index.counts(rt, (2, 3, 1));
 }
 
 /// The newest record of each key stands.
-pub(super) fn newest_stand<I: Partitioned<Value = u64> + Drop>(
-    rt: &impl Abort,
-    alloc: Global,
-    index: I,
-) {
-    assert_eq!(rt; index.keys(), 0);
+pub(super) fn newest_stand<I: InPartitions + Drop>(rt: &impl Abort, alloc: Global, index: I) {
     let cuts = [0, 1, 0x7f, 0x80, 0xff, 256];
     let mut records = Vec::new(alloc);
     push(rt, &mut records, (bytes(rt, alloc, b"\x10\x01"), 9));
     push(rt, &mut records, (bytes(rt, alloc, b"\x80\x01"), 8));
     push(rt, &mut records, (bytes(rt, alloc, b"\x10\x01"), 7));
     push(rt, &mut records, (bytes(rt, alloc, b"\xff"), 6));
-    assert!(rt; are_cuts(&cuts, index.partition_count()));
-    let Ok(index) = newest_positions(alloc, index, &cuts, records) else {
-        panic!(rt; "an index")
-    };
-    holds(rt, &index, b"\x10\x01", &[9]);
-    holds(rt, &index, b"\x80\x01", &[8]);
-    holds(rt, &index, b"\xff", &[6]);
-    counts(rt, &index, (3, 3, 0));
+    let index = index.builds_newest(rt, alloc, &cuts, records);
+    index.holds(rt, b"\x10\x01", &[9]);
+    index.holds(rt, b"\x80\x01", &[8]);
+    index.holds(rt, b"\xff", &[6]);
+    index.counts(rt, (3, 3, 0));
 }
 
 /// Cuts at up to five partitions that keys have, or one behind.
-fn cuts<I: Partitioned<Value = u64>>(
+fn cuts<I: InPartitions>(
     rt: &impl Abort,
     alloc: Global,
     index: &I,
@@ -128,14 +104,14 @@ fn cuts<I: Partitioned<Value = u64>>(
     push(rt, &mut cuts, 0);
     for _ in 0..numbers.next() % 6 {
         let number = numbers.next();
-        let partition = I::partition_of(key(rt, alloc, number).as_slice());
+        let partition = index.partition(key(rt, alloc, number).as_slice());
         push(
             rt,
             &mut cuts,
             partition.saturating_add((number / 64 % 2) as usize),
         );
     }
-    push(rt, &mut cuts, index.partition_count());
+    push(rt, &mut cuts, index.partitions());
     cuts.sort_unstable();
     cuts.dedup();
     cuts
@@ -161,7 +137,7 @@ fn op(rt: &impl Abort, alloc: Global, kept: &mut KeptLists) -> Op<u64> {
 }
 
 /// An empty index is built by up to 23 ops in ranges by random cuts, and then has the lists that the ops come to one by one.
-pub(super) fn built_beside<I: Partitioned<Value = u64>>(
+pub(super) fn built_beside<I: InPartitions>(
     rt: &impl Abort,
     alloc: Global,
     index: &mut I,
@@ -174,6 +150,6 @@ pub(super) fn built_beside<I: Partitioned<Value = u64>>(
         let op = op(rt, alloc, kept);
         push(rt, &mut ops, op);
     }
-    builds(rt, alloc, index, cuts.as_slice(), ops);
+    index.builds(rt, alloc, cuts.as_slice(), ops);
     has_all(rt, alloc, index, kept);
 }

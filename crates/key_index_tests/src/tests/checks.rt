@@ -1,9 +1,9 @@
-//! Calls of an index and of a cursor that have to be accepted, and what the tests assert of them: each in one function, so that a
-//! test is proved by its calls alone.
+//! An index as the cases see it: each call asserts that it is accepted, and that it answers as it should.
 ghost use Rattle.std.specs.Prelude.{◌≡◌, []};
-ghost use Rattle.key_index_flat.specs.Cursor.{IsOnValue, AllowsInsert};
 
 use super::asks::Asks;
+use super::lists::{Edited, Way, edit_beside, goes_beside};
+use super::numbers::Numbers;
 use key_index_flat::index::{Cursor, CursorState, Factory, IndexCursor, Unordered};
 use std::alloc::Global;
 use std::process::Abort;
@@ -16,179 +16,74 @@ pub(super) fn fresh<I: Factory>(rt: &impl Abort, alloc: Global, translator: I::T
     I::new(alloc, translator).expect(rt, "an index")
 }
 
-/// `insert` is accepted.
-pub(super) fn inserts<I: Unordered<Value = u64>>(
-    rt: &impl Abort,
-    index: &mut I,
-    key: &[u8],
-    value: u64,
-) {
-    index.insert(key, value).expect(rt, "insert");
-}
-
-/// A key that has no value gets these, in this order.
-pub(super) fn fill<I: Unordered<Value = u64>>(
-    rt: &impl Abort,
-    index: &mut I,
-    key: &[u8],
-    values: &[u64],
-) {
-    if I::INSERT_FIRST {
-        for value in values.iter().rev() {
-            inserts(rt, index, key, *value);
-        }
-    } else {
-        for value in values {
-            inserts(rt, index, key, *value);
-        }
-    }
-}
-
-/// `remove` is accepted.
-pub(super) fn removes<I: Unordered<Value = u64>>(rt: &impl Abort, index: &mut I, key: &[u8]) {
-    index.remove(key).expect(rt, "remove");
-}
-
 /// A value behind those of a vector.
 pub(super) fn push<T: Drop>(rt: &impl Abort, values: &mut Vec<T>, value: T) {
     assert!(rt; values.push(value).is_ok());
 }
 
-/// A key has these values, in this order, and no others.
-pub(super) fn holds<I: Unordered<Value = u64>>(
-    rt: &impl Abort,
-    index: &I,
-    key: &[u8],
-    values: &[u64],
-) {
-    assert!(rt;
-        index.get(key).copied().eq(values.iter().copied()),
-        "the values of {key:?} are {values:?}"
-    );
+/// A call answers a key as it should.
+pub(super) fn must(rt: &impl Abort, holds: bool, call: &str, key: &[u8]) {
+    assert!(rt; holds, "{call} of {key:?}");
 }
 
-/// How many keys and values there are, and how many values were taken out.
-pub(super) fn counts<I: Unordered<Value = u64>>(
-    rt: &impl Abort,
-    index: &I,
-    want: (usize, usize, u64),
-) {
-    assert_eq!(rt; (index.keys(), index.items(), index.pruned()), want);
+/// A move of a cursor, with what it comes to.
+#[derive(Clone, Copy)]
+pub(super) enum Move<'a> {
+    /// `next` gives this value, and the cursor is on it.
+    Next(u64),
+    /// `next` gives no value, and the cursor is past the end.
+    End,
+    /// `insert` is accepted.
+    Insert(u64),
+    /// The same past the end, where the cursor stays.
+    Append(u64),
+    /// `update` of the value that the cursor is on.
+    Update(u64),
+    /// `delete` of the value that the cursor is on.
+    Delete,
+    /// The cursor tells this state.
+    Stand(CursorState),
+    /// `retain`, answered by the bits of a number, asks on these values and no others, and the cursor is past the end.
+    Retain(u64, &'a [u64]),
+    /// `find`, so answered, asks on these values and no others, and the cursor is on the last of them.
+    Find(u64, &'a [u64]),
+    /// `find` asks on these values and no others, and the cursor is past the end.
+    FindNone(&'a [u64]),
 }
 
-/// `retain` asks on these values, in this order, and on no others. It is answered by the bits of a number, the lowest first.
-pub(super) fn retains<I: Unordered<Value = u64>>(
-    rt: &impl Abort,
-    alloc: Global,
-    index: &mut I,
-    key: &[u8],
-    answers: u64,
-    asked: &[u64],
-) {
-    let mut asks = Asks::new(alloc, answers);
-    let kept = index.retain(key, |value: &u64| asks.ask(rt, *value));
-    assert!(rt; kept.is_ok());
-    asks.are(rt, asked);
-}
-
-/// `insert_and_retain` asks on these values, in this order, and on no others. It is answered by the bits of a number, the lowest
-/// first.
-pub(super) fn inserts_and_retains<I: Unordered<Value = u64>>(
-    rt: &impl Abort,
-    alloc: Global,
-    index: &mut I,
-    key: &[u8],
-    value: u64,
-    answers: u64,
-    asked: &[u64],
-) {
-    let mut asks = Asks::new(alloc, answers);
-    let kept = index.insert_and_retain(key, value, |value: &u64| asks.ask(rt, *value));
-    assert!(rt; kept.is_ok());
-    asks.are(rt, asked);
-}
-
-/// `get_mut` is accepted.
-pub(super) fn gets<'a, I: Unordered<Value = u64>>(
-    rt: &impl Abort,
-    index: &'a mut I,
-    key: &[u8],
-) -> Option<IndexCursor<'a, I>> {
-    let Ok(found) = index.get_mut(key) else {
-        panic!(rt; "get_mut of {key:?} is accepted")
-    };
-    found
-}
-
-/// `get_mut_or_insert` is accepted.
-pub(super) fn gets_or_inserts<'a, I: Unordered<Value = u64>>(
-    rt: &impl Abort,
-    index: &'a mut I,
-    key: &[u8],
-    value: u64,
-) -> Option<IndexCursor<'a, I>> {
-    let Ok(found) = index.get_mut_or_insert(key, value) else {
-        panic!(rt; "get_mut_or_insert of {key:?} is accepted")
-    };
-    found
-}
-
-/// A cursor before the first value of a key that has one.
-pub(super) fn cursor_at<'a, I: Unordered<Value = u64>>(
-    rt: &impl Abort,
-    index: &'a mut I,
-    key: &[u8],
-) -> IndexCursor<'a, I> {
-    let Some(cursor) = gets(rt, index, key) else {
-        panic!(rt; "{key:?} has a value")
-    };
-    cursor
-}
-
-/// A key has no value for a cursor.
-pub(super) fn has_no_cursor<I: Unordered<Value = u64>>(rt: &impl Abort, index: &mut I, key: &[u8]) {
-    assert!(rt; gets(rt, index, key).is_none(), "{key:?} has no value");
-}
-
-/// A cursor's `insert` is accepted.
-pub(super) fn puts<C: Cursor<Value = u64>>(rt: &impl Abort, cursor: &mut C, value: u64)
-    requires { AllowsInsert (C.place cursor.old) }
-{
-    cursor.insert(value).expect(rt, "insert");
-}
-
-/// A cursor past the end puts a value there, and stays past the end.
-pub(super) fn puts_last<C: Cursor<Value = u64>>(rt: &impl Abort, cursor: &mut C, value: u64)
-    requires { AllowsInsert (C.place cursor.old) }
-    ensures { AllowsInsert (C.place cursor.new) }
-{
-    puts(rt, cursor, value);
-    assert_eq!(rt; cursor.state(), CursorState::Done);
-}
-
-/// The cursor tells this state.
-pub(super) fn stands<C: Cursor<Value = u64>>(rt: &impl Abort, cursor: &C, state: CursorState) {
+/// A cursor tells this state.
+fn stands<C: Cursor<Value = u64>>(rt: &impl Abort, cursor: &C, state: CursorState) {
     assert_eq!(rt; cursor.state(), state);
 }
 
-/// `next` gives this value, and the cursor is on it.
-pub(super) fn goes_to<C: Cursor<Value = u64>>(rt: &impl Abort, cursor: &mut C, value: u64)
-    ensures { IsOnValue (C.place cursor.new) }
-{
-    assert_eq!(rt; cursor.next().copied(), Some(value), "what next gives");
-    assert_eq!(rt; cursor.state(), CursorState::Active, "on {value}");
+/// `next` gives this, and the cursor tells this state.
+fn goes<C: Cursor<Value = u64>>(
+    rt: &impl Abort,
+    cursor: &mut C,
+    value: Option<u64>,
+    state: CursorState,
+) {
+    assert_eq!(rt; cursor.next().copied(), value, "what next gives");
+    stands(rt, cursor, state);
 }
 
-/// `next` gives no value, and the cursor is past the end.
-pub(super) fn ends<C: Cursor<Value = u64>>(rt: &impl Abort, cursor: &mut C)
-    ensures { AllowsInsert (C.place cursor.new) }
-{
-    assert!(rt; cursor.next().is_none(), "next gives no value");
-    assert_eq!(rt; cursor.state(), CursorState::Done);
+/// `insert` of a cursor that allows it is accepted.
+pub(super) fn puts<C: Cursor<Value = u64>>(rt: &impl Abort, cursor: &mut C, value: u64) {
+    assert!(rt; cursor.state() != CursorState::NeedNext);
+    cursor.insert(value).expect(rt, "insert");
 }
 
-/// A cursor's `retain` asks on these values, in this order, and on no others, and the cursor is past the end.
-pub(super) fn keeps<C: Cursor<Value = u64>>(
+/// `update` of a cursor on a value, or else `delete`.
+fn changes<C: Cursor<Value = u64>>(rt: &impl Abort, cursor: &mut C, value: Option<u64>) {
+    assert!(rt; cursor.state() == CursorState::Active);
+    match value {
+        Some(value) => cursor.update(value),
+        None => cursor.delete(),
+    }
+}
+
+/// `retain` asks on these values, and the cursor is past the end.
+fn keeps<C: Cursor<Value = u64>>(
     rt: &impl Abort,
     alloc: Global,
     cursor: &mut C,
@@ -201,33 +96,327 @@ pub(super) fn keeps<C: Cursor<Value = u64>>(
     asks.are(rt, asked);
 }
 
-/// `find` asks on these values, in this order, and on no others, and the cursor is on the last of them.
-pub(super) fn finds<C: Cursor<Value = u64>>(
+/// `find` asks on these values, and the cursor tells this state.
+fn finds<C: Cursor<Value = u64>>(
     rt: &impl Abort,
     alloc: Global,
     cursor: &mut C,
     answers: u64,
     asked: &[u64],
-)
-    ensures { IsOnValue (C.place cursor.new) }
-{
+    state: CursorState,
+) {
     let mut asks = Asks::new(alloc, answers);
-    assert!(rt; cursor.find(|value: &u64| asks.ask(rt, *value)));
+    let found = cursor.find(|value: &u64| asks.ask(rt, *value));
+    assert_eq!(rt; found, state == CursorState::Active);
+    stands(rt, cursor, state);
     asks.are(rt, asked);
-    assert_eq!(rt; cursor.state(), CursorState::Active);
 }
 
-/// `find` asks on these values, in this order, and on no others, and the cursor is past the end.
-pub(super) fn finds_none<C: Cursor<Value = u64>>(
+/// A move of a cursor.
+fn moves<C: Cursor<Value = u64>>(rt: &impl Abort, alloc: Global, cursor: &mut C, next: Move<'_>) {
+    match next {
+        Move::Next(value) => goes(rt, cursor, Some(value), CursorState::Active),
+        Move::End => goes(rt, cursor, None, CursorState::Done),
+        Move::Insert(value) => puts(rt, cursor, value),
+        Move::Append(value) => {
+            puts(rt, cursor, value);
+            stands(rt, cursor, CursorState::Done);
+        }
+        Move::Update(value) => changes(rt, cursor, Some(value)),
+        Move::Delete => changes(rt, cursor, None),
+        Move::Stand(state) => stands(rt, cursor, state),
+        Move::Retain(answers, asked) => keeps(rt, alloc, cursor, answers, asked),
+        Move::Find(answers, asked) => finds(rt, alloc, cursor, answers, asked, CursorState::Active),
+        Move::FindNone(asked) => finds(rt, alloc, cursor, 0, asked, CursorState::Done),
+    }
+}
+
+/// Moves of a cursor, one after another.
+pub(super) fn makes<C: Cursor<Value = u64>>(
     rt: &impl Abort,
     alloc: Global,
     cursor: &mut C,
-    asked: &[u64],
-)
-    ensures { AllowsInsert (C.place cursor.new) }
-{
-    let mut asks = Asks::new(alloc, 0);
-    assert!(rt; !cursor.find(|value: &u64| asks.ask(rt, *value)));
-    asks.are(rt, asked);
-    assert_eq!(rt; cursor.state(), CursorState::Done);
+    steps: &[Move<'_>],
+) {
+    for next in steps {
+        moves(rt, alloc, cursor, *next);
+    }
+}
+
+/// `get_mut` of a key is accepted.
+fn gets<'a, I: Unordered<Value = u64>>(
+    rt: &impl Abort,
+    index: &'a mut I,
+    key: &[u8],
+) -> Option<IndexCursor<'a, I>> {
+    let Ok(found) = index.get_mut(key) else {
+        panic!(rt; "get_mut of {key:?} is accepted")
+    };
+    found
+}
+
+/// `get_mut_or_insert` of a key is accepted.
+fn gets_or_inserts<'a, I: Unordered<Value = u64>>(
+    rt: &impl Abort,
+    index: &'a mut I,
+    key: &[u8],
+    value: u64,
+) -> Option<IndexCursor<'a, I>> {
+    let Ok(found) = index.get_mut_or_insert(key, value) else {
+        panic!(rt; "get_mut_or_insert of {key:?} is accepted")
+    };
+    found
+}
+
+/// An index of any kind. No other trait stands above this one, and it promises nothing, so that what goes over it is quickly proved.
+pub(super) trait Tested {
+    /// An index key.
+    type Slot: PartialEq + Copy;
+
+    /// Whether `insert` puts a value in front of the others of its key.
+    fn inserts_first(&self) -> bool;
+
+    /// The index key of a key.
+    fn slot(&self, key: &[u8]) -> Self::Slot;
+
+    /// `insert` is accepted.
+    fn inserts(&mut self, rt: &impl Abort, key: &[u8], value: u64);
+
+    /// `remove` is accepted.
+    fn removes(&mut self, rt: &impl Abort, key: &[u8]);
+
+    /// A key has these values, in this order, and no others.
+    fn holds(&self, rt: &impl Abort, key: &[u8], values: &[u64]);
+
+    /// How many values a key has.
+    fn len_of(&self, key: &[u8]) -> usize;
+
+    /// How many keys and values there are, and how many values were taken out.
+    fn totals(&self) -> (usize, usize, u64);
+
+    /// These are they.
+    fn counts(&self, rt: &impl Abort, want: (usize, usize, u64));
+
+    /// `retain` asks on these values, in this order, and on no others. It is answered by the bits of a number, the lowest first.
+    fn retains(&mut self, rt: &impl Abort, alloc: Global, key: &[u8], answers: u64, asked: &[u64]);
+
+    /// `insert_and_retain` asks on these values, in this order, and on no others. It is answered by the bits of a number, the lowest
+    /// first.
+    fn inserts_and_retains(
+        &mut self,
+        rt: &impl Abort,
+        alloc: Global,
+        key: &[u8],
+        value: u64,
+        answers: u64,
+        asked: &[u64],
+    );
+
+    /// `get_mut` of a key gives a cursor, which makes these moves.
+    fn edits(&mut self, rt: &impl Abort, alloc: Global, key: &[u8], steps: &[Move<'_>]);
+
+    /// `get_mut` gives no cursor of a key.
+    fn has_no_cursor(&mut self, rt: &impl Abort, key: &[u8]);
+
+    /// `get_mut_or_insert` gives a new cursor of a key that has values, and inserts one under another.
+    fn gets_or_inserts(&mut self, rt: &impl Abort, key: &[u8], value: u64, is_held: bool);
+
+    /// `get_mut` of a key, whose cursor, if it has values, makes up to seven calls. The same is done to the key's list.
+    fn edits_beside(
+        &mut self,
+        rt: &impl Abort,
+        alloc: Global,
+        list: &mut Vec<u64>,
+        key: &[u8],
+        numbers: &mut Numbers,
+    ) -> Edited;
+
+    /// The same by `get_mut_or_insert`.
+    fn edits_or_inserts_beside(
+        &mut self,
+        rt: &impl Abort,
+        alloc: Global,
+        list: &mut Vec<u64>,
+        key: &[u8],
+        value: u64,
+        numbers: &mut Numbers,
+    ) -> Edited;
+
+    /// `get_mut` of a key, whose cursor, if it has values, makes so many calls, or puts so many values behind the others. The same is done
+    /// to the key's list.
+    fn goes_beside(
+        &mut self,
+        rt: &impl Abort,
+        alloc: Global,
+        list: &mut Vec<u64>,
+        key: &[u8],
+        way: Way,
+        numbers: &mut Numbers,
+    );
+
+    /// What a batch of these keys visits.
+    fn seen(&self, rt: &impl Abort, alloc: Global, keys: &[&[u8]]) -> Vec<(usize, u64)>;
+}
+
+impl<I: Unordered<Value = u64>> Tested for I {
+    type Slot = I::Key;
+
+    fn inserts_first(&self) -> bool {
+        I::INSERT_FIRST
+    }
+
+    fn slot(&self, key: &[u8]) -> I::Key {
+        self.slot_of(key)
+    }
+
+    fn inserts(&mut self, rt: &impl Abort, key: &[u8], value: u64) {
+        self.insert(key, value).expect(rt, "insert");
+    }
+
+    fn removes(&mut self, rt: &impl Abort, key: &[u8]) {
+        self.remove(key).expect(rt, "remove");
+    }
+
+    fn holds(&self, rt: &impl Abort, key: &[u8], values: &[u64]) {
+        assert!(rt;
+            self.get(key).copied().eq(values.iter().copied()),
+            "the values of {key:?} are {values:?}"
+        );
+    }
+
+    fn len_of(&self, key: &[u8]) -> usize {
+        self.get(key).count()
+    }
+
+    fn totals(&self) -> (usize, usize, u64) {
+        (self.keys(), self.items(), self.pruned())
+    }
+
+    fn counts(&self, rt: &impl Abort, want: (usize, usize, u64)) {
+        assert_eq!(rt; self.totals(), want);
+    }
+
+    fn retains(&mut self, rt: &impl Abort, alloc: Global, key: &[u8], answers: u64, asked: &[u64]) {
+        let mut asks = Asks::new(alloc, answers);
+        let kept = self.retain(key, |value: &u64| asks.ask(rt, *value));
+        must(rt, kept.is_ok(), "retain", key);
+        asks.are(rt, asked);
+    }
+
+    fn inserts_and_retains(
+        &mut self,
+        rt: &impl Abort,
+        alloc: Global,
+        key: &[u8],
+        value: u64,
+        answers: u64,
+        asked: &[u64],
+    ) {
+        let mut asks = Asks::new(alloc, answers);
+        let kept = self.insert_and_retain(key, value, |value: &u64| asks.ask(rt, *value));
+        must(rt, kept.is_ok(), "insert_and_retain", key);
+        asks.are(rt, asked);
+    }
+
+    fn edits(&mut self, rt: &impl Abort, alloc: Global, key: &[u8], steps: &[Move<'_>]) {
+        match gets(rt, self, key) {
+            Some(mut cursor) => makes(rt, alloc, &mut cursor, steps),
+            None => must(rt, false, "the values", key),
+        }
+    }
+
+    fn has_no_cursor(&mut self, rt: &impl Abort, key: &[u8]) {
+        must(rt, gets(rt, self, key).is_none(), "no value", key);
+    }
+
+    fn gets_or_inserts(&mut self, rt: &impl Abort, key: &[u8], value: u64, is_held: bool) {
+        match gets_or_inserts(rt, self, key, value) {
+            Some(cursor) => {
+                must(rt, is_held, "no value", key);
+                stands(rt, &cursor, CursorState::NeedNext);
+            }
+            None => must(rt, !is_held, "the values", key),
+        }
+    }
+
+    fn edits_beside(
+        &mut self,
+        rt: &impl Abort,
+        alloc: Global,
+        list: &mut Vec<u64>,
+        key: &[u8],
+        numbers: &mut Numbers,
+    ) -> Edited {
+        let is_held = !list.is_empty();
+        match gets(rt, self, key) {
+            Some(mut cursor) => {
+                must(rt, is_held, "no value", key);
+                edit_beside(rt, alloc, &mut cursor, list, numbers)
+            }
+            None => {
+                must(rt, !is_held, "the values", key);
+                Edited::at_once(0)
+            }
+        }
+    }
+
+    fn edits_or_inserts_beside(
+        &mut self,
+        rt: &impl Abort,
+        alloc: Global,
+        list: &mut Vec<u64>,
+        key: &[u8],
+        value: u64,
+        numbers: &mut Numbers,
+    ) -> Edited {
+        let is_held = !list.is_empty();
+        match gets_or_inserts(rt, self, key, value) {
+            Some(mut cursor) => {
+                must(rt, is_held, "no value", key);
+                edit_beside(rt, alloc, &mut cursor, list, numbers)
+            }
+            None => {
+                must(rt, !is_held, "the values", key);
+                push(rt, list, value);
+                Edited::at_once(0)
+            }
+        }
+    }
+
+    fn goes_beside(
+        &mut self,
+        rt: &impl Abort,
+        alloc: Global,
+        list: &mut Vec<u64>,
+        key: &[u8],
+        way: Way,
+        numbers: &mut Numbers,
+    ) {
+        match gets(rt, self, key) {
+            Some(mut cursor) => goes_beside(rt, alloc, &mut cursor, list, way, numbers),
+            None => must(rt, list.is_empty(), "the values", key),
+        }
+    }
+
+    fn seen(&self, rt: &impl Abort, alloc: Global, keys: &[&[u8]]) -> Vec<(usize, u64)> {
+        let mut seen = Vec::new(alloc);
+        let visited = self.get_many(keys.iter().copied(), |place: usize, value: &u64| {
+            push(rt, &mut seen, (place, *value))
+        });
+        must(rt, visited.is_ok(), "get_many", b"");
+        seen
+    }
+}
+
+/// A key that has no value gets these, in this order.
+pub(super) fn fill<I: Tested>(rt: &impl Abort, index: &mut I, key: &[u8], values: &[u64]) {
+    let last = values.len().saturating_sub(1);
+    for place in 0..values.len() {
+        let from = if index.inserts_first() {
+            last.saturating_sub(place)
+        } else {
+            place
+        };
+        index.inserts(rt, key, values.get(from).copied().unwrap_or(0));
+    }
 }

@@ -1,10 +1,10 @@
 //! Lists of commands from the fixed run of numbers, run over an index and done to lists that the test keeps.
-use super::checks::{holds, push};
-use super::commands::runs;
+use super::checks::{Tested, push};
+use super::commands::{Commanded, Keeps};
 use super::lists::{KeptLists, cleared, counts_as, list_at, place, put};
 use super::numbers::{Numbers, two_bytes};
 use super::walk::Walk;
-use key_index_flat::index::{Command, CursorState, Outcome, Step, Unordered};
+use key_index_flat::index::{Command, CursorState, Outcome, Step};
 use std::alloc::Global;
 use std::mem;
 use std::process::Abort;
@@ -78,25 +78,15 @@ pub(super) fn edit(
     (flags, taken)
 }
 
-/// Whether a value is kept by a `retain` of this limit.
-fn is_kept(value: u64, limit: u64) -> bool {
-    value / 4096 % 4 < limit
-}
-
-/// Leaves the values that a `retain` of this limit keeps, and tells how many it takes out.
-fn retain(list: &mut Vec<u64>, limit: u64) -> u64 {
+/// Leaves the values that are kept, and tells how many it takes out.
+fn retain(list: &mut Vec<u64>, keeps: Keeps) -> u64 {
     let before = list.len();
-    list.retain(|value| is_kept(*value, limit));
+    list.retain(|value| keeps.keeps(*value));
     before.saturating_sub(list.len()) as u64
 }
 
 /// Runs a list of up to eight commands of all six kinds, does the same to the lists, and compares the outcomes.
-fn run_list<I: Unordered<Value = u64>>(
-    rt: &impl Abort,
-    alloc: Global,
-    index: &mut I,
-    kept: &mut KeptLists,
-) {
+fn run_list<I: Commanded>(rt: &impl Abort, alloc: Global, index: &mut I, kept: &mut KeptLists) {
     let mut commands = Vec::new(alloc);
     let mut wanted = Vec::new(alloc);
     for _ in 0..kept.numbers.next() % 9 {
@@ -105,18 +95,17 @@ fn run_list<I: Unordered<Value = u64>>(
         let Some(list) = kept.lists.get_mut(place(number, kept.width)) else {
             panic!(rt; "each key has a list")
         };
-        let limit = number / 64 % 5;
+        let keeps = Keeps::Quarters(number / 64 % 5);
         let mut outcome = Outcome::Done;
         let mut taken = 0;
-        let test = move |value: &u64| is_kept(*value, limit);
         let command = match number / 512 % 12 {
             0 => {
                 taken = cleared(list);
                 Command::Remove(key)
             }
             1 => {
-                taken = retain(list, limit);
-                Command::Retain(key, test)
+                taken = retain(list, keeps);
+                Command::Retain(key, keeps)
             }
             2 => {
                 if list.is_empty() {
@@ -132,14 +121,14 @@ fn run_list<I: Unordered<Value = u64>>(
                 Command::Edit(key, steps)
             }
             7 | 8 => {
-                taken = retain(list, limit);
-                if is_kept(number, limit) {
+                taken = retain(list, keeps);
+                if keeps.keeps(number) {
                     push(rt, list, number);
                 }
-                Command::InsertAndRetain(key, number, test)
+                Command::InsertAndRetain(key, number, keeps)
             }
             _ => {
-                put(rt, list, number, I::INSERT_FIRST);
+                put(rt, list, number, index.inserts_first());
                 Command::Insert(key, number)
             }
         };
@@ -147,23 +136,16 @@ fn run_list<I: Unordered<Value = u64>>(
         push(rt, &mut wanted, outcome);
         push(rt, &mut commands, command);
     }
-    let outcomes = runs(rt, alloc, index, commands);
-    assert_eq!(rt; outcomes.as_slice(), wanted.as_slice());
+    index.comes_to(rt, alloc, commands, wanted.as_slice());
 }
 
 /// An index has the list of each key that occurs, and the counts of all.
-pub(super) fn has_all<I: Unordered<Value = u64>>(
-    rt: &impl Abort,
-    alloc: Global,
-    index: &I,
-    kept: &KeptLists,
-) {
+pub(super) fn has_all<I: Tested>(rt: &impl Abort, alloc: Global, index: &I, kept: &KeptLists) {
     let lists = kept.lists.as_slice();
     for number in 0..48 {
         let key = key(rt, alloc, number);
-        holds(
+        index.holds(
             rt,
-            index,
             key.as_slice(),
             list_at(rt, lists, place(number, kept.width)),
         );
@@ -173,7 +155,7 @@ pub(super) fn has_all<I: Unordered<Value = u64>>(
 
 /// An index comes to the outcomes and the lists that lists of commands come to by the rules. Its index keys have the first so many
 /// bytes of a key.
-pub(super) fn run_beside<I: Unordered<Value = u64>>(
+pub(super) fn run_beside<I: Commanded>(
     rt: &impl Abort,
     alloc: Global,
     index: &mut I,

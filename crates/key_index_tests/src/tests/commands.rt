@@ -1,10 +1,43 @@
 //! Lists of commands, run over any index through one function.
 ghost use Rattle.std.specs.Prelude.{◌≤◌};
 
-use super::checks::{counts, fill, holds, push};
+use super::checks::{Tested, fill, push};
 use key_index_flat::index::{Command, Outcome, Step, Unordered, run};
 use std::alloc::Global;
 use std::process::Abort;
+
+/// Which values the test of a command keeps.
+#[derive(Clone, Copy)]
+pub(super) enum Keeps {
+    None,
+    Equal(u64),
+    Below(u64),
+    /// Those of which the quarter is below, of 0 to 3.
+    Quarters(u64),
+}
+
+impl Keeps {
+    pub(super) fn keeps(self, value: u64) -> bool {
+        match self {
+            Keeps::None => false,
+            Keeps::Equal(wanted) => value == wanted,
+            Keeps::Below(limit) => value < limit,
+            Keeps::Quarters(limit) => value / 4096 % 4 < limit,
+        }
+    }
+}
+
+/// A command whose test is given by what it keeps.
+pub(super) type Given = Command<u64, Keeps>;
+
+/// What the test of a command keeps.
+fn kept_by(command: &Given) -> Keeps {
+    match command {
+        Command::Retain(_, keeps) => *keeps,
+        Command::InsertAndRetain(_, _, keeps) => *keeps,
+        _ => Keeps::None,
+    }
+}
 
 /// A key of one byte.
 fn key(rt: &impl Abort, alloc: Global, byte: u8) -> Vec<u8> {
@@ -22,10 +55,10 @@ fn edited_to<const N: usize>(rt: &impl Abort, alloc: Global, flags: [bool; N]) -
 }
 
 /// An edit of the list of a byte, behind the commands of a list.
-fn push_edit<F: Drop, const N: usize>(
+fn push_edit<const N: usize>(
     rt: &impl Abort,
     alloc: Global,
-    commands: &mut Vec<Command<u64, F>>,
+    commands: &mut Vec<Given>,
     byte: u8,
     steps: [Step<u64>; N],
 )
@@ -39,7 +72,7 @@ fn push_edit<F: Drop, const N: usize>(
 }
 
 /// `run` is accepted.
-pub(super) fn runs<I: Unordered<Value = u64>, F: Fn(&u64) -> bool + Drop>(
+fn runs<I: Unordered<Value = u64>, F: Fn(&u64) -> bool + Drop>(
     rt: &impl Abort,
     alloc: Global,
     index: &mut I,
@@ -50,8 +83,37 @@ pub(super) fn runs<I: Unordered<Value = u64>, F: Fn(&u64) -> bool + Drop>(
     run(alloc, index, commands).expect(rt, "run")
 }
 
+/// `run`, of an index.
+pub(super) trait Commanded: Tested {
+    /// Commands come to these outcomes.
+    fn comes_to(&mut self, rt: &impl Abort, alloc: Global, commands: Vec<Given>, want: &[Outcome]);
+}
+
+impl<I: Unordered<Value = u64>> Commanded for I {
+    fn comes_to(&mut self, rt: &impl Abort, alloc: Global, commands: Vec<Given>, want: &[Outcome]) {
+        let mut given = Vec::new(alloc);
+        for command in commands {
+            let keeps = kept_by(&command);
+            let test = move |value: &u64| keeps.keeps(*value);
+            let next = match command {
+                Command::Insert(key, value) => Command::Insert(key, value),
+                Command::InsertAndRetain(key, value, _) => {
+                    Command::InsertAndRetain(key, value, test)
+                }
+                Command::Retain(key, _) => Command::Retain(key, test),
+                Command::Remove(key) => Command::Remove(key),
+                Command::GetOrInsert(key, value) => Command::GetOrInsert(key, value),
+                Command::Edit(key, steps) => Command::Edit(key, steps),
+            };
+            push(rt, &mut given, next);
+        }
+        let outcomes = runs(rt, alloc, self, given);
+        assert_eq!(rt; outcomes.as_slice(), want);
+    }
+}
+
 /// An edit of the list of k comes to these flags.
-fn edits<I: Unordered<Value = u64>, const N: usize>(
+fn edits<I: Commanded, const N: usize>(
     rt: &impl Abort,
     alloc: Global,
     index: &mut I,
@@ -62,17 +124,14 @@ fn edits<I: Unordered<Value = u64>, const N: usize>(
 {
     let mut commands = Vec::new(alloc);
     push_edit(rt, alloc, &mut commands, b'k', steps);
-    push(
-        rt,
-        &mut commands,
-        Command::Retain(key(rt, alloc, b'j'), |_value: &u64| false),
-    );
-    let outcomes = runs(rt, alloc, index, commands);
-    assert_eq!(rt; outcomes.get(0), Some(&edited_to(rt, alloc, flags)));
+    let retain = Command::Retain(key(rt, alloc, b'j'), Keeps::None);
+    push(rt, &mut commands, retain);
+    let wanted = [edited_to(rt, alloc, flags), Outcome::Done];
+    index.comes_to(rt, alloc, commands, &wanted);
 }
 
 /// The list 3, 1, 2: next 3, delete, next 1, insert 9, next 2, next none, insert 7.
-pub(super) fn edited<I: Unordered<Value = u64>>(rt: &impl Abort, alloc: Global, index: &mut I) {
+pub(super) fn edited<I: Commanded>(rt: &impl Abort, alloc: Global, index: &mut I) {
     fill(rt, index, b"k", &[3, 1, 2]);
     let steps = [
         Step::Next,
@@ -84,12 +143,12 @@ pub(super) fn edited<I: Unordered<Value = u64>>(rt: &impl Abort, alloc: Global, 
         Step::Insert(7),
     ];
     edits(rt, alloc, index, steps, [true; 7]);
-    holds(rt, index, b"k", &[1, 9, 2, 7]);
-    counts(rt, index, (1, 4, 1));
+    index.holds(rt, b"k", &[1, 9, 2, 7]);
+    index.counts(rt, (1, 4, 1));
 }
 
 /// The list 5: next 5, delete, next none, insert 6.
-pub(super) fn emptied<I: Unordered<Value = u64>>(rt: &impl Abort, alloc: Global, index: &mut I) {
+pub(super) fn emptied<I: Commanded>(rt: &impl Abort, alloc: Global, index: &mut I) {
     fill(rt, index, b"k", &[5]);
     let steps = [
         Step::Next,
@@ -99,12 +158,31 @@ pub(super) fn emptied<I: Unordered<Value = u64>>(rt: &impl Abort, alloc: Global,
         Step::Insert(6),
     ];
     edits(rt, alloc, index, steps, [true, true, false, true, true]);
-    holds(rt, index, b"k", &[6]);
-    counts(rt, index, (1, 1, 1));
+    index.holds(rt, b"k", &[6]);
+    index.counts(rt, (1, 1, 1));
 }
 
-/// What the commands of `each_command` came to.
-fn each_outcome(rt: &impl Abort, alloc: Global, outcomes: &[Outcome]) {
+/// The first commands of `each_command`.
+fn push_first(rt: &impl Abort, alloc: Global, commands: &mut Vec<Given>) {
+    push(rt, commands, Command::Insert(key(rt, alloc, b'k'), 1));
+    push(rt, commands, Command::GetOrInsert(key(rt, alloc, b'j'), 4));
+    let steps = [
+        Step::Update(9),
+        Step::Next,
+        Step::Update(8),
+        Step::Insert(7),
+    ];
+    push_edit(rt, alloc, commands, b'k', steps);
+    push(rt, commands, Command::Remove(key(rt, alloc, b'j')));
+}
+
+/// Each command once, on an empty index.
+pub(super) fn each_command<I: Commanded>(rt: &impl Abort, alloc: Global, index: &mut I) {
+    let mut commands = Vec::new(alloc);
+    push_first(rt, alloc, &mut commands);
+    let retain = Command::Retain(key(rt, alloc, b'k'), Keeps::Equal(8));
+    push(rt, &mut commands, retain);
+    push_edit(rt, alloc, &mut commands, b'j', [Step::Next]);
     let wanted = [
         Outcome::Done,
         Outcome::Done,
@@ -113,66 +191,18 @@ fn each_outcome(rt: &impl Abort, alloc: Global, outcomes: &[Outcome]) {
         Outcome::Done,
         edited_to(rt, alloc, [false]),
     ];
-    assert_eq!(rt; outcomes, wanted.as_slice());
-}
-
-/// The first commands of `each_command`.
-fn push_first<F: Drop>(rt: &impl Abort, alloc: Global, commands: &mut Vec<Command<u64, F>>) {
-    push(rt, commands, Command::Insert(key(rt, alloc, b'k'), 1));
-    push(rt, commands, Command::GetOrInsert(key(rt, alloc, b'j'), 4));
-    push_edit(
-        rt,
-        alloc,
-        commands,
-        b'k',
-        [
-            Step::Update(9),
-            Step::Next,
-            Step::Update(8),
-            Step::Insert(7),
-        ],
-    );
-    push(rt, commands, Command::Remove(key(rt, alloc, b'j')));
-}
-
-/// Each command once, on an empty index.
-pub(super) fn each_command<I: Unordered<Value = u64>>(
-    rt: &impl Abort,
-    alloc: Global,
-    index: &mut I,
-) {
-    let mut commands = Vec::new(alloc);
-    push_first(rt, alloc, &mut commands);
-    push(
-        rt,
-        &mut commands,
-        Command::Retain(key(rt, alloc, b'k'), |value: &u64| *value == 8),
-    );
-    push_edit(rt, alloc, &mut commands, b'j', [Step::Next]);
-    let outcomes = runs(rt, alloc, index, commands);
-    each_outcome(rt, alloc, outcomes.as_slice());
-    holds(rt, index, b"k", &[8]);
-    counts(rt, index, (1, 1, 2));
+    index.comes_to(rt, alloc, commands, &wanted);
+    index.holds(rt, b"k", &[8]);
+    index.counts(rt, (1, 1, 2));
 }
 
 /// A value, and one behind it where all stay.
-pub(super) fn inserted_and_retained<I: Unordered<Value = u64>>(
-    rt: &impl Abort,
-    alloc: Global,
-    index: &mut I,
-) {
+pub(super) fn inserted_and_retained<I: Commanded>(rt: &impl Abort, alloc: Global, index: &mut I) {
     let mut commands = Vec::new(alloc);
     push(rt, &mut commands, Command::Insert(key(rt, alloc, b'k'), 1));
-    push(
-        rt,
-        &mut commands,
-        Command::InsertAndRetain(key(rt, alloc, b'k'), 2, |value: &u64| *value < 3),
-    );
-    let outcomes = runs(rt, alloc, index, commands);
-    assert_eq!(rt;
-        outcomes.as_slice(),
-        [Outcome::Done, Outcome::Done].as_slice()
-    );
-    holds(rt, index, b"k", &[1, 2]);
-    counts(rt, index, (1, 2, 0));
+    let both = Command::InsertAndRetain(key(rt, alloc, b'k'), 2, Keeps::Below(3));
+    push(rt, &mut commands, both);
+    index.comes_to(rt, alloc, commands, &[Outcome::Done, Outcome::Done]);
+    index.holds(rt, b"k", &[1, 2]);
+    index.counts(rt, (1, 2, 0));
 }

@@ -1,20 +1,16 @@
 //! Long lists and long keys, and cursors that are dropped behind each step.
-use super::asks::Asks;
-use super::checks::{
-    counts, cursor_at, fill, finds_none, fresh, holds, inserts, inserts_and_retains, keeps, push,
-    removes, retains,
-};
-use super::lists::{put, steps_beside};
-use super::neighbours::{next_has, prev_has};
+use super::checks::{Move, Tested, fill, fresh, push};
+use super::lists::{Way, put};
+use super::neighbours::{InOrder, next_has, prev_has};
 use super::numbers::Numbers;
-use key_index_flat::index::{Factory, Ordered, Unordered, ordered};
+use key_index_flat::index::{Factory, Unordered, ordered};
 use key_index_flat::translator::{EightCap, OneCap};
 use key_index_parts::index::partitioned;
 use std::alloc::Global;
 use std::process::Abort;
 
 /// The numbers below an end.
-fn numbers_below(rt: &impl Abort, alloc: Global, end: u64) -> Vec<u64> {
+pub(super) fn numbers_below(rt: &impl Abort, alloc: Global, end: u64) -> Vec<u64> {
     let mut numbers = Vec::new(alloc);
     for number in 0..end {
         push(rt, &mut numbers, number);
@@ -24,7 +20,7 @@ fn numbers_below(rt: &impl Abort, alloc: Global, end: u64) -> Vec<u64> {
 
 /// A cursor of 1001 takes so many steps and is dropped. The calls behind it, at its key and at a neighbouring one, answer by the
 /// list that the steps leave.
-fn cut_behind<I: Unordered<Value = u64>>(
+fn cut_behind<I: Tested>(
     rt: &impl Abort,
     alloc: Global,
     index: &mut I,
@@ -34,22 +30,29 @@ fn cut_behind<I: Unordered<Value = u64>>(
 ) {
     let mut list = numbers_below(rt, alloc, 3);
     fill(rt, index, b"\x10\x01", list.as_slice());
-    inserts(rt, index, neighbour, 4);
-    let mut cursor = cursor_at(rt, index, b"\x10\x01");
+    index.inserts(rt, neighbour, 4);
     let mut numbers = Numbers::from(seed);
-    steps_beside(rt, alloc, &mut cursor, &mut list, count, &mut numbers);
-    holds(rt, index, b"\x10\x01", list.as_slice());
-    inserts(rt, index, b"\x10\x01", 9);
-    put(rt, &mut list, 9, I::INSERT_FIRST);
-    holds(rt, index, b"\x10\x01", list.as_slice());
-    holds(rt, index, neighbour, &[4]);
-    removes(rt, index, neighbour);
-    removes(rt, index, b"\x10\x01");
-    assert_eq!(rt; (index.keys(), index.items()), (0, 0));
+    index.goes_beside(
+        rt,
+        alloc,
+        &mut list,
+        b"\x10\x01",
+        Way::Calls(count),
+        &mut numbers,
+    );
+    index.holds(rt, b"\x10\x01", list.as_slice());
+    index.inserts(rt, b"\x10\x01", 9);
+    put(rt, &mut list, 9, index.inserts_first());
+    index.holds(rt, b"\x10\x01", list.as_slice());
+    index.holds(rt, neighbour, &[4]);
+    index.removes(rt, neighbour);
+    index.removes(rt, b"\x10\x01");
+    let (keys, items, _) = index.totals();
+    assert_eq!(rt; (keys, items), (0, 0));
 }
 
 /// Two hundred lists of eight steps, each cut behind each of its steps.
-pub(super) fn cut_at_each_step<I: Unordered<Value = u64>>(
+pub(super) fn cut_at_each_step<I: Tested>(
     rt: &impl Abort,
     alloc: Global,
     index: &mut I,
@@ -63,48 +66,44 @@ pub(super) fn cut_at_each_step<I: Unordered<Value = u64>>(
 }
 
 /// A batch of one key visits these values, in this order, and no others.
-fn visits<I: Unordered<Value = u64>>(rt: &impl Abort, alloc: Global, index: &I, values: &[u64]) {
-    let mut seen = Asks::new(alloc, 0);
-    let visited = index.get_many([b"\x10"].iter(), |_, value: &u64| {
-        seen.ask(rt, *value);
-    });
-    assert!(rt; visited.is_ok());
-    seen.are(rt, values);
+fn visits<I: Tested>(rt: &impl Abort, alloc: Global, index: &I, values: &[u64]) {
+    let seen = index.seen(rt, alloc, &[b"\x10"]);
+    assert!(rt; seen.iter().map(|visit| visit.1).eq(values.iter().copied()));
 }
 
 /// A list of three thousand values: each closure is asked once on each of them, in order, and on nothing else.
-pub(super) fn long_list<I: Unordered<Value = u64>>(rt: &impl Abort, alloc: Global, index: &mut I) {
+pub(super) fn long_list<I: Tested>(rt: &impl Abort, alloc: Global, index: &mut I) {
     let mut values = numbers_below(rt, alloc, 3000);
     fill(rt, index, b"\x10", values.as_slice());
     visits(rt, alloc, index, values.as_slice());
-    let mut cursor = cursor_at(rt, index, b"\x10");
-    finds_none(rt, alloc, &mut cursor, values.as_slice());
-    let mut cursor = cursor_at(rt, index, b"\x10");
-    keeps(rt, alloc, &mut cursor, 0b101, values.as_slice());
-    holds(rt, index, b"\x10", &[0, 2]);
-    removes(rt, index, b"\x10");
+    let finds = [Move::FindNone(values.as_slice())];
+    index.edits(rt, alloc, b"\x10", &finds);
+    let keeps = [Move::Retain(0b101, values.as_slice())];
+    index.edits(rt, alloc, b"\x10", &keeps);
+    index.holds(rt, b"\x10", &[0, 2]);
+    index.removes(rt, b"\x10");
     fill(rt, index, b"\x10", values.as_slice());
-    retains(rt, alloc, index, b"\x10", 0b1011, values.as_slice());
-    holds(rt, index, b"\x10", &[0, 1, 3]);
-    removes(rt, index, b"\x10");
+    index.retains(rt, alloc, b"\x10", 0b1011, values.as_slice());
+    index.holds(rt, b"\x10", &[0, 1, 3]);
+    index.removes(rt, b"\x10");
     fill(rt, index, b"\x10", values.as_slice());
     push(rt, &mut values, 3000);
-    inserts_and_retains(rt, alloc, index, b"\x10", 3000, 0b10, values.as_slice());
-    holds(rt, index, b"\x10", &[1]);
-    counts(rt, index, (1, 1, 8999));
+    index.inserts_and_retains(rt, alloc, b"\x10", 3000, 0b10, values.as_slice());
+    index.holds(rt, b"\x10", &[1]);
+    index.counts(rt, (1, 1, 8999));
 }
 
 /// One key ten thousand times.
-pub(super) fn ten_thousand<I: Unordered<Value = u64>>(rt: &impl Abort, index: &mut I) {
-    for value in 0..10_000 {
-        inserts(rt, index, b"\x10", value);
+pub(super) fn ten_thousand<I: Tested>(rt: &impl Abort, alloc: Global, index: &mut I) {
+    let mut values = numbers_below(rt, alloc, 10_000);
+    for value in values.iter() {
+        index.inserts(rt, b"\x10", *value);
     }
-    counts(rt, index, (1, 10_000, 0));
-    if I::INSERT_FIRST {
-        assert!(rt; index.get(b"\x10").copied().eq((0..10_000).rev()));
-    } else {
-        assert!(rt; index.get(b"\x10").copied().eq(0..10_000));
+    index.counts(rt, (1, 10_000, 0));
+    if index.inserts_first() {
+        values.reverse();
     }
+    index.holds(rt, b"\x10", values.as_slice());
 }
 
 /// A key of so many zeros, and then this byte.
@@ -117,21 +116,14 @@ fn zeros_then(rt: &impl Abort, alloc: Global, zeros: usize, last: u8) -> Vec<u8>
 
 /// Keys of 1 to 70,000 zeros are one key, and those that differ from them in the last byte are others as far as the index key goes,
 /// which is so many bytes.
-fn long_keys<I: Unordered<Value = u64>>(
-    rt: &impl Abort,
-    alloc: Global,
-    index: &mut I,
-    width: usize,
-) {
-    inserts(rt, index, b"", 0);
+fn long_keys<I: Tested>(rt: &impl Abort, alloc: Global, index: &mut I, width: usize) {
+    index.inserts(rt, b"", 0);
     for zeros in [0, 7, 8, 9, 69_999] {
-        inserts(rt, index, zeros_then(rt, alloc, zeros, 0).as_slice(), 0);
-        inserts(rt, index, zeros_then(rt, alloc, zeros, 1).as_slice(), 1);
+        index.inserts(rt, zeros_then(rt, alloc, zeros, 0).as_slice(), 0);
+        index.inserts(rt, zeros_then(rt, alloc, zeros, 1).as_slice(), 1);
     }
     for zeros in [0, 7, 8, 9, 69_999] {
-        let found = index
-            .get(zeros_then(rt, alloc, zeros, 1).as_slice())
-            .count();
+        let found = index.len_of(zeros_then(rt, alloc, zeros, 1).as_slice());
         assert!(rt; zeros >= width || found == 1, "{zeros} zeros and a one");
         assert!(rt; zeros < width || found > 6, "{zeros} zeros and a one");
     }
@@ -149,7 +141,7 @@ fn long_keys_in<I: Unordered<Value = u64> + Factory + Drop>(
 {
     let mut index = fresh::<I>(rt, alloc, translator);
     long_keys(rt, alloc, &mut index, width);
-    counts(rt, &index, want);
+    index.counts(rt, want);
 }
 
 #[test]
@@ -167,21 +159,21 @@ fn long_keys_are_cut(rt: HostRuntime) {
 }
 
 /// Six short keys in an index by two bytes and then one more have three index keys.
-pub(super) fn short_keys<I: Unordered<Value = u64>>(rt: &impl Abort, index: &mut I, first: &[u64]) {
-    inserts(rt, index, b"", 1);
-    inserts(rt, index, b"\x00", 2);
-    inserts(rt, index, b"\x00\x00", 3);
-    inserts(rt, index, b"\x00\x00\x00", 4);
-    inserts(rt, index, b"\x00\x01", 5);
-    inserts(rt, index, b"\x01", 6);
-    counts(rt, index, (3, 6, 0));
-    holds(rt, index, b"", first);
-    holds(rt, index, b"\x00\x01\x00", &[5]);
-    holds(rt, index, b"\x01\x00\x00", &[6]);
+pub(super) fn short_keys<I: Tested>(rt: &impl Abort, index: &mut I, first: &[u64]) {
+    index.inserts(rt, b"", 1);
+    index.inserts(rt, b"\x00", 2);
+    index.inserts(rt, b"\x00\x00", 3);
+    index.inserts(rt, b"\x00\x00\x00", 4);
+    index.inserts(rt, b"\x00\x01", 5);
+    index.inserts(rt, b"\x01", 6);
+    index.counts(rt, (3, 6, 0));
+    index.holds(rt, b"", first);
+    index.holds(rt, b"\x00\x01\x00", &[5]);
+    index.holds(rt, b"\x01\x00\x00", &[6]);
 }
 
 /// The same, and the neighbours of the empty key.
-pub(super) fn short_keys_in_order<I: Ordered<Value = u64>>(rt: &impl Abort, index: &mut I) {
+pub(super) fn short_keys_in_order<I: Tested + InOrder>(rt: &impl Abort, index: &mut I) {
     short_keys(rt, index, &[1, 2, 3, 4]);
     next_has(rt, index, b"", &[5], false);
     prev_has(rt, index, b"", &[6], true);

@@ -1,10 +1,11 @@
 //! Floods: many keys in one partition and many values under one key, by calls and by cursors.
-use super::checks::{counts, cursor_at, holds, inserts, push, removes};
-use super::lists::grow_beside;
-use super::neighbours::{next_has, same_neighbour};
+use super::checks::{Tested, push};
+use super::extremes::numbers_below;
+use super::lists::Way;
+use super::neighbours::{InOrder, next_has};
 use super::numbers::Numbers;
-use super::stands::{StandsWhole, Wide, has_spilled, is_inline, is_spilled};
-use key_index_flat::index::{Factory, Ordered, Unordered, Values};
+use super::stands::{StandsWhole, SubjectThatSpills, Wide, has_spilled, is_inline, is_spilled};
+use key_index_flat::index::Factory;
 use key_index_flat::translator::TwoCap;
 use key_index_parts::index::partitioned::unordered;
 use std::alloc::Global;
@@ -17,24 +18,29 @@ fn key_of(number: u16) -> [u8; 3] {
 }
 
 /// Two thousand keys of one partition, and then six hundred values of one key of another.
-fn two_partitions<I: Ordered<Value = u64> + StandsWhole>(rt: &impl Abort, index: &mut I) {
+fn two_partitions<I: Tested + InOrder + StandsWhole>(
+    rt: &impl Abort,
+    alloc: Global,
+    index: &mut I,
+) {
     for number in 0..2000 {
-        inserts(rt, index, key_of(number).as_slice(), u64::from(number));
+        index.inserts(rt, key_of(number).as_slice(), u64::from(number));
     }
-    counts(rt, index, (2000, 2000, 0));
+    index.counts(rt, (2000, 2000, 0));
     is_spilled(rt, index, 0x10);
     has_spilled(rt, index, 1, 1);
     next_has(rt, index, b"\x10\x00\x00", &[1], false);
     next_has(rt, index, b"\x10\x07\xcf", &[0], true);
     next_has(rt, index, b"\x0f", &[0], false);
     for value in 0..600 {
-        inserts(rt, index, b"\x11\x00\x00", value);
+        index.inserts(rt, b"\x11\x00\x00", value);
     }
-    assert!(rt; index.get(b"\x11\x00\x00").copied().eq(0..600));
-    counts(rt, index, (2001, 2600, 0));
+    let values = numbers_below(rt, alloc, 600);
+    index.holds(rt, b"\x11\x00\x00", values.as_slice());
+    index.counts(rt, (2001, 2600, 0));
     has_spilled(rt, index, 2, 2);
-    removes(rt, index, b"\x11\x00\x00");
-    counts(rt, index, (2000, 2000, 600));
+    index.removes(rt, b"\x11\x00\x00");
+    index.counts(rt, (2000, 2000, 600));
     has_spilled(rt, index, 1, 2);
 }
 
@@ -62,103 +68,94 @@ fn is_below_threshold<I: StandsWhole>(rt: &impl Abort, index: &I) {
     assert!(rt; index.standing(rt, 0x10).1 < index.threshold());
 }
 
-/// The neighbour above a number's key is that of the next number.
-fn next_is_risen<I: Ordered<Value = u64>>(rt: &impl Abort, index: &I, number: u16, values: &[u64]) {
-    let next = index.next_translated_key(key_of(number).as_slice());
-    assert!(rt; same_neighbour(next, Some((Values::of_slice(values), false))));
-}
-
 /// A thousand keys of one partition, and then every second one taken out.
-fn many_keys<I: Ordered<Value = u64> + StandsWhole>(rt: &impl Abort, index: &mut I, order: Order) {
+fn many_keys<I: Tested + InOrder + StandsWhole>(rt: &impl Abort, index: &mut I, order: Order) {
     for place in 0..1000 {
-        inserts(
-            rt,
-            index,
-            key_of(order.at(place)).as_slice(),
-            u64::from(place),
-        );
+        index.inserts(rt, key_of(order.at(place)).as_slice(), u64::from(place));
         is_below_threshold(rt, index);
     }
-    counts(rt, index, (1000, 1000, 0));
+    index.counts(rt, (1000, 1000, 0));
     for place in 0..1000 {
         let number = order.at(place);
-        holds(rt, index, key_of(number).as_slice(), &[u64::from(place)]);
+        index.holds(rt, key_of(number).as_slice(), &[u64::from(place)]);
         if number > 0 {
-            next_is_risen(rt, index, number - 1, &[u64::from(place)]);
+            next_has(
+                rt,
+                index,
+                key_of(number - 1).as_slice(),
+                &[u64::from(place)],
+                false,
+            );
         }
     }
     for place in 0..500 {
-        removes(rt, index, key_of(order.at(2 * place)).as_slice());
+        index.removes(rt, key_of(order.at(2 * place)).as_slice());
         is_below_threshold(rt, index);
     }
     for place in 0..500 {
         let number = order.at(2 * place + 1);
-        holds(
-            rt,
-            index,
-            key_of(number).as_slice(),
-            &[u64::from(2 * place + 1)],
-        );
+        index.holds(rt, key_of(number).as_slice(), &[u64::from(2 * place + 1)]);
     }
-    counts(rt, index, (500, 500, 500));
+    index.counts(rt, (500, 500, 500));
 }
 
 /// A thousand values of one key.
-fn many_values<I: Ordered<Value = u64> + StandsWhole>(rt: &impl Abort, index: &mut I) {
+fn many_values<I: Tested + StandsWhole>(rt: &impl Abort, alloc: Global, index: &mut I) {
     for value in 0..1000 {
-        inserts(rt, index, b"\x10", value);
+        index.inserts(rt, b"\x10", value);
         is_below_threshold(rt, index);
     }
-    assert!(rt; index.get(b"\x10").copied().eq(0..1000));
-    removes(rt, index, b"\x10");
+    let values = numbers_below(rt, alloc, 1000);
+    index.holds(rt, b"\x10", values.as_slice());
+    index.removes(rt, b"\x10");
     is_inline(rt, index, 0x10, 0);
 }
 
 /// A cursor puts a thousand values behind the first one, which moves none of them. The next call spills them where they have reached
 /// the threshold.
-fn many_by_cursor<I: Ordered<Value = u64> + StandsWhole>(
+fn many_by_cursor<I: Tested + InOrder + StandsWhole>(
     rt: &impl Abort,
     alloc: Global,
     index: &mut I,
 ) {
-    inserts(rt, index, b"\x10", 7);
+    index.inserts(rt, b"\x10", 7);
     let mut list = Vec::new(alloc);
     push(rt, &mut list, 7);
-    let mut cursor = cursor_at(rt, index, b"\x10");
-    grow_beside(rt, alloc, &mut cursor, &mut list, 1000, &mut Numbers::new());
-    holds(rt, index, b"\x10", list.as_slice());
+    let numbers = &mut Numbers::new();
+    index.goes_beside(rt, alloc, &mut list, b"\x10", Way::Behind(1000), numbers);
+    index.holds(rt, b"\x10", list.as_slice());
     let spills_first = index.threshold() == 1;
     assert_eq!(rt; index.standing(rt, 0x10).0, spills_first);
     assert_eq!(rt;
         index.standing(rt, 0x10).1,
         if spills_first { 0 } else { 1001 }
     );
-    removes(rt, index, b"\x10\x01");
-    holds(rt, index, b"\x10", list.as_slice());
+    index.removes(rt, b"\x10\x01");
+    index.holds(rt, b"\x10", list.as_slice());
     is_below_threshold(rt, index);
-    counts(rt, index, (1, 1001, 0));
+    index.counts(rt, (1, 1001, 0));
 }
 
 /// So many keys of one partition come and go, the first one first. All of them are looked up after each call.
-fn come_and_go<I: Unordered<Value = u64>>(rt: &impl Abort, index: &mut I, keys: u16) {
+fn come_and_go<I: Tested>(rt: &impl Abort, index: &mut I, keys: u16) {
     for number in 0..keys {
-        inserts(rt, index, key_of(number).as_slice(), u64::from(number));
+        index.inserts(rt, key_of(number).as_slice(), u64::from(number));
         for held in 0..=number {
-            holds(rt, index, key_of(held).as_slice(), &[u64::from(held)]);
+            index.holds(rt, key_of(held).as_slice(), &[u64::from(held)]);
         }
-        holds(rt, index, key_of(keys).as_slice(), &[]);
+        index.holds(rt, key_of(keys).as_slice(), &[]);
     }
-    counts(rt, index, (keys.into(), keys.into(), 0));
+    index.counts(rt, (keys.into(), keys.into(), 0));
     for number in 0..keys {
-        removes(rt, index, key_of(number).as_slice());
-        holds(rt, index, key_of(number).as_slice(), &[]);
+        index.removes(rt, key_of(number).as_slice());
+        index.holds(rt, key_of(number).as_slice(), &[]);
         for held in number..keys {
             if held > number {
-                holds(rt, index, key_of(held).as_slice(), &[u64::from(held)]);
+                index.holds(rt, key_of(held).as_slice(), &[u64::from(held)]);
             }
         }
     }
-    counts(rt, index, (0, 0, keys.into()));
+    index.counts(rt, (0, 0, keys.into()));
 }
 
 /// The thresholds that floods are tried at.
@@ -175,33 +172,33 @@ enum Flood {
 }
 
 /// Floods of an index by one byte and then two more.
-fn on<I: Ordered<Value = u64> + StandsWhole>(rt: &impl Abort, alloc: Global, flood: Flood) {
+fn on<K: SubjectThatSpills>(rt: &impl Abort, alloc: Global, kind: &K, flood: Flood) {
     match flood {
-        Flood::Both => two_partitions(rt, &mut I::spilling_at(rt, alloc, 512)),
-        Flood::Keys => floods_of_keys::<I>(rt, alloc),
-        Flood::Values => floods_of_values::<I>(rt, alloc),
+        Flood::Both => two_partitions(rt, alloc, &mut kind.spilling_at(rt, alloc, 512)),
+        Flood::Keys => floods_of_keys(rt, alloc, kind),
+        Flood::Values => floods_of_values(rt, alloc, kind),
     }
 }
 
 /// A thousand keys at each threshold, in each order.
-fn floods_of_keys<I: Ordered<Value = u64> + StandsWhole>(rt: &impl Abort, alloc: Global) {
+fn floods_of_keys<K: SubjectThatSpills>(rt: &impl Abort, alloc: Global, kind: &K) {
     for threshold in THRESHOLDS {
         for order in [Order::Rising, Order::Falling, Order::Mixed] {
-            many_keys(rt, &mut I::spilling_at(rt, alloc, threshold), order);
+            many_keys(rt, &mut kind.spilling_at(rt, alloc, threshold), order);
         }
     }
 }
 
 /// A thousand values at each threshold, by calls and by a cursor.
-fn floods_of_values<I: Ordered<Value = u64> + StandsWhole>(rt: &impl Abort, alloc: Global) {
+fn floods_of_values<K: SubjectThatSpills>(rt: &impl Abort, alloc: Global, kind: &K) {
     for threshold in THRESHOLDS {
-        many_values(rt, &mut I::spilling_at(rt, alloc, threshold));
-        many_by_cursor(rt, alloc, &mut I::spilling_at(rt, alloc, threshold));
+        many_values(rt, alloc, &mut kind.spilling_at(rt, alloc, threshold));
+        many_by_cursor(rt, alloc, &mut kind.spilling_at(rt, alloc, threshold));
     }
 }
 
 fn on_wide(rt: &impl Abort, alloc: Global, flood: Flood) {
-    on::<Wide>(rt, alloc, flood)
+    on(rt, alloc, &Wide, flood)
 }
 
 #[test]

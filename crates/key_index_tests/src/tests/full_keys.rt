@@ -1,5 +1,8 @@
 //! Records next to a full key, in ordered indices.
-use key_index_flat::index::{Keyed, Ordered, resolve_next, resolve_prev};
+use super::kinds::{self, Plain, Pordered, fresh};
+use key_index_flat::index::{Keyed, Ordered, ordered, resolve_next, resolve_prev};
+use key_index_flat::translator::OneCap;
+use key_index_parts::index::partitioned;
 use key_index_uses::callers::{exclude, file};
 use std::alloc::Global;
 use std::process::Abort;
@@ -19,24 +22,6 @@ impl Keyed for Record {
     }
 }
 
-/// Files a record.
-fn add<I: Ordered<Value = Record>>(
-    rt: &impl Abort,
-    alloc: Global,
-    index: &mut I,
-    key: &[u8],
-    position: u64,
-) {
-    let Ok(bytes) = Vec::from_slice(alloc, key) else {
-        panic!(rt; "there is memory for {key:?}")
-    };
-    let record = Record {
-        key: bytes,
-        position,
-    };
-    file(index, key, record).expect(rt, "file");
-}
-
 /// Where a record stands.
 fn position(record: Option<&Record>) -> Option<u64> {
     match record {
@@ -45,91 +30,141 @@ fn position(record: Option<&Record>) -> Option<u64> {
     }
 }
 
-/// The record above a full key stands there, or there is none.
-fn next_is<I: Ordered<Value = Record>>(
-    rt: &impl Abort,
-    index: &I,
-    key: &[u8],
-    stands: Option<u64>,
-) {
-    assert_eq!(rt; position(resolve_next(index, key)), stands, "above {key:?}");
+/// An ordered index of records as the cases see it.
+pub(super) trait Filed {
+    /// Whether `insert` puts a record in front of the others of its index key.
+    fn inserts_first(&self) -> bool;
+
+    /// Files a record.
+    fn files(&mut self, rt: &impl Abort, alloc: Global, key: &[u8], position: u64);
+
+    /// The record above a full key stands there, or there is none.
+    fn next_is(&self, rt: &impl Abort, key: &[u8], stands: Option<u64>);
+
+    /// The record below a full key stands there, or there is none.
+    fn prev_is(&self, rt: &impl Abort, key: &[u8], stands: Option<u64>);
+
+    /// No record has a full key, and the records next to it stand there, or one has it.
+    fn excludes(&self, rt: &impl Abort, key: &[u8], next_to: Option<(Option<u64>, Option<u64>)>);
 }
 
-/// The record below a full key stands there, or there is none.
-fn prev_is<I: Ordered<Value = Record>>(
-    rt: &impl Abort,
-    index: &I,
-    key: &[u8],
-    stands: Option<u64>,
-) {
-    assert_eq!(rt; position(resolve_prev(index, key)), stands, "below {key:?}");
+impl<I: Ordered<Value = Record>> Filed for I {
+    fn inserts_first(&self) -> bool {
+        I::INSERT_FIRST
+    }
+
+    fn files(&mut self, rt: &impl Abort, alloc: Global, key: &[u8], position: u64) {
+        let Ok(bytes) = Vec::from_slice(alloc, key) else {
+            panic!(rt; "there is memory for {key:?}")
+        };
+        let record = Record {
+            key: bytes,
+            position,
+        };
+        file(self, key, record).expect(rt, "file");
+    }
+
+    fn next_is(&self, rt: &impl Abort, key: &[u8], stands: Option<u64>) {
+        assert_eq!(rt; position(resolve_next(self, key)), stands, "above {key:?}");
+    }
+
+    fn prev_is(&self, rt: &impl Abort, key: &[u8], stands: Option<u64>) {
+        assert_eq!(rt; position(resolve_prev(self, key)), stands, "below {key:?}");
+    }
+
+    fn excludes(&self, rt: &impl Abort, key: &[u8], next_to: Option<(Option<u64>, Option<u64>)>) {
+        let found = match exclude(self, key) {
+            Some(found) => Some((position(found.below), position(found.above))),
+            None => None,
+        };
+        assert_eq!(rt; found, next_to, "{key:?}");
+    }
 }
 
 /// Two records that share their first byte, and one further on.
-fn resolved<I: Ordered<Value = Record>>(rt: &impl Abort, alloc: Global, index: &mut I) {
-    next_is(rt, index, b"", None);
-    prev_is(rt, index, b"\xff", None);
-    add(rt, alloc, index, b"\x0b\x02", 1);
-    add(rt, alloc, index, b"\x0b\x05", 2);
-    add(rt, alloc, index, b"\x1c\x01", 3);
-    next_is(rt, index, b"\x0b\x02", Some(2));
-    next_is(rt, index, b"\x0b\x05", Some(3));
-    next_is(rt, index, b"\x1c\x01", None);
-    prev_is(rt, index, b"\x1c\x01", Some(2));
-    prev_is(rt, index, b"\x0b\x02", None);
-    next_is(rt, index, b"\x0b\x03", Some(2));
-    prev_is(rt, index, b"\x0b\x03", Some(1));
-    next_is(rt, index, b"", Some(1));
-    prev_is(rt, index, b"\xff", Some(3));
+fn resolved<I: Filed>(rt: &impl Abort, alloc: Global, index: &mut I) {
+    index.next_is(rt, b"", None);
+    index.prev_is(rt, b"\xff", None);
+    index.files(rt, alloc, b"\x0b\x02", 1);
+    index.files(rt, alloc, b"\x0b\x05", 2);
+    index.files(rt, alloc, b"\x1c\x01", 3);
+    index.next_is(rt, b"\x0b\x02", Some(2));
+    index.next_is(rt, b"\x0b\x05", Some(3));
+    index.next_is(rt, b"\x1c\x01", None);
+    index.prev_is(rt, b"\x1c\x01", Some(2));
+    index.prev_is(rt, b"\x0b\x02", None);
+    index.next_is(rt, b"\x0b\x03", Some(2));
+    index.prev_is(rt, b"\x0b\x03", Some(1));
+    index.next_is(rt, b"", Some(1));
+    index.prev_is(rt, b"\xff", Some(3));
 }
 
 /// The empty key and the byte 0, which share an index key; and two records of one full key, of which the first in the list is given.
-pub(super) fn together<I: Ordered<Value = Record>>(rt: &impl Abort, alloc: Global, index: &mut I) {
-    add(rt, alloc, index, b"", 1);
-    add(rt, alloc, index, b"\x00", 2);
-    next_is(rt, index, b"", Some(2));
-    prev_is(rt, index, b"\x00", Some(1));
-    prev_is(rt, index, b"", None);
-    add(rt, alloc, index, b"\x0b\x05", 3);
-    add(rt, alloc, index, b"\x0b\x05", 4);
-    let first = if I::INSERT_FIRST { 4 } else { 3 };
-    next_is(rt, index, b"\x0b", Some(first));
-    prev_is(rt, index, b"\x0b\x06", Some(first));
-}
-
-/// No record has a full key, and the records next to it stand there.
-fn excludes<I: Ordered<Value = Record>>(
-    rt: &impl Abort,
-    index: &I,
-    key: &[u8],
-    below: Option<u64>,
-    above: Option<u64>,
-) {
-    let Some(next_to) = exclude(index, key) else {
-        panic!(rt; "no record has the key {key:?}")
-    };
-    assert_eq!(rt;
-        (position(next_to.below), position(next_to.above)),
-        (below, above),
-        "{key:?}"
-    );
+fn together<I: Filed>(rt: &impl Abort, alloc: Global, index: &mut I) {
+    index.files(rt, alloc, b"", 1);
+    index.files(rt, alloc, b"\x00", 2);
+    index.next_is(rt, b"", Some(2));
+    index.prev_is(rt, b"\x00", Some(1));
+    index.prev_is(rt, b"", None);
+    index.files(rt, alloc, b"\x0b\x05", 3);
+    index.files(rt, alloc, b"\x0b\x05", 4);
+    let first = if index.inserts_first() { 4 } else { 3 };
+    index.next_is(rt, b"\x0b", Some(first));
+    index.prev_is(rt, b"\x0b\x06", Some(first));
 }
 
 /// An absent key among those of `resolved`, and below and above them all; and a held one.
-fn excluded<I: Ordered<Value = Record>>(rt: &impl Abort, index: &I) {
+fn excluded<I: Filed>(rt: &impl Abort, index: &I) {
     for (key, below, above) in [
         (b"\x0b\x03".as_slice(), Some(1), Some(2)),
         (b"\x0c".as_slice(), Some(2), Some(3)),
         (b"".as_slice(), None, Some(1)),
         (b"\x1c\x01\x00".as_slice(), Some(3), None),
     ] {
-        excludes(rt, index, key, below, above);
+        index.excludes(rt, key, Some((below, above)));
     }
-    assert!(rt; exclude(index, b"\x0b\x05").is_none());
+    index.excludes(rt, b"\x0b\x05", None);
 }
 
-/// The records next to full keys, in an index that is empty at first.
-pub(super) fn next_to<I: Ordered<Value = Record>>(rt: &impl Abort, alloc: Global, index: &mut I) {
-    resolved(rt, alloc, index);
-    excluded(rt, index);
+/// The records next to full keys, over a kind.
+pub(super) fn resolves<K: SubjectOfRecords>(rt: &impl Abort, alloc: Global, kind: &K) {
+    let mut index = kind.records(rt, alloc);
+    resolved(rt, alloc, &mut index);
+    excluded(rt, &index);
+    together(rt, alloc, &mut kind.records(rt, alloc));
+}
+
+/// A kind that has an order, as these cases see it.
+pub(super) trait SubjectOfRecords {
+    type Records: Filed + Drop;
+
+    fn records(&self, rt: &impl Abort, alloc: Global) -> Self::Records;
+}
+
+impl SubjectOfRecords for kinds::Ordered {
+    type Records = ordered::Index<OneCap, Record>;
+
+    fn records(&self, rt: &impl Abort, alloc: Global) -> ordered::Index<OneCap, Record> {
+        fresh::<kinds::Ordered, Record>(rt, alloc, self)
+    }
+}
+
+impl SubjectOfRecords for Pordered {
+    type Records = partitioned::ordered::Index<OneCap, Record, 1>;
+
+    fn records(
+        &self,
+        rt: &impl Abort,
+        alloc: Global,
+    ) -> partitioned::ordered::Index<OneCap, Record, 1> {
+        fresh::<Pordered, Record>(rt, alloc, self)
+    }
+}
+
+impl SubjectOfRecords for Plain {
+    type Records = key_index_plain::Index<OneCap, Record>;
+
+    fn records(&self, rt: &impl Abort, alloc: Global) -> key_index_plain::Index<OneCap, Record> {
+        fresh::<Plain, Record>(rt, alloc, self)
+    }
 }

@@ -1,18 +1,14 @@
-//! The groups of cases that each kind of index goes through. Each function that names a kind shows anew that its index is one, the
-//! longer the more traits it has, so each kind is named by one function for all groups.
-use super::ahead::{self, LooksAhead};
-use super::full_keys::{self, Record};
+//! The groups of cases that each kind of index goes through.
+use super::full_keys::resolves;
 use super::kinds::{
-    Kind, Ordered, OrderedByArrays, OrderedByEight, Plain, Pordered, PorderedByTwo, Punordered,
-    PunorderedByTwo, Unordered, UnorderedByHash, fresh,
+    Ordered, OrderedByArrays, OrderedByEight, Plain, Pordered, PorderedByTwo, Punordered,
+    PunorderedByTwo, Subject, SubjectAhead, SubjectInOrder, SubjectInPartitions, Unordered,
+    UnorderedByHash,
 };
 use super::{
-    batches, builds, callers, calls, command_lists, commands, cursors, extremes, lists, neighbours,
-    ranges,
+    ahead, batches, builds, callers, calls, command_lists, commands, cursors, extremes, lists,
+    neighbours, ranges,
 };
-use key_index_flat::index;
-use key_index_flat::index::implement::Lists;
-use key_index_parts::index::partitioned::Partitioned;
 use std::alloc::Global;
 use std::process::Abort;
 
@@ -42,58 +38,42 @@ enum Group {
 }
 
 /// Each call, and the proved callers.
-fn each_call<K: Kind<u64>>(rt: &impl Abort, alloc: Global, kind: &K) {
-    calls::by_place_and_key(rt, alloc, &mut fresh::<K, u64>(rt, alloc, kind));
-    calls::by_cursor(rt, &mut fresh::<K, u64>(rt, alloc, kind));
-    calls::found_or_inserted(rt, &mut fresh::<K, u64>(rt, alloc, kind));
-    calls::filed_under(rt, &mut fresh::<K, u64>(rt, alloc, kind), K::slots());
+fn each_call<K: Subject>(rt: &impl Abort, alloc: Global, kind: &K) {
+    calls::by_place_and_key(rt, alloc, &mut kind.index(rt, alloc));
+    calls::by_cursor(rt, alloc, &mut kind.index(rt, alloc));
+    calls::found_or_inserted(rt, &mut kind.index(rt, alloc));
+    calls::filed_under(rt, &mut kind.index(rt, alloc), kind.slots());
     for (answers, left, pruned) in calls::RETAINED {
-        calls::inserted_and_retained(
-            rt,
-            alloc,
-            &mut fresh::<K, u64>(rt, alloc, kind),
-            answers,
-            left,
-            pruned,
-        );
+        calls::inserted_and_retained(rt, alloc, &mut kind.index(rt, alloc), answers, left, pruned);
     }
-    calls::retained_in_turn(rt, alloc, &mut fresh::<K, u64>(rt, alloc, kind));
-    calls::inserted_behind(rt, alloc, &mut fresh::<K, u64>(rt, alloc, kind));
-    callers::added(rt, &mut fresh::<K, u64>(rt, alloc, kind));
-    callers::replaced(rt, &mut fresh::<K, u64>(rt, alloc, kind));
-    callers::first_replaced(rt, &mut fresh::<K, u64>(rt, alloc, kind));
-    callers::updated(rt, &mut fresh::<K, u64>(rt, alloc, kind));
+    calls::retained_in_turn(rt, alloc, &mut kind.index(rt, alloc));
+    calls::inserted_behind(rt, alloc, &mut kind.index(rt, alloc));
+    callers::added(rt, &mut kind.index(rt, alloc));
+    callers::replaced(rt, &mut kind.index(rt, alloc));
+    callers::first_replaced(rt, &mut kind.index(rt, alloc));
+    callers::updated(rt, &mut kind.index(rt, alloc));
 }
 
 /// Edits by a cursor.
-fn each_edit<K: Kind<u64>>(rt: &impl Abort, alloc: Global, kind: &K) {
-    cursors::edited(rt, &mut fresh::<K, u64>(rt, alloc, kind));
-    cursors::emptied(rt, &mut fresh::<K, u64>(rt, alloc, kind));
-    cursors::retained(rt, alloc, &mut fresh::<K, u64>(rt, alloc, kind));
-    cursors::retained_in_turn(rt, alloc, &mut fresh::<K, u64>(rt, alloc, kind));
-    cursors::found(rt, alloc, &mut fresh::<K, u64>(rt, alloc, kind));
-    cursors::dropped(rt, &mut fresh::<K, u64>(rt, alloc, kind));
-    cursors::dropped_without_values(rt, &mut fresh::<K, u64>(rt, alloc, kind));
-    cursors::dropped_behind_only_value(rt, &mut fresh::<K, u64>(rt, alloc, kind));
-    cursors::dropped_without_any_value(rt, &mut fresh::<K, u64>(rt, alloc, kind));
-    let neighbour = if K::WIDTH == 1 { 0x11 } else { 0x10 };
-    extremes::cut_at_each_step(
-        rt,
-        alloc,
-        &mut fresh::<K, u64>(rt, alloc, kind),
-        &[neighbour, 0x02],
-    );
-    extremes::long_list(rt, alloc, &mut fresh::<K, u64>(rt, alloc, kind));
-    extremes::ten_thousand(rt, &mut fresh::<K, u64>(rt, alloc, kind));
+fn each_edit<K: Subject>(rt: &impl Abort, alloc: Global, kind: &K) {
+    for edit in cursors::EDITS {
+        cursors::edited(rt, alloc, &mut kind.index(rt, alloc), edit);
+    }
+    cursors::dropped(rt, alloc, &mut kind.index(rt, alloc));
+    cursors::dropped_without_values(rt, alloc, &mut kind.index(rt, alloc));
+    let neighbour = if kind.width() == 1 { 0x11 } else { 0x10 };
+    extremes::cut_at_each_step(rt, alloc, &mut kind.index(rt, alloc), &[neighbour, 0x02]);
+    extremes::long_list(rt, alloc, &mut kind.index(rt, alloc));
+    extremes::ten_thousand(rt, alloc, &mut kind.index(rt, alloc));
 }
 
 /// Lists of commands.
-fn each_command<K: Kind<u64>>(rt: &impl Abort, alloc: Global, kind: &K) {
-    commands::edited(rt, alloc, &mut fresh::<K, u64>(rt, alloc, kind));
-    commands::emptied(rt, alloc, &mut fresh::<K, u64>(rt, alloc, kind));
-    commands::each_command(rt, alloc, &mut fresh::<K, u64>(rt, alloc, kind));
-    commands::inserted_and_retained(rt, alloc, &mut fresh::<K, u64>(rt, alloc, kind));
-    command_lists::run_beside(rt, alloc, &mut fresh::<K, u64>(rt, alloc, kind), K::WIDTH);
+fn each_command<K: Subject>(rt: &impl Abort, alloc: Global, kind: &K) {
+    commands::edited(rt, alloc, &mut kind.index(rt, alloc));
+    commands::emptied(rt, alloc, &mut kind.index(rt, alloc));
+    commands::each_command(rt, alloc, &mut kind.index(rt, alloc));
+    commands::inserted_and_retained(rt, alloc, &mut kind.index(rt, alloc));
+    command_lists::run_beside(rt, alloc, &mut kind.index(rt, alloc), kind.width());
 }
 
 /// No kind of the function that was called has this group.
@@ -102,50 +82,46 @@ fn is_of_others(rt: &impl Abort) {
 }
 
 /// A group of cases on a kind.
-fn on<K: Kind<u64>>(rt: &impl Abort, alloc: Global, kind: &K, group: Group) {
+fn on<K: Subject>(rt: &impl Abort, alloc: Global, kind: &K, group: Group) {
     match group {
         Group::Calls => each_call(rt, alloc, kind),
         Group::Cursors => each_edit(rt, alloc, kind),
         Group::Commands => each_command(rt, alloc, kind),
-        Group::Lists => lists::kept(rt, alloc, &mut fresh::<K, u64>(rt, alloc, kind), K::WIDTH),
-        Group::Batches => batches::by_place(rt, alloc, &mut fresh::<K, u64>(rt, alloc, kind)),
+        Group::Lists => lists::kept(rt, alloc, &mut kind.index(rt, alloc), kind.width()),
+        Group::Batches => batches::by_place(rt, alloc, &mut kind.index(rt, alloc)),
         _ => is_of_others(rt),
     }
 }
 
 /// The same on a kind that has an order, with its neighbours.
-fn in_order<K: Kind<u64>>(rt: &impl Abort, alloc: Global, kind: &K, group: Group)
-where
-    K::Index: index::Ordered<Value = u64>,
-{
+fn in_order<K: Subject + SubjectInOrder>(rt: &impl Abort, alloc: Global, kind: &K, group: Group) {
     match group {
         Group::Lists => beside_lists(rt, alloc, kind),
-        Group::Batches => batches::by_key(rt, alloc, &mut fresh::<K, u64>(rt, alloc, kind)),
+        Group::Batches => batches::by_key(rt, alloc, &mut kind.in_order(rt, alloc)),
         _ => on(rt, alloc, kind, group),
     }
 }
 
 /// Some thousand calls beside lists, and the neighbours of few keys.
-fn beside_lists<K: Kind<u64>>(rt: &impl Abort, alloc: Global, kind: &K)
-where
-    K::Index: index::Ordered<Value = u64>,
-{
-    neighbours::of_one(rt, &mut fresh::<K, u64>(rt, alloc, kind));
-    neighbours::across_gaps(rt, &mut fresh::<K, u64>(rt, alloc, kind));
-    lists::kept_in_order(rt, alloc, &mut fresh::<K, u64>(rt, alloc, kind), K::WIDTH);
+fn beside_lists<K: Subject + SubjectInOrder>(rt: &impl Abort, alloc: Global, kind: &K) {
+    neighbours::of_one(rt, &mut kind.in_order(rt, alloc));
+    neighbours::across_gaps(rt, &mut kind.in_order(rt, alloc));
+    lists::kept_in_order(rt, alloc, &mut kind.in_order(rt, alloc), kind.width());
 }
 
 /// The same on a kind in partitions, with its ranges.
-fn in_partitions<K: Kind<u64>>(rt: &impl Abort, alloc: Global, kind: &K, group: Group)
-where
-    K::Index: Partitioned<Value = u64>,
-{
+fn in_partitions<K: Subject + SubjectInPartitions>(
+    rt: &impl Abort,
+    alloc: Global,
+    kind: &K,
+    group: Group,
+) {
     match group {
         Group::Batches => {
-            batches::by_place_in_partitions(rt, alloc, &mut fresh::<K, u64>(rt, alloc, kind))
+            batches::by_place_in_partitions(rt, alloc, &mut kind.in_partitions(rt, alloc))
         }
         Group::ShortKeys => {
-            extremes::short_keys(rt, &mut fresh::<K, u64>(rt, alloc, kind), &[4, 3, 2, 1])
+            extremes::short_keys(rt, &mut kind.in_partitions(rt, alloc), &[4, 3, 2, 1])
         }
         Group::WorkedRanges => worked_ranges(rt, alloc, kind),
         Group::Ranges(builds) => ranges_beside(rt, alloc, kind, builds),
@@ -154,66 +130,53 @@ where
 }
 
 /// Examples of ranges and builds.
-fn worked_ranges<K: Kind<u64>>(rt: &impl Abort, alloc: Global, kind: &K)
-where
-    K::Index: Partitioned<Value = u64>,
-{
-    ranges::installed(rt, alloc, &mut fresh::<K, u64>(rt, alloc, kind));
-    ranges::installed_after_edits(rt, alloc, &mut fresh::<K, u64>(rt, alloc, kind));
-    ranges::found_empty(rt, &mut fresh::<K, u64>(rt, alloc, kind));
-    ranges::gives_a_long_list(rt, alloc, &fresh::<K, u64>(rt, alloc, kind));
-    builds::built(rt, alloc, &mut fresh::<K, u64>(rt, alloc, kind));
-    builds::newest_stand(rt, alloc, fresh::<K, u64>(rt, alloc, kind));
+fn worked_ranges<K: SubjectInPartitions>(rt: &impl Abort, alloc: Global, kind: &K) {
+    ranges::installed(rt, alloc, &mut kind.in_partitions(rt, alloc));
+    ranges::installed_after_edits(rt, alloc, &mut kind.in_partitions(rt, alloc));
+    ranges::found_empty(rt, &mut kind.in_partitions(rt, alloc));
+    ranges::gives_a_long_list(rt, alloc, &kind.in_partitions(rt, alloc));
+    builds::built(rt, alloc, &mut kind.in_partitions(rt, alloc));
+    builds::newest_stand(rt, alloc, kind.in_partitions(rt, alloc));
 }
 
 /// Ranges by some thousand calls, and so many builds.
-fn ranges_beside<K: Kind<u64>>(rt: &impl Abort, alloc: Global, kind: &K, builds: u32)
-where
-    K::Index: Partitioned<Value = u64>,
-{
-    ranges::called_beside(rt, alloc, &mut fresh::<K, u64>(rt, alloc, kind), K::WIDTH);
-    let mut kept = lists::KeptLists::new(rt, alloc, K::WIDTH);
+fn ranges_beside<K: Subject + SubjectInPartitions>(
+    rt: &impl Abort,
+    alloc: Global,
+    kind: &K,
+    builds: u32,
+) {
+    ranges::called_beside(rt, alloc, &mut kind.in_partitions(rt, alloc), kind.width());
+    let mut kept = lists::KeptLists::new(rt, alloc, kind.width());
     for _ in 0..builds {
-        builds::built_beside(rt, alloc, &mut fresh::<K, u64>(rt, alloc, kind), &mut kept);
+        builds::built_beside(rt, alloc, &mut kind.in_partitions(rt, alloc), &mut kept);
     }
 }
 
 /// The same on a kind in partitions that has an order, with its batches that look ahead.
-fn in_ordered_partitions<K: Kind<u64>>(rt: &impl Abort, alloc: Global, kind: &K, group: Group)
-where
-    K::Index: index::Ordered<Value = u64> + Partitioned<Value = u64> + LooksAhead + Lists,
-{
+fn in_ordered_partitions<K: Subject + SubjectInOrder + SubjectInPartitions + SubjectAhead>(
+    rt: &impl Abort,
+    alloc: Global,
+    kind: &K,
+    group: Group,
+) {
     match group {
         Group::Batches => {
-            batches::by_partition_and_key(rt, alloc, &mut fresh::<K, u64>(rt, alloc, kind))
+            batches::by_partition_and_key(rt, alloc, &mut kind.in_order(rt, alloc))
         }
-        Group::ShortKeys => {
-            extremes::short_keys_in_order(rt, &mut fresh::<K, u64>(rt, alloc, kind))
-        }
+        Group::ShortKeys => { extremes::short_keys_in_order(rt, &mut kind.in_order(rt, alloc)) }
         Group::WorkedRanges | Group::Ranges(_) => in_partitions(rt, alloc, kind, group),
         Group::WorkedAhead => worked_ahead(rt, alloc, kind),
-        Group::Ahead => ahead::told_beside(rt, alloc, &mut fresh::<K, u64>(rt, alloc, kind)),
+        Group::Ahead => ahead::told_beside(rt, alloc, &mut kind.ahead(rt, alloc)),
         _ => in_order(rt, alloc, kind, group),
     }
 }
 
 /// Examples of batches that look ahead.
-fn worked_ahead<K: Kind<u64>>(rt: &impl Abort, alloc: Global, kind: &K)
-where
-    K::Index: LooksAhead + Lists,
-{
-    ahead::four_lists_ahead(rt, alloc, &mut fresh::<K, u64>(rt, alloc, kind));
-    ahead::one_key(rt, alloc, &mut fresh::<K, u64>(rt, alloc, kind));
-    ahead::found_records(rt, alloc, &mut fresh::<K, u64>(rt, alloc, kind));
-}
-
-/// The records next to full keys, in a kind that has an order.
-fn resolves<K: Kind<Record>>(rt: &impl Abort, alloc: Global, kind: &K)
-where
-    K::Index: index::Ordered<Value = Record>,
-{
-    full_keys::next_to(rt, alloc, &mut fresh::<K, Record>(rt, alloc, kind));
-    full_keys::together(rt, alloc, &mut fresh::<K, Record>(rt, alloc, kind));
+fn worked_ahead<K: SubjectAhead>(rt: &impl Abort, alloc: Global, kind: &K) {
+    ahead::four_lists_ahead(rt, alloc, &mut kind.ahead(rt, alloc));
+    ahead::one_key(rt, alloc, &mut kind.ahead(rt, alloc));
+    ahead::found_records(rt, alloc, &mut kind.ahead(rt, alloc));
 }
 
 fn on_unordered(rt: &impl Abort, alloc: Global, group: Group) {
@@ -508,7 +471,7 @@ fn plain_resolves(rt: HostRuntime) {
 
 #[test]
 fn ordered_gives_neighbours(rt: HostRuntime) {
-    neighbours::of_three(&rt, &mut fresh::<Ordered, u64>(&rt, rt.alloc(), &Ordered));
+    neighbours::of_three(&rt, &mut Ordered.in_order(&rt, rt.alloc()));
 }
 
 #[test]

@@ -1,4 +1,11 @@
 //! The kinds of index that the tests go through. A kind says how its index is made, so each case is over any of them.
+use super::ahead::LooksAhead;
+use super::callers::Called;
+use super::calls::Placed;
+use super::checks::Tested;
+use super::commands::Commanded;
+use super::neighbours::InOrder;
+use super::ranges::InPartitions;
 use super::translators::FirstByte;
 use key_index_flat::index::{self, Factory, Fault, Runs, ordered, unordered};
 use key_index_flat::translator::{Cap, EightCap, FourCap, Hashed, OneCap, TwoCap, UnhashedArray};
@@ -23,6 +30,57 @@ pub(super) trait Kind<V> {
 /// An index of a kind, with no values.
 pub(super) fn fresh<K: Kind<V>, V>(rt: &impl Abort, alloc: Global, kind: &K) -> K::Index {
     kind.make(alloc).expect(rt, "an index")
+}
+
+/// A kind as the cases see it. Its index has no trait that promises anything, so that what goes over it is quickly proved.
+pub(super) trait Subject {
+    type Index: Called + Placed + Commanded + Drop;
+
+    /// How many of a key's first two bytes its index key has.
+    fn width(&self) -> usize;
+
+    /// An index with no values.
+    fn index(&self, rt: &impl Abort, alloc: Global) -> Self::Index;
+
+    /// The index keys of 01 and of 1002ff.
+    fn slots(&self) -> (<Self::Index as Tested>::Slot, <Self::Index as Tested>::Slot);
+}
+
+impl<K: Kind<u64>> Subject for K {
+    type Index = K::Index;
+
+    fn width(&self) -> usize {
+        K::WIDTH
+    }
+
+    fn index(&self, rt: &impl Abort, alloc: Global) -> K::Index {
+        fresh::<K, u64>(rt, alloc, self)
+    }
+
+    fn slots(&self) -> (<K::Index as Runs>::Key, <K::Index as Runs>::Key) {
+        K::slots()
+    }
+}
+
+/// The same of a kind that has an order.
+pub(super) trait SubjectInOrder {
+    type InOrder: Tested + InOrder + Drop;
+
+    fn in_order(&self, rt: &impl Abort, alloc: Global) -> Self::InOrder;
+}
+
+/// The same of a kind in partitions.
+pub(super) trait SubjectInPartitions {
+    type InPartitions: InPartitions + Drop;
+
+    fn in_partitions(&self, rt: &impl Abort, alloc: Global) -> Self::InPartitions;
+}
+
+/// The same of a kind whose batches look ahead.
+pub(super) trait SubjectAhead {
+    type Ahead: LooksAhead + Drop;
+
+    fn ahead(&self, rt: &impl Abort, alloc: Global) -> Self::Ahead;
 }
 
 /// The flat unordered index.
@@ -76,6 +134,14 @@ impl<V: Drop> Kind<V> for Ordered {
     }
 }
 
+impl SubjectInOrder for Ordered {
+    type InOrder = ordered::Index<OneCap, u64>;
+
+    fn in_order(&self, rt: &impl Abort, alloc: Global) -> ordered::Index<OneCap, u64> {
+        fresh::<Ordered, u64>(rt, alloc, self)
+    }
+}
+
 /// The flat ordered index by two bytes.
 pub(super) struct OrderedByTwo;
 
@@ -110,6 +176,14 @@ impl<V: Drop> Kind<V> for OrderedByEight {
     }
 }
 
+impl SubjectInOrder for OrderedByEight {
+    type InOrder = ordered::Index<EightCap, u64>;
+
+    fn in_order(&self, rt: &impl Abort, alloc: Global) -> ordered::Index<EightCap, u64> {
+        fresh::<OrderedByEight, u64>(rt, alloc, self)
+    }
+}
+
 /// The flat ordered index by arrays of three bytes.
 pub(super) struct OrderedByArrays;
 
@@ -125,6 +199,14 @@ impl<V: Drop> Kind<V> for OrderedByArrays {
     fn slots() -> (UnhashedArray<3>, UnhashedArray<3>) {
         let [one, other] = [[0x01, 0, 0], [0x10, 0x02, 0xff]];
         (UnhashedArray { inner: one }, UnhashedArray { inner: other })
+    }
+}
+
+impl SubjectInOrder for OrderedByArrays {
+    type InOrder = ordered::Index<Cap<3>, u64>;
+
+    fn in_order(&self, rt: &impl Abort, alloc: Global) -> ordered::Index<Cap<3>, u64> {
+        fresh::<OrderedByArrays, u64>(rt, alloc, self)
     }
 }
 
@@ -145,6 +227,18 @@ impl<V: Drop> Kind<V> for Punordered {
     }
 }
 
+impl SubjectInPartitions for Punordered {
+    type InPartitions = partitioned::unordered::Index<OneCap, u64, 1>;
+
+    fn in_partitions(
+        &self,
+        rt: &impl Abort,
+        alloc: Global,
+    ) -> partitioned::unordered::Index<OneCap, u64, 1> {
+        fresh::<Punordered, u64>(rt, alloc, self)
+    }
+}
+
 /// The partitioned unordered index, by two bytes and then one more.
 pub(super) struct PunorderedByTwo;
 
@@ -159,6 +253,18 @@ impl<V: Drop> Kind<V> for PunorderedByTwo {
 
     fn slots() -> ((usize, u8), (usize, u8)) {
         ((0x0100, 0), (0x1002, 0xff))
+    }
+}
+
+impl SubjectInPartitions for PunorderedByTwo {
+    type InPartitions = partitioned::unordered::Index<OneCap, u64, 2>;
+
+    fn in_partitions(
+        &self,
+        rt: &impl Abort,
+        alloc: Global,
+    ) -> partitioned::unordered::Index<OneCap, u64, 2> {
+        fresh::<PunorderedByTwo, u64>(rt, alloc, self)
     }
 }
 
@@ -187,6 +293,38 @@ impl<V: Drop> Kind<V> for Pordered {
     }
 }
 
+impl SubjectInOrder for Pordered {
+    type InOrder = partitioned::ordered::Index<OneCap, u64, 1>;
+
+    fn in_order(
+        &self,
+        rt: &impl Abort,
+        alloc: Global,
+    ) -> partitioned::ordered::Index<OneCap, u64, 1> {
+        fresh::<Pordered, u64>(rt, alloc, self)
+    }
+}
+
+impl SubjectInPartitions for Pordered {
+    type InPartitions = partitioned::ordered::Index<OneCap, u64, 1>;
+
+    fn in_partitions(
+        &self,
+        rt: &impl Abort,
+        alloc: Global,
+    ) -> partitioned::ordered::Index<OneCap, u64, 1> {
+        fresh::<Pordered, u64>(rt, alloc, self)
+    }
+}
+
+impl SubjectAhead for Pordered {
+    type Ahead = partitioned::ordered::Index<OneCap, u64, 1>;
+
+    fn ahead(&self, rt: &impl Abort, alloc: Global) -> partitioned::ordered::Index<OneCap, u64, 1> {
+        fresh::<Pordered, u64>(rt, alloc, self)
+    }
+}
+
 /// The partitioned ordered index, by two bytes and then one more.
 pub(super) struct PorderedByTwo;
 
@@ -204,6 +342,38 @@ impl<V: Drop> Kind<V> for PorderedByTwo {
     }
 }
 
+impl SubjectInOrder for PorderedByTwo {
+    type InOrder = partitioned::ordered::Index<OneCap, u64, 2>;
+
+    fn in_order(
+        &self,
+        rt: &impl Abort,
+        alloc: Global,
+    ) -> partitioned::ordered::Index<OneCap, u64, 2> {
+        fresh::<PorderedByTwo, u64>(rt, alloc, self)
+    }
+}
+
+impl SubjectInPartitions for PorderedByTwo {
+    type InPartitions = partitioned::ordered::Index<OneCap, u64, 2>;
+
+    fn in_partitions(
+        &self,
+        rt: &impl Abort,
+        alloc: Global,
+    ) -> partitioned::ordered::Index<OneCap, u64, 2> {
+        fresh::<PorderedByTwo, u64>(rt, alloc, self)
+    }
+}
+
+impl SubjectAhead for PorderedByTwo {
+    type Ahead = partitioned::ordered::Index<OneCap, u64, 2>;
+
+    fn ahead(&self, rt: &impl Abort, alloc: Global) -> partitioned::ordered::Index<OneCap, u64, 2> {
+        fresh::<PorderedByTwo, u64>(rt, alloc, self)
+    }
+}
+
 /// The plain index.
 pub(super) struct Plain;
 
@@ -218,5 +388,13 @@ impl<V: Drop> Kind<V> for Plain {
 
     fn slots() -> (u8, u8) {
         (0x01, 0x10)
+    }
+}
+
+impl SubjectInOrder for Plain {
+    type InOrder = key_index_plain::Index<OneCap, u64>;
+
+    fn in_order(&self, rt: &impl Abort, alloc: Global) -> key_index_plain::Index<OneCap, u64> {
+        fresh::<Plain, u64>(rt, alloc, self)
     }
 }

@@ -1,11 +1,11 @@
 //! An index that is called some thousand times answers as lists do that the test keeps.
 use super::asks::Asks;
 use super::batches::visits_lists;
-use super::checks::{counts, gets, gets_or_inserts, holds, inserts, push, puts, removes, stands};
-use super::neighbours::{same_end, same_neighbour};
+use super::checks::{Tested, push, puts};
+use super::neighbours::InOrder;
 use super::numbers::{Numbers, two_bytes};
 use super::walk::Walk;
-use key_index_flat::index::{Cursor, CursorState, Ordered, Unordered, Values};
+use key_index_flat::index::{Cursor, CursorState};
 use std::alloc::Global;
 use std::mem;
 use std::process::Abort;
@@ -55,17 +55,12 @@ pub(super) fn list_at<'a>(rt: &impl Abort, lists: &'a [Vec<u64>], place: usize) 
 }
 
 /// The counts are those of the lists.
-pub(super) fn counts_as<I: Unordered<Value = u64>>(
-    rt: &impl Abort,
-    index: &I,
-    lists: &[Vec<u64>],
-    pruned: u64,
-) {
+pub(super) fn counts_as<I: Tested>(rt: &impl Abort, index: &I, lists: &[Vec<u64>], pruned: u64) {
     let keys = lists.iter().filter(|list| !list.is_empty()).count();
     let items = lists
         .iter()
         .fold(0usize, |sum, list| sum.saturating_add(list.len()));
-    counts(rt, index, (keys, items, pruned));
+    index.counts(rt, (keys, items, pruned));
 }
 
 /// `insert` of a cursor that allows it.
@@ -124,6 +119,11 @@ fn retain_beside<C: Cursor<Value = u64>>(
     asks.are_as(rt, &wanted);
 }
 
+/// A cursor tells this state.
+fn stands<C: Cursor<Value = u64>>(rt: &impl Abort, cursor: &C, state: CursorState) {
+    assert_eq!(rt; cursor.state(), state);
+}
+
 /// One call of a cursor, and the same on the list.
 fn step_beside<C: Cursor<Value = u64>>(
     rt: &impl Abort,
@@ -174,7 +174,7 @@ pub(super) fn edit_beside<C: Cursor<Value = u64>>(
 }
 
 /// So many calls of a cursor that is new, and the same on the list.
-pub(super) fn steps_beside<C: Cursor<Value = u64>>(
+fn steps_beside<C: Cursor<Value = u64>>(
     rt: &impl Abort,
     alloc: Global,
     cursor: &mut C,
@@ -195,8 +195,34 @@ pub(super) fn steps_beside<C: Cursor<Value = u64>>(
     edited
 }
 
+/// Where a cursor that is new goes.
+#[derive(Clone, Copy)]
+pub(super) enum Way {
+    /// So many calls.
+    Calls(u64),
+    /// Behind the last value, where it puts so many.
+    Behind(u64),
+}
+
+/// A cursor that is new goes its way, and the same is done to the list.
+pub(super) fn goes_beside<C: Cursor<Value = u64>>(
+    rt: &impl Abort,
+    alloc: Global,
+    cursor: &mut C,
+    list: &mut Vec<u64>,
+    way: Way,
+    numbers: &mut Numbers,
+) {
+    match way {
+        Way::Calls(count) => {
+            steps_beside(rt, alloc, cursor, list, count, numbers);
+        }
+        Way::Behind(count) => grow_beside(rt, alloc, cursor, list, count, numbers),
+    }
+}
+
 /// A cursor that is new goes behind the last value and puts so many there, and the same is done to the list.
-pub(super) fn grow_beside<C: Cursor<Value = u64>>(
+fn grow_beside<C: Cursor<Value = u64>>(
     rt: &impl Abort,
     alloc: Global,
     cursor: &mut C,
@@ -212,46 +238,8 @@ pub(super) fn grow_beside<C: Cursor<Value = u64>>(
     *list = walk.into_list(rt);
 }
 
-/// `get_mut` of a key, and an edit where it has values.
-fn edit<I: Unordered<Value = u64>>(
-    rt: &impl Abort,
-    alloc: Global,
-    index: &mut I,
-    list: &mut Vec<u64>,
-    key: &[u8],
-    numbers: &mut Numbers,
-) -> Edited {
-    let found = gets(rt, index, key);
-    assert_eq!(rt; found.is_some(), !list.is_empty());
-    match found {
-        Some(mut cursor) => edit_beside(rt, alloc, &mut cursor, list, numbers),
-        None => Edited::at_once(0),
-    }
-}
-
-/// `get_mut_or_insert` of a key, and an edit where it had values.
-fn edit_or_insert<I: Unordered<Value = u64>>(
-    rt: &impl Abort,
-    alloc: Global,
-    index: &mut I,
-    list: &mut Vec<u64>,
-    key: &[u8],
-    numbers: &mut Numbers,
-) -> Edited {
-    let value = numbers.next();
-    let found = gets_or_inserts(rt, index, key, value);
-    assert_eq!(rt; found.is_some(), !list.is_empty());
-    match found {
-        Some(mut cursor) => edit_beside(rt, alloc, &mut cursor, list, numbers),
-        None => {
-            push(rt, list, value);
-            Edited::at_once(0)
-        }
-    }
-}
-
 /// `retain` of a key, with the asks.
-fn retain<I: Unordered<Value = u64>>(
+fn retain<I: Tested>(
     rt: &impl Abort,
     alloc: Global,
     index: &mut I,
@@ -259,20 +247,17 @@ fn retain<I: Unordered<Value = u64>>(
     key: &[u8],
     answers: u64,
 ) -> u64 {
-    let mut asks = Asks::new(alloc, answers);
-    let kept = index.retain(key, |value: &u64| asks.ask(rt, *value));
-    assert!(rt; kept.is_ok());
     let mut wanted = Asks::new(alloc, answers);
     let mut walk = Walk::new(alloc, mem::replace(list, Vec::new(alloc)));
     walk.retain(rt, &mut wanted);
-    asks.are_as(rt, &wanted);
+    index.retains(rt, alloc, key, answers, wanted.values.as_slice());
     let taken = walk.taken;
     *list = walk.into_list(rt);
     taken
 }
 
 /// `insert_and_retain` of a value under a key, with the asks.
-fn insert_and_retain<I: Unordered<Value = u64>>(
+fn insert_and_retain<I: Tested>(
     rt: &impl Abort,
     alloc: Global,
     index: &mut I,
@@ -281,9 +266,6 @@ fn insert_and_retain<I: Unordered<Value = u64>>(
     value: u64,
     answers: u64,
 ) -> u64 {
-    let mut asks = Asks::new(alloc, answers);
-    let kept = index.insert_and_retain(key, value, |value: &u64| asks.ask(rt, *value));
-    assert!(rt; kept.is_ok());
     let mut wanted = Asks::new(alloc, answers);
     let mut walk = Walk::new(alloc, mem::replace(list, Vec::new(alloc)));
     walk.retain(rt, &mut wanted);
@@ -292,36 +274,12 @@ fn insert_and_retain<I: Unordered<Value = u64>>(
     if wanted.ask(rt, value) {
         push(rt, list, value);
     }
-    asks.are_as(rt, &wanted);
+    index.inserts_and_retains(rt, alloc, key, value, answers, wanted.values.as_slice());
     taken
 }
 
-/// `remove` of a key.
-fn remove<I: Unordered<Value = u64>>(
-    rt: &impl Abort,
-    index: &mut I,
-    list: &mut Vec<u64>,
-    key: &[u8],
-) -> u64 {
-    removes(rt, index, key);
-    cleared(list)
-}
-
-/// `insert` of a value under a key.
-fn insert<I: Unordered<Value = u64>>(
-    rt: &impl Abort,
-    index: &mut I,
-    list: &mut Vec<u64>,
-    key: &[u8],
-    value: u64,
-) -> u64 {
-    inserts(rt, index, key, value);
-    put(rt, list, value, I::INSERT_FIRST);
-    0
-}
-
 /// One call by key, and the same on the key's list. The calls below 5 are those that give a cursor.
-pub(super) fn call<I: Unordered<Value = u64>>(
+pub(super) fn call<I: Tested>(
     rt: &impl Abort,
     alloc: Global,
     index: &mut I,
@@ -331,15 +289,26 @@ pub(super) fn call<I: Unordered<Value = u64>>(
     numbers: &mut Numbers,
 ) -> Edited {
     let taken = match call {
-        0 | 1 => return edit_or_insert(rt, alloc, index, list, key, numbers),
-        2 | 3 | 4 => return edit(rt, alloc, index, list, key, numbers),
+        0 | 1 => {
+            let value = numbers.next();
+            return index.edits_or_inserts_beside(rt, alloc, list, key, value, numbers);
+        }
+        2 | 3 | 4 => return index.edits_beside(rt, alloc, list, key, numbers),
         5 => retain(rt, alloc, index, list, key, numbers.next()),
-        6 => remove(rt, index, list, key),
+        6 => {
+            index.removes(rt, key);
+            cleared(list)
+        }
         7 | 8 => {
             let value = numbers.next();
             insert_and_retain(rt, alloc, index, list, key, value, numbers.next())
         }
-        _ => insert(rt, index, list, key, numbers.next()),
+        _ => {
+            let value = numbers.next();
+            index.inserts(rt, key, value);
+            put(rt, list, value, index.inserts_first());
+            0
+        }
     };
     Edited::at_once(taken)
 }
@@ -376,7 +345,7 @@ impl KeptLists {
     }
 
     /// One call by key of an index, which then has the key's list, and the counts of all.
-    fn round<I: Unordered<Value = u64>>(
+    fn round<I: Tested>(
         &mut self,
         rt: &impl Abort,
         alloc: Global,
@@ -393,67 +362,52 @@ impl KeptLists {
         let chosen = if is_emptying { chosen.min(6) } else { chosen };
         let edited = call(rt, alloc, index, list, key, chosen, &mut self.numbers);
         self.pruned = self.pruned.saturating_add(edited.taken);
-        holds(rt, index, key, list.as_slice());
+        index.holds(rt, key, list.as_slice());
         counts_as(rt, index, self.lists.as_slice(), self.pruned);
     }
 
     /// An index has the list of any key, by itself and in a batch behind the empty key.
-    pub(super) fn any_list<I: Unordered<Value = u64>>(
-        &mut self,
-        rt: &impl Abort,
-        alloc: Global,
-        index: &I,
-    ) {
+    pub(super) fn any_list<I: Tested>(&mut self, rt: &impl Abort, alloc: Global, index: &I) {
         let number = self.numbers.next();
         let bytes = two_bytes(number);
         let key = &bytes[..(number / 16 % 3) as usize];
         let lists = self.lists.as_slice();
         let list = list_at(rt, lists, place(number, self.width));
-        holds(rt, index, key, list);
+        index.holds(rt, key, list);
         visits_lists(rt, alloc, index, &[b"", key], [list_at(rt, lists, 0), list]);
     }
 
     /// An index gives the lists next to that of any key, and the first and the last one.
-    pub(super) fn any_neighbours<I: Ordered<Value = u64>>(&mut self, rt: &impl Abort, index: &I) {
+    pub(super) fn any_neighbours<I: InOrder>(&mut self, rt: &impl Abort, index: &I) {
         let number = self.numbers.next();
         let bytes = two_bytes(number);
         let key = &bytes[..(number / 16 % 3) as usize];
         let lists = self.lists.as_slice();
         let place = place(number, self.width);
-        assert!(rt;
-            same_neighbour(index.next_translated_key(key), above(rt, lists, place)),
-            "the neighbour above {key:?}"
-        );
-        assert!(rt;
-            same_neighbour(index.prev_translated_key(key), below(rt, lists, place)),
-            "the neighbour below {key:?}"
-        );
-        assert!(rt; same_end(index.first_translated_key(), first(lists)));
-        assert!(rt; same_end(index.last_translated_key(), last(lists)));
+        index.next_is(rt, key, above(rt, lists, place));
+        index.prev_is(rt, key, below(rt, lists, place));
+        index.ends_are(rt, first(lists), last(lists));
     }
 }
 
 /// The first of some lists that has values.
-fn first(lists: &[Vec<u64>]) -> Option<Values<'_, u64>> {
+fn first(lists: &[Vec<u64>]) -> Option<&[u64]> {
     match lists.iter().find(|list| !list.is_empty()) {
-        Some(list) => Some(Values::of_slice(list.as_slice())),
+        Some(list) => Some(list.as_slice()),
         None => None,
     }
 }
 
 /// The last of some lists that has values.
-fn last(lists: &[Vec<u64>]) -> Option<Values<'_, u64>> {
+fn last(lists: &[Vec<u64>]) -> Option<&[u64]> {
     match lists.iter().rev().find(|list| !list.is_empty()) {
-        Some(list) => Some(Values::of_slice(list.as_slice())),
+        Some(list) => Some(list.as_slice()),
         None => None,
     }
 }
 
 /// A list, or else one of all lists, flagged.
-fn or_cycled<'a>(
-    list: Option<Values<'a, u64>>,
-    cycled: Option<Values<'a, u64>>,
-) -> Option<(Values<'a, u64>, bool)> {
+fn or_cycled<'a>(list: Option<&'a [u64]>, cycled: Option<&'a [u64]>) -> Option<(&'a [u64], bool)> {
     match (list, cycled) {
         (Some(list), _) => Some((list, false)),
         (None, Some(list)) => Some((list, true)),
@@ -462,32 +416,19 @@ fn or_cycled<'a>(
 }
 
 /// The list above a place.
-fn above<'a>(
-    rt: &impl Abort,
-    lists: &'a [Vec<u64>],
-    place: usize,
-) -> Option<(Values<'a, u64>, bool)> {
+fn above<'a>(rt: &impl Abort, lists: &'a [Vec<u64>], place: usize) -> Option<(&'a [u64], bool)> {
     assert!(rt; place < lists.len());
     or_cycled(first(&lists[place + 1..]), first(lists))
 }
 
 /// The list below a place.
-fn below<'a>(
-    rt: &impl Abort,
-    lists: &'a [Vec<u64>],
-    place: usize,
-) -> Option<(Values<'a, u64>, bool)> {
+fn below<'a>(rt: &impl Abort, lists: &'a [Vec<u64>], place: usize) -> Option<(&'a [u64], bool)> {
     assert!(rt; place < lists.len());
     or_cycled(last(&lists[..place]), last(lists))
 }
 
 /// An index answers as the lists. Its index keys have the first so many bytes of a key.
-pub(super) fn kept<I: Unordered<Value = u64>>(
-    rt: &impl Abort,
-    alloc: Global,
-    index: &mut I,
-    width: usize,
-) {
+pub(super) fn kept<I: Tested>(rt: &impl Abort, alloc: Global, index: &mut I, width: usize) {
     let mut kept = KeptLists::new(rt, alloc, width);
     for round in 0..CALLS {
         kept.round(rt, alloc, index, round / 64 % 2 == 1);
@@ -496,7 +437,7 @@ pub(super) fn kept<I: Unordered<Value = u64>>(
 }
 
 /// The same of an ordered index, and its neighbours.
-pub(super) fn kept_in_order<I: Ordered<Value = u64>>(
+pub(super) fn kept_in_order<I: Tested + InOrder>(
     rt: &impl Abort,
     alloc: Global,
     index: &mut I,

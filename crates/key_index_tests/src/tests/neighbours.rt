@@ -1,16 +1,13 @@
 //! The neighbours of a key, in ordered indices.
-use super::checks::{counts, fill, inserts, removes};
+use super::checks::{Tested, fill};
 use key_index_flat::index::{Ordered, Values};
 use std::process::Abort;
 
 /// Whether a neighbour is the one that is wanted, and so flagged.
-pub(super) fn same_neighbour(
-    given: Option<(Values<'_, u64>, bool)>,
-    wanted: Option<(Values<'_, u64>, bool)>,
-) -> bool {
+fn same_neighbour(given: Option<(Values<'_, u64>, bool)>, wanted: Option<(&[u64], bool)>) -> bool {
     match (given, wanted) {
         (Some((values, flag)), Some((others, other_flag))) => {
-            flag == other_flag && values.copied().eq(others.copied())
+            flag == other_flag && values.copied().eq(others.iter().copied())
         }
         (None, None) => true,
         _ => false,
@@ -18,52 +15,71 @@ pub(super) fn same_neighbour(
 }
 
 /// Whether an end has the values that are wanted.
-pub(super) fn same_end(given: Option<Values<'_, u64>>, wanted: Option<Values<'_, u64>>) -> bool {
+fn same_end(given: Option<Values<'_, u64>>, wanted: Option<&[u64]>) -> bool {
     match (given, wanted) {
-        (Some(values), Some(others)) => values.copied().eq(others.copied()),
+        (Some(values), Some(others)) => values.copied().eq(others.iter().copied()),
         (None, None) => true,
         _ => false,
     }
 }
 
+/// What an index that has an order tells of it.
+pub(super) trait InOrder {
+    /// The neighbour above a key has these values, and this flag, or there is none.
+    fn next_is(&self, rt: &impl Abort, key: &[u8], wanted: Option<(&[u64], bool)>);
+
+    /// The neighbour below a key has these values, and this flag, or there is none.
+    fn prev_is(&self, rt: &impl Abort, key: &[u8], wanted: Option<(&[u64], bool)>);
+
+    /// The ends have these values, or there are none.
+    fn ends_are(&self, rt: &impl Abort, first: Option<&[u64]>, last: Option<&[u64]>);
+}
+
+impl<I: Ordered<Value = u64>> InOrder for I {
+    fn next_is(&self, rt: &impl Abort, key: &[u8], wanted: Option<(&[u64], bool)>) {
+        assert!(rt;
+            same_neighbour(self.next_translated_key(key), wanted),
+            "{wanted:?} above {key:?}"
+        );
+    }
+
+    fn prev_is(&self, rt: &impl Abort, key: &[u8], wanted: Option<(&[u64], bool)>) {
+        assert!(rt;
+            same_neighbour(self.prev_translated_key(key), wanted),
+            "{wanted:?} below {key:?}"
+        );
+    }
+
+    fn ends_are(&self, rt: &impl Abort, first: Option<&[u64]>, last: Option<&[u64]>) {
+        assert!(rt; same_end(self.first_translated_key(), first));
+        assert!(rt; same_end(self.last_translated_key(), last));
+    }
+}
+
 /// The neighbour above a key has these values, and this flag.
-pub(super) fn next_has<I: Ordered<Value = u64>>(
+pub(super) fn next_has<I: InOrder>(
     rt: &impl Abort,
     index: &I,
     key: &[u8],
     values: &[u64],
     cycled: bool,
 ) {
-    let wanted = Some((Values::of_slice(values), cycled));
-    assert!(rt;
-        same_neighbour(index.next_translated_key(key), wanted),
-        "{values:?} above {key:?}"
-    );
+    index.next_is(rt, key, Some((values, cycled)));
 }
 
 /// The neighbour below a key has these values, and this flag.
-pub(super) fn prev_has<I: Ordered<Value = u64>>(
+pub(super) fn prev_has<I: InOrder>(
     rt: &impl Abort,
     index: &I,
     key: &[u8],
     values: &[u64],
     cycled: bool,
 ) {
-    let wanted = Some((Values::of_slice(values), cycled));
-    assert!(rt;
-        same_neighbour(index.prev_translated_key(key), wanted),
-        "{values:?} below {key:?}"
-    );
-}
-
-/// The ends have these values.
-fn ends_have<I: Ordered<Value = u64>>(rt: &impl Abort, index: &I, first: &[u64], last: &[u64]) {
-    assert!(rt; same_end(index.first_translated_key(), Some(Values::of_slice(first))));
-    assert!(rt; same_end(index.last_translated_key(), Some(Values::of_slice(last))));
+    index.prev_is(rt, key, Some((values, cycled)));
 }
 
 /// The neighbours of keys where 0b has the value 1, 1c has 22 and 21, and 2d has 3.
-fn neighbours_of_three<I: Ordered<Value = u64>>(rt: &impl Abort, index: &I) {
+fn neighbours_of_three<I: Tested + InOrder>(rt: &impl Abort, index: &I) {
     next_has(rt, index, b"\x0b\x01\x02", &[22, 21], false);
     next_has(rt, index, b"\x1c\x01\x02", &[3], false);
     next_has(rt, index, b"\x2d\x06\xee", &[1], true);
@@ -72,54 +88,53 @@ fn neighbours_of_three<I: Ordered<Value = u64>>(rt: &impl Abort, index: &I) {
     prev_has(rt, index, b"\x1c\x01\x02", &[1], false);
     prev_has(rt, index, b"\xcc\x01\x02", &[3], false);
     prev_has(rt, index, b"", &[3], true);
-    ends_have(rt, index, &[1], &[3]);
-    counts(rt, index, (3, 4, 0));
+    index.ends_are(rt, Some(&[1]), Some(&[3]));
+    index.counts(rt, (3, 4, 0));
 }
 
 /// Three index keys, one of them with two values, in an index by the first byte that puts a value first.
-pub(super) fn of_three<I: Ordered<Value = u64>>(rt: &impl Abort, index: &mut I) {
-    inserts(rt, index, b"\x0b\x02\xaa", 1);
-    inserts(rt, index, b"\x1c\x04\xcc", 21);
-    inserts(rt, index, b"\x1c\x03\x11", 22);
-    inserts(rt, index, b"\x2d\x06\xee", 3);
+pub(super) fn of_three<I: Tested + InOrder>(rt: &impl Abort, index: &mut I) {
+    index.inserts(rt, b"\x0b\x02\xaa", 1);
+    index.inserts(rt, b"\x1c\x04\xcc", 21);
+    index.inserts(rt, b"\x1c\x03\x11", 22);
+    index.inserts(rt, b"\x2d\x06\xee", 3);
     neighbours_of_three(rt, index);
-    removes(rt, index, b"\x1c");
+    index.removes(rt, b"\x1c");
     next_has(rt, index, b"\x0b\x01\x02", &[3], false);
     prev_has(rt, index, b"\x2d", &[1], false);
 }
 
 /// No key has a neighbour, and there are no ends.
-pub(super) fn has_none<I: Ordered<Value = u64>>(rt: &impl Abort, index: &I, key: &[u8]) {
-    assert!(rt; index.next_translated_key(key).is_none());
-    assert!(rt; index.prev_translated_key(key).is_none());
-    assert!(rt; index.first_translated_key().is_none());
-    assert!(rt; index.last_translated_key().is_none());
+pub(super) fn has_none<I: InOrder>(rt: &impl Abort, index: &I, key: &[u8]) {
+    index.next_is(rt, key, None);
+    index.prev_is(rt, key, None);
+    index.ends_are(rt, None, None);
 }
 
 /// No key, and then one, with the value 1 and with the values 2 and 1.
-pub(super) fn of_one<I: Ordered<Value = u64>>(rt: &impl Abort, index: &mut I) {
+pub(super) fn of_one<I: Tested + InOrder>(rt: &impl Abort, index: &mut I) {
     has_none(rt, index, b"\x0b");
-    inserts(rt, index, b"\x0b", 1);
+    index.inserts(rt, b"\x0b", 1);
     next_has(rt, index, b"\x0b", &[1], true);
     prev_has(rt, index, b"\x0b", &[1], true);
-    removes(rt, index, b"\x0b");
+    index.removes(rt, b"\x0b");
     fill(rt, index, b"\x0b", &[2, 1]);
     next_has(rt, index, b"\x0b", &[2, 1], true);
     prev_has(rt, index, b"\x0b", &[2, 1], true);
     next_has(rt, index, b"\x0a", &[2, 1], false);
     prev_has(rt, index, b"\x0c", &[2, 1], false);
-    ends_have(rt, index, &[2, 1], &[2, 1]);
+    index.ends_are(rt, Some(&[2, 1]), Some(&[2, 1]));
 }
 
 /// Two keys with many partitions between them, the neighbours from there and round the ends, and once one or both are taken out.
-pub(super) fn across_gaps<I: Ordered<Value = u64>>(rt: &impl Abort, index: &mut I) {
-    inserts(rt, index, b"\x05\x01", 1);
-    inserts(rt, index, b"\xf0\x02", 2);
+pub(super) fn across_gaps<I: Tested + InOrder>(rt: &impl Abort, index: &mut I) {
+    index.inserts(rt, b"\x05\x01", 1);
+    index.inserts(rt, b"\xf0\x02", 2);
     next_has(rt, index, b"\x80\x00", &[2], false);
     prev_has(rt, index, b"\x80\x00", &[1], false);
     prev_has(rt, index, b"\x05\x01", &[2], true);
-    removes(rt, index, b"\x05\x01");
+    index.removes(rt, b"\x05\x01");
     prev_has(rt, index, b"\x80\x00", &[2], true);
-    removes(rt, index, b"\xf0\x02");
+    index.removes(rt, b"\xf0\x02");
     has_none(rt, index, b"\x80\x00");
 }

@@ -1,42 +1,43 @@
 //! What the partitioned ordered index alone has: how much a partition holds, and neighbours across sixteen million partitions.
-use super::checks::{counts, fill, fresh, holds, inserts, removes};
-use super::neighbours::{next_has, prev_has};
-use super::stands::{Small, StandsWhole, is_inline};
-use key_index_flat::index::{Ordered, Unordered};
+use super::checks::{Tested, fill, fresh};
+use super::neighbours::{InOrder, next_has, prev_has};
+use super::stands::{Small, SubjectThatSpills, is_inline};
 use key_index_flat::translator::TwoCap;
 use key_index_parts::index::partitioned::ordered;
+use std::alloc::Global;
 use std::process::Abort;
 
 /// Values are put in behind those of their key, and a partition tells how many it holds.
-fn behind<I: Unordered<Value = u64> + StandsWhole>(rt: &impl Abort, index: &mut I) {
+fn behind<K: SubjectThatSpills>(rt: &impl Abort, alloc: Global, kind: &K) {
+    let index = &mut kind.spilling_at(rt, alloc, 512);
     fill(rt, index, b"\x10\x02", &[1, 2, 3]);
-    holds(rt, index, b"\x10\x02", &[1, 2, 3]);
+    index.holds(rt, b"\x10\x02", &[1, 2, 3]);
     fill(rt, index, b"\x10\x01", &[4]);
     is_inline(rt, index, 0x10, 4);
     is_inline(rt, index, 0x11, 0);
-    removes(rt, index, b"\x10\x02");
+    index.removes(rt, b"\x10\x02");
     is_inline(rt, index, 0x10, 1);
-    counts(rt, index, (1, 1, 3));
+    index.counts(rt, (1, 1, 3));
 }
 
 /// Three keys with many partitions between them.
-fn far_apart<I: Ordered<Value = u64>>(rt: &impl Abort, index: &mut I) {
-    inserts(rt, index, b"", 1);
-    inserts(rt, index, b"\xff\xff\xff\xff\xff", 2);
-    inserts(rt, index, b"\x80", 3);
+fn far_apart<I: Tested + InOrder>(rt: &impl Abort, index: &mut I) {
+    index.inserts(rt, b"", 1);
+    index.inserts(rt, b"\xff\xff\xff\xff\xff", 2);
+    index.inserts(rt, b"\x80", 3);
     next_has(rt, index, b"", &[3], false);
     next_has(rt, index, b"\x80", &[2], false);
     next_has(rt, index, b"\xff\xff\xff\xff\xff", &[1], true);
     prev_has(rt, index, b"\xff\xff\xff", &[3], false);
     prev_has(rt, index, b"\x80", &[1], false);
     prev_has(rt, index, b"", &[2], true);
-    removes(rt, index, b"\x80");
+    index.removes(rt, b"\x80");
     next_has(rt, index, b"", &[2], false);
 }
 
 #[test]
 fn values_go_behind(rt: HostRuntime) {
-    behind(&rt, &mut Small::spilling_at(&rt, rt.alloc(), 512));
+    behind(&rt, rt.alloc(), &Small);
 }
 
 #[test]

@@ -1,13 +1,12 @@
 //! Snapshots: what they answer on examples, and beside a sorted list of full keys that the test keeps.
-ghost use Rattle.std.specs.Prelude.{◌≡◌, []};
-
 use super::builds::are_cuts;
 use super::checks::push;
-use super::kinds::{self, Kind, Pordered, fresh};
+use super::kinds::{self, Kind, OrderedByEight, OrderedByTwo, Pordered, fresh};
 use super::numbers::Numbers;
 use key_index::snapshot::{Record, Snapshot};
-use key_index_flat::index::{Ordered, Unordered};
-use key_index_parts::index::partitioned::Partitioned;
+use key_index_flat::index::{Ordered, Unordered, ordered};
+use key_index_flat::translator::{EightCap, OneCap, TwoCap};
+use key_index_parts::index::partitioned::{self, Partitioned};
 use key_index_uses::snapshots::gap_at;
 use std::alloc::Global;
 use std::process::Abort;
@@ -18,126 +17,199 @@ const CALLS: u32 = 50_000;
 /// How many snapshots are built.
 const BUILDS: u32 = 500;
 
-/// `set` is accepted.
-fn sets<I: Ordered<Value = Record>>(
-    rt: &impl Abort,
-    snapshot: &mut Snapshot<I>,
-    key: &[u8],
-    position: u64,
-) {
-    assert_eq!(rt; snapshot.set(key, position), Ok(()));
+/// A key and its position.
+type Entry<'a> = Option<(&'a [u8], u64)>;
+
+/// A snapshot as the cases see it.
+pub(super) trait Kept {
+    /// `set` is accepted.
+    fn sets(&mut self, rt: &impl Abort, key: &[u8], position: u64);
+
+    /// `unset` is accepted, and tells whether the key was there.
+    fn unsets(&mut self, rt: &impl Abort, key: &[u8], was_there: bool);
+
+    /// A key has this position.
+    fn stands(&self, rt: &impl Abort, key: &[u8], position: Option<u64>);
+
+    /// The entries next to a key, below and above.
+    fn next_to(&self, rt: &impl Abort, key: &[u8], below: Entry<'_>, above: Entry<'_>);
+
+    /// A key is shown to be absent by the entries next to it, or is there.
+    fn absent(&self, rt: &impl Abort, key: &[u8], next_to: Option<(Entry<'_>, Entry<'_>)>);
+
+    /// So many keys.
+    fn counts(&self, rt: &impl Abort, len: usize);
 }
 
-/// `unset` is accepted, and tells whether the key was there.
-fn unsets<I: Ordered<Value = Record>>(
-    rt: &impl Abort,
-    snapshot: &mut Snapshot<I>,
-    key: &[u8],
-    was_there: bool,
-) {
-    assert_eq!(rt; snapshot.unset(key), Ok(was_there));
+impl<I: Ordered<Value = Record>> Kept for Snapshot<I> {
+    fn sets(&mut self, rt: &impl Abort, key: &[u8], position: u64) {
+        assert_eq!(rt; self.set(key, position), Ok(()));
+    }
+
+    fn unsets(&mut self, rt: &impl Abort, key: &[u8], was_there: bool) {
+        assert_eq!(rt; self.unset(key), Ok(was_there));
+    }
+
+    fn stands(&self, rt: &impl Abort, key: &[u8], position: Option<u64>) {
+        assert_eq!(rt; self.get(key), position, "{key:?}");
+    }
+
+    fn next_to(&self, rt: &impl Abort, key: &[u8], below: Entry<'_>, above: Entry<'_>) {
+        assert_eq!(rt; self.prev(key), below, "below {key:?}");
+        assert_eq!(rt; self.next(key), above, "above {key:?}");
+    }
+
+    fn absent(&self, rt: &impl Abort, key: &[u8], next_to: Option<(Entry<'_>, Entry<'_>)>) {
+        let found = match gap_at(self, key) {
+            Some(gap) => Some((gap.below, gap.above)),
+            None => None,
+        };
+        assert_eq!(rt; found, next_to, "next to {key:?}");
+    }
+
+    fn counts(&self, rt: &impl Abort, len: usize) {
+        assert_eq!(rt; (self.len(), self.is_empty()), (len, len == 0));
+    }
 }
 
-/// A key has this position.
-fn stands<I: Ordered<Value = Record>>(
-    rt: &impl Abort,
-    snapshot: &Snapshot<I>,
-    key: &[u8],
-    position: Option<u64>,
-) {
-    assert_eq!(rt; snapshot.get(key), position, "{key:?}");
+/// A kind of index as these cases see it.
+pub(super) trait SubjectOfSnapshots {
+    type Snapshot: Kept + Drop;
+
+    /// A snapshot with no key.
+    fn snapshot(&self, rt: &impl Abort, alloc: Global) -> Self::Snapshot;
 }
 
-/// The entries next to a key, below and above.
-fn next_to<I: Ordered<Value = Record>>(
-    rt: &impl Abort,
-    snapshot: &Snapshot<I>,
-    key: &[u8],
-    below: Option<(&[u8], u64)>,
-    above: Option<(&[u8], u64)>,
-) {
-    assert_eq!(rt; snapshot.prev(key), below, "below {key:?}");
-    assert_eq!(rt; snapshot.next(key), above, "above {key:?}");
+/// The same of one whose partitions are by one byte.
+pub(super) trait SubjectOfBuilds {
+    type Built: Kept + Drop;
+
+    /// A build of an empty index is accepted.
+    fn builds(
+        &self,
+        rt: &impl Abort,
+        alloc: Global,
+        cuts: &[usize],
+        records: Vec<Record>,
+    ) -> Self::Built;
 }
 
-/// A key is shown to be absent by these entries next to it.
-fn absent<I: Ordered<Value = Record>>(
-    rt: &impl Abort,
-    snapshot: &Snapshot<I>,
-    key: &[u8],
-    below: Option<(&[u8], u64)>,
-    above: Option<(&[u8], u64)>,
-) {
-    let Some(gap) = gap_at(snapshot, key) else {
-        panic!(rt; "{key:?} is absent")
-    };
-    assert_eq!(rt; (gap.below, gap.above), (below, above), "next to {key:?}");
+/// A snapshot over a kind, with no key.
+fn empty<K: Kind<Record>>(rt: &impl Abort, alloc: Global, kind: &K) -> Snapshot<K::Index>
+where
+    K::Index: Ordered<Value = Record>,
+{
+    let index = fresh::<K, Record>(rt, alloc, kind);
+    assert_eq!(rt; index.keys(), 0);
+    Snapshot::new(alloc, index)
 }
 
-/// So many keys.
-fn counts<I: Ordered<Value = Record>>(rt: &impl Abort, snapshot: &Snapshot<I>, len: usize) {
-    assert_eq!(rt; (snapshot.len(), snapshot.is_empty()), (len, len == 0));
+impl SubjectOfSnapshots for kinds::Ordered {
+    type Snapshot = Snapshot<ordered::Index<OneCap, Record>>;
+
+    fn snapshot(&self, rt: &impl Abort, alloc: Global) -> Snapshot<ordered::Index<OneCap, Record>> {
+        empty(rt, alloc, self)
+    }
+}
+
+impl SubjectOfSnapshots for OrderedByTwo {
+    type Snapshot = Snapshot<ordered::Index<TwoCap, Record>>;
+
+    fn snapshot(&self, rt: &impl Abort, alloc: Global) -> Snapshot<ordered::Index<TwoCap, Record>> {
+        empty(rt, alloc, self)
+    }
+}
+
+impl SubjectOfSnapshots for OrderedByEight {
+    type Snapshot = Snapshot<ordered::Index<EightCap, Record>>;
+
+    fn snapshot(
+        &self,
+        rt: &impl Abort,
+        alloc: Global,
+    ) -> Snapshot<ordered::Index<EightCap, Record>> {
+        empty(rt, alloc, self)
+    }
+}
+
+/// The snapshot over partitions by one byte and then one more.
+type InPartitions = Snapshot<partitioned::ordered::Index<OneCap, Record, 1>>;
+
+impl SubjectOfSnapshots for Pordered {
+    type Snapshot = InPartitions;
+
+    fn snapshot(&self, rt: &impl Abort, alloc: Global) -> InPartitions {
+        empty(rt, alloc, self)
+    }
+}
+
+impl SubjectOfBuilds for Pordered {
+    type Built = InPartitions;
+
+    fn builds(
+        &self,
+        rt: &impl Abort,
+        alloc: Global,
+        cuts: &[usize],
+        records: Vec<Record>,
+    ) -> InPartitions {
+        let index = fresh::<Pordered, Record>(rt, alloc, self);
+        assert_eq!(rt; index.keys(), 0);
+        assert!(rt;
+            are_cuts(cuts, index.partition_count()),
+            "{cuts:?} are cuts"
+        );
+        let Ok(snapshot) = Snapshot::build(alloc, index, cuts, records) else {
+            panic!(rt; "a snapshot")
+        };
+        snapshot
+    }
 }
 
 /// Three keys, of which one is set twice and one is taken out.
-fn set_and_unset<I: Ordered<Value = Record> + Drop>(rt: &impl Abort, alloc: Global, index: I)
-    requires { (I.view index).content ≡ [] }
-{
-    let mut snapshot = Snapshot::new(alloc, index);
-    counts(rt, &snapshot, 0);
-    sets(rt, &mut snapshot, b"\x0b\x02", 7);
-    sets(rt, &mut snapshot, b"\x0b\x05", 8);
-    sets(rt, &mut snapshot, b"\x1c\x01", 9);
-    sets(rt, &mut snapshot, b"\x0b\x02", 10);
-    counts(rt, &snapshot, 3);
-    three_stand(rt, &snapshot);
-    unsets(rt, &mut snapshot, b"\x0b\x05", true);
-    unsets(rt, &mut snapshot, b"\x0b\x05", false);
-    next_to(rt, &snapshot, b"\x0b\x02", None, Some((b"\x1c\x01", 9)));
-    counts(rt, &snapshot, 2);
+fn set_and_unset<S: Kept>(rt: &impl Abort, snapshot: &mut S) {
+    snapshot.counts(rt, 0);
+    snapshot.sets(rt, b"\x0b\x02", 7);
+    snapshot.sets(rt, b"\x0b\x05", 8);
+    snapshot.sets(rt, b"\x1c\x01", 9);
+    snapshot.sets(rt, b"\x0b\x02", 10);
+    snapshot.counts(rt, 3);
+    three_stand(rt, snapshot);
+    snapshot.unsets(rt, b"\x0b\x05", true);
+    snapshot.unsets(rt, b"\x0b\x05", false);
+    snapshot.next_to(rt, b"\x0b\x02", None, Some((b"\x1c\x01", 9)));
+    snapshot.counts(rt, 2);
 }
 
 /// The three keys and those next to them, and an absent one among them.
-fn three_stand<I: Ordered<Value = Record>>(rt: &impl Abort, snapshot: &Snapshot<I>) {
-    stands(rt, snapshot, b"\x0b\x02", Some(10));
-    next_to(rt, snapshot, b"\x0b\x02", None, Some((b"\x0b\x05", 8)));
-    next_to(rt, snapshot, b"\x1c\x01", Some((b"\x0b\x05", 8)), None);
-    next_to(
+fn three_stand<S: Kept>(rt: &impl Abort, snapshot: &S) {
+    snapshot.stands(rt, b"\x0b\x02", Some(10));
+    snapshot.next_to(rt, b"\x0b\x02", None, Some((b"\x0b\x05", 8)));
+    snapshot.next_to(rt, b"\x1c\x01", Some((b"\x0b\x05", 8)), None);
+    snapshot.next_to(
         rt,
-        snapshot,
         b"\x0b\x05",
         Some((b"\x0b\x02", 10)),
         Some((b"\x1c\x01", 9)),
     );
-    stands(rt, snapshot, b"\x0b\x03", None);
-    absent(
+    snapshot.stands(rt, b"\x0b\x03", None);
+    snapshot.absent(
         rt,
-        snapshot,
         b"\x0b\x03",
-        Some((b"\x0b\x02", 10)),
-        Some((b"\x0b\x05", 8)),
+        Some((Some((b"\x0b\x02", 10)), Some((b"\x0b\x05", 8)))),
     );
-    assert!(rt; gap_at(snapshot, b"\x0b\x05").is_none());
+    snapshot.absent(rt, b"\x0b\x05", None);
 }
 
 /// Keys that zeros behind them tell apart.
-fn zeros_tell_apart<I: Ordered<Value = Record> + Drop>(rt: &impl Abort, alloc: Global, index: I)
-    requires { (I.view index).content ≡ [] }
-{
-    let mut snapshot = Snapshot::new(alloc, index);
-    sets(rt, &mut snapshot, b"", 1);
-    sets(rt, &mut snapshot, b"\x00", 2);
-    sets(rt, &mut snapshot, b"\x00\x00", 3);
-    next_to(rt, &snapshot, b"", None, Some((b"\x00", 2)));
-    next_to(
-        rt,
-        &snapshot,
-        b"\x00",
-        Some((b"", 1)),
-        Some((b"\x00\x00", 3)),
-    );
-    next_to(rt, &snapshot, b"\x00\x00", Some((b"\x00", 2)), None);
-    stands(rt, &snapshot, b"\x00\x00\x00", None);
+fn zeros_tell_apart<S: Kept>(rt: &impl Abort, snapshot: &mut S) {
+    snapshot.sets(rt, b"", 1);
+    snapshot.sets(rt, b"\x00", 2);
+    snapshot.sets(rt, b"\x00\x00", 3);
+    snapshot.next_to(rt, b"", None, Some((b"\x00", 2)));
+    snapshot.next_to(rt, b"\x00", Some((b"", 1)), Some((b"\x00\x00", 3)));
+    snapshot.next_to(rt, b"\x00\x00", Some((b"\x00", 2)), None);
+    snapshot.stands(rt, b"\x00\x00\x00", None);
 }
 
 /// A record behind others.
@@ -148,30 +220,8 @@ fn record(rt: &impl Abort, alloc: Global, records: &mut Vec<Record>, key: &[u8],
     push(rt, records, Record { key, position });
 }
 
-/// A build of an empty index is accepted.
-fn builds<I: Ordered<Value = Record> + Partitioned + Drop>(
-    rt: &impl Abort,
-    alloc: Global,
-    index: I,
-    cuts: &[usize],
-    records: Vec<Record>,
-) -> Snapshot<I>
-    requires { (I.view index).content ≡ [] }
-{
-    assert!(rt;
-        are_cuts(cuts, index.partition_count()),
-        "{cuts:?} are cuts"
-    );
-    let Ok(snapshot) = Snapshot::build(alloc, index, cuts, records) else {
-        panic!(rt; "a snapshot")
-    };
-    snapshot
-}
-
 /// The last record of a key stands, and so do three under one index key.
-fn built<I: Ordered<Value = Record> + Partitioned + Drop>(rt: &impl Abort, alloc: Global, index: I)
-    requires { (I.view index).content ≡ [] }
-{
+fn built<K: SubjectOfBuilds>(rt: &impl Abort, alloc: Global, kind: &K) {
     let mut records = Vec::new(alloc);
     record(rt, alloc, &mut records, b"\x10\x01", 1);
     record(rt, alloc, &mut records, b"\x90\x01", 2);
@@ -179,38 +229,30 @@ fn built<I: Ordered<Value = Record> + Partitioned + Drop>(rt: &impl Abort, alloc
     record(rt, alloc, &mut records, b"", 4);
     record(rt, alloc, &mut records, b"\x10\x01\x07", 5);
     record(rt, alloc, &mut records, b"\x10\x01\x03", 6);
-    let snapshot = builds(rt, alloc, index, &[0, 0x80, 256], records);
-    counts(rt, &snapshot, 5);
+    let snapshot = kind.builds(rt, alloc, &[0, 0x80, 256], records);
+    snapshot.counts(rt, 5);
     five_stand(rt, &snapshot);
 }
 
 /// The keys that were built, and those next to them.
-fn five_stand<I: Ordered<Value = Record>>(rt: &impl Abort, snapshot: &Snapshot<I>) {
-    stands(rt, snapshot, b"\x10\x01", Some(3));
-    stands(rt, snapshot, b"", Some(4));
-    next_to(rt, snapshot, b"", None, Some((b"\x10\x01", 3)));
-    next_to(
+fn five_stand<S: Kept>(rt: &impl Abort, snapshot: &S) {
+    snapshot.stands(rt, b"\x10\x01", Some(3));
+    snapshot.stands(rt, b"", Some(4));
+    snapshot.next_to(rt, b"", None, Some((b"\x10\x01", 3)));
+    snapshot.next_to(rt, b"\x10\x01", Some((b"", 4)), Some((b"\x10\x01\x03", 6)));
+    snapshot.next_to(
         rt,
-        snapshot,
-        b"\x10\x01",
-        Some((b"", 4)),
-        Some((b"\x10\x01\x03", 6)),
-    );
-    next_to(
-        rt,
-        snapshot,
         b"\x10\x01\x03",
         Some((b"\x10\x01", 3)),
         Some((b"\x10\x01\x07", 5)),
     );
-    next_to(
+    snapshot.next_to(
         rt,
-        snapshot,
         b"\x10\x01\x07",
         Some((b"\x10\x01\x03", 6)),
         Some((b"\x90\x01", 2)),
     );
-    next_to(rt, snapshot, b"\xff", Some((b"\x90\x01", 2)), None);
+    snapshot.next_to(rt, b"\xff", Some((b"\x90\x01", 2)), None);
 }
 
 /// Keys with their positions, in the order of the keys.
@@ -303,48 +345,40 @@ fn key(rt: &impl Abort, alloc: Global, number: u64) -> Vec<u8> {
 }
 
 /// One call, and the same on the list.
-fn call<I: Ordered<Value = Record>>(
+fn call<S: Kept>(
     rt: &impl Abort,
     alloc: Global,
-    snapshot: &mut Snapshot<I>,
+    snapshot: &mut S,
     kept: &mut KeptKeys,
     key: &[u8],
     number: u64,
 ) {
     if number % 2 == 0 {
-        sets(rt, snapshot, key, number);
+        snapshot.sets(rt, key, number);
         kept.set(rt, alloc, key, number);
     } else {
-        unsets(rt, snapshot, key, kept.unset(rt, key));
+        snapshot.unsets(rt, key, kept.unset(rt, key));
     }
 }
 
 /// All that is asked of a key answers as the list does.
-fn answers_as<I: Ordered<Value = Record>>(
-    rt: &impl Abort,
-    snapshot: &Snapshot<I>,
-    kept: &KeptKeys,
-    key: &[u8],
-) {
+fn answers_as<S: Kept>(rt: &impl Abort, snapshot: &S, kept: &KeptKeys, key: &[u8]) {
     let place = kept.place(key);
     let position = kept.position(place, key);
     let below = kept.entry_before(place);
     let above = kept.entry(place.saturating_add(usize::from(position.is_some())));
-    stands(rt, snapshot, key, position);
-    next_to(rt, snapshot, key, below, above);
-    counts(rt, snapshot, kept.entries.len());
+    snapshot.stands(rt, key, position);
+    snapshot.next_to(rt, key, below, above);
+    snapshot.counts(rt, kept.entries.len());
     if position.is_some() {
-        assert!(rt; gap_at(snapshot, key).is_none(), "{key:?} is there");
+        snapshot.absent(rt, key, None);
     } else {
-        absent(rt, snapshot, key, below, above);
+        snapshot.absent(rt, key, Some((below, above)));
     }
 }
 
 /// Random calls, each of which is followed by what is asked of another key.
-fn called_beside<I: Ordered<Value = Record> + Drop>(rt: &impl Abort, alloc: Global, index: I)
-    requires { (I.view index).content ≡ [] }
-{
-    let mut snapshot = Snapshot::new(alloc, index);
+fn called_beside<S: Kept>(rt: &impl Abort, alloc: Global, snapshot: &mut S) {
     let mut kept = KeptKeys::new(alloc);
     let mut numbers = Numbers::new();
     for _ in 0..CALLS {
@@ -352,25 +386,23 @@ fn called_beside<I: Ordered<Value = Record> + Drop>(rt: &impl Abort, alloc: Glob
         call(
             rt,
             alloc,
-            &mut snapshot,
+            snapshot,
             &mut kept,
             called.as_slice(),
             numbers.next(),
         );
         let asked = key(rt, alloc, numbers.next());
-        answers_as(rt, &snapshot, &kept, asked.as_slice());
+        answers_as(rt, snapshot, &kept, asked.as_slice());
     }
 }
 
 /// A snapshot that is built of up to 63 records answers as the list does that they are put into one by one.
-fn built_beside<I: Ordered<Value = Record> + Partitioned + Drop>(
+fn built_beside<K: SubjectOfBuilds>(
     rt: &impl Abort,
     alloc: Global,
-    index: I,
+    kind: &K,
     numbers: &mut Numbers,
-)
-    requires { (I.view index).content ≡ [] }
-{
+) {
     let mut kept = KeptKeys::new(alloc);
     let mut records = Vec::new(alloc);
     for _ in 0..numbers.next() % 64 {
@@ -378,42 +410,31 @@ fn built_beside<I: Ordered<Value = Record> + Partitioned + Drop>(
         kept.set(rt, alloc, key.as_slice(), position);
         push(rt, &mut records, Record { key, position });
     }
-    let snapshot = builds(rt, alloc, index, &[0, 1, b'a' as usize, 0x80, 256], records);
+    let snapshot = kind.builds(rt, alloc, &[0, 1, b'a' as usize, 0x80, 256], records);
     for _ in 0..32 {
         let asked = key(rt, alloc, numbers.next());
         answers_as(rt, &snapshot, &kept, asked.as_slice());
     }
 }
 
-/// An index of a kind, with no values.
-fn empty<K: Kind<Record>>(rt: &impl Abort, alloc: Global, kind: &K) -> K::Index
-    ensures { (K.Index.view result).content ≡ [] }
-{
-    let index = fresh::<K, Record>(rt, alloc, kind);
-    assert_eq!(rt; index.keys(), 0);
-    index
-}
-
 /// The examples and the random calls, over a kind.
-fn over<K: Kind<Record>>(rt: &impl Abort, alloc: Global, kind: &K)
-where
-    K::Index: Ordered<Value = Record>,
-{
-    set_and_unset(rt, alloc, empty(rt, alloc, kind));
-    zeros_tell_apart(rt, alloc, empty(rt, alloc, kind));
-    called_beside(rt, alloc, empty(rt, alloc, kind));
+fn over<K: SubjectOfSnapshots>(rt: &impl Abort, alloc: Global, kind: &K) {
+    set_and_unset(rt, &mut kind.snapshot(rt, alloc));
+    zeros_tell_apart(rt, &mut kind.snapshot(rt, alloc));
+    called_beside(rt, alloc, &mut kind.snapshot(rt, alloc));
 }
 
 /// The same, and the example and the random builds, over a kind whose partitions are by one byte.
-fn over_partitions<K: Kind<Record>>(rt: &impl Abort, alloc: Global, kind: &K)
-where
-    K::Index: Ordered<Value = Record> + Partitioned<Value = Record>,
-{
+fn over_partitions<K: SubjectOfSnapshots + SubjectOfBuilds>(
+    rt: &impl Abort,
+    alloc: Global,
+    kind: &K,
+) {
     over(rt, alloc, kind);
-    built(rt, alloc, empty(rt, alloc, kind));
+    built(rt, alloc, kind);
     let mut numbers = Numbers::new();
     for _ in 0..BUILDS {
-        built_beside(rt, alloc, empty(rt, alloc, kind), &mut numbers);
+        built_beside(rt, alloc, kind, &mut numbers);
     }
 }
 
@@ -428,12 +449,12 @@ fn snapshot_over_ordered(rt: HostRuntime) {
 
 #[test]
 fn snapshot_over_ordered_by_two_bytes(rt: HostRuntime) {
-    over(&rt, rt.alloc(), &kinds::OrderedByTwo)
+    over(&rt, rt.alloc(), &OrderedByTwo)
 }
 
 #[test]
 fn snapshot_over_ordered_by_eight_bytes(rt: HostRuntime) {
-    over(&rt, rt.alloc(), &kinds::OrderedByEight)
+    over(&rt, rt.alloc(), &OrderedByEight)
 }
 
 #[test]

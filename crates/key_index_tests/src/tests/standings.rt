@@ -1,13 +1,12 @@
 //! An index whose partitions spill, called some ten thousand times, stands as the rules say, and answers as lists do that the test
 //! keeps. Ranges of it are made, called and installed on the way.
-use super::checks::{holds, push};
+use super::checks::{Tested, push};
 use super::command_lists::{has_all, key};
-use super::lists::{self, Edited, KeptLists, counts_as, grow_beside, list_at, place};
+use super::lists::{self, Edited, KeptLists, Way, counts_as, list_at, place};
+use super::neighbours::InOrder;
 use super::numbers::Numbers;
-use super::stands::{Small, Stands, StandsWhole};
-use super::{checks, ranges};
-use key_index_flat::index::Ordered;
-use key_index_parts::index::partitioned::{PartitionRange, Partitioned};
+use super::ranges::{InPartitions, Ranged};
+use super::stands::{Small, Stands, StandsWhole, SubjectThatSpills};
 use std::alloc::Global;
 use std::process::Abort;
 
@@ -266,40 +265,8 @@ fn growth(threshold: usize, numbers: &mut Numbers) -> u64 {
     numbers.next() % (threshold as u64 / 4).saturating_add(2)
 }
 
-/// `get_mut` of a key, whose cursor, if there is one, puts so many values behind the others.
-fn grow<I: Ordered<Value = u64>>(
-    rt: &impl Abort,
-    alloc: Global,
-    index: &mut I,
-    list: &mut Vec<u64>,
-    key: &[u8],
-    count: u64,
-    numbers: &mut Numbers,
-) {
-    match checks::gets(rt, index, key) {
-        Some(mut cursor) => grow_beside(rt, alloc, &mut cursor, list, count, numbers),
-        None => (),
-    }
-}
-
-/// The same in a range.
-fn grow_in_range<R: PartitionRange<Value = u64>>(
-    rt: &impl Abort,
-    alloc: Global,
-    range: &mut R,
-    list: &mut Vec<u64>,
-    key: &[u8],
-    count: u64,
-    numbers: &mut Numbers,
-) {
-    match ranges::gets(rt, range, key) {
-        Some(mut cursor) => grow_beside(rt, alloc, &mut cursor, list, count, numbers),
-        None => (),
-    }
-}
-
 /// One call by key, or that of a key's cursor which grows its list.
-fn call<I: Ordered<Value = u64>>(
+fn call<I: Tested>(
     rt: &impl Abort,
     alloc: Global,
     index: &mut I,
@@ -311,14 +278,14 @@ fn call<I: Ordered<Value = u64>>(
 ) -> Edited {
     if chosen == GROW {
         let count = growth(threshold, numbers);
-        grow(rt, alloc, index, list, key, count, numbers);
+        index.goes_beside(rt, alloc, list, key, Way::Behind(count), numbers);
         return Edited::at_once(0);
     }
     lists::call(rt, alloc, index, list, key, chosen, numbers)
 }
 
 /// One call of a range by a key that it holds, or that of a key's cursor which grows its list.
-fn call_in_range<R: PartitionRange<Value = u64>>(
+fn call_in_range<R: Ranged>(
     rt: &impl Abort,
     alloc: Global,
     range: &mut R,
@@ -330,14 +297,14 @@ fn call_in_range<R: PartitionRange<Value = u64>>(
 ) -> Edited {
     if is_growing {
         let count = growth(threshold, numbers);
-        grow_in_range(rt, alloc, range, list, key, count, numbers);
+        range.grows_beside(rt, alloc, list, key, count, numbers);
         return Edited::at_once(0);
     }
-    ranges::call_beside(rt, alloc, range, list, key, numbers)
+    range.call_beside(rt, alloc, list, key, numbers)
 }
 
 /// One call by a key of an index, and the same on the key's list; its partition then stands as the rules say.
-fn called<I: Ordered<Value = u64>>(
+fn called<I: Tested>(
     rt: &impl Abort,
     alloc: Global,
     index: &mut I,
@@ -361,12 +328,12 @@ fn called<I: Ordered<Value = u64>>(
         threshold,
         &mut kept.lists.numbers,
     );
-    holds(rt, index, key.as_slice(), list.as_slice());
+    index.holds(rt, key.as_slice(), list.as_slice());
     kept.follows(met, edited, Made::of(chosen));
 }
 
 /// One call of a range by a key, if it holds that, and the same on the key's list.
-fn called_in_range<R: PartitionRange<Value = u64>>(
+fn called_in_range<R: Ranged>(
     rt: &impl Abort,
     alloc: Global,
     range: &mut R,
@@ -376,7 +343,7 @@ fn called_in_range<R: PartitionRange<Value = u64>>(
     let number = kept.numbers.next();
     let key = key(rt, alloc, number);
     let key = key.as_slice();
-    if !range.holds(key) {
+    if !range.covers(key) {
         return;
     }
     let met = Met::new(rt, kept.lists.as_slice(), number);
@@ -404,7 +371,7 @@ fn called_in_range<R: PartitionRange<Value = u64>>(
 }
 
 /// An index has the lists, their counts, and stands as the rules say.
-fn has_kept<I: Ordered<Value = u64> + StandsWhole>(rt: &impl Abort, index: &I, kept: &Kept) {
+fn has_kept<I: Tested + StandsWhole>(rt: &impl Abort, index: &I, kept: &Kept) {
     let lists = kept.lists.lists.as_slice();
     counts_as(rt, index, lists, kept.lists.pruned);
     kept.standings.are_of(rt, index, lists, 0, 4);
@@ -415,7 +382,7 @@ fn has_kept<I: Ordered<Value = u64> + StandsWhole>(rt: &impl Abort, index: &I, k
 }
 
 /// Takes the keys of some partitions out, one by one.
-fn clear<I: Ordered<Value = u64>>(
+fn clear<I: Tested>(
     rt: &impl Abort,
     alloc: Global,
     index: &mut I,
@@ -433,7 +400,7 @@ fn clear<I: Ordered<Value = u64>>(
 
 /// A range of some partitions, of an index that spills at another threshold, is called some hundred times, stands as the rules say,
 /// and is installed once its partitions are cleared.
-fn install<I: Ordered<Value = u64> + Partitioned + StandsWhole>(
+fn install<I: InOrder + InPartitions + StandsWhole>(
     rt: &impl Abort,
     alloc: Global,
     index: &mut I,
@@ -448,7 +415,7 @@ where
     let last = (first + (number / 5 % 2) as usize).min(4);
     let (from, to) = (partition(first), partition(last));
     assert!(rt; from <= to);
-    let mut range = ranges::range_of(rt, other, from, (to - from).saturating_add(1));
+    let mut range = other.range_of(rt, from, (to - from).saturating_add(1));
     clear(rt, alloc, index, kept, first, last);
     let mut standings = Standings::new(rt, alloc, other.threshold());
     let pruned = kept.lists.pruned;
@@ -459,7 +426,7 @@ where
         let taken = kept.lists.pruned.saturating_sub(pruned);
         standings.is_paid(rt, lists, first, last, true, taken);
     }
-    ranges::installs(rt, index, range);
+    index.installs(rt, range);
     kept.standings.joins(&standings, first, last);
     has_all(rt, alloc, index, &kept.lists);
     has_kept(rt, index, kept);
@@ -469,7 +436,7 @@ where
 const DRAWS: u32 = 200;
 
 /// One call by any key, which takes values out where that is asked for. The index then has what is kept.
-fn round<I: Ordered<Value = u64> + StandsWhole>(
+fn round<I: Tested + StandsWhole>(
     rt: &impl Abort,
     alloc: Global,
     index: &mut I,
@@ -495,7 +462,7 @@ fn any<'a, I>(rt: &impl Abort, indices: &'a [I], numbers: &mut Numbers) -> &'a I
 }
 
 /// An index answers and stands as what is kept beside it, and so do ranges of others.
-fn stands_beside<I: Ordered<Value = u64> + Partitioned + StandsWhole>(
+fn stands_beside<I: InOrder + InPartitions + StandsWhole>(
     rt: &impl Abort,
     alloc: Global,
     index: &mut I,
@@ -528,24 +495,17 @@ where
 const THRESHOLDS: [usize; 6] = [1, 2, 3, 8, 64, 512];
 
 /// So does one that spills at a threshold, and ranges that spill at this or another one.
-fn stands_at<I: Ordered<Value = u64> + Partitioned + StandsWhole>(
-    rt: &impl Abort,
-    alloc: Global,
-    threshold: usize,
-)
-where
-    I::Range: Stands,
-{
-    let mut index = I::spilling_at(rt, alloc, threshold);
+fn stands_at<K: SubjectThatSpills>(rt: &impl Abort, alloc: Global, kind: &K, threshold: usize) {
+    let mut index = kind.spilling_at(rt, alloc, threshold);
     let mut others = Vec::new(alloc);
     for other in THRESHOLDS {
-        push(rt, &mut others, I::spilling_at(rt, alloc, other));
+        push(rt, &mut others, kind.spilling_at(rt, alloc, other));
     }
     stands_beside(rt, alloc, &mut index, others.as_slice());
 }
 
 fn at(rt: &impl Abort, alloc: Global, threshold: usize) {
-    stands_at::<Small>(rt, alloc, threshold)
+    stands_at(rt, alloc, &Small, threshold)
 }
 
 #[test]

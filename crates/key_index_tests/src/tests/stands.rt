@@ -1,20 +1,13 @@
 //! How the partitions of a partitioned ordered index and of its ranges stand, through one trait, and what the tests assert of it.
 
-use key_index_flat::index::Unordered;
-use key_index_flat::translator::{OneCap, TwoCap};
-use key_index_parts::index::partitioned::PartitionRange;
+use super::checks::Tested;
+use super::neighbours::InOrder;
+use super::ranges::{InPartitions, Ranged};
+use key_index_flat::translator::{OneCap, Translator, TwoCap};
 use key_index_parts::index::partitioned::ordered::{Index, RangeIndex};
+use key_index_parts::index::partitioned::{PartitionRange, Partitioned};
 use std::alloc::Global;
 use std::process::Abort;
-
-/// The partitioned ordered index by one byte and then one more.
-pub(super) type Small = Index<OneCap, u64, 1>;
-
-/// The partitioned ordered index by one byte and then two more.
-pub(super) type Wide = Index<TwoCap, u64, 1>;
-
-/// A range of the first one.
-pub(super) type SmallRange = RangeIndex<OneCap, u64, 1>;
 
 /// Partitions that stand as arrays or as trees.
 pub(super) trait Stands {
@@ -29,10 +22,7 @@ pub(super) trait Stands {
 }
 
 /// A whole index of them.
-pub(super) trait StandsWhole: Stands + Drop {
-    /// An index with no values, whose partitions spill at so many.
-    fn spilling_at(rt: &impl Abort, alloc: Global, threshold: usize) -> Self;
-
+pub(super) trait StandsWhole: Stands {
     /// How many partitions are spilled.
     fn spilled_count(&self) -> usize;
 
@@ -40,14 +30,7 @@ pub(super) trait StandsWhole: Stands + Drop {
     fn threshold(&self) -> usize;
 }
 
-impl StandsWhole for Small {
-    fn spilling_at(rt: &impl Abort, alloc: Global, threshold: usize) -> Small {
-        assert!(rt; threshold > 0);
-        let index = Index::with_threshold(alloc, OneCap, threshold).expect(rt, "an index");
-        assert_eq!(rt; index.threshold(), threshold);
-        index
-    }
-
+impl<T: Translator, const P: usize> StandsWhole for Index<T, u64, P> {
     fn spilled_count(&self) -> usize {
         Index::spilled_count(self)
     }
@@ -57,7 +40,7 @@ impl StandsWhole for Small {
     }
 }
 
-impl Stands for Small {
+impl<T: Translator, const P: usize> Stands for Index<T, u64, P> {
     fn spills(&self) -> u64 {
         Index::spills(self)
     }
@@ -67,44 +50,12 @@ impl Stands for Small {
     }
 
     fn standing(&self, rt: &impl Abort, partition: usize) -> (bool, usize) {
-        assert!(rt; partition < 256);
+        assert!(rt; partition < self.partition_count());
         (self.is_spilled(partition), self.inline_len(partition))
     }
 }
 
-impl StandsWhole for Wide {
-    fn spilling_at(rt: &impl Abort, alloc: Global, threshold: usize) -> Wide {
-        assert!(rt; threshold > 0);
-        let index = Index::with_threshold(alloc, TwoCap, threshold).expect(rt, "an index");
-        assert_eq!(rt; index.threshold(), threshold);
-        index
-    }
-
-    fn spilled_count(&self) -> usize {
-        Index::spilled_count(self)
-    }
-
-    fn threshold(&self) -> usize {
-        Index::threshold(self)
-    }
-}
-
-impl Stands for Wide {
-    fn spills(&self) -> u64 {
-        Index::spills(self)
-    }
-
-    fn moved(&self) -> u64 {
-        Index::moved(self)
-    }
-
-    fn standing(&self, rt: &impl Abort, partition: usize) -> (bool, usize) {
-        assert!(rt; partition < 256);
-        (self.is_spilled(partition), self.inline_len(partition))
-    }
-}
-
-impl Stands for SmallRange {
+impl<T: Translator, const P: usize> Stands for RangeIndex<T, u64, P> {
     fn spills(&self) -> u64 {
         RangeIndex::spills(self)
     }
@@ -117,6 +68,58 @@ impl Stands for SmallRange {
         let offset = self.offset();
         assert!(rt; offset <= partition && partition - offset < self.count());
         (self.is_spilled(partition), self.inline_len(partition))
+    }
+}
+
+/// A kind whose partitions spill, as the cases see it.
+pub(super) trait SubjectThatSpills {
+    type Range: Ranged + Stands + Drop;
+
+    type Index: InOrder + InPartitions<Range = Self::Range> + StandsWhole + Drop;
+
+    /// An index with no values, whose partitions spill at so many.
+    fn spilling_at(&self, rt: &impl Abort, alloc: Global, threshold: usize) -> Self::Index;
+}
+
+/// The partitioned ordered index by one byte and then one more.
+pub(super) struct Small;
+
+impl SubjectThatSpills for Small {
+    type Range = RangeIndex<OneCap, u64, 1>;
+
+    type Index = Index<OneCap, u64, 1>;
+
+    fn spilling_at(
+        &self,
+        rt: &impl Abort,
+        alloc: Global,
+        threshold: usize,
+    ) -> Index<OneCap, u64, 1> {
+        assert!(rt; threshold > 0);
+        let index = Index::with_threshold(alloc, OneCap, threshold).expect(rt, "an index");
+        assert_eq!(rt; index.threshold(), threshold);
+        index
+    }
+}
+
+/// The partitioned ordered index by one byte and then two more.
+pub(super) struct Wide;
+
+impl SubjectThatSpills for Wide {
+    type Range = RangeIndex<TwoCap, u64, 1>;
+
+    type Index = Index<TwoCap, u64, 1>;
+
+    fn spilling_at(
+        &self,
+        rt: &impl Abort,
+        alloc: Global,
+        threshold: usize,
+    ) -> Index<TwoCap, u64, 1> {
+        assert!(rt; threshold > 0);
+        let index = Index::with_threshold(alloc, TwoCap, threshold).expect(rt, "an index");
+        assert_eq!(rt; index.threshold(), threshold);
+        index
     }
 }
 
@@ -150,13 +153,10 @@ pub(super) fn has_moved<S: Stands>(rt: &impl Abort, stands: &S, moved: u64, spil
 
 /// The bound of the values that were ever moved, two for each value that is held and three for each that was taken out, is this number,
 /// and no more were moved.
-pub(super) fn moves_within<I: Unordered<Value = u64> + Stands>(
-    rt: &impl Abort,
-    index: &I,
-    bound: u64,
-) {
-    let held = (index.items() as u64).saturating_mul(2);
-    let taken = index.pruned().saturating_mul(3);
+pub(super) fn moves_within<I: Tested + Stands>(rt: &impl Abort, index: &I, bound: u64) {
+    let (_, items, pruned) = index.totals();
+    let held = (items as u64).saturating_mul(2);
+    let taken = pruned.saturating_mul(3);
     assert_eq!(rt; held.saturating_add(taken), bound);
     assert!(rt; index.moved() <= bound);
 }

@@ -1,6 +1,6 @@
 //! What each translator makes of keys, and the hashes of translated keys.
 
-use super::checks::{counts, fresh, holds, inserts};
+use super::checks::{Tested, fresh};
 use key_index_flat::index::{Factory, Runs, Unordered, unordered};
 use key_index_flat::translator::{
     Cap, EightCap, FourCap, Hashed, KeyHash, OneCap, SeededSha256, Translator, TwoCap,
@@ -195,9 +195,9 @@ fn holds_one<I: Unordered<Value = u64> + Factory + Drop>(
     requires { I.makes }
 {
     let mut index = fresh::<I>(rt, alloc, translator);
-    inserts(rt, &mut index, KEY, 1);
-    holds(rt, &index, KEY, &[1]);
-    holds(rt, &index, b"cdef", &[]);
+    index.inserts(rt, KEY, 1);
+    index.holds(rt, KEY, &[1]);
+    index.holds(rt, b"cdef", &[]);
 }
 
 #[test]
@@ -221,13 +221,13 @@ fn goes_by_another<I: Unordered<Value = u64>>(
     before: I::Key,
     behind: I::Key,
 ) {
-    holds(rt, index, KEY, &[]);
-    inserts(rt, index, KEY, 2);
-    holds(rt, index, KEY, &[2]);
+    index.holds(rt, KEY, &[]);
+    index.inserts(rt, KEY, 2);
+    index.holds(rt, KEY, &[2]);
     assert!(rt; index.slot_of(KEY) == behind);
     assert_eq!(rt; index.run_len(before), 1);
     assert_eq!(rt; *index.value_at(before, 0), 1);
-    counts(rt, index, (2, 2, 0));
+    index.counts(rt, (2, 2, 0));
 }
 
 /// Values stay under their index keys when an index takes another translator, and the calls by key then go by that one.
@@ -239,7 +239,7 @@ fn another_translator_is_set(rt: HostRuntime) {
         rt.alloc(),
         first,
     );
-    inserts(&rt, &mut index, KEY, 1);
+    index.inserts(&rt, KEY, 1);
     index.set_translator(Hashed::from_seed(OTHER, TwoCap));
     goes_by_another(&rt, &mut index, 0x248d, 0x4e7b);
 }
