@@ -1,8 +1,6 @@
 //! Records next to a full key, in ordered indices.
-use super::kinds::{self, Plain, Pordered, fresh};
-use key_index_flat::index::{Keyed, Ordered, ordered, resolve_next, resolve_prev};
-use key_index_flat::translator::OneCap;
-use key_index_parts::index::partitioned;
+use super::kinds::{Kind, fresh};
+use key_index_flat::index::{Keyed, Ordered, resolve_next, resolve_prev};
 use key_index_uses::callers::{exclude, file};
 use std::alloc::Global;
 use std::process::Abort;
@@ -127,44 +125,12 @@ fn excluded<I: Filed>(rt: &impl Abort, index: &I) {
 }
 
 /// The records next to full keys, over a kind.
-pub(super) fn resolves<K: SubjectOfRecords>(rt: &impl Abort, alloc: Global, kind: &K) {
-    let mut index = kind.records(rt, alloc);
+pub(super) fn resolves<K: Kind<Record>>(rt: &impl Abort, alloc: Global, kind: &K)
+where
+    K::Index: Ordered<Value = Record>,
+{
+    let mut index = fresh::<K, Record>(rt, alloc, kind);
     resolved(rt, alloc, &mut index);
     excluded(rt, &index);
-    together(rt, alloc, &mut kind.records(rt, alloc));
-}
-
-/// A kind that has an order, as these cases see it.
-pub(super) trait SubjectOfRecords {
-    type Records: Filed + Drop;
-
-    fn records(&self, rt: &impl Abort, alloc: Global) -> Self::Records;
-}
-
-impl SubjectOfRecords for kinds::Ordered {
-    type Records = ordered::Index<OneCap, Record>;
-
-    fn records(&self, rt: &impl Abort, alloc: Global) -> ordered::Index<OneCap, Record> {
-        fresh::<kinds::Ordered, Record>(rt, alloc, self)
-    }
-}
-
-impl SubjectOfRecords for Pordered {
-    type Records = partitioned::ordered::Index<OneCap, Record, 1>;
-
-    fn records(
-        &self,
-        rt: &impl Abort,
-        alloc: Global,
-    ) -> partitioned::ordered::Index<OneCap, Record, 1> {
-        fresh::<Pordered, Record>(rt, alloc, self)
-    }
-}
-
-impl SubjectOfRecords for Plain {
-    type Records = key_index_plain::Index<OneCap, Record>;
-
-    fn records(&self, rt: &impl Abort, alloc: Global) -> key_index_plain::Index<OneCap, Record> {
-        fresh::<Plain, Record>(rt, alloc, self)
-    }
+    together(rt, alloc, &mut fresh::<K, Record>(rt, alloc, kind));
 }

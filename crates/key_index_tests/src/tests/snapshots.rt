@@ -72,15 +72,7 @@ impl<I: Ordered<Value = Record>> Kept for Snapshot<I> {
     }
 }
 
-/// A kind of index as these cases see it.
-pub(super) trait SubjectOfSnapshots {
-    type Snapshot: Kept + Drop;
-
-    /// A snapshot with no key.
-    fn snapshot(&self, rt: &impl Abort, alloc: Global) -> Self::Snapshot;
-}
-
-/// The same of one whose partitions are by one byte.
+/// A kind of index whose partitions are by one byte, as these cases see it.
 pub(super) trait SubjectOfBuilds {
     type Built: Kept + Drop;
 
@@ -104,44 +96,8 @@ where
     Snapshot::new(alloc, index)
 }
 
-impl SubjectOfSnapshots for kinds::Ordered {
-    type Snapshot = Snapshot<ordered::Index<OneCap, Record>>;
-
-    fn snapshot(&self, rt: &impl Abort, alloc: Global) -> Snapshot<ordered::Index<OneCap, Record>> {
-        empty(rt, alloc, self)
-    }
-}
-
-impl SubjectOfSnapshots for OrderedByTwo {
-    type Snapshot = Snapshot<ordered::Index<TwoCap, Record>>;
-
-    fn snapshot(&self, rt: &impl Abort, alloc: Global) -> Snapshot<ordered::Index<TwoCap, Record>> {
-        empty(rt, alloc, self)
-    }
-}
-
-impl SubjectOfSnapshots for OrderedByEight {
-    type Snapshot = Snapshot<ordered::Index<EightCap, Record>>;
-
-    fn snapshot(
-        &self,
-        rt: &impl Abort,
-        alloc: Global,
-    ) -> Snapshot<ordered::Index<EightCap, Record>> {
-        empty(rt, alloc, self)
-    }
-}
-
 /// The snapshot over partitions by one byte and then one more.
 type InPartitions = Snapshot<partitioned::ordered::Index<OneCap, Record, 1>>;
-
-impl SubjectOfSnapshots for Pordered {
-    type Snapshot = InPartitions;
-
-    fn snapshot(&self, rt: &impl Abort, alloc: Global) -> InPartitions {
-        empty(rt, alloc, self)
-    }
-}
 
 impl SubjectOfBuilds for Pordered {
     type Built = InPartitions;
@@ -418,18 +374,20 @@ fn built_beside<K: SubjectOfBuilds>(
 }
 
 /// The examples and the random calls, over a kind.
-fn over<K: SubjectOfSnapshots>(rt: &impl Abort, alloc: Global, kind: &K) {
-    set_and_unset(rt, &mut kind.snapshot(rt, alloc));
-    zeros_tell_apart(rt, &mut kind.snapshot(rt, alloc));
-    called_beside(rt, alloc, &mut kind.snapshot(rt, alloc));
+fn over<K: Kind<Record>>(rt: &impl Abort, alloc: Global, kind: &K)
+where
+    K::Index: Ordered<Value = Record>,
+{
+    set_and_unset(rt, &mut empty(rt, alloc, kind));
+    zeros_tell_apart(rt, &mut empty(rt, alloc, kind));
+    called_beside(rt, alloc, &mut empty(rt, alloc, kind));
 }
 
 /// The same, and the example and the random builds, over a kind whose partitions are by one byte.
-fn over_partitions<K: SubjectOfSnapshots + SubjectOfBuilds>(
-    rt: &impl Abort,
-    alloc: Global,
-    kind: &K,
-) {
+fn over_partitions<K: Kind<Record> + SubjectOfBuilds>(rt: &impl Abort, alloc: Global, kind: &K)
+where
+    K::Index: Ordered<Value = Record>,
+{
     over(rt, alloc, kind);
     built(rt, alloc, kind);
     let mut numbers = Numbers::new();
