@@ -3,15 +3,15 @@
 --     copied_none, copied_more              before the first one, and after one more
 --     copied_all                            where none is left
 --     next_fits, next_there, len-held_copy  of an entry that is copied: it fits; there is one; the copy isn't full
-use Rattle.std.proofs.Common.{rules, ◌≡◌, ◌⊎◌, ℕ, ◌+◌, ◌-◌, ◌^◌, ◌<◌, ◌≤◌, Bool, true, false, cond, T, List, [], ◌∷◌, ◌++◌, length, map, Option, Some, None, is_some, All, refl, sym, ap, subst, ◌∙◌, append-nil, append_assoc, length-append, arith}
+use Rattle.std.proofs.Common.{rules, ◌≡◌, ◌⊎◌, ℕ, ◌+◌, ◌-◌, ◌^◌, ◌<◌, ◌≤◌, true, false, cond, T, List, [], ◌∷◌, ◌++◌, length, map, Option, Some, None, is_some, All, refl, sym, ap, subst, ◌∙◌, append-nil, append_assoc, length-append, arith}
 use Rattle.std.proofs.lemmas.Bool.{false≢true}
 use Rattle.std.proofs.lemmas.Grind.{flat_map-append}
-use Rattle.std.proofs.lemmas.List.{map-append, take_all, nil_from_length}
+use Rattle.std.proofs.lemmas.List.{map-append, take_all, nil_from_length, length-map}
 use Rattle.std.proofs.lemmas.List.Concat.{flat_map-cons}
 use Rattle.std.proofs.lemmas.List.Elements.{All-head, All-nil, All-push, All-tail}
 use Rattle.std.specs.Cmp.{tied_itself}
 use Rattle.std.specs.Cmp.Lexicographic.{nat_list_cmp_total}
-use Rattle.std.specs.FinMap.{empty, entries, entries_sorted, find, get, get-empty, get-entries, get-insert, insert, is_sorted, len, len-empty, len-entries, len-insert, same_map}
+use Rattle.std.specs.FinMap.{empty, entries, entries_sorted, find, get, get-empty, get-entries, get-insert, insert, is_sorted, len, len-empty, len-entries, same_map}
 use Rattle.std.specs.FinMap.Entries.{below_all}
 use Rattle.std.specs.List.{flat_map, fold}
 use Rattle.std.specs.Option.{unwrap_or}
@@ -31,6 +31,7 @@ use Rattle.key_index_flat.proofs.entries.EntryLemmas.{same}
 use Rattle.key_index_flat.proofs.entries.MapLemmas.{either, either_none}
 use Rattle.key_index_store.proofs.IndexLemmas.{get_with}
 use Rattle.key_index_store.proofs.LogLemmas.{spelled_records}
+use Rattle.key_index_store.proofs.StoreLemmas.{len-after_records}
 
 abbrev Pair : Type 0
 Pair = List ℕ × List ℕ
@@ -96,18 +97,6 @@ put_all_map : (m : Values) → fold after_record empty (map put_of (entries m)) 
 put_all_map m = same_map nat_list_cmp_total exact_bytes (fold after_record empty (map put_of (entries m))) m (λ q.
     put_all_get (entries m) empty (entries_sorted m) q ∙ ap (either (find byte_cmp q (entries m))) (get-empty byte_cmp q) ∙ either_none (find byte_cmp q (entries m)) ∙ sym (get-entries m q))
 
-len_more : (b : Bool) (n : ℕ) → cond b n (n + 1) ≤ n + 1
-len_more true n = omega arith
-len_more false n = omega arith
-
-put_all_len : (es : List Pair) (m : Values) → len (fold after_record m (map put_of es)) ≤ len m + length es
-put_all_len [] m = omega arith
-put_all_len (e ∷ es) m =
-    let rest = put_all_len es (insert m e.0 e.1) in
-    let one = len-insert nat_list_cmp_total m e.0 e.1 in
-    let more = len_more (is_some (get m e.0)) (len m) in
-    omega (arith, rest, one, more)
-
 -- what fits is put, so what is there fits
 fits_held : (rs : List Entry) (m : Values) → All Fits rs → ((k v : List ℕ) → get m k ≡ Some v → Fits (record { key = k; value = Some v }))
     → (k v : List ℕ) → get (fold after_record m rs) k ≡ Some v → Fits (record { key = k; value = Some v })
@@ -154,9 +143,10 @@ module _ (m : Values) (last : Option (List ℕ)) (n : ℕ) (copy : Stored) (h : 
 
   pub len-held_copy : len (held copy) ≤ n
   len-held_copy =
-      let least = put_all_len h.done empty in
+      let least = len-after_records (map put_of h.done) empty in
+      let long = length-map h.done put_of in
       let none = len-empty byte_cmp (List ℕ) in
-      omega (arith, ap (λ x. len x) held-copy, least, none, h.counted)
+      omega (arith, ap (λ x. len x) held-copy, least, long, none, h.counted)
 
   pub end-copy : copy.end ≡ length copy.log
   end-copy = ap (λ s. s.end) h.copied ∙ sym (ap (λ s. length s.log) h.copied)

@@ -239,8 +239,8 @@ fn file<L: Log, I: Unordered<Value = u64>>(
     entry: &Record,
     position: u64,
 ) -> Result<(), Fault>
-    ensures fault { (front back : List ℕ) → L.is_honest → L.content log.now ≡ front ++ back
-        → Indexes I.Key.cmp front (I.view index.old) → IfErr result (λ f. MayRead f ⊎ (f ≡ Fault.Full)) }
+    ensures fault { (front back : List ℕ) → L.is_honest → L.content log.now ≡ front ++ back → length front < usize.MAX
+        → Indexes I.Key.cmp front (I.view index.old) → IfErr result MayRead }
     ensures filed { (front back : List ℕ) → L.is_honest → L.content log.now ≡ front ++ back → position ≡ length front
         → Fits (entry_of entry.now) → Indexes I.Key.cmp front (I.view index.old)
         → OnOk result (Indexes I.Key.cmp (front ++ encoded (entry_of entry.now)) (I.view index.new)) }
@@ -295,7 +295,7 @@ fn replay<L: Log, I: Unordered<Value = u64>>(
     ensures end { L.is_honest → IfOk result (λ r. r.0 ≤ length (L.content log.now)) }
     ensures tail { L.is_honest → IfOk result (λ r. r.1 ≡ tail_of (drop r.0 (L.content log.now))) }
     ensures stops { L.is_honest → IfOk result (λ r. Stops (reading (drop r.0 (L.content log.now)))) }
-    ensures fault { L.is_honest → IfErr result (λ f. MayRead f ⊎ (f ≡ Fault.Full)) }
+    ensures fault { L.is_honest → IfErr result MayRead }
 {
     let len = log.len();
     let mut end = 0;
@@ -334,7 +334,7 @@ impl<L: Log, I: Unordered<Value = u64>> Store<L, I> {
         ensures opened { L.is_honest → IfOk result (λ r. r.0 ≡ opened (L.content log)) }
         ensures held { L.is_honest → IfOk result (λ r. held r.0 ≡ held_by (L.content log)) }
         ensures tail { L.is_honest → IfOk result (λ r. r.1 ≡ tail_of (drop r.0.end (L.content log))) }
-        ensures fault { L.is_honest → IfErr result (λ f. MayRead f ⊎ (f ≡ Fault.Full)) }
+        ensures fault { L.is_honest → IfErr result MayRead }
     {
         let (end, tail) = replay(alloc, &log, &mut index)?;
         let store = Store {

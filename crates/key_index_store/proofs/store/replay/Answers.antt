@@ -1,4 +1,4 @@
-use Rattle.std.proofs.Common.{rules, ◌≡◌, ◌+◌, ◌-◌, length, take, drop, sym, ap, subst, ◌∙◌, take-append-drop, length-take, arith}
+use Rattle.std.proofs.Common.{rules, ◌≡◌, ◌+◌, ◌-◌, ◌^◌, ◌<◌, length, take, drop, sym, ap, subst, ◌∙◌, take-append-drop, length-take, arith}
 use Rattle.key_index_store.specs.Indexed.{Indexes}
 use Rattle.key_index_store.specs.Record.{IsFound, IsWithin, entry_of, outcome_of}
 use Rattle.key_index_store.proofs.IndexLemmas.{indexes_none}
@@ -54,5 +54,6 @@ pub returns-in_err-file-in-Complete-clause-fault : goal.returns-in_err-file-in-C
 returns-in_err-file-in-Complete-clause-fault g c = λ h.
     let content = g.L.Log.content c.args.log.now in
     let end = c.loop-end.end in
-    let may = c.in_err-file-in-Complete.ensures.fault (take end content) (drop end content) h (sym (take-append-drop end content)) (c.loop-end.invariant.indexed h) in
+    let short : length (take end content) < 2 ^ 64 - 1 = omega (arith, length-take end content, c.loop-end-test.true, c.len-len.type_inv) in
+    let may = c.in_err-file-in-Complete.ensures.fault (take end content) (drop end content) h (sym (take-append-drop end content)) short (c.loop-end.invariant.indexed h) in
     search (rules, may)
