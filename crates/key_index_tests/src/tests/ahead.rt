@@ -1,6 +1,7 @@
 //! Batches that look ahead: which lists are found and which values are visited, in what order, on examples and beside lists that the
 //! test keeps.
-use super::checks::{Tested, fill, fresh, push};
+use super::checks::{Tested, fill, push};
+use super::kinds::{Kind, Pordered};
 use super::numbers::Numbers;
 use key_index_flat::translator::OneCap;
 use key_index_parts::index::partitioned::ordered::{Ahead, Index, visit_ahead};
@@ -24,7 +25,7 @@ fn event_of(told: Ahead<'_, u64>) -> Event {
 }
 
 /// An index whose batches look ahead.
-pub(super) trait LooksAhead: Tested {
+pub(super) trait LooksAhead {
     /// How many bytes of a key its index key has.
     fn bytes(&self) -> usize;
 
@@ -88,7 +89,13 @@ fn is_visit(event: &Event) -> bool {
 }
 
 /// A batch of these keys tells this, in this order, and one that doesn't look ahead visits the same.
-fn tells<I: LooksAhead>(rt: &impl Abort, alloc: Global, index: &I, keys: &[&[u8]], want: &[Event]) {
+fn tells<I: Tested + LooksAhead>(
+    rt: &impl Abort,
+    alloc: Global,
+    index: &I,
+    keys: &[&[u8]],
+    want: &[Event],
+) {
     let told = index.told(rt, alloc, keys);
     assert!(rt; told.iter().eq(want.iter()), "told {told:?}, not {want:?}");
     let visited = visited(rt, alloc, index, keys);
@@ -100,7 +107,11 @@ fn tells<I: LooksAhead>(rt: &impl Abort, alloc: Global, index: &I, keys: &[&[u8]
 }
 
 /// Seven keys of five values, one of them without a value and two of one index key; and keys with two values.
-pub(super) fn four_lists_ahead<I: LooksAhead>(rt: &impl Abort, alloc: Global, index: &mut I) {
+pub(super) fn four_lists_ahead<I: Tested + LooksAhead>(
+    rt: &impl Abort,
+    alloc: Global,
+    index: &mut I,
+) {
     fill(rt, index, b"\x10\x01", &[1]);
     fill(rt, index, b"\x10\x02", &[2]);
     fill(rt, index, b"\x20\x05", &[5]);
@@ -157,7 +168,7 @@ pub(super) fn four_lists_ahead<I: LooksAhead>(rt: &impl Abort, alloc: Global, in
 }
 
 /// Batches of one key beside another one, so many times: its value is visited at each place, and its list found four places before.
-pub(super) fn one_key<I: LooksAhead>(rt: &impl Abort, alloc: Global, index: &mut I) {
+pub(super) fn one_key<I: Tested + LooksAhead>(rt: &impl Abort, alloc: Global, index: &mut I) {
     fill(rt, index, b"\x10\x01", &[1]);
     fill(rt, index, b"\x10\x02", &[2]);
     let keys: [&[u8]; 9] = [b"\x10\x02"; 9];
@@ -256,7 +267,7 @@ fn wanted(
 }
 
 /// A thousand batches of up to 40 keys, with a value put in or a key taken out before each.
-pub(super) fn told_beside<I: LooksAhead>(rt: &impl Abort, alloc: Global, index: &mut I) {
+pub(super) fn told_beside<I: Tested + LooksAhead>(rt: &impl Abort, alloc: Global, index: &mut I) {
     let mut numbers = Numbers::new();
     let mut kept: Vec<(u32, u64)> = Vec::new(alloc);
     let bytes = index.bytes();
@@ -280,7 +291,7 @@ pub(super) fn told_beside<I: LooksAhead>(rt: &impl Abort, alloc: Global, index: 
 }
 
 /// Records of keys of which the index tells some not apart: the newest record of each key, and none of an absent one.
-pub(super) fn found_records<I: LooksAhead>(rt: &impl Abort, alloc: Global, index: &mut I) {
+pub(super) fn found_records<I: Tested + LooksAhead>(rt: &impl Abort, alloc: Global, index: &mut I) {
     let log: [&[u8]; 6] = [b"one", b"only", b"two", b"one", b"on", b"once"];
     for (position, key) in log.iter().enumerate() {
         index.inserts(rt, *key, position as u64);
@@ -296,7 +307,7 @@ pub(super) fn found_records<I: LooksAhead>(rt: &impl Abort, alloc: Global, index
 
 #[test]
 fn told_values_may_be_kept(rt: HostRuntime) {
-    let mut index: Index<OneCap, u64, 1> = fresh(&rt, rt.alloc(), OneCap);
+    let mut index = Pordered::AtDefault.index(&rt, rt.alloc());
     fill(&rt, &mut index, b"\x10\x02", &[2, 22]);
     let keys: [&[u8]; 2] = [b"\x10\x02", b"\x10"];
     let mut kept: Option<&u64> = None;

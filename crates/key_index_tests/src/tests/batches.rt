@@ -1,7 +1,7 @@
 //! Batches: which values are visited with which places, in the order of each index.
 
 use super::checks::{Tested, fill};
-use super::kinds::{Ordered, fresh};
+use super::kinds::{Kind, Ordered};
 use key_index_flat::index::Unordered;
 use key_index_flat::index::implement::Lists;
 use key_index_uses::callers::last_values;
@@ -129,7 +129,7 @@ fn slice_is_filled<I: Tested + Lists<Value = u64>>(rt: &impl Abort, index: &mut 
 
 #[test]
 fn visited_values_may_be_kept(rt: HostRuntime) {
-    let mut index = fresh::<Ordered, u64>(&rt, rt.alloc(), &Ordered);
+    let mut index = Ordered.index(&rt, rt.alloc());
     three(&rt, &mut index);
     let keys: [&[u8]; 2] = [b"\x2d", b"\x0b"];
     let mut kept: Option<&u64> = None;
@@ -140,5 +140,5 @@ fn visited_values_may_be_kept(rt: HostRuntime) {
 
 #[test]
 fn last_values_fill_a_slice(rt: HostRuntime) {
-    slice_is_filled(&rt, &mut fresh::<Ordered, u64>(&rt, rt.alloc(), &Ordered));
+    slice_is_filled(&rt, &mut Ordered.index(&rt, rt.alloc()));
 }

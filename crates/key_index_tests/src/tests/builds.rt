@@ -37,7 +37,7 @@ fn bytes(rt: &impl Abort, alloc: Global, key: &[u8]) -> Vec<u8> {
 }
 
 /// Five ops in two ranges: two values come behind others, and a key loses both that it had.
-pub(super) fn built<I: InPartitions>(rt: &impl Abort, alloc: Global, index: &mut I) {
+pub(super) fn built<I: Tested + InPartitions>(rt: &impl Abort, alloc: Global, index: &mut I) {
     let mut insert = Vec::new(alloc);
     push(rt, &mut insert, Step::Next);
     push(rt, &mut insert, Step::Insert(3));
@@ -79,7 +79,11 @@ pub(super) fn built<I: InPartitions>(rt: &impl Abort, alloc: Global, index: &mut
 }
 
 /// The newest record of each key stands.
-pub(super) fn newest_stand<I: InPartitions + Drop>(rt: &impl Abort, alloc: Global, index: I) {
+pub(super) fn newest_stand<I: Tested + InPartitions + Drop>(
+    rt: &impl Abort,
+    alloc: Global,
+    index: I,
+) {
     let cuts = [0, 1, 0x7f, 0x80, 0xff, 256];
     let mut records = Vec::new(alloc);
     push(rt, &mut records, (bytes(rt, alloc, b"\x10\x01"), 9));
@@ -94,7 +98,7 @@ pub(super) fn newest_stand<I: InPartitions + Drop>(rt: &impl Abort, alloc: Globa
 }
 
 /// Cuts at up to five partitions that keys have, or one behind.
-fn cuts<I: InPartitions>(
+fn cuts<I: Tested + InPartitions>(
     rt: &impl Abort,
     alloc: Global,
     index: &I,
@@ -137,7 +141,7 @@ fn op(rt: &impl Abort, alloc: Global, kept: &mut KeptLists) -> Op<u64> {
 }
 
 /// An empty index is built by up to 23 ops in ranges by random cuts, and then has the lists that the ops come to one by one.
-pub(super) fn built_beside<I: InPartitions>(
+pub(super) fn built_beside<I: Tested + InPartitions>(
     rt: &impl Abort,
     alloc: Global,
     index: &mut I,

@@ -1,114 +1,11 @@
 //! Each call of each trait once, with its answer, on any index.
-use super::checks::{Move, Tested, fill, must};
-use key_index_flat::index::{Cursor, CursorState, Unordered};
+use super::checks::{Move, Tested, fill};
+use key_index_flat::index::CursorState;
 use std::alloc::Global;
 use std::process::Abort;
 
-/// The calls by place of an index, and those by which it looks for a key. Each goes by the index key of a key.
-pub(super) trait Placed: Tested {
-    /// Whether there is no value.
-    fn has_none(&self) -> bool;
-
-    /// The list has so many values.
-    fn has_len(&self, rt: &impl Abort, key: &[u8], len: usize);
-
-    /// A place of the list has this value.
-    fn has_at(&self, rt: &impl Abort, key: &[u8], place: usize, value: u64);
-
-    /// `set_at` of a place that has a value.
-    fn sets_at(&mut self, rt: &impl Abort, key: &[u8], place: usize, value: u64);
-
-    /// `insert_at` is accepted.
-    fn inserts_at(&mut self, rt: &impl Abort, key: &[u8], place: usize, value: u64);
-
-    /// `remove_at` gives this value.
-    fn removes_at(&mut self, rt: &impl Abort, key: &[u8], place: usize, value: u64);
-
-    /// `reach` tells the index key, and how many values it had.
-    fn reaches(&mut self, rt: &impl Abort, key: &[u8], len: usize);
-
-    /// `reach_or_insert` of a value tells the same.
-    fn reaches_or_inserts(&mut self, rt: &impl Abort, key: &[u8], value: u64, len: usize);
-
-    /// `search` gives a new cursor of a key that has values, and else none.
-    fn searches(&mut self, rt: &impl Abort, key: &[u8], is_held: bool);
-
-    /// `search_or_insert` of a value gives the same.
-    fn searches_or_inserts(&mut self, rt: &impl Abort, key: &[u8], value: u64, is_held: bool);
-}
-
-/// A cursor was found where one is wanted, and is new.
-fn is_new<C: Cursor<Value = u64>>(rt: &impl Abort, cursor: &C, is_held: bool) {
-    assert!(rt; is_held, "the key has no value");
-    assert_eq!(rt; cursor.state(), CursorState::NeedNext);
-}
-
-impl<I: Unordered<Value = u64>> Placed for I {
-    fn has_none(&self) -> bool {
-        self.is_empty()
-    }
-
-    fn has_len(&self, rt: &impl Abort, key: &[u8], len: usize) {
-        must(rt, self.run_len(self.slot_of(key)) == len, "run_len", key);
-    }
-
-    fn has_at(&self, rt: &impl Abort, key: &[u8], place: usize, value: u64) {
-        let slot = self.slot_of(key);
-        assert!(rt; place < self.run_len(slot));
-        must(rt, *self.value_at(slot, place) == value, "value_at", key);
-    }
-
-    fn sets_at(&mut self, rt: &impl Abort, key: &[u8], place: usize, value: u64) {
-        let slot = self.slot_of(key);
-        assert!(rt; place < self.run_len(slot));
-        self.set_at(slot, place, value);
-    }
-
-    fn inserts_at(&mut self, rt: &impl Abort, key: &[u8], place: usize, value: u64) {
-        let slot = self.slot_of(key);
-        assert!(rt; self.admits(slot) && place <= self.run_len(slot));
-        must(
-            rt,
-            self.insert_at(slot, place, value).is_ok(),
-            "insert_at",
-            key,
-        );
-    }
-
-    fn removes_at(&mut self, rt: &impl Abort, key: &[u8], place: usize, value: u64) {
-        let slot = self.slot_of(key);
-        assert!(rt; place < self.run_len(slot));
-        must(rt, self.remove_at(slot, place) == value, "remove_at", key);
-    }
-
-    fn reaches(&mut self, rt: &impl Abort, key: &[u8], len: usize) {
-        let slot = self.slot_of(key);
-        must(rt, self.reach(key) == Ok((slot, len)), "reach", key);
-    }
-
-    fn reaches_or_inserts(&mut self, rt: &impl Abort, key: &[u8], value: u64, len: usize) {
-        let slot = self.slot_of(key);
-        let reached = self.reach_or_insert(key, value).expect(rt, "room");
-        must(rt, reached == (slot, len), "reach_or_insert", key);
-    }
-
-    fn searches(&mut self, rt: &impl Abort, key: &[u8], is_held: bool) {
-        match self.search(key) {
-            Ok(cursor) => is_new(rt, &cursor, is_held),
-            Err(refused) => must(rt, refused.is_none() && !is_held, "search", key),
-        }
-    }
-
-    fn searches_or_inserts(&mut self, rt: &impl Abort, key: &[u8], value: u64, is_held: bool) {
-        match self.search_or_insert(key, value) {
-            Ok(cursor) => is_new(rt, &cursor, is_held),
-            Err(refused) => must(rt, refused.is_none() && !is_held, "search_or_insert", key),
-        }
-    }
-}
-
 /// The list 2, 1 of 0b, read by place, and changed so: 4 in the place of 1, 5 last, 6 between, and 2 taken out.
-fn changed_by_place<I: Placed>(rt: &impl Abort, index: &mut I) {
+fn changed_by_place<I: Tested>(rt: &impl Abort, index: &mut I) {
     index.has_len(rt, b"\x0b", 2);
     index.has_at(rt, b"\x0b", 0, 2);
     index.has_at(rt, b"\x0b", 1, 1);
@@ -122,7 +19,7 @@ fn changed_by_place<I: Placed>(rt: &impl Abort, index: &mut I) {
 }
 
 /// An absent key, 0d, which gets a value by place and loses it so.
-fn only_by_place<I: Placed>(rt: &impl Abort, index: &mut I) {
+fn only_by_place<I: Tested>(rt: &impl Abort, index: &mut I) {
     index.has_len(rt, b"\x0d", 0);
     index.inserts_at(rt, b"\x0d", 0, 7);
     index.holds(rt, b"\x0d", &[7]);
@@ -132,7 +29,7 @@ fn only_by_place<I: Placed>(rt: &impl Abort, index: &mut I) {
 }
 
 /// The calls by place, and those by key that give no cursor.
-pub(super) fn by_place_and_key<I: Placed>(rt: &impl Abort, alloc: Global, index: &mut I) {
+pub(super) fn by_place_and_key<I: Tested>(rt: &impl Abort, alloc: Global, index: &mut I) {
     index.counts(rt, (0, 0, 0));
     assert!(rt; index.has_none());
     fill(rt, index, b"\x0b", &[2, 1]);
@@ -153,7 +50,7 @@ pub(super) fn by_place_and_key<I: Placed>(rt: &impl Abort, alloc: Global, index:
 }
 
 /// The calls by key that look for a cursor, or for its list: of 0b, which has two values, and of keys that have none.
-pub(super) fn by_cursor<I: Placed>(rt: &impl Abort, alloc: Global, index: &mut I) {
+pub(super) fn by_cursor<I: Tested>(rt: &impl Abort, alloc: Global, index: &mut I) {
     fill(rt, index, b"\x0b", &[2, 1]);
     index.reaches(rt, b"\x0b", 2);
     index.reaches(rt, b"\x0c", 0);

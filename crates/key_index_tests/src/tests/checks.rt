@@ -1,19 +1,16 @@
 //! An index as the cases see it: each call asserts that it is accepted, and that it answers as it should.
-ghost use Rattle.std.specs.Prelude.{◌≡◌, []};
-
 use super::asks::Asks;
+use super::commands::{Given, kept_by, runs};
 use super::lists::{Edited, Way, edit_beside, goes_beside};
 use super::numbers::Numbers;
-use key_index_flat::index::{Cursor, CursorState, Factory, IndexCursor, Unordered};
+use key_index_flat::index::{Command, Cursor, CursorState, Fault, IndexCursor, Outcome, Unordered};
+use key_index_uses::callers::{add, replace, replace_first, update};
 use std::alloc::Global;
 use std::process::Abort;
 
-/// An index with no values.
-pub(super) fn fresh<I: Factory>(rt: &impl Abort, alloc: Global, translator: I::Translator) -> I
-    requires { I.makes }
-    ensures { (I.view result).content ≡ [] }
-{
-    I::new(alloc, translator).expect(rt, "an index")
+/// An index that was asked for.
+pub(super) fn made<I>(rt: &impl Abort, index: Result<I, Fault>) -> I {
+    index.expect(rt, "an index")
 }
 
 /// A value behind those of a vector.
@@ -168,7 +165,14 @@ fn gets_or_inserts<'a, I: Unordered<Value = u64>>(
     found
 }
 
-/// An index of any kind. No other trait stands above this one, and it promises nothing, so that what goes over it is quickly proved.
+/// A cursor was found where one is wanted, and is new.
+fn is_new<C: Cursor<Value = u64>>(rt: &impl Abort, cursor: &C, is_held: bool) {
+    assert!(rt; is_held, "the key has no value");
+    assert_eq!(rt; cursor.state(), CursorState::NeedNext);
+}
+
+/// An index of any kind. It promises nothing, so that what goes over it is quickly proved. It is one trait, since a function that hands
+/// an index to another one has each of its traits proved anew.
 pub(super) trait Tested {
     /// An index key.
     type Slot: PartialEq + Copy;
@@ -256,6 +260,51 @@ pub(super) trait Tested {
 
     /// What a batch of these keys visits.
     fn seen(&self, rt: &impl Abort, alloc: Global, keys: &[&[u8]]) -> Vec<(usize, u64)>;
+
+    /// Whether there is no value.
+    fn has_none(&self) -> bool;
+
+    /// The list has so many values.
+    fn has_len(&self, rt: &impl Abort, key: &[u8], len: usize);
+
+    /// A place of the list has this value.
+    fn has_at(&self, rt: &impl Abort, key: &[u8], place: usize, value: u64);
+
+    /// `set_at` of a place that has a value.
+    fn sets_at(&mut self, rt: &impl Abort, key: &[u8], place: usize, value: u64);
+
+    /// `insert_at` is accepted.
+    fn inserts_at(&mut self, rt: &impl Abort, key: &[u8], place: usize, value: u64);
+
+    /// `remove_at` gives this value.
+    fn removes_at(&mut self, rt: &impl Abort, key: &[u8], place: usize, value: u64);
+
+    /// `reach` tells the index key, and how many values it had.
+    fn reaches(&mut self, rt: &impl Abort, key: &[u8], len: usize);
+
+    /// `reach_or_insert` of a value tells the same.
+    fn reaches_or_inserts(&mut self, rt: &impl Abort, key: &[u8], value: u64, len: usize);
+
+    /// `search` gives a new cursor of a key that has values, and else none.
+    fn searches(&mut self, rt: &impl Abort, key: &[u8], is_held: bool);
+
+    /// `search_or_insert` of a value gives the same.
+    fn searches_or_inserts(&mut self, rt: &impl Abort, key: &[u8], value: u64, is_held: bool);
+
+    /// `add` is accepted, and tells how many values there are.
+    fn adds(&mut self, rt: &impl Abort, key: &[u8], value: u64, items: usize);
+
+    /// `replace` is accepted.
+    fn replaces(&mut self, rt: &impl Abort, key: &[u8], value: u64);
+
+    /// `replace_first` is accepted, and tells whether the key had a value.
+    fn replaces_first(&mut self, rt: &impl Abort, key: &[u8], value: u64, had: bool);
+
+    /// `update` of a value by another one is accepted.
+    fn updates(&mut self, rt: &impl Abort, key: &[u8], old: u64, new: u64);
+
+    /// Commands come to these outcomes.
+    fn comes_to(&mut self, rt: &impl Abort, alloc: Global, commands: Vec<Given>, want: &[Outcome]);
 }
 
 impl<I: Unordered<Value = u64>> Tested for I {
@@ -392,9 +441,13 @@ impl<I: Unordered<Value = u64>> Tested for I {
         way: Way,
         numbers: &mut Numbers,
     ) {
+        let is_held = !list.is_empty();
         match gets(rt, self, key) {
-            Some(mut cursor) => goes_beside(rt, alloc, &mut cursor, list, way, numbers),
-            None => must(rt, list.is_empty(), "the values", key),
+            Some(mut cursor) => {
+                must(rt, is_held, "no value", key);
+                goes_beside(rt, alloc, &mut cursor, list, way, numbers)
+            }
+            None => must(rt, !is_held, "the values", key),
         }
     }
 
@@ -405,6 +458,109 @@ impl<I: Unordered<Value = u64>> Tested for I {
         });
         must(rt, visited.is_ok(), "get_many", b"");
         seen
+    }
+
+    fn has_none(&self) -> bool {
+        self.is_empty()
+    }
+
+    fn has_len(&self, rt: &impl Abort, key: &[u8], len: usize) {
+        must(rt, self.run_len(self.slot_of(key)) == len, "run_len", key);
+    }
+
+    fn has_at(&self, rt: &impl Abort, key: &[u8], place: usize, value: u64) {
+        let slot = self.slot_of(key);
+        assert!(rt; place < self.run_len(slot));
+        must(rt, *self.value_at(slot, place) == value, "value_at", key);
+    }
+
+    fn sets_at(&mut self, rt: &impl Abort, key: &[u8], place: usize, value: u64) {
+        let slot = self.slot_of(key);
+        assert!(rt; place < self.run_len(slot));
+        self.set_at(slot, place, value);
+    }
+
+    fn inserts_at(&mut self, rt: &impl Abort, key: &[u8], place: usize, value: u64) {
+        let slot = self.slot_of(key);
+        assert!(rt; self.admits(slot) && place <= self.run_len(slot));
+        must(
+            rt,
+            self.insert_at(slot, place, value).is_ok(),
+            "insert_at",
+            key,
+        );
+    }
+
+    fn removes_at(&mut self, rt: &impl Abort, key: &[u8], place: usize, value: u64) {
+        let slot = self.slot_of(key);
+        assert!(rt; place < self.run_len(slot));
+        must(rt, self.remove_at(slot, place) == value, "remove_at", key);
+    }
+
+    fn reaches(&mut self, rt: &impl Abort, key: &[u8], len: usize) {
+        let slot = self.slot_of(key);
+        must(rt, self.reach(key) == Ok((slot, len)), "reach", key);
+    }
+
+    fn reaches_or_inserts(&mut self, rt: &impl Abort, key: &[u8], value: u64, len: usize) {
+        let slot = self.slot_of(key);
+        let reached = self.reach_or_insert(key, value).expect(rt, "room");
+        must(rt, reached == (slot, len), "reach_or_insert", key);
+    }
+
+    fn searches(&mut self, rt: &impl Abort, key: &[u8], is_held: bool) {
+        match self.search(key) {
+            Ok(cursor) => is_new(rt, &cursor, is_held),
+            Err(refused) => must(rt, refused.is_none() && !is_held, "search", key),
+        }
+    }
+
+    fn searches_or_inserts(&mut self, rt: &impl Abort, key: &[u8], value: u64, is_held: bool) {
+        match self.search_or_insert(key, value) {
+            Ok(cursor) => is_new(rt, &cursor, is_held),
+            Err(refused) => must(rt, refused.is_none() && !is_held, "search_or_insert", key),
+        }
+    }
+
+    fn adds(&mut self, rt: &impl Abort, key: &[u8], value: u64, items: usize) {
+        assert_eq!(rt; add(self, key, value).expect(rt, "add"), items);
+    }
+
+    fn replaces(&mut self, rt: &impl Abort, key: &[u8], value: u64) {
+        assert!(rt; replace(self, key, value).is_ok());
+    }
+
+    fn replaces_first(&mut self, rt: &impl Abort, key: &[u8], value: u64, had: bool) {
+        assert_eq!(rt;
+            replace_first(self, key, value).expect(rt, "replace_first"),
+            had
+        );
+    }
+
+    fn updates(&mut self, rt: &impl Abort, key: &[u8], old: u64, new: u64) {
+        assert!(rt; new != old);
+        assert!(rt; update(self, key, old, new).is_ok());
+    }
+
+    fn comes_to(&mut self, rt: &impl Abort, alloc: Global, commands: Vec<Given>, want: &[Outcome]) {
+        let mut given = Vec::new(alloc);
+        for command in commands {
+            let keeps = kept_by(&command);
+            let test = move |value: &u64| keeps.keeps(*value);
+            let next = match command {
+                Command::Insert(key, value) => Command::Insert(key, value),
+                Command::InsertAndRetain(key, value, _) => {
+                    Command::InsertAndRetain(key, value, test)
+                }
+                Command::Retain(key, _) => Command::Retain(key, test),
+                Command::Remove(key) => Command::Remove(key),
+                Command::GetOrInsert(key, value) => Command::GetOrInsert(key, value),
+                Command::Edit(key, steps) => Command::Edit(key, steps),
+            };
+            push(rt, &mut given, next);
+        }
+        let outcomes = runs(rt, alloc, self, given);
+        assert_eq!(rt; outcomes.as_slice(), want);
     }
 }
 

@@ -1,6 +1,6 @@
 //! Lists of commands from the fixed run of numbers, run over an index and done to lists that the test keeps.
 use super::checks::{Tested, push};
-use super::commands::{Commanded, Keeps};
+use super::commands::Keeps;
 use super::lists::{KeptLists, cleared, counts_as, list_at, place, put};
 use super::numbers::{Numbers, two_bytes};
 use super::walk::Walk;
@@ -86,7 +86,7 @@ fn retain(list: &mut Vec<u64>, keeps: Keeps) -> u64 {
 }
 
 /// Runs a list of up to eight commands of all six kinds, does the same to the lists, and compares the outcomes.
-fn run_list<I: Commanded>(rt: &impl Abort, alloc: Global, index: &mut I, kept: &mut KeptLists) {
+fn run_list<I: Tested>(rt: &impl Abort, alloc: Global, index: &mut I, kept: &mut KeptLists) {
     let mut commands = Vec::new(alloc);
     let mut wanted = Vec::new(alloc);
     for _ in 0..kept.numbers.next() % 9 {
@@ -155,12 +155,7 @@ pub(super) fn has_all<I: Tested>(rt: &impl Abort, alloc: Global, index: &I, kept
 
 /// An index comes to the outcomes and the lists that lists of commands come to by the rules. Its index keys have the first so many
 /// bytes of a key.
-pub(super) fn run_beside<I: Commanded>(
-    rt: &impl Abort,
-    alloc: Global,
-    index: &mut I,
-    width: usize,
-) {
+pub(super) fn run_beside<I: Tested>(rt: &impl Abort, alloc: Global, index: &mut I, width: usize) {
     let mut kept = KeptLists::new(rt, alloc, width);
     for _ in 0..RUNS {
         run_list(rt, alloc, index, &mut kept);

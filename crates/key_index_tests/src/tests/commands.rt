@@ -31,7 +31,7 @@ impl Keeps {
 pub(super) type Given = Command<u64, Keeps>;
 
 /// What the test of a command keeps.
-fn kept_by(command: &Given) -> Keeps {
+pub(super) fn kept_by(command: &Given) -> Keeps {
     match command {
         Command::Retain(_, keeps) => *keeps,
         Command::InsertAndRetain(_, _, keeps) => *keeps,
@@ -72,7 +72,7 @@ fn push_edit<const N: usize>(
 }
 
 /// `run` is accepted.
-fn runs<I: Unordered<Value = u64>, F: Fn(&u64) -> bool + Drop>(
+pub(super) fn runs<I: Unordered<Value = u64>, F: Fn(&u64) -> bool + Drop>(
     rt: &impl Abort,
     alloc: Global,
     index: &mut I,
@@ -83,37 +83,8 @@ fn runs<I: Unordered<Value = u64>, F: Fn(&u64) -> bool + Drop>(
     run(alloc, index, commands).expect(rt, "run")
 }
 
-/// `run`, of an index.
-pub(super) trait Commanded: Tested {
-    /// Commands come to these outcomes.
-    fn comes_to(&mut self, rt: &impl Abort, alloc: Global, commands: Vec<Given>, want: &[Outcome]);
-}
-
-impl<I: Unordered<Value = u64>> Commanded for I {
-    fn comes_to(&mut self, rt: &impl Abort, alloc: Global, commands: Vec<Given>, want: &[Outcome]) {
-        let mut given = Vec::new(alloc);
-        for command in commands {
-            let keeps = kept_by(&command);
-            let test = move |value: &u64| keeps.keeps(*value);
-            let next = match command {
-                Command::Insert(key, value) => Command::Insert(key, value),
-                Command::InsertAndRetain(key, value, _) => {
-                    Command::InsertAndRetain(key, value, test)
-                }
-                Command::Retain(key, _) => Command::Retain(key, test),
-                Command::Remove(key) => Command::Remove(key),
-                Command::GetOrInsert(key, value) => Command::GetOrInsert(key, value),
-                Command::Edit(key, steps) => Command::Edit(key, steps),
-            };
-            push(rt, &mut given, next);
-        }
-        let outcomes = runs(rt, alloc, self, given);
-        assert_eq!(rt; outcomes.as_slice(), want);
-    }
-}
-
 /// An edit of the list of k comes to these flags.
-fn edits<I: Commanded, const N: usize>(
+fn edits<I: Tested, const N: usize>(
     rt: &impl Abort,
     alloc: Global,
     index: &mut I,
@@ -131,7 +102,7 @@ fn edits<I: Commanded, const N: usize>(
 }
 
 /// The list 3, 1, 2: next 3, delete, next 1, insert 9, next 2, next none, insert 7.
-pub(super) fn edited<I: Commanded>(rt: &impl Abort, alloc: Global, index: &mut I) {
+pub(super) fn edited<I: Tested>(rt: &impl Abort, alloc: Global, index: &mut I) {
     fill(rt, index, b"k", &[3, 1, 2]);
     let steps = [
         Step::Next,
@@ -148,7 +119,7 @@ pub(super) fn edited<I: Commanded>(rt: &impl Abort, alloc: Global, index: &mut I
 }
 
 /// The list 5: next 5, delete, next none, insert 6.
-pub(super) fn emptied<I: Commanded>(rt: &impl Abort, alloc: Global, index: &mut I) {
+pub(super) fn emptied<I: Tested>(rt: &impl Abort, alloc: Global, index: &mut I) {
     fill(rt, index, b"k", &[5]);
     let steps = [
         Step::Next,
@@ -177,7 +148,7 @@ fn push_first(rt: &impl Abort, alloc: Global, commands: &mut Vec<Given>) {
 }
 
 /// Each command once, on an empty index.
-pub(super) fn each_command<I: Commanded>(rt: &impl Abort, alloc: Global, index: &mut I) {
+pub(super) fn each_command<I: Tested>(rt: &impl Abort, alloc: Global, index: &mut I) {
     let mut commands = Vec::new(alloc);
     push_first(rt, alloc, &mut commands);
     let retain = Command::Retain(key(rt, alloc, b'k'), Keeps::Equal(8));
@@ -197,7 +168,7 @@ pub(super) fn each_command<I: Commanded>(rt: &impl Abort, alloc: Global, index: 
 }
 
 /// A value, and one behind it where all stay.
-pub(super) fn inserted_and_retained<I: Commanded>(rt: &impl Abort, alloc: Global, index: &mut I) {
+pub(super) fn inserted_and_retained<I: Tested>(rt: &impl Abort, alloc: Global, index: &mut I) {
     let mut commands = Vec::new(alloc);
     push(rt, &mut commands, Command::Insert(key(rt, alloc, b'k'), 1));
     let both = Command::InsertAndRetain(key(rt, alloc, b'k'), 2, Keeps::Below(3));

@@ -1,10 +1,11 @@
 //! Long lists and long keys, and cursors that are dropped behind each step.
-use super::checks::{Move, Tested, fill, fresh, push};
+use super::checks::{Move, Tested, fill, made, push};
+use super::kinds::{Kind, Ordered, OrderedByEight};
 use super::lists::{Way, put};
 use super::neighbours::{InOrder, next_has, prev_has};
 use super::numbers::Numbers;
-use key_index_flat::index::{Factory, Unordered, ordered};
-use key_index_flat::translator::{EightCap, OneCap};
+use key_index_flat::index::Factory;
+use key_index_flat::translator::EightCap;
 use key_index_parts::index::partitioned;
 use std::alloc::Global;
 use std::process::Abort;
@@ -130,16 +131,13 @@ fn long_keys<I: Tested>(rt: &impl Abort, alloc: Global, index: &mut I, width: us
 }
 
 /// The same in an index with no values, which then has these counts.
-fn long_keys_in<I: Unordered<Value = u64> + Factory + Drop>(
+fn long_keys_in<I: Tested + Drop>(
     rt: &impl Abort,
     alloc: Global,
-    translator: I::Translator,
+    mut index: I,
     width: usize,
     want: (usize, usize, u64),
-)
-    requires { I.makes }
-{
-    let mut index = fresh::<I>(rt, alloc, translator);
+) {
     long_keys(rt, alloc, &mut index, width);
     index.counts(rt, want);
 }
@@ -147,15 +145,10 @@ fn long_keys_in<I: Unordered<Value = u64> + Factory + Drop>(
 #[test]
 fn long_keys_are_cut(rt: HostRuntime) {
     let alloc = rt.alloc();
-    long_keys_in::<ordered::Index<OneCap, u64>>(&rt, alloc, OneCap, 1, (2, 11, 0));
-    long_keys_in::<ordered::Index<EightCap, u64>>(&rt, alloc, EightCap, 8, (3, 11, 0));
-    long_keys_in::<partitioned::ordered::Index<EightCap, u64, 1>>(
-        &rt,
-        alloc,
-        EightCap,
-        9,
-        (4, 11, 0),
-    );
+    long_keys_in(&rt, alloc, Ordered.index(&rt, alloc), 1, (2, 11, 0));
+    long_keys_in(&rt, alloc, OrderedByEight.index(&rt, alloc), 8, (3, 11, 0));
+    let by_nine = partitioned::ordered::Index::<EightCap, u64, 1>::new(alloc, EightCap);
+    long_keys_in(&rt, alloc, made(&rt, by_nine), 9, (4, 11, 0));
 }
 
 /// Six short keys in an index by two bytes and then one more have three index keys.

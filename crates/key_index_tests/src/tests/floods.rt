@@ -1,10 +1,11 @@
 //! Floods: many keys in one partition and many values under one key, by calls and by cursors.
 use super::checks::{Tested, push};
 use super::extremes::numbers_below;
+use super::kinds::{PorderedWide, Spilling};
 use super::lists::Way;
 use super::neighbours::{InOrder, next_has};
 use super::numbers::Numbers;
-use super::stands::{StandsWhole, SubjectThatSpills, Wide, has_spilled, is_inline, is_spilled};
+use super::stands::{StandsWhole, has_spilled, is_inline, is_spilled};
 use key_index_flat::index::Factory;
 use key_index_flat::translator::TwoCap;
 use key_index_parts::index::partitioned::unordered;
@@ -172,33 +173,42 @@ enum Flood {
 }
 
 /// Floods of an index by one byte and then two more.
-fn on<K: SubjectThatSpills>(rt: &impl Abort, alloc: Global, kind: &K, flood: Flood) {
+fn on<K: Spilling>(rt: &impl Abort, alloc: Global, flood: Flood)
+where
+    K::Index: Tested + InOrder + StandsWhole + Drop,
+{
     match flood {
-        Flood::Both => two_partitions(rt, alloc, &mut kind.spilling_at(rt, alloc, 512)),
-        Flood::Keys => floods_of_keys(rt, alloc, kind),
-        Flood::Values => floods_of_values(rt, alloc, kind),
+        Flood::Both => two_partitions(rt, alloc, &mut K::at(512).index(rt, alloc)),
+        Flood::Keys => floods_of_keys::<K>(rt, alloc),
+        Flood::Values => floods_of_values::<K>(rt, alloc),
     }
 }
 
 /// A thousand keys at each threshold, in each order.
-fn floods_of_keys<K: SubjectThatSpills>(rt: &impl Abort, alloc: Global, kind: &K) {
+fn floods_of_keys<K: Spilling>(rt: &impl Abort, alloc: Global)
+where
+    K::Index: Tested + InOrder + StandsWhole + Drop,
+{
     for threshold in THRESHOLDS {
         for order in [Order::Rising, Order::Falling, Order::Mixed] {
-            many_keys(rt, &mut kind.spilling_at(rt, alloc, threshold), order);
+            many_keys(rt, &mut K::at(threshold).index(rt, alloc), order);
         }
     }
 }
 
 /// A thousand values at each threshold, by calls and by a cursor.
-fn floods_of_values<K: SubjectThatSpills>(rt: &impl Abort, alloc: Global, kind: &K) {
+fn floods_of_values<K: Spilling>(rt: &impl Abort, alloc: Global)
+where
+    K::Index: Tested + InOrder + StandsWhole + Drop,
+{
     for threshold in THRESHOLDS {
-        many_values(rt, alloc, &mut kind.spilling_at(rt, alloc, threshold));
-        many_by_cursor(rt, alloc, &mut kind.spilling_at(rt, alloc, threshold));
+        many_values(rt, alloc, &mut K::at(threshold).index(rt, alloc));
+        many_by_cursor(rt, alloc, &mut K::at(threshold).index(rt, alloc));
     }
 }
 
 fn on_wide(rt: &impl Abort, alloc: Global, flood: Flood) {
-    on(rt, alloc, &Wide, flood)
+    on::<PorderedWide>(rt, alloc, flood)
 }
 
 #[test]

@@ -1,6 +1,9 @@
 //! Records next to a full key, in ordered indices.
-use super::kinds::{Kind, fresh};
-use key_index_flat::index::{Keyed, Ordered, resolve_next, resolve_prev};
+use super::checks::made;
+use super::kinds::{self, Plain, Pordered};
+use key_index_flat::index::{Factory, Keyed, Ordered, ordered, resolve_next, resolve_prev};
+use key_index_flat::translator::OneCap;
+use key_index_parts::index::partitioned;
 use key_index_uses::callers::{exclude, file};
 use std::alloc::Global;
 use std::process::Abort;
@@ -124,13 +127,49 @@ fn excluded<I: Filed>(rt: &impl Abort, index: &I) {
     index.excludes(rt, b"\x0b\x05", None);
 }
 
+/// A kind of index over records.
+pub(super) trait OfRecords {
+    type Filed;
+
+    /// An index with no records.
+    fn records(&self, rt: &impl Abort, alloc: Global) -> Self::Filed;
+}
+
+impl OfRecords for kinds::Ordered {
+    type Filed = ordered::Index<OneCap, Record>;
+
+    fn records(&self, rt: &impl Abort, alloc: Global) -> ordered::Index<OneCap, Record> {
+        made(rt, ordered::Index::new(alloc, OneCap))
+    }
+}
+
+impl OfRecords for Pordered {
+    type Filed = partitioned::ordered::Index<OneCap, Record, 1>;
+
+    fn records(
+        &self,
+        rt: &impl Abort,
+        alloc: Global,
+    ) -> partitioned::ordered::Index<OneCap, Record, 1> {
+        made(rt, self.make(rt, alloc))
+    }
+}
+
+impl OfRecords for Plain {
+    type Filed = key_index_plain::Index<OneCap, Record>;
+
+    fn records(&self, rt: &impl Abort, alloc: Global) -> key_index_plain::Index<OneCap, Record> {
+        made(rt, key_index_plain::Index::new(alloc, OneCap))
+    }
+}
+
 /// The records next to full keys, over a kind.
-pub(super) fn resolves<K: Kind<Record>>(rt: &impl Abort, alloc: Global, kind: &K)
+pub(super) fn resolves<K: OfRecords>(rt: &impl Abort, alloc: Global, kind: &K)
 where
-    K::Index: Ordered<Value = Record>,
+    K::Filed: Filed + Drop,
 {
-    let mut index = fresh::<K, Record>(rt, alloc, kind);
+    let mut index = kind.records(rt, alloc);
     resolved(rt, alloc, &mut index);
     excluded(rt, &index);
-    together(rt, alloc, &mut fresh::<K, Record>(rt, alloc, kind));
+    together(rt, alloc, &mut kind.records(rt, alloc));
 }

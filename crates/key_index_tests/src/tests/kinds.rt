@@ -1,98 +1,42 @@
-//! The kinds of index that the tests go through. A kind says how its index is made, so each case is over any of them.
-use super::ahead::LooksAhead;
-use super::callers::Called;
-use super::calls::Placed;
-use super::checks::Tested;
-use super::commands::Commanded;
-use super::neighbours::InOrder;
-use super::ranges::InPartitions;
+//! The kinds of index that the tests go through. A kind says how its index is made, so each case is over any of them. What a case needs of
+//! the index it says itself.
+use super::checks::made;
 use super::translators::FirstByte;
-use key_index_flat::index::{self, Factory, Fault, Runs, ordered, unordered};
+use key_index_flat::index::{Factory, Fault, ordered, unordered};
 use key_index_flat::translator::{Cap, EightCap, FourCap, Hashed, OneCap, TwoCap, UnhashedArray};
 use key_index_parts::index::partitioned;
 use std::alloc::Global;
 use std::process::Abort;
 
-/// A kind of index over values of a type.
-pub(super) trait Kind<V> {
-    type Index: index::Unordered<Value = V> + Drop;
+/// A kind of index over numbers.
+pub(super) trait Kind {
+    type Index;
+
+    /// An index key.
+    type Slot;
 
     /// How many of a key's first two bytes its index key has.
     const WIDTH: usize;
 
     /// An index with no values.
-    fn make(&self, alloc: Global) -> Result<Self::Index, Fault>;
-
-    /// The index keys of 01 and of 1002ff.
-    fn slots() -> (<Self::Index as Runs>::Key, <Self::Index as Runs>::Key);
-}
-
-/// An index of a kind, with no values.
-pub(super) fn fresh<K: Kind<V>, V>(rt: &impl Abort, alloc: Global, kind: &K) -> K::Index {
-    kind.make(alloc).expect(rt, "an index")
-}
-
-/// A kind as the cases see it. Its index has no trait that promises anything, so that what goes over it is quickly proved.
-pub(super) trait Subject {
-    type Index: Called + Placed + Commanded + Drop;
-
-    /// How many of a key's first two bytes its index key has.
-    fn width(&self) -> usize;
-
-    /// An index with no values.
     fn index(&self, rt: &impl Abort, alloc: Global) -> Self::Index;
 
     /// The index keys of 01 and of 1002ff.
-    fn slots(&self) -> (<Self::Index as Tested>::Slot, <Self::Index as Tested>::Slot);
-}
-
-impl<K: Kind<u64>> Subject for K {
-    type Index = K::Index;
-
-    fn width(&self) -> usize {
-        K::WIDTH
-    }
-
-    fn index(&self, rt: &impl Abort, alloc: Global) -> K::Index {
-        fresh::<K, u64>(rt, alloc, self)
-    }
-
-    fn slots(&self) -> (<K::Index as Runs>::Key, <K::Index as Runs>::Key) {
-        K::slots()
-    }
-}
-
-/// The same of a kind that has an order.
-pub(super) trait SubjectInOrder {
-    type InOrder: Tested + InOrder + Drop;
-
-    fn in_order(&self, rt: &impl Abort, alloc: Global) -> Self::InOrder;
-}
-
-/// The same of a kind in partitions.
-pub(super) trait SubjectInPartitions {
-    type InPartitions: InPartitions + Drop;
-
-    fn in_partitions(&self, rt: &impl Abort, alloc: Global) -> Self::InPartitions;
-}
-
-/// The same of a kind whose batches look ahead.
-pub(super) trait SubjectAhead {
-    type Ahead: LooksAhead + Drop;
-
-    fn ahead(&self, rt: &impl Abort, alloc: Global) -> Self::Ahead;
+    fn slots() -> (Self::Slot, Self::Slot);
 }
 
 /// The flat unordered index.
 pub(super) struct Unordered;
 
-impl<V: Drop> Kind<V> for Unordered {
-    type Index = unordered::Index<OneCap, V>;
+impl Kind for Unordered {
+    type Index = unordered::Index<OneCap, u64>;
+
+    type Slot = u8;
 
     const WIDTH: usize = 1;
 
-    fn make(&self, alloc: Global) -> Result<Self::Index, Fault> {
-        Factory::new(alloc, OneCap)
+    fn index(&self, rt: &impl Abort, alloc: Global) -> unordered::Index<OneCap, u64> {
+        made(rt, unordered::Index::new(alloc, OneCap))
     }
 
     fn slots() -> (u8, u8) {
@@ -103,13 +47,22 @@ impl<V: Drop> Kind<V> for Unordered {
 /// The flat unordered index by a hash, which is the first byte of a key: keys that share it share a list, as under `OneCap`.
 pub(super) struct UnorderedByHash;
 
-impl<V: Drop> Kind<V> for UnorderedByHash {
-    type Index = unordered::Index<Hashed<FourCap, FirstByte>, V>;
+impl Kind for UnorderedByHash {
+    type Index = unordered::Index<Hashed<FourCap, FirstByte>, u64>;
+
+    type Slot = u32;
 
     const WIDTH: usize = 1;
 
-    fn make(&self, alloc: Global) -> Result<Self::Index, Fault> {
-        Factory::new(alloc, Hashed::from_seed(0, FourCap))
+    fn index(
+        &self,
+        rt: &impl Abort,
+        alloc: Global,
+    ) -> unordered::Index<Hashed<FourCap, FirstByte>, u64> {
+        made(
+            rt,
+            unordered::Index::new(alloc, Hashed::from_seed(0, FourCap)),
+        )
     }
 
     fn slots() -> (u32, u32) {
@@ -120,13 +73,15 @@ impl<V: Drop> Kind<V> for UnorderedByHash {
 /// The flat ordered index.
 pub(super) struct Ordered;
 
-impl<V: Drop> Kind<V> for Ordered {
-    type Index = ordered::Index<OneCap, V>;
+impl Kind for Ordered {
+    type Index = ordered::Index<OneCap, u64>;
+
+    type Slot = u8;
 
     const WIDTH: usize = 1;
 
-    fn make(&self, alloc: Global) -> Result<Self::Index, Fault> {
-        Factory::new(alloc, OneCap)
+    fn index(&self, rt: &impl Abort, alloc: Global) -> ordered::Index<OneCap, u64> {
+        made(rt, ordered::Index::new(alloc, OneCap))
     }
 
     fn slots() -> (u8, u8) {
@@ -134,41 +89,21 @@ impl<V: Drop> Kind<V> for Ordered {
     }
 }
 
-impl SubjectInOrder for Ordered {
-    type InOrder = ordered::Index<OneCap, u64>;
-
-    fn in_order(&self, rt: &impl Abort, alloc: Global) -> ordered::Index<OneCap, u64> {
-        fresh::<Ordered, u64>(rt, alloc, self)
-    }
-}
-
 /// The flat ordered index by two bytes.
 pub(super) struct OrderedByTwo;
-
-impl<V: Drop> Kind<V> for OrderedByTwo {
-    type Index = ordered::Index<TwoCap, V>;
-
-    const WIDTH: usize = 2;
-
-    fn make(&self, alloc: Global) -> Result<Self::Index, Fault> {
-        Factory::new(alloc, TwoCap)
-    }
-
-    fn slots() -> (u16, u16) {
-        (0x0100, 0x1002)
-    }
-}
 
 /// The flat ordered index by eight bytes.
 pub(super) struct OrderedByEight;
 
-impl<V: Drop> Kind<V> for OrderedByEight {
-    type Index = ordered::Index<EightCap, V>;
+impl Kind for OrderedByEight {
+    type Index = ordered::Index<EightCap, u64>;
+
+    type Slot = u64;
 
     const WIDTH: usize = 2;
 
-    fn make(&self, alloc: Global) -> Result<Self::Index, Fault> {
-        Factory::new(alloc, EightCap)
+    fn index(&self, rt: &impl Abort, alloc: Global) -> ordered::Index<EightCap, u64> {
+        made(rt, ordered::Index::new(alloc, EightCap))
     }
 
     fn slots() -> (u64, u64) {
@@ -176,24 +111,18 @@ impl<V: Drop> Kind<V> for OrderedByEight {
     }
 }
 
-impl SubjectInOrder for OrderedByEight {
-    type InOrder = ordered::Index<EightCap, u64>;
-
-    fn in_order(&self, rt: &impl Abort, alloc: Global) -> ordered::Index<EightCap, u64> {
-        fresh::<OrderedByEight, u64>(rt, alloc, self)
-    }
-}
-
 /// The flat ordered index by arrays of three bytes.
 pub(super) struct OrderedByArrays;
 
-impl<V: Drop> Kind<V> for OrderedByArrays {
-    type Index = ordered::Index<Cap<3>, V>;
+impl Kind for OrderedByArrays {
+    type Index = ordered::Index<Cap<3>, u64>;
+
+    type Slot = UnhashedArray<3>;
 
     const WIDTH: usize = 2;
 
-    fn make(&self, alloc: Global) -> Result<Self::Index, Fault> {
-        Factory::new(alloc, Cap::new())
+    fn index(&self, rt: &impl Abort, alloc: Global) -> ordered::Index<Cap<3>, u64> {
+        made(rt, ordered::Index::new(alloc, Cap::new()))
     }
 
     fn slots() -> (UnhashedArray<3>, UnhashedArray<3>) {
@@ -202,53 +131,45 @@ impl<V: Drop> Kind<V> for OrderedByArrays {
     }
 }
 
-impl SubjectInOrder for OrderedByArrays {
-    type InOrder = ordered::Index<Cap<3>, u64>;
-
-    fn in_order(&self, rt: &impl Abort, alloc: Global) -> ordered::Index<Cap<3>, u64> {
-        fresh::<OrderedByArrays, u64>(rt, alloc, self)
-    }
-}
-
 /// The partitioned unordered index, by one byte and then one more.
 pub(super) struct Punordered;
 
-impl<V: Drop> Kind<V> for Punordered {
-    type Index = partitioned::unordered::Index<OneCap, V, 1>;
+impl Kind for Punordered {
+    type Index = partitioned::unordered::Index<OneCap, u64, 1>;
+
+    type Slot = (usize, u8);
 
     const WIDTH: usize = 2;
 
-    fn make(&self, alloc: Global) -> Result<Self::Index, Fault> {
-        Factory::new(alloc, OneCap)
-    }
-
-    fn slots() -> ((usize, u8), (usize, u8)) {
-        ((0x01, 0), (0x10, 0x02))
-    }
-}
-
-impl SubjectInPartitions for Punordered {
-    type InPartitions = partitioned::unordered::Index<OneCap, u64, 1>;
-
-    fn in_partitions(
+    fn index(
         &self,
         rt: &impl Abort,
         alloc: Global,
     ) -> partitioned::unordered::Index<OneCap, u64, 1> {
-        fresh::<Punordered, u64>(rt, alloc, self)
+        made(rt, partitioned::unordered::Index::new(alloc, OneCap))
+    }
+
+    fn slots() -> ((usize, u8), (usize, u8)) {
+        ((0x01, 0), (0x10, 0x02))
     }
 }
 
 /// The partitioned unordered index, by two bytes and then one more.
 pub(super) struct PunorderedByTwo;
 
-impl<V: Drop> Kind<V> for PunorderedByTwo {
-    type Index = partitioned::unordered::Index<OneCap, V, 2>;
+impl Kind for PunorderedByTwo {
+    type Index = partitioned::unordered::Index<OneCap, u64, 2>;
+
+    type Slot = (usize, u8);
 
     const WIDTH: usize = 2;
 
-    fn make(&self, alloc: Global) -> Result<Self::Index, Fault> {
-        Factory::new(alloc, OneCap)
+    fn index(
+        &self,
+        rt: &impl Abort,
+        alloc: Global,
+    ) -> partitioned::unordered::Index<OneCap, u64, 2> {
+        made(rt, partitioned::unordered::Index::new(alloc, OneCap))
     }
 
     fn slots() -> ((usize, u8), (usize, u8)) {
@@ -256,36 +177,49 @@ impl<V: Drop> Kind<V> for PunorderedByTwo {
     }
 }
 
-impl SubjectInPartitions for PunorderedByTwo {
-    type InPartitions = partitioned::unordered::Index<OneCap, u64, 2>;
+/// A kind whose partitions spill, each index at a threshold of its own.
+pub(super) trait Spilling: Kind + Drop {
+    /// The kind whose partitions spill at so many values.
+    fn at(threshold: usize) -> Self;
+}
 
-    fn in_partitions(
+/// The partitioned ordered index, by one byte and then one more, whose partitions spill at 512 values or at so many.
+#[derive(Drop)]
+pub(super) enum Pordered {
+    AtDefault,
+    At(usize),
+}
+
+impl Pordered {
+    /// An index with no values, over any.
+    pub(super) fn make<V: Drop>(
         &self,
         rt: &impl Abort,
         alloc: Global,
-    ) -> partitioned::unordered::Index<OneCap, u64, 2> {
-        fresh::<PunorderedByTwo, u64>(rt, alloc, self)
+    ) -> Result<partitioned::ordered::Index<OneCap, V, 1>, Fault> {
+        match *self {
+            Pordered::AtDefault => Factory::new(alloc, OneCap),
+            Pordered::At(threshold) => {
+                assert!(rt; threshold > 0);
+                partitioned::ordered::Index::with_threshold(alloc, OneCap, threshold)
+            }
+        }
     }
 }
 
-/// The partitioned ordered index, by one byte and then one more, whose partitions spill at 512 values, or at the first or second one.
-pub(super) enum Pordered {
-    AtDefault,
-    AtOne,
-    AtTwo,
-}
+impl Kind for Pordered {
+    type Index = partitioned::ordered::Index<OneCap, u64, 1>;
 
-impl<V: Drop> Kind<V> for Pordered {
-    type Index = partitioned::ordered::Index<OneCap, V, 1>;
+    type Slot = (usize, u8);
 
     const WIDTH: usize = 2;
 
-    fn make(&self, alloc: Global) -> Result<Self::Index, Fault> {
-        match self {
-            Pordered::AtDefault => Factory::new(alloc, OneCap),
-            Pordered::AtOne => partitioned::ordered::Index::with_threshold(alloc, OneCap, 1),
-            Pordered::AtTwo => partitioned::ordered::Index::with_threshold(alloc, OneCap, 2),
+    fn index(&self, rt: &impl Abort, alloc: Global) -> partitioned::ordered::Index<OneCap, u64, 1> {
+        let index = made(rt, self.make(rt, alloc));
+        if let Pordered::At(threshold) = *self {
+            assert_eq!(rt; index.threshold(), threshold);
         }
+        index
     }
 
     fn slots() -> ((usize, u8), (usize, u8)) {
@@ -293,48 +227,56 @@ impl<V: Drop> Kind<V> for Pordered {
     }
 }
 
-impl SubjectInOrder for Pordered {
-    type InOrder = partitioned::ordered::Index<OneCap, u64, 1>;
-
-    fn in_order(
-        &self,
-        rt: &impl Abort,
-        alloc: Global,
-    ) -> partitioned::ordered::Index<OneCap, u64, 1> {
-        fresh::<Pordered, u64>(rt, alloc, self)
+impl Spilling for Pordered {
+    fn at(threshold: usize) -> Pordered {
+        Pordered::At(threshold)
     }
 }
 
-impl SubjectInPartitions for Pordered {
-    type InPartitions = partitioned::ordered::Index<OneCap, u64, 1>;
+/// The partitioned ordered index by one byte and then two more, whose partitions spill at so many values.
+#[derive(Drop)]
+pub(super) struct PorderedWide(usize);
 
-    fn in_partitions(
-        &self,
-        rt: &impl Abort,
-        alloc: Global,
-    ) -> partitioned::ordered::Index<OneCap, u64, 1> {
-        fresh::<Pordered, u64>(rt, alloc, self)
+impl Kind for PorderedWide {
+    type Index = partitioned::ordered::Index<TwoCap, u64, 1>;
+
+    type Slot = (usize, u16);
+
+    const WIDTH: usize = 2;
+
+    fn index(&self, rt: &impl Abort, alloc: Global) -> partitioned::ordered::Index<TwoCap, u64, 1> {
+        assert!(rt; self.0 > 0);
+        let index = made(
+            rt,
+            partitioned::ordered::Index::with_threshold(alloc, TwoCap, self.0),
+        );
+        assert_eq!(rt; index.threshold(), self.0);
+        index
+    }
+
+    fn slots() -> ((usize, u16), (usize, u16)) {
+        ((0x01, 0), (0x10, 0x02ff))
     }
 }
 
-impl SubjectAhead for Pordered {
-    type Ahead = partitioned::ordered::Index<OneCap, u64, 1>;
-
-    fn ahead(&self, rt: &impl Abort, alloc: Global) -> partitioned::ordered::Index<OneCap, u64, 1> {
-        fresh::<Pordered, u64>(rt, alloc, self)
+impl Spilling for PorderedWide {
+    fn at(threshold: usize) -> PorderedWide {
+        PorderedWide(threshold)
     }
 }
 
 /// The partitioned ordered index, by two bytes and then one more.
 pub(super) struct PorderedByTwo;
 
-impl<V: Drop> Kind<V> for PorderedByTwo {
-    type Index = partitioned::ordered::Index<OneCap, V, 2>;
+impl Kind for PorderedByTwo {
+    type Index = partitioned::ordered::Index<OneCap, u64, 2>;
+
+    type Slot = (usize, u8);
 
     const WIDTH: usize = 2;
 
-    fn make(&self, alloc: Global) -> Result<Self::Index, Fault> {
-        Factory::new(alloc, OneCap)
+    fn index(&self, rt: &impl Abort, alloc: Global) -> partitioned::ordered::Index<OneCap, u64, 2> {
+        made(rt, partitioned::ordered::Index::new(alloc, OneCap))
     }
 
     fn slots() -> ((usize, u8), (usize, u8)) {
@@ -342,59 +284,21 @@ impl<V: Drop> Kind<V> for PorderedByTwo {
     }
 }
 
-impl SubjectInOrder for PorderedByTwo {
-    type InOrder = partitioned::ordered::Index<OneCap, u64, 2>;
-
-    fn in_order(
-        &self,
-        rt: &impl Abort,
-        alloc: Global,
-    ) -> partitioned::ordered::Index<OneCap, u64, 2> {
-        fresh::<PorderedByTwo, u64>(rt, alloc, self)
-    }
-}
-
-impl SubjectInPartitions for PorderedByTwo {
-    type InPartitions = partitioned::ordered::Index<OneCap, u64, 2>;
-
-    fn in_partitions(
-        &self,
-        rt: &impl Abort,
-        alloc: Global,
-    ) -> partitioned::ordered::Index<OneCap, u64, 2> {
-        fresh::<PorderedByTwo, u64>(rt, alloc, self)
-    }
-}
-
-impl SubjectAhead for PorderedByTwo {
-    type Ahead = partitioned::ordered::Index<OneCap, u64, 2>;
-
-    fn ahead(&self, rt: &impl Abort, alloc: Global) -> partitioned::ordered::Index<OneCap, u64, 2> {
-        fresh::<PorderedByTwo, u64>(rt, alloc, self)
-    }
-}
-
 /// The plain index.
 pub(super) struct Plain;
 
-impl<V: Drop> Kind<V> for Plain {
-    type Index = key_index_plain::Index<OneCap, V>;
+impl Kind for Plain {
+    type Index = key_index_plain::Index<OneCap, u64>;
+
+    type Slot = u8;
 
     const WIDTH: usize = 1;
 
-    fn make(&self, alloc: Global) -> Result<Self::Index, Fault> {
-        Factory::new(alloc, OneCap)
+    fn index(&self, rt: &impl Abort, alloc: Global) -> key_index_plain::Index<OneCap, u64> {
+        made(rt, key_index_plain::Index::new(alloc, OneCap))
     }
 
     fn slots() -> (u8, u8) {
         (0x01, 0x10)
-    }
-}
-
-impl SubjectInOrder for Plain {
-    type InOrder = key_index_plain::Index<OneCap, u64>;
-
-    fn in_order(&self, rt: &impl Abort, alloc: Global) -> key_index_plain::Index<OneCap, u64> {
-        fresh::<Plain, u64>(rt, alloc, self)
     }
 }

@@ -1,15 +1,16 @@
 //! What the partitioned ordered index alone has: how much a partition holds, and neighbours across sixteen million partitions.
-use super::checks::{Tested, fill, fresh};
+use super::checks::{Tested, fill, made};
+use super::groups::spills;
 use super::neighbours::{InOrder, next_has, prev_has};
-use super::stands::{Small, SubjectThatSpills, is_inline};
+use super::spilling::Case;
+use super::stands::{StandsWhole, is_inline};
+use key_index_flat::index::Factory;
 use key_index_flat::translator::TwoCap;
 use key_index_parts::index::partitioned::ordered;
-use std::alloc::Global;
 use std::process::Abort;
 
 /// Values are put in behind those of their key, and a partition tells how many it holds.
-fn behind<K: SubjectThatSpills>(rt: &impl Abort, alloc: Global, kind: &K) {
-    let index = &mut kind.spilling_at(rt, alloc, 512);
+pub(super) fn behind<I: Tested + StandsWhole>(rt: &impl Abort, index: &mut I) {
     fill(rt, index, b"\x10\x02", &[1, 2, 3]);
     index.holds(rt, b"\x10\x02", &[1, 2, 3]);
     fill(rt, index, b"\x10\x01", &[4]);
@@ -37,11 +38,14 @@ fn far_apart<I: Tested + InOrder>(rt: &impl Abort, index: &mut I) {
 
 #[test]
 fn values_go_behind(rt: HostRuntime) {
-    behind(&rt, rt.alloc(), &Small);
+    spills(&rt, rt.alloc(), Case::Behind)
 }
 
 #[test]
 fn neighbours_stand_across_all_partitions(rt: HostRuntime) {
-    let mut index: ordered::Index<TwoCap, u64, 3> = fresh(&rt, rt.alloc(), TwoCap);
+    let mut index = made(
+        &rt,
+        ordered::Index::<TwoCap, u64, 3>::new(rt.alloc(), TwoCap),
+    );
     far_apart(&rt, &mut index);
 }

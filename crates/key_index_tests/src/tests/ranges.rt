@@ -155,11 +155,13 @@ impl<R: PartitionRange<Value = u64>> Ranged for R {
         count: u64,
         numbers: &mut Numbers,
     ) {
+        let is_held = !list.is_empty();
         match gets(rt, self, key) {
             Some(mut cursor) => {
+                must(rt, is_held, "no value", key);
                 goes_beside(rt, alloc, &mut cursor, list, Way::Behind(count), numbers)
             }
-            None => must(rt, list.is_empty(), "the values", key),
+            None => must(rt, !is_held, "the values", key),
         }
     }
 
@@ -172,7 +174,7 @@ impl<R: PartitionRange<Value = u64>> Ranged for R {
 }
 
 /// An index in partitions as the cases see it.
-pub(super) trait InPartitions: Tested {
+pub(super) trait InPartitions {
     type Range: Ranged + Drop;
 
     fn partitions(&self) -> usize;
@@ -283,7 +285,11 @@ fn edit<R: Ranged>(rt: &impl Abort, alloc: Global, range: &mut R) {
 }
 
 /// A range with one list of three thousand values gives each of them once.
-pub(super) fn gives_a_long_list<I: InPartitions>(rt: &impl Abort, alloc: Global, index: &I) {
+pub(super) fn gives_a_long_list<I: Tested + InPartitions>(
+    rt: &impl Abort,
+    alloc: Global,
+    index: &I,
+) {
     let mut range = index.range_of(rt, 0x80, 1);
     range.inserts(rt, b"\x80\x01", 1);
     let mut list = Vec::new(alloc);
@@ -296,7 +302,7 @@ pub(super) fn gives_a_long_list<I: InPartitions>(rt: &impl Abort, alloc: Global,
 }
 
 /// A range at 0x80 of 2, which is installed in the index that made it.
-pub(super) fn installed<I: InPartitions>(rt: &impl Abort, alloc: Global, index: &mut I) {
+pub(super) fn installed<I: Tested + InPartitions>(rt: &impl Abort, alloc: Global, index: &mut I) {
     let mut range = index.range_of(rt, 0x80, 2);
     build(rt, alloc, &mut range);
     assert!(rt; !range.covers(b"\x82\x00"));
@@ -310,7 +316,7 @@ pub(super) fn installed<I: InPartitions>(rt: &impl Abort, alloc: Global, index: 
 }
 
 /// A range whose list was edited, installed beside a key of another partition: values that were taken out are counted.
-pub(super) fn installed_after_edits<I: InPartitions>(
+pub(super) fn installed_after_edits<I: Tested + InPartitions>(
     rt: &impl Abort,
     alloc: Global,
     index: &mut I,
@@ -327,7 +333,7 @@ pub(super) fn installed_after_edits<I: InPartitions>(
 }
 
 /// Which partitions and ranges are empty in an index that holds 9 under [80,01], and a range of no partition.
-pub(super) fn found_empty<I: InPartitions>(rt: &impl Abort, index: &mut I) {
+pub(super) fn found_empty<I: Tested + InPartitions>(rt: &impl Abort, index: &mut I) {
     index.inserts(rt, b"\x80\x01", 9);
     for (offset, count, has_room) in [(0x80, 2, false), (0x7f, 2, false), (0x81, 1, true)] {
         let range = index.range_of(rt, offset, count);
@@ -361,7 +367,7 @@ fn has_values<R: Ranged>(rt: &impl Abort, alloc: Global, low: &R, high: &R, list
 
 /// Two ranges that cover all partitions, called some thousand times by keys that they hold, answer as lists do that the test keeps,
 /// and so does the index once they are installed. Its index keys have the first so many bytes of a key.
-pub(super) fn called_beside<I: InPartitions>(
+pub(super) fn called_beside<I: Tested + InPartitions>(
     rt: &impl Abort,
     alloc: Global,
     index: &mut I,

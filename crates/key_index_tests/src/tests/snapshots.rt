@@ -1,10 +1,10 @@
 //! Snapshots: what they answer on examples, and beside a sorted list of full keys that the test keeps.
 use super::builds::are_cuts;
-use super::checks::push;
-use super::kinds::{self, Kind, OrderedByEight, OrderedByTwo, Pordered, fresh};
+use super::checks::{made, push};
+use super::kinds::{self, OrderedByEight, OrderedByTwo, Pordered};
 use super::numbers::Numbers;
 use key_index::snapshot::{Record, Snapshot};
-use key_index_flat::index::{Ordered, Unordered, ordered};
+use key_index_flat::index::{Factory, Fault, Ordered, Unordered, ordered};
 use key_index_flat::translator::{EightCap, OneCap, TwoCap};
 use key_index_parts::index::partitioned::{self, Partitioned};
 use key_index_uses::snapshots::gap_at;
@@ -72,10 +72,66 @@ impl<I: Ordered<Value = Record>> Kept for Snapshot<I> {
     }
 }
 
-/// A kind of index whose partitions are by one byte, as these cases see it.
-pub(super) trait SubjectOfBuilds {
-    type Built: Kept + Drop;
+/// A kind of index that a snapshot is over.
+pub(super) trait OfSnapshots {
+    type Snapshot;
 
+    /// A snapshot with no key.
+    fn snapshot(&self, rt: &impl Abort, alloc: Global) -> Self::Snapshot;
+}
+
+/// A snapshot over an index with no values.
+fn over_empty<I: Ordered<Value = Record>>(
+    rt: &impl Abort,
+    alloc: Global,
+    index: Result<I, Fault>,
+) -> Snapshot<I> {
+    let index = made(rt, index);
+    assert_eq!(rt; index.keys(), 0);
+    Snapshot::new(alloc, index)
+}
+
+impl OfSnapshots for kinds::Ordered {
+    type Snapshot = Snapshot<ordered::Index<OneCap, Record>>;
+
+    fn snapshot(&self, rt: &impl Abort, alloc: Global) -> Snapshot<ordered::Index<OneCap, Record>> {
+        over_empty(rt, alloc, ordered::Index::new(alloc, OneCap))
+    }
+}
+
+impl OfSnapshots for OrderedByTwo {
+    type Snapshot = Snapshot<ordered::Index<TwoCap, Record>>;
+
+    fn snapshot(&self, rt: &impl Abort, alloc: Global) -> Snapshot<ordered::Index<TwoCap, Record>> {
+        over_empty(rt, alloc, ordered::Index::new(alloc, TwoCap))
+    }
+}
+
+impl OfSnapshots for OrderedByEight {
+    type Snapshot = Snapshot<ordered::Index<EightCap, Record>>;
+
+    fn snapshot(
+        &self,
+        rt: &impl Abort,
+        alloc: Global,
+    ) -> Snapshot<ordered::Index<EightCap, Record>> {
+        over_empty(rt, alloc, ordered::Index::new(alloc, EightCap))
+    }
+}
+
+/// The snapshot over partitions by one byte and then one more.
+type InPartitions = Snapshot<partitioned::ordered::Index<OneCap, Record, 1>>;
+
+impl OfSnapshots for Pordered {
+    type Snapshot = InPartitions;
+
+    fn snapshot(&self, rt: &impl Abort, alloc: Global) -> InPartitions {
+        over_empty(rt, alloc, self.make(rt, alloc))
+    }
+}
+
+/// A kind of index whose partitions are by one byte, in which a snapshot is built.
+pub(super) trait OfBuilds: OfSnapshots {
     /// A build of an empty index is accepted.
     fn builds(
         &self,
@@ -83,25 +139,10 @@ pub(super) trait SubjectOfBuilds {
         alloc: Global,
         cuts: &[usize],
         records: Vec<Record>,
-    ) -> Self::Built;
+    ) -> Self::Snapshot;
 }
 
-/// A snapshot over a kind, with no key.
-fn empty<K: Kind<Record>>(rt: &impl Abort, alloc: Global, kind: &K) -> Snapshot<K::Index>
-where
-    K::Index: Ordered<Value = Record>,
-{
-    let index = fresh::<K, Record>(rt, alloc, kind);
-    assert_eq!(rt; index.keys(), 0);
-    Snapshot::new(alloc, index)
-}
-
-/// The snapshot over partitions by one byte and then one more.
-type InPartitions = Snapshot<partitioned::ordered::Index<OneCap, Record, 1>>;
-
-impl SubjectOfBuilds for Pordered {
-    type Built = InPartitions;
-
+impl OfBuilds for Pordered {
     fn builds(
         &self,
         rt: &impl Abort,
@@ -109,7 +150,7 @@ impl SubjectOfBuilds for Pordered {
         cuts: &[usize],
         records: Vec<Record>,
     ) -> InPartitions {
-        let index = fresh::<Pordered, Record>(rt, alloc, self);
+        let index = made(rt, self.make(rt, alloc));
         assert_eq!(rt; index.keys(), 0);
         assert!(rt;
             are_cuts(cuts, index.partition_count()),
@@ -177,7 +218,10 @@ fn record(rt: &impl Abort, alloc: Global, records: &mut Vec<Record>, key: &[u8],
 }
 
 /// The last record of a key stands, and so do three under one index key.
-fn built<K: SubjectOfBuilds>(rt: &impl Abort, alloc: Global, kind: &K) {
+fn built<K: OfBuilds>(rt: &impl Abort, alloc: Global, kind: &K)
+where
+    K::Snapshot: Kept + Drop,
+{
     let mut records = Vec::new(alloc);
     record(rt, alloc, &mut records, b"\x10\x01", 1);
     record(rt, alloc, &mut records, b"\x90\x01", 2);
@@ -353,12 +397,10 @@ fn called_beside<S: Kept>(rt: &impl Abort, alloc: Global, snapshot: &mut S) {
 }
 
 /// A snapshot that is built of up to 63 records answers as the list does that they are put into one by one.
-fn built_beside<K: SubjectOfBuilds>(
-    rt: &impl Abort,
-    alloc: Global,
-    kind: &K,
-    numbers: &mut Numbers,
-) {
+fn built_beside<K: OfBuilds>(rt: &impl Abort, alloc: Global, kind: &K, numbers: &mut Numbers)
+where
+    K::Snapshot: Kept + Drop,
+{
     let mut kept = KeptKeys::new(alloc);
     let mut records = Vec::new(alloc);
     for _ in 0..numbers.next() % 64 {
@@ -374,19 +416,19 @@ fn built_beside<K: SubjectOfBuilds>(
 }
 
 /// The examples and the random calls, over a kind.
-fn over<K: Kind<Record>>(rt: &impl Abort, alloc: Global, kind: &K)
+fn over<K: OfSnapshots>(rt: &impl Abort, alloc: Global, kind: &K)
 where
-    K::Index: Ordered<Value = Record>,
+    K::Snapshot: Kept + Drop,
 {
-    set_and_unset(rt, &mut empty(rt, alloc, kind));
-    zeros_tell_apart(rt, &mut empty(rt, alloc, kind));
-    called_beside(rt, alloc, &mut empty(rt, alloc, kind));
+    set_and_unset(rt, &mut kind.snapshot(rt, alloc));
+    zeros_tell_apart(rt, &mut kind.snapshot(rt, alloc));
+    called_beside(rt, alloc, &mut kind.snapshot(rt, alloc));
 }
 
 /// The same, and the example and the random builds, over a kind whose partitions are by one byte.
-fn over_partitions<K: Kind<Record> + SubjectOfBuilds>(rt: &impl Abort, alloc: Global, kind: &K)
+fn over_partitions<K: OfBuilds>(rt: &impl Abort, alloc: Global, kind: &K)
 where
-    K::Index: Ordered<Value = Record>,
+    K::Snapshot: Kept + Drop,
 {
     over(rt, alloc, kind);
     built(rt, alloc, kind);
@@ -422,10 +464,10 @@ fn snapshot_over_partitioned_ordered(rt: HostRuntime) {
 
 #[test]
 fn snapshot_over_partitions_that_spill_at_one(rt: HostRuntime) {
-    over_pordered(&rt, rt.alloc(), &Pordered::AtOne)
+    over_pordered(&rt, rt.alloc(), &Pordered::At(1))
 }
 
 #[test]
 fn snapshot_over_partitions_that_spill_at_two(rt: HostRuntime) {
-    over_pordered(&rt, rt.alloc(), &Pordered::AtTwo)
+    over_pordered(&rt, rt.alloc(), &Pordered::At(2))
 }

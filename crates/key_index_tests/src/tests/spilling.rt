@@ -2,13 +2,15 @@
 ghost use Rattle.std.specs.Prelude.{◌≤◌};
 
 use super::calls;
-use super::checks::{Move, Tested, fill, fresh};
+use super::checks::{Move, Tested, fill, made};
 use super::extremes::numbers_below;
+use super::groups::spills;
+use super::kinds::Spilling;
 use super::neighbours::{InOrder, next_has, prev_has};
+use super::partitioned_ordered::behind;
 use super::ranges::{InPartitions, Ranged};
 use super::stands::{
-    Small, Stands, StandsWhole, SubjectThatSpills, has_moved, has_spilled, is_inline, is_spilled,
-    moves_within,
+    Stands, StandsWhole, has_moved, has_spilled, is_inline, is_spilled, moves_within,
 };
 use key_index_flat::translator::OneCap;
 use key_index_parts::index::partitioned::ordered::Index;
@@ -152,8 +154,10 @@ fn spilled_at_512<I: Tested + StandsWhole>(rt: &impl Abort, alloc: Global, index
 fn spilled_by_two_bytes(rt: &impl Abort, alloc: Global, threshold: usize)
     requires { 1 ≤ threshold }
 {
-    let index = Index::<OneCap, u64, 2>::with_threshold(alloc, OneCap, threshold);
-    let mut index = index.expect(rt, "an index");
+    let mut index = made(
+        rt,
+        Index::<OneCap, u64, 2>::with_threshold(alloc, OneCap, threshold),
+    );
     calls::filed_under(rt, &mut index, ((0x0100, 0), (0x1002, 0xff)));
     assert!(rt; index.is_spilled(0x0100));
     assert_eq!(rt; index.spills(), 1);
@@ -386,7 +390,7 @@ fn moved_back_in_order<I: Tested + InOrder + StandsWhole>(
 }
 
 /// A range of an index that spills at 2 is installed in one that spills at 8, as it stands: the next `remove` moves it back.
-fn moved_back_where_installed<I: InPartitions + StandsWhole>(
+fn moved_back_where_installed<I: Tested + InPartitions + StandsWhole>(
     rt: &impl Abort,
     index: &mut I,
     other: &I,
@@ -453,7 +457,7 @@ fn drained_range<R: Ranged + Stands>(rt: &impl Abort, alloc: Global, range: &mut
 }
 
 /// A range over all partitions spills one and drains it; the index has its counts once it is installed.
-fn spilled_and_drained_in_range<I: InPartitions + StandsWhole>(
+fn spilled_and_drained_in_range<I: Tested + InPartitions + StandsWhole>(
     rt: &impl Abort,
     alloc: Global,
     index: &mut I,
@@ -481,7 +485,7 @@ fn spilled_range<R: Ranged + Stands>(rt: &impl Abort, range: &mut R) {
 }
 
 /// Such a range is installed as it stands.
-fn installed_spilled<I: InPartitions + StandsWhole>(rt: &impl Abort, index: &mut I)
+fn installed_spilled<I: Tested + InPartitions + StandsWhole>(rt: &impl Abort, index: &mut I)
 where
     I::Range: Stands,
 {
@@ -497,7 +501,11 @@ where
 }
 
 /// A range with arrays past the threshold is installed as it stands, and they spill at the next call by key.
-fn installed_grown<I: InPartitions + StandsWhole>(rt: &impl Abort, alloc: Global, index: &mut I)
+fn installed_grown<I: Tested + InPartitions + StandsWhole>(
+    rt: &impl Abort,
+    alloc: Global,
+    index: &mut I,
+)
 where
     I::Range: Stands,
 {
@@ -512,8 +520,13 @@ where
     index.holds(rt, b"\x10\x01", &[1, 2, 3]);
 }
 
-/// Cases of the index by one byte and then one more that go together.
-enum Case {
+/// Cases that go together.
+#[derive(Clone, Copy)]
+pub(super) enum Case {
+    /// The default threshold.
+    Default,
+    /// Values behind those of their key.
+    Behind,
     /// Which insertions spill.
     Insertions,
     /// Each call that spills what a cursor let grow.
@@ -529,67 +542,86 @@ enum Case {
 }
 
 /// Which insertions spill.
-fn insertions<K: SubjectThatSpills>(rt: &impl Abort, alloc: Global, kind: &K) {
-    spilled_by_insertions(rt, &mut kind.spilling_at(rt, alloc, 2));
-    spilled_by_one(rt, &mut kind.spilling_at(rt, alloc, 1));
-    spilled_by_what_is_left(rt, alloc, &mut kind.spilling_at(rt, alloc, 3));
+fn insertions<K: Spilling>(rt: &impl Abort, alloc: Global)
+where
+    K::Index: Tested + StandsWhole + Drop,
+{
+    spilled_by_insertions(rt, &mut K::at(2).index(rt, alloc));
+    spilled_by_one(rt, &mut K::at(1).index(rt, alloc));
+    spilled_by_what_is_left(rt, alloc, &mut K::at(3).index(rt, alloc));
 }
 
 /// Each call that spills what a cursor let grow.
-fn calls_that_spill<K: SubjectThatSpills>(rt: &impl Abort, alloc: Global, kind: &K) {
-    spilled_by_remove(rt, alloc, &mut kind.spilling_at(rt, alloc, 2));
-    spilled_by_retain(rt, alloc, &mut kind.spilling_at(rt, alloc, 2));
-    spilled_by_get_mut(rt, alloc, &mut kind.spilling_at(rt, alloc, 2));
-    spilled_by_get_mut_or_insert(rt, alloc, &mut kind.spilling_at(rt, alloc, 2));
-    spilled_by_insert(rt, alloc, &mut kind.spilling_at(rt, alloc, 2));
-    spilled_by_insert_and_retain(rt, alloc, &mut kind.spilling_at(rt, alloc, 2));
-    spilled_and_emptied(rt, alloc, &mut kind.spilling_at(rt, alloc, 2));
-    others_stand(rt, alloc, &mut kind.spilling_at(rt, alloc, 2));
+fn calls_that_spill<K: Spilling>(rt: &impl Abort, alloc: Global)
+where
+    K::Index: Tested + StandsWhole + Drop,
+{
+    spilled_by_remove(rt, alloc, &mut K::at(2).index(rt, alloc));
+    spilled_by_retain(rt, alloc, &mut K::at(2).index(rt, alloc));
+    spilled_by_get_mut(rt, alloc, &mut K::at(2).index(rt, alloc));
+    spilled_by_get_mut_or_insert(rt, alloc, &mut K::at(2).index(rt, alloc));
+    spilled_by_insert(rt, alloc, &mut K::at(2).index(rt, alloc));
+    spilled_by_insert_and_retain(rt, alloc, &mut K::at(2).index(rt, alloc));
+    spilled_and_emptied(rt, alloc, &mut K::at(2).index(rt, alloc));
+    others_stand(rt, alloc, &mut K::at(2).index(rt, alloc));
 }
 
 /// Partitions that are emptied and filled again.
-fn lives<K: SubjectThatSpills>(rt: &impl Abort, alloc: Global, kind: &K) {
-    lived(rt, alloc, &mut kind.spilling_at(rt, alloc, 2));
-    emptied_and_grown_by_cursor(rt, alloc, &mut kind.spilling_at(rt, alloc, 2));
+fn lives<K: Spilling>(rt: &impl Abort, alloc: Global)
+where
+    K::Index: Tested + StandsWhole + Drop,
+{
+    lived(rt, alloc, &mut K::at(2).index(rt, alloc));
+    emptied_and_grown_by_cursor(rt, alloc, &mut K::at(2).index(rt, alloc));
 }
 
 /// Spilled partitions that move back.
-fn returns<K: SubjectThatSpills>(rt: &impl Abort, alloc: Global, kind: &K) {
-    moved_back_by_remove(rt, &mut kind.spilling_at(rt, alloc, 8));
-    moved_back_by_the_next_call(rt, alloc, &mut kind.spilling_at(rt, alloc, 8));
-    moved_back_and_spilled_again(rt, &mut kind.spilling_at(rt, alloc, 3));
-    spilled_and_moved_back(rt, alloc, &mut kind.spilling_at(rt, alloc, 8));
-    moved_back_in_order(rt, alloc, &mut kind.spilling_at(rt, alloc, 8));
-    let other = kind.spilling_at(rt, alloc, 2);
-    moved_back_where_installed(rt, &mut kind.spilling_at(rt, alloc, 8), &other);
+fn returns<K: Spilling>(rt: &impl Abort, alloc: Global)
+where
+    K::Index: Tested + InOrder + InPartitions + StandsWhole + Drop,
+    <K::Index as InPartitions>::Range: Stands,
+{
+    moved_back_by_remove(rt, &mut K::at(8).index(rt, alloc));
+    moved_back_by_the_next_call(rt, alloc, &mut K::at(8).index(rt, alloc));
+    moved_back_and_spilled_again(rt, &mut K::at(3).index(rt, alloc));
+    spilled_and_moved_back(rt, alloc, &mut K::at(8).index(rt, alloc));
+    moved_back_in_order(rt, alloc, &mut K::at(8).index(rt, alloc));
+    let other = K::at(2).index(rt, alloc);
+    moved_back_where_installed(rt, &mut K::at(8).index(rt, alloc), &other);
 }
 
 /// Ranges that spill.
-fn ranges_that_spill<K: SubjectThatSpills>(rt: &impl Abort, alloc: Global, kind: &K) {
-    spilled_and_drained_in_range(rt, alloc, &mut kind.spilling_at(rt, alloc, 2));
-    installed_spilled(rt, &mut kind.spilling_at(rt, alloc, 2));
-    installed_grown(rt, alloc, &mut kind.spilling_at(rt, alloc, 2));
+fn ranges_that_spill<K: Spilling>(rt: &impl Abort, alloc: Global)
+where
+    K::Index: Tested + InPartitions + StandsWhole + Drop,
+    <K::Index as InPartitions>::Range: Stands,
+{
+    spilled_and_drained_in_range(rt, alloc, &mut K::at(2).index(rt, alloc));
+    installed_spilled(rt, &mut K::at(2).index(rt, alloc));
+    installed_grown(rt, alloc, &mut K::at(2).index(rt, alloc));
 }
 
-/// A case of an index by one byte and then one more.
-fn on<K: SubjectThatSpills>(rt: &impl Abort, alloc: Global, kind: &K, case: Case) {
+/// A case.
+pub(super) fn on<K: Spilling>(rt: &impl Abort, alloc: Global, kind: &K, case: Case)
+where
+    K::Index: Tested + InOrder + InPartitions + StandsWhole + Drop,
+    <K::Index as InPartitions>::Range: Stands,
+{
     match case {
-        Case::Insertions => insertions(rt, alloc, kind),
-        Case::Calls => calls_that_spill(rt, alloc, kind),
-        Case::Lives => lives(rt, alloc, kind),
-        Case::Returns => returns(rt, alloc, kind),
-        Case::Neighbours => next_to_spilled(rt, &mut kind.spilling_at(rt, alloc, 2)),
-        Case::Ranges => ranges_that_spill(rt, alloc, kind),
+        Case::Default => spilled_at_512(rt, alloc, &mut kind.index(rt, alloc)),
+        Case::Behind => behind(rt, &mut K::at(512).index(rt, alloc)),
+        Case::Insertions => insertions::<K>(rt, alloc),
+        Case::Calls => calls_that_spill::<K>(rt, alloc),
+        Case::Lives => lives::<K>(rt, alloc),
+        Case::Returns => returns::<K>(rt, alloc),
+        Case::Neighbours => next_to_spilled(rt, &mut K::at(2).index(rt, alloc)),
+        Case::Ranges => ranges_that_spill::<K>(rt, alloc),
     }
-}
-
-fn on_small(rt: &impl Abort, alloc: Global, case: Case) {
-    on(rt, alloc, &Small, case)
 }
 
 #[test]
 fn insertions_spill(rt: HostRuntime) {
-    on_small(&rt, rt.alloc(), Case::Insertions)
+    spills(&rt, rt.alloc(), Case::Insertions)
 }
 
 #[test]
@@ -600,31 +632,30 @@ fn short_keys_spill(rt: HostRuntime) {
 
 #[test]
 fn each_call_spills_what_is_due(rt: HostRuntime) {
-    on_small(&rt, rt.alloc(), Case::Calls)
+    spills(&rt, rt.alloc(), Case::Calls)
 }
 
 #[test]
 fn default_threshold_is_512(rt: HostRuntime) {
-    let mut index: Index<OneCap, u64, 1> = fresh(&rt, rt.alloc(), OneCap);
-    spilled_at_512(&rt, rt.alloc(), &mut index);
+    spills(&rt, rt.alloc(), Case::Default)
 }
 
 #[test]
 fn spilled_partitions_live(rt: HostRuntime) {
-    on_small(&rt, rt.alloc(), Case::Lives)
+    spills(&rt, rt.alloc(), Case::Lives)
 }
 
 #[test]
 fn small_partitions_move_back(rt: HostRuntime) {
-    on_small(&rt, rt.alloc(), Case::Returns)
+    spills(&rt, rt.alloc(), Case::Returns)
 }
 
 #[test]
 fn neighbours_stand_across_arrays_and_trees(rt: HostRuntime) {
-    on_small(&rt, rt.alloc(), Case::Neighbours)
+    spills(&rt, rt.alloc(), Case::Neighbours)
 }
 
 #[test]
 fn ranges_spill(rt: HostRuntime) {
-    on_small(&rt, rt.alloc(), Case::Ranges)
+    spills(&rt, rt.alloc(), Case::Ranges)
 }

@@ -2,11 +2,13 @@
 //! keeps. Ranges of it are made, called and installed on the way.
 use super::checks::{Tested, push};
 use super::command_lists::{has_all, key};
+use super::groups::stands;
+use super::kinds::Spilling;
 use super::lists::{self, Edited, KeptLists, Way, counts_as, list_at, place};
 use super::neighbours::InOrder;
 use super::numbers::Numbers;
 use super::ranges::{InPartitions, Ranged};
-use super::stands::{Small, Stands, StandsWhole, SubjectThatSpills};
+use super::stands::{Stands, StandsWhole};
 use std::alloc::Global;
 use std::process::Abort;
 
@@ -400,7 +402,7 @@ fn clear<I: Tested>(
 
 /// A range of some partitions, of an index that spills at another threshold, is called some hundred times, stands as the rules say,
 /// and is installed once its partitions are cleared.
-fn install<I: InOrder + InPartitions + StandsWhole>(
+fn install<I: Tested + InOrder + InPartitions + StandsWhole>(
     rt: &impl Abort,
     alloc: Global,
     index: &mut I,
@@ -462,7 +464,7 @@ fn any<'a, I>(rt: &impl Abort, indices: &'a [I], numbers: &mut Numbers) -> &'a I
 }
 
 /// An index answers and stands as what is kept beside it, and so do ranges of others.
-fn stands_beside<I: InOrder + InPartitions + StandsWhole>(
+fn stands_beside<I: Tested + InOrder + InPartitions + StandsWhole>(
     rt: &impl Abort,
     alloc: Global,
     index: &mut I,
@@ -495,45 +497,45 @@ where
 const THRESHOLDS: [usize; 6] = [1, 2, 3, 8, 64, 512];
 
 /// So does one that spills at a threshold, and ranges that spill at this or another one.
-fn stands_at<K: SubjectThatSpills>(rt: &impl Abort, alloc: Global, kind: &K, threshold: usize) {
-    let mut index = kind.spilling_at(rt, alloc, threshold);
+pub(super) fn stands_at<K: Spilling>(rt: &impl Abort, alloc: Global, threshold: usize)
+where
+    K::Index: Tested + InOrder + InPartitions + StandsWhole + Drop,
+    <K::Index as InPartitions>::Range: Stands,
+{
+    let mut index = K::at(threshold).index(rt, alloc);
     let mut others = Vec::new(alloc);
     for other in THRESHOLDS {
-        push(rt, &mut others, kind.spilling_at(rt, alloc, other));
+        push(rt, &mut others, K::at(other).index(rt, alloc));
     }
     stands_beside(rt, alloc, &mut index, others.as_slice());
 }
 
-fn at(rt: &impl Abort, alloc: Global, threshold: usize) {
-    stands_at(rt, alloc, &Small, threshold)
-}
-
 #[test]
 fn partitions_stand_at_1(rt: HostRuntime) {
-    at(&rt, rt.alloc(), 1);
+    stands(&rt, rt.alloc(), 1)
 }
 
 #[test]
 fn partitions_stand_at_2(rt: HostRuntime) {
-    at(&rt, rt.alloc(), 2);
+    stands(&rt, rt.alloc(), 2)
 }
 
 #[test]
 fn partitions_stand_at_3(rt: HostRuntime) {
-    at(&rt, rt.alloc(), 3);
+    stands(&rt, rt.alloc(), 3)
 }
 
 #[test]
 fn partitions_stand_at_8(rt: HostRuntime) {
-    at(&rt, rt.alloc(), 8);
+    stands(&rt, rt.alloc(), 8)
 }
 
 #[test]
 fn partitions_stand_at_64(rt: HostRuntime) {
-    at(&rt, rt.alloc(), 64);
+    stands(&rt, rt.alloc(), 64)
 }
 
 #[test]
 fn partitions_stand_at_512(rt: HostRuntime) {
-    at(&rt, rt.alloc(), 512);
+    stands(&rt, rt.alloc(), 512)
 }

@@ -1,12 +1,9 @@
 //! How the partitions of a partitioned ordered index and of its ranges stand, through one trait, and what the tests assert of it.
 
 use super::checks::Tested;
-use super::neighbours::InOrder;
-use super::ranges::{InPartitions, Ranged};
-use key_index_flat::translator::{OneCap, Translator, TwoCap};
+use key_index_flat::translator::Translator;
 use key_index_parts::index::partitioned::ordered::{Index, RangeIndex};
 use key_index_parts::index::partitioned::{PartitionRange, Partitioned};
-use std::alloc::Global;
 use std::process::Abort;
 
 /// Partitions that stand as arrays or as trees.
@@ -68,58 +65,6 @@ impl<T: Translator, const P: usize> Stands for RangeIndex<T, u64, P> {
         let offset = self.offset();
         assert!(rt; offset <= partition && partition - offset < self.count());
         (self.is_spilled(partition), self.inline_len(partition))
-    }
-}
-
-/// A kind whose partitions spill, as the cases see it.
-pub(super) trait SubjectThatSpills {
-    type Range: Ranged + Stands + Drop;
-
-    type Index: InOrder + InPartitions<Range = Self::Range> + StandsWhole + Drop;
-
-    /// An index with no values, whose partitions spill at so many.
-    fn spilling_at(&self, rt: &impl Abort, alloc: Global, threshold: usize) -> Self::Index;
-}
-
-/// The partitioned ordered index by one byte and then one more.
-pub(super) struct Small;
-
-impl SubjectThatSpills for Small {
-    type Range = RangeIndex<OneCap, u64, 1>;
-
-    type Index = Index<OneCap, u64, 1>;
-
-    fn spilling_at(
-        &self,
-        rt: &impl Abort,
-        alloc: Global,
-        threshold: usize,
-    ) -> Index<OneCap, u64, 1> {
-        assert!(rt; threshold > 0);
-        let index = Index::with_threshold(alloc, OneCap, threshold).expect(rt, "an index");
-        assert_eq!(rt; index.threshold(), threshold);
-        index
-    }
-}
-
-/// The partitioned ordered index by one byte and then two more.
-pub(super) struct Wide;
-
-impl SubjectThatSpills for Wide {
-    type Range = RangeIndex<TwoCap, u64, 1>;
-
-    type Index = Index<TwoCap, u64, 1>;
-
-    fn spilling_at(
-        &self,
-        rt: &impl Abort,
-        alloc: Global,
-        threshold: usize,
-    ) -> Index<TwoCap, u64, 1> {
-        assert!(rt; threshold > 0);
-        let index = Index::with_threshold(alloc, TwoCap, threshold).expect(rt, "an index");
-        assert_eq!(rt; index.threshold(), threshold);
-        index
     }
 }
 

@@ -1,6 +1,6 @@
 //! What each translator makes of keys, and the hashes of translated keys.
 
-use super::checks::{Tested, fresh};
+use super::checks::{Tested, made};
 use key_index_flat::index::{Factory, Runs, Unordered, unordered};
 use key_index_flat::translator::{
     Cap, EightCap, FourCap, Hashed, KeyHash, OneCap, SeededSha256, Translator, TwoCap,
@@ -187,14 +187,7 @@ fn hashed_translators(rt: HostRuntime) {
 }
 
 /// An index holds a value under the key of the example.
-fn holds_one<I: Unordered<Value = u64> + Factory + Drop>(
-    rt: &impl Abort,
-    alloc: Global,
-    translator: I::Translator,
-)
-    requires { I.makes }
-{
-    let mut index = fresh::<I>(rt, alloc, translator);
+fn holds_one<I: Tested + Drop>(rt: &impl Abort, mut index: I) {
     index.inserts(rt, KEY, 1);
     index.holds(rt, KEY, &[1]);
     index.holds(rt, b"cdef", &[]);
@@ -203,12 +196,10 @@ fn holds_one<I: Unordered<Value = u64> + Factory + Drop>(
 #[test]
 fn hashed_indices(rt: HostRuntime) {
     let translator: Hashed<TwoCap, SeededSha256> = Hashed::from_seed(ABCDBCDE, TwoCap);
-    holds_one::<unordered::Index<Hashed<TwoCap, SeededSha256>, u64>>(&rt, rt.alloc(), translator);
-    holds_one::<partitioned::unordered::Index<Hashed<TwoCap, SeededSha256>, u64, 1>>(
-        &rt,
-        rt.alloc(),
-        translator,
-    );
+    let flat = unordered::Index::new(rt.alloc(), translator);
+    holds_one(&rt, made(&rt, flat));
+    let parts = partitioned::unordered::Index::<_, u64, 1>::new(rt.alloc(), translator);
+    holds_one(&rt, made(&rt, parts));
 }
 
 /// A seed by which the example's key has another hash.
@@ -234,11 +225,7 @@ fn goes_by_another<I: Unordered<Value = u64>>(
 #[test]
 fn another_translator_is_set(rt: HostRuntime) {
     let first: Hashed<TwoCap, SeededSha256> = Hashed::from_seed(ABCDBCDE, TwoCap);
-    let mut index = fresh::<unordered::Index<Hashed<TwoCap, SeededSha256>, u64>>(
-        &rt,
-        rt.alloc(),
-        first,
-    );
+    let mut index = made(&rt, unordered::Index::new(rt.alloc(), first));
     index.inserts(&rt, KEY, 1);
     index.set_translator(Hashed::from_seed(OTHER, TwoCap));
     goes_by_another(&rt, &mut index, 0x248d, 0x4e7b);
