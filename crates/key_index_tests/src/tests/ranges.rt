@@ -40,142 +40,10 @@ fn gets_or_inserts<'a, R: PartitionRange<Value = u64>>(
     found
 }
 
-/// A range as the cases see it.
-pub(super) trait Ranged {
-    /// Whether it covers the partition of a key.
-    fn covers(&self, key: &[u8]) -> bool;
-
-    /// It covers these many partitions from this one on, and has these counts.
-    fn tells(&self, rt: &impl Abort, span: (usize, usize), counts: (usize, usize, u64));
-
-    /// `get_mut_or_insert` of a key without values inserts one.
-    fn inserts(&mut self, rt: &impl Abort, key: &[u8], value: u64);
-
-    /// `get_mut_or_insert`, or `get_mut` where no value is given, of a key with values gives a cursor, which makes these moves.
-    fn edits(
-        &mut self,
-        rt: &impl Abort,
-        alloc: Global,
-        key: &[u8],
-        value: Option<u64>,
-        steps: &[Move<'_>],
-    );
-
-    /// One call by a key that it holds, with an edit where the key has values, and the same on the key's list.
-    fn call_beside(
-        &mut self,
-        rt: &impl Abort,
-        alloc: Global,
-        list: &mut Vec<u64>,
-        key: &[u8],
-        numbers: &mut Numbers,
-    ) -> Edited;
-
-    /// `get_mut` of a key, whose cursor, if it has values, puts so many behind them. The same is done to the key's list.
-    fn grows_beside(
-        &mut self,
-        rt: &impl Abort,
-        alloc: Global,
-        list: &mut Vec<u64>,
-        key: &[u8],
-        count: u64,
-        numbers: &mut Numbers,
-    );
-
-    /// Its values in ascending order, as `for_each_value` visits each once.
-    fn sorted(&self, rt: &impl Abort, alloc: Global) -> Vec<u64>;
-}
-
-impl<R: PartitionRange<Value = u64>> Ranged for R {
-    fn covers(&self, key: &[u8]) -> bool {
-        self.holds(key)
-    }
-
-    fn tells(&self, rt: &impl Abort, span: (usize, usize), counts: (usize, usize, u64)) {
-        assert_eq!(rt; (self.offset(), self.count()), span);
-        assert_eq!(rt; (self.keys(), self.items(), self.pruned()), counts);
-    }
-
-    fn inserts(&mut self, rt: &impl Abort, key: &[u8], value: u64) {
-        let found = gets_or_inserts(rt, self, key, value);
-        must(rt, found.is_none(), "no value", key);
-    }
-
-    fn edits(
-        &mut self,
-        rt: &impl Abort,
-        alloc: Global,
-        key: &[u8],
-        value: Option<u64>,
-        steps: &[Move<'_>],
-    ) {
-        let found = match value {
-            Some(value) => gets_or_inserts(rt, self, key, value),
-            None => gets(rt, self, key),
-        };
-        match found {
-            Some(mut cursor) => makes(rt, alloc, &mut cursor, steps),
-            None => must(rt, false, "the values", key),
-        }
-    }
-
-    fn call_beside(
-        &mut self,
-        rt: &impl Abort,
-        alloc: Global,
-        list: &mut Vec<u64>,
-        key: &[u8],
-        numbers: &mut Numbers,
-    ) -> Edited {
-        let value = numbers.next();
-        let inserts = value % 8 < 5;
-        let found = if inserts {
-            gets_or_inserts(rt, self, key, value)
-        } else {
-            gets(rt, self, key)
-        };
-        must(rt, found.is_some() != list.is_empty(), "the values", key);
-        match found {
-            Some(mut cursor) => edit_beside(rt, alloc, &mut cursor, list, numbers),
-            None => {
-                if inserts {
-                    push(rt, list, value);
-                }
-                Edited::at_once(0)
-            }
-        }
-    }
-
-    fn grows_beside(
-        &mut self,
-        rt: &impl Abort,
-        alloc: Global,
-        list: &mut Vec<u64>,
-        key: &[u8],
-        count: u64,
-        numbers: &mut Numbers,
-    ) {
-        let is_held = !list.is_empty();
-        match gets(rt, self, key) {
-            Some(mut cursor) => {
-                must(rt, is_held, "no value", key);
-                goes_beside(rt, alloc, &mut cursor, list, Way::Behind(count), numbers)
-            }
-            None => must(rt, !is_held, "the values", key),
-        }
-    }
-
-    fn sorted(&self, rt: &impl Abort, alloc: Global) -> Vec<u64> {
-        let mut values = Vec::new(alloc);
-        self.for_each_value(|value: &u64| push(rt, &mut values, *value));
-        values.sort_unstable();
-        values
-    }
-}
-
-/// An index in partitions as the cases see it.
+/// An index in partitions as the cases see it. Its ranges are called through it, since a bound on their type would be proved anew by each
+/// function that passes the index on, which takes a minute and a half.
 pub(super) trait InPartitions {
-    type Range: Ranged + Drop;
+    type Range: Drop;
 
     fn partitions(&self) -> usize;
 
@@ -204,6 +72,54 @@ pub(super) trait InPartitions {
         cuts: &[usize],
         records: Vec<(Vec<u8>, u64)>,
     ) -> Self;
+
+    /// Whether it covers the partition of a key.
+    fn range_covers(range: &Self::Range, key: &[u8]) -> bool;
+
+    /// It covers these many partitions from this one on, and has these counts.
+    fn range_tells(
+        range: &Self::Range,
+        rt: &impl Abort,
+        span: (usize, usize),
+        counts: (usize, usize, u64),
+    );
+
+    /// `get_mut_or_insert` of a key without values inserts one.
+    fn range_inserts(range: &mut Self::Range, rt: &impl Abort, key: &[u8], value: u64);
+
+    /// `get_mut_or_insert`, or `get_mut` where no value is given, of a key with values gives a cursor, which makes these moves.
+    fn range_edits(
+        range: &mut Self::Range,
+        rt: &impl Abort,
+        alloc: Global,
+        key: &[u8],
+        value: Option<u64>,
+        steps: &[Move<'_>],
+    );
+
+    /// One call by a key that it holds, with an edit where the key has values, and the same on the key's list.
+    fn range_call_beside(
+        range: &mut Self::Range,
+        rt: &impl Abort,
+        alloc: Global,
+        list: &mut Vec<u64>,
+        key: &[u8],
+        numbers: &mut Numbers,
+    ) -> Edited;
+
+    /// `get_mut` of a key, whose cursor, if it has values, puts so many behind them. The same is done to the key's list.
+    fn range_grows_beside(
+        range: &mut Self::Range,
+        rt: &impl Abort,
+        alloc: Global,
+        list: &mut Vec<u64>,
+        key: &[u8],
+        count: u64,
+        numbers: &mut Numbers,
+    );
+
+    /// Its values in ascending order, as `for_each_value` visits each once.
+    fn range_values(range: &Self::Range, rt: &impl Abort, alloc: Global) -> Vec<u64>;
 }
 
 impl<I: Partitioned<Value = u64> + Drop> InPartitions for I {
@@ -260,19 +176,109 @@ impl<I: Partitioned<Value = u64> + Drop> InPartitions for I {
         };
         index
     }
+
+    fn range_covers(range: &I::Range, key: &[u8]) -> bool {
+        range.holds(key)
+    }
+
+    fn range_tells(
+        range: &I::Range,
+        rt: &impl Abort,
+        span: (usize, usize),
+        counts: (usize, usize, u64),
+    ) {
+        assert_eq!(rt; (range.offset(), range.count()), span);
+        assert_eq!(rt; (range.keys(), range.items(), range.pruned()), counts);
+    }
+
+    fn range_inserts(range: &mut I::Range, rt: &impl Abort, key: &[u8], value: u64) {
+        let found = gets_or_inserts(rt, range, key, value);
+        must(rt, found.is_none(), "no value", key);
+    }
+
+    fn range_edits(
+        range: &mut I::Range,
+        rt: &impl Abort,
+        alloc: Global,
+        key: &[u8],
+        value: Option<u64>,
+        steps: &[Move<'_>],
+    ) {
+        let found = match value {
+            Some(value) => gets_or_inserts(rt, range, key, value),
+            None => gets(rt, range, key),
+        };
+        match found {
+            Some(mut cursor) => makes(rt, alloc, &mut cursor, steps),
+            None => must(rt, false, "the values", key),
+        }
+    }
+
+    fn range_call_beside(
+        range: &mut I::Range,
+        rt: &impl Abort,
+        alloc: Global,
+        list: &mut Vec<u64>,
+        key: &[u8],
+        numbers: &mut Numbers,
+    ) -> Edited {
+        let value = numbers.next();
+        let inserts = value % 8 < 5;
+        let found = if inserts {
+            gets_or_inserts(rt, range, key, value)
+        } else {
+            gets(rt, range, key)
+        };
+        must(rt, found.is_some() != list.is_empty(), "the values", key);
+        match found {
+            Some(mut cursor) => edit_beside(rt, alloc, &mut cursor, list, numbers),
+            None => {
+                if inserts {
+                    push(rt, list, value);
+                }
+                Edited::at_once(0)
+            }
+        }
+    }
+
+    fn range_grows_beside(
+        range: &mut I::Range,
+        rt: &impl Abort,
+        alloc: Global,
+        list: &mut Vec<u64>,
+        key: &[u8],
+        count: u64,
+        numbers: &mut Numbers,
+    ) {
+        let is_held = !list.is_empty();
+        match gets(rt, range, key) {
+            Some(mut cursor) => {
+                must(rt, is_held, "no value", key);
+                goes_beside(rt, alloc, &mut cursor, list, Way::Behind(count), numbers)
+            }
+            None => must(rt, !is_held, "the values", key),
+        }
+    }
+
+    fn range_values(range: &I::Range, rt: &impl Abort, alloc: Global) -> Vec<u64> {
+        let mut values = Vec::new(alloc);
+        range.for_each_value(|value: &u64| push(rt, &mut values, *value));
+        values.sort_unstable();
+        values
+    }
 }
 
 /// Three keys, and a value behind the first one's.
-fn build<R: Ranged>(rt: &impl Abort, alloc: Global, range: &mut R) {
-    range.inserts(rt, b"\x80\x01", 1);
-    range.inserts(rt, b"\x80\x02", 2);
-    range.inserts(rt, b"\x81\x07", 3);
+fn build<I: InPartitions>(rt: &impl Abort, alloc: Global, range: &mut I::Range) {
+    I::range_inserts(range, rt, b"\x80\x01", 1);
+    I::range_inserts(range, rt, b"\x80\x02", 2);
+    I::range_inserts(range, rt, b"\x81\x07", 3);
     let steps = [Move::Next(1), Move::End, Move::Insert(4)];
-    range.edits(rt, alloc, b"\x80\x01\xff", Some(4), &steps);
+    I::range_edits(range, rt, alloc, b"\x80\x01\xff", Some(4), &steps);
 }
 
 /// Edits where the cursor is on a value, before one, and past the end: the list 1, 4 becomes 5, 6.
-fn edit<R: Ranged>(rt: &impl Abort, alloc: Global, range: &mut R) {
+fn edit<I: InPartitions>(rt: &impl Abort, alloc: Global, range: &mut I::Range) {
     let steps = [
         Move::Next(1),
         Move::Update(5),
@@ -281,7 +287,7 @@ fn edit<R: Ranged>(rt: &impl Abort, alloc: Global, range: &mut R) {
         Move::End,
         Move::Insert(6),
     ];
-    range.edits(rt, alloc, b"\x80\x01", Some(9), &steps);
+    I::range_edits(range, rt, alloc, b"\x80\x01", Some(9), &steps);
 }
 
 /// A range with one list of three thousand values gives each of them once.
@@ -291,23 +297,29 @@ pub(super) fn gives_a_long_list<I: Tested + InPartitions>(
     index: &I,
 ) {
     let mut range = index.range_of(rt, 0x80, 1);
-    range.inserts(rt, b"\x80\x01", 1);
+    I::range_inserts(&mut range, rt, b"\x80\x01", 1);
     let mut list = Vec::new(alloc);
     push(rt, &mut list, 1);
     let numbers = &mut Numbers::new();
-    range.grows_beside(rt, alloc, &mut list, b"\x80\x01", 2999, numbers);
+    I::range_grows_beside(&mut range, rt, alloc, &mut list, b"\x80\x01", 2999, numbers);
     assert_eq!(rt; list.len(), 3000);
     list.sort_unstable();
-    assert_eq!(rt; range.sorted(rt, alloc).as_slice(), list.as_slice());
+    assert_eq!(rt;
+        I::range_values(&range, rt, alloc).as_slice(),
+        list.as_slice()
+    );
 }
 
 /// A range at 0x80 of 2, which is installed in the index that made it.
 pub(super) fn installed<I: Tested + InPartitions>(rt: &impl Abort, alloc: Global, index: &mut I) {
     let mut range = index.range_of(rt, 0x80, 2);
-    build(rt, alloc, &mut range);
-    assert!(rt; !range.covers(b"\x82\x00"));
-    range.tells(rt, (0x80, 2), (3, 4, 0));
-    assert_eq!(rt; range.sorted(rt, alloc).as_slice(), [1, 2, 3, 4].as_slice());
+    build::<I>(rt, alloc, &mut range);
+    assert!(rt; !I::range_covers(&range, b"\x82\x00"));
+    I::range_tells(&range, rt, (0x80, 2), (3, 4, 0));
+    assert_eq!(rt;
+        I::range_values(&range, rt, alloc).as_slice(),
+        [1, 2, 3, 4].as_slice()
+    );
     index.counts(rt, (0, 0, 0));
     index.installs(rt, range);
     index.counts(rt, (3, 4, 0));
@@ -323,9 +335,12 @@ pub(super) fn installed_after_edits<I: Tested + InPartitions>(
 ) {
     index.inserts(rt, b"\x82\x01", 7);
     let mut range = index.range_of(rt, 0x80, 2);
-    build(rt, alloc, &mut range);
-    edit(rt, alloc, &mut range);
-    assert_eq!(rt; range.sorted(rt, alloc).as_slice(), [2, 3, 5, 6].as_slice());
+    build::<I>(rt, alloc, &mut range);
+    edit::<I>(rt, alloc, &mut range);
+    assert_eq!(rt;
+        I::range_values(&range, rt, alloc).as_slice(),
+        [2, 3, 5, 6].as_slice()
+    );
     index.installs(rt, range);
     index.counts(rt, (4, 5, 1));
     index.holds(rt, b"\x80\x01", &[5, 6]);
@@ -349,9 +364,15 @@ pub(super) fn found_empty<I: Tested + InPartitions>(rt: &impl Abort, index: &mut
 }
 
 /// The values of two ranges are those of the lists, each once.
-fn has_values<R: Ranged>(rt: &impl Abort, alloc: Global, low: &R, high: &R, lists: &[Vec<u64>]) {
-    let mut values = low.sorted(rt, alloc);
-    for value in high.sorted(rt, alloc).iter() {
+fn has_values<I: InPartitions>(
+    rt: &impl Abort,
+    alloc: Global,
+    low: &I::Range,
+    high: &I::Range,
+    lists: &[Vec<u64>],
+) {
+    let mut values = I::range_values(low, rt, alloc);
+    for value in I::range_values(high, rt, alloc).iter() {
         push(rt, &mut values, *value);
     }
     values.sort_unstable();
@@ -383,16 +404,23 @@ pub(super) fn called_beside<I: Tested + InPartitions>(
         let Some(list) = kept.lists.get_mut(place(number, width)) else {
             panic!(rt; "each key has a list")
         };
-        let range = if low.covers(key.as_slice()) {
+        let range = if I::range_covers(&low, key.as_slice()) {
             &mut low
         } else {
             &mut high
         };
-        let edited = range.call_beside(rt, alloc, list, key.as_slice(), &mut kept.numbers);
+        let edited = I::range_call_beside(
+            range,
+            rt,
+            alloc,
+            list,
+            key.as_slice(),
+            &mut kept.numbers,
+        );
         kept.pruned = kept.pruned.saturating_add(edited.taken);
     }
     assert!(rt; kept.pruned > 0, "values were taken out");
-    has_values(rt, alloc, &low, &high, kept.lists.as_slice());
+    has_values::<I>(rt, alloc, &low, &high, kept.lists.as_slice());
     index.installs(rt, high);
     index.installs(rt, low);
     has_all(rt, alloc, index, &kept);

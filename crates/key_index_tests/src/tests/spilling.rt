@@ -8,7 +8,7 @@ use super::groups::spills;
 use super::kinds::Spilling;
 use super::neighbours::{InOrder, next_has, prev_has};
 use super::partitioned_ordered::behind;
-use super::ranges::{InPartitions, Ranged};
+use super::ranges::InPartitions;
 use super::stands::{
     Stands, StandsWhole, has_moved, has_spilled, is_inline, is_spilled, moves_within,
 };
@@ -399,8 +399,8 @@ where
     I::Range: Stands,
 {
     let mut range = other.range_of(rt, 0x10, 1);
-    range.inserts(rt, b"\x10\x01", 1);
-    range.inserts(rt, b"\x10\x02", 2);
+    I::range_inserts(&mut range, rt, b"\x10\x01", 1);
+    I::range_inserts(&mut range, rt, b"\x10\x02", 2);
     is_spilled(rt, &range, 0x10);
     has_moved(rt, &range, 2, 1);
     index.installs(rt, range);
@@ -431,18 +431,24 @@ fn next_to_spilled<I: Tested + InOrder + StandsWhole>(rt: &impl Abort, index: &m
 }
 
 /// The list 1, 2, 3 of 1001 in arrays of a range past a threshold of 2, and another key.
-fn grown_range<R: Ranged + Stands>(rt: &impl Abort, alloc: Global, range: &mut R) {
-    range.inserts(rt, b"\x10\x01", 1);
+fn grown_range<I: InPartitions>(rt: &impl Abort, alloc: Global, range: &mut I::Range)
+where
+    I::Range: Stands,
+{
+    I::range_inserts(range, rt, b"\x10\x01", 1);
     let steps = [Move::Next(1), Move::End, Move::Append(2), Move::Append(3)];
-    range.edits(rt, alloc, b"\x10\x01\xff", Some(9), &steps);
-    range.inserts(rt, b"\x20\x01", 4);
+    I::range_edits(range, rt, alloc, b"\x10\x01\xff", Some(9), &steps);
+    I::range_inserts(range, rt, b"\x20\x01", 4);
     is_inline(rt, range, 0x10, 3);
     is_inline(rt, range, 0x20, 1);
     assert_eq!(rt; range.spills(), 0);
 }
 
 /// The next call by key spills them, and its cursor takes all three out.
-fn drained_range<R: Ranged + Stands>(rt: &impl Abort, alloc: Global, range: &mut R) {
+fn drained_range<I: InPartitions>(rt: &impl Abort, alloc: Global, range: &mut I::Range)
+where
+    I::Range: Stands,
+{
     let steps = [
         Move::Next(1),
         Move::Delete,
@@ -451,7 +457,7 @@ fn drained_range<R: Ranged + Stands>(rt: &impl Abort, alloc: Global, range: &mut
         Move::Next(3),
         Move::Delete,
     ];
-    range.edits(rt, alloc, b"\x10\x01", None, &steps);
+    I::range_edits(range, rt, alloc, b"\x10\x01", None, &steps);
     is_inline(rt, range, 0x10, 0);
     assert_eq!(rt; range.spills(), 1);
 }
@@ -466,8 +472,8 @@ where
     I::Range: Stands,
 {
     let mut range = index.range_of(rt, 0, 256);
-    grown_range(rt, alloc, &mut range);
-    drained_range(rt, alloc, &mut range);
+    grown_range::<I>(rt, alloc, &mut range);
+    drained_range::<I>(rt, alloc, &mut range);
     tells(rt, index, (0, 0), (0, 0, 0));
     index.installs(rt, range);
     tells(rt, index, (0, 1), (1, 1, 3));
@@ -475,10 +481,13 @@ where
 }
 
 /// A range at 80 of 2 with three values, of which the first partition is spilled at a threshold of 2.
-fn spilled_range<R: Ranged + Stands>(rt: &impl Abort, range: &mut R) {
-    range.inserts(rt, b"\x80\x01", 1);
-    range.inserts(rt, b"\x80\x02", 2);
-    range.inserts(rt, b"\x81\x07", 3);
+fn spilled_range<I: InPartitions>(rt: &impl Abort, range: &mut I::Range)
+where
+    I::Range: Stands,
+{
+    I::range_inserts(range, rt, b"\x80\x01", 1);
+    I::range_inserts(range, rt, b"\x80\x02", 2);
+    I::range_inserts(range, rt, b"\x81\x07", 3);
     is_spilled(rt, range, 0x80);
     is_inline(rt, range, 0x81, 1);
     assert_eq!(rt; range.spills(), 1);
@@ -490,7 +499,7 @@ where
     I::Range: Stands,
 {
     let mut range = index.range_of(rt, 0x80, 2);
-    spilled_range(rt, &mut range);
+    spilled_range::<I>(rt, &mut range);
     has_spilled(rt, index, 0, 0);
     index.installs(rt, range);
     is_spilled(rt, index, 0x80);
@@ -510,7 +519,7 @@ where
     I::Range: Stands,
 {
     let mut range = index.range_of(rt, 0x10, 0x11);
-    grown_range(rt, alloc, &mut range);
+    grown_range::<I>(rt, alloc, &mut range);
     index.installs(rt, range);
     is_inline(rt, index, 0x10, 3);
     tells(rt, index, (0, 0), (2, 4, 0));

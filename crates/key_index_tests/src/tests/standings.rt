@@ -7,7 +7,7 @@ use super::kinds::Spilling;
 use super::lists::{self, Edited, KeptLists, Way, counts_as, list_at, place};
 use super::neighbours::InOrder;
 use super::numbers::Numbers;
-use super::ranges::{InPartitions, Ranged};
+use super::ranges::InPartitions;
 use super::stands::{Stands, StandsWhole};
 use std::alloc::Global;
 use std::process::Abort;
@@ -287,10 +287,10 @@ fn call<I: Tested>(
 }
 
 /// One call of a range by a key that it holds, or that of a key's cursor which grows its list.
-fn call_in_range<R: Ranged>(
+fn call_in_range<I: InPartitions>(
     rt: &impl Abort,
     alloc: Global,
-    range: &mut R,
+    range: &mut I::Range,
     list: &mut Vec<u64>,
     key: &[u8],
     is_growing: bool,
@@ -299,10 +299,10 @@ fn call_in_range<R: Ranged>(
 ) -> Edited {
     if is_growing {
         let count = growth(threshold, numbers);
-        range.grows_beside(rt, alloc, list, key, count, numbers);
+        I::range_grows_beside(range, rt, alloc, list, key, count, numbers);
         return Edited::at_once(0);
     }
-    range.call_beside(rt, alloc, list, key, numbers)
+    I::range_call_beside(range, rt, alloc, list, key, numbers)
 }
 
 /// One call by a key of an index, and the same on the key's list; its partition then stands as the rules say.
@@ -335,17 +335,17 @@ fn called<I: Tested>(
 }
 
 /// One call of a range by a key, if it holds that, and the same on the key's list.
-fn called_in_range<R: Ranged>(
+fn called_in_range<I: InPartitions>(
     rt: &impl Abort,
     alloc: Global,
-    range: &mut R,
+    range: &mut I::Range,
     kept: &mut KeptLists,
     standings: &mut Standings,
 ) {
     let number = kept.numbers.next();
     let key = key(rt, alloc, number);
     let key = key.as_slice();
-    if !range.covers(key) {
+    if !I::range_covers(range, key) {
         return;
     }
     let met = Met::new(rt, kept.lists.as_slice(), number);
@@ -353,7 +353,7 @@ fn called_in_range<R: Ranged>(
         panic!(rt; "each key has a list")
     };
     let is_growing = number / 64 % 8 == 0;
-    let edited = call_in_range(
+    let edited = call_in_range::<I>(
         rt,
         alloc,
         range,
@@ -422,7 +422,7 @@ where
     let mut standings = Standings::new(rt, alloc, other.threshold());
     let pruned = kept.lists.pruned;
     for _ in 0..DRAWS {
-        called_in_range(rt, alloc, &mut range, &mut kept.lists, &mut standings);
+        called_in_range::<I>(rt, alloc, &mut range, &mut kept.lists, &mut standings);
         let lists = kept.lists.lists.as_slice();
         standings.are_of(rt, &range, lists, first, last);
         let taken = kept.lists.pruned.saturating_sub(pruned);
