@@ -7,7 +7,6 @@ use key_index_flat::translator::{
     UintIdentity, UnhashedArray,
 };
 use key_index_parts::index::partitioned::{self, partition_index_and_sub_key};
-use std::alloc::Global;
 use std::process::Abort;
 
 /// A key hash that an attacker would like: the first byte of a key, whatever the seed. Over it a hashed translator gives what its
