@@ -2,6 +2,7 @@ pub mod ContentLemmas
 pub mod ChainLemmas
 pub mod KeyLemmas
 pub mod EditLemmas
+pub mod FaultLemmas
 pub mod ValueLemmas
 pub mod PairLemmas
 pub mod TagLemmas

@@ -1,26 +1,15 @@
 -- On what an index holds after a call that changes its entries.
 --     content_of-edited, content_of-same   what the entries tell of a call, told of the content
 --     IsLawful-with_list_counted, kept_or  the invariant after a key's list became another, and after a call that may be refused
---     memory-growth_fault                  the fault below the limit
-use Rattle.std.proofs.Common.{◌≡◌, ℕ, ◌+◌, ◌-◌, ◌^◌, ◌<◌, true, false, nat_eq, if◌then◌else◌, List, length, Result, Ok, Err, OnOk, OnErr, refl, sym, ap, subst, ◌∙◌, arith}
-use Rattle.std.proofs.lemmas.Bool.{eqb-true}
+use Rattle.std.proofs.Common.{◌≡◌, ◌+◌, ◌^◌, ◌<◌, List, length, Result, Ok, Err, OnOk, OnErr, sym, ap, subst, ◌∙◌, arith}
 use Rattle.std.specs.declared.cmp.Ordering.{Ordering}
 use Rattle.std.specs.Cmp.{IsTotalOrder}
 use Rattle.key_index_flat.specs.Content.{Content, IsLawful, list_at, with_list, item_count}
 use Rattle.key_index_flat.specs.laws.Laws.{IsLawful-with_list}
-use Rattle.key_index_flat.specs.Fault.{growth_fault}
-use Rattle.key_index_flat.specs.declared.index.Fault.TheVariants.{Memory, Full}
 use Rattle.key_index_flat.proofs.content.ContentLemmas.{item_count-with_list}
 use Rattle.key_index_plain.specs.declared.entries.Entry.{Entry}
 use Rattle.key_index_plain.specs.Entries.{listed, content_of}
 use Rattle.key_index_plain.proofs.EntryLemmas.{content_of-listed}
-
-pub memory-growth_fault : (n : ℕ) → (n ≡ 2 ^ 64 - 1 → ⊥) → Memory ≡ growth_fault n
-memory-growth_fault n below =
-    elim (nat_eq n (2 ^ 64 - 1)) as (λ b. nat_eq n (2 ^ 64 - 1) ≡ b → Memory ≡ (if b then Full else Memory)) [
-      | true ↦ λ p. absurd (below (eqb-true n (2 ^ 64 - 1) p))
-      | false ↦ λ p. refl
-    ] refl
 
 module _ {K V : Type 0} {cmp : K → K → Ordering} (o : IsTotalOrder cmp) where
   pub content_of-edited : (old new : List (Entry K V)) (k q : K) (L : Content K V → K → List V) → IsLawful cmp (listed old) → listed new ≡ with_list cmp (listed old) k (L (listed old) k) → k ≡ q

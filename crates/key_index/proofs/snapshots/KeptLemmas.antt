@@ -3,7 +3,7 @@
 --     fewer_items                        whether a key went out
 --     len-positions_in                   how many records there are
 --     positions_empty-len                whether there is none
-use Rattle.std.proofs.Common.{◌≡◌, ◌==◌, ◌↔◌, ℕ, suc, ◌+◌, ◌-◌, ◌^◌, nat_eq, nat_lt, if◌then◌else◌, Bool, true, false, cond, not, T, List, [], ◌∷◌, ◌++◌, length, map, Some, None, is_some, unwrap_or, slice_get, slice_set, All, refl, sym, ap, subst, ◌∙◌, arith}
+use Rattle.std.proofs.Common.{◌≡◌, ◌==◌, ◌↔◌, ℕ, suc, ◌+◌, nat_lt, Bool, true, false, cond, not, T, List, [], ◌∷◌, ◌++◌, length, map, Some, None, is_some, unwrap_or, slice_get, slice_set, All, refl, sym, ap, subst, ◌∙◌, arith}
 use Rattle.std.proofs.lemmas.Bool.{eq-eqb, eqb-true, le-ltb, lt-ltb}
 use Rattle.std.proofs.lemmas.List.Elements.{All-nil, All-head, All-tail, All-filter, All-set}
 use Rattle.std.proofs.lemmas.Map.Keys.{IsDistinct-head, IsDistinct-tail}
@@ -17,8 +17,6 @@ use Rattle.std.specs.Str.{bytes_eq}
 use Rattle.std.specs.declared.cmp.Ordering.{Ordering}
 use Rattle.std.specs.declared.cmp.Ordering.TheVariants.{Less, Equal, Greater}
 use Rattle.key_index_flat.specs.Content.{Content, item_count, list_at, with_list, IsLawful}
-use Rattle.key_index_flat.specs.Fault.{growth_fault}
-use Rattle.key_index_flat.specs.declared.index.Fault.TheVariants.{Memory, Full}
 use Rattle.key_index_flat.specs.FullKeys.{IsBytes, byte_cmp, IsFiled}
 use Rattle.key_index_flat.specs.laws.Laws.{T-and_first, T-and_second}
 use Rattle.key_index_flat.specs.Values.{values_of}
@@ -156,13 +154,6 @@ module _ {K : Type 0} {cmp : K → K → Ordering} (o : IsTotalOrder cmp) (exact
 
     pub len_told : len m ≡ items_in s
     len_told = ap (λ x. len x) (sym stands) ∙ len-positions_in s h kept
-
-pub growth_fault-memory : (n : ℕ) → ¬ (n ≡ 2 ^ 64 - 1) → growth_fault n ≡ Memory
-growth_fault-memory n apart =
-    elim (nat_eq n (2 ^ 64 - 1)) as (λ b. nat_eq n (2 ^ 64 - 1) ≡ b → (if b then Full else Memory) ≡ Memory) [
-      | true ↦ λ e. absurd (apart (eqb-true n (2 ^ 64 - 1) e))
-      | false ↦ λ e. refl
-    ] refl
 
 pub positions_empty-len : (m : Positions) (n : ℕ) → n ≡ len m → (n == 0 ≡ true) ↔ (m ≡ empty)
 positions_empty-len m n is = ((λ t. empty_of_len m (sym is ∙ eqb-true n 0 t)), (λ none. eq-eqb n 0 (is ∙ ap (λ x. len x) none ∙ len-empty byte_cmp ℕ)))

@@ -13,11 +13,8 @@
 --     counted_gain                                              and by one value more
 --     KeepsBuckets-edited, keeps_all                            it is a map of lists that are not empty, as it is where nothing was edited
 --     view_edited, view_pruned                                  and the index as it is seen
---     memory_fault                                              why a value is refused where there is space for one more
-use Rattle.std.proofs.Common.{◌≡◌, ℕ, zero, suc, ◌+◌, ◌-◌, ◌^◌, ◌<◌, ◌≤◌, Bool, not, if◌then◌else◌, List, [], ◌∷◌, replicate, length, All, refl, sym, ap, subst, ◌∙◌, arith, lt_of_not-le}
-use Rattle.std.proofs.lemmas.Bool.{lt-ltb, ne_eqb}
-use Rattle.key_index_flat.specs.declared.index.Fault.TheVariants.{Memory, Full}
-use Rattle.key_index_flat.specs.Fault.{growth_fault}
+use Rattle.std.proofs.Common.{◌≡◌, ℕ, zero, suc, ◌+◌, ◌-◌, ◌^◌, ◌<◌, ◌≤◌, Bool, not, List, [], ◌∷◌, replicate, length, All, refl, sym, ap, subst, ◌∙◌, arith, lt_of_not-le}
+use Rattle.std.proofs.lemmas.Bool.{lt-ltb}
 use Rattle.std.proofs.lemmas.List.{length-set, length-replicate}
 use Rattle.std.proofs.lemmas.List.Elements.{All-get_or, All-set, All-nil, All-cons}
 use Rattle.std.specs.declared.cmp.Ordering.{Ordering}
@@ -214,9 +211,6 @@ module _ {K V : Type 0} {cmp : K → K → Ordering} {p : ℕ} {buckets : List (
 
         pub view_pruned : (n : ℕ) → more ≡ pruned_after pruned n → Prunes cmp p translated old_kept slot f n new_kept
         view_pruned n sum = λ i. record (view_of p translated old_kept) { content = gathered-with_list_by f told i; pruned = sum i }
-
-pub memory_fault : (n : ℕ) → n < 2 ^ 64 - 1 → Memory ≡ growth_fault n
-memory_fault n few = ap (λ b. if b then Full else Memory) (sym (ne_eqb n (2 ^ 64 - 1) (λ e. omega (arith, few, e))))
 
 -- the buckets as before, however they stand
 pub same_but : {T K V : Type 0} {t : T} {pruned : ℕ} {old new : List (Content K V)} {b : Standings} (a : Standings) → new ≡ old

@@ -13,7 +13,7 @@ ghost use Rattle.key_index_parts.specs.Prefix.{partition_count};
 ghost use Rattle.key_index_parts.specs.Standing.{GrowsIn, LeavesIn, SpillsIn, is_reached_by, is_small_by, spilled_in, standing_in, with_inline};
 
 use super::bitmap::Bitmap;
-use super::bucket::{Bucket, Held, OrderedBucket};
+use super::bucket::{Bucket, EditBucket, Held, OrderedBucket, ReadBucket};
 use key_index_flat::index::implement::Retained;
 use key_index_flat::index::{Fault, Values};
 use key_index_flat::translator::Translator;
@@ -37,6 +37,206 @@ impl<T: Translator, V, X: Held<T, V>> Model for Directory<T, V, X> {
     } };
 
     ghost invariant = { λ p. p.filled ≡ filled_buckets (map X.content p.buckets.items) };
+}
+
+impl<T: Translator, V: Drop, X: Held<T, V> + Drop> Directory<T, V, X> {
+    /// How many buckets there are.
+    #[inline]
+    pub(super) fn len(&self) -> usize
+        ensures { result ≡ length self.now.contents }
+    {
+        self.buckets.len()
+    }
+
+    /// Where the buckets took their memory.
+    #[inline]
+    pub(super) fn alloc(&self) -> Global {
+        *self.buckets.allocator()
+    }
+
+    /// Whether none of so many buckets from a number on holds anything.
+    pub(super) fn is_free(&self, first: usize, count: usize) -> bool
+        ensures { Decides result (AreFree self.now.contents first count) }
+    {
+        match self.filled.first_from(first) {
+            Some(number) => number - first >= count,
+            None => true,
+        }
+    }
+}
+
+impl<T: Translator, V: Drop, X: ReadBucket<T, V> + Drop> Directory<T, V, X> {
+    #[inline(always)]
+    pub(super) fn get(&self, slot: (usize, T::Key)) -> Values<'_, V>
+        requires { slot.0 < length self.now.contents }
+        ensures { result ≡ list_in T.Key.cmp self.now.contents slot }
+    {
+        self.buckets[slot.0].get(slot.1)
+    }
+
+    /// The list at a slot, empty where there is no such bucket.
+    #[inline]
+    pub(super) fn list_at(&self, slot: (usize, T::Key)) -> Values<'_, V>
+        ensures { result ≡ list_in T.Key.cmp self.now.contents slot }
+    {
+        match self.buckets.get(slot.0) {
+            Some(bucket) => bucket.get(slot.1),
+            None => Values::of_slice(&[]),
+        }
+    }
+
+    #[inline(always)]
+    pub(super) fn run_len(&self, slot: (usize, T::Key)) -> usize
+        ensures { result ≡ length (list_in T.Key.cmp self.now.contents slot) }
+    {
+        match self.buckets.get(slot.0) {
+            Some(bucket) => bucket.run_len(slot.1),
+            None => 0,
+        }
+    }
+
+    #[inline(always)]
+    pub(super) fn value_at(&self, slot: (usize, T::Key), place: usize) -> &V
+        requires { place < length (list_in T.Key.cmp self.now.contents slot) }
+        ensures { slice_get (list_in T.Key.cmp self.now.contents slot) place ≡ Some result.now }
+    {
+        self.buckets[slot.0].value_at(slot.1, place)
+    }
+
+    /// Puts a bucket in the place of another.
+    fn put(&mut self, number: usize, bucket: X)
+        requires { number < length self.old.contents }
+        ensures buckets { self.new.contents ≡ slice_set self.old.contents number (X.content bucket) }
+        ensures standing { self.new.standing
+            ≡ slice_set self.old.standing number (stands (X.content bucket) (X.spilled bucket)) }
+        ensures listed { number < length self.old.standing }
+    {
+        let holds = !bucket.is_empty();
+        self.buckets[number] = bucket;
+        self.filled.set(number, holds);
+    }
+
+    /// Puts other buckets, as they stand, in the place of those from a number on.
+    pub(super) fn install(&mut self, first: usize, others: Directory<T, V, X>)
+        requires fits { first + length others.contents ≤ length self.old.contents }
+        requires most { length self.old.contents ≤ partition_count 3 }
+        ensures buckets { self.new.contents ≡ with_buckets_from self.old.contents first others.contents }
+        ensures standing { self.new.standing ≡ with_items_from self.old.standing first others.standing }
+    {
+        let mut rest = others.buckets.into_iter();
+        let mut number = first;
+        while let Some(bucket) = rest.next() {
+            self.put(number, bucket);
+            number += 1;
+        }
+    }
+
+    /// Visits each value once, in no certain order.
+    pub(super) fn for_each_value<F: FnMut(&V)>(&self, visit: &mut F)
+        requires { F.IsAlwaysCallable visit.old }
+        ensures callable { F.IsAlwaysCallable visit.new }
+        ensures visits { VisitsEach (CalledAt F.FnMut) visit.old (values_of (gathered self.now.contents)) visit.new }
+    {
+        let mut rest = self.buckets.as_slice();
+        while let Some((bucket, behind)) = rest.split_first() {
+            bucket.for_each_value(visit);
+            rest = behind;
+        }
+    }
+}
+
+impl<T: Translator, V: Drop, X: EditBucket<T, V> + Drop> Directory<T, V, X> {
+    #[inline]
+    pub(super) fn set_at(&mut self, slot: (usize, T::Key), place: usize, value: V)
+        requires { place < length (list_in T.Key.cmp self.old.contents slot) }
+        ensures buckets { self.new.contents
+            ≡ with_edit_in T.Key.cmp self.old.contents slot (λ l. slice_set l place value) }
+        ensures standing { LeavesIn self.old.standing slot.0 self.new.standing }
+        ensures counted { AreCounted self.new.contents self.new.standing }
+    {
+        self.buckets[slot.0].set_at(slot.1, place, value);
+    }
+
+    /// Puts a value in at a place of a slot's list, or behind its last one, and tells whether the slot had none.
+    pub(super) fn insert_at(
+        &mut self,
+        slot: (usize, T::Key),
+        place: usize,
+        value: V,
+    ) -> Result<bool, V>
+        requires within { slot.0 < length self.old.contents }
+        requires place { place ≤ length (list_in T.Key.cmp self.old.contents slot) }
+        ensures accepted { IfOk result (λ absent.
+            (self.new.contents ≡ with_edit_in T.Key.cmp self.old.contents slot (λ l. insert l place value))
+            × (absent ≡ not (is_filled (list_in T.Key.cmp self.old.contents slot)))) }
+        ensures standing { OnOk result (LeavesIn self.old.standing slot.0 self.new.standing) }
+        ensures refused { OnErr result (self.new ≡ self.old) }
+        ensures returned { IfErr result (λ back. back ≡ value) }
+        ensures counted { AreCounted self.new.contents self.new.standing }
+    {
+        let absent = self.buckets[slot.0].insert_at(slot.1, place, value)?;
+        self.filled.set(slot.0, true);
+        Ok(absent)
+    }
+
+    /// Removes the value at a place, and tells how many values the slot has left.
+    pub(super) fn remove_at(&mut self, slot: (usize, T::Key), place: usize) -> (V, usize)
+        requires { place < length (list_in T.Key.cmp self.old.contents slot) }
+        ensures value { slice_get (list_in T.Key.cmp self.old.contents slot) place ≡ Some result.0 }
+        ensures buckets { self.new.contents ≡ with_edit_in T.Key.cmp self.old.contents slot (λ l. remove l place) }
+        ensures standing { LeavesIn self.old.standing slot.0 self.new.standing }
+        ensures left { result.1 + 1 ≡ length (list_in T.Key.cmp self.old.contents slot) }
+        ensures counted { AreCounted self.new.contents self.new.standing }
+    {
+        let bucket = &mut self.buckets[slot.0];
+        let removed = bucket.remove_at(slot.1, place);
+        let holds = !bucket.is_empty();
+        self.filled.set(slot.0, holds);
+        removed
+    }
+
+    /// Calls the closure once for each value of a slot, in list order, removes those for which it returns false, and tells how many values
+    /// the slot had, and how many it has left.
+    pub(super) fn retain<F: FnMut(&V) -> bool>(
+        &mut self,
+        slot: (usize, T::Key),
+        should_retain: F,
+    ) -> (usize, usize)
+        requires within { slot.0 < length self.old.contents }
+        requires callable { F.IsAlwaysCallable should_retain }
+        ensures kept { (kept : List V)
+            × IsFiltered (CalledAt F.FnMut) should_retain (list_in T.Key.cmp self.old.contents slot) kept
+            × (self.new.contents ≡ with_list_in T.Key.cmp self.old.contents slot kept)
+            × (result.1 ≡ length kept) }
+        ensures standing { LeavesIn self.old.standing slot.0 self.new.standing }
+        ensures fewer { (standing_in self.new.standing slot.0).entries
+            ≤ (standing_in self.old.standing slot.0).entries }
+        ensures had { result.0 ≡ length (list_in T.Key.cmp self.old.contents slot) }
+        ensures counted { AreCounted self.new.contents self.new.standing }
+    {
+        let bucket = &mut self.buckets[slot.0];
+        let counts = bucket.retain(slot.1, should_retain);
+        let holds = !bucket.is_empty();
+        self.filled.set(slot.0, holds);
+        counts
+    }
+
+    /// Removes a slot, and tells how many values it had.
+    pub(super) fn remove(&mut self, slot: (usize, T::Key)) -> usize
+        requires { slot.0 < length self.old.contents }
+        ensures buckets { self.new.contents ≡ with_list_in T.Key.cmp self.old.contents slot [] }
+        ensures standing { LeavesIn self.old.standing slot.0 self.new.standing }
+        ensures fewer { (standing_in self.new.standing slot.0).entries
+            ≤ (standing_in self.old.standing slot.0).entries }
+        ensures taken { result ≡ length (list_in T.Key.cmp self.old.contents slot) }
+        ensures counted { AreCounted self.new.contents self.new.standing }
+    {
+        let bucket = &mut self.buckets[slot.0];
+        let taken = bucket.remove(slot.1);
+        let some_left = !bucket.is_empty();
+        self.filled.set(slot.0, some_left);
+        taken
+    }
 }
 
 impl<T: Translator, V: Drop, X: Bucket<T, V> + Drop> Directory<T, V, X> {
@@ -67,14 +267,6 @@ impl<T: Translator, V: Drop, X: Bucket<T, V> + Drop> Directory<T, V, X> {
             filled,
             lists: PhantomData,
         })
-    }
-
-    /// How many buckets there are.
-    #[inline]
-    pub(super) fn len(&self) -> usize
-        ensures { result ≡ length self.now.contents }
-    {
-        self.buckets.len()
     }
 
     /// How many values a spill of the bucket of a number would move.
@@ -162,82 +354,6 @@ impl<T: Translator, V: Drop, X: Bucket<T, V> + Drop> Directory<T, V, X> {
         }
     }
 
-    #[inline(always)]
-    pub(super) fn get(&self, slot: (usize, T::Key)) -> Values<'_, V>
-        requires { slot.0 < length self.now.contents }
-        ensures { result ≡ list_in T.Key.cmp self.now.contents slot }
-    {
-        self.buckets[slot.0].get(slot.1)
-    }
-
-    /// The list at a slot, empty where there is no such bucket.
-    #[inline]
-    pub(super) fn list_at(&self, slot: (usize, T::Key)) -> Values<'_, V>
-        ensures { result ≡ list_in T.Key.cmp self.now.contents slot }
-    {
-        match self.buckets.get(slot.0) {
-            Some(bucket) => bucket.get(slot.1),
-            None => Values::of_slice(&[]),
-        }
-    }
-
-    /// Where the buckets took their memory.
-    #[inline]
-    pub(super) fn alloc(&self) -> Global {
-        *self.buckets.allocator()
-    }
-
-    #[inline(always)]
-    pub(super) fn run_len(&self, slot: (usize, T::Key)) -> usize
-        ensures { result ≡ length (list_in T.Key.cmp self.now.contents slot) }
-    {
-        match self.buckets.get(slot.0) {
-            Some(bucket) => bucket.run_len(slot.1),
-            None => 0,
-        }
-    }
-
-    #[inline(always)]
-    pub(super) fn value_at(&self, slot: (usize, T::Key), place: usize) -> &V
-        requires { place < length (list_in T.Key.cmp self.now.contents slot) }
-        ensures { slice_get (list_in T.Key.cmp self.now.contents slot) place ≡ Some result.now }
-    {
-        self.buckets[slot.0].value_at(slot.1, place)
-    }
-
-    #[inline]
-    pub(super) fn set_at(&mut self, slot: (usize, T::Key), place: usize, value: V)
-        requires { place < length (list_in T.Key.cmp self.old.contents slot) }
-        ensures buckets { self.new.contents
-            ≡ with_edit_in T.Key.cmp self.old.contents slot (λ l. slice_set l place value) }
-        ensures standing { LeavesIn self.old.standing slot.0 self.new.standing }
-        ensures counted { AreCounted self.new.contents self.new.standing }
-    {
-        self.buckets[slot.0].set_at(slot.1, place, value);
-    }
-
-    /// Puts a value in at a place of a slot's list, or behind its last one, and tells whether the slot had none.
-    pub(super) fn insert_at(
-        &mut self,
-        slot: (usize, T::Key),
-        place: usize,
-        value: V,
-    ) -> Result<bool, V>
-        requires within { slot.0 < length self.old.contents }
-        requires place { place ≤ length (list_in T.Key.cmp self.old.contents slot) }
-        ensures accepted { IfOk result (λ absent.
-            (self.new.contents ≡ with_edit_in T.Key.cmp self.old.contents slot (λ l. insert l place value))
-            × (absent ≡ not (is_filled (list_in T.Key.cmp self.old.contents slot)))) }
-        ensures standing { OnOk result (LeavesIn self.old.standing slot.0 self.new.standing) }
-        ensures refused { OnErr result (self.new ≡ self.old) }
-        ensures returned { IfErr result (λ back. back ≡ value) }
-        ensures counted { AreCounted self.new.contents self.new.standing }
-    {
-        let absent = self.buckets[slot.0].insert_at(slot.1, place, value)?;
-        self.filled.set(slot.0, true);
-        Ok(absent)
-    }
-
     /// Puts a value in at its end of a slot's list, and tells whether the slot had none, and how many values its bucket moved to a tree:
     /// it spills where it is left with `limit` values or more.
     pub(super) fn insert(
@@ -295,48 +411,6 @@ impl<T: Translator, V: Drop, X: Bucket<T, V> + Drop> Directory<T, V, X> {
         }
     }
 
-    /// Removes the value at a place, and tells how many values the slot has left.
-    pub(super) fn remove_at(&mut self, slot: (usize, T::Key), place: usize) -> (V, usize)
-        requires { place < length (list_in T.Key.cmp self.old.contents slot) }
-        ensures value { slice_get (list_in T.Key.cmp self.old.contents slot) place ≡ Some result.0 }
-        ensures buckets { self.new.contents ≡ with_edit_in T.Key.cmp self.old.contents slot (λ l. remove l place) }
-        ensures standing { LeavesIn self.old.standing slot.0 self.new.standing }
-        ensures left { result.1 + 1 ≡ length (list_in T.Key.cmp self.old.contents slot) }
-        ensures counted { AreCounted self.new.contents self.new.standing }
-    {
-        let bucket = &mut self.buckets[slot.0];
-        let removed = bucket.remove_at(slot.1, place);
-        let holds = !bucket.is_empty();
-        self.filled.set(slot.0, holds);
-        removed
-    }
-
-    /// Calls the closure once for each value of a slot, in list order, removes those for which it returns false, and tells how many values
-    /// the slot had, and how many it has left.
-    pub(super) fn retain<F: FnMut(&V) -> bool>(
-        &mut self,
-        slot: (usize, T::Key),
-        should_retain: F,
-    ) -> (usize, usize)
-        requires within { slot.0 < length self.old.contents }
-        requires callable { F.IsAlwaysCallable should_retain }
-        ensures kept { (kept : List V)
-            × IsFiltered (CalledAt F.FnMut) should_retain (list_in T.Key.cmp self.old.contents slot) kept
-            × (self.new.contents ≡ with_list_in T.Key.cmp self.old.contents slot kept)
-            × (result.1 ≡ length kept) }
-        ensures standing { LeavesIn self.old.standing slot.0 self.new.standing }
-        ensures fewer { (standing_in self.new.standing slot.0).entries
-            ≤ (standing_in self.old.standing slot.0).entries }
-        ensures had { result.0 ≡ length (list_in T.Key.cmp self.old.contents slot) }
-        ensures counted { AreCounted self.new.contents self.new.standing }
-    {
-        let bucket = &mut self.buckets[slot.0];
-        let counts = bucket.retain(slot.1, should_retain);
-        let holds = !bucket.is_empty();
-        self.filled.set(slot.0, holds);
-        counts
-    }
-
     /// Puts a value in behind those of a slot, which takes all the memory that the call may need, then calls the closure once for each of
     /// them, in list order, and removes those for which it returns false. It tells how many values its bucket moved to a tree, too: it
     /// spills where it is left with `limit` values or more.
@@ -364,74 +438,6 @@ impl<T: Translator, V: Drop, X: Bucket<T, V> + Drop> Directory<T, V, X> {
         let holds = !bucket.is_empty();
         self.filled.set(slot.0, holds);
         Ok(told)
-    }
-
-    /// Puts a bucket in the place of another.
-    fn put(&mut self, number: usize, bucket: X)
-        requires { number < length self.old.contents }
-        ensures buckets { self.new.contents ≡ slice_set self.old.contents number (X.content bucket) }
-        ensures standing { self.new.standing
-            ≡ slice_set self.old.standing number (stands (X.content bucket) (X.spilled bucket)) }
-        ensures listed { number < length self.old.standing }
-    {
-        let holds = !bucket.is_empty();
-        self.buckets[number] = bucket;
-        self.filled.set(number, holds);
-    }
-
-    /// Puts other buckets, as they stand, in the place of those from a number on.
-    pub(super) fn install(&mut self, first: usize, others: Directory<T, V, X>)
-        requires fits { first + length others.contents ≤ length self.old.contents }
-        requires most { length self.old.contents ≤ partition_count 3 }
-        ensures buckets { self.new.contents ≡ with_buckets_from self.old.contents first others.contents }
-        ensures standing { self.new.standing ≡ with_items_from self.old.standing first others.standing }
-    {
-        let mut rest = others.buckets.into_iter();
-        let mut number = first;
-        while let Some(bucket) = rest.next() {
-            self.put(number, bucket);
-            number += 1;
-        }
-    }
-
-    /// Whether none of so many buckets from a number on holds anything.
-    pub(super) fn is_free(&self, first: usize, count: usize) -> bool
-        ensures { Decides result (AreFree self.now.contents first count) }
-    {
-        match self.filled.first_from(first) {
-            Some(number) => number - first >= count,
-            None => true,
-        }
-    }
-
-    /// Visits each value once, in no certain order.
-    pub(super) fn for_each_value<F: FnMut(&V)>(&self, visit: &mut F)
-        requires { F.IsAlwaysCallable visit.old }
-        ensures callable { F.IsAlwaysCallable visit.new }
-        ensures visits { VisitsEach (CalledAt F.FnMut) visit.old (values_of (gathered self.now.contents)) visit.new }
-    {
-        let mut rest = self.buckets.as_slice();
-        while let Some((bucket, behind)) = rest.split_first() {
-            bucket.for_each_value(visit);
-            rest = behind;
-        }
-    }
-
-    /// Removes a slot, and tells how many values it had.
-    pub(super) fn remove(&mut self, slot: (usize, T::Key)) -> usize
-        requires { slot.0 < length self.old.contents }
-        ensures buckets { self.new.contents ≡ with_list_in T.Key.cmp self.old.contents slot [] }
-        ensures standing { LeavesIn self.old.standing slot.0 self.new.standing }
-        ensures fewer { (standing_in self.new.standing slot.0).entries
-            ≤ (standing_in self.old.standing slot.0).entries }
-        ensures taken { result ≡ length (list_in T.Key.cmp self.old.contents slot) }
-        ensures counted { AreCounted self.new.contents self.new.standing }
-    {
-        let bucket = &mut self.buckets[slot.0];
-        let taken = bucket.remove(slot.1);
-        let some_left = !bucket.is_empty();
-        self.filled.set(slot.0, some_left);
-        taken
     }
 }
 

@@ -10,7 +10,7 @@ ghost use Rattle.key_index_parts.specs.Moves.{IsRangeWithin};
 ghost use Rattle.key_index_parts.specs.laws.RangeLaws.{shift};
 ghost use Rattle.key_index_parts.specs.Standing.{LeavesSome, Refuses, Settles, is_reached};
 
-use super::bucket::{Bucket, Held};
+use super::bucket::{Bucket, EditBucket, Held};
 use super::storage::Storage;
 use super::{PartitionRange, partition_index_and_sub_key};
 use key_index_flat::index::{Fault, IndexCursor, Refused, Runs, Search};
@@ -26,9 +26,7 @@ pub struct RangeIndex<T: Translator, V: Drop, X: Held<T, V> + Drop, const P: usi
     ghost within: { IsRangeWithin storage.standings storage.pruned },
 }
 
-impl<T: Translator, V: Drop, X: Bucket<T, V> + Drop, const P: usize> RangeIndex<T, V, X, P> {
-    ghost use Rattle.key_index_parts.specs.Range.{range_view};
-
+impl<T: Translator, V: Drop, X: Held<T, V> + Drop, const P: usize> RangeIndex<T, V, X, P> {
     /// Whether the range covers a partition.
     #[inline]
     fn covers(&self, partition: usize) -> bool
@@ -46,6 +44,10 @@ impl<T: Translator, V: Drop, X: Bucket<T, V> + Drop, const P: usize> RangeIndex<
     {
         (slot.0 - self.offset, slot.1)
     }
+}
+
+impl<T: Translator, V: Drop, X: Bucket<T, V> + Drop, const P: usize> RangeIndex<T, V, X, P> {
+    ghost use Rattle.key_index_parts.specs.Range.{range_view};
 
     /// Spills the bucket of an index key if it has reached the threshold.
     fn settle(&mut self, slot: (usize, T::Key)) -> Result<(), Fault>
@@ -78,7 +80,7 @@ impl<T: Translator, V: Drop, X: Bucket<T, V> + Drop, const P: usize> RangeIndex<
     }
 }
 
-impl<T: Translator, V: Drop, X: Bucket<T, V> + Drop, const P: usize> Runs
+impl<T: Translator, V: Drop, X: EditBucket<T, V> + Drop, const P: usize> Runs
     for RangeIndex<T, V, X, P> {
     ghost use Rattle.std.proofs.lemmas.Map.Lookups.{exact_pairs, exact_unsigned};
     ghost use Rattle.std.specs.Ordering.{nat_cmp};

@@ -14,7 +14,7 @@ ghost use Rattle.key_index_parts.specs.Moves.{IsRangeWithin, IsWithin, entries_i
 ghost use Rattle.key_index_parts.specs.Prefix.{partition_count, slot_by};
 ghost use Rattle.key_index_parts.specs.Standing.{Leaves, MovesBack, Resettles, Settles, entries_at, inline_len, is_reached, joined_standings, new_standings, spilled_in, standing_at, standings_of};
 
-use super::bucket::{Bucket, Held, OrderedBucket};
+use super::bucket::{Bucket, EditBucket, Held, OrderedBucket, ReadBucket};
 use super::counts::{Counts, Moves};
 use super::directory::Directory;
 use super::partition_index_and_sub_key;
@@ -53,6 +53,258 @@ impl<T: Translator, V, X: Held<T, V>, const P: usize> Model for Storage<T, V, X,
     } };
 
     ghost invariant = { λ s. IsCounted T.Key.cmp P s.buckets.contents s.counts.items s.counts.keys };
+}
+
+impl<T: Translator, V: Drop, X: Held<T, V> + Drop, const P: usize> Storage<T, V, X, P> {
+    /// How many buckets there are.
+    #[inline]
+    pub(super) fn len(&self) -> usize
+        ensures { result ≡ length self.now.buckets }
+    {
+        self.buckets.len()
+    }
+
+    /// Whether none of so many buckets from a number on holds anything.
+    pub(super) fn is_free(&self, first: usize, count: usize) -> bool
+        ensures { IsTrue result ↔ IsFree (pair_cmp T.Key.cmp) (λ slot. is_between first (first + count) slot.0)
+            (gathered self.now.buckets) }
+    {
+        self.buckets.is_free(first, count)
+    }
+
+    /// Whether it holds as many values as it can.
+    #[inline]
+    fn is_full(&self) -> bool
+        ensures full { IsTrue result → item_count (gathered self.now.buckets) ≡ usize.MAX }
+        ensures room { result ≡ false → item_count (gathered self.now.buckets) < usize.MAX }
+        ensures kept { KeepsBuckets T.Key.cmp self.now.buckets self.now.buckets }
+    {
+        self.counts.items == usize::MAX
+    }
+
+    /// Whether it can hold the values of a range beside its own.
+    pub(super) fn has_room(&self, range: &Storage<T, V, X, P>) -> bool
+        ensures { Decides result
+            (item_count (gathered self.now.buckets) + item_count (gathered range.now.buckets) ≤ usize.MAX) }
+    {
+        range.counts.items <= usize::MAX - self.counts.items
+    }
+
+    #[inline]
+    pub(super) fn threshold(&self) -> usize
+        ensures count { result ≡ self.now.standings.threshold }
+        ensures least { 1 ≤ result }
+    {
+        self.threshold
+    }
+
+    #[inline]
+    pub(super) fn spills(&self) -> u64
+        ensures { result ≡ self.now.standings.spills }
+    {
+        self.moves.spills
+    }
+
+    #[inline]
+    pub(super) fn moved(&self) -> u64
+        ensures count { result ≡ self.now.standings.moved }
+        ensures entries { entries_in self.now.standings ≡ item_count (gathered self.now.buckets) }
+        ensures bound { IsWithin self.now.standings self.now.pruned }
+    {
+        self.moves.moved
+    }
+
+    #[inline(always)]
+    pub(super) fn slot_of(&self, key: &[u8]) -> (usize, T::Key)
+        ensures slot { result ≡ slot_by P (T.translated self.now.translator) key.now }
+        ensures within { result.0 < partition_count P }
+    {
+        let translator = &self.translator;
+        let (number, sub_key) = partition_index_and_sub_key::<P>(key);
+        (number, translator.transform(sub_key))
+    }
+
+    /// Whether there is a bucket for the slot.
+    #[inline]
+    pub(super) fn admits(&self, slot: (usize, T::Key)) -> bool
+        ensures { result ≡ nat_lt slot.0 (length self.now.buckets) }
+    {
+        slot.0 < self.buckets.len()
+    }
+
+    /// Where the buckets take their memory.
+    #[inline]
+    pub(super) fn alloc(&self) -> Global {
+        self.buckets.alloc()
+    }
+
+    #[inline]
+    pub(super) fn keys(&self) -> usize
+        ensures { result ≡ key_count (gathered self.now.buckets) }
+    {
+        self.counts.keys
+    }
+
+    #[inline]
+    pub(super) fn items(&self) -> usize
+        ensures { result ≡ item_count (gathered self.now.buckets) }
+    {
+        self.counts.items
+    }
+
+    #[inline]
+    pub(super) fn pruned(&self) -> u64
+        ensures { result ≡ self.now.pruned }
+    {
+        self.counts.pruned
+    }
+}
+
+impl<T: Translator, V: Drop, X: ReadBucket<T, V> + Drop, const P: usize> Storage<T, V, X, P> {
+    /// Puts the buckets of a range, as they stand, in the place of those from a number on, which hold nothing, and adds its counts.
+    pub(super) fn install(&mut self, first: usize, range: Storage<T, V, X, P>)
+        requires fits { first + length range.buckets ≤ length self.old.buckets }
+        requires free { IsFree (pair_cmp T.Key.cmp) (view_from P T.translated first range).admitted
+            (gathered self.old.buckets) }
+        requires room { item_count (gathered self.old.buckets) + item_count (gathered range.buckets) ≤ usize.MAX }
+        requires within { IsRangeWithin range.standings range.pruned }
+        ensures joined { view_of P T.translated self.new ≡ joined_view (pair_cmp T.Key.cmp)
+            (view_of P T.translated self.old) (view_from P T.translated first range) }
+        ensures kept { KeepsBuckets T.Key.cmp self.old.buckets self.new.buckets }
+        ensures standing { self.new.standings ≡ joined_standings self.old.standings first range.standings }
+    {
+        self.counts.join(range.counts);
+        self.moves.join(range.moves);
+        self.buckets.install(first, range.buckets);
+    }
+
+    /// Visits each value once, in no certain order.
+    pub(super) fn for_each_value<F: FnMut(&V)>(&self, visit: &mut F)
+        requires { F.IsAlwaysCallable visit.old }
+        ensures { VisitsEach (CalledAt F.FnMut) visit.old (values_of (gathered self.now.buckets)) visit.new }
+    {
+        self.buckets.for_each_value(visit);
+    }
+
+    #[inline(always)]
+    pub(super) fn run_len(&self, slot: (usize, T::Key)) -> usize
+        ensures { result ≡ length (held_at T.Key.cmp self.now.buckets slot) }
+    {
+        self.buckets.run_len(slot)
+    }
+
+    #[inline(always)]
+    pub(super) fn value_at(&self, slot: (usize, T::Key), place: usize) -> &V
+        requires { place < length (held_at T.Key.cmp self.now.buckets slot) }
+        ensures { slice_get (held_at T.Key.cmp self.now.buckets slot) place ≡ Some result.now }
+    {
+        self.buckets.value_at(slot, place)
+    }
+
+    /// The list at a slot, empty where there is no bucket for it.
+    #[inline]
+    pub(super) fn list_at(&self, slot: (usize, T::Key)) -> Values<'_, V>
+        ensures { result ≡ held_at T.Key.cmp self.now.buckets slot }
+    {
+        self.buckets.list_at(slot)
+    }
+
+    #[inline(always)]
+    pub(super) fn get(&self, slot: (usize, T::Key)) -> Values<'_, V>
+        requires { slot.0 < length self.now.buckets }
+        ensures { result ≡ held_at T.Key.cmp self.now.buckets slot }
+    {
+        self.buckets.get(slot)
+    }
+}
+
+impl<T: Translator, V: Drop, X: EditBucket<T, V> + Drop, const P: usize> Storage<T, V, X, P> {
+    #[inline]
+    pub(super) fn set_at(&mut self, slot: (usize, T::Key), place: usize, value: V)
+        requires { place < length (held_at T.Key.cmp self.old.buckets slot) }
+        ensures edited { Edits T.Key.cmp P T.translated self.old slot (λ l. slice_set l place value) self.new }
+        ensures standing { Leaves self.old.standings slot.0 self.new.standings }
+        ensures kept { KeepsBuckets T.Key.cmp self.old.buckets self.new.buckets }
+        ensures range_bound { KeepsRange self.old self.new }
+    {
+        self.buckets.set_at(slot, place, value);
+    }
+
+    pub(super) fn insert_at(
+        &mut self,
+        slot: (usize, T::Key),
+        place: usize,
+        value: V,
+    ) -> Result<(), Refused<V>>
+        requires admits { slot.0 < length self.old.buckets }
+        requires place { place ≤ length (held_at T.Key.cmp self.old.buckets slot) }
+        ensures accepted { OnOk result (
+            Edits T.Key.cmp P T.translated self.old slot (λ l. insert l place value) self.new) }
+        ensures standing { OnOk result (Leaves self.old.standings slot.0 self.new.standings) }
+        ensures room { OnOk result (item_count (gathered self.old.buckets) < usize.MAX) }
+        ensures refused { OnErr result (self.new ≡ self.old) }
+        ensures kept { KeepsBuckets T.Key.cmp self.old.buckets self.new.buckets }
+        ensures returned { IfErr result (λ r. r.value ≡ value) }
+        ensures fault { IfErr result (λ r. r.fault ≡ growth_fault (item_count (gathered self.old.buckets))) }
+        ensures range_bound { KeepsRange self.old self.new }
+    {
+        if self.is_full() {
+            return Err(Refused::full(value));
+        }
+        match self.buckets.insert_at(slot, place, value) {
+            Ok(absent) => {
+                self.counts.gain(absent);
+                Ok(())
+            }
+            Err(value) => Err(Refused::memory(value)),
+        }
+    }
+
+    pub(super) fn remove_at(&mut self, slot: (usize, T::Key), place: usize) -> V
+        requires { place < length (held_at T.Key.cmp self.old.buckets slot) }
+        ensures value { slice_get (held_at T.Key.cmp self.old.buckets slot) place ≡ Some result }
+        ensures edited { Prunes T.Key.cmp P T.translated self.old slot (λ l. remove l place) 1 self.new }
+        ensures standing { Leaves self.old.standings slot.0 self.new.standings }
+        ensures kept { KeepsBuckets T.Key.cmp self.old.buckets self.new.buckets }
+        ensures range_bound { KeepsRange self.old self.new }
+    {
+        let (value, left) = self.buckets.remove_at(slot, place);
+        let had = left + 1;
+        let taken = 1;
+        self.counts.change(Retained { had, left, taken });
+        value
+    }
+
+    /// Calls the closure once for each value of a slot, in list order, and removes those for which it returns false, in its bucket as that
+    /// stands.
+    fn retain_in_bucket<F: FnMut(&V) -> bool>(&mut self, slot: (usize, T::Key), should_retain: F)
+        requires within { slot.0 < length self.old.buckets }
+        requires callable { F.IsAlwaysCallable should_retain }
+        ensures retained { Retains (pair_cmp T.Key.cmp) (CalledAt F.FnMut) should_retain
+            (view_of P T.translated self.old) slot (view_of P T.translated self.new) }
+        ensures standing { Leaves self.old.standings slot.0 self.new.standings }
+        ensures fewer { entries_at self.new.standings slot.0 ≤ entries_at self.old.standings slot.0 }
+        ensures kept { KeepsBuckets T.Key.cmp self.old.buckets self.new.buckets }
+    {
+        let (had, left) = self.buckets.retain(slot, should_retain);
+        let taken = had - left;
+        self.counts.change(Retained { had, left, taken });
+    }
+
+    /// Removes a slot, in its bucket as that stands.
+    fn take(&mut self, slot: (usize, T::Key))
+        requires { slot.0 < length self.old.buckets }
+        ensures removed { Prunes T.Key.cmp P T.translated self.old slot (λ _. [])
+            (length (held_at T.Key.cmp self.old.buckets slot)) self.new }
+        ensures standing { Leaves self.old.standings slot.0 self.new.standings }
+        ensures fewer { entries_at self.new.standings slot.0 ≤ entries_at self.old.standings slot.0 }
+        ensures kept { KeepsBuckets T.Key.cmp self.old.buckets self.new.buckets }
+    {
+        let had = self.buckets.remove(slot);
+        let left = 0;
+        let taken = had;
+        self.counts.change(Retained { had, left, taken });
+    }
 }
 
 impl<T: Translator, V: Drop, X: Bucket<T, V> + Drop, const P: usize> Storage<T, V, X, P> {
@@ -108,65 +360,6 @@ impl<T: Translator, V: Drop, X: Bucket<T, V> + Drop, const P: usize> Storage<T, 
         Storage::new(self.buckets.alloc(), self.translator, count, self.threshold)
     }
 
-    /// How many buckets there are.
-    #[inline]
-    pub(super) fn len(&self) -> usize
-        ensures { result ≡ length self.now.buckets }
-    {
-        self.buckets.len()
-    }
-
-    /// Whether none of so many buckets from a number on holds anything.
-    pub(super) fn is_free(&self, first: usize, count: usize) -> bool
-        ensures { IsTrue result ↔ IsFree (pair_cmp T.Key.cmp) (λ slot. is_between first (first + count) slot.0)
-            (gathered self.now.buckets) }
-    {
-        self.buckets.is_free(first, count)
-    }
-
-    /// Whether it holds as many values as it can.
-    #[inline]
-    fn is_full(&self) -> bool
-        ensures full { IsTrue result → item_count (gathered self.now.buckets) ≡ usize.MAX }
-        ensures room { result ≡ false → item_count (gathered self.now.buckets) < usize.MAX }
-        ensures kept { KeepsBuckets T.Key.cmp self.now.buckets self.now.buckets }
-    {
-        self.counts.items == usize::MAX
-    }
-
-    /// Whether it can hold the values of a range beside its own.
-    pub(super) fn has_room(&self, range: &Storage<T, V, X, P>) -> bool
-        ensures { Decides result
-            (item_count (gathered self.now.buckets) + item_count (gathered range.now.buckets) ≤ usize.MAX) }
-    {
-        range.counts.items <= usize::MAX - self.counts.items
-    }
-
-    /// Puts the buckets of a range, as they stand, in the place of those from a number on, which hold nothing, and adds its counts.
-    pub(super) fn install(&mut self, first: usize, range: Storage<T, V, X, P>)
-        requires fits { first + length range.buckets ≤ length self.old.buckets }
-        requires free { IsFree (pair_cmp T.Key.cmp) (view_from P T.translated first range).admitted
-            (gathered self.old.buckets) }
-        requires room { item_count (gathered self.old.buckets) + item_count (gathered range.buckets) ≤ usize.MAX }
-        requires within { IsRangeWithin range.standings range.pruned }
-        ensures joined { view_of P T.translated self.new ≡ joined_view (pair_cmp T.Key.cmp)
-            (view_of P T.translated self.old) (view_from P T.translated first range) }
-        ensures kept { KeepsBuckets T.Key.cmp self.old.buckets self.new.buckets }
-        ensures standing { self.new.standings ≡ joined_standings self.old.standings first range.standings }
-    {
-        self.counts.join(range.counts);
-        self.moves.join(range.moves);
-        self.buckets.install(first, range.buckets);
-    }
-
-    /// Visits each value once, in no certain order.
-    pub(super) fn for_each_value<F: FnMut(&V)>(&self, visit: &mut F)
-        requires { F.IsAlwaysCallable visit.old }
-        ensures { VisitsEach (CalledAt F.FnMut) visit.old (values_of (gathered self.now.buckets)) visit.new }
-    {
-        self.buckets.for_each_value(visit);
-    }
-
     /// How many values a spill of a bucket would move.
     #[inline]
     pub(super) fn inline_len(&self, number: usize) -> usize
@@ -193,30 +386,6 @@ impl<T: Translator, V: Drop, X: Bucket<T, V> + Drop, const P: usize> Storage<T, 
         ensures { result ≡ spilled_in self.now.standings.buckets }
     {
         self.buckets.spilled_count()
-    }
-
-    #[inline]
-    pub(super) fn threshold(&self) -> usize
-        ensures count { result ≡ self.now.standings.threshold }
-        ensures least { 1 ≤ result }
-    {
-        self.threshold
-    }
-
-    #[inline]
-    pub(super) fn spills(&self) -> u64
-        ensures { result ≡ self.now.standings.spills }
-    {
-        self.moves.spills
-    }
-
-    #[inline]
-    pub(super) fn moved(&self) -> u64
-        ensures count { result ≡ self.now.standings.moved }
-        ensures entries { entries_in self.now.standings ≡ item_count (gathered self.now.buckets) }
-        ensures bound { IsWithin self.now.standings self.now.pruned }
-    {
-        self.moves.moved
     }
 
     /// Spills a bucket that has reached the threshold.
@@ -252,117 +421,6 @@ impl<T: Translator, V: Drop, X: Bucket<T, V> + Drop, const P: usize> Storage<T, 
     {
         let moved = self.buckets.move_back(number, self.threshold);
         self.moves.move_back(moved);
-    }
-
-    #[inline(always)]
-    pub(super) fn slot_of(&self, key: &[u8]) -> (usize, T::Key)
-        ensures slot { result ≡ slot_by P (T.translated self.now.translator) key.now }
-        ensures within { result.0 < partition_count P }
-    {
-        let translator = &self.translator;
-        let (number, sub_key) = partition_index_and_sub_key::<P>(key);
-        (number, translator.transform(sub_key))
-    }
-
-    /// Whether there is a bucket for the slot.
-    #[inline]
-    pub(super) fn admits(&self, slot: (usize, T::Key)) -> bool
-        ensures { result ≡ nat_lt slot.0 (length self.now.buckets) }
-    {
-        slot.0 < self.buckets.len()
-    }
-
-    /// Where the buckets take their memory.
-    #[inline]
-    pub(super) fn alloc(&self) -> Global {
-        self.buckets.alloc()
-    }
-
-    #[inline(always)]
-    pub(super) fn run_len(&self, slot: (usize, T::Key)) -> usize
-        ensures { result ≡ length (held_at T.Key.cmp self.now.buckets slot) }
-    {
-        self.buckets.run_len(slot)
-    }
-
-    #[inline(always)]
-    pub(super) fn value_at(&self, slot: (usize, T::Key), place: usize) -> &V
-        requires { place < length (held_at T.Key.cmp self.now.buckets slot) }
-        ensures { slice_get (held_at T.Key.cmp self.now.buckets slot) place ≡ Some result.now }
-    {
-        self.buckets.value_at(slot, place)
-    }
-
-    /// The list at a slot, empty where there is no bucket for it.
-    #[inline]
-    pub(super) fn list_at(&self, slot: (usize, T::Key)) -> Values<'_, V>
-        ensures { result ≡ held_at T.Key.cmp self.now.buckets slot }
-    {
-        self.buckets.list_at(slot)
-    }
-
-    #[inline(always)]
-    pub(super) fn get(&self, slot: (usize, T::Key)) -> Values<'_, V>
-        requires { slot.0 < length self.now.buckets }
-        ensures { result ≡ held_at T.Key.cmp self.now.buckets slot }
-    {
-        self.buckets.get(slot)
-    }
-
-    #[inline]
-    pub(super) fn set_at(&mut self, slot: (usize, T::Key), place: usize, value: V)
-        requires { place < length (held_at T.Key.cmp self.old.buckets slot) }
-        ensures edited { Edits T.Key.cmp P T.translated self.old slot (λ l. slice_set l place value) self.new }
-        ensures standing { Leaves self.old.standings slot.0 self.new.standings }
-        ensures kept { KeepsBuckets T.Key.cmp self.old.buckets self.new.buckets }
-        ensures range_bound { KeepsRange self.old self.new }
-    {
-        self.buckets.set_at(slot, place, value);
-    }
-
-    pub(super) fn insert_at(
-        &mut self,
-        slot: (usize, T::Key),
-        place: usize,
-        value: V,
-    ) -> Result<(), Refused<V>>
-        requires admits { slot.0 < length self.old.buckets }
-        requires place { place ≤ length (held_at T.Key.cmp self.old.buckets slot) }
-        ensures accepted { OnOk result (
-            Edits T.Key.cmp P T.translated self.old slot (λ l. insert l place value) self.new) }
-        ensures standing { OnOk result (Leaves self.old.standings slot.0 self.new.standings) }
-        ensures room { OnOk result (item_count (gathered self.old.buckets) < usize.MAX) }
-        ensures refused { OnErr result (self.new ≡ self.old) }
-        ensures kept { KeepsBuckets T.Key.cmp self.old.buckets self.new.buckets }
-        ensures returned { IfErr result (λ r. r.value ≡ value) }
-        ensures fault { IfErr result (λ r. r.fault ≡ growth_fault (item_count (gathered self.old.buckets))) }
-        ensures range_bound { KeepsRange self.old self.new }
-    {
-        if self.is_full() {
-            return Err(Refused::full(value));
-        }
-        match self.buckets.insert_at(slot, place, value) {
-            Ok(absent) => {
-                self.counts.gain(absent);
-                Ok(())
-            }
-            Err(value) => Err(Refused::memory(value)),
-        }
-    }
-
-    pub(super) fn remove_at(&mut self, slot: (usize, T::Key), place: usize) -> V
-        requires { place < length (held_at T.Key.cmp self.old.buckets slot) }
-        ensures value { slice_get (held_at T.Key.cmp self.old.buckets slot) place ≡ Some result }
-        ensures edited { Prunes T.Key.cmp P T.translated self.old slot (λ l. remove l place) 1 self.new }
-        ensures standing { Leaves self.old.standings slot.0 self.new.standings }
-        ensures kept { KeepsBuckets T.Key.cmp self.old.buckets self.new.buckets }
-        ensures range_bound { KeepsRange self.old self.new }
-    {
-        let (value, left) = self.buckets.remove_at(slot, place);
-        let had = left + 1;
-        let taken = 1;
-        self.counts.change(Retained { had, left, taken });
-        value
     }
 
     /// Puts a value in at its end of a slot's list, in its bucket as that stands, which spills where it is left with `threshold` values or
@@ -442,37 +500,6 @@ impl<T: Translator, V: Drop, X: Bucket<T, V> + Drop, const P: usize> Storage<T, 
             }
             Err(value) => Err(value),
         }
-    }
-
-    /// Calls the closure once for each value of a slot, in list order, and removes those for which it returns false, in its bucket as that
-    /// stands.
-    fn retain_in_bucket<F: FnMut(&V) -> bool>(&mut self, slot: (usize, T::Key), should_retain: F)
-        requires within { slot.0 < length self.old.buckets }
-        requires callable { F.IsAlwaysCallable should_retain }
-        ensures retained { Retains (pair_cmp T.Key.cmp) (CalledAt F.FnMut) should_retain
-            (view_of P T.translated self.old) slot (view_of P T.translated self.new) }
-        ensures standing { Leaves self.old.standings slot.0 self.new.standings }
-        ensures fewer { entries_at self.new.standings slot.0 ≤ entries_at self.old.standings slot.0 }
-        ensures kept { KeepsBuckets T.Key.cmp self.old.buckets self.new.buckets }
-    {
-        let (had, left) = self.buckets.retain(slot, should_retain);
-        let taken = had - left;
-        self.counts.change(Retained { had, left, taken });
-    }
-
-    /// Removes a slot, in its bucket as that stands.
-    fn take(&mut self, slot: (usize, T::Key))
-        requires { slot.0 < length self.old.buckets }
-        ensures removed { Prunes T.Key.cmp P T.translated self.old slot (λ _. [])
-            (length (held_at T.Key.cmp self.old.buckets slot)) self.new }
-        ensures standing { Leaves self.old.standings slot.0 self.new.standings }
-        ensures fewer { entries_at self.new.standings slot.0 ≤ entries_at self.old.standings slot.0 }
-        ensures kept { KeepsBuckets T.Key.cmp self.old.buckets self.new.buckets }
-    {
-        let had = self.buckets.remove(slot);
-        let left = 0;
-        let taken = had;
-        self.counts.change(Retained { had, left, taken });
     }
 
     /// Puts a value in at its end of a slot's list.
@@ -610,27 +637,6 @@ impl<T: Translator, V: Drop, X: Bucket<T, V> + Drop, const P: usize> Storage<T, 
             }
             Err(fault) => Err(fault),
         }
-    }
-
-    #[inline]
-    pub(super) fn keys(&self) -> usize
-        ensures { result ≡ key_count (gathered self.now.buckets) }
-    {
-        self.counts.keys
-    }
-
-    #[inline]
-    pub(super) fn items(&self) -> usize
-        ensures { result ≡ item_count (gathered self.now.buckets) }
-    {
-        self.counts.items
-    }
-
-    #[inline]
-    pub(super) fn pruned(&self) -> u64
-        ensures { result ≡ self.now.pruned }
-    {
-        self.counts.pruned
     }
 }
 

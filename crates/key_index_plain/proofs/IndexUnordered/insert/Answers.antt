@@ -3,7 +3,8 @@ use Rattle.key_index_flat.specs.Content.{list_at, item_count}
 use Rattle.key_index_flat.specs.Fault.{growth_fault}
 use Rattle.key_index_plain.specs.Entries.{listed}
 use Rattle.key_index_plain.proofs.EntryLemmas.{content_of-listed}
-use Rattle.key_index_plain.proofs.IndexLemmas.{content_of-edited, content_of-same, kept_or, memory-growth_fault}
+use Rattle.key_index_flat.proofs.content.FaultLemmas.{growth_fault-memory}
+use Rattle.key_index_plain.proofs.IndexLemmas.{content_of-edited, content_of-same, kept_or}
 use Rattle.key_index_flat.proofs.runs.ViewLemmas.{same_view}
 use Rattle.key_index_plain.proofs.IndexUnordered.insert.Goals as goal
 
@@ -37,4 +38,4 @@ returns-in-Err-clause-refused g c = (
 
 pub returns-in-Err-clause-fault : goal.returns-in-Err-clause-fault
 returns-in-Err-clause-fault g c =
-    c.memory.ensures.fault ∙ memory-growth_fault _ (λ full. c.if-items-eq18446744073709551615.false (c.items.ensures ∙ full))
+    c.memory.ensures.fault ∙ growth_fault-memory _ (λ full. c.if-items-eq18446744073709551615.false (c.items.ensures ∙ full))

@@ -6,7 +6,8 @@ use Rattle.std.specs.Option.{option_map}
 use Rattle.key_index_flat.specs.View.{items_in, run_at, run_of, with_edit}
 use Rattle.key_index_flat.proofs.content.ChainLemmas.{None-is_some}
 use Rattle.key_index.specs.Snapshot.{key_of, position_in}
-use Rattle.key_index.proofs.snapshots.KeptLemmas.{growth_fault-memory, held_told, len_told, put_held, put_new}
+use Rattle.key_index_flat.proofs.content.FaultLemmas.{growth_fault-memory}
+use Rattle.key_index.proofs.snapshots.KeptLemmas.{held_told, len_told, put_held, put_new}
 use Rattle.key_index.proofs.snapshots.SnapshotLemmas.{within_by_key}
 use Rattle.key_index.proofs.snapshot.Snapshot.set.Goals as goal
 
@@ -41,7 +42,7 @@ returns-in_err-insert-clause-full g c =
     let held = held_told g.met.I.Key.Ord.total g.met.I.Runs.exact s lawful c.self.invariant c.args.self.now c.self.view_is key in
     let many = len_told g.met.I.Key.Ord.total g.met.I.Runs.exact s lawful c.self.invariant c.args.self.now c.self.view_is in
     let never : ¬ (len c.args.self.now ≡ 2 ^ 64 - 1) = λ e. omega (arith, many, c.items-full.ensures, c.if-full.false, e) in
-    let memory = growth_fault-memory (items_in s) (λ e. never (many ∙ e)) in
+    let memory = sym (growth_fault-memory (items_in s) (λ e. never (many ∙ e))) in
     search (rules, never, memory)
 
 pub invariant_of-self-in_default : goal.invariant_of-self-in_default

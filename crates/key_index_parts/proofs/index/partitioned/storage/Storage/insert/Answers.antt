@@ -1,8 +1,8 @@
-use Rattle.std.proofs.Common.{inr, ap, ◌∙◌}
+use Rattle.std.proofs.Common.{inr, ap, ◌∙◌, arith}
 use Rattle.key_index_parts.specs.Family.{settled_in}
 use Rattle.key_index_parts.specs.Standing.{entries_at, with_entries}
 use Rattle.key_index_parts.specs.laws.StandingLaws.{settles_by}
-use Rattle.key_index_parts.proofs.family.StorageLemmas.{memory_fault}
+use Rattle.key_index_flat.proofs.content.FaultLemmas.{growth_fault-memory}
 use Rattle.key_index_parts.proofs.index.partitioned.storage.Storage.insert.Goals as goal
 
 pub returns-then-is_full-clause-kept : goal.returns-then-is_full-clause-kept
@@ -16,7 +16,7 @@ returns-in-Err-clause-left g c =
     inr (c.is_full.ensures.room c.if-is_full.false, c.in-Err.ensures.refused ∙ c.in-Ok.ensures.settled)
 
 pub returns-in-Err-clause-fault : goal.returns-in-Err-clause-fault
-returns-in-Err-clause-fault g c = c.memory-in-Err.ensures.fault ∙ memory_fault _ (c.is_full.ensures.room c.if-is_full.false)
+returns-in-Err-clause-fault g c = c.memory-in-Err.ensures.fault ∙ growth_fault-memory _ (λ e. omega (arith, e, c.is_full.ensures.room c.if-is_full.false))
 
 pub returns-in-Ok-put-clause-settled : goal.returns-in-Ok-put-clause-settled
 returns-in-Ok-put-clause-settled g c = λ is.

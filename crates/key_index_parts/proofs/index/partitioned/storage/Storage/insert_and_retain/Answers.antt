@@ -1,11 +1,12 @@
-use Rattle.std.proofs.Common.{inr, ◌≡◌, ℕ, subst, sym, ap, ◌∙◌}
+use Rattle.std.proofs.Common.{inr, ◌≡◌, ℕ, subst, sym, ap, ◌∙◌, arith}
 use Rattle.std.specs.Fn.{CalledAt}
 use Rattle.key_index_flat.specs.View.{View, InsertsAndRetains}
 use Rattle.key_index_parts.specs.Family.{Kept, settled_in, view_of}
 use Rattle.key_index_parts.specs.Gathered.{pair_cmp}
 use Rattle.key_index_parts.specs.Standing.{entries_at, with_entries}
 use Rattle.key_index_parts.proofs.standing.StandingLemmas.{Resettles-MovesBack}
-use Rattle.key_index_parts.proofs.family.StorageLemmas.{kept_twice, memory_fault}
+use Rattle.key_index_flat.proofs.content.FaultLemmas.{growth_fault-memory}
+use Rattle.key_index_parts.proofs.family.StorageLemmas.{kept_twice}
 use Rattle.key_index_parts.proofs.index.partitioned.storage.Storage.insert_and_retain.Goals as goal
 
 pub returns-then-is_full-clause-kept : goal.returns-then-is_full-clause-kept
@@ -19,7 +20,7 @@ returns-in-Err-clause-left g c =
     inr (c.is_full.ensures.room c.if-is_full.false, c.in-Err.ensures.refused ∙ c.in-Ok.ensures.settled)
 
 pub returns-in-Err-clause-fault : goal.returns-in-Err-clause-fault
-returns-in-Err-clause-fault g c = c.memory-in-Err.ensures.fault ∙ memory_fault _ (c.is_full.ensures.room c.if-is_full.false)
+returns-in-Err-clause-fault g c = c.memory-in-Err.ensures.fault ∙ growth_fault-memory _ (λ e. omega (arith, e, c.is_full.ensures.room c.if-is_full.false))
 
 pub returns-in-Ok-put_and_retain-clause-accepted : goal.returns-in-Ok-put_and_retain-clause-accepted
 returns-in-Ok-put_and_retain-clause-accepted g c =
