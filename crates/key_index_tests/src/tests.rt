@@ -18,7 +18,6 @@ mod lists;
 mod neighbours;
 mod numbers;
 mod partition;
-mod partitioned_ordered;
 mod partitions;
 mod plain;
 mod ranges;

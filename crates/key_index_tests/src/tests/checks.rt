@@ -166,9 +166,9 @@ fn gets_or_inserts<'a, I: Unordered<Value = u64>>(
 }
 
 /// A cursor was found where one is wanted, and is new.
-fn is_new<C: Cursor<Value = u64>>(rt: &impl Abort, cursor: &C, is_held: bool) {
-    assert!(rt; is_held, "the key has no value");
-    assert_eq!(rt; cursor.state(), CursorState::NeedNext);
+fn is_new<C: Cursor<Value = u64>>(rt: &impl Abort, cursor: &C, key: &[u8], is_held: bool) {
+    must(rt, is_held, "no value", key);
+    stands(rt, cursor, CursorState::NeedNext);
 }
 
 /// An index of any kind. It promises nothing, so that what goes over it is quickly proved. It is one trait, since a function that hands
@@ -380,10 +380,7 @@ impl<I: Unordered<Value = u64>> Tested for I {
 
     fn gets_or_inserts(&mut self, rt: &impl Abort, key: &[u8], value: u64, is_held: bool) {
         match gets_or_inserts(rt, self, key, value) {
-            Some(cursor) => {
-                must(rt, is_held, "no value", key);
-                stands(rt, &cursor, CursorState::NeedNext);
-            }
+            Some(cursor) => is_new(rt, &cursor, key, is_held),
             None => must(rt, !is_held, "the values", key),
         }
     }
@@ -510,14 +507,14 @@ impl<I: Unordered<Value = u64>> Tested for I {
 
     fn searches(&mut self, rt: &impl Abort, key: &[u8], is_held: bool) {
         match self.search(key) {
-            Ok(cursor) => is_new(rt, &cursor, is_held),
+            Ok(cursor) => is_new(rt, &cursor, key, is_held),
             Err(refused) => must(rt, refused.is_none() && !is_held, "search", key),
         }
     }
 
     fn searches_or_inserts(&mut self, rt: &impl Abort, key: &[u8], value: u64, is_held: bool) {
         match self.search_or_insert(key, value) {
-            Ok(cursor) => is_new(rt, &cursor, is_held),
+            Ok(cursor) => is_new(rt, &cursor, key, is_held),
             Err(refused) => must(rt, refused.is_none() && !is_held, "search_or_insert", key),
         }
     }

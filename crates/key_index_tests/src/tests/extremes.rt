@@ -5,7 +5,7 @@ use super::lists::{Way, put};
 use super::neighbours::{InOrder, next_has, prev_has};
 use super::numbers::Numbers;
 use key_index_flat::index::Factory;
-use key_index_flat::translator::EightCap;
+use key_index_flat::translator::{EightCap, TwoCap};
 use key_index_parts::index::partitioned;
 use std::alloc::Global;
 use std::process::Abort;
@@ -170,4 +170,25 @@ pub(super) fn short_keys_in_order<I: Tested + InOrder>(rt: &impl Abort, index: &
     short_keys(rt, index, &[1, 2, 3, 4]);
     next_has(rt, index, b"", &[5], false);
     prev_has(rt, index, b"", &[6], true);
+}
+
+/// Three keys with many partitions between them.
+fn far_apart<I: Tested + InOrder>(rt: &impl Abort, index: &mut I) {
+    index.inserts(rt, b"", 1);
+    index.inserts(rt, b"\xff\xff\xff\xff\xff", 2);
+    index.inserts(rt, b"\x80", 3);
+    next_has(rt, index, b"", &[3], false);
+    next_has(rt, index, b"\x80", &[2], false);
+    next_has(rt, index, b"\xff\xff\xff\xff\xff", &[1], true);
+    prev_has(rt, index, b"\xff\xff\xff", &[3], false);
+    prev_has(rt, index, b"\x80", &[1], false);
+    prev_has(rt, index, b"", &[2], true);
+    index.removes(rt, b"\x80");
+    next_has(rt, index, b"", &[2], false);
+}
+
+#[test]
+fn neighbours_stand_across_all_partitions(rt: HostRuntime) {
+    let index = partitioned::ordered::Index::<TwoCap, u64, 3>::new(rt.alloc(), TwoCap);
+    far_apart(&rt, &mut made(&rt, index));
 }

@@ -3,8 +3,8 @@ use super::ahead::LooksAhead;
 use super::checks::Tested;
 use super::full_keys::resolves;
 use super::kinds::{
-    Kind, Ordered, OrderedByArrays, OrderedByEight, Plain, Pordered, PorderedByTwo, Punordered,
-    PunorderedByTwo, Spilling, Unordered, UnorderedByHash,
+    Kind, Ordered, OrderedByArrays, OrderedByEight, Plain, Pordered, PorderedByTwo, PorderedWide,
+    Punordered, PunorderedByTwo, Spilling, Unordered, UnorderedByHash,
 };
 use super::neighbours::InOrder;
 use super::ranges::InPartitions;
@@ -246,17 +246,21 @@ fn on_pordered(rt: &impl Abort, alloc: Global, kind: &Pordered, group: Group) {
 }
 
 /// Partitions by one byte that spill, on examples.
-pub(super) fn spills(rt: &impl Abort, alloc: Global, case: Case) {
+pub(super) fn pordered_spills(rt: &impl Abort, alloc: Global, case: Case) {
     on_pordered(rt, alloc, &Pordered::AtDefault, Group::Spills(case))
 }
 
 /// Partitions by one byte that spill at so many values, by some thousand calls.
-pub(super) fn stands(rt: &impl Abort, alloc: Global, threshold: usize) {
+pub(super) fn pordered_stands(rt: &impl Abort, alloc: Global, threshold: usize) {
     on_pordered(rt, alloc, &Pordered::AtDefault, Group::Stands(threshold))
 }
 
 fn on_pordered_by_two(rt: &impl Abort, alloc: Global, group: Group) {
     in_ordered_partitions(rt, alloc, &PorderedByTwo, group)
+}
+
+fn on_pordered_wide(rt: &impl Abort, alloc: Global, group: Group) {
+    in_order(rt, alloc, &PorderedWide::at(2), group)
 }
 
 fn on_plain(rt: &impl Abort, alloc: Global, group: Group) {
@@ -486,6 +490,16 @@ fn pordered_at_two_is_built_in_ranges(rt: HostRuntime) {
 #[test]
 fn pordered_at_two_resolves(rt: HostRuntime) {
     pordered_by_records(&rt, rt.alloc(), &Pordered::At(2))
+}
+
+#[test]
+fn pordered_wide_answers_each_call(rt: HostRuntime) {
+    on_pordered_wide(&rt, rt.alloc(), Group::Calls)
+}
+
+#[test]
+fn pordered_wide_keeps_lists(rt: HostRuntime) {
+    on_pordered_wide(&rt, rt.alloc(), Group::Lists)
 }
 
 #[test]

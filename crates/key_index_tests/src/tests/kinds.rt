@@ -191,7 +191,7 @@ pub(super) enum Pordered {
 }
 
 impl Pordered {
-    /// An index with no values, over any.
+    /// An index with no values, which may be of any type.
     pub(super) fn make<V: Drop>(
         &self,
         rt: &impl Abort,

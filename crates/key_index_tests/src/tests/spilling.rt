@@ -4,10 +4,9 @@ ghost use Rattle.std.specs.Prelude.{◌≤◌};
 use super::calls;
 use super::checks::{Move, Tested, fill, made};
 use super::extremes::numbers_below;
-use super::groups::spills;
+use super::groups::pordered_spills;
 use super::kinds::Spilling;
 use super::neighbours::{InOrder, next_has, prev_has};
-use super::partitioned_ordered::behind;
 use super::ranges::InPartitions;
 use super::stands::{
     Stands, StandsWhole, has_moved, has_spilled, is_inline, is_spilled, moves_within,
@@ -16,6 +15,18 @@ use key_index_flat::translator::OneCap;
 use key_index_parts::index::partitioned::ordered::Index;
 use std::alloc::Global;
 use std::process::Abort;
+
+/// Values are put in behind those of their key, and a partition tells how many it holds.
+fn behind<I: Tested + StandsWhole>(rt: &impl Abort, index: &mut I) {
+    fill(rt, index, b"\x10\x02", &[1, 2, 3]);
+    index.holds(rt, b"\x10\x02", &[1, 2, 3]);
+    fill(rt, index, b"\x10\x01", &[4]);
+    is_inline(rt, index, 0x10, 4);
+    is_inline(rt, index, 0x11, 0);
+    index.removes(rt, b"\x10\x02");
+    is_inline(rt, index, 0x10, 1);
+    index.counts(rt, (1, 1, 3));
+}
 
 /// Four insertions at a threshold of 2: the second one spills the partition, and the others put their values into the tree.
 fn spilled_by_insertions<I: Tested + StandsWhole>(rt: &impl Abort, index: &mut I) {
@@ -629,8 +640,13 @@ where
 }
 
 #[test]
+fn values_go_behind(rt: HostRuntime) {
+    pordered_spills(&rt, rt.alloc(), Case::Behind)
+}
+
+#[test]
 fn insertions_spill(rt: HostRuntime) {
-    spills(&rt, rt.alloc(), Case::Insertions)
+    pordered_spills(&rt, rt.alloc(), Case::Insertions)
 }
 
 #[test]
@@ -641,30 +657,30 @@ fn short_keys_spill(rt: HostRuntime) {
 
 #[test]
 fn each_call_spills_what_is_due(rt: HostRuntime) {
-    spills(&rt, rt.alloc(), Case::Calls)
+    pordered_spills(&rt, rt.alloc(), Case::Calls)
 }
 
 #[test]
 fn default_threshold_is_512(rt: HostRuntime) {
-    spills(&rt, rt.alloc(), Case::Default)
+    pordered_spills(&rt, rt.alloc(), Case::Default)
 }
 
 #[test]
 fn spilled_partitions_live(rt: HostRuntime) {
-    spills(&rt, rt.alloc(), Case::Lives)
+    pordered_spills(&rt, rt.alloc(), Case::Lives)
 }
 
 #[test]
 fn small_partitions_move_back(rt: HostRuntime) {
-    spills(&rt, rt.alloc(), Case::Returns)
+    pordered_spills(&rt, rt.alloc(), Case::Returns)
 }
 
 #[test]
 fn neighbours_stand_across_arrays_and_trees(rt: HostRuntime) {
-    spills(&rt, rt.alloc(), Case::Neighbours)
+    pordered_spills(&rt, rt.alloc(), Case::Neighbours)
 }
 
 #[test]
 fn ranges_spill(rt: HostRuntime) {
-    spills(&rt, rt.alloc(), Case::Ranges)
+    pordered_spills(&rt, rt.alloc(), Case::Ranges)
 }

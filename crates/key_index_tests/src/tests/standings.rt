@@ -2,7 +2,7 @@
 //! keeps. Ranges of it are made, called and installed on the way.
 use super::checks::{Tested, push};
 use super::command_lists::{has_all, key};
-use super::groups::stands;
+use super::groups::pordered_stands;
 use super::kinds::Spilling;
 use super::lists::{self, Edited, KeptLists, Way, counts_as, list_at, place};
 use super::neighbours::InOrder;
@@ -512,30 +512,30 @@ where
 
 #[test]
 fn partitions_stand_at_1(rt: HostRuntime) {
-    stands(&rt, rt.alloc(), 1)
+    pordered_stands(&rt, rt.alloc(), 1)
 }
 
 #[test]
 fn partitions_stand_at_2(rt: HostRuntime) {
-    stands(&rt, rt.alloc(), 2)
+    pordered_stands(&rt, rt.alloc(), 2)
 }
 
 #[test]
 fn partitions_stand_at_3(rt: HostRuntime) {
-    stands(&rt, rt.alloc(), 3)
+    pordered_stands(&rt, rt.alloc(), 3)
 }
 
 #[test]
 fn partitions_stand_at_8(rt: HostRuntime) {
-    stands(&rt, rt.alloc(), 8)
+    pordered_stands(&rt, rt.alloc(), 8)
 }
 
 #[test]
 fn partitions_stand_at_64(rt: HostRuntime) {
-    stands(&rt, rt.alloc(), 64)
+    pordered_stands(&rt, rt.alloc(), 64)
 }
 
 #[test]
 fn partitions_stand_at_512(rt: HostRuntime) {
-    stands(&rt, rt.alloc(), 512)
+    pordered_stands(&rt, rt.alloc(), 512)
 }
