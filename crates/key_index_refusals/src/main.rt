@@ -1,41 +1,46 @@
 //! The program `key_index_refusals`: the calls of one state, each made again where memory was refused, and what they leave beside lists.
 #![tactic(auto)]
 
-mod calls;
-mod kept;
-mod kinds;
-mod parts;
-mod positions;
-mod ranges;
+mod arrays;
+mod immutable;
 mod report;
-mod snapshots;
-mod states;
-mod subject;
 mod table;
-mod tries;
 
+use arrays::arrays;
+use immutable::{appended, has_room, indexed, marked};
 use report::{Report, Stop, USAGE};
 use std::alloc::Global;
 use std::env;
 use std::io::{BufWriter, Write};
 use std::process::ExitCode;
 use std::rt::Env;
+use table::stored;
+
+/// Goes through a state.
+fn go(alloc: Global, report: &mut Report, state: &str) -> Result<(), Stop> {
+    match state {
+        "ring" => indexed(alloc, report, 1),
+        "ring_and_table" => indexed(alloc, report, 7),
+        "room" => has_room(alloc, report),
+        "marks" => marked(alloc, report),
+        "log" => appended(alloc, report),
+        "table" => stored(alloc, report),
+        "arrays" => arrays(alloc, report),
+        _ => Err(Stop::Wrong(USAGE)),
+    }
+}
 
 /// Goes through the state that the arguments name, and writes its lines.
-fn go<W: Write + Drop>(alloc: Global, words: &[String], output: W) -> Result<(), Stop> {
-    let [kind, state, seed] = words else {
+fn run<W: Write + Drop>(alloc: Global, words: &[String], output: W) -> Result<(), Stop> {
+    let [state] = words else {
         return Err(Stop::Wrong(USAGE));
     };
-    let Ok(seed) = seed.as_str().parse::<u64>() else {
-        return Err(Stop::Wrong(USAGE));
-    };
-    let (kind, state) = (kind.as_str(), state.as_str());
     let Ok(output) = BufWriter::new(alloc, output) else {
         return Err(Stop::Memory);
     };
     let mut report = Report::new(alloc)?;
-    let ended = states::go(alloc, &mut report, (kind, state), seed);
-    report.write(output, kind, state)?;
+    let ended = go(alloc, &mut report, state.as_str());
+    report.write(output, state.as_str())?;
     ended
 }
 
@@ -52,7 +57,7 @@ fn words<R: Env + AllocGlobal>(rt: &R) -> Result<Vec<String>, Stop> {
 
 fn main(rt: HostRuntime) -> ExitCode {
     let ended = match words(&rt) {
-        Ok(words) => go(rt.alloc(), words.as_slice(), rt.stdout()),
+        Ok(words) => run(rt.alloc(), words.as_slice(), rt.stdout()),
         Err(stop) => Err(stop),
     };
     let said = match ended {

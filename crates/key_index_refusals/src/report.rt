@@ -1,10 +1,12 @@
 //! What the calls of a run came to, and how it ends.
-use crate::kept::push;
 use std::alloc::{AllocError, Global};
 use std::io::{self, BufWriter, Write};
 
 /// What the arguments have to be.
-pub(crate) const USAGE: &str = "usage: key_index_refusals KIND STATE SEED";
+pub(crate) const USAGE: &str = "usage: key_index_refusals STATE";
+
+/// How often a call is made that is refused.
+pub(crate) const TRIES: u32 = 2;
 
 /// Why a run ends early.
 #[derive(Clone, Copy)]
@@ -38,6 +40,14 @@ pub(crate) fn must(holds: bool, what: &'static str) -> Result<(), Stop> {
     }
 }
 
+/// Puts a value behind others.
+pub(crate) fn push<V: Drop>(values: &mut Vec<V>, value: V) -> Result<(), Stop> {
+    match values.push(value) {
+        Ok(()) => Ok(()),
+        Err(_) => Err(Stop::Memory),
+    }
+}
+
 /// How often a call was accepted, and how often refused.
 #[derive(Clone, Copy)]
 struct Count {
@@ -47,7 +57,7 @@ struct Count {
 }
 
 /// How many calls a state may have names for.
-const NAMES: usize = 24;
+const NAMES: usize = 4;
 
 /// How often each call of a state was accepted and refused. Its memory is taken before the first of them.
 #[derive(Drop)]
@@ -98,14 +108,13 @@ impl Report {
     pub(crate) fn write<W: Write + Drop>(
         &self,
         mut output: BufWriter<W>,
-        kind: &str,
         state: &str,
     ) -> Result<(), Stop> {
         for count in self.counts.iter() {
             let (call, accepted, refused) = (count.call, count.accepted, count.refused);
             writeln!(
                 output,
-                "{kind} {state} {call} {accepted} accepted {refused} refused"
+                "{state} {call} {accepted} accepted {refused} refused"
             )?;
         }
         output.flush()?;

@@ -2,8 +2,7 @@
 ghost use Rattle.std.specs.Prelude.{◌≡◌, ◌<◌, None, slice_index_or, unwrap_or, vec_len};
 ghost use Rattle.key_index.specs.Table.{Stored};
 
-use crate::report::{Report, Stop, must};
-use crate::tries::TRIES;
+use crate::report::{Report, Stop, TRIES, must};
 use key_index::table::Table;
 use key_index_flat::index::Fault;
 use std::alloc::Global;
@@ -41,7 +40,7 @@ impl Listed {
     fn new(alloc: Global, report: &mut Report, capacity: usize) -> Result<Option<Listed>, Stop> {
         for _ in 0..TRIES {
             let answer = Table::with_capacity(alloc, capacity);
-            report.tells("table_with_capacity", answer.is_ok())?;
+            report.tells("with_capacity", answer.is_ok())?;
             match answer {
                 Ok(table) => return Ok(Some(Listed::of_table(alloc, table)?)),
                 Err(fault) => must(fault == Fault::Memory, "a refusal for memory")?,
@@ -127,7 +126,7 @@ fn insert(report: &mut Report, listed: &mut Listed, position: u64) -> Result<(),
         return Ok(());
     }
     let answer = listed.insert(hash_of(position), position);
-    report.tells("table_insert", answer.is_ok())?;
+    report.tells("insert", answer.is_ok())?;
     if let Err(fault) = answer {
         must(fault == Fault::Memory, "a refusal for memory")?;
     }

@@ -1,31 +1,10 @@
-//! An index that is called some thousand times answers as lists kept beside it do, and each call answers once as it should.
-mod ahead;
-mod asks;
+//! What the program of the cases can't say: types, constants, loans that are kept, and the proved callers over slices.
 mod batches;
-mod builds;
-mod callers;
-mod calls;
 mod checks;
-mod command_lists;
-mod commands;
-mod cursors;
-mod extremes;
-mod floods;
-mod full_keys;
-mod groups;
-mod kinds;
-mod lists;
-mod neighbours;
-mod numbers;
 mod partition;
 mod partitions;
 mod plain;
-mod ranges;
 mod segments;
+mod slots;
 mod small;
-mod snapshots;
-mod spilling;
-mod standings;
-mod stands;
 mod translators;
-mod walk;

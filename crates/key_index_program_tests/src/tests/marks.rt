@@ -1,6 +1,6 @@
 //! What lists of marks come to.
 
-use super::immutable::{counts, positions};
+use super::immutable::{counts, holds};
 use key_index::index::immutable::{Index, Mark, Marked, run_marks};
 use key_index_flat::index::Fault;
 use key_index_flat::translator::{EightCap, Translator, TwoCap};
@@ -27,39 +27,36 @@ fn check<T: Translator>(
     assert_eq!(rt; outcomes.as_slice(), expected);
 }
 
+/// Seven marks, of which three do nothing.
+fn seven(rt: &impl Abort, alloc: Global) -> Vec<Mark> {
+    vec![in alloc;
+        insert(rt, alloc, 1, 3),
+        insert(rt, alloc, 2, 3),
+        Mark::Prune(2),
+        insert(rt, alloc, 3, 1),
+        Mark::Prune(5),
+        insert(rt, alloc, 4, 5),
+        insert(rt, alloc, 5, u64::MAX),
+    ]
+    .expect(rt, "marks")
+}
+
 #[test]
 fn marks_are_applied_in_order(rt: HostRuntime) {
     let mut index = Index::new(rt.alloc(), EightCap, 0, 0).expect(&rt, "an index");
-    let marks = vec![in rt.alloc();
-        insert(&rt, rt.alloc(), 1, 3),
-        insert(&rt, rt.alloc(), 2, 3),
-        Mark::Prune(2),
-        insert(&rt, rt.alloc(), 3, 1),
-        Mark::Prune(5),
-        insert(&rt, rt.alloc(), 4, 5),
-        insert(&rt, rt.alloc(), 5, u64::MAX),
-    ]
-    .expect(&rt, "marks");
-    check(
-        &rt,
-        rt.alloc(),
-        &mut index,
-        marks,
-        &[
-            Marked::Done,
-            Marked::Skipped,
-            Marked::Done,
-            Marked::Skipped,
-            Marked::Done,
-            Marked::Done,
-            Marked::Refused(Fault::Memory),
-        ],
-    );
+    let marks = seven(&rt, rt.alloc());
+    let expected = [
+        Marked::Done,
+        Marked::Skipped,
+        Marked::Done,
+        Marked::Skipped,
+        Marked::Done,
+        Marked::Done,
+        Marked::Refused(Fault::Memory),
+    ];
+    check(&rt, rt.alloc(), &mut index, marks, expected.as_slice());
     assert_eq!(rt; counts(&index), (1, 5, 1, 4));
-    assert_eq!(rt;
-        positions(&rt, rt.alloc(), &index, [4; 8].as_slice()).as_slice(),
-        [5].as_slice()
-    );
+    holds(&rt, rt.alloc(), &index, [4; 8].as_slice(), &[5]);
 }
 
 /// The positions that are indexed, each with the first byte of its key.
@@ -119,6 +116,34 @@ fn next(number: &mut u64) -> u64 {
     *number
 }
 
+/// A hundred marks do to an index what they do to what is kept.
+fn apply_hundred(
+    rt: &impl Abort,
+    alloc: Global,
+    index: &mut Index<TwoCap>,
+    kept: &mut Kept,
+    number: &mut u64,
+) {
+    let mut marks = Vec::new(alloc);
+    let mut expected = Vec::new(alloc);
+    for _ in 0..100 {
+        let (mark, marked) = kept.mark(rt, alloc, next(number));
+        marks.push(mark).expect(rt, "room for a mark");
+        expected.push(marked).expect(rt, "room for an outcome");
+    }
+    check(rt, alloc, index, marks, expected.as_slice());
+}
+
+/// An index has what is kept.
+fn compare(rt: &impl Abort, alloc: Global, index: &Index<TwoCap>, kept: &Kept) {
+    assert_eq!(rt; index.start(), kept.start);
+    assert_eq!(rt; index.len(), kept.keys.len());
+    for byte in 0..5u8 {
+        let wanted = kept.positions(rt, alloc, byte);
+        holds(rt, alloc, index, [byte; 3].as_slice(), wanted.as_slice());
+    }
+}
+
 #[test]
 fn an_index_answers_as_a_map_does(rt: HostRuntime) {
     let mut index = Index::new(rt.alloc(), TwoCap, 0, 0).expect(&rt, "an index");
@@ -128,21 +153,7 @@ fn an_index_answers_as_a_map_does(rt: HostRuntime) {
     };
     let mut number = 0x9e37_79b9_7f4a_7c15;
     for _ in 0..400 {
-        let mut marks = Vec::new(rt.alloc());
-        let mut expected = Vec::new(rt.alloc());
-        for _ in 0..100 {
-            let (mark, marked) = kept.mark(&rt, rt.alloc(), next(&mut number));
-            marks.push(mark).expect(&rt, "room for a mark");
-            expected.push(marked).expect(&rt, "room for an outcome");
-        }
-        check(&rt, rt.alloc(), &mut index, marks, expected.as_slice());
-        assert_eq!(rt; index.start(), kept.start);
-        assert_eq!(rt; index.len(), kept.keys.len());
-        for byte in 0..5u8 {
-            assert_eq!(rt;
-                positions(&rt, rt.alloc(), &index, [byte; 3].as_slice()).as_slice(),
-                kept.positions(&rt, rt.alloc(), byte).as_slice()
-            );
-        }
+        apply_hundred(&rt, rt.alloc(), &mut index, &mut kept, &mut number);
+        compare(&rt, rt.alloc(), &index, &kept);
     }
 }

@@ -72,32 +72,46 @@ impl Filed {
         removed
     }
 
+    /// A candidate of a hash is stored, by a hash of the same fingerprint.
+    fn check_candidate(&self, rt: &impl Abort, hash: u64, position: u64)
+        requires { position < POSITIONS }
+    {
+        assert!(rt;
+            self.table.contains(hash, position),
+            "{position} is a candidate"
+        );
+        match self.hashes[position as usize] {
+            Some(other) => assert_eq!(rt; other >> 56, hash >> 56, "{position}"),
+            None => panic!(rt; "{position} isn't stored"),
+        }
+    }
+
+    /// How many positions are stored.
+    fn count(&self) -> usize {
+        let mut count = 0;
+        for place in 0..POSITIONS {
+            if self.hashes[place].is_some() {
+                count += 1;
+            }
+        }
+        count
+    }
+
     /// Compares the candidates of a hash with the list, and the count.
     fn check(&self, rt: &impl Abort, alloc: Global, hash: u64) {
         let mut met = vec![in alloc; false; POSITIONS].expect(rt, "marks");
         for position in self.table.candidates(hash) {
             assert!(rt; position < POSITIONS as u64, "{position} was never stored");
-            let place = position as usize;
-            assert!(rt; !met[place], "{position} comes twice");
-            met[place] = true;
-            assert!(rt;
-                self.table.contains(hash, position),
-                "{position} is a candidate"
-            );
-            match self.hashes[place] {
-                Some(other) => assert_eq!(rt; other >> 56, hash >> 56, "{position}"),
-                None => panic!(rt; "{position} isn't stored"),
-            }
+            assert!(rt; !met[position as usize], "{position} comes twice");
+            met[position as usize] = true;
+            self.check_candidate(rt, hash, position);
         }
-        let mut count = 0;
         for place in 0..POSITIONS {
             if self.hashes[place] == Some(hash) {
                 assert!(rt; met[place], "{place} is no candidate");
             }
-            if self.hashes[place].is_some() {
-                count += 1;
-            }
         }
+        let count = self.count();
         assert_eq!(rt; self.table.len(), count);
         assert_eq!(rt; self.table.is_empty(), count == 0);
     }
@@ -116,14 +130,20 @@ fn hash_from(number: u64) -> u64 {
     (number % 4) << 56 | number / 4 % 16
 }
 
+/// A table of three positions, two of them under one hash.
+fn three(rt: &impl Abort, alloc: Global) -> Filed {
+    let mut filed = Filed::new(rt, alloc);
+    filed.insert(rt, 5, 1);
+    filed.insert(rt, 5, 2);
+    filed.insert(rt, 9, 3);
+    filed.check(rt, alloc, 5);
+    filed.check(rt, alloc, 9);
+    filed
+}
+
 #[test]
 fn a_table_gives_what_it_was_given(rt: HostRuntime) {
-    let mut filed = Filed::new(&rt, rt.alloc());
-    filed.insert(&rt, 5, 1);
-    filed.insert(&rt, 5, 2);
-    filed.insert(&rt, 9, 3);
-    filed.check(&rt, rt.alloc(), 5);
-    filed.check(&rt, rt.alloc(), 9);
+    let mut filed = three(&rt, rt.alloc());
     assert!(rt; filed.table.candidates(1 << 63).next().is_none());
     assert!(rt; filed.remove(5, 1));
     assert!(rt; !filed.remove(5, 1));
@@ -133,29 +153,35 @@ fn a_table_gives_what_it_was_given(rt: HostRuntime) {
     assert_eq!(rt; filed.table.removals(), 2);
 }
 
+/// Inserts a position that isn't stored, and removes one that is, by a hash of its fingerprint alone.
+fn turn(rt: &impl Abort, filed: &mut Filed, hash: u64, position: u64, is_removal: bool)
+    requires { position < POSITIONS }
+{
+    match filed.hash_at(position) {
+        None if is_removal => {
+            assert!(rt; !filed.remove(hash, position), "{position} wasn't stored")
+        }
+        None => filed.insert(rt, hash, position),
+        Some(stored) if stored >> 56 != hash >> 56 => {
+            assert!(rt;
+                !filed.remove(hash, position),
+                "{position} has another fingerprint"
+            )
+        }
+        Some(stored) => assert!(rt; filed.remove(stored, position), "{position} was stored"),
+    }
+}
+
 /// Few cells under many insertions and removals, of hashes that share home cells and fingerprints.
 #[test]
 fn a_table_answers_as_a_list_does(rt: HostRuntime) {
     let mut filed = Filed::new(&rt, rt.alloc());
     let mut number = 0x9e37_79b9_7f4a_7c15;
-    for turn in 0..20_000u64 {
-        let position = next(&mut number) % (8 + turn % 192);
+    for count in 0..20_000u64 {
+        let position = next(&mut number) % (8 + count % 192);
         let hash = hash_from(next(&mut number));
-        match filed.hash_at(position) {
-            None if turn % 3 == 0 => assert!(rt;
-                !filed.remove(hash, position),
-                "{position} wasn't stored"
-            ),
-            None => filed.insert(&rt, hash, position),
-            Some(stored) if stored >> 56 != hash >> 56 => {
-                assert!(rt;
-                    !filed.remove(hash, position),
-                    "{position} has another fingerprint"
-                )
-            }
-            Some(stored) => assert!(rt; filed.remove(stored, position), "{position} was stored"),
-        }
-        if turn % 100 == 0 {
+        turn(&rt, &mut filed, hash, position, count % 3 == 0);
+        if count % 100 == 0 {
             for hash in 0..64 {
                 filed.check(&rt, rt.alloc(), hash_from(hash));
             }

@@ -1,136 +1,32 @@
-//! Batches: which values are visited with which places, in the order of each index.
-
-use super::checks::{Tested, fill};
-use super::kinds::{Kind, Ordered};
-use key_index_flat::index::Unordered;
-use key_index_flat::index::implement::Lists;
+//! Batches whose closures keep the values that they visit, and the proved callers that answer a slice.
+use super::checks::{made, put};
+use key_index_flat::index::{Factory, Unordered, ordered};
+use key_index_flat::translator::OneCap;
+use key_index_parts::index::partitioned::ordered::{Ahead, Index, visit_ahead};
 use key_index_uses::callers::last_values;
+use key_index_uses::records::find_records;
 use std::alloc::Global;
 use std::process::Abort;
 
-/// A batch of these keys visits these places with these values, in this order.
-fn visits<I: Tested>(
-    rt: &impl Abort,
-    alloc: Global,
-    index: &I,
-    keys: &[&[u8]],
-    want: &[(usize, u64)],
-) {
-    let seen = index.seen(rt, alloc, keys);
-    assert!(rt;
-        seen.iter().copied().eq(want.iter().copied()),
-        "visits {seen:?}, not {want:?}"
-    );
-}
+/// The flat ordered index by one byte.
+type Flat = ordered::Index<OneCap, u64>;
 
-/// A batch of two keys visits the whole list of each, in whatever order the places come.
-pub(super) fn visits_lists<I: Tested>(
-    rt: &impl Abort,
-    alloc: Global,
-    index: &I,
-    keys: &[&[u8]],
-    lists: [&[u64]; 2],
-) {
-    let seen = index.seen(rt, alloc, keys);
-    for place in 0..2 {
-        let values = seen.iter().filter(|visit| visit.0 == place);
-        assert!(rt;
-            values.map(|visit| visit.1).eq(lists[place].iter().copied()),
-            "visits of {place} in {seen:?}"
-        );
-    }
-    assert!(rt; seen.iter().all(|visit| visit.0 < 2));
-}
+/// The partitioned ordered index by one byte and then one more.
+type InPartitions = Index<OneCap, u64, 1>;
 
 /// Three keys by their first bytes: 0b with the value 1, 1c with 22 and 21, 2d with 3.
-fn three<I: Tested>(rt: &impl Abort, index: &mut I) {
-    fill(rt, index, b"\x0b\x02\xaa", &[1]);
-    fill(rt, index, b"\x1c\x04\xcc", &[22, 21]);
-    fill(rt, index, b"\x2d\x06\xee", &[3]);
-}
-
-/// A batch of an ordered index with partitions by one byte goes by partition, and in it by index key.
-pub(super) fn by_partition_and_key<I: Tested>(rt: &impl Abort, alloc: Global, index: &mut I) {
-    fill(rt, index, b"\x10\x02", &[2, 22]);
-    fill(rt, index, b"\x20\x01", &[5]);
-    visits(
-        rt,
-        alloc,
-        index,
-        &[b"\x20\x01", b"\x10\x02", b"\x10\x02\xff"],
-        &[(1, 2), (1, 22), (2, 2), (2, 22), (0, 5)],
-    );
-    fill(rt, index, b"\x10\x01", &[9]);
-    fill(rt, index, b"", &[7]);
-    visits(
-        rt,
-        alloc,
-        index,
-        &[b"\x20\x01", b"\x10\x02", b"\x10\x01", b""],
-        &[(3, 7), (2, 9), (1, 2), (1, 22), (0, 5)],
-    );
-}
-
-/// A batch of the flat unordered index by one byte goes by place.
-pub(super) fn by_place<I: Tested>(rt: &impl Abort, alloc: Global, index: &mut I) {
-    three(rt, index);
-    visits(
-        rt,
-        alloc,
-        index,
-        &[b"\x2d", b"\x1c", b"\x1c\x00", b"\x55"],
-        &[(0, 3), (1, 22), (1, 21), (2, 22), (2, 21)],
-    );
-    visits(rt, alloc, index, &[], &[]);
-}
-
-/// A batch of the flat ordered index by one byte goes by index key, and of one key by place.
-pub(super) fn by_key<I: Tested>(rt: &impl Abort, alloc: Global, index: &mut I) {
-    three(rt, index);
-    visits(
-        rt,
-        alloc,
-        index,
-        &[b"\x2d", b"\x1c", b"\x1c\x00", b"\x55"],
-        &[(1, 22), (1, 21), (2, 22), (2, 21), (0, 3)],
-    );
-    visits(
-        rt,
-        alloc,
-        index,
-        &[b"\x2d", b"\x0b", b"\x2d", b"\x0b"],
-        &[(1, 1), (3, 1), (0, 3), (2, 3)],
-    );
-    visits(rt, alloc, index, &[], &[]);
-}
-
-/// A batch of the unordered index with partitions by one byte goes by place.
-pub(super) fn by_place_in_partitions<I: Tested>(rt: &impl Abort, alloc: Global, index: &mut I) {
-    fill(rt, index, b"\x10\x02", &[2, 22]);
-    fill(rt, index, b"\x20\x01", &[5]);
-    fill(rt, index, b"\x00", &[7]);
-    visits(
-        rt,
-        alloc,
-        index,
-        &[b"\x20\x01", b"\x10\x02", b"", b"\x10\x02\xff"],
-        &[(0, 5), (1, 2), (1, 22), (2, 7), (3, 2), (3, 22)],
-    );
-}
-
-/// The last values of three keys, one of which has none.
-fn slice_is_filled<I: Tested + Lists<Value = u64>>(rt: &impl Abort, index: &mut I) {
-    three(rt, index);
-    let keys: [&[u8]; 3] = [b"\x1c", b"\x55", b"\x0b"];
-    let mut answers = [None, Some(9), None];
-    last_values(index, &keys, &mut answers);
-    assert_eq!(rt; answers, [Some(21), Some(9), Some(1)]);
+fn three(rt: &impl Abort, alloc: Global) -> Flat {
+    let mut index: Flat = made(rt, Factory::new(alloc, OneCap));
+    put(rt, index.insert(b"\x0b\x02\xaa", 1));
+    put(rt, index.insert(b"\x1c\x04\xcc", 21));
+    put(rt, index.insert(b"\x1c\x04\xcc", 22));
+    put(rt, index.insert(b"\x2d\x06\xee", 3));
+    index
 }
 
 #[test]
 fn visited_values_may_be_kept(rt: HostRuntime) {
-    let mut index = Ordered.index(&rt, rt.alloc());
-    three(&rt, &mut index);
+    let index = three(&rt, rt.alloc());
     let keys: [&[u8]; 2] = [b"\x2d", b"\x0b"];
     let mut kept: Option<&u64> = None;
     let visited = index.get_many(keys.iter().copied(), |_, value| kept = Some(value));
@@ -138,7 +34,59 @@ fn visited_values_may_be_kept(rt: HostRuntime) {
     assert_eq!(&rt; kept.copied(), Some(3));
 }
 
+/// The last values of three keys, one of which has none.
 #[test]
 fn last_values_fill_a_slice(rt: HostRuntime) {
-    slice_is_filled(&rt, &mut Ordered.index(&rt, rt.alloc()));
+    let index = three(&rt, rt.alloc());
+    let keys: [&[u8]; 3] = [b"\x1c", b"\x55", b"\x0b"];
+    let mut answers = [None, Some(9), None];
+    last_values(&index, &keys, &mut answers);
+    assert_eq!(&rt; answers, [Some(21), Some(9), Some(1)]);
+}
+
+#[test]
+fn told_values_may_be_kept(rt: HostRuntime) {
+    let mut index: InPartitions = made(&rt, Factory::new(rt.alloc(), OneCap));
+    put(&rt, index.insert(b"\x10\x02", 2));
+    put(&rt, index.insert(b"\x10\x02", 22));
+    let keys: [&[u8]; 2] = [b"\x10\x02", b"\x10"];
+    let mut kept: Option<&u64> = None;
+    let mut keep = |event| {
+        if let Ahead::Visit(_, value) = event {
+            kept = Some(value);
+        }
+    };
+    let done = visit_ahead(rt.alloc(), &index, keys.iter().copied(), &mut keep);
+    assert!(&rt; done.is_ok());
+    assert_eq!(&rt; kept.copied(), Some(22));
+}
+
+/// The keys of records by position.
+const LOG: [&[u8]; 6] = [b"one", b"only", b"two", b"one", b"on", b"once"];
+
+/// The keys that are looked for.
+const SOUGHT: [&[u8]; 7] = [b"two", b"one", b"onto", b"only", b"tw", b"one", b""];
+
+/// What they are answered.
+const FOUND: [Option<u64>; 7] = [Some(2), Some(3), None, Some(1), None, Some(3), Some(9)];
+
+/// Records of keys of which the index tells some not apart: the newest record of each key, and none of an absent one.
+fn finds(rt: &impl Abort, alloc: Global, mut index: InPartitions) {
+    for (position, key) in LOG.iter().enumerate() {
+        put(rt, index.insert(*key, position as u64));
+    }
+    let mut answers = [None, None, None, None, None, None, Some(9)];
+    assert!(rt; find_records(alloc, &index, &LOG, &SOUGHT, &mut answers).is_ok());
+    assert_eq!(rt; answers, FOUND);
+}
+
+#[test]
+fn records_are_found(rt: HostRuntime) {
+    let alloc = rt.alloc();
+    finds(&rt, alloc, made(&rt, Factory::new(alloc, OneCap)));
+    finds(
+        &rt,
+        alloc,
+        made(&rt, Index::with_threshold(alloc, OneCap, 2)),
+    );
 }

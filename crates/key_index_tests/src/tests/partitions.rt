@@ -1,7 +1,13 @@
-//! The partitions of keys.
-ghost use Rattle.std.specs.Prelude.{◌≤◌};
+//! The partitions of keys, and indices of many partitions or of long index keys.
+ghost use Rattle.std.specs.Prelude.{◌≤◌, IsTrue};
+ghost use Rattle.key_index_parts.specs.Ops.{IsCuts};
 
-use key_index_parts::index::partitioned::partition_index_and_sub_key;
+use super::checks::{are, made, neighbour_is, push, put};
+use key_index_flat::index::{Factory, Ordered, Unordered};
+use key_index_flat::translator::{EightCap, OneCap, TwoCap};
+use key_index_parts::index::partitioned::{self, Partitioned, partition_index_and_sub_key};
+use key_index_uses::builds::newest_positions;
+use std::alloc::Global;
 use std::process::Abort;
 
 /// The partition of a key by `P` bytes is this, with this rest.
@@ -51,4 +57,166 @@ fn partitions_never_fall(rt: HostRuntime) {
         last = number;
     }
     assert_eq!(&rt; last, 0xffff);
+}
+
+/// An index of 2^24 partitions.
+type ByThree = partitioned::ordered::Index<TwoCap, u64, 3>;
+
+/// The last key of all.
+const LAST: &[u8] = b"\xff\xff\xff\xff\xff";
+
+/// The neighbours above three keys with many partitions between them.
+fn next_far_apart(rt: &impl Abort, index: &ByThree) {
+    neighbour_is(rt, index.next_translated_key(b""), &[3], false);
+    neighbour_is(rt, index.next_translated_key(b"\x80"), &[2], false);
+    neighbour_is(rt, index.next_translated_key(LAST), &[1], true);
+}
+
+/// Those below.
+fn prev_far_apart(rt: &impl Abort, index: &ByThree) {
+    neighbour_is(rt, index.prev_translated_key(b"\xff\xff\xff"), &[3], false);
+    neighbour_is(rt, index.prev_translated_key(b"\x80"), &[1], false);
+    neighbour_is(rt, index.prev_translated_key(b""), &[2], true);
+}
+
+#[test]
+fn neighbours_stand_across_all_partitions(rt: HostRuntime) {
+    let mut index: ByThree = made(&rt, Factory::new(rt.alloc(), TwoCap));
+    put(&rt, index.insert(b"", 1));
+    put(&rt, index.insert(LAST, 2));
+    put(&rt, index.insert(b"\x80", 3));
+    next_far_apart(&rt, &index);
+    prev_far_apart(&rt, &index);
+    assert!(&rt; index.remove(b"\x80").is_ok());
+    neighbour_is(&rt, index.next_translated_key(b""), &[2], false);
+}
+
+/// An index by nine bytes.
+type ByNine = partitioned::ordered::Index<EightCap, u64, 1>;
+
+/// A key of so many zeros, and then this byte.
+fn zeros_then(rt: &impl Abort, alloc: Global, zeros: usize, last: u8) -> Vec<u8> {
+    let mut key = Vec::new(alloc);
+    assert!(rt; key.resize(zeros, 0).is_ok());
+    push(rt, &mut key, last);
+    key
+}
+
+/// How many zeros the keys have.
+const ZEROS: [usize; 5] = [0, 7, 8, 9, 69_999];
+
+/// Keys of 1 to 70,000 zeros, and those that differ from them in the last byte.
+fn long_keys(rt: &impl Abort, alloc: Global, index: &mut ByNine) {
+    put(rt, index.insert(b"", 0));
+    for zeros in ZEROS {
+        put(rt, index.insert(&zeros_then(rt, alloc, zeros, 0), 0));
+        put(rt, index.insert(&zeros_then(rt, alloc, zeros, 1), 1));
+    }
+}
+
+/// The first are one key, and the others are others as far as the index key goes.
+#[test]
+fn long_keys_are_cut(rt: HostRuntime) {
+    let alloc = rt.alloc();
+    let mut index: ByNine = made(&rt, Factory::new(alloc, EightCap));
+    long_keys(&rt, alloc, &mut index);
+    for zeros in ZEROS {
+        let found = index.get(&zeros_then(&rt, alloc, zeros, 1)).count();
+        assert!(&rt; zeros >= 9 || found == 1, "{zeros} zeros and a one");
+        assert!(&rt; zeros < 9 || found > 6, "{zeros} zeros and a one");
+    }
+    assert_eq!(&rt; (index.keys(), index.items(), index.pruned()), (4, 11, 0));
+}
+
+/// Whether numbers strictly ascend from 0 to a count.
+fn are_cuts(cuts: &[usize], count: usize) -> bool
+    ensures { IsTrue result → IsCuts cuts.now count }
+{
+    if cuts.len() < 2 || cuts[0] != 0 || cuts[cuts.len() - 1] != count {
+        return false;
+    }
+    let mut at = 1;
+    'cuts: while at < cuts.len() {
+        if cuts[at - 1] >= cuts[at] {
+            return false;
+        }
+        at += 1;
+    }
+    true
+}
+
+/// The cuts of the ranges that are built.
+const CUTS: [usize; 6] = [0, 1, 0x7f, 0x80, 0xff, 256];
+
+/// A record behind those of a vector.
+fn record(
+    rt: &impl Abort,
+    alloc: Global,
+    records: &mut Vec<(Vec<u8>, u64)>,
+    key: &[u8],
+    position: u64,
+) {
+    let mut bytes = Vec::new(alloc);
+    assert!(rt; bytes.extend_from_slice(key).is_ok());
+    push(rt, records, (bytes, position));
+}
+
+/// Four records of three keys, the newest first.
+fn records(rt: &impl Abort, alloc: Global) -> Vec<(Vec<u8>, u64)> {
+    let mut records = Vec::new(alloc);
+    record(rt, alloc, &mut records, b"\x10\x01", 9);
+    record(rt, alloc, &mut records, b"\x80\x01", 8);
+    record(rt, alloc, &mut records, b"\x10\x01", 7);
+    record(rt, alloc, &mut records, b"\xff", 6);
+    records
+}
+
+/// The partitioned ordered index by one byte and then one more.
+type InOrder = partitioned::ordered::Index<OneCap, u64, 1>;
+
+/// The newest record of each key stands.
+fn newest_in_order(rt: &impl Abort, alloc: Global, index: InOrder) {
+    assert_eq!(rt; index.keys(), 0);
+    assert!(rt; are_cuts(&CUTS, index.partition_count()));
+    let Ok(index) = newest_positions(alloc, index, &CUTS, records(rt, alloc)) else {
+        panic!(rt; "an index")
+    };
+    are(rt, index.get(b"\x10\x01"), &[9]);
+    are(rt, index.get(b"\x80\x01"), &[8]);
+    are(rt, index.get(b"\xff"), &[6]);
+    assert_eq!(rt; (index.keys(), index.items(), index.pruned()), (3, 3, 0));
+}
+
+#[test]
+fn newest_stand_in_order(rt: HostRuntime) {
+    let alloc = rt.alloc();
+    newest_in_order(&rt, alloc, made(&rt, Factory::new(alloc, OneCap)));
+    newest_in_order(
+        &rt,
+        alloc,
+        made(&rt, InOrder::with_threshold(alloc, OneCap, 1)),
+    );
+    newest_in_order(
+        &rt,
+        alloc,
+        made(&rt, InOrder::with_threshold(alloc, OneCap, 2)),
+    );
+}
+
+#[test]
+fn newest_stand_without_order(rt: HostRuntime) {
+    let alloc = rt.alloc();
+    let index: partitioned::unordered::Index<OneCap, u64, 1> = made(
+        &rt,
+        Factory::new(alloc, OneCap),
+    );
+    assert_eq!(&rt; index.keys(), 0);
+    assert!(&rt; are_cuts(&CUTS, index.partition_count()));
+    let Ok(index) = newest_positions(alloc, index, &CUTS, records(&rt, alloc)) else {
+        panic!(&rt; "an index")
+    };
+    are(&rt, index.get(b"\x10\x01"), &[9]);
+    are(&rt, index.get(b"\x80\x01"), &[8]);
+    are(&rt, index.get(b"\xff"), &[6]);
+    assert_eq!(&rt; (index.keys(), index.items(), index.pruned()), (3, 3, 0));
 }

@@ -1,6 +1,6 @@
 //! What each translator makes of keys, and the hashes of translated keys.
 
-use super::checks::{Tested, made};
+use super::checks::{are, made, put};
 use key_index_flat::index::{Factory, Runs, Unordered, unordered};
 use key_index_flat::translator::{
     Cap, EightCap, FourCap, Hashed, KeyHash, OneCap, SeededSha256, Translator, TwoCap,
@@ -57,7 +57,7 @@ fn number_of<H: KeyHash>(seed: u64, key: &[u8]) -> u64 {
 }
 
 /// An array of bytes.
-fn array<const N: usize>(inner: [u8; N]) -> UnhashedArray<N> {
+pub(super) fn array<const N: usize>(inner: [u8; N]) -> UnhashedArray<N> {
     UnhashedArray { inner }
 }
 
@@ -185,47 +185,57 @@ fn hashed_translators(rt: HostRuntime) {
     gives(&rt, &first, b"abc", 0x6100);
 }
 
+/// A translator by the key hash of the example.
+type Seeded = Hashed<TwoCap, SeededSha256>;
+
 /// An index holds a value under the key of the example.
-fn holds_one<I: Tested + Drop>(rt: &impl Abort, mut index: I) {
-    index.inserts(rt, KEY, 1);
-    index.holds(rt, KEY, &[1]);
-    index.holds(rt, b"cdef", &[]);
+#[test]
+fn hashed_index(rt: HostRuntime) {
+    let translator: Seeded = Hashed::from_seed(ABCDBCDE, TwoCap);
+    let mut index = made(&rt, unordered::Index::new(rt.alloc(), translator));
+    put(&rt, index.insert(KEY, 1));
+    are(&rt, index.get(KEY), &[1]);
+    are(&rt, index.get(b"cdef"), &[]);
 }
 
+/// So does one in partitions.
 #[test]
-fn hashed_indices(rt: HostRuntime) {
-    let translator: Hashed<TwoCap, SeededSha256> = Hashed::from_seed(ABCDBCDE, TwoCap);
-    let flat = unordered::Index::new(rt.alloc(), translator);
-    holds_one(&rt, made(&rt, flat));
-    let parts = partitioned::unordered::Index::<_, u64, 1>::new(rt.alloc(), translator);
-    holds_one(&rt, made(&rt, parts));
+fn hashed_index_in_partitions(rt: HostRuntime) {
+    let translator: Seeded = Hashed::from_seed(ABCDBCDE, TwoCap);
+    let mut index = made(&rt, InPartitions::new(rt.alloc(), translator));
+    put(&rt, index.insert(KEY, 1));
+    are(&rt, index.get(KEY), &[1]);
+    are(&rt, index.get(b"cdef"), &[]);
 }
+
+/// An index in partitions by one byte.
+type InPartitions = partitioned::unordered::Index<Seeded, u64, 1>;
 
 /// A seed by which the example's key has another hash.
 const OTHER: u64 = 0x6867_6665_6463_6261;
 
-/// The value 1 stays under the slot that it was put in under, and the calls by key go by another one.
-fn goes_by_another<I: Unordered<Value = u64>>(
-    rt: &impl Abort,
-    index: &mut I,
-    before: I::Key,
-    behind: I::Key,
-) {
-    index.holds(rt, KEY, &[]);
-    index.inserts(rt, KEY, 2);
-    index.holds(rt, KEY, &[2]);
-    assert!(rt; index.slot_of(KEY) == behind);
-    assert_eq!(rt; index.run_len(before), 1);
-    assert_eq!(rt; *index.value_at(before, 0), 1);
-    index.counts(rt, (2, 2, 0));
+/// The value 1 stays under the slot that it was put in under.
+fn stays(rt: &impl Abort, index: &unordered::Index<Seeded, u64>) {
+    assert_eq!(rt; index.run_len(0x248d), 1);
+    assert_eq!(rt; *index.value_at(0x248d, 0), 1);
+    assert_eq!(rt; (index.keys(), index.items(), index.pruned()), (2, 2, 0));
+}
+
+/// The calls by key go by another slot.
+fn goes_by_another(rt: &impl Abort, index: &mut unordered::Index<Seeded, u64>) {
+    are(rt, index.get(KEY), &[]);
+    put(rt, index.insert(KEY, 2));
+    are(rt, index.get(KEY), &[2]);
+    assert!(rt; index.slot_of(KEY) == 0x4e7b);
 }
 
 /// Values stay under their index keys when an index takes another translator, and the calls by key then go by that one.
 #[test]
 fn another_translator_is_set(rt: HostRuntime) {
-    let first: Hashed<TwoCap, SeededSha256> = Hashed::from_seed(ABCDBCDE, TwoCap);
+    let first: Seeded = Hashed::from_seed(ABCDBCDE, TwoCap);
     let mut index = made(&rt, unordered::Index::new(rt.alloc(), first));
-    index.inserts(&rt, KEY, 1);
+    put(&rt, index.insert(KEY, 1));
     index.set_translator(Hashed::from_seed(OTHER, TwoCap));
-    goes_by_another(&rt, &mut index, 0x248d, 0x4e7b);
+    goes_by_another(&rt, &mut index);
+    stays(&rt, &index);
 }

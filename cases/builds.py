@@ -1,0 +1,64 @@
+"""Indices that are built in ranges."""
+from asked import Asked
+from case import BY_ONE, case_of
+from commands import edit
+from lists import Lists, random_key
+from session import word
+from xorshift import Numbers
+
+
+@case_of(*BY_ONE)
+def is_built_in_ranges(*words):
+    """Five ops in two ranges: two values come behind others, and a key loses both that it had."""
+    with Asked(*words) as index:
+        index.keep("get_or_insert x1001 1")
+        index.keep("get_or_insert x9001 2")
+        index.keep("edit x1001 next insert:3")
+        index.keep("get_or_insert x900105 4")
+        index.keep("edit x9001 next delete next insert:5")
+        index.ask("build 0 128 256", "ok")
+        index.holds(b"\x10\x01", [1, 3])
+        index.holds(b"\x90\x01", [5])
+        index.counts(2, 3, 1)
+
+
+@case_of(*BY_ONE)
+def is_built_two_thousand_times(*words):
+    build_beside(words, 2000)
+
+
+@case_of("punordered_by_two", "pordered_by_two", "pordered_wide")
+def is_built_a_hundred_times(*words):
+    build_beside(words, 100)
+
+
+def build_beside(words, builds):
+    """An index is built by up to 23 ops in ranges by random cuts, and then has the lists that the ops come to one by
+    one. All keys are removed before the next build."""
+    with Asked(*words) as index:
+        lists, numbers = Lists(words[0]), Numbers()
+        for _ in range(builds):
+            lists.clear(index)
+            line = " ".join(["build", *map(str, cuts(lists, numbers))])
+            for _ in range(numbers.next() % 24):
+                index.keep(op(lists, numbers))
+            index.ask(line, "ok")
+            lists.compare_all(index)
+
+
+def cuts(lists, numbers):
+    """Cuts at up to five partitions that keys have, or one behind."""
+    drawn = [numbers.next() for _ in range(numbers.next() % 6)]
+    inner = [lists.partition(random_key(number)) + number // 64 % 2 for number in drawn]
+    return sorted({0, *inner, lists.partitions()})
+
+
+def op(lists, numbers):
+    """An op, which is also done to its key's list."""
+    number = numbers.next()
+    key = random_key(number)
+    if number // 64 % 2 == 0:
+        lists.get_or_insert(key, number)
+        return f"get_or_insert {word(key)} {number}"
+    steps, _ = edit(lists, key, numbers)
+    return " ".join(["edit", word(key), *steps])

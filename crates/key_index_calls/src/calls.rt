@@ -1,0 +1,243 @@
+//! The calls that every index has.
+use crate::answer::Answer;
+use crate::cursors::{edit, edit_or_insert};
+use crate::line::{Line, Name};
+use key_index_flat::index::{Cursor, Fault, Unordered};
+use key_index_uses::callers::{add, replace, replace_first, update};
+
+/// `retain`, with what it asks on.
+fn retain<I: Unordered<Value = u64>>(index: &mut I, line: &Line, answer: &mut Answer) {
+    let mut answers = line.number(0);
+    let made = index.retain(line.key(0), |value: &u64| answer.ask(*value, &mut answers));
+    answer.made(made);
+}
+
+/// `insert_and_retain`, with what it asks on.
+fn insert_and_retain<I: Unordered<Value = u64>>(index: &mut I, line: &Line, answer: &mut Answer) {
+    let value = line.number(0);
+    let mut answers = line.number(1);
+    let given = index.insert_and_retain(
+        line.key(0),
+        value,
+        |value: &u64| answer.ask(*value, &mut answers),
+    );
+    answer.given(given, value);
+}
+
+/// `get_many`, with what it visits.
+fn visit<I: Unordered<Value = u64>>(index: &I, line: &Line, answer: &mut Answer) {
+    let made = index.get_many(line.keys.iter(), |place: usize, value: &u64| {
+        answer.count(place);
+        answer.number(*value);
+    });
+    answer.made(made);
+}
+
+/// The calls by key that give no cursor.
+fn by_key<I: Unordered<Value = u64>>(index: &mut I, line: &Line, answer: &mut Answer) -> bool {
+    let key = line.key(0);
+    let value = line.number(0);
+    match line.name {
+        Name::Insert => answer.given(index.insert(key, value), value),
+        Name::Remove => answer.made(index.remove(key)),
+        Name::Get => answer.values(index.get(key)),
+        Name::Retain => retain(index, line, answer),
+        Name::InsertAndRetain => insert_and_retain(index, line, answer),
+        Name::Many => visit(index, line, answer),
+        _ => return false,
+    }
+    true
+}
+
+/// The three counts.
+fn counts<I: Unordered<Value = u64>>(index: &I, answer: &mut Answer) {
+    answer.count(index.keys());
+    answer.count(index.items());
+    answer.number(index.pruned());
+}
+
+/// The calls that tell of the whole index.
+fn of_whole<I: Unordered<Value = u64>>(index: &I, line: &Line, answer: &mut Answer) -> bool {
+    match line.name {
+        Name::Counts => counts(index, answer),
+        Name::Empty => answer.flag(index.is_empty()),
+        Name::InsertsFirst => answer.flag(I::INSERT_FIRST),
+        Name::SameSlot => {
+            answer.flag(index.slot_of(line.key(0)) == index.slot_of(line.key(1)));
+        }
+        _ => return false,
+    }
+    true
+}
+
+/// `reach`, and whether it tells the index key of the key.
+fn reach<I: Unordered<Value = u64>>(index: &mut I, key: &[u8], answer: &mut Answer) {
+    let slot = index.slot_of(key);
+    match index.reach(key) {
+        Ok((reached, len)) => tell_reached(reached == slot, len, answer),
+        Err(fault) => answer.refused(fault),
+    }
+}
+
+/// `reach_or_insert`, the same.
+fn reach_or_insert<I: Unordered<Value = u64>>(
+    index: &mut I,
+    key: &[u8],
+    value: u64,
+    answer: &mut Answer,
+) {
+    let slot = index.slot_of(key);
+    match index.reach_or_insert(key, value) {
+        Ok((reached, len)) => tell_reached(reached == slot, len, answer),
+        Err(refused) => answer.returned(&refused, value),
+    }
+}
+
+fn tell_reached(is_slot: bool, len: usize, answer: &mut Answer) {
+    answer.count(len);
+    if !is_slot {
+        answer.word("other slot");
+    }
+}
+
+/// `search`.
+fn search<I: Unordered<Value = u64>>(index: &mut I, key: &[u8], answer: &mut Answer) {
+    match index.search(key) {
+        Ok(cursor) => answer.state(cursor.state()),
+        Err(None) => answer.word("none"),
+        Err(Some(fault)) => answer.refused(fault),
+    }
+}
+
+/// `search_or_insert`.
+fn search_or_insert<I: Unordered<Value = u64>>(
+    index: &mut I,
+    key: &[u8],
+    value: u64,
+    answer: &mut Answer,
+) {
+    match index.search_or_insert(key, value) {
+        Ok(cursor) => answer.state(cursor.state()),
+        Err(None) => answer.word("inserted"),
+        Err(Some(refused)) => answer.returned(&refused, value),
+    }
+}
+
+/// The calls by key that look for a cursor, or for its list.
+fn by_search<I: Unordered<Value = u64>>(index: &mut I, line: &Line, answer: &mut Answer) -> bool {
+    let key = line.key(0);
+    let value = line.number(0);
+    match line.name {
+        Name::Edit => edit(index, key, line, answer),
+        Name::EditOrInsert => edit_or_insert(index, key, value, line, answer),
+        Name::Reach => reach(index, key, answer),
+        Name::ReachOrInsert => reach_or_insert(index, key, value, answer),
+        Name::Search => search(index, key, answer),
+        Name::SearchOrInsert => search_or_insert(index, key, value, answer),
+        _ => return false,
+    }
+    true
+}
+
+/// The value at a place that has one.
+fn value_at<I: Unordered<Value = u64>>(index: &I, line: &Line, answer: &mut Answer) {
+    let (slot, place) = (index.slot_of(line.key(0)), line.count(0));
+    if place < index.run_len(slot) {
+        answer.number(*index.value_at(slot, place));
+    } else {
+        answer.word("unallowed");
+    }
+}
+
+/// `set_at` of a place that has a value.
+fn set_at<I: Unordered<Value = u64>>(index: &mut I, line: &Line, answer: &mut Answer) {
+    let (slot, place) = (index.slot_of(line.key(0)), line.count(1));
+    if place < index.run_len(slot) {
+        index.set_at(slot, place, line.number(0));
+        answer.word("ok");
+    } else {
+        answer.word("unallowed");
+    }
+}
+
+/// `insert_at` of a place up to the end.
+fn insert_at<I: Unordered<Value = u64>>(index: &mut I, line: &Line, answer: &mut Answer) {
+    let (slot, place) = (index.slot_of(line.key(0)), line.count(1));
+    let value = line.number(0);
+    if index.admits(slot) && place <= index.run_len(slot) {
+        answer.given(index.insert_at(slot, place, value), value);
+    } else {
+        answer.word("unallowed");
+    }
+}
+
+/// `remove_at` of a place that has a value.
+fn remove_at<I: Unordered<Value = u64>>(index: &mut I, line: &Line, answer: &mut Answer) {
+    let (slot, place) = (index.slot_of(line.key(0)), line.count(0));
+    if place < index.run_len(slot) {
+        answer.number(index.remove_at(slot, place));
+    } else {
+        answer.word("unallowed");
+    }
+}
+
+/// The calls by index key and place.
+fn by_place<I: Unordered<Value = u64>>(index: &mut I, line: &Line, answer: &mut Answer) -> bool {
+    match line.name {
+        Name::Len => answer.count(index.run_len(index.slot_of(line.key(0)))),
+        Name::At => value_at(index, line, answer),
+        Name::SetAt => set_at(index, line, answer),
+        Name::InsertAt => insert_at(index, line, answer),
+        Name::RemoveAt => remove_at(index, line, answer),
+        _ => return false,
+    }
+    true
+}
+
+/// `update` of a value by another one.
+fn update_value<I: Unordered<Value = u64>>(index: &mut I, line: &Line, answer: &mut Answer) {
+    let (old, new) = (line.number(0), line.number(1));
+    if old == new {
+        answer.word("unallowed");
+        return;
+    }
+    match update(index, line.key(0), old, new) {
+        Ok(()) => answer.word("ok"),
+        Err(fault) => answer.refused(fault),
+    }
+}
+
+/// `add`.
+fn add_value<I: Unordered<Value = u64>>(index: &mut I, line: &Line, answer: &mut Answer) {
+    let value = line.number(0);
+    match add(index, line.key(0), value) {
+        Ok(items) => answer.count(items),
+        Err(refused) => answer.returned(&refused, value),
+    }
+}
+
+/// The proved callers.
+fn by_callers<I: Unordered<Value = u64>>(index: &mut I, line: &Line, answer: &mut Answer) -> bool {
+    let value = line.number(0);
+    match line.name {
+        Name::Add => add_value(index, line, answer),
+        Name::Replace => answer.made(replace(index, line.key(0), value)),
+        Name::ReplaceFirst => answer.told(replace_first(index, line.key(0), value)),
+        Name::Update => update_value(index, line, answer),
+        _ => return false,
+    }
+    true
+}
+
+/// Any of these. Tells whether the line is one of them.
+pub(crate) fn call<I: Unordered<Value = u64>>(
+    index: &mut I,
+    line: &Line,
+    answer: &mut Answer,
+) -> bool {
+    by_key(index, line, answer)
+        || of_whole(index, line, answer)
+        || by_search(index, line, answer)
+        || by_place(index, line, answer)
+        || by_callers(index, line, answer)
+}

@@ -1,0 +1,84 @@
+//! Indices without partitions.
+use crate::answer::Answer;
+use crate::calls;
+use crate::commands::run_lines;
+use crate::line::{Line, Name, Stop};
+use crate::serve::Session;
+use key_index_flat::index::{Ordered, Unordered};
+use std::alloc::Global;
+
+/// An index that has what every index has.
+#[derive(Drop)]
+pub(crate) struct InNoOrder<I> {
+    pub(crate) index: I,
+}
+
+/// A call that every index has.
+pub(crate) fn call<I: Unordered<Value = u64>>(
+    alloc: Global,
+    index: &mut I,
+    line: &Line,
+    kept: &[Line],
+    answer: &mut Answer,
+) -> Result<bool, Stop> {
+    if line.name == Name::Run {
+        run_lines(alloc, index, kept, answer)?;
+        return Ok(true);
+    }
+    Ok(calls::call(index, line, answer))
+}
+
+impl<I: Unordered<Value = u64>> Session for InNoOrder<I> {
+    type Range = ();
+
+    fn call(
+        &mut self,
+        alloc: Global,
+        _ranges: &mut Vec<()>,
+        line: &Line,
+        kept: &[Line],
+        answer: &mut Answer,
+    ) -> Result<bool, Stop> {
+        call(alloc, &mut self.index, line, kept, answer)
+    }
+}
+
+/// An index whose keys are in order.
+#[derive(Drop)]
+pub(crate) struct InOrder<I> {
+    pub(crate) index: I,
+}
+
+/// A call that an index has whose keys are in order.
+pub(crate) fn call_in_order<I: Ordered<Value = u64>>(
+    index: &I,
+    line: &Line,
+    answer: &mut Answer,
+) -> bool {
+    match line.name {
+        Name::Next => answer.neighbour(index.next_translated_key(line.key(0))),
+        Name::Prev => answer.neighbour(index.prev_translated_key(line.key(0))),
+        Name::First => answer.end(index.first_translated_key()),
+        Name::Last => answer.end(index.last_translated_key()),
+        _ => return false,
+    }
+    true
+}
+
+impl<I: Ordered<Value = u64>> Session for InOrder<I> {
+    type Range = ();
+
+    fn call(
+        &mut self,
+        alloc: Global,
+        _ranges: &mut Vec<()>,
+        line: &Line,
+        kept: &[Line],
+        answer: &mut Answer,
+    ) -> Result<bool, Stop> {
+        if call_in_order(&self.index, line, answer) {
+            return Ok(true);
+        }
+        call(alloc, &mut self.index, line, kept, answer)
+    }
+}

@@ -1,0 +1,174 @@
+//! Snapshots over ordered indices.
+ghost use Rattle.std.specs.Prelude.{◌≡◌, [], IfOk};
+ghost use Rattle.key_index_parts.specs.Ops.{IsCuts};
+ghost use Rattle.key_index_parts.specs.Ordered.{view};
+
+use crate::answer::Answer;
+use crate::line::{Line, Name, Stop};
+use crate::partitions::{are_cuts, cuts};
+use crate::serve::Session;
+use key_index::snapshot::{Record, Snapshot};
+use key_index_flat::index::{Factory, Fault, Ordered};
+use key_index_flat::translator::OneCap;
+use key_index_parts::index::partitioned::ordered::Index;
+use key_index_uses::snapshots::gap_at;
+use std::alloc::{AllocError, Global};
+
+/// A key and its position, or none.
+fn tell_entry(entry: Option<(&[u8], u64)>, answer: &mut Answer) {
+    match entry {
+        Some((key, position)) => {
+            answer.key(key);
+            answer.number(position);
+        }
+        None => answer.word("none"),
+    }
+}
+
+/// Shows that a snapshot lacks a key, by those next to it.
+fn tell_gap<I: Ordered<Value = Record>>(snapshot: &Snapshot<I>, key: &[u8], answer: &mut Answer) {
+    match gap_at(snapshot, key) {
+        Some(gap) => {
+            tell_entry(gap.below, answer);
+            tell_entry(gap.above, answer);
+        }
+        None => answer.word("held"),
+    }
+}
+
+/// A call that every snapshot has.
+fn call<I: Ordered<Value = Record>>(
+    snapshot: &mut Snapshot<I>,
+    line: &Line,
+    answer: &mut Answer,
+) -> bool {
+    let key = line.key(0);
+    match line.name {
+        Name::Set => answer.made(snapshot.set(key, line.number(0))),
+        Name::Unset => answer.told(snapshot.unset(key)),
+        Name::Get => answer.option(snapshot.get(key)),
+        Name::Next => tell_entry(snapshot.next(key), answer),
+        Name::Prev => tell_entry(snapshot.prev(key), answer),
+        Name::Absent => tell_gap(&*snapshot, key, answer),
+        Name::Len => {
+            answer.count(snapshot.len());
+            answer.flag(snapshot.is_empty());
+        }
+        _ => return false,
+    }
+    true
+}
+
+/// A snapshot.
+#[derive(Drop)]
+pub(crate) struct Whole<I: Ordered<Value = Record>> {
+    pub(crate) snapshot: Snapshot<I>,
+}
+
+impl<I: Ordered<Value = Record>> Session for Whole<I> {
+    type Range = ();
+
+    fn call(
+        &mut self,
+        _alloc: Global,
+        _ranges: &mut Vec<()>,
+        line: &Line,
+        _kept: &[Line],
+        answer: &mut Answer,
+    ) -> Result<bool, Stop> {
+        Ok(call(&mut self.snapshot, line, answer))
+    }
+}
+
+/// An index in partitions by one byte, of which a snapshot is built.
+type Parted = Index<OneCap, Record, 1>;
+
+/// A snapshot over partitions, which can be built anew.
+#[derive(Drop)]
+pub(crate) struct Built {
+    pub(crate) threshold: usize,
+    pub(crate) snapshot: Snapshot<Parted>,
+}
+
+impl Built {
+    /// A snapshot with no key, over partitions that spill at so many values.
+    pub(crate) fn new(alloc: Global, threshold: usize) -> Result<Built, Fault> {
+        let snapshot = Snapshot::new(alloc, empty(alloc, threshold)?);
+        Ok(Built {
+            threshold,
+            snapshot,
+        })
+    }
+}
+
+/// Such partitions, or those that spill at the default where it is 0.
+fn empty(alloc: Global, threshold: usize) -> Result<Parted, Fault>
+    ensures { IfOk result (λ index. (view index).content ≡ []) }
+{
+    if threshold == 0 {
+        return Index::new(alloc, OneCap);
+    }
+    Index::with_threshold(alloc, OneCap, threshold)
+}
+
+/// The records of lines.
+fn records(alloc: Global, lines: &[Line]) -> Result<Vec<Record>, AllocError> {
+    let mut records = Vec::new(alloc);
+    for line in lines {
+        let key = line.key(0).to_vec(alloc)?;
+        let position = line.number(0);
+        records.push(Record { key, position })?;
+    }
+    Ok(records)
+}
+
+/// A snapshot that is built of records in the place of the one that there is.
+fn build_of(
+    alloc: Global,
+    built: &mut Built,
+    cuts: &[usize],
+    records: Vec<Record>,
+) -> Result<(), Fault>
+    requires { IsCuts cuts.now 256 }
+{
+    let index = empty(alloc, built.threshold)?;
+    built.snapshot = Snapshot::build(alloc, index, cuts, records)?;
+    Ok(())
+}
+
+/// The same, by the records of lines.
+fn build(
+    alloc: Global,
+    built: &mut Built,
+    line: &Line,
+    kept: &[Line],
+    answer: &mut Answer,
+) -> Result<(), Stop> {
+    let cuts = cuts(alloc, line)?;
+    let records = records(alloc, kept)?;
+    if are_cuts(cuts.as_slice(), 256) {
+        answer.made(build_of(alloc, built, cuts.as_slice(), records));
+    } else {
+        answer.word("unallowed");
+    }
+    Ok(())
+}
+
+impl Session for Built {
+    type Range = ();
+
+    fn call(
+        &mut self,
+        alloc: Global,
+        _ranges: &mut Vec<()>,
+        line: &Line,
+        kept: &[Line],
+        answer: &mut Answer,
+    ) -> Result<bool, Stop> {
+        if line.name == Name::Build {
+            build(alloc, self, line, kept, answer)?;
+            return Ok(true);
+        }
+        Ok(call(&mut self.snapshot, line, answer))
+    }
+}

@@ -1,6 +1,0 @@
-use denote.Param.Always.{always_fn}
-use Rattle.key_index_flat.proofs.runs.CommandLemmas.{have-tests}
-use Rattle.key_index_refusals.proofs.parts.run_all.Goals as goal
-
-pub run-requires : goal.run-requires
-run-requires g c = have-tests (λ f. always_fn g.F.Fn f) c.requires c.args.commands.items
