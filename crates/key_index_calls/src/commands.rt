@@ -1,6 +1,7 @@
 //! Lists of commands.
 use crate::answer::Answer;
 use crate::line::{Line, Move, Name};
+use crate::serve::Request;
 use key_index_flat::index::{Command, Outcome, Step, Unordered, run};
 use std::alloc::{AllocError, Global};
 
@@ -104,19 +105,18 @@ fn run_commands<I: Unordered<Value = u64>, F: Fn(&u64) -> bool + Drop>(
     }
 }
 
-/// `run` of the commands of lines.
+/// `run` of the commands of the lines that are kept.
 pub(crate) fn run_lines<I: Unordered<Value = u64>>(
-    alloc: Global,
     index: &mut I,
-    lines: &[Line],
-    answer: &mut Answer,
+    request: &mut Request,
 ) -> Result<(), AllocError> {
+    let alloc = request.alloc;
     let mut commands = Vec::new(alloc);
-    for line in lines {
+    for line in request.kept.iter() {
         let keeps = Keeps::of(line);
         let test = move |value: &u64| keeps.keeps(*value);
         commands.push(command(alloc, line, test)?)?;
     }
-    run_commands(alloc, index, commands, answer);
+    run_commands(alloc, index, commands, &mut request.answer);
     Ok(())
 }

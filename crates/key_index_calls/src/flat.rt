@@ -3,9 +3,8 @@ use crate::answer::Answer;
 use crate::calls;
 use crate::commands::run_lines;
 use crate::line::{Line, Name, Stop};
-use crate::serve::Session;
+use crate::serve::{Request, Session};
 use key_index_flat::index::{Ordered, Unordered};
-use std::alloc::Global;
 
 /// An index that has what every index has.
 #[derive(Drop)]
@@ -15,31 +14,21 @@ pub(crate) struct InNoOrder<I> {
 
 /// A call that every index has.
 pub(crate) fn call<I: Unordered<Value = u64>>(
-    alloc: Global,
     index: &mut I,
-    line: &Line,
-    kept: &[Line],
-    answer: &mut Answer,
+    request: &mut Request,
 ) -> Result<bool, Stop> {
-    if line.name == Name::Run {
-        run_lines(alloc, index, kept, answer)?;
+    if request.line.name == Name::Run {
+        run_lines(index, request)?;
         return Ok(true);
     }
-    Ok(calls::call(index, line, answer))
+    Ok(calls::call(index, &request.line, &mut request.answer))
 }
 
 impl<I: Unordered<Value = u64>> Session for InNoOrder<I> {
     type Range = ();
 
-    fn call(
-        &mut self,
-        alloc: Global,
-        _ranges: &mut Vec<()>,
-        line: &Line,
-        kept: &[Line],
-        answer: &mut Answer,
-    ) -> Result<bool, Stop> {
-        call(alloc, &mut self.index, line, kept, answer)
+    fn call(&mut self, _ranges: &mut Vec<()>, request: &mut Request) -> Result<bool, Stop> {
+        call(&mut self.index, request)
     }
 }
 
@@ -68,17 +57,10 @@ pub(crate) fn call_in_order<I: Ordered<Value = u64>>(
 impl<I: Ordered<Value = u64>> Session for InOrder<I> {
     type Range = ();
 
-    fn call(
-        &mut self,
-        alloc: Global,
-        _ranges: &mut Vec<()>,
-        line: &Line,
-        kept: &[Line],
-        answer: &mut Answer,
-    ) -> Result<bool, Stop> {
-        if call_in_order(&self.index, line, answer) {
+    fn call(&mut self, _ranges: &mut Vec<()>, request: &mut Request) -> Result<bool, Stop> {
+        if call_in_order(&self.index, &request.line, &mut request.answer) {
             return Ok(true);
         }
-        call(alloc, &mut self.index, line, kept, answer)
+        call(&mut self.index, request)
     }
 }

@@ -26,7 +26,7 @@ use key_index_parts::index::partitioned;
 use line::Stop;
 use partitions::Punordered;
 use records::{Filed, Filing};
-use serve::serve;
+use serve::{Streams, serve};
 use snapshots::{Built, Whole};
 use spilling::Pordered;
 use std::alloc::Global;
@@ -61,64 +61,44 @@ impl KeyHash for FirstByte {
 
 /// Serves the flat unordered index.
 fn serve_unordered<T: Translator, R: BufRead, W: Write>(
-    alloc: Global,
     translator: T,
-    input: &mut R,
-    output: &mut W,
+    streams: &mut Streams<R, W>,
 ) -> Result<(), Stop> {
-    let index = unordered::Index::new(alloc, translator)?;
-    serve(alloc, &mut InNoOrder { index }, input, output)
+    let index = unordered::Index::new(streams.alloc, translator)?;
+    serve(&mut InNoOrder { index }, streams)
 }
 
 /// Serves the flat ordered index.
 fn serve_ordered<T: OrderedTranslator, R: BufRead, W: Write>(
-    alloc: Global,
     translator: T,
-    input: &mut R,
-    output: &mut W,
+    streams: &mut Streams<R, W>,
 ) -> Result<(), Stop> {
-    let index = ordered::Index::new(alloc, translator)?;
-    serve(alloc, &mut InOrder { index }, input, output)
+    let index = ordered::Index::new(streams.alloc, translator)?;
+    serve(&mut InOrder { index }, streams)
 }
 
 /// Serves the plain index.
-fn serve_plain<R: BufRead, W: Write>(
-    alloc: Global,
-    input: &mut R,
-    output: &mut W,
-) -> Result<(), Stop> {
-    let index = key_index_plain::Index::new(alloc, OneCap)?;
-    serve(alloc, &mut InOrder { index }, input, output)
+fn serve_plain<R: BufRead, W: Write>(streams: &mut Streams<R, W>) -> Result<(), Stop> {
+    let index = key_index_plain::Index::new(streams.alloc, OneCap)?;
+    serve(&mut InOrder { index }, streams)
 }
 
 /// Serves the partitioned unordered index by one byte.
-fn serve_punordered<R: BufRead, W: Write>(
-    alloc: Global,
-    input: &mut R,
-    output: &mut W,
-) -> Result<(), Stop> {
-    let index = partitioned::unordered::Index::<OneCap, u64, 1>::new(alloc, OneCap)?;
-    serve(alloc, &mut Punordered { index }, input, output)
+fn serve_punordered<R: BufRead, W: Write>(streams: &mut Streams<R, W>) -> Result<(), Stop> {
+    let index = partitioned::unordered::Index::<OneCap, u64, 1>::new(streams.alloc, OneCap)?;
+    serve(&mut Punordered { index }, streams)
 }
 
 /// Serves the partitioned unordered index by two bytes.
-fn serve_punordered_by_two<R: BufRead, W: Write>(
-    alloc: Global,
-    input: &mut R,
-    output: &mut W,
-) -> Result<(), Stop> {
-    let index = partitioned::unordered::Index::<OneCap, u64, 2>::new(alloc, OneCap)?;
-    serve(alloc, &mut Punordered { index }, input, output)
+fn serve_punordered_by_two<R: BufRead, W: Write>(streams: &mut Streams<R, W>) -> Result<(), Stop> {
+    let index = partitioned::unordered::Index::<OneCap, u64, 2>::new(streams.alloc, OneCap)?;
+    serve(&mut Punordered { index }, streams)
 }
 
 /// Serves the partitioned unordered index by one byte and two more.
-fn serve_punordered_wide<R: BufRead, W: Write>(
-    alloc: Global,
-    input: &mut R,
-    output: &mut W,
-) -> Result<(), Stop> {
-    let index = partitioned::unordered::Index::<TwoCap, u64, 1>::new(alloc, TwoCap)?;
-    serve(alloc, &mut Punordered { index }, input, output)
+fn serve_punordered_wide<R: BufRead, W: Write>(streams: &mut Streams<R, W>) -> Result<(), Stop> {
+    let index = partitioned::unordered::Index::<TwoCap, u64, 1>::new(streams.alloc, TwoCap)?;
+    serve(&mut Punordered { index }, streams)
 }
 
 /// The partitioned ordered index, whose partitions spill at so many values, or at the default where that is 0.
@@ -141,76 +121,67 @@ const THRESHOLDS: [usize; 6] = [1, 2, 3, 8, 64, 512];
 
 /// Serves the partitioned ordered index by one byte, beside others.
 fn serve_pordered<R: BufRead, W: Write>(
-    alloc: Global,
     threshold: usize,
-    input: &mut R,
-    output: &mut W,
+    streams: &mut Streams<R, W>,
 ) -> Result<(), Stop> {
-    let index = pordered::<OneCap, 1>(alloc, OneCap, threshold)?;
-    let mut others = Vec::new(alloc);
+    let index = pordered::<OneCap, 1>(streams.alloc, OneCap, threshold)?;
+    let mut others = Vec::new(streams.alloc);
     for other in THRESHOLDS {
-        others.push(pordered::<OneCap, 1>(alloc, OneCap, other)?)?;
+        others.push(pordered::<OneCap, 1>(streams.alloc, OneCap, other)?)?;
     }
-    serve(alloc, &mut Pordered { index, others }, input, output)
+    serve(&mut Pordered { index, others }, streams)
 }
 
 /// Serves the partitioned ordered index by two bytes.
 fn serve_pordered_by_two<R: BufRead, W: Write>(
-    alloc: Global,
     threshold: usize,
-    input: &mut R,
-    output: &mut W,
+    streams: &mut Streams<R, W>,
 ) -> Result<(), Stop> {
-    let index = pordered::<OneCap, 2>(alloc, OneCap, threshold)?;
-    let others = Vec::new(alloc);
-    serve(alloc, &mut Pordered { index, others }, input, output)
+    let index = pordered::<OneCap, 2>(streams.alloc, OneCap, threshold)?;
+    let others = Vec::new(streams.alloc);
+    serve(&mut Pordered { index, others }, streams)
 }
 
 /// Serves the partitioned ordered index by one byte and two more.
 fn serve_pordered_wide<R: BufRead, W: Write>(
-    alloc: Global,
     threshold: usize,
-    input: &mut R,
-    output: &mut W,
+    streams: &mut Streams<R, W>,
 ) -> Result<(), Stop> {
-    let index = pordered::<TwoCap, 1>(alloc, TwoCap, threshold)?;
-    let others = Vec::new(alloc);
-    serve(alloc, &mut Pordered { index, others }, input, output)
+    let index = pordered::<TwoCap, 1>(streams.alloc, TwoCap, threshold)?;
+    let others = Vec::new(streams.alloc);
+    serve(&mut Pordered { index, others }, streams)
 }
 
 /// Serves an index of records.
 fn serve_records<I: Ordered<Value = Filing>, R: BufRead, W: Write>(
-    alloc: Global,
     index: Result<I, Fault>,
-    input: &mut R,
-    output: &mut W,
+    streams: &mut Streams<R, W>,
 ) -> Result<(), Stop>
 where
     I: Drop,
 {
     let index = index?;
-    serve(alloc, &mut Filed { index }, input, output)
+    serve(&mut Filed { index }, streams)
 }
 
 /// Serves a snapshot over a flat ordered index.
 fn serve_snapshot<T: OrderedTranslator, R: BufRead, W: Write>(
-    alloc: Global,
     translator: T,
-    input: &mut R,
-    output: &mut W,
+    streams: &mut Streams<R, W>,
 ) -> Result<(), Stop> {
-    let snapshot = Snapshot::new(alloc, ordered::Index::new(alloc, translator)?);
-    serve(alloc, &mut Whole { snapshot }, input, output)
+    let snapshot = Snapshot::new(
+        streams.alloc,
+        ordered::Index::new(streams.alloc, translator)?,
+    );
+    serve(&mut Whole { snapshot }, streams)
 }
 
 /// Serves a snapshot over partitions.
 fn serve_built<R: BufRead, W: Write>(
-    alloc: Global,
     threshold: usize,
-    input: &mut R,
-    output: &mut W,
+    streams: &mut Streams<R, W>,
 ) -> Result<(), Stop> {
-    serve(alloc, &mut Built::new(alloc, threshold)?, input, output)
+    serve(&mut Built::new(streams.alloc, threshold)?, streams)
 }
 
 /// The translator by the first byte of a key as its hash.
@@ -224,56 +195,47 @@ fn by_arrays() -> Cap<3> {
 }
 
 /// Serves an index without partitions, or another one.
-fn serve_flat<R: BufRead, W: Write>(
-    alloc: Global,
-    kind: &str,
-    input: &mut R,
-    output: &mut W,
-) -> Result<(), Stop> {
+fn serve_flat<R: BufRead, W: Write>(kind: &str, streams: &mut Streams<R, W>) -> Result<(), Stop> {
     match kind {
-        "unordered" => serve_unordered(alloc, OneCap, input, output),
-        "unordered_by_hash" => serve_unordered(alloc, by_hash(), input, output),
-        "ordered" => serve_ordered(alloc, OneCap, input, output),
-        "ordered_by_eight" => serve_ordered(alloc, EightCap, input, output),
-        "ordered_by_arrays" => serve_ordered(alloc, by_arrays(), input, output),
-        "plain" => serve_plain(alloc, input, output),
+        "unordered" => serve_unordered(OneCap, streams),
+        "unordered_by_hash" => serve_unordered(by_hash(), streams),
+        "ordered" => serve_ordered(OneCap, streams),
+        "ordered_by_eight" => serve_ordered(EightCap, streams),
+        "ordered_by_arrays" => serve_ordered(by_arrays(), streams),
+        "plain" => serve_plain(streams),
         _ => Err(Stop::Usage),
     }
 }
 
 /// Serves an index in partitions, or another one.
 fn serve_partitions<R: BufRead, W: Write>(
-    alloc: Global,
     kind: &str,
     threshold: usize,
-    input: &mut R,
-    output: &mut W,
+    streams: &mut Streams<R, W>,
 ) -> Result<(), Stop> {
     match kind {
-        "punordered" => serve_punordered(alloc, input, output),
-        "punordered_by_two" => serve_punordered_by_two(alloc, input, output),
-        "punordered_wide" => serve_punordered_wide(alloc, input, output),
-        "pordered" => serve_pordered(alloc, threshold, input, output),
-        "pordered_by_two" => serve_pordered_by_two(alloc, threshold, input, output),
-        "pordered_wide" => serve_pordered_wide(alloc, threshold, input, output),
-        _ => serve_snapshots(alloc, kind, threshold, input, output),
+        "punordered" => serve_punordered(streams),
+        "punordered_by_two" => serve_punordered_by_two(streams),
+        "punordered_wide" => serve_punordered_wide(streams),
+        "pordered" => serve_pordered(threshold, streams),
+        "pordered_by_two" => serve_pordered_by_two(threshold, streams),
+        "pordered_wide" => serve_pordered_wide(threshold, streams),
+        _ => serve_snapshots(kind, threshold, streams),
     }
 }
 
 /// Serves a snapshot, or another one.
 fn serve_snapshots<R: BufRead, W: Write>(
-    alloc: Global,
     kind: &str,
     threshold: usize,
-    input: &mut R,
-    output: &mut W,
+    streams: &mut Streams<R, W>,
 ) -> Result<(), Stop> {
     match kind {
-        "snapshot_ordered" => serve_snapshot(alloc, OneCap, input, output),
-        "snapshot_ordered_by_two" => serve_snapshot(alloc, TwoCap, input, output),
-        "snapshot_ordered_by_eight" => serve_snapshot(alloc, EightCap, input, output),
-        "snapshot_pordered" => serve_built(alloc, threshold, input, output),
-        _ => serve_kind_of_records(alloc, kind, input, output),
+        "snapshot_ordered" => serve_snapshot(OneCap, streams),
+        "snapshot_ordered_by_two" => serve_snapshot(TwoCap, streams),
+        "snapshot_ordered_by_eight" => serve_snapshot(EightCap, streams),
+        "snapshot_pordered" => serve_built(threshold, streams),
+        _ => serve_kind_of_records(kind, streams),
     }
 }
 
@@ -282,21 +244,17 @@ type Partitions = partitioned::ordered::Index<OneCap, Filing, 1>;
 
 /// Serves an index of records, or one without partitions.
 fn serve_kind_of_records<R: BufRead, W: Write>(
-    alloc: Global,
     kind: &str,
-    input: &mut R,
-    output: &mut W,
+    streams: &mut Streams<R, W>,
 ) -> Result<(), Stop> {
     match kind {
-        "records_ordered" => {
-            serve_records(alloc, ordered::Index::new(alloc, OneCap), input, output)
-        }
-        "records_pordered" => serve_records(alloc, Partitions::new(alloc, OneCap), input, output),
+        "records_ordered" => { serve_records(ordered::Index::new(streams.alloc, OneCap), streams) }
+        "records_pordered" => serve_records(Partitions::new(streams.alloc, OneCap), streams),
         "records_plain" => {
-            let index = key_index_plain::Index::new(alloc, OneCap);
-            serve_records(alloc, index, input, output)
+            let index = key_index_plain::Index::new(streams.alloc, OneCap);
+            serve_records(index, streams)
         }
-        _ => serve_flat(alloc, kind, input, output),
+        _ => serve_flat(kind, streams),
     }
 }
 
@@ -314,13 +272,11 @@ fn arguments(words: &[String]) -> Result<(&str, usize), Stop> {
 
 /// Serves an index of the kind that the arguments name.
 fn serve_words<R: BufRead, W: Write>(
-    alloc: Global,
     words: &[String],
-    input: &mut R,
-    output: &mut W,
+    streams: &mut Streams<R, W>,
 ) -> Result<(), Stop> {
     let (kind, threshold) = arguments(words)?;
-    serve_partitions(alloc, kind, threshold, input, output)
+    serve_partitions(kind, threshold, streams)
 }
 
 /// Runs the program. Each answer is written before it ends, also where it ends early.
@@ -330,14 +286,19 @@ fn run(rt: &HostRuntime) -> Result<(), Stop> {
         return Err(Stop::Failed);
     };
     let words: Vec<String> = args.skip(1).collect(alloc)?;
-    let Ok(mut input) = BufReader::new(alloc, rt.stdin()) else {
+    let Ok(input) = BufReader::new(alloc, rt.stdin()) else {
         return Err(Stop::Failed);
     };
-    let Ok(mut output) = BufWriter::new(alloc, rt.stdout()) else {
+    let Ok(output) = BufWriter::new(alloc, rt.stdout()) else {
         return Err(Stop::Failed);
     };
-    let ended = serve_words(alloc, words.as_slice(), &mut input, &mut output);
-    match output.flush() {
+    let mut streams = Streams {
+        alloc,
+        input,
+        output,
+    };
+    let ended = serve_words(words.as_slice(), &mut streams);
+    match streams.output.flush() {
         Ok(()) => ended,
         Err(_) => Err(Stop::Failed),
     }

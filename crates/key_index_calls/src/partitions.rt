@@ -7,7 +7,7 @@ use crate::commands::steps;
 use crate::cursors::{edit, edit_or_insert};
 use crate::flat::call;
 use crate::line::{Line, Name, Stop};
-use crate::serve::Session;
+use crate::serve::{Request, Session};
 use key_index_flat::translator::Translator;
 use key_index_parts::index::partitioned::unordered::{Index, RangeIndex};
 use key_index_parts::index::partitioned::{Op, PartitionRange, Partitioned, build_in_ranges};
@@ -142,16 +142,12 @@ fn build_by<I: Partitioned<Value = u64>>(
     }
 }
 
-/// The same, by the ops of lines.
-fn build<I: Partitioned<Value = u64>>(
-    alloc: Global,
-    index: &mut I,
-    line: &Line,
-    kept: &[Line],
-    answer: &mut Answer,
-) -> Result<(), Stop> {
-    let cuts = cuts(alloc, line)?;
-    build_by(alloc, index, cuts.as_slice(), ops(alloc, kept)?, answer);
+/// The same, by the ops of the lines that are kept.
+fn build<I: Partitioned<Value = u64>>(index: &mut I, request: &mut Request) -> Result<(), Stop> {
+    let alloc = request.alloc;
+    let cuts = cuts(alloc, &request.line)?;
+    let ops = ops(alloc, request.kept.as_slice())?;
+    build_by(alloc, index, cuts.as_slice(), ops, &mut request.answer);
     Ok(())
 }
 
@@ -281,24 +277,22 @@ fn of_range<R: PartitionRange<Value = u64>>(
 
 /// A call that an index in partitions has.
 pub(crate) fn call_in_partitions<I: Partitioned<Value = u64>>(
-    alloc: Global,
     index: &mut I,
     ranges: &mut Vec<I::Range>,
-    line: &Line,
-    kept: &[Line],
-    answer: &mut Answer,
+    request: &mut Request,
 ) -> Result<bool, Stop> {
-    if line.name == Name::Build {
-        build(alloc, index, line, kept, answer)?;
+    if request.line.name == Name::Build {
+        build(index, request)?;
         return Ok(true);
     }
+    let (line, answer) = (&request.line, &mut request.answer);
     if of_partitions(&*index, line, answer)
         || with_ranges(index, ranges, line, answer)?
-        || of_range(alloc, ranges.get_mut(line.count(0)), line, answer)
+        || of_range(request.alloc, ranges.get_mut(line.count(0)), line, answer)
     {
         return Ok(true);
     }
-    call(alloc, index, line, kept, answer)
+    call(index, request)
 }
 
 /// The partitioned unordered index.
@@ -312,12 +306,9 @@ impl<T: Translator, const P: usize> Session for Punordered<T, P> {
 
     fn call(
         &mut self,
-        alloc: Global,
         ranges: &mut Vec<RangeIndex<T, u64, P>>,
-        line: &Line,
-        kept: &[Line],
-        answer: &mut Answer,
+        request: &mut Request,
     ) -> Result<bool, Stop> {
-        call_in_partitions(alloc, &mut self.index, ranges, line, kept, answer)
+        call_in_partitions(&mut self.index, ranges, request)
     }
 }

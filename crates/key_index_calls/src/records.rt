@@ -1,7 +1,7 @@
 //! Records in an ordered index, and those next to a full key.
 use crate::answer::Answer;
 use crate::line::{Line, Name, Stop};
-use crate::serve::Session;
+use crate::serve::{Request, Session};
 use key_index_flat::index::{Keyed, Ordered, resolve_next, resolve_prev};
 use key_index_uses::callers::{exclude, file};
 use std::alloc::Global;
@@ -68,16 +68,10 @@ fn tell_excluded<I: Ordered<Value = Filing>>(index: &I, key: &[u8], answer: &mut
 impl<I: Ordered<Value = Filing>> Session for Filed<I> {
     type Range = ();
 
-    fn call(
-        &mut self,
-        alloc: Global,
-        _ranges: &mut Vec<()>,
-        line: &Line,
-        _kept: &[Line],
-        answer: &mut Answer,
-    ) -> Result<bool, Stop> {
+    fn call(&mut self, _ranges: &mut Vec<()>, request: &mut Request) -> Result<bool, Stop> {
+        let (line, answer) = (&request.line, &mut request.answer);
         match line.name {
-            Name::File => add(alloc, &mut self.index, line, answer)?,
+            Name::File => add(request.alloc, &mut self.index, line, answer)?,
             Name::Next => answer.option(position(resolve_next(&self.index, line.key(0)))),
             Name::Prev => answer.option(position(resolve_prev(&self.index, line.key(0)))),
             Name::Exclude => tell_excluded(&self.index, line.key(0), answer),

@@ -5,20 +5,22 @@ use std::alloc::Global;
 use std::io::{BufRead, Write};
 use std::str;
 
+/// A line that is read, those that are kept for a later one, and the answer. The memory of earlier lines serves later ones.
+#[derive(Drop)]
+pub(crate) struct Request {
+    pub(crate) alloc: Global,
+    pub(crate) line: Line,
+    pub(crate) kept: Vec<Line>,
+    pub(crate) answer: Answer,
+}
+
 /// An index with the calls that it has.
 pub(crate) trait Session {
     /// A range of it.
     type Range: Drop;
 
-    /// Makes the call of a line, which may use the ranges and the lines that are kept, and tells whether it has such a call.
-    fn call(
-        &mut self,
-        alloc: Global,
-        ranges: &mut Vec<Self::Range>,
-        line: &Line,
-        kept: &[Line],
-        answer: &mut Answer,
-    ) -> Result<bool, Stop>;
+    /// Makes the call of a line, which may use the ranges that are kept, and tells whether it has such a call.
+    fn call(&mut self, ranges: &mut Vec<Self::Range>, request: &mut Request) -> Result<bool, Stop>;
 }
 
 /// Whether a line takes the lines that are kept.
@@ -26,20 +28,12 @@ fn takes_lines(line: &Line) -> bool {
     line.name == Name::Run || line.name == Name::Build
 }
 
-/// What serves all lines: the one that is read, those that are kept for a later one, and the answer.
-#[derive(Drop)]
-struct Desk {
-    line: Line,
-    kept: Vec<Line>,
-    answer: Answer,
-}
-
 /// Keeps a line for the next call that takes such lines.
-fn keep(alloc: Global, desk: &mut Desk, text: &str) -> Result<(), Stop> {
-    desk.answer.word("+");
-    let mut line = Line::new(alloc);
-    line.read(alloc, text)?;
-    match desk.kept.push(line) {
+fn keep(request: &mut Request, text: &str) -> Result<(), Stop> {
+    request.answer.word("+");
+    let mut line = Line::new(request.alloc);
+    line.read(request.alloc, text)?;
+    match request.kept.push(line) {
         Ok(()) => Ok(()),
         Err(_) => Err(Stop::Failed),
     }
@@ -47,57 +41,48 @@ fn keep(alloc: Global, desk: &mut Desk, text: &str) -> Result<(), Stop> {
 
 /// Makes the call of a line.
 fn call<S: Session>(
-    alloc: Global,
     session: &mut S,
     ranges: &mut Vec<S::Range>,
-    desk: &mut Desk,
+    request: &mut Request,
     text: &str,
 ) -> Result<(), Stop> {
-    desk.line.read(alloc, text)?;
-    if !session.call(
-        alloc,
-        ranges,
-        &desk.line,
-        desk.kept.as_slice(),
-        &mut desk.answer,
-    )? {
+    request.line.read(request.alloc, text)?;
+    if !session.call(ranges, request)? {
         return Err(Stop::BadLine);
     }
-    if takes_lines(&desk.line) {
-        desk.kept.clear();
+    if takes_lines(&request.line) {
+        request.kept.clear();
     }
     Ok(())
 }
 
 /// Answers one line.
 fn serve_line<S: Session>(
-    alloc: Global,
     session: &mut S,
     ranges: &mut Vec<S::Range>,
-    desk: &mut Desk,
+    request: &mut Request,
     text: &str,
 ) -> Result<(), Stop> {
     match text.strip_prefix("+ ") {
-        Some(text) => keep(alloc, desk, text),
-        None => call(alloc, session, ranges, desk, text),
+        Some(text) => keep(request, text),
+        None => call(session, ranges, request, text),
     }
 }
 
 /// Answers a line of bytes.
 fn serve_bytes<S: Session, W: Write>(
-    alloc: Global,
     session: &mut S,
     ranges: &mut Vec<S::Range>,
-    desk: &mut Desk,
+    request: &mut Request,
     bytes: &[u8],
     output: &mut W,
 ) -> Result<(), Stop> {
     let Ok(text) = str::from_utf8(bytes) else {
         return Err(Stop::BadLine);
     };
-    desk.answer.clear();
-    serve_line(alloc, session, ranges, desk, text)?;
-    desk.answer.write(output)
+    request.answer.clear();
+    serve_line(session, ranges, request, text)?;
+    request.answer.write(output)
 }
 
 /// Reads a line, without its newline. Tells whether there is one.
@@ -112,25 +97,39 @@ fn read<R: BufRead>(input: &mut R, bytes: &mut Vec<u8>) -> Result<bool, Stop> {
     Ok(count > 0)
 }
 
+/// Where a session takes memory, and its streams.
+#[derive(Drop)]
+pub(crate) struct Streams<R, W> {
+    pub(crate) alloc: Global,
+    pub(crate) input: R,
+    pub(crate) output: W,
+}
+
 /// Answers the lines of the input up to its end.
 pub(crate) fn serve<S: Session, R: BufRead, W: Write>(
-    alloc: Global,
     session: &mut S,
-    input: &mut R,
-    output: &mut W,
+    streams: &mut Streams<R, W>,
 ) -> Result<(), Stop> {
+    let alloc = streams.alloc;
     let mut bytes = Vec::new(alloc);
     let mut ranges = Vec::new(alloc);
-    let mut desk = Desk {
+    let mut request = Request {
+        alloc,
         line: Line::new(alloc),
         kept: Vec::new(alloc),
         answer: Answer::new(alloc),
     };
     for _ in 0..u64::MAX {
-        if !read(input, &mut bytes)? {
+        if !read(&mut streams.input, &mut bytes)? {
             return Ok(());
         }
-        serve_bytes(alloc, session, &mut ranges, &mut desk, &bytes, output)?;
+        serve_bytes(
+            session,
+            &mut ranges,
+            &mut request,
+            &bytes,
+            &mut streams.output,
+        )?;
     }
     Ok(())
 }

@@ -6,7 +6,7 @@ ghost use Rattle.key_index_parts.specs.Ordered.{view};
 use crate::answer::Answer;
 use crate::line::{Line, Name, Stop};
 use crate::partitions::{are_cuts, cuts};
-use crate::serve::Session;
+use crate::serve::{Request, Session};
 use key_index::snapshot::{Record, Snapshot};
 use key_index_flat::index::{Factory, Fault, Ordered};
 use key_index_flat::translator::OneCap;
@@ -68,15 +68,8 @@ pub(crate) struct Whole<I: Ordered<Value = Record>> {
 impl<I: Ordered<Value = Record>> Session for Whole<I> {
     type Range = ();
 
-    fn call(
-        &mut self,
-        _alloc: Global,
-        _ranges: &mut Vec<()>,
-        line: &Line,
-        _kept: &[Line],
-        answer: &mut Answer,
-    ) -> Result<bool, Stop> {
-        Ok(call(&mut self.snapshot, line, answer))
+    fn call(&mut self, _ranges: &mut Vec<()>, request: &mut Request) -> Result<bool, Stop> {
+        Ok(call(&mut self.snapshot, &request.line, &mut request.answer))
     }
 }
 
@@ -136,20 +129,17 @@ fn build_of(
     Ok(())
 }
 
-/// The same, by the records of lines.
-fn build(
-    alloc: Global,
-    built: &mut Built,
-    line: &Line,
-    kept: &[Line],
-    answer: &mut Answer,
-) -> Result<(), Stop> {
-    let cuts = cuts(alloc, line)?;
-    let records = records(alloc, kept)?;
+/// The same, by the records of the lines that are kept.
+fn build(built: &mut Built, request: &mut Request) -> Result<(), Stop> {
+    let alloc = request.alloc;
+    let cuts = cuts(alloc, &request.line)?;
+    let records = records(alloc, request.kept.as_slice())?;
     if are_cuts(cuts.as_slice(), 256) {
-        answer.made(build_of(alloc, built, cuts.as_slice(), records));
+        request
+            .answer
+            .made(build_of(alloc, built, cuts.as_slice(), records));
     } else {
-        answer.word("unallowed");
+        request.answer.word("unallowed");
     }
     Ok(())
 }
@@ -157,18 +147,11 @@ fn build(
 impl Session for Built {
     type Range = ();
 
-    fn call(
-        &mut self,
-        alloc: Global,
-        _ranges: &mut Vec<()>,
-        line: &Line,
-        kept: &[Line],
-        answer: &mut Answer,
-    ) -> Result<bool, Stop> {
-        if line.name == Name::Build {
-            build(alloc, self, line, kept, answer)?;
+    fn call(&mut self, _ranges: &mut Vec<()>, request: &mut Request) -> Result<bool, Stop> {
+        if request.line.name == Name::Build {
+            build(self, request)?;
             return Ok(true);
         }
-        Ok(call(&mut self.snapshot, line, answer))
+        Ok(call(&mut self.snapshot, &request.line, &mut request.answer))
     }
 }

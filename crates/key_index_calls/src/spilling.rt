@@ -3,11 +3,10 @@ use crate::answer::Answer;
 use crate::flat::call_in_order;
 use crate::line::{Line, Name, Stop};
 use crate::partitions::{call_in_partitions, keep};
-use crate::serve::Session;
+use crate::serve::{Request, Session};
 use key_index_flat::translator::{OneCap, OrderedTranslator, Translator, TwoCap};
 use key_index_parts::index::partitioned::ordered::{Ahead, Index, RangeIndex};
 use key_index_parts::index::partitioned::{PartitionRange, Partitioned};
-use std::alloc::Global;
 
 /// The index, and others that spill at thresholds of their own, of which ranges are made.
 #[derive(Drop)]
@@ -177,12 +176,10 @@ where
 
     fn call(
         &mut self,
-        alloc: Global,
         ranges: &mut Vec<RangeIndex<T, u64, P>>,
-        line: &Line,
-        kept: &[Line],
-        answer: &mut Answer,
+        request: &mut Request,
     ) -> Result<bool, Stop> {
+        let (line, answer) = (&request.line, &mut request.answer);
         if line.name == Name::Ahead {
             return Ok(self.index.look_ahead(line, answer));
         }
@@ -192,6 +189,6 @@ where
         {
             return Ok(true);
         }
-        call_in_partitions(alloc, &mut self.index, ranges, line, kept, answer)
+        call_in_partitions(&mut self.index, ranges, request)
     }
 }
