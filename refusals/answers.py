@@ -7,6 +7,9 @@ REFUSED = "refused memory"
 # The answer of a move, and the cursor's state behind it.
 MOVED = re.compile(r"(.*?) ?\b(need_next|active|done)\b ?")
 
+# Lines that tell how partitions stand, which a refused call may change though it changes no other answer.
+STANDS = ("standing", "moves", "range_standing", "range_moves")
+
 OUTCOME = re.compile(REFUSED + r"|done|edited(?: true| false)*")
 
 
@@ -35,10 +38,7 @@ class Kept:
         name = words[0]
         if name == "+":
             self.commands.append(words)
-        elif name == "standing":
-            # of a partition that is due to move back to arrays: that it doesn't changes no other answer
-            self.tell("return", answer.startswith("false"))
-        else:
+        elif name not in STANDS:
             self.tell(name, answer != REFUSED)
             self.call(words, answer)
 

@@ -1,5 +1,6 @@
 """What is run: states of key_index_refusals, and sessions of the other programs."""
 import sessions
+from stood import Standing
 from task import Calls, Session, State, Stored
 
 DIGITS = range(1, 10)
@@ -16,12 +17,18 @@ def calls(program):
     widest = " ".join(["at", *["x" + "00" * 8] * 10, *["1"] * 10, *["next"] * 10])
     for kind in [*sessions.FLAT, *sessions.PARTITIONED]:
         session = sessions.randomly(kind)
-        task = Calls(f"{kind} random", [program, *sessions.words_of(kind)], session.lines, most=40)
-        task.wanted = session.wanted
-        yield task
+        yield task_of(program, kind, "random", session.lines, most=40, wanted=session.wanted)
     for kind, name, lines in sessions.sessions():
         first = "absent x" if kind.startswith("snapshot") else widest
-        yield Calls(f"{kind} {name}", [program, *sessions.words_of(kind)], [first, first, *lines])
+        yield task_of(program, kind, name, [first, first, *lines])
+
+
+def task_of(program, kind, name, lines, **more):
+    """A session of calls, which also tells how partitions stand where they spill."""
+    words = sessions.words_of(kind)
+    if kind.startswith("pordered") and name not in ("callers", "run", "build"):
+        return Standing(f"{kind} {name}", [program, *words], lines, int([*words, 512][1]), **more)
+    return Calls(f"{kind} {name}", [program, *words], lines, **more)
 
 
 def program_lines():

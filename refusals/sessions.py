@@ -153,7 +153,7 @@ def ahead(kind):
 def second(kind):
     """A value in arrays, and the insertion of one of another key, which spills them at two. A refused one leaves them
     so."""
-    behind = [*looks(kind, ["x1001", "x1002"]), "spilled_count", "moves"]
+    behind = [*looks(kind, ["x1001", "x1002"]), "spilled_count"]
     return ["insert x1001 1", *twice(["insert x1002 2"], behind)]
 
 
@@ -182,7 +182,7 @@ def shrunken(kind):
             lines += [f"insert {key} {value}" for key in (first, other)]
         lines += [f"edit {first} retain:1", *looked, f"edit {other} retain:3", *looked]
         calls = [call.format(f"{partition:x}"), f"retain {absent} 0", f"remove {absent}"]
-        lines += twice(calls, [f"standing {partition}", *looked])
+        lines += twice(calls, looked)
         lines += twice([f"insert {first} {value}" for value in range(6, 11)], looked)
         lines += twice([f"many {first} x"], looked)
     return lines

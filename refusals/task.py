@@ -117,7 +117,7 @@ class Session(Task):
         kept = Kept(self.lines, answers)
         self.compare(kept)
         tally = Counter({f"{self.name} {call}": count for call, count in kept.tally.items()})
-        tally["refusals"] = sum(answer.count(REFUSED) for answer in answers) + kept.tally["return refused"]
+        tally["refusals"] = sum(answer.count(REFUSED) for answer in answers)
         return tally
 
     def ends(self, status, answers, error):
@@ -143,7 +143,10 @@ class Calls(Session):
     """A session of key_index_calls, of which the answers may be known."""
 
     errors = ("failed",)
-    wanted = ()
+
+    def __init__(self, name, command, lines, most=None, wanted=()):
+        super().__init__(name, command, lines, most)
+        self.wanted = wanted
 
     def begin(self):
         self.compare(Kept(self.lines, self.wanted))
