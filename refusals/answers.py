@@ -67,6 +67,7 @@ class Kept:
         for move, (text, state), (_, before) in zip(moves, told[1:], told):
             if move.startswith("insert:"):
                 self.tell("insert:", text != REFUSED)
+                self.tell(f"{words[0]}:insert", text != REFUSED)
             if text != REFUSED or state != before:
                 kept_moves.append(move)
                 kept_told.append((text, state))

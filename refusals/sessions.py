@@ -1,6 +1,6 @@
 """Sessions of key_index_calls, by kind of index and a name. Calls stand twice, so that a refused one is made again."""
 from lists import Lists, random_key
-from session import Session
+from session import Session, word
 from xorshift import Numbers
 
 FLAT = ["unordered", "ordered", "plain"]
@@ -45,6 +45,7 @@ def worked(kind):
         f"edit {first} next insert:7",
         f"edit {first} find:0 insert:8",
         f"insert_at {first} 9 1",
+        f"edit_at {first} next insert:1",
         f"insert {second} 5",
         f"insert_and_retain {first} 6 5",
         f"many {first} x",
@@ -89,6 +90,17 @@ def run(kind):
     return lines
 
 
+def put_at(session, lists, key, number):
+    """A value behind the others of an index key, or behind the first of them by a cursor that is made there."""
+    values = lists.list_at(key)
+    if number % 3 and values:
+        moves = ["next", f"insert:{number}"]
+        session.ask(" ".join(["edit_at", word(key), *moves]), lists.edit(key, moves)[0])
+    else:
+        lists.put(key, [*values, number])
+        session.ask(f"insert_at {word(key)} {number} {len(values)}", "ok")
+
+
 def randomly(kind):
     """Random calls of lists, and their answers."""
     words = words_of(kind)
@@ -96,7 +108,10 @@ def randomly(kind):
     for _ in range(CALLS):
         number = numbers.next()
         key = random_key(number)
-        lists.call(session, numbers, key, number // 64 % 16)
+        if number // 1024 % 8:
+            lists.call(session, numbers, key, number // 64 % 16)
+        else:
+            put_at(session, lists, key, number)
         lists.compare(session, key)
         lists.compare_any(session, numbers)
     return session
@@ -106,6 +121,9 @@ def ranges(kind, filled):
     """A range that is filled and then installed: with three keys; with a value more behind the first of these; with a
     list that grows past a threshold of two, beside a value of the index."""
     fill = [f"range_edit_or_insert {key} 0 {value}" for key, value in [("x8001", 1), ("x8002", 2), ("x8107", 3)]]
+    # one or the other takes memory, in an array, a map or a tree
+    fill += ["range_insert_at x8107 0 5 1", "range_insert_at x8103 0 7 0"]
+    fill += ["range_edit_at x8002 0 find:0 insert:6 insert:7 insert:8 insert:9"]
     longer = ["range_edit_or_insert x8001ff 0 4 find:0 insert:4"]
     overfill = [
         "range_edit_or_insert x8001 0 1",

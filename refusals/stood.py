@@ -12,8 +12,11 @@ from task import Calls, Wrong
 RETURNS = ("remove", "retain", "insert_and_retain")
 INSERTS_NOTHING = ("edit", "remove", "retain")
 
-CALLS = ("insert", "insert_at", "edit_or_insert", *RETURNS, "edit")
-CALLS_OF_RANGE = ("range_edit", "range_edit_or_insert")
+# Calls by index key, before which no partition spills.
+BY_INDEX_KEY = ("insert_at", "edit_at")
+
+CALLS = ("insert", "edit_or_insert", *RETURNS, "edit", *BY_INDEX_KEY)
+CALLS_OF_RANGE = ("range_edit", "range_edit_or_insert", "range_insert_at", "range_edit_at")
 
 # The partitions of the range that sessions install.
 INSTALLED = (0x80, 0x81)
@@ -54,7 +57,7 @@ class Stood:
 
     def make(self, name, key, numbers, moves):
         """An accepted call. Tells whether the list had no value at some time of an edit."""
-        if name == "edit":
+        if name in ("edit", "edit_at"):
             return self.lists.edit(key, moves)[1]
         if name == "edit_or_insert":
             return self.lists.edit_or_insert(key, numbers[0], moves)[1]
@@ -74,7 +77,7 @@ class Stood:
         met = SimpleNamespace(partition=self.lists.partition(key), held=len(self.lists.list_at(key)))
         met.entries = self.entries(met.partition)
         settled = deepcopy(self.standings)
-        if name != "insert_at":
+        if name not in BY_INDEX_KEY:
             settled.reaches(met.partition, met.entries)
         if answer == REFUSED:
             if name in INSERTS_NOTHING and settled.spills == self.standings.spills:
@@ -88,7 +91,9 @@ class Stood:
         moves = [word for word in words[2:] if not word.isdigit()]
         was_empty = self.make(name, key, numbers[1:] if words[0] in CALLS_OF_RANGE else numbers, moves)
         entries = self.entries(met.partition)
-        if name == "insert_at":
+        if name in BY_INDEX_KEY:
+            if was_empty and met.entries == met.held:
+                settled.spilled.discard(met.partition)
             return [settled]
         settled = deepcopy(self.standings)
         settled.follows(met, entries, EDIT if name.startswith("edit") else INSERT, was_empty)

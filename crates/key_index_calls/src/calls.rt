@@ -1,8 +1,8 @@
 //! The calls that every index has.
 use crate::answer::Answer;
-use crate::cursors::{edit, edit_or_insert};
+use crate::cursors::{edit, edit_at, edit_or_insert};
 use crate::line::{Line, Name};
-use key_index_flat::index::{Cursor, Fault, Unordered};
+use key_index_flat::index::{Cursor, Runs, Unordered};
 use key_index_uses::callers::{add, replace, replace_first, update};
 
 /// `retain`, with what it asks on.
@@ -161,9 +161,14 @@ fn set_at<I: Unordered<Value = u64>>(index: &mut I, line: &Line, answer: &mut An
 }
 
 /// `insert_at` of a place up to the end.
-fn insert_at<I: Unordered<Value = u64>>(index: &mut I, line: &Line, answer: &mut Answer) {
-    let (slot, place) = (index.slot_of(line.key(0)), line.count(1));
-    let value = line.number(0);
+pub(crate) fn insert_at<I: Runs<Value = u64>>(
+    index: &mut I,
+    key: &[u8],
+    value: u64,
+    place: usize,
+    answer: &mut Answer,
+) {
+    let slot = index.slot_of(key);
     if index.admits(slot) && place <= index.run_len(slot) {
         answer.given(index.insert_at(slot, place, value), value);
     } else {
@@ -187,8 +192,9 @@ fn by_place<I: Unordered<Value = u64>>(index: &mut I, line: &Line, answer: &mut 
         Name::Len => answer.count(index.run_len(index.slot_of(line.key(0)))),
         Name::At => value_at(index, line, answer),
         Name::SetAt => set_at(index, line, answer),
-        Name::InsertAt => insert_at(index, line, answer),
+        Name::InsertAt => insert_at(index, line.key(0), line.number(0), line.count(1), answer),
         Name::RemoveAt => remove_at(index, line, answer),
+        Name::EditAt => edit_at(index, line.key(0), line, answer),
         _ => return false,
     }
     true

@@ -3,7 +3,7 @@ ghost use Rattle.key_index_flat.specs.View.{Admits};
 
 use crate::answer::Answer;
 use crate::line::{Line, Move};
-use key_index_flat::index::{Cursor, CursorState, Search};
+use key_index_flat::index::{Cursor, CursorState, IndexCursor, Runs, Search};
 
 /// `retain`, with what it asks on.
 fn retain<C: Cursor<Value = u64>>(cursor: &mut C, mut answers: u64, answer: &mut Answer) {
@@ -94,4 +94,20 @@ pub(crate) fn edit_or_insert<I: Search<Value = u64>>(
         Ok(None) => answer.word("inserted"),
         Err(refused) => answer.returned(&refused, value),
     }
+}
+
+/// A cursor that is made at an index key with values.
+pub(crate) fn edit_at<I: Runs<Value = u64>>(
+    index: &mut I,
+    key: &[u8],
+    line: &Line,
+    answer: &mut Answer,
+) {
+    let slot = index.slot_of(key);
+    if !index.admits(slot) || index.run_len(slot) == 0 {
+        answer.word("unallowed");
+        return;
+    }
+    let mut cursor = IndexCursor::new(index, slot);
+    make_all(&mut cursor, line, answer);
 }

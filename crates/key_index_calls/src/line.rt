@@ -57,6 +57,7 @@ pub(crate) enum Name {
     CanInstall,
     Counts,
     Edit,
+    EditAt,
     EditOrInsert,
     Empty,
     Exclude,
@@ -82,8 +83,10 @@ pub(crate) enum Name {
     RangeAt,
     RangeCounts,
     RangeEdit,
+    RangeEditAt,
     RangeEditOrInsert,
     RangeHolds,
+    RangeInsertAt,
     RangeMoves,
     RangeStanding,
     RangeValues,
@@ -133,12 +136,13 @@ const BY_CURSOR: [(&str, Name); 6] = [
 ];
 
 /// Those by index key and place.
-const BY_PLACE: [(&str, Name); 5] = [
+const BY_PLACE: [(&str, Name); 6] = [
     ("len", Name::Len),
     ("at", Name::At),
     ("set_at", Name::SetAt),
     ("insert_at", Name::InsertAt),
     ("remove_at", Name::RemoveAt),
+    ("edit_at", Name::EditAt),
 ];
 
 /// Those of the whole index.
@@ -183,7 +187,7 @@ const OF_PARTITIONS: [(&str, Name); 8] = [
 ];
 
 /// Those of ranges.
-const OF_RANGES: [(&str, Name); 11] = [
+const OF_RANGES: [(&str, Name); 13] = [
     ("range", Name::Range),
     ("range_at", Name::RangeAt),
     ("install", Name::Install),
@@ -191,6 +195,8 @@ const OF_RANGES: [(&str, Name); 11] = [
     ("range_counts", Name::RangeCounts),
     ("range_edit", Name::RangeEdit),
     ("range_edit_or_insert", Name::RangeEditOrInsert),
+    ("range_edit_at", Name::RangeEditAt),
+    ("range_insert_at", Name::RangeInsertAt),
     ("range_holds", Name::RangeHolds),
     ("range_moves", Name::RangeMoves),
     ("range_standing", Name::RangeStanding),

@@ -3,8 +3,9 @@ ghost use Rattle.std.specs.Prelude.{IsTrue};
 ghost use Rattle.key_index_parts.specs.Ops.{IsCuts};
 
 use crate::answer::Answer;
+use crate::calls::insert_at;
 use crate::commands::steps;
-use crate::cursors::{edit, edit_or_insert};
+use crate::cursors::{edit, edit_at, edit_or_insert};
 use crate::flat::call;
 use crate::line::{Line, Name, Stop};
 use crate::serve::{Request, Session};
@@ -179,15 +180,19 @@ fn range_values<R: PartitionRange<Value = u64>>(alloc: Global, range: &R, answer
     answer.is_whole = answer.is_whole && is_whole;
 }
 
-/// `get_mut`, or `get_mut_or_insert`, of a key that the range holds.
+/// A call by a key that the range holds.
 fn edit_range<R: PartitionRange<Value = u64>>(range: &mut R, line: &Line, answer: &mut Answer) {
     let key = line.key(0);
     if !range.holds(key) {
         answer.word("unallowed");
     } else if line.name == Name::RangeEdit {
         edit(range, key, line, answer);
-    } else {
+    } else if line.name == Name::RangeEditOrInsert {
         edit_or_insert(range, key, line.number(1), line, answer);
+    } else if line.name == Name::RangeEditAt {
+        edit_at(range, key, line, answer);
+    } else {
+        insert_at(range, key, line.number(1), line.count(2), answer);
     }
 }
 
@@ -213,7 +218,9 @@ fn is_of_range(line: &Line) -> bool {
         | Name::RangeHolds
         | Name::RangeValues
         | Name::RangeEdit
-        | Name::RangeEditOrInsert => true,
+        | Name::RangeEditAt
+        | Name::RangeEditOrInsert
+        | Name::RangeInsertAt => true,
         _ => false,
     }
 }
