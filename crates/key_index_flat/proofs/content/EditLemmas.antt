@@ -1,5 +1,5 @@
 -- What one edit of a list leaves of newest and older values.
-use Rattle.std.proofs.Common.{◌≡◌, ℕ, ◌+◌, ◌-◌, ◌<◌, ◌≤◌, false, List, [], ◌∷◌, ◌++◌, length, reverse, insert, remove, slice_set, slice_get, cond, is_some, Bool, Option, Some, None, Result, Ok, Err, OnOk, OnErr, refl, sym, ap, subst, ◌∙◌, arith, add-zero}
+use Rattle.std.proofs.Common.{◌≡◌, ℕ, ◌+◌, ◌-◌, ◌<◌, ◌≤◌, false, List, [], ◌∷◌, ◌++◌, length, reverse, insert, remove, slice_set, slice_get, cond, is_some, Bool, Option, Some, None, Result, Ok, Err, OnOk, OnErr, refl, sym, ap, subst, ◌∙◌, arith}
 use Rattle.std.proofs.lemmas.List.{length-reverse, reverse-append}
 use Rattle.std.proofs.lemmas.Option.{get_or_from_slice_get}
 use Rattle.std.specs.declared.cmp.Ordering.{Ordering}
@@ -45,7 +45,7 @@ module _ {K V : Type 0} {cmp : K → K → Ordering} (o : IsTotalOrder cmp) (exa
   pub older_edited : (v : V) → value_of cmp heads k ≡ Some v → (l : List V) → v ∷ reverse (later k) ≡ l → Others → StandsFor o exact heads later (with_list cmp (content_of cmp heads older) k l)
   older_edited v some l e others =
       subst (λ (m : List V). StandsFor o exact heads later (with_list cmp (content_of cmp heads older) k m)) e
-      (StandsFor-replaced o exact heads heads older later k linked v v some (some, λ q _. refl) (sym (add-zero _)) others)
+      (StandsFor-replaced o exact heads heads older later k linked v v some (some, λ q _. refl) refl others)
 
   pub rest_edited : (v : V) → value_of cmp heads k ≡ Some v → Others → StandsFor o exact heads later (with_list cmp (content_of cmp heads older) k (v ∷ reverse (later k)))
   rest_edited v some others = older_edited v some (v ∷ reverse (later k)) refl others
@@ -95,7 +95,7 @@ module _ {K V : Type 0} {cmp : K → K → Ordering} (o : IsTotalOrder cmp) (exa
 
   module _ (news : List (K × V)) where
     -- another newest value
-    pub newest_set : (place : ℕ) (d x : V) → place ≡ 0 → value_of cmp heads k ≡ Some d → Sets cmp heads news k (Some x) → length news ≡ length heads + 0 → ((q : K) → later q ≡ older q)
+    pub newest_set : (place : ℕ) (d x : V) → place ≡ 0 → value_of cmp heads k ≡ Some d → Sets cmp heads news k (Some x) → length news ≡ length heads → ((q : K) → later q ≡ older q)
         → StandsFor o exact news later (with_list cmp (content_of cmp heads older) k (slice_set list place x))
     newest_set place d x p some sets more same =
         subst (λ (m : List V). StandsFor o exact news later (with_list cmp (content_of cmp heads older) k m))
@@ -103,7 +103,7 @@ module _ {K V : Type 0} {cmp : K → K → Ordering} (o : IsTotalOrder cmp) (exa
         (StandsFor-replaced o exact heads news older later k linked x d some sets more (λ q _. same q))
 
     -- the newest value goes, and the next one takes its place
-    pub newest_removed : (place : ℕ) (d next : V) → place ≡ 0 → value_of cmp heads k ≡ Some d → Sets cmp heads news k (Some next) → length news ≡ length heads + 0 → older k ≡ later k ++ next ∷ [] → Others
+    pub newest_removed : (place : ℕ) (d next : V) → place ≡ 0 → value_of cmp heads k ≡ Some d → Sets cmp heads news k (Some next) → length news ≡ length heads → older k ≡ later k ++ next ∷ [] → Others
         → StandsFor o exact news later (with_list cmp (content_of cmp heads older) k (remove list place))
     newest_removed place d next p some sets more at others =
         subst (λ (m : List V). StandsFor o exact news later (with_list cmp (content_of cmp heads older) k m))

@@ -9,9 +9,11 @@
 --     take_list, map-remove_entry          an entry taken out
 --     map-set_value, map-remove_emptied    another list in the place of a key's, and the entry taken out where that one is empty
 --     map-set_same_value                   the same list again
---     lawful_after                         the law of contents holds after it
+--     map-insert_edited, map-insert_same   both by the entry of the key
+--     lawful_after, IsLawful-same          the law of contents holds after it, and with the same lists again
 --     had_within, counted_after            a key has no more values than all keys, and the count of all after it
 --     IsLawful-set_value, left_out         the count and the law once the list is in its place, or out of the tree where it is empty
+--     IsLawful-insert_edited               the same by the entry of the key
 --     left_absent                          a key that has no list stays so
 --     at_least-by_cond                     a length after an insertion that may be refused
 --     left_held, few_held                  how many are left, where a value is put in behind a list and each is asked on then
@@ -196,14 +198,17 @@ module _ {K V A : Type 0} {cmp : K → K → Ordering} (o : IsTotalOrder cmp) (k
   over_same fs hs l same put = put ∙ ap (λ t. with_list cmp (map list_of t) k l) same
 
   -- the same by what an edit makes of the list, where there is none
-  pub first_put : (fs hs : List (K × Vec V A)) (v : V) (f : List V → List V) → None ≡ lookup (is_at (cmp k)) es → v ∷ [] ≡ f [] → hs ≡ es
-      → map list_of fs ≡ with_list cmp (map list_of hs) k (v ∷ []) → map list_of fs ≡ with_list_by cmp (map list_of es) k f
-  first_put fs hs v f none is same put =
-      over_same fs hs (v ∷ []) same put ∙ ap (λ l. with_list cmp (map list_of es) k l) (is ∙ ap f (sym (list_at-lookup_none cmp k es (sym none))))
+  pub first_put : (fs : List (K × Vec V A)) (v : V) (f : List V → List V) → None ≡ lookup (is_at (cmp k)) es → v ∷ [] ≡ f []
+      → map list_of fs ≡ with_list cmp (map list_of es) k (v ∷ []) → map list_of fs ≡ with_list_by cmp (map list_of es) k f
+  first_put fs v f none is put = put ∙ ap (λ l. with_list cmp (map list_of es) k l) (is ∙ ap f (sym (list_at-lookup_none cmp k es (sym none))))
 
   module _ (lawful : IsLawful cmp (map list_of es)) where
     pub map-remove_entry : (fs : List (K × Vec V A)) → fs ≡ remove_entry (is_at (cmp k)) es → map list_of fs ≡ with_list cmp (map list_of es) k []
     map-remove_entry fs is = ap (λ l. map list_of l) is ∙ take_list o k es lawful.0
+
+    pub IsLawful-same : (len : ℕ) → len ≡ item_count (map list_of es) → (fs : List (K × Vec V A)) → map list_of fs ≡ map list_of es
+        → (len ≡ item_count (map list_of fs)) × IsLawful cmp (map list_of fs)
+    IsLawful-same len was fs same = (was ∙ sym (ap item_count same), subst (λ c. IsLawful cmp c) (sym same) lawful)
 
     pub lawful_after : (fs : List (K × Vec V A)) (l : List V) → map list_of fs ≡ with_list cmp (map list_of es) k l → IsLawful cmp (map list_of fs)
     lawful_after fs l is = subst (λ c. IsLawful cmp c) (sym is) (IsLawful-with_list o (map list_of es) k l lawful)
@@ -224,6 +229,10 @@ module _ {K V A : Type 0} {cmp : K → K → Ordering} (o : IsTotalOrder cmp) (k
       pub held_some : 0 < length old.items
       held_some = length_filled old.items (held_filled (is_at (cmp k)) old es lawful.1 held)
 
+      pub map-insert_same : (fs : List (K × Vec V A)) (w : Vec V A) → fs ≡ insert_entry cmp es k w → w.items ≡ old.items → map list_of fs ≡ map list_of es
+      map-insert_same fs w put is =
+          ap (λ l. map list_of l) (put ∙ sym (set_entry o k old w es lawful.0 (sym held))) ∙ map-set_same_value (is_at (cmp k)) old es w held is
+
       module _ (w : Vec V A) (f : List V → List V) (is : w.items ≡ f old.items) where
         items-edited_list : w.items ≡ f (list_at cmp (map list_of es) k)
         items-edited_list = is ∙ ap f (sym (held_list cmp k es old (sym held)))
@@ -232,6 +241,10 @@ module _ {K V A : Type 0} {cmp : K → K → Ordering} (o : IsTotalOrder cmp) (k
         map-set_value fs set some =
             ap (λ l. map list_of l) set ∙ set_list o k es old w w.items lawful.0 (sym held) refl (some_items w.items some)
             ∙ ap (λ l. with_list cmp (map list_of es) k l) items-edited_list
+
+        pub map-insert_edited : (fs : List (K × Vec V A)) → fs ≡ insert_entry cmp es k w → 0 < length w.items → map list_of fs ≡ with_list_by cmp (map list_of es) k f
+        map-insert_edited fs put some =
+            ap (λ l. map list_of l) put ∙ put_list o k es w w.items refl (some_items w.items some) ∙ ap (λ l. with_list cmp (map list_of es) k l) items-edited_list
 
         pub map-remove_emptied : (fs ws : List (K × Vec V A)) → ws ≡ set_value (is_at (cmp k)) es w → fs ≡ remove_entry (is_at (cmp k)) ws → length w.items ≡ 0
             → map list_of fs ≡ with_list_by cmp (map list_of es) k f
@@ -251,6 +264,10 @@ module _ {K V A : Type 0} {cmp : K → K → Ordering} (o : IsTotalOrder cmp) (k
         pub IsLawful-set_value : (fs : List (K × Vec V A)) → fs ≡ set_value (is_at (cmp k)) es w → 0 < length w.items
             → (new ≡ item_count (map list_of fs)) × IsLawful cmp (map list_of fs)
         IsLawful-set_value fs set some = IsLawful-with_items fs (map-set_value w (λ _. w.items) refl fs set some)
+
+        pub IsLawful-insert_edited : (fs : List (K × Vec V A)) → fs ≡ insert_entry cmp es k w → 0 < length w.items
+            → (new ≡ item_count (map list_of fs)) × IsLawful cmp (map list_of fs)
+        IsLawful-insert_edited fs put some = IsLawful-with_items fs (map-insert_edited w (λ _. w.items) refl fs put some)
 
         pub left_out : (fs ws : List (K × Vec V A)) → ws ≡ set_value (is_at (cmp k)) es w → fs ≡ remove_entry (is_at (cmp k)) ws → length w.items ≡ 0
             → (new ≡ item_count (map list_of fs)) × IsLawful cmp (map list_of fs)

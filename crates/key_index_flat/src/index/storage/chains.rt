@@ -108,12 +108,7 @@ impl<T: Translator, V: Drop, M: Heads<T::Key, V>> Chains<T, V, M> {
         };
         match insert_older(self.alloc, &mut self.older, slot, 1, displaced) {
             Ok(()) => Ok(()),
-            Err(displaced) => {
-                let Ok(Some(value)) = self.heads.insert(slot, displaced) else {
-                    unreachable!()
-                };
-                Err(value)
-            }
+            Err(displaced) => Err(self.heads.replace(&slot, displaced)),
         }
     }
 
@@ -155,9 +150,7 @@ impl<T: Translator, V: Drop, M: Heads<T::Key, V>> Chains<T, V, M> {
             set_older(&mut self.older, slot, place, value);
             return;
         }
-        let Ok(_) = self.heads.insert(slot, value) else {
-            unreachable!()
-        };
+        self.heads.replace(&slot, value);
     }
 
     /// Puts a value in at a place of the index key's list, or behind its last one.
@@ -189,10 +182,7 @@ impl<T: Translator, V: Drop, M: Heads<T::Key, V>> Chains<T, V, M> {
         let Some((next, left)) = pop_older(&mut self.older, slot) else {
             return (self.heads.remove(&slot).unwrap(), 0);
         };
-        let Ok(Some(newest)) = self.heads.insert(slot, next) else {
-            unreachable!()
-        };
-        (newest, left + 1)
+        (self.heads.replace(&slot, next), left + 1)
     }
 
     /// Calls the closure once for each value of the index key, in list order, and removes those for which it returns false. Returns how

@@ -1,5 +1,5 @@
 //! A map from keys to the newest value of each, hashed or in the order of its keys.
-ghost use Rattle.std.specs.Prelude.{◌≡◌, ◌+◌, List, Option, Some, None, IfOk, IfErr, OnOk, OnErr, is_some, unwrap_or, not, if◌then◌else◌, length};
+ghost use Rattle.std.specs.Prelude.{◌≡◌, ◌+◌, List, Option, Some, None, IfOk, IfErr, OnOk, OnErr, is_some, IsSome, unwrap_or, not, if◌then◌else◌, length};
 ghost use Rattle.std.specs.List.Sorted.{IsStrictlySortedBy};
 ghost use Rattle.std.specs.Map.{keys_of};
 ghost use Rattle.std.specs.Map.Iter.{deref_pair};
@@ -11,6 +11,7 @@ ghost use Rattle.key_index_flat.specs.Storage.{value_of, SameBut, Sets};
 use std::collections::hash_map::Entry;
 use std::collections::{BTreeMap, HashMap, btree_map};
 use std::hash::Hash;
+use std::mem::replace;
 use std::ops::Bound;
 
 /// A map from keys to the newest value of each.
@@ -51,6 +52,13 @@ pub trait Heads<K: Ord + Hash + Copy, V> {
         ensures refused { OnErr result (entries self.new ≡ entries self.old) }
         ensures returned { IfErr result (λ back. back ≡ value) };
 
+    /// Puts another value at a key that has one, and returns the one that stood there.
+    fn replace(&mut self, key: &K, value: V) -> V
+        requires { IsSome (value_of K.cmp (entries self.old) key.now) }
+        ensures old { value_of K.cmp (entries self.old) key.now ≡ Some result }
+        ensures sets { Sets K.cmp (entries self.old) (entries self.new) key.now (Some value) }
+        ensures len { length (entries self.new) ≡ length (entries self.old) };
+
     fn remove(&mut self, key: &K) -> Option<V>
         ensures value { result ≡ value_of K.cmp (entries self.old) key.now }
         ensures sets { Sets K.cmp (entries self.old) (entries self.new) key.now None }
@@ -90,6 +98,11 @@ impl<K: Ord + Hash + Copy, V> Heads<K, V> for HashMap<K, V> {
         V: Drop,
     {
         put_absent(self, key, value)
+    }
+
+    #[inline]
+    fn replace(&mut self, key: &K, value: V) -> V {
+        replace(self.get_mut(key).unwrap(), value)
     }
 
     #[inline]
@@ -179,6 +192,11 @@ impl<K: Ord + Hash + Copy, V> Heads<K, V> for BTreeMap<K, V> {
                 Ok(true)
             }
         }
+    }
+
+    #[inline]
+    fn replace(&mut self, key: &K, value: V) -> V {
+        replace(self.get_mut(key).unwrap(), value)
     }
 
     #[inline]

@@ -1,5 +1,5 @@
 //! A map of newest values that has its keys in one array while they are few, and in a hashed map once they are many.
-ghost use Rattle.std.specs.Prelude.{◌≡◌, ◌+◌, ◌<◌, ◌≤◌, ◌≢◌, ℕ, [], None, Some, IfOk, IfErr, IfSome, IfNone, OnOk, OnErr, List, length, slice_index, is_some, if◌then◌else◌};
+ghost use Rattle.std.specs.Prelude.{◌≡◌, ◌+◌, ◌<◌, ◌≤◌, ◌≢◌, ℕ, [], None, Some, IfOk, IfErr, IfSome, IfNone, OnOk, OnErr, List, length, slice_index, is_some, IsSome, if◌then◌else◌};
 ghost use Rattle.std.specs.HashMap.{get, hash_map_len, spare};
 ghost use Rattle.std.specs.List.{IsDistinct};
 ghost use Rattle.std.specs.Map.{keys_of, lookup, update};
@@ -171,6 +171,18 @@ impl<K: Ord + Hash + Copy, V> Pairs<K, V> {
         replace(&mut self.pairs[place].1, value)
     }
 
+    /// Puts another value at a key that has one.
+    #[inline]
+    fn replace(&mut self, key: &K, value: V) -> V
+        requires { IsSome (value_of K.cmp self.old key.now) }
+        ensures old { value_of K.cmp self.old key.now ≡ Some result }
+        ensures sets { Sets K.cmp self.old self.new key.now (Some value) }
+        ensures len { length self.new ≡ length self.old }
+    {
+        let place = self.place_of(key).unwrap();
+        self.set(place, *key, value)
+    }
+
     /// Puts in the value of a key that has none.
     #[inline]
     fn push(&mut self, key: K, value: V) -> Result<(), V>
@@ -335,6 +347,14 @@ impl<K: Ord + Hash + Copy, V> Heads<K, V> for SmallMap<K, V> {
         match self.put(key, value) {
             Ok(()) => Ok(true),
             Err(value) => Err(value),
+        }
+    }
+
+    #[inline(always)]
+    fn replace(&mut self, key: &K, value: V) -> V {
+        match &mut self.many {
+            Some(map) => Heads::replace(&mut **map, key, value),
+            None => self.few.replace(key, value),
         }
     }
 

@@ -12,6 +12,7 @@ use key_index_flat::index::implement::{Retained, retain_in_turn};
 use key_index_flat::translator::Translator;
 use std::alloc::{AllocError, Global};
 use std::collections::BTreeMap;
+use std::collections::btree_map::Entry;
 use std::ops::Bound;
 
 /// A bucket as an ordered map from each key to its list, which is never empty, and how many values there are: `usize::MAX` at most.
@@ -91,29 +92,6 @@ impl<T: Translator, V: Drop> Tree<T, V> {
         match self.lists.get(&key) {
             Some(values) => values.as_slice(),
             None => &[],
-        }
-    }
-
-    /// Puts the first value of a key in, which has none.
-    fn insert_first(&mut self, key: T::Key, value: V) -> Result<(), V>
-        requires room { self.old.len < usize.MAX }
-        requires absent { list_at T.Key.cmp (map list_of self.old.lists.entries) key ≡ [] }
-        ensures accepted { OnOk result (map list_of self.new.lists.entries
-            ≡ with_list T.Key.cmp (map list_of self.old.lists.entries) key (value ∷ [])) }
-        ensures refused { OnErr result (map list_of self.new.lists.entries ≡ map list_of self.old.lists.entries) }
-        ensures returned { IfErr result (λ back. back ≡ value) }
-    {
-        let mut values = sole(self.alloc, value)?;
-        match self.lists.entry(key) {
-            Ok(entry) => {
-                entry.insert_entry(values);
-                self.len += 1;
-                Ok(())
-            }
-            Err(_) => match values.pop() {
-                Some(value) => Err(value),
-                None => unreachable!(),
-            },
         }
     }
 
@@ -211,10 +189,7 @@ impl<T: Translator, V: Drop> EditBucket<T, V> for Tree<T, V> {
                 }
                 Err(failed) => Err(failed.value),
             },
-            None => {
-                self.insert_first(key, value)?;
-                Ok(true)
-            }
+            None => self.insert(key, value),
         }
     }
 
@@ -260,17 +235,27 @@ impl<T: Translator, V: Drop> Form<T, V> for Tree<T, V> {
         if self.len == usize::MAX {
             return Err(value);
         }
-        match self.lists.get_mut(&key) {
-            Some(values) => match values.push(value) {
+        match self.lists.entry(key) {
+            Err(_) => Err(value),
+            Ok(Entry::Occupied(held)) => match held.into_mut().push(value) {
                 Ok(()) => {
                     self.len += 1;
                     Ok(false)
                 }
                 Err(failed) => Err(failed.value),
             },
-            None => {
-                self.insert_first(key, value)?;
-                Ok(true)
+            Ok(Entry::Vacant(entry)) => {
+                let mut first = entry.insert_entry(Vec::new(self.alloc));
+                match first.get_mut().push(value) {
+                    Ok(()) => {
+                        self.len += 1;
+                        Ok(true)
+                    }
+                    Err(failed) => {
+                        first.remove();
+                        Err(failed.value)
+                    }
+                }
             }
         }
     }

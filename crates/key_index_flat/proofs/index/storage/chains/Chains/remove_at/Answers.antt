@@ -1,4 +1,4 @@
-use Rattle.std.proofs.Common.{rules, ◌+◌, ◌<◌, [], ◌∷◌, ◌++◌, length, length-append, slice_get, cond, is_some, sym, ap, ◌∙◌, arith, subst}
+use Rattle.std.proofs.Common.{rules, ◌+◌, ◌<◌, [], ◌∷◌, ◌++◌, length, length-append, slice_get, cond, is_some, IsSome, refl, sym, ap, ◌∙◌, arith, subst}
 use Rattle.std.proofs.lemmas.List.{length-reverse}
 use Rattle.key_index_flat.specs.Storage.{older_at, content_of}
 use Rattle.key_index_flat.specs.Content.{list_at}
@@ -58,17 +58,24 @@ returns-in_default-clause-content g c =
     (only_removed g.met.T.Key.Ord.total g.met.T.Translator.exact (g.M.Heads.entries c.self.inside.heads) (older_at g.T.Key.PartialEq.eq c.self.inside.older) (older_at g.T.Key.PartialEq.eq c.pop_older.new.older) c.args.slot c.self.invariant (g.M.Heads.entries c.remove.new.self) c.args.place n.0 c.if-place-ne0.false n.1 c.remove.ensures.sets (ap (λ o. length (g.M.Heads.entries c.remove.new.self) + cond (is_some o) 1 0) (sym c.remove.ensures.value) ∙ c.remove.ensures.len) (c.in_default.ensures.at ∙ ap (λ l. l ++ []) c.in_default.ensures.none) c.in_default.ensures.none c.pop_older.ensures.others).content
     )
 
+pub replace-requires : goal.replace-requires
+replace-requires g c =
+    let place = subst (λ now. c.args.place < length (list_at g.T.Key.Ord.cmp now c.args.slot)) (sym c.self.view_is) c.requires.place in
+    let h : 0 < length (list_at g.T.Key.Ord.cmp (content_of g.T.Key.Ord.cmp (g.M.Heads.entries c.self.inside.heads) (older_at g.T.Key.PartialEq.eq c.self.inside.older)) c.args.slot) = omega (arith, place) in
+    let n = value_of-list_filled g.met.T.Key.Ord.total g.met.T.Translator.exact (g.M.Heads.entries c.self.inside.heads) (older_at g.T.Key.PartialEq.eq c.self.inside.older) (older_at g.T.Key.PartialEq.eq c.self.inside.older) c.args.slot c.self.invariant h in
+    subst (λ o. IsSome o) (sym n.1) refl
+
 pub invariant_of-self-2 : goal.invariant_of-self-2
 invariant_of-self-2 g c =
     let place = subst (λ now. c.args.place < length (list_at g.T.Key.Ord.cmp now c.args.slot)) (sym c.self.view_is) c.requires.place in
     let h : 0 < length (list_at g.T.Key.Ord.cmp (content_of g.T.Key.Ord.cmp (g.M.Heads.entries c.self.inside.heads) (older_at g.T.Key.PartialEq.eq c.self.inside.older)) c.args.slot) = omega (arith, place) in
     let n = value_of-list_filled g.met.T.Key.Ord.total g.met.T.Translator.exact (g.M.Heads.entries c.self.inside.heads) (older_at g.T.Key.PartialEq.eq c.self.inside.older) (older_at g.T.Key.PartialEq.eq c.self.inside.older) c.args.slot c.self.invariant h in
-    (newest_removed g.met.T.Key.Ord.total g.met.T.Translator.exact (g.M.Heads.entries c.self.inside.heads) (older_at g.T.Key.PartialEq.eq c.self.inside.older) (older_at g.T.Key.PartialEq.eq c.pop_older.new.older) c.args.slot c.self.invariant (g.M.Heads.entries c.insert.new.self) c.args.place n.0 c.in-Some.next c.if-place-ne0.false n.1 c.in-Ok-Some.ensures.sets (c.in-Ok-Some.ensures.len ∙ ap (λ o. length (g.M.Heads.entries c.self.inside.heads) + cond (is_some o) 0 1) (c.in-Ok-Some.ensures.old ∙ n.1)) c.in-Some.ensures.at c.pop_older.ensures.others).linked
+    (newest_removed g.met.T.Key.Ord.total g.met.T.Translator.exact (g.M.Heads.entries c.self.inside.heads) (older_at g.T.Key.PartialEq.eq c.self.inside.older) (older_at g.T.Key.PartialEq.eq c.pop_older.new.older) c.args.slot c.self.invariant (g.M.Heads.entries c.replace.new.self) c.args.place n.0 c.in-Some.next c.if-place-ne0.false n.1 c.replace.ensures.sets c.replace.ensures.len c.in-Some.ensures.at c.pop_older.ensures.others).linked
 
 pub returns-clause-value : goal.returns-clause-value
 returns-clause-value g c =
     rw (← c.self.view_is) (
-    ap (λ place. slice_get (list_at g.T.Key.Ord.cmp (content_of g.T.Key.Ord.cmp (g.M.Heads.entries c.self.inside.heads) (older_at g.T.Key.PartialEq.eq c.self.inside.older)) c.args.slot) place) c.if-place-ne0.false ∙ value_newest g.met.T.Key.Ord.total g.met.T.Translator.exact (g.M.Heads.entries c.self.inside.heads) (older_at g.T.Key.PartialEq.eq c.self.inside.older) (older_at g.T.Key.PartialEq.eq c.self.inside.older) c.args.slot c.self.invariant ∙ sym c.in-Ok-Some.ensures.old ∙ c.in-Ok-Some.field-0-is
+    ap (λ place. slice_get (list_at g.T.Key.Ord.cmp (content_of g.T.Key.Ord.cmp (g.M.Heads.entries c.self.inside.heads) (older_at g.T.Key.PartialEq.eq c.self.inside.older)) c.args.slot) place) c.if-place-ne0.false ∙ value_newest g.met.T.Key.Ord.total g.met.T.Translator.exact (g.M.Heads.entries c.self.inside.heads) (older_at g.T.Key.PartialEq.eq c.self.inside.older) (older_at g.T.Key.PartialEq.eq c.self.inside.older) c.args.slot c.self.invariant ∙ c.replace.ensures.old
     )
 
 pub returns-clause-content : goal.returns-clause-content
@@ -77,7 +84,7 @@ returns-clause-content g c =
     rw (← c.self.view_is) (
     let h : 0 < length (list_at g.T.Key.Ord.cmp (content_of g.T.Key.Ord.cmp (g.M.Heads.entries c.self.inside.heads) (older_at g.T.Key.PartialEq.eq c.self.inside.older)) c.args.slot) = omega (arith, place) in
     let n = value_of-list_filled g.met.T.Key.Ord.total g.met.T.Translator.exact (g.M.Heads.entries c.self.inside.heads) (older_at g.T.Key.PartialEq.eq c.self.inside.older) (older_at g.T.Key.PartialEq.eq c.self.inside.older) c.args.slot c.self.invariant h in
-    (newest_removed g.met.T.Key.Ord.total g.met.T.Translator.exact (g.M.Heads.entries c.self.inside.heads) (older_at g.T.Key.PartialEq.eq c.self.inside.older) (older_at g.T.Key.PartialEq.eq c.pop_older.new.older) c.args.slot c.self.invariant (g.M.Heads.entries c.insert.new.self) c.args.place n.0 c.in-Some.next c.if-place-ne0.false n.1 c.in-Ok-Some.ensures.sets (c.in-Ok-Some.ensures.len ∙ ap (λ o. length (g.M.Heads.entries c.self.inside.heads) + cond (is_some o) 0 1) (c.in-Ok-Some.ensures.old ∙ n.1)) c.in-Some.ensures.at c.pop_older.ensures.others).content
+    (newest_removed g.met.T.Key.Ord.total g.met.T.Translator.exact (g.M.Heads.entries c.self.inside.heads) (older_at g.T.Key.PartialEq.eq c.self.inside.older) (older_at g.T.Key.PartialEq.eq c.pop_older.new.older) c.args.slot c.self.invariant (g.M.Heads.entries c.replace.new.self) c.args.place n.0 c.in-Some.next c.if-place-ne0.false n.1 c.replace.ensures.sets c.replace.ensures.len c.in-Some.ensures.at c.pop_older.ensures.others).content
     )
 
 pub returns-then-place-ne0-clause-left : goal.returns-then-place-ne0-clause-left

@@ -1,10 +1,11 @@
-use Rattle.std.proofs.Common.{subst, ◌<◌, map, length, insert, is_ok, ap, sym, ◌∙◌, arith}
+use Rattle.std.proofs.Common.{subst, ◌≡◌, ◌<◌, List, IfOk, false, not, map, length, insert, is_ok, ap, sym, ◌∙◌, arith}
 use Rattle.std.proofs.lemmas.List.Edits.{length-insert}
 use Rattle.std.specs.BTreeMap.{is_at}
 use Rattle.std.specs.Vec.{vec_len}
-use Rattle.key_index_flat.specs.Content.{IsLawful, item_count, list_at}
+use Rattle.key_index_flat.specs.View.{put_value}
+use Rattle.key_index_flat.specs.Content.{Content, IsLawful, is_filled, item_count, list_at, with_list, with_list_by}
 use Rattle.key_index_parts.specs.Pairs.{list_of}
-use Rattle.key_index_parts.proofs.standing.TreeLemmas.{held_list, list_at-lookup_none, insert_alone, at_least-by_cond, first_put, is_filled-present, is_filled-absent, held_some, map-set_value, map-set_same_value, IsLawful-set_value}
+use Rattle.key_index_parts.proofs.standing.TreeLemmas.{held_list, list_at-lookup_none, insert_alone, at_least-by_cond, is_filled-present, held_some, map-set_value, map-set_same_value, IsLawful-set_value}
 use Rattle.key_index_parts.proofs.index.partitioned.bucket.tree.TreeEditBucket.insert_at.Goals as goal
 
 pub insert-requires : goal.insert-requires
@@ -20,12 +21,6 @@ invariant_of-self-in-None g c =
       counted = c.args.self.now.counted ∙ ap (λ m. item_count (map list_of m.entries)) same;
       lawful = subst (λ m. IsLawful g.T.Key.Ord.cmp (map list_of m.entries)) same c.args.self.now.lawful;
     }
-
-pub insert_first-requires-clause-absent : goal.insert_first-requires-clause-absent
-insert_first-requires-clause-absent g c =
-    let cmp = g.T.Key.Ord.cmp in
-    ap (λ m. list_at cmp (map list_of m.entries) c.args.key) c.get_mut.follows.holds-at-none
-    ∙ list_at-lookup_none cmp c.args.key c.args.self.now.lists.entries (sym c.in-None.ensures.value)
 
 pub invariant_of-self : goal.invariant_of-self
 invariant_of-self g c =
@@ -68,13 +63,16 @@ returns-in-Err-clause-refused g c =
     let w = c.insert.new.self in
     ap (λ l. map list_of l) (c.get_mut.follows.holds w).0 ∙ map-set_same_value (is_at (g.T.Key.Ord.cmp c.args.key)) c.in-Some.values.now es w c.in-Some.ensures.value c.in-Err.ensures.items
 
-pub returns-in_ok-insert_first-in-None-clause-accepted : goal.returns-in_ok-insert_first-in-None-clause-accepted
-returns-in_ok-insert_first-in-None-clause-accepted g c =
+pub returns-in-None-clause-accepted : goal.returns-in-None-clause-accepted
+returns-in-None-clause-accepted g c =
     let cmp = g.T.Key.Ord.cmp in
-    let es = c.args.self.now.lists.entries in
+    let k = c.args.key in
     let v = c.args.value in
-    let none = c.in-None.ensures.value in
-    let len = ap (λ l. length l) (list_at-lookup_none cmp c.args.key es (sym none)) in (
-      first_put g.met.T.Key.Ord.total c.args.key es c.insert_first.new.self.lists.entries c.get_mut.follows.lender-at-none.entries v (λ l. insert l c.args.place v) none (insert_alone c.args.place v (omega (arith, len, c.requires))) (ap (λ m. m.entries) c.get_mut.follows.holds-at-none) c.in_ok-insert_first-in-None.ensures.accepted,
-      is_filled-absent cmp c.args.key es none,
-    )
+    let es = c.args.self.now.lists.entries in
+    let now = map list_of c.insert-in-None.new.self.lists.entries in
+    let none = list_at-lookup_none cmp k es (sym c.in-None.ensures.value) in
+    let len = ap (λ l. length l) none in
+    let told = subst (λ (m : Content g.row.T-Key.Denot g.row.V.Denot). IfOk c.insert-in-None.result (λ absent. (now ≡ with_list_by cmp m k (put_value false v)) × (absent ≡ not (is_filled (list_at cmp m k)))))
+    (ap (λ m. map list_of m.entries) c.get_mut.follows.holds-at-none) c.insert-in-None.ensures.accepted in
+    subst (λ (l : List g.row.V.Denot). IfOk c.insert-in-None.result (λ absent. (now ≡ with_list cmp (map list_of es) k l) × (absent ≡ not (is_filled (list_at cmp (map list_of es) k)))))
+    (ap (put_value false v) none ∙ insert_alone c.args.place v (omega (arith, len, c.requires)) ∙ ap (λ l. insert l c.args.place v) (sym none)) told

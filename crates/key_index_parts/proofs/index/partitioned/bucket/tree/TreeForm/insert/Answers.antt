@@ -1,71 +1,100 @@
-use Rattle.std.proofs.Common.{subst, length-append, [], ◌∷◌, sym, ◌<◌, false, map, length, refl, ap, ◌∙◌, arith}
+use Rattle.std.proofs.Common.{rules, ◌≡◌, ◌<◌, [], ◌∷◌, None, Some, false, length, length-append, refl, ap, sym, ◌∙◌, arith}
+use Rattle.std.specs.Map.{lookup}
 use Rattle.std.specs.BTreeMap.{is_at}
 use Rattle.key_index_flat.specs.View.{put_value}
-use Rattle.key_index_flat.specs.Content.{IsLawful, item_count, list_at}
-use Rattle.key_index_parts.specs.Pairs.{list_of}
-use Rattle.key_index_parts.proofs.standing.TreeLemmas.{first_put, is_filled-present, is_filled-absent, held_some, map-set_value, map-set_same_value, list_at-lookup_none, IsLawful-set_value}
+use Rattle.key_index_parts.proofs.standing.TreeLemmas.{list_at-lookup_none, is_filled-present, is_filled-absent, held_some, map-insert_entry, first_put, map-remove_entry, left_absent, IsLawful-same, map-insert_edited, map-insert_same, IsLawful-insert_edited, lawful_after, counted_after}
 use Rattle.key_index_parts.proofs.index.partitioned.bucket.tree.TreeForm.insert.Goals as goal
 
-pub invariant_of-self-in-None : goal.invariant_of-self-in-None
-invariant_of-self-in-None g c =
-    let same = sym c.get_mut.follows.holds-at-none in
-    record {
-      counted = c.args.self.now.counted ∙ ap (λ m. item_count (map list_of m.entries)) same;
-      lawful = subst (λ m. IsLawful g.T.Key.Ord.cmp (map list_of m.entries)) same c.args.self.now.lawful;
-    }
-
-pub insert_first-requires-clause-absent : goal.insert_first-requires-clause-absent
-insert_first-requires-clause-absent g c =
-    let cmp = g.T.Key.Ord.cmp in
-    ap (λ m. list_at cmp (map list_of m.entries) c.args.key) c.get_mut.follows.holds-at-none
-    ∙ list_at-lookup_none cmp c.args.key c.args.self.now.lists.entries (sym c.in-None.ensures.value)
-
-pub invariant_of-self : goal.invariant_of-self
-invariant_of-self g c =
+pub invariant_of-self-in-Ok : goal.invariant_of-self-in-Ok
+invariant_of-self-in-Ok g c =
+    let o = g.met.T.Key.Ord.total in
     let t = c.args.self.now in
-    let old = c.in-Some.values.now in
+    let es = t.lists.entries in
+    let old = c.into_mut.result.now in
+    let held : Some old ≡ lookup (is_at (g.T.Key.Ord.cmp c.args.key)) es = search rules in
     let w = c.push.new.self in
-    let some : 0 < length w.items = omega (arith, held_some g.met.T.Key.Ord.total c.args.key t.lists.entries t.lawful old c.in-Some.ensures.value, c.push.ensures.lower_bound, old.ok.0, w.ok.0) in
+    let some : 0 < length w.items = omega (arith, held_some o c.args.key es t.lawful old held, c.push.ensures.lower_bound, old.ok.0, w.ok.0) in
     let more = ap (λ l. length l) c.in-Ok.ensures.items in
     let long = length-append old.items (c.args.value ∷ []) in
-    let after = IsLawful-set_value g.met.T.Key.Ord.total c.args.key t.lists.entries t.lawful old c.in-Some.ensures.value w t.len _ t.counted (omega (arith, more, long)) _ (c.get_mut.follows.holds w).0 some in
-    record { counted = after.0; lawful = after.1 }
-
-pub invariant_of-self-in-Err-1 : goal.invariant_of-self-in-Err-1
-invariant_of-self-in-Err-1 g c =
-    let t = c.args.self.now in
-    let old = c.in-Some.values.now in
-    let w = c.push.new.self in
-    let some : 0 < length w.items = omega (arith, held_some g.met.T.Key.Ord.total c.args.key t.lists.entries t.lawful old c.in-Some.ensures.value, c.push.ensures.lower_bound, old.ok.0, w.ok.0) in
-    let same = ap (λ l. length l) c.in-Err.ensures.items in
-    let after = IsLawful-set_value g.met.T.Key.Ord.total c.args.key t.lists.entries t.lawful old c.in-Some.ensures.value w t.len _ t.counted (omega (arith, same)) _ (c.get_mut.follows.holds w).0 some in
+    let after = IsLawful-insert_edited o c.args.key es t.lawful old held w t.len _ t.counted (omega (arith, more, long)) _ (search rules) some in
     record { counted = after.0; lawful = after.1 }
 
 pub returns-in-Ok-clause-accepted : goal.returns-in-Ok-clause-accepted
 returns-in-Ok-clause-accepted g c =
     let o = g.met.T.Key.Ord.total in
-    let es = c.args.self.now.lists.entries in
-    let lawful = c.args.self.now.lawful in
-    let old = c.in-Some.values.now in
-    let held = c.in-Some.ensures.value in
+    let t = c.args.self.now in
+    let es = t.lists.entries in
+    let old = c.into_mut.result.now in
+    let held : Some old ≡ lookup (is_at (g.T.Key.Ord.cmp c.args.key)) es = search rules in
     let w = c.push.new.self in
-    let some : 0 < length w.items = omega (arith, held_some o c.args.key es lawful old held, c.push.ensures.lower_bound, old.ok.0, w.ok.0) in (
-      map-set_value o c.args.key es lawful old held w (put_value false c.args.value) c.in-Ok.ensures.items _ (c.get_mut.follows.holds w).0 some,
-      is_filled-present g.T.Key.Ord.cmp c.args.key es old lawful.1 held,
+    let some : 0 < length w.items = omega (arith, held_some o c.args.key es t.lawful old held, c.push.ensures.lower_bound, old.ok.0, w.ok.0) in (
+      map-insert_edited o c.args.key es t.lawful old held w (put_value false c.args.value) c.in-Ok.ensures.items _ (search rules) some,
+      is_filled-present g.T.Key.Ord.cmp c.args.key es old t.lawful.1 held,
     )
 
-pub returns-in-Err-clause-refused : goal.returns-in-Err-clause-refused
-returns-in-Err-clause-refused g c =
-    let es = c.args.self.now.lists.entries in
+pub invariant_of-self-in-Err-push : goal.invariant_of-self-in-Err-push
+invariant_of-self-in-Err-push g c =
+    let o = g.met.T.Key.Ord.total in
+    let t = c.args.self.now in
+    let es = t.lists.entries in
+    let old = c.into_mut.result.now in
+    let held : Some old ≡ lookup (is_at (g.T.Key.Ord.cmp c.args.key)) es = search rules in
     let w = c.push.new.self in
-    ap (λ l. map list_of l) (c.get_mut.follows.holds w).0 ∙ map-set_same_value (is_at (g.T.Key.Ord.cmp c.args.key)) c.in-Some.values.now es w c.in-Some.ensures.value c.in-Err.ensures.items
+    let after = IsLawful-same o c.args.key es t.lawful t.len t.counted _ (map-insert_same o c.args.key es t.lawful old held _ w (search rules) c.in-Err-push.ensures.items) in
+    record { counted = after.0; lawful = after.1 }
 
-pub returns-in_ok-insert_first-in-None-clause-accepted : goal.returns-in_ok-insert_first-in-None-clause-accepted
-returns-in_ok-insert_first-in-None-clause-accepted g c =
-    let cmp = g.T.Key.Ord.cmp in
-    let es = c.args.self.now.lists.entries in
+pub returns-in-Err-push-clause-refused : goal.returns-in-Err-push-clause-refused
+returns-in-Err-push-clause-refused g c =
+    let o = g.met.T.Key.Ord.total in
+    let t = c.args.self.now in
+    let es = t.lists.entries in
+    let old = c.into_mut.result.now in
+    let held : Some old ≡ lookup (is_at (g.T.Key.Ord.cmp c.args.key)) es = search rules in
+    let w = c.push.new.self in
+    map-insert_same o c.args.key es t.lawful old held _ w (search rules) c.in-Err-push.ensures.items
+
+pub invariant_of-self-in-Ok-push : goal.invariant_of-self-in-Ok-push
+invariant_of-self-in-Ok-push g c =
+    let o = g.met.T.Key.Ord.total in
+    let t = c.args.self.now in
+    let es = t.lists.entries in
     let v = c.args.value in
-    let none = c.in-None.ensures.value in (
-      first_put g.met.T.Key.Ord.total c.args.key es c.insert_first.new.self.lists.entries c.get_mut.follows.lender-at-none.entries v (put_value false v) none refl (ap (λ m. m.entries) c.get_mut.follows.holds-at-none) c.in_ok-insert_first-in-None.ensures.accepted,
-      is_filled-absent cmp c.args.key es none,
-    )
+    let none : None ≡ lookup (is_at (g.T.Key.Ord.cmp c.args.key)) es = search rules in
+    let list : c.push-in-Ok-Vacant.new.self.items ≡ v ∷ [] = search rules in
+    let now = map-insert_entry o c.args.key es _ c.push-in-Ok-Vacant.new.self v (search rules) list in
+    let had = ap (λ l. length l) (list_at-lookup_none g.T.Key.Ord.cmp c.args.key es (sym none)) in
+    record {
+      counted = counted_after o c.args.key es t.lawful t.len 0 t.counted (sym had) _ (v ∷ []) now _ (omega arith);
+      lawful = lawful_after o c.args.key es t.lawful _ (v ∷ []) now;
+    }
+
+pub returns-in-Ok-push-clause-accepted : goal.returns-in-Ok-push-clause-accepted
+returns-in-Ok-push-clause-accepted g c =
+    let o = g.met.T.Key.Ord.total in
+    let t = c.args.self.now in
+    let es = t.lists.entries in
+    let v = c.args.value in
+    let none : None ≡ lookup (is_at (g.T.Key.Ord.cmp c.args.key)) es = search rules in
+    let list : c.push-in-Ok-Vacant.new.self.items ≡ v ∷ [] = search rules in
+    let now = map-insert_entry o c.args.key es _ c.push-in-Ok-Vacant.new.self v (search rules) list in
+    (first_put o c.args.key es _ v (put_value false v) none refl now, is_filled-absent g.T.Key.Ord.cmp c.args.key es none)
+
+pub invariant_of-self-in-Err-push-2 : goal.invariant_of-self-in-Err-push-2
+invariant_of-self-in-Err-push-2 g c =
+    let o = g.met.T.Key.Ord.total in
+    let t = c.args.self.now in
+    let es = t.lists.entries in
+    let v = c.args.value in
+    let none : None ≡ lookup (is_at (g.T.Key.Ord.cmp c.args.key)) es = search rules in
+    let same = map-remove_entry o c.args.key es t.lawful _ (search rules) ∙ sym (left_absent o g.met.T.Translator.exact c.args.key es t.lawful none) in
+    let after = IsLawful-same o c.args.key es t.lawful t.len t.counted _ same in
+    record { counted = after.0; lawful = after.1 }
+
+pub returns-in-Err-push-2-clause-refused : goal.returns-in-Err-push-2-clause-refused
+returns-in-Err-push-2-clause-refused g c =
+    let o = g.met.T.Key.Ord.total in
+    let t = c.args.self.now in
+    let es = t.lists.entries in
+    let v = c.args.value in
+    let none : None ≡ lookup (is_at (g.T.Key.Ord.cmp c.args.key)) es = search rules in
+    map-remove_entry o c.args.key es t.lawful _ (search rules) ∙ sym (left_absent o g.met.T.Translator.exact c.args.key es t.lawful none)
