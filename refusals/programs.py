@@ -78,8 +78,8 @@ def of_store(program):
     for kind in ("unordered", "ordered", "punordered", "pordered"):
         lines = [f"put {key}20 12", f"put {key}60 16", f"get {key}20", f"delete {key}10", f"delete {key}99", "count"]
         if "unordered" not in kind:
-            lines += [f"next {key}20", f"prev {key}20", "absent 73", "compact copy.log"]
-        lines += [f"get {key}60", "count"]
+            lines += [f"next {key}20", f"prev {key}20", "absent 73", "compact copy.log", "move moved.log"]
+        lines += [f"get {key}60", f"put {key}60 17", f"get {key}60", "cut", "count"]
         task = Stored(f"store {kind}", [program, "run.log", kind], lines, most=80)
         task.before = [f"put {key}{number}0 0{number}" for number in range(1, 6)]
         yield task

@@ -162,8 +162,9 @@ class Calls(Session):
 
 class Stored(Session):
     """A session of key_index_store over the file run.log, in which some lines put records beforehand. It may make
-    copy.log."""
+    copy.log and moved.log."""
 
+    errors = (*Session.errors, REFUSED)
     before = ()
     content = None
 
@@ -173,7 +174,8 @@ class Stored(Session):
 
     def start(self, command, lines, **refused):
         Path(self.folder, "run.log").write_bytes(self.content)
-        Path(self.folder, "copy.log").unlink(missing_ok=True)
+        for made in ("copy.log", "moved.log"):
+            Path(self.folder, made).unlink(missing_ok=True)
         return super().start(command, lines, **refused)
 
     def check(self, status, answers, error):
