@@ -1,4 +1,4 @@
-"""The program key_index_store over files: beside a dict, on torn and damaged files, on full ones, and where reads fail."""
+"""The program key_index_store over files: beside a dict, torn and damaged ones, full ones, and where reads fail."""
 import struct
 import subprocess
 import tempfile
@@ -354,8 +354,8 @@ def is_not_read_in_a_call(file, kind):
 
 @case_of_store(*IN_ORDER)
 def finds_neighbours(file, kind):
-    """A thousand random calls, and after each fiftieth all neighbours, those in a copy, and those in the copy opened
-    anew. Of 64 keys eight each are alike in their first nine bytes."""
+    """A thousand random calls, and after each fiftieth all neighbours, those in a copy, behind calls there, and in the
+    copy opened anew. Of 64 keys eight each are alike in their first nine bytes."""
     keys = [b"same\0\xff\0" + bytes([number // 8, 0xFF, number % 8]) for number in range(64)]
     sessions = Sessions(file, kind)
     numbers = Numbers()
@@ -370,6 +370,9 @@ def finds_neighbours(file, kind):
             compare_neighbours(sessions, keys)
             sessions.compact(file.with_name(f"{call}.copy"))
             sessions.move(file.with_name(f"{call}.log"))
+            compare_neighbours(sessions, keys)
+            sessions.put(key, b"moved")
+            sessions.delete(keys[number // 64 % 64])
             compare_neighbours(sessions, keys)
             sessions.check()
             compare_neighbours(sessions, keys)
