@@ -6,6 +6,7 @@ from pathlib import Path
 
 from case import case
 from session import Wrong, shown
+from streams import failing
 
 # Sessions, each line with its answer. A bad line is told on standard error, and ends the program with status 1.
 SESSIONS = [
@@ -280,6 +281,18 @@ BAD_LINES = {
     "immutable": ["prune -1"],
 }
 
+# What is read before a read fails, and what is written by then.
+FAILED_READS = [
+    (b"", b""),
+    (b"insert 0b 1\nget 0b\n", b"ok\nvalues 1\n"),
+    (b"insert 0b 1\nget 0b", b"ok\n"),
+    (b"insert 0b 1\nge", b"ok\n"),
+]
+
+# How many lines are read, and how many bytes of their answers are written before a write fails: at the first write, at
+# one in mid-stream, and at the last one.
+FAILED_WRITES = [(1, 0), (1000, 0), (1000, 10_000), (1, 23), (2, 24)]
+
 # Arguments that name no kind.
 BAD_ARGUMENTS = [
     [],
@@ -313,15 +326,18 @@ def check(words, given, ended, wanted):
         raise Wrong(f"{session}: status {ended[2]} in place of {wanted[2]}")
 
 
-def run(words, stream):
+def run(words, stream, **rooms):
     """What the program writes, what it tells on standard error, and its status."""
-    done = subprocess.run([Program.path, *words], **stream, capture_output=True, timeout=300, check=False)
+    environment = failing(**rooms)
+    done = subprocess.run(
+        [Program.path, *words], **stream, env=environment, capture_output=True, timeout=300, check=False
+    )
     return done.stdout, done.stderr, done.returncode
 
 
-def answers(words, given, *wanted):
+def answers(words, given, *wanted, **rooms):
     """The program on some bytes."""
-    check(words, given, run(words, {"input": given}), wanted)
+    check(words, given, run(words, {"input": given}, **rooms), wanted)
 
 
 def text_of(lines):
@@ -371,6 +387,39 @@ def program_answers_as_the_rust_crate():
 def program_reads_and_writes_bytes():
     for kind, *streams in STREAMS:
         answers([kind], *streams)
+
+
+@case
+def program_ends_at_failed_reads():
+    for given, written in FAILED_READS:
+        answers(["ordered"], given, written, b"failed\n", 1, READ_ROOM=len(given))
+        answers(["ordered"], given, written, b"failed\n", 1, READ_ROOM=len(given), READ_STEP=5)
+
+
+@case
+def program_tries_interrupted_reads_again():
+    given, written = b"insert 0b 1\ninsert 0b 2\nget 0b\ncounts", b"ok\nok\nvalues 2 1\nkeys 1 items 2 pruned 0\n"
+    for step in range(1, 20):
+        answers(["unordered"], given, written, b"", 0, READ_STEP=step)
+
+
+@case
+def program_ends_at_failed_writes():
+    """Answers that wait can't be written behind a bad line either."""
+    for count, room in FAILED_WRITES:
+        written = (b"keys 0 items 0 pruned 0\n" * count)[:room]
+        answers(["ordered"], b"counts\n" * count, written, b"failed\n", 1, WRITE_ROOM=room)
+    answers(["unordered"], b"counts\nx\n", b"", b"failed\n", 1, WRITE_ROOM=0)
+
+
+@case
+def program_ends_alike_where_faults_are_not_told():
+    for kind, given, status in [("unordered", b"x", 1), ("sorted", b"", 2), ("unordered", b"", 0)]:
+        with open("/dev/full", "wb") as full:
+            ended = subprocess.run(
+                [Program.path, kind], input=given, stdout=subprocess.PIPE, stderr=full, timeout=300, check=False
+            )
+        check([kind], given, (ended.stdout, b"", ended.returncode), (b"", b"", status))
 
 
 @case

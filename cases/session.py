@@ -20,14 +20,14 @@ class Session:
     def ask(self, line, wanted):
         """A call, and its answer."""
         self.lines.append(line)
-        self.wanted.append(str(wanted))
+        self.wanted.append(wanted if isinstance(wanted, str) else str(wanted))
 
     def keep(self, line):
         """A line that is kept for the next call that takes such lines."""
         self.ask("+ " + line, "+")
 
     def check(self):
-        """Makes the calls, and compares each answer."""
+        """Makes the calls, compares each answer, and gives them."""
         done = subprocess.run(
             [Session.program, *self.words],
             input="".join(line + "\n" for line in self.lines),
@@ -49,6 +49,7 @@ class Session:
                 )
         if (done.returncode, done.stderr, len(given)) != (0, "", len(self.lines)):
             raise Wrong(f"{' '.join(self.words)}: status {done.returncode}, {len(given)} answers, {done.stderr}")
+        return given
 
 
 def shown(text, place=0):

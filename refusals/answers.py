@@ -10,7 +10,7 @@ MOVED = re.compile(r"(.*?) ?\b(need_next|active|done)\b ?")
 # Lines that tell how partitions stand, which a refused call may change though it changes no other answer.
 STANDS = ("standing", "moves", "range_standing", "range_moves")
 
-OUTCOME = re.compile(REFUSED + r"|done|edited(?: true| false)*")
+OUTCOME = re.compile(REFUSED + r"|done|skipped|edited(?: true| false)*")
 
 
 class Kept:

@@ -1,15 +1,9 @@
-"""What is run: states of key_index_refusals, and sessions of the other programs."""
+"""What is run: sessions of the programs."""
 import sessions
 from stood import Standing
-from task import Calls, Session, State, Stored
+from task import Calls, Modelled, Session, Stored
 
 DIGITS = range(1, 10)
-
-
-def states(program):
-    """What key_index_calls has no kind for."""
-    for state in ("ring", "ring_and_table", "room", "marks", "log", "table", "arrays"):
-        yield State(state, [program, state])
 
 
 def calls(program):
@@ -21,6 +15,8 @@ def calls(program):
     for kind, name, lines in sessions.sessions():
         first = "absent x" if kind.startswith("snapshot") else widest
         yield task_of(program, kind, name, [first, first, *lines])
+    for kind, name, lines in sessions.of_positions():
+        yield Modelled(f"{kind} {name}", [program, kind], lines)
 
 
 def task_of(program, kind, name, lines, **more):
@@ -78,12 +74,12 @@ def of_store(program):
     for kind in ("unordered", "ordered", "punordered", "pordered"):
         lines = [f"put {key}20 12", f"put {key}60 16", f"get {key}20", f"delete {key}10", f"delete {key}99", "count"]
         if "unordered" not in kind:
-            lines += [f"next {key}20", f"prev {key}20", "absent 73", "compact copy.log"]
-        lines += [f"get {key}60", "count"]
+            lines += [f"next {key}20", f"prev {key}20", "absent 73", "compact copy.log", "move moved.log"]
+        lines += [f"get {key}60", f"put {key}60 17", f"get {key}60", "cut", "count"]
         task = Stored(f"store {kind}", [program, "run.log", kind], lines, most=80)
         task.before = [f"put {key}{number}0 0{number}" for number in range(1, 6)]
         yield task
 
 
-def tasks(refusals, calls_program, program, store):
-    return [*states(refusals), *calls(calls_program), *of_program(program), *of_store(store)]
+def tasks(calls_program, program, store):
+    return [*calls(calls_program), *of_program(program), *of_store(store)]

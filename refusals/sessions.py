@@ -228,6 +228,80 @@ def built():
     return lines
 
 
+# Keys of an immutable index.
+KEYS = ["x", "x10", "x1001", "x1002", "x4001"]
+
+
+def looks_of_positions():
+    return [*(f"get {key}" for key in KEYS), "indexed 0 64", "counts"]
+
+
+def behind(calls, looked):
+    """These lines behind each call."""
+    return [line for call in calls for line in [call, *looked]]
+
+
+def grown():
+    """So many positions that ring and table are made anew, each with another one before the next try."""
+    pairs = range(21, 63, 2)
+    positions = [position for low in pairs for position in (low + 1, low, low + 1, low)]
+    return [*(f"insert {KEYS[position % 5]} {position}" for position in positions), "prune 40", "prune 64"]
+
+
+def ring(count):
+    """Positions from 1 on, so many, and then 20, for which the ring has to grow, and behind seven positions the table
+    too; another position, and a pruning that tells where the ring ends."""
+    calls = [f"insert x1001 {position}" for position in range(1, count + 1) for _ in range(2)]
+    calls += ["insert x1002 20", f"insert x4001 {count + 4}"]
+    return behind([*calls, "prune 21", *grown()], looks_of_positions())
+
+
+def ring_as_it_is(count):
+    """The same without that pruning, and with 20 tried again."""
+    calls = [f"insert x1001 {position}" for position in range(1, count + 1)]
+    calls += ["insert x1002 20", f"insert x4001 {count + 4}", "insert x1002 20"]
+    return behind([*calls, *grown()], looks_of_positions())
+
+
+def marks():
+    """Three insertions and a pruning, as marks, and again."""
+    lines = [f"+ {line}" for line in ("insert x1001 1", "insert x1002 20", "prune 2", "insert x4001 5")]
+    return [*lines, "run", *looks_of_positions()] * 2
+
+
+def table():
+    """A table that is made for few positions, and grows three times. Between two tries comes another position. Hashes
+    have three tops and four low ends, so that positions share fingerprints and home cells."""
+
+    def hash_of(position):
+        return position % 3 << 56 | position % 4
+
+    positions = [position for low in range(0, 40, 2) for position in (low + 1, low, low + 1, low)]
+    calls = [f"insert {hash_of(position)} {position}" for position in positions]
+    looked = [f"{name} {hash_of(position)}" for position in range(12) for name in ("candidates", "contains")]
+    return behind(calls, [*looked, "counts"])
+
+
+def arrays():
+    """Arrays that grow by one, take room, and are drained."""
+    calls = [f"insert {key} {value}" for key, value in [(10, 1), (20, 2), (10, 11), (10, 111)]]
+    return twice([*calls, "reserve 100", "drain"], ["get 10", "get 20", "many", "counts", "room"])
+
+
+def of_positions():
+    """The kind, the name and the lines of each session that a model answers."""
+    for kind in ("immutable", "immutable_by_eight"):
+        for count, name in [(1, "ring"), (7, "ring_and_table")]:
+            yield kind, name, ring(count)
+            yield kind, name, ring_as_it_is(count)
+        yield kind, "marks", marks()
+    four = [f"insert x1001 {position}" for position in range(4)]
+    yield "immutable_for_four", "room", behind(four, looks_of_positions())
+    yield "segments", "log", behind(["append x1001"] * 4, ["get x1001", "get x10"])
+    yield "table", "table", table()
+    yield "arrays", "arrays", arrays()
+
+
 def sessions():
     """The kind, the name and the lines of each session, but those of random calls."""
     for kind in [*FLAT, *PARTITIONED]:

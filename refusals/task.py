@@ -5,7 +5,9 @@ import tempfile
 from collections import Counter
 from pathlib import Path
 
+import session
 from answers import REFUSED, Kept
+from positions import model_of
 
 # One allocation is refused alone, or with each behind it.
 ALONE = "REFUSE_NONE"
@@ -83,23 +85,6 @@ class Task:
         raise NotImplementedError
 
 
-class State(Task):
-    """A state of key_index_refusals, which compares by itself."""
-
-    def check(self, status, answers, error):
-        if status != 0:
-            raise Wrong(f"status {status}, {error}")
-        tally = Counter()
-        for answer in answers:
-            if answer == "start refused":
-                tally["refusals"] += 1
-                continue
-            call, accepted, _, refused, _ = answer.rsplit(" ", 4)
-            tally += Counter({f"{call} accepted": int(accepted), f"{call} refused": int(refused)})
-            tally["refusals"] += int(refused)
-        return tally
-
-
 class Session(Task):
     """A session, in which what is not refused is answered as if the rest had not been there: as by the command `alone`
     where nothing is refused."""
@@ -160,10 +145,22 @@ class Calls(Session):
         return tally
 
 
+class Modelled(Calls):
+    """A session of which a model tells the answers."""
+
+    def compare(self, kept):
+        super().compare(kept)
+        try:
+            model_of(self.command[1]).follow(kept.lines, kept.answers)
+        except session.Wrong as wrong:
+            raise Wrong(str(wrong)) from None
+
+
 class Stored(Session):
     """A session of key_index_store over the file run.log, in which some lines put records beforehand. It may make
-    copy.log."""
+    copy.log and moved.log."""
 
+    errors = (*Session.errors, REFUSED)
     before = ()
     content = None
 
@@ -173,7 +170,8 @@ class Stored(Session):
 
     def start(self, command, lines, **refused):
         Path(self.folder, "run.log").write_bytes(self.content)
-        Path(self.folder, "copy.log").unlink(missing_ok=True)
+        for made in ("copy.log", "moved.log"):
+            Path(self.folder, made).unlink(missing_ok=True)
         return super().start(command, lines, **refused)
 
     def check(self, status, answers, error):

@@ -52,10 +52,14 @@ pub(crate) enum Name {
     Absent,
     Add,
     Ahead,
+    Append,
     At,
     Build,
     CanInstall,
+    Candidates,
+    Contains,
     Counts,
+    Drain,
     Edit,
     EditAt,
     EditOrInsert,
@@ -66,6 +70,7 @@ pub(crate) enum Name {
     Free,
     Get,
     GetOrInsert,
+    Indexed,
     Insert,
     InsertAndRetain,
     InsertAt,
@@ -79,6 +84,7 @@ pub(crate) enum Name {
     Partition,
     Partitions,
     Prev,
+    Prune,
     Range,
     RangeAt,
     RangeCounts,
@@ -97,13 +103,16 @@ pub(crate) enum Name {
     RemoveAt,
     Replace,
     ReplaceFirst,
+    Reserve,
     Retain,
+    Room,
     Run,
     SameSlot,
     Search,
     SearchOrInsert,
     Set,
     SetAt,
+    Size,
     SpilledCount,
     Standing,
     Threshold,
@@ -201,6 +210,19 @@ const OF_RANGES: [(&str, Name); 13] = [
     ("range_moves", Name::RangeMoves),
     ("range_standing", Name::RangeStanding),
     ("range_values", Name::RangeValues),
+];
+
+/// Those of positions, and of arrays.
+const OF_POSITIONS: [(&str, Name); 9] = [
+    ("append", Name::Append),
+    ("prune", Name::Prune),
+    ("indexed", Name::Indexed),
+    ("contains", Name::Contains),
+    ("candidates", Name::Candidates),
+    ("reserve", Name::Reserve),
+    ("room", Name::Room),
+    ("drain", Name::Drain),
+    ("size", Name::Size),
 ];
 
 /// A line: the name of its call, and its keys, numbers and moves, each in their order. The memory of earlier lines serves later ones.
@@ -335,6 +357,7 @@ fn name_of(word: &str) -> Option<Name> {
         .or(by_place(word))
         .or(by_callers(word))
         .or(of_partitions(word))
+        .or(find(&OF_POSITIONS, word))
 }
 
 /// The move that a word names, where a number stands behind a colon.

@@ -5,24 +5,32 @@
 ghost use Rattle.std.specs.Prelude.{◌≤◌};
 
 mod answer;
+mod arrays;
 mod calls;
 mod commands;
 mod cursors;
 mod flat;
+mod immutable;
 mod line;
 mod partitions;
 mod records;
 mod serve;
 mod snapshots;
 mod spilling;
+mod table;
 
+use arrays::Arrays;
 use flat::{InNoOrder, InOrder};
+use immutable::{Immutable, Segmented};
+use key_index::index::immutable::Index as ImmutableIndex;
 use key_index::snapshot::Snapshot;
 use key_index_flat::index::{Factory, Fault, Ordered, ordered, unordered};
 use key_index_flat::translator::{
     Cap, EightCap, FourCap, Hashed, KeyHash, OneCap, OrderedTranslator, Translator, TwoCap,
 };
 use key_index_parts::index::partitioned;
+use key_index_parts::index::partitioned::ordered::partition::Partition;
+use key_index_uses::segments::SegmentedLog;
 use line::Stop;
 use partitions::Punordered;
 use records::{Filed, Filing};
@@ -34,6 +42,7 @@ use std::env;
 use std::io::{BufRead, BufReader, BufWriter, Write};
 use std::process::ExitCode;
 use std::rt::Env;
+use table::Listed;
 
 /// A key hash that an attacker would like: the first byte of a key, whatever the seed. Over it a hashed translator gives what its
 /// inner one gives of that byte.
@@ -184,6 +193,54 @@ fn serve_built<R: BufRead, W: Write>(
     serve(&mut Built::new(streams.alloc, threshold)?, streams)
 }
 
+/// Serves an immutable index from a position on, with room for so many.
+fn serve_immutable<T: Translator, R: BufRead, W: Write>(
+    translator: T,
+    start: usize,
+    capacity: usize,
+    streams: &mut Streams<R, W>,
+) -> Result<(), Stop> {
+    let alloc = streams.alloc;
+    let index = ImmutableIndex::new(alloc, translator, start as u64, capacity)?;
+    let found = Vec::new(alloc);
+    serve(&mut Immutable { index, found }, streams)
+}
+
+/// Serves a log in segments.
+fn serve_segments<R: BufRead, W: Write>(streams: &mut Streams<R, W>) -> Result<(), Stop> {
+    let log = SegmentedLog::new(streams.alloc, TwoCap)?;
+    let found = Vec::new(streams.alloc);
+    serve(&mut Segmented { log, found }, streams)
+}
+
+/// Serves a table of positions.
+fn serve_table<R: BufRead, W: Write>(streams: &mut Streams<R, W>) -> Result<(), Stop> {
+    serve(&mut Listed::new(streams.alloc)?, streams)
+}
+
+/// Serves the arrays of a partition.
+fn serve_arrays<R: BufRead, W: Write>(streams: &mut Streams<R, W>) -> Result<(), Stop> {
+    let pairs = Partition::new(streams.alloc);
+    serve(&mut Arrays { pairs }, streams)
+}
+
+/// Serves an index of positions, what it is made of, or an index of another kind.
+fn serve_positions<R: BufRead, W: Write>(
+    kind: &str,
+    start: usize,
+    streams: &mut Streams<R, W>,
+) -> Result<(), Stop> {
+    match kind {
+        "immutable" => serve_immutable(TwoCap, start, 0, streams),
+        "immutable_by_eight" => serve_immutable(EightCap, start, 0, streams),
+        "immutable_for_four" => serve_immutable(EightCap, start, 4, streams),
+        "segments" => serve_segments(streams),
+        "table" => serve_table(streams),
+        "arrays" => serve_arrays(streams),
+        _ => serve_kind_of_records(kind, streams),
+    }
+}
+
 /// The translator by the first byte of a key as its hash.
 fn by_hash() -> Hashed<FourCap, FirstByte> {
     Hashed::from_seed(0, FourCap)
@@ -235,7 +292,7 @@ fn serve_snapshots<R: BufRead, W: Write>(
         "snapshot_ordered_by_two" => serve_snapshot(TwoCap, streams),
         "snapshot_ordered_by_eight" => serve_snapshot(EightCap, streams),
         "snapshot_pordered" => serve_built(threshold, streams),
-        _ => serve_kind_of_records(kind, streams),
+        _ => serve_positions(kind, threshold, streams),
     }
 }
 

@@ -10,6 +10,9 @@ pub enum Failure {
     /// This line, counted from 1, is no command.
     #[error("bad line {0}")]
     BadLine(u64),
+    /// The store on the file is refused, for this reason.
+    #[error("refused {0}")]
+    Refused(&'static str),
     /// The file, a stream or memory failed outside a command.
     #[error("failed")]
     Failed,

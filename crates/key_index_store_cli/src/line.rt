@@ -13,6 +13,7 @@ pub enum Command {
     Get(Vec<u8>),
     Delete(Vec<u8>),
     Count,
+    Cut,
     InOrder(InOrder),
 }
 
@@ -24,6 +25,8 @@ pub enum InOrder {
     Absent(Vec<u8>),
     /// With the name of a file.
     Compact(Vec<u8>),
+    /// The same.
+    Move(Vec<u8>),
 }
 
 /// The value of a hexadecimal digit of either case, in a line.
@@ -57,20 +60,22 @@ fn bytes_of(alloc: Global, number: u64, word: &[u8]) -> Result<Vec<u8>, Failure>
 /// What a line says, the `number`th from 1 on.
 pub fn parse(alloc: Global, number: u64, line: &[u8]) -> Result<Command, Failure> {
     let bytes = |word: &[u8]| bytes_of(alloc, number, word);
+    let name_of = |word: &[u8]| Vec::from_slice(alloc, word).map_err(failed);
     let mut words = line.split(|byte| *byte == b' ');
     let name = str::from_utf8(words.next().unwrap_or(line)).unwrap_or("");
     match (name, words.next(), words.next(), words.next()) {
         ("count", None, _, _) => Ok(Command::Count),
+        ("cut", None, _, _) => Ok(Command::Cut),
         ("put", Some(key), Some(value), None) => Ok(Command::Put(bytes(key)?, bytes(value)?)),
         ("get", Some(key), None, _) => Ok(Command::Get(bytes(key)?)),
         ("delete", Some(key), None, _) => Ok(Command::Delete(bytes(key)?)),
         ("next", Some(key), None, _) => Ok(Command::InOrder(InOrder::Next(bytes(key)?))),
         ("prev", Some(key), None, _) => Ok(Command::InOrder(InOrder::Prev(bytes(key)?))),
         ("absent", Some(key), None, _) => Ok(Command::InOrder(InOrder::Absent(bytes(key)?))),
-        ("compact", Some(name), None, _) => {
-            let name = Vec::from_slice(alloc, name).map_err(failed)?;
-            Ok(Command::InOrder(InOrder::Compact(name)))
+        ("compact", Some(file), None, _) => {
+            Ok(Command::InOrder(InOrder::Compact(name_of(file)?)))
         }
+        ("move", Some(file), None, _) => Ok(Command::InOrder(InOrder::Move(name_of(file)?))),
         _ => Err(Failure::BadLine(number)),
     }
 }

@@ -8,6 +8,7 @@ mod line;
 mod order;
 mod session;
 
+use answer::reason;
 use failure::{Failure, failed};
 use file_log::FileLog;
 use key_index_flat::index::{Factory, ordered, unordered};
@@ -20,6 +21,15 @@ use std::env;
 use std::io::{BufReader, BufWriter, ErrorKind, Write};
 use std::process::ExitCode;
 
+/// What is told where bytes behind the last whole record are cut off.
+fn told(tail: Tail) -> Option<&'static str> {
+    match tail {
+        Tail::Nothing => None,
+        Tail::Torn => Some("cut off a torn record"),
+        Tail::Damaged => Some("cut off damaged bytes"),
+    }
+}
+
 /// Runs the commands on the file at a path, over an index of a kind. What stands behind the last whole record is cut off.
 fn over<I: Factory<Translator = EightCap, Value = u64> + Drop, O: Order<I>>(
     rt: &HostRuntime,
@@ -30,9 +40,9 @@ fn over<I: Factory<Translator = EightCap, Value = u64> + Drop, O: Order<I>>(
     let alloc = rt.alloc();
     let log = FileLog::open(rt, path).map_err(failed)?;
     let index = I::new(alloc, EightCap).map_err(failed)?;
-    let (mut store, tail) = Store::open(alloc, log, index).map_err(failed)?;
-    if tail != Tail::Nothing {
-        let told = "cut off what stood behind the last whole record";
+    let opened = Store::open(alloc, log, index);
+    let (mut store, tail) = opened.map_err(|fault| Failure::Refused(reason(fault)))?;
+    if let Some(told) = told(tail) {
         let _ = writeln!(rt.stderr(), "{told}");
         store.cut_tail().map_err(failed)?;
     }

@@ -38,6 +38,7 @@ pub fn run_lines<
             Command::Get(key) => store.get(&key).map(Answer::Value),
             Command::Delete(key) => store.delete(&key).map(Answer::Deleted),
             Command::Count => Ok(Answer::Count(store.len())),
+            Command::Cut => store.cut_tail().map(|()| Answer::Done),
             Command::InOrder(command) => O::answer(rt, store, &command),
         };
         let answer = answer.unwrap_or_else(|fault| Answer::Refused(reason(fault)));

@@ -1,10 +1,10 @@
-//! What the program of the cases can't say: types, constants, loans that are kept, and the proved callers over slices.
+//! What no program of the cases can say: types, constants, loans that are kept, the proved callers over slices, and texts.
 mod batches;
 mod checks;
-mod partition;
+mod checksums;
 mod partitions;
 mod plain;
-mod segments;
+mod program;
 mod slots;
 mod small;
 mod translators;

@@ -1,5 +1,5 @@
 //! Batches whose closures keep the values that they visit, and the proved callers that answer a slice.
-use super::checks::{made, put};
+use super::checks::{holds, made, put};
 use key_index_flat::index::{Factory, Unordered, ordered};
 use key_index_flat::translator::OneCap;
 use key_index_parts::index::partitioned::ordered::{Ahead, Index, visit_ahead};
@@ -30,8 +30,8 @@ fn visited_values_may_be_kept(rt: HostRuntime) {
     let keys: [&[u8]; 2] = [b"\x2d", b"\x0b"];
     let mut kept: Option<&u64> = None;
     let visited = index.get_many(keys.iter().copied(), |_, value| kept = Some(value));
-    assert!(&rt; visited.is_ok());
-    assert_eq!(&rt; kept.copied(), Some(3));
+    holds(&rt, visited.is_ok(), "a batch");
+    holds(&rt, kept.copied() == Some(3), "the kept value");
 }
 
 /// The last values of three keys, one of which has none.
@@ -41,7 +41,11 @@ fn last_values_fill_a_slice(rt: HostRuntime) {
     let keys: [&[u8]; 3] = [b"\x1c", b"\x55", b"\x0b"];
     let mut answers = [None, Some(9), None];
     last_values(&index, &keys, &mut answers);
-    assert_eq!(&rt; answers, [Some(21), Some(9), Some(1)]);
+    holds(
+        &rt,
+        answers == [Some(21), Some(9), Some(1)],
+        "the last values",
+    );
 }
 
 #[test]
@@ -57,8 +61,8 @@ fn told_values_may_be_kept(rt: HostRuntime) {
         }
     };
     let done = visit_ahead(rt.alloc(), &index, keys.iter().copied(), &mut keep);
-    assert!(&rt; done.is_ok());
-    assert_eq!(&rt; kept.copied(), Some(22));
+    holds(&rt, done.is_ok(), "a batch");
+    holds(&rt, kept.copied() == Some(22), "the kept value");
 }
 
 /// The keys of records by position.
@@ -76,8 +80,9 @@ fn finds(rt: &impl Abort, alloc: Global, mut index: InPartitions) {
         put(rt, index.insert(*key, position as u64));
     }
     let mut answers = [None, None, None, None, None, None, Some(9)];
-    assert!(rt; find_records(alloc, &index, &LOG, &SOUGHT, &mut answers).is_ok());
-    assert_eq!(rt; answers, FOUND);
+    let found = find_records(alloc, &index, &LOG, &SOUGHT, &mut answers);
+    holds(rt, found.is_ok(), "memory");
+    holds(rt, answers == FOUND, "the newest records");
 }
 
 #[test]

@@ -2,7 +2,7 @@
 ghost use Rattle.std.specs.Prelude.{◌≤◌, IsTrue};
 ghost use Rattle.key_index_parts.specs.Ops.{IsCuts};
 
-use super::checks::{are, made, neighbour_is, push, put};
+use super::checks::{are, counts_are, holds, made, neighbour_is, push, put};
 use key_index_flat::index::{Factory, Ordered, Unordered};
 use key_index_flat::translator::{EightCap, OneCap, TwoCap};
 use key_index_parts::index::partitioned::{self, Partitioned, partition_index_and_sub_key};
@@ -16,8 +16,10 @@ fn splits<const P: usize>(rt: &impl Abort, key: &[u8], number: usize, rest: &[u8
     requires greatest { P ≤ 3 }
 {
     let split = partition_index_and_sub_key::<P>(key);
-    assert_eq!(rt; split.0, number, "the partition of {key:?}");
-    assert_eq!(rt; split.1, rest, "the rest of {key:?}");
+    assert!(rt;
+        split.0 == number && split.1 == rest,
+        "the partition and the rest of {key:?}"
+    );
 }
 
 #[test]
@@ -56,7 +58,7 @@ fn partitions_never_fall(rt: HostRuntime) {
         assert!(&rt; last <= number, "the partition of {key:?}");
         last = number;
     }
-    assert_eq!(&rt; last, 0xffff);
+    holds(&rt, last == 0xffff, "the last partition");
 }
 
 /// An index of 2^24 partitions.
@@ -87,7 +89,7 @@ fn neighbours_stand_across_all_partitions(rt: HostRuntime) {
     put(&rt, index.insert(b"\x80", 3));
     next_far_apart(&rt, &index);
     prev_far_apart(&rt, &index);
-    assert!(&rt; index.remove(b"\x80").is_ok());
+    holds(&rt, index.remove(b"\x80").is_ok(), "remove");
     neighbour_is(&rt, index.next_translated_key(b""), &[2], false);
 }
 
@@ -122,10 +124,14 @@ fn long_keys_are_cut(rt: HostRuntime) {
     long_keys(&rt, alloc, &mut index);
     for zeros in ZEROS {
         let found = index.get(&zeros_then(&rt, alloc, zeros, 1)).count();
-        assert!(&rt; zeros >= 9 || found == 1, "{zeros} zeros and a one");
-        assert!(&rt; zeros < 9 || found > 6, "{zeros} zeros and a one");
+        let is_found = if zeros < 9 { found == 1 } else { found > 6 };
+        assert!(&rt; is_found, "{zeros} zeros and a one");
     }
-    assert_eq!(&rt; (index.keys(), index.items(), index.pruned()), (4, 11, 0));
+    counts_are(
+        &rt,
+        (index.keys(), index.items(), index.pruned()),
+        (4, 11, 0),
+    );
 }
 
 /// Whether numbers strictly ascend from 0 to a count.
@@ -176,7 +182,7 @@ type InOrder = partitioned::ordered::Index<OneCap, u64, 1>;
 
 /// The newest record of each key stands.
 fn newest_in_order(rt: &impl Abort, alloc: Global, index: InOrder) {
-    assert_eq!(rt; index.keys(), 0);
+    assert!(rt; index.keys() == 0);
     assert!(rt; are_cuts(&CUTS, index.partition_count()));
     let Ok(index) = newest_positions(alloc, index, &CUTS, records(rt, alloc)) else {
         panic!(rt; "an index")
@@ -184,7 +190,7 @@ fn newest_in_order(rt: &impl Abort, alloc: Global, index: InOrder) {
     are(rt, index.get(b"\x10\x01"), &[9]);
     are(rt, index.get(b"\x80\x01"), &[8]);
     are(rt, index.get(b"\xff"), &[6]);
-    assert_eq!(rt; (index.keys(), index.items(), index.pruned()), (3, 3, 0));
+    counts_are(rt, (index.keys(), index.items(), index.pruned()), (3, 3, 0));
 }
 
 #[test]
@@ -210,7 +216,7 @@ fn newest_stand_without_order(rt: HostRuntime) {
         &rt,
         Factory::new(alloc, OneCap),
     );
-    assert_eq!(&rt; index.keys(), 0);
+    assert!(&rt; index.keys() == 0);
     assert!(&rt; are_cuts(&CUTS, index.partition_count()));
     let Ok(index) = newest_positions(alloc, index, &CUTS, records(&rt, alloc)) else {
         panic!(&rt; "an index")
@@ -218,5 +224,9 @@ fn newest_stand_without_order(rt: HostRuntime) {
     are(&rt, index.get(b"\x10\x01"), &[9]);
     are(&rt, index.get(b"\x80\x01"), &[8]);
     are(&rt, index.get(b"\xff"), &[6]);
-    assert_eq!(&rt; (index.keys(), index.items(), index.pruned()), (3, 3, 0));
+    counts_are(
+        &rt,
+        (index.keys(), index.items(), index.pruned()),
+        (3, 3, 0),
+    );
 }

@@ -1,4 +1,5 @@
 //! The plain index: that each call can succeed.
+use super::checks::{are, counts_are, holds, is, put};
 use key_index_flat::index::{Factory, Fault, Runs, Unordered};
 use key_index_flat::translator::TwoCap;
 use key_index_plain::Index;
@@ -11,7 +12,7 @@ fn three_keys(rt: &impl Abort, alloc: Global) -> Index<TwoCap, u64> {
         panic!(rt; "new was refused")
     };
     for (key, value) in [(b"cc", 3), (b"bb", 1), (b"aa", 4), (b"bb", 2)] {
-        assert!(rt; index.insert(key, value).is_ok());
+        put(rt, index.insert(key, value));
     }
     index
 }
@@ -19,22 +20,30 @@ fn three_keys(rt: &impl Abort, alloc: Global) -> Index<TwoCap, u64> {
 #[test]
 fn calls_by_key(rt: HostRuntime) {
     let mut index = three_keys(&rt, rt.alloc());
-    assert_eq!(&rt; (index.keys(), index.items(), index.pruned()), (3, 4, 0));
-    assert!(&rt; index.get(b"bb").copied().eq([2, 1]));
-    assert!(&rt; index.get(b"a").next().is_none());
-    assert!(&rt; index.remove(b"bb").is_ok());
-    assert!(&rt; index.get(b"bb").next().is_none());
-    assert_eq!(&rt; (index.keys(), index.items(), index.pruned()), (2, 2, 2));
+    counts_are(
+        &rt,
+        (index.keys(), index.items(), index.pruned()),
+        (3, 4, 0),
+    );
+    are(&rt, index.get(b"bb"), &[2, 1]);
+    are(&rt, index.get(b"a"), &[]);
+    holds(&rt, index.remove(b"bb").is_ok(), "remove");
+    are(&rt, index.get(b"bb"), &[]);
+    counts_are(
+        &rt,
+        (index.keys(), index.items(), index.pruned()),
+        (2, 2, 2),
+    );
 }
 
 #[test]
 fn calls_by_place(rt: HostRuntime) {
     let index = three_keys(&rt, rt.alloc());
     let slot = index.slot_of(b"bb");
-    assert_eq!(&rt; slot, 0x6262);
-    assert!(&rt; index.admits(slot));
-    assert_eq!(&rt; index.run_len(slot), 2);
-    assert_eq!(&rt; *index.value_at(slot, 1), 1);
+    holds(&rt, slot == 0x6262, "the index key");
+    holds(&rt, index.admits(slot), "admits");
+    assert!(&rt; index.run_len(slot) == 2);
+    is(&rt, *index.value_at(slot, 1), 1);
 }
 
 /// Runs an index through the bounds alone, and tells the values of the first key and the counts.
@@ -58,5 +67,5 @@ fn drive<I: Unordered<Value = u64> + Factory + Drop>(
 #[test]
 fn through_bounds(rt: HostRuntime) {
     let told = drive::<Index<TwoCap, u64>>(rt.alloc(), TwoCap);
-    assert_eq!(&rt; told, Ok((Some(3), 1, 1, 2)));
+    holds(&rt, told == Ok((Some(3), 1, 1, 2)), "what is left");
 }

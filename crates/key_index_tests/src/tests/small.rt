@@ -1,4 +1,5 @@
 //! The constants of each index, the values of a slice, the texts of faults, and the uses of the repository's page.
+use super::checks::{are, holds, reads};
 use key_index_flat::index::{Factory, Fault, Outcome, Unordered, Values, ordered, unordered};
 use key_index_flat::translator::OneCap;
 use key_index_parts::index::partitioned;
@@ -8,12 +9,12 @@ use std::test::Fail;
 #[test]
 fn values_of_a_slice(rt: HostRuntime) {
     let mut values = Values::of_slice(&[7, 5, 6]);
-    assert_eq!(&rt; values.len(), 3);
-    assert_eq!(&rt; values.next().copied(), Some(7));
-    assert_eq!(&rt; values.len(), 2);
-    assert!(&rt; !values.is_empty());
-    assert!(&rt; values.copied().eq([5, 6]));
-    assert!(&rt; Values::<u64>::of_slice(&[]).is_empty());
+    holds(&rt, values.len() == 3, "three values");
+    holds(&rt, values.next().copied() == Some(7), "the first of them");
+    holds(&rt, values.len() == 2, "two more");
+    holds(&rt, !values.is_empty(), "there are more");
+    holds(&rt, values.copied().eq([5, 6]), "the two");
+    holds(&rt, Values::<u64>::of_slice(&[]).is_empty(), "none");
 }
 
 #[test]
@@ -23,26 +24,62 @@ fn faults_print(rt: HostRuntime) -> Result<(), Fail> {
         (Fault::Full, "refused full"),
         (Fault::TooFar, "refused far"),
     ] {
-        assert_eq!(&rt; fault.to_string(rt.alloc())?.as_str(), want);
+        reads(&rt, fault.to_string(rt.alloc())?.as_str(), want);
     }
     Ok(())
 }
 
 #[test]
 fn insert_order_and_warmth(rt: HostRuntime) {
-    assert!(&rt; unordered::Index::<OneCap, u64>::INSERT_FIRST);
-    assert!(&rt; unordered::Index::<OneCap, u64>::LOOKUP_WARMS_UPDATE);
-    assert!(&rt; ordered::Index::<OneCap, u64>::INSERT_FIRST);
-    assert!(&rt; !ordered::Index::<OneCap, u64>::LOOKUP_WARMS_UPDATE);
-    assert!(&rt; partitioned::unordered::Index::<OneCap, u64, 1>::INSERT_FIRST);
-    assert!(&rt; partitioned::unordered::Index::<OneCap, u64, 1>::LOOKUP_WARMS_UPDATE);
-    assert!(&rt; !partitioned::ordered::Index::<OneCap, u64, 1>::INSERT_FIRST);
-    assert!(&rt; partitioned::ordered::Index::<OneCap, u64, 1>::LOOKUP_WARMS_UPDATE);
+    holds(
+        &rt,
+        unordered::Index::<OneCap, u64>::INSERT_FIRST,
+        "INSERT_FIRST",
+    );
+    holds(
+        &rt,
+        unordered::Index::<OneCap, u64>::LOOKUP_WARMS_UPDATE,
+        "LOOKUP_WARMS_UPDATE",
+    );
+    holds(
+        &rt,
+        ordered::Index::<OneCap, u64>::INSERT_FIRST,
+        "INSERT_FIRST",
+    );
+    holds(
+        &rt,
+        !ordered::Index::<OneCap, u64>::LOOKUP_WARMS_UPDATE,
+        "LOOKUP_WARMS_UPDATE",
+    );
+    holds(
+        &rt,
+        partitioned::unordered::Index::<OneCap, u64, 1>::INSERT_FIRST,
+        "INSERT_FIRST",
+    );
+    holds(
+        &rt,
+        partitioned::unordered::Index::<OneCap, u64, 1>::LOOKUP_WARMS_UPDATE,
+        "LOOKUP_WARMS_UPDATE",
+    );
+    holds(
+        &rt,
+        !partitioned::ordered::Index::<OneCap, u64, 1>::INSERT_FIRST,
+        "INSERT_FIRST",
+    );
+    holds(
+        &rt,
+        partitioned::ordered::Index::<OneCap, u64, 1>::LOOKUP_WARMS_UPDATE,
+        "LOOKUP_WARMS_UPDATE",
+    );
 }
 
 #[test]
 fn newest_is_given(rt: HostRuntime) {
-    assert_eq!(&rt; newest(rt.alloc()).expect(&rt, "newest"), Some(2));
+    holds(
+        &rt,
+        newest(rt.alloc()) == Ok(Some(2)),
+        "the newest position",
+    );
 }
 
 #[test]
@@ -52,17 +89,31 @@ fn positions_are_forgotten_and_moved(rt: HostRuntime) {
     for position in [1, 2, 3] {
         index.insert(b"\x0b", position).expect(&rt, "insert");
     }
-    assert!(&rt; forget(&mut index, b"\x0b\x77", 2).expect(&rt, "forget"));
-    assert!(&rt; !forget(&mut index, b"\x0b", 2).expect(&rt, "forget"));
-    assert!(&rt; !forget(&mut index, b"\x1c", 1).expect(&rt, "forget"));
-    assert!(&rt; index.get(b"\x0b").copied().eq([3, 1]));
+    holds(
+        &rt,
+        forget(&mut index, b"\x0b\x77", 2) == Ok(true),
+        "forgotten",
+    );
+    holds(
+        &rt,
+        forget(&mut index, b"\x0b", 2) == Ok(false),
+        "forgotten before",
+    );
+    holds(
+        &rt,
+        forget(&mut index, b"\x1c", 1) == Ok(false),
+        "never there",
+    );
+    are(&rt, index.get(b"\x0b"), &[3, 1]);
     let from = Vec::from_array(alloc, [0x0b]).expect(&rt, "a key");
     let to = Vec::from_array(alloc, [0x1c, 0]).expect(&rt, "a key");
     let outcomes = move_to(alloc, &mut index, from, to, 7).expect(&rt, "run");
-    assert_eq!(&rt;
-        outcomes.as_slice(),
-        [Outcome::Done, Outcome::Done].as_slice()
+    let done = [Outcome::Done, Outcome::Done];
+    holds(
+        &rt,
+        outcomes.as_slice() == done.as_slice(),
+        "what commands come to",
     );
-    assert!(&rt; index.get(b"\x0b").is_empty());
-    assert!(&rt; index.get(b"\x1c").copied().eq([7]));
+    are(&rt, index.get(b"\x0b"), &[]);
+    are(&rt, index.get(b"\x1c"), &[7]);
 }

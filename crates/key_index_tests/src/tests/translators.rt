@@ -1,6 +1,6 @@
 //! What each translator makes of keys, and the hashes of translated keys.
 
-use super::checks::{are, made, put};
+use super::checks::{are, counts_are, holds, is, made, put};
 use key_index_flat::index::{Factory, Runs, Unordered, unordered};
 use key_index_flat::translator::{
     Cap, EightCap, FourCap, Hashed, KeyHash, OneCap, SeededSha256, Translator, TwoCap,
@@ -69,7 +69,11 @@ fn caps_of_integers(rt: HostRuntime) {
     gives(&rt, &TwoCap, b"", 0);
     gives(&rt, &TwoCap, b"ab", 0x6162);
     gives(&rt, &TwoCap, b"abc", 0x6162);
-    assert!(&rt; translated(&TwoCap, b"z") < translated(&TwoCap, b"zz"));
+    holds(
+        &rt,
+        translated(&TwoCap, b"z") < translated(&TwoCap, b"zz"),
+        "the order of translated keys",
+    );
     gives(&rt, &TwoCap, b"zzabc", translated(&TwoCap, b"zz"));
     gives(&rt, &TwoCap, b"\x10\x02\xff", 0x1002);
     let (_, rest) = partition_index_and_sub_key::<1>(b"\x10\x02\xff");
@@ -94,28 +98,46 @@ fn caps_of_any_width(rt: HostRuntime) {
 
 #[test]
 fn arrays_are_in_the_order_of_bytes(rt: HostRuntime) {
-    assert!(&rt;
+    holds(
+        &rt,
         array(*b"\xab\xab\xab\xab\xab\xab\xab\xab\xab")
-            < array(*b"\xab\xab\xab\xab\xab\xab\xab\xab\xac")
+            < array(*b"\xab\xab\xab\xab\xab\xab\xab\xab\xac"),
+        "the order of translated keys",
     );
-    assert!(&rt; array([1, 0, 0xff]) > array([0, 0xff, 0xff]));
-    assert!(&rt; array([0x01, 0xff]) < array([0x02, 0x00]));
-    assert!(&rt; array([7, 8, 9]) == array([7, 8, 9]));
-    assert!(&rt; array([7, 8, 9]) != array([7, 8, 0]));
+    holds(
+        &rt,
+        array([1, 0, 0xff]) > array([0, 0xff, 0xff]),
+        "the order of translated keys",
+    );
+    holds(
+        &rt,
+        array([0x01, 0xff]) < array([0x02, 0x00]),
+        "the order of translated keys",
+    );
+    holds(
+        &rt,
+        array([7, 8, 9]) == array([7, 8, 9]),
+        "the order of translated keys",
+    );
+    holds(
+        &rt,
+        array([7, 8, 9]) != array([7, 8, 0]),
+        "the order of translated keys",
+    );
 }
 
 #[test]
 fn identity_hasher(rt: HostRuntime) {
     let mut hasher = UintIdentity::default();
-    assert_eq!(&rt; hasher.finish(), 0);
+    is(&rt, hasher.finish(), 0);
     hasher.write_u64(1);
-    assert_eq!(&rt; hasher.finish(), 0x9e37_79b9_7f4a_7c15);
+    is(&rt, hasher.finish(), 0x9e37_79b9_7f4a_7c15);
     hasher.write_u64(0xf1de_83e1_9937_733d);
-    assert_eq!(&rt; hasher.finish(), 1);
+    is(&rt, hasher.finish(), 1);
     let copy = hasher.clone().expect(&rt, "a clone");
     hasher.write(&[1, 0, 0, 0, 0, 0, 0, 0, 9]);
-    assert_eq!(&rt; hasher.finish(), 0x9e37_79b9_7f4a_7c15);
-    assert_eq!(&rt; copy.finish(), 1);
+    is(&rt, hasher.finish(), 0x9e37_79b9_7f4a_7c15);
+    is(&rt, copy.finish(), 1);
 }
 
 #[test]
@@ -123,49 +145,56 @@ fn identity_hasher_of_narrow_numbers(rt: HostRuntime) {
     let mut hasher = UintIdentity::default();
     hasher.write_u64(1);
     hasher.write(&[]);
-    assert_eq!(&rt; hasher.finish(), 0);
+    is(&rt, hasher.finish(), 0);
     hasher.write_u8(1);
-    assert_eq!(&rt; hasher.finish(), 0x9e37_79b9_7f4a_7c15);
+    is(&rt, hasher.finish(), 0x9e37_79b9_7f4a_7c15);
     hasher.write_u16(0x6162);
-    assert_eq!(&rt; hasher.finish(), 0x965b_e23d_f387_750a);
+    is(&rt, hasher.finish(), 0x965b_e23d_f387_750a);
     hasher.write_u32(1);
-    assert_eq!(&rt; hasher.finish(), 0x9e37_79b9_7f4a_7c15);
+    is(&rt, hasher.finish(), 0x9e37_79b9_7f4a_7c15);
 }
 
 #[test]
 fn hashes_of_caps(rt: HostRuntime) {
-    assert_eq!(&rt; hash_of_key(&OneCap, b"\x01"), 0x9e37_79b9_7f4a_7c15);
-    assert_eq!(&rt; hash_of_key(&TwoCap, b"abc"), 0x965b_e23d_f387_750a);
-    assert_eq!(&rt;
+    is(&rt, hash_of_key(&OneCap, b"\x01"), 0x9e37_79b9_7f4a_7c15);
+    is(&rt, hash_of_key(&TwoCap, b"abc"), 0x965b_e23d_f387_750a);
+    is(
+        &rt,
         hash_of_key(&FourCap, b"\x00\x00\x00\x01"),
-        0x9e37_79b9_7f4a_7c15
+        0x9e37_79b9_7f4a_7c15,
     );
-    assert_eq!(&rt;
+    is(
+        &rt,
         hash_of_key(&EightCap, b"\x12\x34\x56\x78\x9a\xbc\xde\xf0"),
-        0xc93a_7b79_aeda_89b0
+        0xc93a_7b79_aeda_89b0,
     );
-    assert_eq!(&rt;
+    is(
+        &rt,
         hash_of_key(&EightCap, b"\x96\x15\xef\xb0\x0d\xf9\xde\xf0"),
-        0xc93a_7b79_aedb_89b0
+        0xc93a_7b79_aedb_89b0,
     );
-    assert_eq!(&rt; hash_of_key(&Cap::<3>::new(), b"ab"), 0x2f9e_2203_beb9_0df5);
+    is(
+        &rt,
+        hash_of_key(&Cap::<3>::new(), b"ab"),
+        0x2f9e_2203_beb9_0df5,
+    );
 }
 
 /// Seed and key together are known messages: one of one block, two of two blocks, and a million times `a`.
 #[test]
 fn seeded_digests(rt: HostRuntime) {
     let one_block = number_of::<SeededSha256>(0xb6cc_f4c4_29c9_3857, b"");
-    assert_eq!(&rt; one_block, 0x7712_f527_8fb8_3b96);
+    is(&rt, one_block, 0x7712_f527_8fb8_3b96);
     let two_blocks = number_of::<SeededSha256>(ABCDBCDE, KEY);
-    assert_eq!(&rt; two_blocks, 0xb838_06d2_616a_8d24);
+    is(&rt, two_blocks, 0xb838_06d2_616a_8d24);
     let longer = number_of::<SeededSha256>(
         0x6867_6665_6463_6261,
         b"bcdefghicdefghijdefghijkefghijklfghijklmghijklmnhijklmnoijklmnopjklmnopqklmnopqrlmnopqrsmnopqrstnopqrstu",
     );
-    assert_eq!(&rt; longer, 0x8083_af78_a716_5bcf);
+    is(&rt, longer, 0x8083_af78_a716_5bcf);
     let many = vec![in rt.alloc(); b'a'; 999_992].expect(&rt, "a key");
     let million = number_of::<SeededSha256>(0x6161_6161_6161_6161, &many);
-    assert_eq!(&rt; million, 0x92fb_1499_5c6e_c7cd);
+    is(&rt, million, 0x92fb_1499_5c6e_c7cd);
 }
 
 /// The eight bytes `abcdbcde` as a seed.
@@ -180,7 +209,7 @@ fn hashed_translators(rt: HostRuntime) {
     gives(&rt, &seeded, KEY, 0x248d);
     let drawn: Hashed<TwoCap, SeededSha256> = Hashed::new(ABCDBCDE, TwoCap);
     gives(&rt, &drawn, KEY, 0x248d);
-    assert_eq!(&rt; hash_of_key(&drawn, KEY), TwoCap.hash_of(0x248d));
+    is(&rt, hash_of_key(&drawn, KEY), TwoCap.hash_of(0x248d));
     let first: Hashed<TwoCap, FirstByte> = Hashed::from_seed(7, TwoCap);
     gives(&rt, &first, b"abc", 0x6100);
 }
@@ -216,9 +245,9 @@ const OTHER: u64 = 0x6867_6665_6463_6261;
 
 /// The value 1 stays under the slot that it was put in under.
 fn stays(rt: &impl Abort, index: &unordered::Index<Seeded, u64>) {
-    assert_eq!(rt; index.run_len(0x248d), 1);
-    assert_eq!(rt; *index.value_at(0x248d, 0), 1);
-    assert_eq!(rt; (index.keys(), index.items(), index.pruned()), (2, 2, 0));
+    assert!(rt; index.run_len(0x248d) == 1);
+    is(rt, *index.value_at(0x248d, 0), 1);
+    counts_are(rt, (index.keys(), index.items(), index.pruned()), (2, 2, 0));
 }
 
 /// The calls by key go by another slot.
@@ -226,7 +255,7 @@ fn goes_by_another(rt: &impl Abort, index: &mut unordered::Index<Seeded, u64>) {
     are(rt, index.get(KEY), &[]);
     put(rt, index.insert(KEY, 2));
     are(rt, index.get(KEY), &[2]);
-    assert!(rt; index.slot_of(KEY) == 0x4e7b);
+    holds(rt, index.slot_of(KEY) == 0x4e7b, "another index key");
 }
 
 /// Values stay under their index keys when an index takes another translator, and the calls by key then go by that one.

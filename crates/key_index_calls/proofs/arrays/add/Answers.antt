@@ -5,11 +5,11 @@ use Rattle.std.specs.Map.{keys_of}
 use Rattle.key_index_parts.specs.Pairs.{run_of}
 use Rattle.key_index_parts.proofs.pairs.SearchLemmas.{Rises-IsSorted}
 use Rattle.key_index_parts.proofs.pairs.PairEdits.{IsSorted-insert}
-use Rattle.key_index_tests.proofs.tests.partition.add.Goals as goal
+use Rattle.key_index_calls.proofs.arrays.add.Goals as goal
 
 pub insert_at-requires-clause-sorted : goal.insert_at-requires-clause-sorted
 insert_at-requires-clause-sorted c =
-    let pairs = c.args.partition.now.pairs in
+    let pairs = c.args.pairs.now.pairs in
     let run = c.run_range-place.ensures.run in
     let len = length (run_of nat_cmp pairs c.args.key) in
     let whole : len ≤ len = omega arith in

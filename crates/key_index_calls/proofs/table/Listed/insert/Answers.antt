@@ -2,10 +2,10 @@ use Rattle.std.proofs.Common.{◌≡◌, ◌<◌, None, Some, slice_index_or, sl
 use Rattle.std.proofs.lemmas.List.{length-set, get_or_read}
 use Rattle.key_index.specs.Table.{with_hash}
 use Rattle.key_index.proofs.tables.TableMaps.{files_same, with_hash-listed, none_if_not_some, listed_within}
-use Rattle.key_index_program_tests.proofs.tests.table.Filed.insert.Goals as goal
+use Rattle.key_index_calls.proofs.table.Listed.insert.Goals as goal
 
-pub invariant_of-self : goal.invariant_of-self
-invariant_of-self g c =
+pub invariant_of-self-2 : goal.invariant_of-self-2
+invariant_of-self-2 c =
     let hs = c.self.inside.hashes.items in
     let long = c.self.invariant.0 in
     let within : c.args.position < length hs = omega (arith, long) in
@@ -14,6 +14,6 @@ invariant_of-self g c =
       length-set hs c.args.position (Some c.args.hash) ∙ long,
       files_same (with_hash (λ p. slice_index_or hs p None) c.args.position c.args.hash) (λ p. slice_index_or (slice_set hs c.args.position (Some c.args.hash)) p None)
           (with_hash-listed hs c.args.position c.args.hash within)
-          (c.in-Ok.ensures.stored (λ p. slice_index_or hs p None) c.self.invariant.1 none
+          (c.in_ok-insert.ensures.stored (λ p. slice_index_or hs p None) c.self.invariant.1 none
           (λ p h e. let b : p < length hs = listed_within hs p h e in (omega (arith, b, c.self.inside.hashes.ok), λ r post. post ∙ ap (λ o. unwrap_or o 0) e))),
     )
