@@ -1,5 +1,5 @@
 -- On the content that newest and older values stand for.
-use Rattle.std.proofs.Common.{◌≡◌, ℕ, zero, suc, ◌+◌, ◌-◌, ◌<◌, ◌≤◌, Bool, true, false, not, cond, T, List, [], ◌∷◌, ◌++◌, length, reverse, slice_get, get_or, Option, Some, None, unwrap_or, is_some, refl, sym, ap, subst, ◌∙◌, arith, add-zero}
+use Rattle.std.proofs.Common.{◌≡◌, ℕ, zero, suc, ◌+◌, ◌-◌, ◌<◌, ◌≤◌, Bool, true, false, not, cond, T, List, [], ◌∷◌, ◌++◌, length, reverse, slice_get, get_or, Option, Some, None, unwrap_or, Result, Ok, Err, is_some, IfOk, OnOk, OnErr, refl, sym, ap, subst, ◌∙◌, arith, add-zero}
 use Rattle.std.proofs.lemmas.List.{length-reverse, reverse-append, get_or-reverse, nil_from_length}
 use Rattle.std.proofs.lemmas.Option.{slice_get-get_or}
 use Rattle.std.specs.declared.cmp.Ordering.{Ordering}
@@ -210,3 +210,11 @@ module _ {K V : Type 0} {cmp : K → K → Ordering} (o : IsTotalOrder cmp) wher
               StandsFor-unchanged (holds_at_every_key cmp exact (λ q. value_of cmp news q ≡ value_of cmp heads q) k (at ∙ some_value (value_of cmp heads k) v some) others) same
                   (len ∙ ap (λ b. length heads + cond b 0 1) some ∙ add-zero _),
             )
+
+-- a key that has a value takes another one
+pub taken_in : {K V : Type 0} (cmp : K → K → Ordering) (old new : List (K × V)) (k : K) (v w : V) (r : Result (Option V) V)
+    → value_of cmp old k ≡ Some v
+    → IfOk r (λ was. was ≡ value_of cmp old k) → OnOk r (Sets cmp old new k (Some w)) → IfOk r (λ was. length new ≡ length old + cond (is_some was) 0 1) → OnErr r (value_of cmp old k ≡ None)
+    → Sets cmp old new k (Some w) × (length new ≡ length old)
+taken_in cmp old new k v w (Ok was) held had sets len absent = (sets, len ∙ ap (λ o. length old + cond (is_some o) 0 1) (had ∙ held) ∙ add-zero _)
+taken_in cmp old new k v w (Err e) held had sets len absent = absurd (subst T (ap is_some (sym held ∙ absent)) tt)

@@ -108,7 +108,12 @@ impl<T: Translator, V: Drop, M: Heads<T::Key, V>> Chains<T, V, M> {
         };
         match insert_older(self.alloc, &mut self.older, slot, 1, displaced) {
             Ok(()) => Ok(()),
-            Err(displaced) => Err(self.heads.replace(&slot, displaced)),
+            Err(displaced) => {
+                let Ok(Some(value)) = self.heads.insert(slot, displaced) else {
+                    unreachable!()
+                };
+                Err(value)
+            }
         }
     }
 

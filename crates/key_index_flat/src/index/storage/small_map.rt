@@ -172,7 +172,6 @@ impl<K: Ord + Hash + Copy, V> Pairs<K, V> {
     }
 
     /// Puts another value at a key that has one.
-    #[inline]
     fn replace(&mut self, key: &K, value: V) -> V
         requires { IsSome (value_of K.cmp self.old key.now) }
         ensures old { value_of K.cmp self.old key.now ≡ Some result }
