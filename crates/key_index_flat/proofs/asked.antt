@@ -3,4 +3,3 @@ pub mod TurnLemmas
 pub mod KeptLemmas
 pub mod VisitLemmas
 pub mod PutLemmas
-pub mod FromLemmas

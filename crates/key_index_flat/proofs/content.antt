@@ -1,9 +1,10 @@
-pub mod ContentLemmas
 pub mod ChainLemmas
-pub mod KeyLemmas
+pub mod ContentLemmas
 pub mod EditLemmas
 pub mod FaultLemmas
-pub mod ValueLemmas
+pub mod InOrderLemmas
+pub mod KeyLemmas
+pub mod MoveLemmas
 pub mod PairLemmas
 pub mod TagLemmas
-pub mod MoveLemmas
+pub mod ValueLemmas

@@ -1,10 +1,10 @@
 -- A closure that is asked once on each value of a list, in order.
 --     last_answer   the last of the answers, and b where there is none
 --     AsksInTurn    the closure is asked on each of xs, ys are those that it said true of, and `stays` is its last answer
---     RetainsFrom   it is asked on a key's newest value and then on its older values, which are kept the oldest first
+--     RetainsFrom   it is asked on a list's first value and then on its tail, of which `left` stays
 --     AsksBehind    it is asked on each of the held values and on v last, and left are those that it said true of; so many of the
 --                   held ones are gone
-use Rattle.std.specs.Prelude.{◌≡◌, ℕ, ◌+◌, Bool, true, if◌then◌else◌, List, [], ◌∷◌, ◌++◌, length, reverse}
+use Rattle.std.specs.Prelude.{◌≡◌, ℕ, ◌+◌, Bool, true, if◌then◌else◌, List, [], ◌∷◌, ◌++◌, length}
 use Rattle.std.specs.List.{items_where_true}
 use Rattle.std.specs.List.Retain.{ReturnsInTurn}
 
@@ -18,10 +18,10 @@ AsksInTurn {F = F} ask f before xs ys stays =
     (answers : List Bool) × (last : F) × (length answers ≡ length xs) × ReturnsInTurn ask f answers xs last
     × (ys ≡ items_where_true answers xs) × (stays ≡ last_answer before answers)
 
--- newest_stays: what it said of the newest
+-- head_stays: what it said of the first
 abbrev pub RetainsFrom : {F V : Type 0} → (F → V → Bool → F → Type 0) → F → V → List V → List V → Bool → Bool → Type 0
-RetainsFrom ask f newest older left newest_stays stays =
-    AsksInTurn ask f true (newest ∷ reverse older) (if newest_stays then newest ∷ reverse left else reverse left) stays
+RetainsFrom ask f head tail left head_stays stays =
+    AsksInTurn ask f true (head ∷ tail) (if head_stays then head ∷ left else left) stays
 
 pub record AsksBehind {F V : Type 0} (ask : F → V → Bool → F → Type 0) (f : F) (held : List V) (v : V) (left : List V)
     (gone : ℕ) : Type 0 where

@@ -7,3 +7,4 @@ pub mod EndLemmas
 pub mod DrainLemmas
 pub mod ZipLemmas
 pub mod SearchLemmas
+pub mod LastRun

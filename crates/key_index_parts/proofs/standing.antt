@@ -1,6 +1,5 @@
 pub mod StandingLemmas
-pub mod SpillLemmas
 pub mod SpillingLemmas
-pub mod TreeLemmas
+pub mod LiftLemmas
 pub mod MoveLemmas
 pub mod PaidLemmas

@@ -13,7 +13,7 @@ use Rattle.key_index_flat.specs.Retention.{AsksBehind, AsksInTurn}
 use Rattle.key_index_flat.proofs.asked.TurnLemmas.{asks_behind, some_taken}
 use Rattle.key_index_flat.proofs.content.ContentLemmas.{with_list-twice}
 use Rattle.key_index_flat.proofs.runs.CursorLemmas.{list_at_edit}
-use Rattle.key_index_flat.proofs.neighbours.ReversedLemmas.{behind_last}
+use Rattle.key_index_flat.proofs.content.InOrderLemmas.{behind_last}
 
 module _ {K V : Type 0} {cmp : K → K → Ordering} (o : IsTotalOrder cmp) (c mid : Content K V) (k : K) (v : V) (at : ℕ)
     (end : at ≡ length (list_at cmp c k)) (put : mid ≡ with_list cmp c k (insert (list_at cmp c k) at v)) where

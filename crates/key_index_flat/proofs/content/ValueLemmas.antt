@@ -1,8 +1,8 @@
 -- On all values of a content, and on a closure that is called on them.
 --     visits_append                 the calls on two lists
---     in_turn, in_turn-more         the values of entries, each newest one with its older ones; and of one entry more
+--     in_turn, in_turn-more         the values of entries, each first one with its tail; and of one entry more
 --     all_values                    these are those of the content that the entries stand for
-use Rattle.std.proofs.Common.{◌≡◌, ◌≤◌, cond, List, [], ◌∷◌, ◌++◌, length, reverse, unwrap_or, Some, T, append_assoc, append-nil, refl, sym, ap, subst, ◌∙◌, arith}
+use Rattle.std.proofs.Common.{◌≡◌, ◌≤◌, cond, List, [], ◌∷◌, ◌++◌, length, unwrap_or, Some, T, append_assoc, append-nil, refl, sym, ap, subst, ◌∙◌, arith}
 use Rattle.std.proofs.lemmas.List.Sorted.{IsPermutation-refl, IsPermutation-trans, IsPermutation-append_left, IsPermutation-append_right, IsPermutation-append_comm}
 use Rattle.std.specs.List.Sorted.{IsPermutation}
 use Rattle.std.specs.declared.cmp.Ordering.{Ordering}
@@ -22,15 +22,15 @@ module _ {F V : Type 0} (visit : F → V → Unit {0} → F → Type 0) where
   visits_append f g h [] ys e more = subst (λ x. VisitsInTurn visit x ys h) (sym e) more
   visits_append f g h (x ∷ xs) ys said more = (said.0, said.1, visits_append said.0 g h xs ys said.2 more)
 
-module _ {K V : Type 0} (older : K → List V) where
+module _ {K V : Type 0} (tail : K → List V) where
   abbrev pub in_turn : List (K × V) → List V
   in_turn [] = []
-  in_turn (e ∷ es) = (e.1 ∷ reverse (older e.0)) ++ in_turn es
+  in_turn (e ∷ es) = (e.1 ∷ tail e.0) ++ in_turn es
 
-  pub in_turn-more : (es : List (K × V)) (e : K × V) → in_turn (es ++ e ∷ []) ≡ in_turn es ++ e.1 ∷ reverse (older e.0)
-  in_turn-more [] e = append-nil (e.1 ∷ reverse (older e.0))
+  pub in_turn-more : (es : List (K × V)) (e : K × V) → in_turn (es ++ e ∷ []) ≡ in_turn es ++ e.1 ∷ tail e.0
+  in_turn-more [] e = append-nil (e.1 ∷ tail e.0)
   in_turn-more (d ∷ ds) e =
-      ap (λ l. (d.1 ∷ reverse (older d.0)) ++ l) (in_turn-more ds e) ∙ sym (append_assoc (d.1 ∷ reverse (older d.0)) (in_turn ds) (e.1 ∷ reverse (older e.0)))
+      ap (λ l. (d.1 ∷ tail d.0) ++ l) (in_turn-more ds e) ∙ sym (append_assoc (d.1 ∷ tail d.0) (in_turn ds) (e.1 ∷ tail e.0))
 
 entries_for-zero : {V : Type 0} (l : List V) → entries_for l ≡ 0 → l ≡ []
 entries_for-zero [] e = refl
@@ -53,21 +53,21 @@ module _ {K V : Type 0} (cmp : K → K → Ordering) where
             (subst (λ x. IsPermutation ((e.1 ++ l) ++ values_of es) x) (append_assoc l e.1 (values_of es)) swapped))
       ] none
 
-module _ {K V : Type 0} {cmp : K → K → Ordering} (o : IsTotalOrder cmp) (older : K → List V) where
-  keys_most : (es : List (K × V)) → key_count (content_of cmp es older) ≤ length es
+module _ {K V : Type 0} {cmp : K → K → Ordering} (o : IsTotalOrder cmp) (tail : K → List V) where
+  keys_most : (es : List (K × V)) → key_count (content_of cmp es tail) ≤ length es
   keys_most [] = omega arith
   keys_most (e ∷ es) =
       let rest = keys_most es in
-      let counts = key_count-with_list o (content_of cmp es older) e.0 (e.1 ∷ reverse (older e.0)) (IsLawful-content_of o es older) in
+      let counts = key_count-with_list o (content_of cmp es tail) e.0 (e.1 ∷ tail e.0) (IsLawful-content_of o es tail) in
       omega (arith, rest, counts)
 
-  pub all_values : (es : List (K × V)) → length es ≡ key_count (content_of cmp es older) → IsPermutation (values_of (content_of cmp es older)) (in_turn older es)
+  pub all_values : (es : List (K × V)) → length es ≡ key_count (content_of cmp es tail) → IsPermutation (values_of (content_of cmp es tail)) (in_turn tail es)
   all_values [] sized = IsPermutation-refl []
   all_values (e ∷ es) sized =
-      let c = content_of cmp es older in
-      let lawful = IsLawful-content_of o es older in
+      let c = content_of cmp es tail in
+      let lawful = IsLawful-content_of o es tail in
       let most = keys_most es in
-      let counts = key_count-with_list o c e.0 (e.1 ∷ reverse (older e.0)) lawful in
+      let counts = key_count-with_list o c e.0 (e.1 ∷ tail e.0) lawful in
       let none = entries_for-zero (list_at cmp c e.0) (omega (arith, sized, most, counts)) in
       let rest = all_values es (omega (arith, sized, most, counts)) in
-      IsPermutation-trans _ _ _ (values-put cmp c e.0 (e.1 ∷ reverse (older e.0)) lawful.1 none) (IsPermutation-append_right (e.1 ∷ reverse (older e.0)) _ _ rest)
+      IsPermutation-trans _ _ _ (values-put cmp c e.0 (e.1 ∷ tail e.0) lawful.1 none) (IsPermutation-append_right (e.1 ∷ tail e.0) _ _ rest)

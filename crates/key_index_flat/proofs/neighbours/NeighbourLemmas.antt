@@ -3,9 +3,10 @@
 --     last_taken                           what the first step of a walk from the end says
 --     last_or-map                          the last of what a function makes of entries
 --     content_of-in_order                  newest values in order stand for a content entry by entry
---     next_list-in_order, ..               so its neighbours are theirs
+--     first_list-in_order, ..              so its ends and neighbours are theirs
+--     content_of-popped, IsLinked-popped   what is left where the first entry goes
 --     range_below                          the entries that a range up to a key has
-use Rattle.std.proofs.Common.{◌≡◌, suc, ◌-◌, ◌<◌, Bool, true, false, cond, not, T, List, [], ◌∷◌, ◌++◌, length, map, reverse, slice_get, Option, Some, None, IsSome, IfSome, MatchOption, ◌↔◌, refl, sym, ap, subst, ◌∙◌, arith}
+use Rattle.std.proofs.Common.{◌≡◌, suc, ◌-◌, ◌<◌, Bool, true, false, cond, not, T, List, [], ◌∷◌, ◌++◌, length, map, slice_get, Option, Some, None, IsSome, is_some, IfSome, MatchOption, ◌↔◌, refl, sym, ap, subst, ◌∙◌, arith}
 use Rattle.std.specs.List.{filter, last_or}
 use Rattle.std.specs.List.Sorted.{IsStrictlySortedBy}
 use Rattle.std.specs.Option.{option_map}
@@ -15,13 +16,15 @@ use Rattle.std.specs.Map.{keys_of}
 use Rattle.std.proofs.lemmas.Map.Keys.{sorted_head, sorted_tail}
 use Rattle.std.specs.declared.cmp.Ordering.{Ordering}
 use Rattle.std.specs.declared.cmp.Ordering.TheVariants.{Less, Equal, Greater}
-use Rattle.std.specs.Ordering.{is_lt, is_le, ordering_reverse}
+use Rattle.std.specs.Ordering.{eq_by_cmp, is_eq, is_lt, is_le, ordering_reverse}
+use Rattle.std.specs.List.{AllByRecursion}
 use Rattle.std.specs.Cmp.{IsTotalOrder}
 use Rattle.std.specs.FinMap.{put}
 use Rattle.std.specs.FinMap.Entries.{by_order}
 use Rattle.key_index_flat.specs.Content.{Content, with_list}
-use Rattle.key_index_flat.specs.Storage.{content_of}
-use Rattle.key_index_flat.specs.Neighbours.{first_entry, last_entry, or_cycled, entries_above, entries_below, first_list, last_list, next_list, prev_list}
+use Rattle.key_index_flat.specs.Storage.{content_of, value_of, IsLinked}
+use Rattle.key_index_flat.proofs.content.ChainLemmas.{holds_at_every_key}
+use Rattle.key_index_flat.specs.Neighbours.{first_entry, last_entry, entries_above, entries_below, first_list, last_list}
 
 -- ---- the last entry
 
@@ -69,68 +72,68 @@ last_or-map f o (d ∷ ds) = last_or-map f (Some d) ds
 
 module _ {K V : Type 0} where
   abbrev pub entry_of : (K → List V) → K × V → K × List V
-  entry_of older e = (e.0, e.1 ∷ reverse (older e.0))
+  entry_of tail e = (e.0, e.1 ∷ tail e.0)
 
   put_in_front : (cmp : K → K → Ordering) (k f : K) (l m : List V) (es : Content K V) → cmp k f ≡ Less → put cmp k l ((f, m) ∷ es) ≡ (k, l) ∷ (f, m) ∷ es
   put_in_front cmp k f l m es p = ap (λ r. by_order r ((k, l) ∷ (f, m) ∷ es) ((f, l) ∷ es) ((f, m) ∷ put cmp k l es)) p
 
-  pub content_of-in_order : (cmp : K → K → Ordering) (heads : List (K × V)) (older : K → List V) → IsStrictlySortedBy cmp (keys_of heads) → content_of cmp heads older ≡ map (entry_of older) heads
-  content_of-in_order cmp [] older h = refl
-  content_of-in_order cmp (e ∷ []) older h = refl
-  content_of-in_order cmp (e ∷ f ∷ fs) older h =
-      ap (λ c. with_list cmp c e.0 (e.1 ∷ reverse (older e.0))) (content_of-in_order cmp (f ∷ fs) older (sorted_tail cmp e.0 _ h))
-      ∙ put_in_front cmp e.0 f.0 (e.1 ∷ reverse (older e.0)) (f.1 ∷ reverse (older f.0)) (map (entry_of older) fs) (sorted_head cmp e.0 _ h).0
+  pub content_of-in_order : (cmp : K → K → Ordering) (heads : List (K × V)) (tail : K → List V) → IsStrictlySortedBy cmp (keys_of heads) → content_of cmp heads tail ≡ map (entry_of tail) heads
+  content_of-in_order cmp [] tail h = refl
+  content_of-in_order cmp (e ∷ []) tail h = refl
+  content_of-in_order cmp (e ∷ f ∷ fs) tail h =
+      ap (λ c. with_list cmp c e.0 (e.1 ∷ tail e.0)) (content_of-in_order cmp (f ∷ fs) tail (sorted_tail cmp e.0 _ h))
+      ∙ put_in_front cmp e.0 f.0 (e.1 ∷ tail e.0) (f.1 ∷ tail f.0) (map (entry_of tail) fs) (sorted_head cmp e.0 _ h).0
 
   -- the list of an entry of newest values
   abbrev pub listed : (K → List V) → K × V → List V
-  listed older e = e.1 ∷ reverse (older e.0)
+  listed tail e = e.1 ∷ tail e.0
 
-  or_cycled-listed : (older : K → List V) (a b : Option (K × V)) → option_map (λ n. (n.0.1, n.1)) (or_cycled (option_map (entry_of older) a) (option_map (entry_of older) b)) ≡ or_cycled (option_map (listed older) a) (option_map (listed older) b)
-  or_cycled-listed older (Some e) b = refl
-  or_cycled-listed older None (Some e) = refl
-  or_cycled-listed older None None = refl
+  lists_entry : (tail : K → List V) (a : Option (K × V)) → option_map (λ e. e.1) (option_map (entry_of tail) a) ≡ option_map (listed tail) a
+  lists_entry tail None = refl
+  lists_entry tail (Some e) = refl
 
-  lists_entry : (older : K → List V) (a : Option (K × V)) → option_map (λ e. e.1) (option_map (entry_of older) a) ≡ option_map (listed older) a
-  lists_entry older None = refl
-  lists_entry older (Some e) = refl
+  module _ (cmp : K → K → Ordering) (heads : List (K × V)) (tail : K → List V) (h : IsStrictlySortedBy cmp (keys_of heads)) where
+    pub first_list-in_order : first_list (content_of cmp heads tail) ≡ option_map (listed tail) (first_entry heads)
+    first_list-in_order = ap first_list (content_of-in_order cmp heads tail h) ∙ ap (option_map (λ e. e.1)) (first_entry-map (entry_of tail) heads) ∙ lists_entry tail (first_entry heads)
 
-  module _ (cmp : K → K → Ordering) (heads : List (K × V)) (older : K → List V) (h : IsStrictlySortedBy cmp (keys_of heads)) where
-    pub first_list-in_order : first_list (content_of cmp heads older) ≡ option_map (listed older) (first_entry heads)
-    first_list-in_order = ap first_list (content_of-in_order cmp heads older h) ∙ ap (option_map (λ e. e.1)) (first_entry-map (entry_of older) heads) ∙ lists_entry older (first_entry heads)
+    pub last_list-in_order : last_list (content_of cmp heads tail) ≡ option_map (listed tail) (last_entry heads)
+    last_list-in_order = ap last_list (content_of-in_order cmp heads tail h) ∙ ap (option_map (λ e. e.1)) (last_or-map (entry_of tail) None heads) ∙ lists_entry tail (last_entry heads)
 
-    pub last_list-in_order : last_list (content_of cmp heads older) ≡ option_map (listed older) (last_entry heads)
-    last_list-in_order = ap last_list (content_of-in_order cmp heads older h) ∙ ap (option_map (λ e. e.1)) (last_or-map (entry_of older) None heads) ∙ lists_entry older (last_entry heads)
+    pub above-in_order : (k : K) → first_list (entries_above cmp (content_of cmp heads tail) k) ≡ option_map (listed tail) (first_entry (entries_above cmp heads k))
+    above-in_order k =
+        ap (λ c. first_list (entries_above cmp c k)) (content_of-in_order cmp heads tail h)
+        ∙ ap (option_map (λ e. e.1)) (ap first_entry (filter-map (λ e. is_lt (cmp k e.0)) (entry_of tail) heads) ∙ first_entry-map (entry_of tail) (entries_above cmp heads k))
+        ∙ lists_entry tail (first_entry (entries_above cmp heads k))
 
-    pub next_list-in_order : (k : K) → next_list cmp (content_of cmp heads older) k ≡ or_cycled (option_map (listed older) (first_entry (entries_above cmp heads k))) (option_map (listed older) (first_entry heads))
-    next_list-in_order k =
-        let above : first_entry (entries_above cmp (map (entry_of older) heads) k) ≡ option_map (entry_of older) (first_entry (entries_above cmp heads k)) =
-        ap first_entry (filter-map (λ e. is_lt (cmp k e.0)) (entry_of older) heads) ∙ first_entry-map (entry_of older) (entries_above cmp heads k) in
-        ap (λ c. next_list cmp c k) (content_of-in_order cmp heads older h)
-        ∙ (λ i. option_map (λ n. (n.0.1, n.1)) (or_cycled (above i) (first_entry-map (entry_of older) heads i)))
-        ∙ or_cycled-listed older (first_entry (entries_above cmp heads k)) (first_entry heads)
+    pub below-in_order : (k : K) → last_list (entries_below cmp (content_of cmp heads tail) k) ≡ option_map (listed tail) (last_entry (entries_below cmp heads k))
+    below-in_order k =
+        ap (λ c. last_list (entries_below cmp c k)) (content_of-in_order cmp heads tail h)
+        ∙ ap (option_map (λ e. e.1)) (ap last_entry (filter-map (λ e. is_lt (cmp e.0 k)) (entry_of tail) heads) ∙ last_or-map (entry_of tail) None (entries_below cmp heads k))
+        ∙ lists_entry tail (last_entry (entries_below cmp heads k))
 
-    pub prev_list-in_order : (k : K) → prev_list cmp (content_of cmp heads older) k ≡ or_cycled (option_map (listed older) (last_entry (entries_below cmp heads k))) (option_map (listed older) (last_entry heads))
-    prev_list-in_order k =
-        let below : last_entry (entries_below cmp (map (entry_of older) heads) k) ≡ option_map (entry_of older) (last_entry (entries_below cmp heads k)) =
-        ap last_entry (filter-map (λ e. is_lt (cmp e.0 k)) (entry_of older) heads) ∙ last_or-map (entry_of older) None (entries_below cmp heads k) in
-        ap (λ c. prev_list cmp c k) (content_of-in_order cmp heads older h)
-        ∙ (λ i. option_map (λ n. (n.0.1, n.1)) (or_cycled (below i) (last_or-map (entry_of older) None heads i)))
-        ∙ or_cycled-listed older (last_entry (entries_below cmp heads k)) (last_entry heads)
+-- ---- the first entry goes
 
-    -- as the two steps of a look-up find it: above or below the key, or else at the other end
-    pub next_found : (k : K) (l : List V) → option_map (listed older) (first_entry (entries_above cmp heads k)) ≡ Some l → next_list cmp (content_of cmp heads older) k ≡ Some (l, false)
-    next_found k l is = next_list-in_order k ∙ ap (λ a. or_cycled a (option_map (listed older) (first_entry heads))) is
+module _ {K V : Type 0} {cmp : K → K → Ordering} (o : IsTotalOrder cmp) (e : K × V) (es : List (K × V)) (tail later : K → List V)
+    (h : IsStrictlySortedBy cmp (keys_of (e ∷ es))) (others : (q : K) → eq_by_cmp cmp q e.0 ≡ false → later q ≡ tail q) where
+  same_behind : (fs : List (K × V)) → AllByRecursion (λ y. cmp e.0 y ≡ Less) (keys_of fs) → map (entry_of tail) fs ≡ map (entry_of later) fs
+  same_behind [] below = refl
+  same_behind (f ∷ fs) below =
+      let apart : eq_by_cmp cmp f.0 e.0 ≡ false = ap is_eq (o.antisymm f.0 e.0 ∙ ap ordering_reverse below.0) in
+      (λ i. (f.0, f.1 ∷ sym (others f.0 apart) i) ∷ same_behind fs below.1 i)
 
-    pub next_list-cycled : (k : K) (end : Option (List V)) → option_map (listed older) (first_entry (entries_above cmp heads k)) ≡ None → first_list (content_of cmp heads older) ≡ end
-        → next_list cmp (content_of cmp heads older) k ≡ option_map (λ l. (l, true)) end
-    next_list-cycled k end none is = next_list-in_order k ∙ (λ i. or_cycled (none i) (option_map (listed older) (first_entry heads))) ∙ ap (option_map (λ l. (l, true))) (sym first_list-in_order ∙ is)
+  pub content_of-popped : content_of cmp (e ∷ es) tail ≡ (e.0, e.1 ∷ tail e.0) ∷ content_of cmp es later
+  content_of-popped =
+      content_of-in_order cmp (e ∷ es) tail h
+      ∙ ap (λ c. (e.0, e.1 ∷ tail e.0) ∷ c) (same_behind es (sorted_head cmp e.0 _ h) ∙ sym (content_of-in_order cmp es later (sorted_tail cmp e.0 _ h)))
 
-    pub prev_found : (k : K) (l : List V) → option_map (listed older) (last_entry (entries_below cmp heads k)) ≡ Some l → prev_list cmp (content_of cmp heads older) k ≡ Some (l, false)
-    prev_found k l is = prev_list-in_order k ∙ ap (λ a. or_cycled a (option_map (listed older) (last_entry heads))) is
-
-    pub prev_list-cycled : (k : K) (end : Option (List V)) → option_map (listed older) (last_entry (entries_below cmp heads k)) ≡ None → last_list (content_of cmp heads older) ≡ end
-        → prev_list cmp (content_of cmp heads older) k ≡ option_map (λ l. (l, true)) end
-    prev_list-cycled k end none is = prev_list-in_order k ∙ (λ i. or_cycled (none i) (option_map (listed older) (last_entry heads))) ∙ ap (option_map (λ l. (l, true))) (sym last_list-in_order ∙ is)
+  pub IsLinked-popped : ((x y : K) → cmp x y ≡ Equal → x ≡ y) → IsLinked cmp (e ∷ es) tail → later e.0 ≡ [] → IsLinked cmp es later
+  IsLinked-popped exact linked none =
+      let counts = linked.sized ∙ ap (λ c. length c) content_of-popped in
+      record {
+        sized = omega (arith, counts);
+        headed = holds_at_every_key cmp exact (λ q. is_some (value_of cmp es q) ≡ false → length (later q) ≡ 0) e.0 (λ _. ap (λ l. length l) none) (λ q apart is.
+            ap (λ l. length l) (others q apart) ∙ linked.headed q (ap (λ b. is_some (cond b (Some e.1) (value_of cmp es q))) apart ∙ is));
+      }
 
 -- ---- what a range has
 

@@ -1,6 +1,6 @@
 -- The law of contents holds whatever is put in: the proofs that an index gives of it.
 --     IsLawful-with_list      a lawful content stays so with any list at any key
-use Rattle.std.specs.Prelude.{Bool, true, false, cond, ◌&&◌, T, List, [], ◌∷◌, reverse}
+use Rattle.std.specs.Prelude.{Bool, true, false, cond, ◌&&◌, T, List, [], ◌∷◌}
 use Rattle.std.specs.declared.cmp.Ordering.{Ordering}
 use Rattle.std.specs.declared.cmp.Ordering.TheVariants.{Less, Equal, Greater}
 use Rattle.std.specs.Cmp.{IsTotalOrder}
@@ -44,6 +44,6 @@ module _ {K V : Type 0} {cmp : K → K → Ordering} (o : IsTotalOrder cmp) wher
   IsLawful-with_list c k [] h = (is_sorted-where_key cmp _ c h.0, all_filled-where_key _ c h.1)
   IsLawful-with_list c k (v ∷ vs) h = (is_sorted-put cmp o k (v ∷ vs) c h.0, all_filled-put k v vs c h.1)
 
-  pub IsLawful-content_of : (heads : List (K × V)) (older : K → List V) → IsLawful cmp (content_of cmp heads older)
-  IsLawful-content_of [] older = (tt, tt)
-  IsLawful-content_of (e ∷ es) older = IsLawful-with_list (content_of cmp es older) e.0 (e.1 ∷ reverse (older e.0)) (IsLawful-content_of es older)
+  pub IsLawful-content_of : (heads : List (K × V)) (tail : K → List V) → IsLawful cmp (content_of cmp heads tail)
+  IsLawful-content_of [] tail = (tt, tt)
+  IsLawful-content_of (e ∷ es) tail = IsLawful-with_list (content_of cmp es tail) e.0 (e.1 ∷ tail e.0) (IsLawful-content_of es tail)

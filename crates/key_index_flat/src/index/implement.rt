@@ -5,3 +5,4 @@ pub use super::batch::{
 pub use super::retain::{Retained, retain_in_turn};
 pub use super::storage::chains::Chains;
 pub use super::storage::small_map::SmallMap;
+pub use super::storage::tails::{Back, End, Front};

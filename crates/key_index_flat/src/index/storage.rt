@@ -1,4 +1,4 @@
-//! What a flat index keeps, over any map of newest values.
+//! What a flat index keeps, over any map of first values.
 ghost use Rattle.std.specs.Prelude.{◌≡◌, ◌+◌, ◌<◌, ◌≤◌, [], ◌∷◌, length, slice_get, slice_set, insert, remove, Some, IfOk, IfErr, OnOk, OnErr};
 ghost use Rattle.std.specs.Fn.{CalledAt};
 ghost use Rattle.key_index_flat.specs.Content.{item_count, key_count, list_at, IsLawful};
@@ -10,8 +10,8 @@ ghost use Rattle.key_index_flat.specs.Values.{values_of, VisitsEach};
 
 pub mod chains;
 pub mod heads;
-mod older;
 pub mod small_map;
+pub mod tails;
 
 use super::implement::Retained;
 use super::{Refused, Values};
@@ -21,13 +21,14 @@ use heads::{Heads, OrderedHeads};
 use std::alloc::Global;
 use std::collections::HashMap;
 use std::marker::Model;
+use tails::Front;
 
-/// A flat index over any map of newest values: a translator, the chains, and the counts. Contracts see all of it but the count of
+/// A flat index over any map of first values: a translator, the chains, and the counts. Contracts see all of it but the count of
 /// values, which is that of the content.
 #[derive(Drop)]
 pub(crate) struct Storage<T: Translator, V, M: Heads<T::Key, V>> {
     translator: T,
-    chains: Chains<T, V, M>,
+    chains: Chains<T, V, M, Front>,
     items: usize,
     pruned: u64,
 }
@@ -41,7 +42,7 @@ impl<T: Translator, V, M: Heads<T::Key, V>> Model for Storage<T, V, M> {
 }
 
 impl<T: Translator, V: Drop, M: Heads<T::Key, V>> Storage<T, V, M> {
-    /// No values, over an empty map of newest values.
+    /// No values, over an empty map of first values.
     pub(crate) fn new(alloc: Global, translator: T, heads: M) -> Storage<T, V, M>
         requires { M.entries heads ≡ [] }
         ensures translator { result.translator ≡ translator }

@@ -1,30 +1,30 @@
 //! The values of one key, in list order.
-ghost use Rattle.std.specs.Prelude.{◌≡◌, ◌<◌, ◌∷◌, length, not, reverse};
+ghost use Rattle.std.specs.Prelude.{◌≡◌, ◌<◌, ◌∷◌, length, not};
 ghost use Rattle.std.specs.Fn.{CalledAt};
 ghost use Rattle.std.specs.Iterator.{YieldsFirstRef, item_count};
 ghost use Rattle.key_index_flat.specs.Content.{is_filled};
-ghost use Rattle.key_index_flat.specs.Values.{VisitsInTurn};
+ghost use Rattle.key_index_flat.specs.Values.{VisitsInTurn, in_order};
 
 use std::marker::Model;
 
 /// An iterator over the values of one key, in list order. It takes no memory, and ends.
 #[derive(Drop)]
 pub struct Values<'a, V> {
-    newest: Option<&'a V>,
+    first: Option<&'a V>,
     rest: &'a [V],
     from_end: bool,
 }
 
 impl<'a, V> Model for Values<'a, V> {
-    ghost use Rattle.std.specs.Prelude.{◌+◌, ◌^◌, ◌<◌, List, ◌++◌, length, reverse, if◌then◌else◌};
+    ghost use Rattle.std.specs.Prelude.{◌+◌, ◌^◌, ◌<◌, List, ◌++◌, length};
+    ghost use Rattle.key_index_flat.specs.Values.{in_order};
     ghost use Rattle.std.specs.Option.{option_to_list, option_copied};
 
     ghost Value = { List V };
 
-    ghost view = { λ v. option_to_list (option_copied v.newest)
-        ++ (if v.from_end then reverse v.rest.now else v.rest.now) };
+    ghost view = { λ v. option_to_list (option_copied v.first) ++ in_order v.from_end v.rest.now };
 
-    ghost invariant = { λ v. length (option_to_list (option_copied v.newest)) + length v.rest.now < 2 ^ 64 };
+    ghost invariant = { λ v. length (option_to_list (option_copied v.first)) + length v.rest.now < 2 ^ 64 };
 }
 
 impl<'a, V> Values<'a, V> {
@@ -34,22 +34,22 @@ impl<'a, V> Values<'a, V> {
         ensures { result ≡ values.now }
     {
         Values {
-            newest: None,
+            first: None,
             rest: values,
             from_end: false,
         }
     }
 
-    /// The newest value, and then the older ones, which stand oldest first, from their end.
+    /// The first value, and then the rest, from its end on where it is reversed.
     #[inline(always)]
-    pub(crate) fn newest_first(newest: &'a V, older: &'a [V]) -> Values<'a, V>
-        requires { length older.now < usize.MAX }
-        ensures { result ≡ newest.now ∷ reverse older.now }
+    pub(crate) fn with_first(first: &'a V, rest: &'a [V], reversed: bool) -> Values<'a, V>
+        requires { length rest.now < usize.MAX }
+        ensures { result ≡ first.now ∷ in_order reversed rest.now }
     {
         Values {
-            newest: Some(newest),
-            rest: older,
-            from_end: true,
+            first: Some(first),
+            rest,
+            from_end: reversed,
         }
     }
 
@@ -58,7 +58,7 @@ impl<'a, V> Values<'a, V> {
     pub fn len(&self) -> usize
         ensures { result ≡ length self.now }
     {
-        match self.newest {
+        match self.first {
             Some(_) => 1 + self.rest.len(),
             None => self.rest.len(),
         }
@@ -69,7 +69,7 @@ impl<'a, V> Values<'a, V> {
     pub fn is_empty(&self) -> bool
         ensures { result ≡ not (is_filled self.now) }
     {
-        self.newest.is_none() && self.rest.is_empty()
+        self.first.is_none() && self.rest.is_empty()
     }
 }
 
@@ -82,7 +82,7 @@ impl<'a, V> Iterator for Values<'a, V> {
 
     #[inline]
     fn next(&mut self) -> Option<&'a V> {
-        if let Some(value) = self.newest.take() {
+        if let Some(value) = self.first.take() {
             return Some(value);
         }
         let (value, rest) = if self.from_end {

@@ -122,7 +122,7 @@ module _ {K : Type 0} {cmp : K → K → Ordering} (o : IsTotalOrder cmp) where
   pub IsSorted-remove_range : (ks : List K) (i j : ℕ) → i ≤ j → IsSorted cmp ks → IsSorted cmp (remove_range ks i j)
   IsSorted-remove_range ks i j le h = IsSorted-Rises (remove_range ks i j) (Rises-remove_range i j ks le (Rises-IsSorted ks h))
 
-  Rises-take : (n : ℕ) (ks : List K) → Rises cmp ks → Rises cmp (take n ks)
+  pub Rises-take : (n : ℕ) (ks : List K) → Rises cmp ks → Rises cmp (take n ks)
   Rises-take zero ks h = tt
   Rises-take (suc n) [] h = tt
   Rises-take (suc n) (k ∷ ks) h = (All-take (λ x. is_lt (cmp x k) ≡ false) n ks h.0, Rises-take n ks h.1)

@@ -1,57 +1,55 @@
-//! The lists of a flat index: the newest value of each key in one map, and in another the older values of the keys that have any. An
-//! entry whose key has one value then costs that key and that value alone.
-ghost use Rattle.std.specs.Prelude.{◌≡◌, ◌+◌, ◌<◌, ◌≤◌, true, false, if◌then◌else◌, List, [], ◌∷◌, length, reverse, slice_get, slice_set, insert, remove, Some, IfOk, IfErr, OnOk, OnErr};
+//! The lists of an index: the first value of each index key in one map, and in another the tails of the lists that have more. An entry
+//! whose key has one value then costs that key and that value alone.
+ghost use Rattle.std.specs.Prelude.{◌≡◌, ◌+◌, ◌<◌, ◌≤◌, true, false, if◌then◌else◌, List, [], ◌∷◌, ◌++◌, length, slice_get, slice_set, insert, remove, Some, IfOk, IfErr, IfSome, IfNone, OnOk, OnErr};
 ghost use Rattle.std.specs.Fn.{CalledAt};
 ghost use Rattle.std.specs.List.Retain.{IsFiltered};
 ghost use Rattle.std.specs.Map.Iter.{deref_pair};
 ghost use Rattle.std.specs.Option.{option_map};
 ghost use Rattle.key_index_flat.specs.Content.{Content, key_count, list_at, with_list, with_list_by, IsLawful};
-ghost use Rattle.key_index_flat.specs.Neighbours.{first_list, last_list, next_list, prev_list};
+ghost use Rattle.key_index_flat.specs.Neighbours.{entries_above, entries_below, first_list, last_list, next_list, prev_list};
 ghost use Rattle.key_index_flat.specs.Retention.{AsksBehind, AsksInTurn};
-ghost use Rattle.key_index_flat.specs.Storage.{older_at, stored, IsLinked};
+ghost use Rattle.key_index_flat.specs.Storage.{content_of, tail_at, IsLinked};
 ghost use Rattle.key_index_flat.specs.Values.{values_of, VisitsEach};
+ghost use Rattle.key_index_flat.specs.View.{put_value};
 
 use super::heads::{Heads, OrderedHeads};
-use super::older::{
-    Older, insert_and_retain_older, insert_older, older_of, pop_older, remove_older, retain_older,
-    set_older, take_older,
-};
 use super::small_map::SmallMap;
+use super::tails::{Back, End, Tails};
 use crate::index::Values;
 use crate::index::retain::Retained;
 use crate::index::values::visit_in_turn;
 use crate::translator::Translator;
 use std::alloc::Global;
-use std::collections::HashMap;
+use std::collections::{BTreeMap, HashMap};
 use std::hash::Hash;
 use std::marker::Model;
 
-/// The newest value of each index key in `heads`, and in `older` the older values of those that have any, the oldest first.
-/// Contracts see the content that they stand for.
+/// The first value of each index key's list in `heads`, and the others in `tails`. `insert` puts a value in at the end `E` of its list,
+/// where that grows and shrinks without moving the other values. Contracts see the content that all of them stand for.
 #[derive(Drop)]
-pub struct Chains<T: Translator, V, M: Heads<T::Key, V>> {
+pub struct Chains<T: Translator, V, M: Heads<T::Key, V>, E: End> {
     heads: M,
-    older: Older<T::Key, V>,
+    tails: Tails<T::Key, V, E>,
     alloc: Global,
 }
 
-impl<T: Translator, V, M: Heads<T::Key, V>> Model for Chains<T, V, M> {
+impl<T: Translator, V, M: Heads<T::Key, V>, E: End> Model for Chains<T, V, M, E> {
     ghost Value = { Content T.Key V };
 
-    ghost view = { λ c. stored T.Key.cmp T.Key.eq (M.entries c.heads) c.older };
+    ghost view = { λ c. content_of T.Key.cmp (M.entries c.heads) (tail_at E.FIRST T.Key.eq c.tails.map) };
 
-    ghost invariant = { λ c. IsLinked T.Key.cmp (M.entries c.heads) (older_at T.Key.eq c.older) };
+    ghost invariant = { λ c. IsLinked T.Key.cmp (M.entries c.heads) (tail_at E.FIRST T.Key.eq c.tails.map) };
 }
 
-impl<T: Translator, V: Drop, M: Heads<T::Key, V>> Chains<T, V, M> {
-    /// No values, over an empty map of newest values.
-    pub fn new(alloc: Global, heads: M) -> Chains<T, V, M>
+impl<T: Translator, V: Drop, M: Heads<T::Key, V>, E: End> Chains<T, V, M, E> {
+    /// No values, over an empty map of first values.
+    pub fn new(alloc: Global, heads: M) -> Chains<T, V, M, E>
         requires { M.entries heads ≡ [] }
         ensures content { result ≡ [] }
     {
         Chains {
             heads,
-            older: None,
+            tails: Tails::new(),
             alloc,
         }
     }
@@ -67,7 +65,7 @@ impl<T: Translator, V: Drop, M: Heads<T::Key, V>> Chains<T, V, M> {
         ensures { result ≡ list_at T.Key.cmp self.now slot }
     {
         match self.heads.get(&slot) {
-            Some(newest) => Values::newest_first(newest, older_of(&self.older, slot)),
+            Some(head) => Values::with_first(head, self.tails.vector(slot), E::is_first()),
             None => Values::of_slice(&[]),
         }
     }
@@ -78,7 +76,7 @@ impl<T: Translator, V: Drop, M: Heads<T::Key, V>> Chains<T, V, M> {
         ensures lawful { IsLawful T.Key.cmp self.now }
     {
         match self.heads.get(&slot) {
-            Some(_) => 1 + older_of(&self.older, slot).len(),
+            Some(_) => 1 + self.tails.len(slot),
             None => 0,
         }
     }
@@ -91,14 +89,13 @@ impl<T: Translator, V: Drop, M: Heads<T::Key, V>> Chains<T, V, M> {
         if place == 0 {
             return self.heads.get(&slot).unwrap();
         }
-        let older = older_of(&self.older, slot);
-        &older[older.len() - place]
+        self.tails.value_at(slot, place - 1)
     }
 
-    /// Puts a value in front of the list at an index key. The one look-up that finds the key also puts the value there; a newest
-    /// value that finds no room among the older ones then goes back to its place, which takes no memory.
+    /// Puts a value in front of the list at an index key. The one look-up that finds the key also puts the value there; a first value
+    /// that finds no room in the tail then goes back to its place, which takes no memory.
     #[inline]
-    pub fn insert(&mut self, slot: T::Key, value: V) -> Result<(), V>
+    fn insert_first(&mut self, slot: T::Key, value: V) -> Result<(), V>
         ensures accepted { OnOk result (self.new ≡ with_list_by T.Key.cmp self.old slot (λ l. value ∷ l)) }
         ensures refused { OnErr result (self.new ≡ self.old) }
         ensures returned { IfErr result (λ back. back ≡ value) }
@@ -106,7 +103,7 @@ impl<T: Translator, V: Drop, M: Heads<T::Key, V>> Chains<T, V, M> {
         let Some(displaced) = self.heads.insert(slot, value)? else {
             return Ok(());
         };
-        match insert_older(self.alloc, &mut self.older, slot, 1, displaced) {
+        match self.tails.insert_at(self.alloc, slot, Some(0), displaced) {
             Ok(()) => Ok(()),
             Err(displaced) => {
                 let Ok(Some(value)) = self.heads.insert(slot, displaced) else {
@@ -114,6 +111,33 @@ impl<T: Translator, V: Drop, M: Heads<T::Key, V>> Chains<T, V, M> {
                 };
                 Err(value)
             }
+        }
+    }
+
+    /// Puts a value behind the list at an index key.
+    #[inline]
+    fn insert_last(&mut self, slot: T::Key, value: V) -> Result<(), V>
+        ensures accepted { OnOk result (self.new ≡ with_list_by T.Key.cmp self.old slot (λ l. l ++ value ∷ [])) }
+        ensures refused { OnErr result (self.new ≡ self.old) }
+        ensures returned { IfErr result (λ back. back ≡ value) }
+    {
+        let Some(value) = self.heads.insert_absent(slot, value)? else {
+            return Ok(());
+        };
+        self.tails.insert_at(self.alloc, slot, None, value)
+    }
+
+    /// Puts a value in at its end of the list at an index key.
+    #[inline]
+    pub fn insert(&mut self, slot: T::Key, value: V) -> Result<(), V>
+        ensures accepted { OnOk result (self.new ≡ with_list_by T.Key.cmp self.old slot (put_value E.FIRST value)) }
+        ensures refused { OnErr result (self.new ≡ self.old) }
+        ensures returned { IfErr result (λ back. back ≡ value) }
+    {
+        if E::is_first() {
+            self.insert_first(slot, value)
+        } else {
+            self.insert_last(slot, value)
         }
     }
 
@@ -127,10 +151,10 @@ impl<T: Translator, V: Drop, M: Heads<T::Key, V>> Chains<T, V, M> {
         ensures refused { OnErr result (self.new ≡ self.old) }
         ensures returned { IfErr result (λ back. back ≡ value) }
     {
-        if self.heads.insert_absent(slot, value)? {
+        let Some(_) = self.heads.insert_absent(slot, value)? else {
             return Ok(0);
-        }
-        Ok(1 + older_of(&self.older, slot).len())
+        };
+        Ok(1 + self.tails.len(slot))
     }
 
     /// Takes an index key out, and tells how many values it had.
@@ -142,7 +166,10 @@ impl<T: Translator, V: Drop, M: Heads<T::Key, V>> Chains<T, V, M> {
         if self.heads.remove(&slot).is_none() {
             return 0;
         }
-        1 + take_older(&mut self.older, slot)
+        let Some(values) = self.tails.take(slot) else {
+            return 1;
+        };
+        1 + values.len()
     }
 
     /// Puts another value at a place of the index key's list.
@@ -152,7 +179,7 @@ impl<T: Translator, V: Drop, M: Heads<T::Key, V>> Chains<T, V, M> {
         ensures content { self.new ≡ with_list_by T.Key.cmp self.old slot (λ l. slice_set l place value) }
     {
         if place != 0 {
-            set_older(&mut self.older, slot, place, value);
+            self.tails.set_at(slot, place - 1, value);
             return;
         }
         self.heads.replace(&slot, value);
@@ -167,9 +194,10 @@ impl<T: Translator, V: Drop, M: Heads<T::Key, V>> Chains<T, V, M> {
         ensures returned { IfErr result (λ back. back ≡ value) }
     {
         if place == 0 {
-            return self.insert(slot, value);
+            return self.insert_first(slot, value);
         }
-        insert_older(self.alloc, &mut self.older, slot, place, value)
+        self.tails
+            .insert_at(self.alloc, slot, Some(place - 1), value)
     }
 
     /// Takes the value at a place of the index key's list out, and tells how many are left.
@@ -181,13 +209,29 @@ impl<T: Translator, V: Drop, M: Heads<T::Key, V>> Chains<T, V, M> {
         ensures left { result.1 + 1 ≡ length (list_at T.Key.cmp self.old slot) }
     {
         if place != 0 {
-            let (value, left) = remove_older(&mut self.older, slot, place);
+            let (value, left) = self.tails.remove_at(slot, place - 1).unwrap();
             return (value, left + 1);
         }
-        let Some((next, left)) = pop_older(&mut self.older, slot) else {
+        let Some((next, left)) = self.tails.remove_at(slot, 0) else {
             return (self.heads.remove(&slot).unwrap(), 0);
         };
         (self.heads.replace(&slot, next), left + 1)
+    }
+
+    /// Removes the first value of an index key that has one, unless it stays. Returns how many values are left beside so many others.
+    #[inline]
+    fn drop_head(&mut self, slot: T::Key, stays: bool, others: usize) -> usize
+        requires held { 0 < length (list_at T.Key.cmp self.old slot) }
+        requires fits { others < usize.MAX }
+        ensures content { self.new
+            ≡ (if stays then self.old else with_list_by T.Key.cmp self.old slot (λ l. remove l 0)) }
+        ensures left { result ≡ others + (if stays then 1 else 0) }
+    {
+        if stays {
+            return others + 1;
+        }
+        self.remove_at(slot, 0);
+        others
     }
 
     /// Calls the closure once for each value of the index key, in list order, and removes those for which it returns false. Returns how
@@ -203,19 +247,11 @@ impl<T: Translator, V: Drop, M: Heads<T::Key, V>> Chains<T, V, M> {
             × (self.new ≡ with_list T.Key.cmp self.old slot kept)
             × (result.1 ≡ length kept) × (result.0 ≡ length old) × (result.1 ≤ result.0) }
     {
-        let Some(newest) = self.heads.get(&slot) else {
+        let Some(head) = self.heads.get(&slot) else {
             return (0, 0, true);
         };
-        let (newest_stays, had, left, stays) = retain_older(
-            &mut self.older,
-            slot,
-            newest,
-            should_retain,
-        );
-        if newest_stays {
-            return (had + 1, left + 1, stays);
-        }
-        self.remove_at(slot, 0);
+        let (head_stays, had, left, stays) = self.tails.retain(slot, head, should_retain);
+        let left = self.drop_head(slot, head_stays, left);
         (had + 1, left, stays)
     }
 
@@ -249,8 +285,8 @@ impl<T: Translator, V: Drop, M: Heads<T::Key, V>> Chains<T, V, M> {
         ensures refused { OnErr result (self.new ≡ self.old) }
         ensures returned { IfErr result (λ back. back ≡ value) }
     {
-        let Some(newest) = self.heads.get(&slot) else {
-            self.insert(slot, value)?;
+        let Some(head) = self.heads.get(&slot) else {
+            self.insert_first(slot, value)?;
             let (_, left, _) = self.retain_in_turn(slot, should_retain);
             return Ok(Retained {
                 had: 0,
@@ -258,23 +294,10 @@ impl<T: Translator, V: Drop, M: Heads<T::Key, V>> Chains<T, V, M> {
                 taken: 0,
             });
         };
-        let (newest_stays, had, left, stays) = insert_and_retain_older(
-            self.alloc,
-            &mut self.older,
-            slot,
-            value,
-            newest,
-            should_retain,
-        )?;
-        if newest_stays {
-            let taken = gone_of(had - left, stays);
-            return Ok(Retained {
-                had,
-                left: left + 1,
-                taken,
-            });
-        }
-        self.remove_at(slot, 0);
+        let (head_stays, had, left, stays) = self
+            .tails
+            .insert_and_retain(self.alloc, slot, head, value, should_retain)?;
+        let left = self.drop_head(slot, head_stays, left);
         let taken = gone_of(had + 1 - left, stays);
         Ok(Retained { had, left, taken })
     }
@@ -297,41 +320,59 @@ fn gone_of(removed: usize, stays: bool) -> usize
     if stays { removed } else { removed - 1 }
 }
 
-/// The values of a key with its newest value.
+/// The list of a key and its first value.
 #[inline]
-fn values_of<'a, K: Ord + Hash + Copy, V>(
-    older: &'a Older<K, V>,
+fn values_of<'a, K: Ord + Hash + Copy, V, E: End>(
+    tails: &'a Tails<K, V, E>,
     head: Option<(&'a K, &'a V)>,
 ) -> Option<Values<'a, V>>
-    ensures { result ≡ option_map (λ e. e.1 ∷ reverse (older_at K.eq older.now e.0))
-        (option_map deref_pair head.entry) }
+    ensures { result
+        ≡ option_map (λ e. e.1 ∷ tail_at E.FIRST K.eq tails.now.map e.0) (option_map deref_pair head.entry) }
 {
     match head {
-        Some((key, newest)) => Some(Values::newest_first(newest, older_of(older, *key))),
+        Some((key, head)) => Some(Values::with_first(head, tails.vector(*key), E::is_first())),
         None => None,
     }
 }
 
-impl<T: Translator, V: Drop, M: OrderedHeads<T::Key, V>> Chains<T, V, M> {
+impl<T: Translator, V: Drop, M: OrderedHeads<T::Key, V>, E: End> Chains<T, V, M, E> {
+    /// The list of the least key.
     #[inline]
     pub fn first(&self) -> Option<Values<'_, V>>
         ensures { result ≡ first_list self.now }
     {
-        values_of(&self.older, self.heads.first())
+        values_of(&self.tails, self.heads.first())
     }
 
+    /// The list of the greatest key.
     #[inline]
     pub fn last(&self) -> Option<Values<'_, V>>
         ensures { result ≡ last_list self.now }
     {
-        values_of(&self.older, self.heads.last())
+        values_of(&self.tails, self.heads.last())
+    }
+
+    /// The list of the least key above a key.
+    #[inline]
+    pub fn above(&self, slot: T::Key) -> Option<Values<'_, V>>
+        ensures { result ≡ first_list (entries_above T.Key.cmp self.now slot) }
+    {
+        values_of(&self.tails, self.heads.above(&slot))
+    }
+
+    /// The list of the greatest key below a key.
+    #[inline]
+    pub fn below(&self, slot: T::Key) -> Option<Values<'_, V>>
+        ensures { result ≡ last_list (entries_below T.Key.cmp self.now slot) }
+    {
+        values_of(&self.tails, self.heads.below(&slot))
     }
 
     #[inline]
     pub fn next(&self, slot: T::Key) -> Option<(Values<'_, V>, bool)>
         ensures { result ≡ next_list T.Key.cmp self.now slot }
     {
-        match values_of(&self.older, self.heads.above(&slot)) {
+        match self.above(slot) {
             Some(above) => Some((above, false)),
             None => match self.first() {
                 Some(first) => Some((first, true)),
@@ -344,7 +385,7 @@ impl<T: Translator, V: Drop, M: OrderedHeads<T::Key, V>> Chains<T, V, M> {
     pub fn prev(&self, slot: T::Key) -> Option<(Values<'_, V>, bool)>
         ensures { result ≡ prev_list T.Key.cmp self.now slot }
     {
-        match values_of(&self.older, self.heads.below(&slot)) {
+        match self.below(slot) {
             Some(below) => Some((below, false)),
             None => match self.last() {
                 Some(last) => Some((last, true)),
@@ -355,40 +396,107 @@ impl<T: Translator, V: Drop, M: OrderedHeads<T::Key, V>> Chains<T, V, M> {
 }
 
 /// Calls a closure once on each value, those of an index key one after another.
-fn visit_all<K: Ord + Hash + Copy, V, F: FnMut(&V)>(
+fn visit_all<K: Ord + Hash + Copy, V, F: FnMut(&V), E: End>(
     heads: &HashMap<K, V>,
-    older: &Older<K, V>,
+    tails: &Tails<K, V, E>,
     visit: &mut F,
 )
     requires callable { F.IsAlwaysCallable visit.old }
-    requires linked { IsLinked K.cmp heads.now.entries (older_at K.eq older.now) }
+    requires linked { IsLinked K.cmp heads.now.entries (tail_at E.FIRST K.eq tails.now.map) }
     ensures visits { VisitsEach (CalledAt F.FnMut) visit.old
-        (values_of (stored K.cmp K.eq heads.now.entries older.now)) visit.new }
+        (values_of (content_of K.cmp heads.now.entries (tail_at E.FIRST K.eq tails.now.map))) visit.new }
     ensures callable { F.IsAlwaysCallable visit.new }
 {
-    for (key, newest) in heads.iter() {
-        visit_in_turn(Values::newest_first(newest, older_of(older, *key)), visit);
+    for (key, head) in heads.iter() {
+        visit_in_turn(
+            Values::with_first(head, tails.vector(*key), E::is_first()),
+            visit,
+        );
     }
 }
 
-/// What `visit_all` does, of newest values in an array.
-fn visit_few<K: Ord + Hash + Copy, V, F: FnMut(&V)>(
+/// What `visit_all` does, of first values in an array.
+fn visit_few<K: Ord + Hash + Copy, V, F: FnMut(&V), E: End>(
     heads: &[(K, V)],
-    older: &Older<K, V>,
+    tails: &Tails<K, V, E>,
     visit: &mut F,
 )
     requires callable { F.IsAlwaysCallable visit.old }
-    requires linked { IsLinked K.cmp heads.now (older_at K.eq older.now) }
+    requires linked { IsLinked K.cmp heads.now (tail_at E.FIRST K.eq tails.now.map) }
     ensures visits { VisitsEach (CalledAt F.FnMut) visit.old
-        (values_of (stored K.cmp K.eq heads.now older.now)) visit.new }
+        (values_of (content_of K.cmp heads.now (tail_at E.FIRST K.eq tails.now.map))) visit.new }
     ensures callable { F.IsAlwaysCallable visit.new }
 {
-    for (key, newest) in heads.iter() {
-        visit_in_turn(Values::newest_first(newest, older_of(older, *key)), visit);
+    for (key, head) in heads.iter() {
+        visit_in_turn(
+            Values::with_first(head, tails.vector(*key), E::is_first()),
+            visit,
+        );
     }
 }
 
-impl<T: Translator, V: Drop> Chains<T, V, HashMap<T::Key, V>> {
+/// What `visit_all` does, of first values in an ordered map.
+fn visit_in_order<K: Ord + Hash + Copy, V, F: FnMut(&V), E: End>(
+    heads: &BTreeMap<K, V>,
+    tails: &Tails<K, V, E>,
+    visit: &mut F,
+)
+    requires callable { F.IsAlwaysCallable visit.old }
+    requires linked { IsLinked K.cmp heads.now.entries (tail_at E.FIRST K.eq tails.now.map) }
+    ensures visits { VisitsEach (CalledAt F.FnMut) visit.old
+        (values_of (content_of K.cmp heads.now.entries (tail_at E.FIRST K.eq tails.now.map))) visit.new }
+    ensures callable { F.IsAlwaysCallable visit.new }
+{
+    for (key, head) in heads.iter() {
+        visit_in_turn(
+            Values::with_first(head, tails.vector(*key), E::is_first()),
+            visit,
+        );
+    }
+}
+
+impl<T: Translator, V: Drop> Chains<T, V, BTreeMap<T::Key, V>, Back> {
+    /// Calls a closure once on each value.
+    pub fn visit_in_order<F: FnMut(&V)>(&self, visit: &mut F)
+        requires { F.IsAlwaysCallable visit.old }
+        ensures visits { VisitsEach (CalledAt F.FnMut) visit.old (values_of self.now) visit.new }
+        ensures callable { F.IsAlwaysCallable visit.new }
+    {
+        visit_in_order(&self.heads, &self.tails, visit);
+    }
+
+    /// Gives an index key without values a list: its first value and its tail. A refusal hands both back.
+    pub fn insert_list(&mut self, slot: T::Key, head: V, tail: Vec<V>) -> Result<(), (V, Vec<V>)>
+        requires { list_at T.Key.cmp self.old slot ≡ [] }
+        ensures accepted { OnOk result (self.new ≡ with_list T.Key.cmp self.old slot (head ∷ tail.items)) }
+        ensures refused { OnErr result (self.new ≡ self.old) }
+        ensures returned { IfErr result (λ back. (back.0 ≡ head) × (back.1 ≡ tail)) }
+    {
+        if let Err(head) = Heads::insert(&mut self.heads, slot, head) {
+            return Err((head, tail));
+        }
+        match self.tails.put(self.alloc, slot, tail) {
+            Ok(()) => Ok(()),
+            Err(tail) => Err((Heads::remove(&mut self.heads, &slot).unwrap(), tail)),
+        }
+    }
+
+    /// Removes the list of the least index key, and returns that key, the list's first value and its tail.
+    pub fn pop_first(&mut self) -> Option<(T::Key, V, Vec<V>)>
+        ensures some { IfSome result (λ list. self.old ≡ (list.0, list.1 ∷ list.2.items) ∷ self.new) }
+        ensures none { IfNone result (self.old ≡ []) }
+    {
+        // Its contract says that the keys rise.
+        let _len = self.heads.len();
+        let (slot, head) = self.heads.pop_first()?;
+        let Some(tail) = self.tails.take(slot) else {
+            return Some((slot, head, Vec::new(self.alloc)));
+        };
+        Some((slot, head, tail))
+    }
+}
+
+impl<T: Translator, V: Drop, E: End> Chains<T, V, HashMap<T::Key, V>, E> {
     /// Calls a closure once on each value.
     #[inline]
     pub fn for_each_value<F: FnMut(&V)>(&self, visit: &mut F)
@@ -396,11 +504,11 @@ impl<T: Translator, V: Drop> Chains<T, V, HashMap<T::Key, V>> {
         ensures visits { VisitsEach (CalledAt F.FnMut) visit.old (values_of self.now) visit.new }
         ensures callable { F.IsAlwaysCallable visit.new }
     {
-        visit_all(&self.heads, &self.older, visit);
+        visit_all(&self.heads, &self.tails, visit);
     }
 }
 
-impl<T: Translator, V: Drop> Chains<T, V, SmallMap<T::Key, V>> {
+impl<T: Translator, V: Drop, E: End> Chains<T, V, SmallMap<T::Key, V>, E> {
     /// Calls a closure once on each value.
     pub fn visit_values<F: FnMut(&V)>(&self, visit: &mut F)
         requires { F.IsAlwaysCallable visit.old }
@@ -408,8 +516,8 @@ impl<T: Translator, V: Drop> Chains<T, V, SmallMap<T::Key, V>> {
         ensures callable { F.IsAlwaysCallable visit.new }
     {
         match &self.heads.many {
-            Some(map) => visit_all(map, &self.older, visit),
-            None => visit_few(self.heads.few.as_slice(), &self.older, visit),
+            Some(map) => visit_all(map, &self.tails, visit),
+            None => visit_few(self.heads.few.as_slice(), &self.tails, visit),
         }
     }
 }

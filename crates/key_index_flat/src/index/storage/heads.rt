@@ -1,4 +1,4 @@
-//! A map from keys to the newest value of each, hashed or in the order of its keys.
+//! A map from keys to the first value of each list, hashed or in the order of its keys.
 ghost use Rattle.std.specs.Prelude.{◌≡◌, ◌+◌, List, Option, Some, None, IfOk, IfErr, OnOk, OnErr, is_some, IsSome, unwrap_or, not, if◌then◌else◌, length};
 ghost use Rattle.std.specs.List.Sorted.{IsStrictlySortedBy};
 ghost use Rattle.std.specs.Map.{keys_of};
@@ -14,7 +14,7 @@ use std::hash::Hash;
 use std::mem::replace;
 use std::ops::Bound;
 
-/// A map from keys to the newest value of each.
+/// A map from keys to the first value of each.
 pub trait Heads<K: Ord + Hash + Copy, V> {
     ghost entries: { Self → List (K × V) };
 
@@ -37,12 +37,13 @@ pub trait Heads<K: Ord + Hash + Copy, V> {
         ensures refused { OnErr result (entries self.new ≡ entries self.old) }
         ensures returned { IfErr result (λ back. back ≡ value) };
 
-    /// Puts a value at a key that has none, and tells whether it did. The value of a key that has one stays. A refusal, which comes
-    /// at an absent key alone, hands the value back.
-    fn insert_absent(&mut self, key: K, value: V) -> Result<bool, V>
+    /// Puts a value at a key that has none. The value of a key that has one stays, and the other comes back, as it does with a refusal,
+    /// which comes at an absent key alone.
+    fn insert_absent(&mut self, key: K, value: V) -> Result<Option<V>, V>
     where
         V: Drop,
-        ensures inserted { IfOk result (λ b. b ≡ not (is_some (value_of K.cmp (entries self.old) key))) }
+        ensures back { IfOk result (λ back.
+            back ≡ (if is_some (value_of K.cmp (entries self.old) key) then Some value else None)) }
         ensures at { OnOk result (value_of K.cmp (entries self.new) key
             ≡ Some (unwrap_or (value_of K.cmp (entries self.old) key) value)) }
         ensures others { SameBut K.cmp (value_of K.cmp (entries self.old)) (value_of K.cmp (entries self.new)) key }
@@ -93,7 +94,7 @@ impl<K: Ord + Hash + Copy, V> Heads<K, V> for HashMap<K, V> {
     }
 
     #[inline]
-    fn insert_absent(&mut self, key: K, value: V) -> Result<bool, V>
+    fn insert_absent(&mut self, key: K, value: V) -> Result<Option<V>, V>
     where
         V: Drop,
     {
@@ -111,14 +112,14 @@ impl<K: Ord + Hash + Copy, V> Heads<K, V> for HashMap<K, V> {
     }
 }
 
-/// Puts a value at a key that has none, and tells whether it did.
+/// Puts a value at a key that has none. The value of a key that has one stays, and the other comes back.
 #[inline]
 fn put_absent<K: Ord + Hash + Copy, V: Drop>(
     map: &mut HashMap<K, V>,
     key: K,
     value: V,
-) -> Result<bool, V>
-    ensures inserted { IfOk result (λ b. b ≡ not (is_some (get K.eq map.old key))) }
+) -> Result<Option<V>, V>
+    ensures back { IfOk result (λ back. back ≡ (if is_some (get K.eq map.old key) then Some value else None)) }
     ensures at { OnOk result (get K.eq map.new key ≡ Some (unwrap_or (get K.eq map.old key) value)) }
     ensures others { SameBut K.cmp (get K.eq map.old) (get K.eq map.new) key }
     ensures len { OnOk result (hash_map_len map.new
@@ -131,11 +132,11 @@ fn put_absent<K: Ord + Hash + Copy, V: Drop>(
         Err(_) => Err(value),
         Ok(Entry::Occupied(held)) => {
             held.into_mut();
-            Ok(false)
+            Ok(Some(value))
         }
         Ok(Entry::Vacant(entry)) => {
             entry.insert(value);
-            Ok(true)
+            Ok(None)
         }
     }
 }
@@ -177,7 +178,7 @@ impl<K: Ord + Hash + Copy, V> Heads<K, V> for BTreeMap<K, V> {
     }
 
     #[inline]
-    fn insert_absent(&mut self, key: K, value: V) -> Result<bool, V>
+    fn insert_absent(&mut self, key: K, value: V) -> Result<Option<V>, V>
     where
         V: Drop,
     {
@@ -185,11 +186,11 @@ impl<K: Ord + Hash + Copy, V> Heads<K, V> for BTreeMap<K, V> {
             Err(_) => Err(value),
             Ok(btree_map::Entry::Occupied(entry)) => {
                 entry.into_mut();
-                Ok(false)
+                Ok(Some(value))
             }
             Ok(btree_map::Entry::Vacant(entry)) => {
                 entry.insert(value);
-                Ok(true)
+                Ok(None)
             }
         }
     }
@@ -205,7 +206,7 @@ impl<K: Ord + Hash + Copy, V> Heads<K, V> for BTreeMap<K, V> {
     }
 }
 
-/// A map of newest values whose keys are in order. Each call takes a number of comparisons that is logarithmic in the keys.
+/// A map of first values whose keys are in order. Each call takes a number of comparisons that is logarithmic in the keys.
 pub trait OrderedHeads<K: Ord + Hash + Copy, V>: Heads<K, V> {
     fn first(&self) -> Option<(&K, &V)>
         ensures entry { option_map deref_pair result ≡ first_entry (Self.entries self.now) }

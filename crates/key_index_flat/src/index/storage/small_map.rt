@@ -333,7 +333,7 @@ impl<K: Ord + Hash + Copy, V> Heads<K, V> for SmallMap<K, V> {
     }
 
     #[inline(always)]
-    fn insert_absent(&mut self, key: K, value: V) -> Result<bool, V>
+    fn insert_absent(&mut self, key: K, value: V) -> Result<Option<V>, V>
     where
         V: Drop,
     {
@@ -341,10 +341,10 @@ impl<K: Ord + Hash + Copy, V> Heads<K, V> for SmallMap<K, V> {
             return Heads::insert_absent(&mut **map, key, value);
         }
         if self.few.get(&key).is_some() {
-            return Ok(false);
+            return Ok(Some(value));
         }
         match self.put(key, value) {
-            Ok(()) => Ok(true),
+            Ok(()) => Ok(None),
             Err(value) => Err(value),
         }
     }

@@ -1,22 +1,22 @@
 //! A bucket as sorted arrays.
-ghost use Rattle.std.specs.Prelude.{◌≡◌, List, true, false, length, map, IfOk};
+ghost use Rattle.std.specs.Prelude.{◌≡◌, List, [], true, false, length};
 ghost use Rattle.std.specs.Fn.{CalledAt};
 ghost use Rattle.key_index_flat.specs.Content.{item_count, list_at, with_list};
 ghost use Rattle.key_index_flat.specs.Retention.{AsksInTurn};
-ghost use Rattle.key_index_parts.specs.Pairs.{IsFound, grouped, list_of, room_of, room_for};
+ghost use Rattle.key_index_parts.specs.Pairs.{IsFound, grouped};
 
 use super::{EditBucket, Form, Held, OrderedBucket, ReadBucket};
 use crate::index::partitioned::ordered::partition::Partition;
 use key_index_flat::index::Values;
 use key_index_flat::index::implement::Retained;
 use key_index_flat::translator::Translator;
-use std::alloc::{AllocError, Global};
+use std::alloc::Global;
 use std::ops::Range;
 
 /// A bucket as sorted arrays: each key once for each of its values.
 #[derive(Drop)]
 pub struct Arrays<T: Translator, V> {
-    pairs: Partition<T::Key, V>,
+    pub(super) pairs: Partition<T::Key, V>,
 }
 
 /// Calls the closure once for each value of a key's run, removes those for which it returns false, and tells how many are left, and what it
@@ -52,34 +52,21 @@ fn retain_run<T: Translator, V: Drop, F: FnMut(&V) -> bool>(
 }
 
 impl<T: Translator, V: Drop> Arrays<T, V> {
-    /// The arrays of some pairs.
+    /// Arrays that hold nothing. Takes no memory.
     #[inline]
-    pub(super) fn of_pairs(pairs: Partition<T::Key, V>) -> Arrays<T, V>
-        ensures { result.pairs ≡ pairs }
+    pub(super) fn new(alloc: Global) -> Arrays<T, V>
+        ensures pairs { result.pairs.pairs ≡ [] }
+        ensures room { result.pairs.room ≡ 0 }
     {
-        Arrays { pairs }
+        Arrays {
+            pairs: Partition::new(alloc),
+        }
     }
 
     /// Where the arrays take their memory.
     #[inline]
     pub(super) fn alloc(&self) -> Global {
         self.pairs.alloc()
-    }
-
-    /// Each key once, with room for exactly its values and none of them yet.
-    pub(super) fn empty_runs(&self) -> Result<Vec<(T::Key, Vec<V>)>, AllocError>
-        ensures { IfOk result (λ runs.
-            map room_of runs.items ≡ map room_for (grouped T.Key.cmp self.now.pairs.pairs)) }
-    {
-        self.pairs.empty_runs()
-    }
-
-    /// Moves all values to such room, without growth, and gives the memory of the arrays back.
-    pub(super) fn drain_into(&mut self, runs: &mut Vec<(T::Key, Vec<V>)>)
-        requires { map room_of runs.old.items ≡ map room_for (grouped T.Key.cmp self.old.pairs.pairs) }
-        ensures { map list_of runs.new.items ≡ grouped T.Key.cmp self.old.pairs.pairs }
-    {
-        self.pairs.drain_into(runs);
     }
 
     /// How many values stand in the arrays.

@@ -4,14 +4,14 @@ ghost use Rattle.key_index_flat.specs.Content.{IsLawful, is_filled, item_count, 
 
 use super::{Bucket, EditBucket, Held, ReadBucket};
 use key_index_flat::index::Values;
-use key_index_flat::index::implement::{Chains, Retained, SmallMap};
+use key_index_flat::index::implement::{Chains, Front, Retained, SmallMap};
 use key_index_flat::translator::Translator;
 use std::alloc::{AllocError, Global};
 
 /// A bucket as lists whose newest values stand in one array while they are few.
 #[derive(Drop)]
 pub struct Chained<T: Translator, V> {
-    chains: Chains<T, V, SmallMap<T::Key, V>>,
+    chains: Chains<T, V, SmallMap<T::Key, V>, Front>,
     ghost lawful: { IsLawful T.Key.cmp chains },
 }
 

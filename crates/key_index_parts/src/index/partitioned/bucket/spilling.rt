@@ -1,11 +1,9 @@
 //! A bucket as sorted arrays or, spilled, as a tree.
-ghost use Rattle.std.specs.Prelude.{◌≡◌, ◌≤◌, ◌<◌, true, false, is_some, [], map, None, IfOk, OnOk, OnErr};
-ghost use Rattle.std.specs.BTreeMap.{get, insert_entry};
-ghost use Rattle.std.specs.List.Sorted.{IsStrictlySortedBy};
-ghost use Rattle.std.specs.Map.{keys_of};
+ghost use Rattle.std.specs.Prelude.{◌≡◌, ◌≤◌, ◌<◌, ◌++◌, true, false, is_some, [], IfOk, OnOk, OnErr};
 ghost use Rattle.key_index_flat.specs.Content.{IsLawful, item_count};
 ghost use Rattle.key_index_parts.specs.Family.{stays_spilled};
-ghost use Rattle.key_index_parts.specs.Pairs.{grouped, list_of};
+ghost use Rattle.key_index_parts.specs.Pairs.{grouped};
+ghost use Rattle.key_index_parts.specs.Spread.{AreBelow, spread};
 ghost use Rattle.key_index_parts.specs.Spilled.{HoldsSome, HoldsSome-prop, held_by};
 
 use super::arrays::Arrays;
@@ -13,7 +11,7 @@ use super::tree::Tree;
 use super::{Bucket, EditBucket, Form, Held, OrderedBucket, ReadBucket};
 use crate::index::partitioned::ordered::partition::Partition;
 use key_index_flat::index::Values;
-use key_index_flat::index::implement::Retained;
+use key_index_flat::index::implement::{Back, Chains, Retained};
 use key_index_flat::translator::Translator;
 use std::alloc::{AllocError, Global};
 use std::collections::BTreeMap;
@@ -23,67 +21,43 @@ use std::collections::BTreeMap;
 pub struct Spilling<T: Translator, V> {
     arrays: Arrays<T, V>,
     tree: Option<Box<Tree<T, V>>>,
-    ghost filled: { HoldsSome (λ t. map list_of t.lists.entries) tree } by { HoldsSome-prop _ tree },
+    ghost filled: { HoldsSome (λ t. t.lists) tree } by { HoldsSome-prop _ tree },
 }
 
-/// Puts a list at a key. A refusal comes at an absent key alone.
-fn put<K: Ord + Copy, V: Drop>(
-    lists: &mut BTreeMap<K, Vec<V>>,
-    key: K,
-    values: Vec<V>,
+/// Moves the runs of arrays in front of some lists, the last one first. The arrays keep their memory; a failure leaves some in each.
+fn lift_runs<T: Translator, V: Drop>(
+    arrays: &mut Partition<T::Key, V>,
+    lists: &mut Chains<T, V, BTreeMap<T::Key, V>, Back>,
 ) -> Result<(), AllocError>
-    ensures accepted { OnOk result (lists.new.entries ≡ insert_entry K.cmp lists.old.entries key values) }
-    ensures absent { OnErr result (get K.cmp lists.old key ≡ None) }
+    requires empty { lists.old ≡ [] }
+    ensures whole { arrays.new.pairs ++ spread lists.new ≡ arrays.old.pairs }
+    ensures emptied { OnOk result (arrays.new.pairs ≡ []) }
+    ensures room { item_count lists.new ≤ arrays.new.room }
+    ensures apart { AreBelow T.Key.cmp arrays.new.pairs lists.new }
+    ensures lawful { IsLawful T.Key.cmp lists.new }
 {
-    match lists.insert(key, values) {
-        Ok(_) => Ok(()),
-        Err(_) => Err(AllocError),
-    }
-}
-
-/// An ordered map with the key of each run, and no values.
-fn with_keys<K: Ord + Copy, V: Drop>(
-    alloc: Global,
-    runs: &[(K, Vec<V>)],
-) -> Result<BTreeMap<K, Vec<V>>, AllocError>
-    requires { IsStrictlySortedBy K.cmp (keys_of runs.now) }
-    ensures { IfOk result (λ lists. keys_of lists.entries ≡ keys_of runs.now) }
-{
-    let mut lists = BTreeMap::new(alloc);
-    let mut rest = runs;
-    'runs: while let Some((run, behind)) = rest.split_first() {
-        let Ok(()) = put(&mut lists, run.0, Vec::new(alloc)) else {
+    'runs: while !arrays.is_empty() {
+        let (key, head, tail) = arrays.pop_run()?;
+        if let Err((head, tail)) = lists.insert_list(key, head, tail) {
+            arrays.push_run(key, head, tail);
             return Err(AllocError);
-        };
-        rest = behind;
+        }
     }
-    Ok(lists)
+    Ok(())
 }
 
-/// Gives each key of a map its run, without growth.
-fn fill_tree<K: Ord + Copy, V: Drop>(lists: &mut BTreeMap<K, Vec<V>>, runs: Vec<(K, Vec<V>)>)
-    requires keys { keys_of lists.old.entries ≡ keys_of runs.items }
-    requires rising { IsStrictlySortedBy K.cmp (keys_of runs.items) }
-    ensures { lists.new.entries ≡ runs.items }
+/// Moves lists behind the pairs of arrays that have room for them, without growth.
+fn lower_lists<T: Translator, V: Drop>(
+    lists: &mut Chains<T, V, BTreeMap<T::Key, V>, Back>,
+    arrays: &mut Partition<T::Key, V>,
+)
+    requires room { item_count lists.old ≤ arrays.old.room }
+    requires apart { AreBelow T.Key.cmp arrays.old.pairs lists.old }
+    requires lawful { IsLawful T.Key.cmp lists.old }
+    ensures { arrays.new.pairs ≡ arrays.old.pairs ++ spread lists.old }
 {
-    let mut rest = runs.into_iter();
-    'runs: while let Some((key, values)) = rest.next() {
-        let Ok(()) = put(lists, key, values) else {
-            unreachable!()
-        };
-    }
-}
-
-/// Moves the lists of a map to arrays that have room for them, without growth.
-fn fill_arrays<K: Ord + Copy, V: Drop>(arrays: &mut Partition<K, V>, lists: BTreeMap<K, Vec<V>>)
-    requires empty { arrays.old.pairs ≡ [] }
-    requires lawful { IsLawful K.cmp (map list_of lists.entries) }
-    requires room { item_count (map list_of lists.entries) ≤ arrays.old.room }
-    ensures { grouped K.cmp arrays.new.pairs ≡ map list_of lists.entries }
-{
-    let mut rest = lists.into_iter();
-    'lists: while let Some((key, values)) = rest.next() {
-        arrays.push_run(key, values);
+    'lists: while let Some((key, head, tail)) = lists.pop_first() {
+        arrays.push_run(key, head, tail);
     }
 }
 
@@ -92,87 +66,72 @@ fn drop_emptied<T: Translator, V: Drop>(
     arrays: &mut Arrays<T, V>,
     tree: &mut Option<Box<Tree<T, V>>>,
 )
-    ensures content { held_by (λ t. map list_of t.lists.entries) tree.new (grouped T.Key.cmp arrays.new.pairs.pairs)
-        ≡ held_by (λ t. map list_of t.lists.entries) tree.old (grouped T.Key.cmp arrays.old.pairs.pairs) }
+    ensures content { held_by (λ t. t.lists) tree.new (grouped T.Key.cmp arrays.new.pairs.pairs)
+        ≡ held_by (λ t. t.lists) tree.old (grouped T.Key.cmp arrays.old.pairs.pairs) }
     ensures standing { is_some tree.new ≡ stays_spilled (is_some tree.old)
-        (held_by (λ t. map list_of t.lists.entries) tree.new (grouped T.Key.cmp arrays.new.pairs.pairs)) }
-    ensures filled { HoldsSome (λ t. map list_of t.lists.entries) tree.new }
+        (held_by (λ t. t.lists) tree.new (grouped T.Key.cmp arrays.new.pairs.pairs)) }
+    ensures filled { HoldsSome (λ t. t.lists) tree.new }
 {
     let emptied = match &*tree {
         Some(tree) => tree.is_empty(),
         None => false,
     };
     if emptied {
-        *arrays = Arrays::of_pairs(Partition::new(arrays.alloc()));
+        *arrays = Arrays::new(arrays.alloc());
         *tree = None;
     }
 }
 
-/// Moves the values of arrays to a tree, and gives the memory of the arrays back. All that this takes it takes before the first value
-/// moves: for each key a list with room for its values, an ordered map with each key and no values, and the box that keeps it.
-fn spill<T: Translator, V: Drop>(arrays: &mut Arrays<T, V>) -> Result<Box<Tree<T, V>>, AllocError>
-    ensures tree { IfOk result (λ tree. map list_of tree.value.lists.entries
-        ≡ grouped T.Key.cmp arrays.old.pairs.pairs) }
-    ensures refused { OnErr result (arrays.new ≡ arrays.old) }
+/// Moves the values of arrays to a tree, all or none. The arrays keep their memory, so that the values can move back.
+fn lift<T: Translator, V: Drop>(arrays: &mut Arrays<T, V>) -> Result<Box<Tree<T, V>>, AllocError>
+    ensures tree { IfOk result (λ tree. tree.value.lists ≡ grouped T.Key.cmp arrays.old.pairs.pairs) }
+    ensures emptied { OnOk result (arrays.new.pairs.pairs ≡ []) }
+    ensures room { OnOk result (item_count (grouped T.Key.cmp arrays.old.pairs.pairs) ≤ arrays.new.pairs.room) }
+    ensures refused { OnErr result (arrays.new.pairs.pairs ≡ arrays.old.pairs.pairs) }
 {
     let alloc = arrays.alloc();
     let len = arrays.len();
-    let mut runs = arrays.empty_runs()?;
-    let mut lists = with_keys(alloc, runs.as_slice())?;
-    let Ok(mut tree) = Box::new(alloc, Tree::of_lists(alloc, BTreeMap::new(alloc), 0)) else {
+    let Ok(mut tree) = Box::new(alloc, Tree::new(alloc)) else {
         return Err(AllocError);
     };
-    arrays.drain_into(&mut runs);
-    fill_tree(&mut lists, runs);
-    *tree = Tree::of_lists(alloc, lists, len);
-    Ok(tree)
-}
-
-/// As `spill`, with arrays beside the tree that hold nothing and have room for all values, so that they can move back.
-fn lift<T: Translator, V: Drop>(
-    arrays: &mut Arrays<T, V>,
-) -> Result<(Box<Tree<T, V>>, Partition<T::Key, V>), AllocError>
-    ensures tree { IfOk result (λ told. map list_of told.0.value.lists.entries
-        ≡ grouped T.Key.cmp arrays.old.pairs.pairs) }
-    ensures spare { IfOk result (λ told. (told.1.pairs ≡ [])
-        × (item_count (grouped T.Key.cmp arrays.old.pairs.pairs) ≤ told.1.room)) }
-    ensures refused { OnErr result (arrays.new ≡ arrays.old) }
-{
-    let mut spare = Partition::new(arrays.alloc());
-    if spare.reserve(arrays.len()).is_err() {
-        return Err(AllocError);
+    let mut lists = Chains::new(alloc, BTreeMap::new(alloc));
+    match lift_runs(&mut arrays.pairs, &mut lists) {
+        Ok(()) => {
+            *tree = Tree::of_lists(lists, len);
+            Ok(tree)
+        }
+        Err(failed) => {
+            lower_lists(&mut lists, &mut arrays.pairs);
+            Err(failed)
+        }
     }
-    let tree = spill(arrays)?;
-    Ok((tree, spare))
 }
 
-/// Moves the values of a tree to arrays that have room for them, without growth.
-fn lower<T: Translator, V: Drop>(
-    tree: Box<Tree<T, V>>,
-    mut spare: Partition<T::Key, V>,
-) -> Arrays<T, V>
-    requires empty { spare.pairs ≡ [] }
-    requires room { item_count (map list_of tree.value.lists.entries) ≤ spare.room }
-    ensures { grouped T.Key.cmp result.pairs.pairs ≡ map list_of tree.value.lists.entries }
+/// Moves the values of a tree to arrays that hold nothing and have room for them, without growth.
+fn lower<T: Translator, V: Drop>(tree: Box<Tree<T, V>>, arrays: &mut Arrays<T, V>)
+    requires empty { arrays.old.pairs.pairs ≡ [] }
+    requires room { item_count tree.value.lists ≤ arrays.old.pairs.room }
+    ensures { grouped T.Key.cmp arrays.new.pairs.pairs ≡ tree.value.lists }
 {
-    fill_arrays(&mut spare, Box::into_inner(tree).into_lists());
-    Arrays::of_pairs(spare)
+    let mut lists = Box::into_inner(tree).into_lists();
+    lower_lists(&mut lists, &mut arrays.pairs);
 }
 
 impl<T: Translator, V> Held<T, V> for Spilling<T, V> {
     ghost use Rattle.key_index_parts.specs.laws.PairLaws.{IsLawful-grouped};
+    ghost use Rattle.key_index_parts.specs.Spread.{AreBelow, spread};
     ghost use Rattle.key_index_parts.specs.Spilled.{IsLawful-held_by, filled-held_by};
 
-    ghost content = { λ bucket. held_by (λ t. map list_of t.lists.entries) bucket.tree
+    ghost content = { λ bucket. held_by (λ t. t.lists) bucket.tree
         (grouped T.Key.cmp bucket.arrays.pairs.pairs) };
 
     ghost spilled = { λ bucket. is_some bucket.tree };
 
-    ghost lawful = { λ bucket. IsLawful-held_by (λ t. map list_of t.lists.entries) T.Key.cmp
-        (λ t. t.lawful) bucket.tree (grouped T.Key.cmp bucket.arrays.pairs.pairs)
+    ghost lawful = { λ bucket. IsLawful-held_by (λ t. t.lists) T.Key.cmp
+        (λ t. t.counted.lawful) bucket.tree (grouped T.Key.cmp bucket.arrays.pairs.pairs)
         (IsLawful-grouped T.Key.total bucket.arrays.pairs.pairs) };
 
-    ghost filled = { λ bucket h. filled-held_by (λ t. map list_of t.lists.entries) bucket.tree
+    ghost filled = { λ bucket h. filled-held_by (λ t. t.lists) bucket.tree
         (grouped T.Key.cmp bucket.arrays.pairs.pairs) bucket.filled h };
 }
 
@@ -273,7 +232,7 @@ impl<T: Translator, V: Drop> Bucket<T, V> for Spilling<T, V> {
 
     fn new(alloc: Global, _translator: T) -> Spilling<T, V> {
         Spilling {
-            arrays: Arrays::of_pairs(Partition::new(alloc)),
+            arrays: Arrays::new(alloc),
             tree: None,
         }
     }
@@ -293,7 +252,8 @@ impl<T: Translator, V: Drop> Bucket<T, V> for Spilling<T, V> {
 
     #[inline(never)]
     fn spill(&mut self) -> Result<(), AllocError> {
-        let tree = spill(&mut self.arrays)?;
+        let tree = lift(&mut self.arrays)?;
+        self.arrays = Arrays::new(self.arrays.alloc());
         self.tree = Some(tree);
         Ok(())
     }
@@ -311,12 +271,13 @@ impl<T: Translator, V: Drop> Bucket<T, V> for Spilling<T, V> {
         let Some(tree) = self.tree.take() else {
             return Ok(());
         };
-        let mut spare = Partition::new(self.arrays.alloc());
-        if spare.reserve(tree.len()).is_err() {
+        let mut arrays = Arrays::new(self.arrays.alloc());
+        if arrays.pairs.reserve(tree.len()).is_err() {
             self.tree = Some(tree);
             return Err(AllocError);
         }
-        self.arrays = lower(tree, spare);
+        lower(tree, &mut arrays);
+        self.arrays = arrays;
         Ok(())
     }
 
@@ -329,17 +290,18 @@ impl<T: Translator, V: Drop> Bucket<T, V> for Spilling<T, V> {
             let absent = self.arrays.insert(key, value)?;
             return Ok((absent, 0));
         }
-        let Ok((mut tree, spare)) = lift(&mut self.arrays) else {
+        let Ok(mut tree) = lift(&mut self.arrays) else {
             return Err(value);
         };
         match tree.insert(key, value) {
             Ok(absent) => {
                 let moved = tree.len();
+                self.arrays = Arrays::new(self.arrays.alloc());
                 self.tree = Some(tree);
                 Ok((absent, moved))
             }
             Err(value) => {
-                self.arrays = lower(tree, spare);
+                lower(tree, &mut self.arrays);
                 Err(value)
             }
         }
@@ -372,21 +334,22 @@ impl<T: Translator, V: Drop> Bucket<T, V> for Spilling<T, V> {
             let told = self.arrays.insert_and_retain(key, value, should_retain)?;
             return Ok((told, 0));
         }
-        let Ok((mut tree, spare)) = lift(&mut self.arrays) else {
+        let Ok(mut tree) = lift(&mut self.arrays) else {
             return Err(value);
         };
         match tree.insert_and_retain(key, value, should_retain) {
             Ok(told) => {
                 let left = tree.len();
                 if left < limit {
-                    self.arrays = lower(tree, spare);
+                    lower(tree, &mut self.arrays);
                     return Ok((told, 0));
                 }
+                self.arrays = Arrays::new(self.arrays.alloc());
                 self.tree = Some(tree);
                 Ok((told, left))
             }
             Err(value) => {
-                self.arrays = lower(tree, spare);
+                lower(tree, &mut self.arrays);
                 Err(value)
             }
         }

@@ -1,10 +1,12 @@
 //! One partition: its keys in order, and beside each key a value.
-ghost use Rattle.std.specs.Prelude.{◌≡◌, ◌+◌, ◌-◌, ◌<◌, ◌≤◌, List, [], ◌++◌, replicate, length, min, slice_get, insert, remove, Some, IsOk, IfOk, IfErr, OnOk, OnErr, map, take, drop, vec_len};
+ghost use Rattle.std.specs.Prelude.{◌≡◌, ◌+◌, ◌-◌, ◌<◌, ◌≤◌, List, [], ◌++◌, ◌∷◌, All, false, replicate, length, min, slice_get, insert, remove, Some, IsOk, IfOk, IfErr, OnOk, OnErr, map, take, drop, vec_len};
 ghost use Rattle.std.specs.Bool.{◌==◌, Decides};
 ghost use Rattle.std.specs.List.{flat_map, zip, slice_range, remove_range};
 ghost use Rattle.std.specs.List.Sorted.{IsSorted};
 ghost use Rattle.std.specs.Map.{keys_of, values_of};
 ghost use Rattle.std.specs.Option.{option_copied};
+ghost use Rattle.std.specs.Ordering.{is_lt};
+ghost use Rattle.std.specs.declared.cmp.Ordering.TheVariants.{Equal, Less};
 ghost use Rattle.std.specs.Slice.Iter.{iter_rest};
 ghost use Rattle.std.specs.Vec.{vec_capacity};
 ghost use Rattle.std.specs.Vec.Iter.{into_iter_items};
@@ -179,6 +181,25 @@ fn reserve_in_turn<A, B>(
         return Err(Fault::Memory);
     }
     Ok(())
+}
+
+/// Moves the values from a place on to a vector of their own, which has room for exactly them. A refusal leaves all.
+fn split_off<V: Drop>(alloc: Global, values: &mut Vec<V>, at: usize) -> Result<Vec<V>, AllocError>
+    requires { at ≤ length values.old.items }
+    ensures left { OnOk result (values.new.items ≡ take at values.old.items) }
+    ensures moved { IfOk result (λ tail. tail.items ≡ drop at values.old.items) }
+    ensures capacity { vec_capacity values.new ≡ vec_capacity values.old }
+    ensures refused { OnErr result (values.new.items ≡ values.old.items) }
+{
+    let mut tail = Vec::with_capacity(alloc, values.len() - at)?;
+    'values: while values.len() > at {
+        let Some(value) = values.pop() else {
+            unreachable!()
+        };
+        tail.push_reserved(value);
+    }
+    tail.reverse();
+    Ok(tail)
 }
 
 /// Puts a key in behind so many times.
@@ -399,10 +420,12 @@ impl<K: Ord + Copy, V: Drop> Partition<K, V> {
         ensures refused { OnErr result (self.new ≡ self.old) }
         ensures fault { IfErr result (λ fault. fault ≡ Fault.Memory) }
     {
-        let Ok(mut runs) = self.empty_runs() else {
+        let alloc = self.alloc();
+        let Ok(mut runs) = empty_runs(alloc, self.keys.as_slice()) else {
             return Err(Fault::Memory);
         };
-        self.drain_into(&mut runs);
+        self.keys = Vec::new(alloc);
+        fill_runs(&mut runs, replace(&mut self.values, Vec::new(alloc)));
         Ok(runs)
     }
 
@@ -412,34 +435,36 @@ impl<K: Ord + Copy, V: Drop> Partition<K, V> {
         *self.keys.allocator()
     }
 
-    /// What `drain_runs` takes before the first value moves: each key once, with room for exactly its values and none of them yet.
-    pub(crate) fn empty_runs(&self) -> Result<Vec<(K, Vec<V>)>, AllocError>
-        ensures { IfOk result (λ runs. map room_of runs.items ≡ map room_for (grouped K.cmp self.now.pairs)) }
+    /// Takes the run of the greatest key out: the key, its first value, and the others. A refusal leaves all pairs.
+    pub(crate) fn pop_run(&mut self) -> Result<(K, V, Vec<V>), AllocError>
+        requires some { 0 < length self.old.pairs }
+        requires exact { (a b : K) → K.cmp a b ≡ Equal → a ≡ b }
+        ensures run { IfOk result (λ run.
+            self.old.pairs ≡ self.new.pairs ++ pairs_with run.0 (run.1 ∷ run.2.items)) }
+        ensures below { IfOk result (λ run. All (λ k. K.cmp k run.0 ≡ Less) (keys_of self.new.pairs)) }
+        ensures room { IfOk result (λ run. self.new.room ≡ self.old.room + (1 + length run.2.items)) }
+        ensures refused { OnErr result (self.new ≡ self.old) }
     {
-        empty_runs(self.alloc(), self.keys.as_slice())
-    }
-
-    /// Moves all values to such room, without growth, and gives the memory of the pairs back.
-    pub(crate) fn drain_into(&mut self, runs: &mut Vec<(K, Vec<V>)>)
-        requires { map room_of runs.old.items ≡ map room_for (grouped K.cmp self.old.pairs) }
-        ensures runs { map list_of runs.new.items ≡ grouped K.cmp self.old.pairs }
-        ensures emptied { self.new.pairs ≡ [] }
-        ensures room { self.new.room ≡ 0 }
-    {
-        let alloc = self.alloc();
-        self.keys = Vec::new(alloc);
-        fill_runs(runs, replace(&mut self.values, Vec::new(alloc)));
+        let keys = self.keys.as_slice();
+        let key = keys[keys.len() - 1];
+        let start = last_start(keys, &key);
+        let tail = split_off(*self.keys.allocator(), &mut self.values, start + 1)?;
+        let Some(head) = self.values.pop() else {
+            unreachable!()
+        };
+        self.keys.truncate(start);
+        Ok((key, head, tail))
     }
 
     /// Puts a run in behind all pairs. It has room for them, so it takes no memory, and moves no pair that it holds.
-    pub(crate) fn push_run(&mut self, key: K, mut values: Vec<V>)
-        requires room { length values.items ≤ self.old.room }
-        requires sorted { IsSorted K.cmp (keys_of self.old.pairs ++ replicate (length values.items) key) }
-        ensures pairs { self.new.pairs ≡ self.old.pairs ++ pairs_with key values.items }
-        ensures room { self.old.room ≤ self.new.room + length values.items }
+    pub(crate) fn push_run(&mut self, key: K, head: V, mut tail: Vec<V>)
+        requires room { 1 + length tail.items ≤ self.old.room }
+        requires last { All (λ k. is_lt (K.cmp key k) ≡ false) (keys_of self.old.pairs) }
+        ensures pairs { self.new.pairs ≡ self.old.pairs ++ pairs_with key (head ∷ tail.items) }
+        ensures room { self.old.room ≤ self.new.room + (1 + length tail.items) }
     {
-        push_times(&mut self.keys, key, values.len());
-        let Ok(()) = self.values.append(&mut values) else {
+        push_times(&mut self.keys, key, 1 + tail.len());
+        let (Ok(()), Ok(())) = (self.values.push(head), self.values.append(&mut tail)) else {
             unreachable!()
         };
     }

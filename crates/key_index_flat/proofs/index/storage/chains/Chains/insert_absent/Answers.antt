@@ -1,28 +1,46 @@
 use Rattle.std.proofs.Common.{◌+◌, length, refl, sym, ap, ◌∙◌}
-use Rattle.key_index_flat.specs.Storage.{older_at}
-use Rattle.key_index_flat.proofs.content.ChainLemmas.{put_absent, left_present}
+use Rattle.key_index_flat.specs.Storage.{tail_at}
+use Rattle.key_index_flat.proofs.content.ChainLemmas.{put_absent, left_present, none_back, some_back}
 use Rattle.key_index_flat.proofs.index.storage.chains.Chains.insert_absent.Goals as goal
 
-pub invariant_of-self-then-branch : goal.invariant_of-self-then-branch
-invariant_of-self-then-branch g c =
-    (put_absent g.met.T.Key.Ord.total g.met.T.Translator.exact (g.M.Heads.entries c.self.inside.heads) (g.M.Heads.entries c.insert_absent.new.self) (older_at g.T.Key.PartialEq.eq c.self.inside.older) (older_at g.T.Key.PartialEq.eq c.self.inside.older) c.args.slot c.self.invariant c.args.value c.in_ok-insert_absent.ensures.at c.insert_absent.ensures.others c.in_ok-insert_absent.ensures.len (λ q. refl) (sym c.in_ok-insert_absent.ensures.inserted ∙ c.if-branch.true)).1.linked
+pub invariant_of-self-in_default : goal.invariant_of-self-in_default
+invariant_of-self-in_default g c =
+    let tail = tail_at g.E.End.FIRST g.T.Key.PartialEq.eq c.self.inside.tails.map in
+    let put = put_absent g.met.T.Key.Ord.total g.met.T.Translator.exact (g.M.Heads.entries c.self.inside.heads) (g.M.Heads.entries c.insert_absent.new.self) tail tail c.args.slot c.self.invariant c.args.value c.in_ok-insert_absent.ensures.at c.insert_absent.ensures.others c.in_ok-insert_absent.ensures.len
+    (none_back _ c.args.value c.in_ok-insert_absent.field-0 c.in_ok-insert_absent.ensures.back c.in_default.is) (λ q. refl) in
+    put.1.linked
 
-pub returns-then-branch-clause-inserted : goal.returns-then-branch-clause-inserted
-returns-then-branch-clause-inserted g c =
-    rw (← c.self.view_is) (λ _. (put_absent g.met.T.Key.Ord.total g.met.T.Translator.exact (g.M.Heads.entries c.self.inside.heads) (g.M.Heads.entries c.insert_absent.new.self) (older_at g.T.Key.PartialEq.eq c.self.inside.older) (older_at g.T.Key.PartialEq.eq c.self.inside.older) c.args.slot c.self.invariant c.args.value c.in_ok-insert_absent.ensures.at c.insert_absent.ensures.others c.in_ok-insert_absent.ensures.len (λ q. refl) (sym c.in_ok-insert_absent.ensures.inserted ∙ c.if-branch.true)).1.content)
+pub returns-in_default-clause-inserted : goal.returns-in_default-clause-inserted
+returns-in_default-clause-inserted g c =
+    let tail = tail_at g.E.End.FIRST g.T.Key.PartialEq.eq c.self.inside.tails.map in
+    let put = put_absent g.met.T.Key.Ord.total g.met.T.Translator.exact (g.M.Heads.entries c.self.inside.heads) (g.M.Heads.entries c.insert_absent.new.self) tail tail c.args.slot c.self.invariant c.args.value c.in_ok-insert_absent.ensures.at c.insert_absent.ensures.others c.in_ok-insert_absent.ensures.len
+    (none_back _ c.args.value c.in_ok-insert_absent.field-0 c.in_ok-insert_absent.ensures.back c.in_default.is) (λ q. refl) in
+    rw (← c.self.view_is) (λ _. put.1.content)
 
-pub returns-then-branch-clause-len : goal.returns-then-branch-clause-len
-returns-then-branch-clause-len g c =
-    rw (← c.self.view_is) (sym (ap (λ l. length l) (put_absent g.met.T.Key.Ord.total g.met.T.Translator.exact (g.M.Heads.entries c.self.inside.heads) (g.M.Heads.entries c.insert_absent.new.self) (older_at g.T.Key.PartialEq.eq c.self.inside.older) (older_at g.T.Key.PartialEq.eq c.self.inside.older) c.args.slot c.self.invariant c.args.value c.in_ok-insert_absent.ensures.at c.insert_absent.ensures.others c.in_ok-insert_absent.ensures.len (λ q. refl) (sym c.in_ok-insert_absent.ensures.inserted ∙ c.if-branch.true)).0))
+pub returns-in_default-clause-len : goal.returns-in_default-clause-len
+returns-in_default-clause-len g c =
+    let tail = tail_at g.E.End.FIRST g.T.Key.PartialEq.eq c.self.inside.tails.map in
+    let put = put_absent g.met.T.Key.Ord.total g.met.T.Translator.exact (g.M.Heads.entries c.self.inside.heads) (g.M.Heads.entries c.insert_absent.new.self) tail tail c.args.slot c.self.invariant c.args.value c.in_ok-insert_absent.ensures.at c.insert_absent.ensures.others c.in_ok-insert_absent.ensures.len
+    (none_back _ c.args.value c.in_ok-insert_absent.field-0 c.in_ok-insert_absent.ensures.back c.in_default.is) (λ q. refl) in
+    rw (← c.self.view_is) (sym (ap (λ l. length l) put.0))
 
 pub invariant_of-self-2 : goal.invariant_of-self-2
 invariant_of-self-2 g c =
-    (left_present g.met.T.Key.Ord.total g.met.T.Translator.exact (g.M.Heads.entries c.self.inside.heads) (g.M.Heads.entries c.insert_absent.new.self) (older_at g.T.Key.PartialEq.eq c.self.inside.older) (older_at g.T.Key.PartialEq.eq c.self.inside.older) c.args.slot c.self.invariant c.args.value c.in_ok-insert_absent.ensures.at c.insert_absent.ensures.others c.in_ok-insert_absent.ensures.len (λ q. refl) (sym c.in_ok-insert_absent.ensures.inserted ∙ c.if-branch.false)).1.linked
+    let tail = tail_at g.E.End.FIRST g.T.Key.PartialEq.eq c.self.inside.tails.map in
+    let left = left_present g.met.T.Key.Ord.total g.met.T.Translator.exact (g.M.Heads.entries c.self.inside.heads) (g.M.Heads.entries c.insert_absent.new.self) tail tail c.args.slot c.self.invariant c.args.value c.in_ok-insert_absent.ensures.at c.insert_absent.ensures.others c.in_ok-insert_absent.ensures.len
+    (some_back _ c.args.value _ c.in_ok-insert_absent.field-0 c.in_ok-insert_absent.ensures.back c.in-Some.is).0 (λ q. refl) in
+    left.1.linked
 
 pub returns-clause-found : goal.returns-clause-found
 returns-clause-found g c =
-    rw (← c.self.view_is) (λ _. (left_present g.met.T.Key.Ord.total g.met.T.Translator.exact (g.M.Heads.entries c.self.inside.heads) (g.M.Heads.entries c.insert_absent.new.self) (older_at g.T.Key.PartialEq.eq c.self.inside.older) (older_at g.T.Key.PartialEq.eq c.self.inside.older) c.args.slot c.self.invariant c.args.value c.in_ok-insert_absent.ensures.at c.insert_absent.ensures.others c.in_ok-insert_absent.ensures.len (λ q. refl) (sym c.in_ok-insert_absent.ensures.inserted ∙ c.if-branch.false)).1.content)
+    let tail = tail_at g.E.End.FIRST g.T.Key.PartialEq.eq c.self.inside.tails.map in
+    let left = left_present g.met.T.Key.Ord.total g.met.T.Translator.exact (g.M.Heads.entries c.self.inside.heads) (g.M.Heads.entries c.insert_absent.new.self) tail tail c.args.slot c.self.invariant c.args.value c.in_ok-insert_absent.ensures.at c.insert_absent.ensures.others c.in_ok-insert_absent.ensures.len
+    (some_back _ c.args.value _ c.in_ok-insert_absent.field-0 c.in_ok-insert_absent.ensures.back c.in-Some.is).0 (λ q. refl) in
+    rw (← c.self.view_is) (λ _. left.1.content)
 
 pub returns-clause-len : goal.returns-clause-len
 returns-clause-len g c =
-    rw (← c.self.view_is) (ap (λ older. 1 + length older) c.older_of.ensures.values ∙ sym (left_present g.met.T.Key.Ord.total g.met.T.Translator.exact (g.M.Heads.entries c.self.inside.heads) (g.M.Heads.entries c.insert_absent.new.self) (older_at g.T.Key.PartialEq.eq c.self.inside.older) (older_at g.T.Key.PartialEq.eq c.self.inside.older) c.args.slot c.self.invariant c.args.value c.in_ok-insert_absent.ensures.at c.insert_absent.ensures.others c.in_ok-insert_absent.ensures.len (λ q. refl) (sym c.in_ok-insert_absent.ensures.inserted ∙ c.if-branch.false)).0)
+    let tail = tail_at g.E.End.FIRST g.T.Key.PartialEq.eq c.self.inside.tails.map in
+    let left = left_present g.met.T.Key.Ord.total g.met.T.Translator.exact (g.M.Heads.entries c.self.inside.heads) (g.M.Heads.entries c.insert_absent.new.self) tail tail c.args.slot c.self.invariant c.args.value c.in_ok-insert_absent.ensures.at c.insert_absent.ensures.others c.in_ok-insert_absent.ensures.len
+    (some_back _ c.args.value _ c.in_ok-insert_absent.field-0 c.in_ok-insert_absent.ensures.back c.in-Some.is).0 (λ q. refl) in
+    rw (← c.self.view_is) (ap (λ n. 1 + n) c.len.ensures.len ∙ sym left.0)

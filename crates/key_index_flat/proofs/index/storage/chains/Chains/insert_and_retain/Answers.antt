@@ -1,134 +1,121 @@
-use Rattle.std.proofs.Common.{◌≡◌, ◌+◌, ◌-◌, true, false, ◌∷◌, length, reverse, sym, ap, subst, ◌∙◌, arith}
-use Rattle.std.proofs.lemmas.List.{length-reverse}
+use Rattle.std.proofs.Common.{◌≡◌, ◌+◌, ◌-◌, ◌∷◌, [], ◌++◌, true, cond, length, length-append, refl, sym, ap, subst, ◌∙◌, arith}
 use Rattle.std.specs.Fn.{CalledAt}
 use Rattle.key_index_flat.specs.Content.{IsLawful, list_at}
-use Rattle.key_index_flat.specs.Storage.{list_of, older_at}
+use Rattle.key_index_flat.specs.Retention.{AsksInTurn}
+use Rattle.key_index_flat.specs.Storage.{content_of, list_of, tail_at}
 use Rattle.key_index_flat.specs.laws.Laws.{IsLawful-content_of}
-use Rattle.key_index_flat.proofs.asked.FromLemmas.{few_left, one_gone, asks_from}
 use Rattle.key_index_flat.proofs.asked.PutLemmas.{asks_alone, taken_put}
+use Rattle.key_index_flat.proofs.asked.TurnLemmas.{asked_few, asked_same, asks_behind, some_taken}
 use Rattle.key_index_flat.proofs.content.ChainLemmas.{list_at-content_of}
-use Rattle.key_index_flat.proofs.content.EditLemmas.{list-newest_first, list_later, rest_alone, rest_edited}
+use Rattle.key_index_flat.proofs.content.EditLemmas.{length-rest_or_all, list-first_and_tail, list_later, rest_edited, rest_or_all}
 use Rattle.key_index_flat.proofs.index.storage.chains.Chains.insert_and_retain.Goals as goal
 
 pub returns-in_default-clause-had : goal.returns-in_default-clause-had
 returns-in_default-clause-had g c =
-    let older = older_at g.T.Key.PartialEq.eq c.self.inside.older in
-    let list = list_at-content_of g.met.T.Key.Ord.total g.met.T.Translator.exact (g.M.Heads.entries c.self.inside.heads) older c.args.slot ∙ ap (λ w. list_of w (older c.args.slot)) (sym c.in_default.ensures) in
+    let tail = tail_at g.E.End.FIRST g.T.Key.PartialEq.eq c.self.inside.tails.map in
+    let list = list_at-content_of g.met.T.Key.Ord.total g.met.T.Translator.exact (g.M.Heads.entries c.self.inside.heads) tail c.args.slot ∙ ap (λ w. list_of w (tail c.args.slot)) (sym c.in_default.ensures) in
     rw (← c.self.view_is) (sym (ap (λ l. length l) list))
 
 pub returns-in_default-clause-accepted : goal.returns-in_default-clause-accepted
 returns-in_default-clause-accepted g c =
     let old = c.args.self.now in
-    let mid = c.insert.new.self in
-    let put = c.in_ok-insert.ensures.accepted in
+    let mid = c.insert_first.new.self in
+    let put = c.in_ok-insert_first.ensures.accepted in
     let none = returns-in_default-clause-had g c in
     let told = c.retain_in_turn-left.ensures.kept in
     let stays = c.retain_in_turn-left.result.2 in
     let taken = c.retain_in_turn-left.result.0 - c.retain_in_turn-left.result.1 in
     let counts : taken + length told.0 ≡ length (list_at g.T.Key.Ord.cmp mid c.args.slot) = omega (arith, told.3, told.4, told.5) in
     let asks = asks_alone g.met.T.Key.Ord.total old mid c.args.slot c.args.value 0 none put (CalledAt g.F.FnMut) c.args.should_retain told.0 stays taken told.1 counts none in
-    let lawful = subst (λ d. IsLawful g.T.Key.Ord.cmp d) c.self.view_is (IsLawful-content_of g.met.T.Key.Ord.total (g.M.Heads.entries c.self.inside.heads) (older_at g.T.Key.PartialEq.eq c.self.inside.older)) in
+    let lawful = subst (λ d. IsLawful g.T.Key.Ord.cmp d) c.self.view_is (IsLawful-content_of g.met.T.Key.Ord.total (g.M.Heads.entries c.self.inside.heads) (tail_at g.E.End.FIRST g.T.Key.PartialEq.eq c.self.inside.tails.map)) in
     (told.0, asks, taken_put g.met.T.Key.Ord.total old mid c.args.slot c.args.value 0 none put g.met.T.Translator.exact lawful told.0 _ told.2, told.3)
 
 pub invariant_of-self : goal.invariant_of-self
 invariant_of-self g c =
-    (rest_edited g.met.T.Key.Ord.total g.met.T.Translator.exact (g.M.Heads.entries c.self.inside.heads) (older_at g.T.Key.PartialEq.eq c.self.inside.older) (older_at g.T.Key.PartialEq.eq c.insert_and_retain_older.new.older) c.args.slot c.self.invariant c.in-Some.newest.now (sym c.in-Some.ensures) c.insert_and_retain_older.ensures.others).linked
-
-pub invariant_of-self-then-newest_stays : goal.invariant_of-self-then-newest_stays
-invariant_of-self-then-newest_stays g c =
-    (rest_edited g.met.T.Key.Ord.total g.met.T.Translator.exact (g.M.Heads.entries c.self.inside.heads) (older_at g.T.Key.PartialEq.eq c.self.inside.older) (older_at g.T.Key.PartialEq.eq c.insert_and_retain_older.new.older) c.args.slot c.self.invariant c.in-Some.newest.now (sym c.in-Some.ensures) c.insert_and_retain_older.ensures.others).linked
+    let tail = tail_at g.E.End.FIRST g.T.Key.PartialEq.eq c.self.inside.tails.map in
+    let later = tail_at g.E.End.FIRST g.T.Key.PartialEq.eq c.insert_and_retain.new.self.map in
+    (rest_edited g.met.T.Key.Ord.total g.met.T.Translator.exact (g.M.Heads.entries c.self.inside.heads) tail later c.args.slot c.self.invariant c.in-Some.head.now (sym c.in-Some.ensures) c.insert_and_retain.ensures.others).linked
 
 pub invariant_of-self-2 : goal.invariant_of-self-2
 invariant_of-self-2 g c =
-    (rest_edited g.met.T.Key.Ord.total g.met.T.Translator.exact (g.M.Heads.entries c.self.inside.heads) (older_at g.T.Key.PartialEq.eq c.self.inside.older) (older_at g.T.Key.PartialEq.eq c.insert_and_retain_older.new.older) c.args.slot c.self.invariant c.in-Some.newest.now (sym c.in-Some.ensures) c.insert_and_retain_older.ensures.others).linked
+    let tail = tail_at g.E.End.FIRST g.T.Key.PartialEq.eq c.self.inside.tails.map in
+    let later = tail_at g.E.End.FIRST g.T.Key.PartialEq.eq c.insert_and_retain.new.self.map in
+    (rest_edited g.met.T.Key.Ord.total g.met.T.Translator.exact (g.M.Heads.entries c.self.inside.heads) tail later c.args.slot c.self.invariant c.in-Some.head.now (sym c.in-Some.ensures) c.insert_and_retain.ensures.others).linked
 
-pub remove_at-requires : goal.remove_at-requires
-remove_at-requires g c =
-    let list = list_later g.met.T.Key.Ord.total g.met.T.Translator.exact (g.M.Heads.entries c.self.inside.heads) (older_at g.T.Key.PartialEq.eq c.self.inside.older) (older_at g.T.Key.PartialEq.eq c.insert_and_retain_older.new.older) c.args.slot c.self.invariant c.in-Some.newest.now (sym c.in-Some.ensures) in
-    let long = ap (λ l. length l) list in
-    record { place = omega (arith, long) }
+pub drop_head-left-requires-clause-held : goal.drop_head-left-requires-clause-held
+drop_head-left-requires-clause-held g c =
+    let tail = tail_at g.E.End.FIRST g.T.Key.PartialEq.eq c.self.inside.tails.map in
+    let later = tail_at g.E.End.FIRST g.T.Key.PartialEq.eq c.insert_and_retain.new.self.map in
+    let long = ap (λ l. length l) (list_later g.met.T.Key.Ord.total g.met.T.Translator.exact (g.M.Heads.entries c.self.inside.heads) tail later c.args.slot c.self.invariant c.in-Some.head.now (sym c.in-Some.ensures)) in
+    omega (arith, long)
+
+pub drop_head-left-requires-clause-fits : goal.drop_head-left-requires-clause-fits
+drop_head-left-requires-clause-fits g c = c.in_ok-head_stays.ensures.fits.1
 
 pub overflow_sub-had : goal.overflow_sub-had
 overflow_sub-had g c =
-    let newest = c.in-Some.newest.now in
-    let told = c.in_ok-newest_stays.ensures in
-    let later = older_at g.T.Key.PartialEq.eq c.insert_and_retain_older.new.older in
-    let after = length-reverse (later c.args.slot) in
-    let few = few_left g.met.T.Key.Ord.total g.met.T.Translator.exact (g.M.Heads.entries c.self.inside.heads) (older_at g.T.Key.PartialEq.eq c.self.inside.older) later c.args.slot c.self.invariant newest (sym c.in-Some.ensures) c.args.value (CalledAt g.F.FnMut) c.args.should_retain c.in_ok-newest_stays.newest_stays c.in_ok-newest_stays.stays told.asked true c.if-newest_stays.true in
-    omega (arith, few, after, told.had, told.left)
-
-pub overflow_sub-had-2 : goal.overflow_sub-had-2
-overflow_sub-had-2 g c =
-    let newest = c.in-Some.newest.now in
-    let told = c.in_ok-newest_stays.ensures in
-    let later = older_at g.T.Key.PartialEq.eq c.insert_and_retain_older.new.older in
-    let after = length-reverse (later c.args.slot) in
-    let few = few_left g.met.T.Key.Ord.total g.met.T.Translator.exact (g.M.Heads.entries c.self.inside.heads) (older_at g.T.Key.PartialEq.eq c.self.inside.older) later c.args.slot c.self.invariant newest (sym c.in-Some.ensures) c.args.value (CalledAt g.F.FnMut) c.args.should_retain c.in_ok-newest_stays.newest_stays c.in_ok-newest_stays.stays told.asked false c.if-newest_stays.false in
-    omega (arith, few, after, told.had, told.left)
+    let tail = tail_at g.E.End.FIRST g.T.Key.PartialEq.eq c.self.inside.tails.map in
+    let later = tail_at g.E.End.FIRST g.T.Key.PartialEq.eq c.insert_and_retain.new.self.map in
+    let head = c.in-Some.head.now in
+    let told = c.in_ok-head_stays.ensures in
+    let list = list-first_and_tail g.met.T.Key.Ord.total g.met.T.Translator.exact (g.M.Heads.entries c.self.inside.heads) tail tail c.args.slot c.self.invariant head (sym c.in-Some.ensures) in
+    let held = list_at g.T.Key.Ord.cmp (content_of g.T.Key.Ord.cmp (g.M.Heads.entries c.self.inside.heads) tail) c.args.slot in
+    let kept = cond c.in_ok-head_stays.head_stays (head ∷ later c.args.slot) (later c.args.slot) in
+    let asked : AsksInTurn (CalledAt g.F.FnMut) c.args.should_retain true (held ++ c.args.value ∷ []) kept c.in_ok-head_stays.stays =
+    asked_same (CalledAt g.F.FnMut) c.args.should_retain true _ _ _ _ c.in_ok-head_stays.stays told.asked (ap (λ l. l ++ c.args.value ∷ []) (sym list)) refl in
+    let long = ap (λ l. length l) list in
+    let sum = length-rest_or_all c.in_ok-head_stays.head_stays head (later c.args.slot) in
+    let more = length-append held (c.args.value ∷ []) in
+    let few = asked_few (CalledAt g.F.FnMut) c.args.should_retain true _ _ _ asked in
+    omega (arith, few, sum, long, more, told.had, told.left, c.drop_head-left.ensures.left)
 
 pub gone_of-taken-requires : goal.gone_of-taken-requires
 gone_of-taken-requires g c =
-    let newest = c.in-Some.newest.now in
-    let told = c.in_ok-newest_stays.ensures in
-    let later = older_at g.T.Key.PartialEq.eq c.insert_and_retain_older.new.older in
-    let after = length-reverse (later c.args.slot) in
-    let few = few_left g.met.T.Key.Ord.total g.met.T.Translator.exact (g.M.Heads.entries c.self.inside.heads) (older_at g.T.Key.PartialEq.eq c.self.inside.older) later c.args.slot c.self.invariant newest (sym c.in-Some.ensures) c.args.value (CalledAt g.F.FnMut) c.args.should_retain c.in_ok-newest_stays.newest_stays c.in_ok-newest_stays.stays told.asked true c.if-newest_stays.true in
-    one_gone g.met.T.Key.Ord.total g.met.T.Translator.exact (g.M.Heads.entries c.self.inside.heads) (older_at g.T.Key.PartialEq.eq c.self.inside.older) later c.args.slot c.self.invariant newest (sym c.in-Some.ensures) c.args.value (CalledAt g.F.FnMut) c.args.should_retain c.in_ok-newest_stays.newest_stays c.in_ok-newest_stays.stays told.asked true c.if-newest_stays.true (c.in_ok-newest_stays.had - c.in_ok-newest_stays.left) (omega (arith, few, after, told.had, told.left))
-
-pub gone_of-taken-requires-2 : goal.gone_of-taken-requires-2
-gone_of-taken-requires-2 g c =
-    let newest = c.in-Some.newest.now in
-    let told = c.in_ok-newest_stays.ensures in
-    let later = older_at g.T.Key.PartialEq.eq c.insert_and_retain_older.new.older in
-    let after = length-reverse (later c.args.slot) in
-    let few = few_left g.met.T.Key.Ord.total g.met.T.Translator.exact (g.M.Heads.entries c.self.inside.heads) (older_at g.T.Key.PartialEq.eq c.self.inside.older) later c.args.slot c.self.invariant newest (sym c.in-Some.ensures) c.args.value (CalledAt g.F.FnMut) c.args.should_retain c.in_ok-newest_stays.newest_stays c.in_ok-newest_stays.stays told.asked false c.if-newest_stays.false in
-    one_gone g.met.T.Key.Ord.total g.met.T.Translator.exact (g.M.Heads.entries c.self.inside.heads) (older_at g.T.Key.PartialEq.eq c.self.inside.older) later c.args.slot c.self.invariant newest (sym c.in-Some.ensures) c.args.value (CalledAt g.F.FnMut) c.args.should_retain c.in_ok-newest_stays.newest_stays c.in_ok-newest_stays.stays told.asked false c.if-newest_stays.false (c.in_ok-newest_stays.had + 1 - c.in_ok-newest_stays.left) (omega (arith, few, after, told.had, told.left))
-
-pub returns-then-newest_stays-clause-accepted : goal.returns-then-newest_stays-clause-accepted
-returns-then-newest_stays-clause-accepted g c =
-    let newest = c.in-Some.newest.now in
-    let told = c.in_ok-newest_stays.ensures in
-    let later = older_at g.T.Key.PartialEq.eq c.insert_and_retain_older.new.older in
-    let after = length-reverse (later c.args.slot) in
-    let few = few_left g.met.T.Key.Ord.total g.met.T.Translator.exact (g.M.Heads.entries c.self.inside.heads) (older_at g.T.Key.PartialEq.eq c.self.inside.older) later c.args.slot c.self.invariant newest (sym c.in-Some.ensures) c.args.value (CalledAt g.F.FnMut) c.args.should_retain c.in_ok-newest_stays.newest_stays c.in_ok-newest_stays.stays told.asked true c.if-newest_stays.true in
-    let asks = asks_from g.met.T.Key.Ord.total g.met.T.Translator.exact (g.M.Heads.entries c.self.inside.heads) (older_at g.T.Key.PartialEq.eq c.self.inside.older) later c.args.slot c.self.invariant newest (sym c.in-Some.ensures) c.args.value (CalledAt g.F.FnMut) c.args.should_retain c.in_ok-newest_stays.newest_stays c.in_ok-newest_stays.stays told.asked true c.if-newest_stays.true (c.in_ok-newest_stays.had - c.in_ok-newest_stays.left) (omega (arith, few, after, told.had, told.left)) c.gone_of-taken.result c.gone_of-taken.ensures in
-    rw (← c.self.view_is) (
-    (newest ∷ reverse (later c.args.slot), asks, (rest_edited g.met.T.Key.Ord.total g.met.T.Translator.exact (g.M.Heads.entries c.self.inside.heads) (older_at g.T.Key.PartialEq.eq c.self.inside.older) later c.args.slot c.self.invariant newest (sym c.in-Some.ensures) told.others).content, omega (arith, after, told.left))
-    )
+    let tail = tail_at g.E.End.FIRST g.T.Key.PartialEq.eq c.self.inside.tails.map in
+    let later = tail_at g.E.End.FIRST g.T.Key.PartialEq.eq c.insert_and_retain.new.self.map in
+    let head = c.in-Some.head.now in
+    let told = c.in_ok-head_stays.ensures in
+    let list = list-first_and_tail g.met.T.Key.Ord.total g.met.T.Translator.exact (g.M.Heads.entries c.self.inside.heads) tail tail c.args.slot c.self.invariant head (sym c.in-Some.ensures) in
+    let held = list_at g.T.Key.Ord.cmp (content_of g.T.Key.Ord.cmp (g.M.Heads.entries c.self.inside.heads) tail) c.args.slot in
+    let kept = cond c.in_ok-head_stays.head_stays (head ∷ later c.args.slot) (later c.args.slot) in
+    let asked : AsksInTurn (CalledAt g.F.FnMut) c.args.should_retain true (held ++ c.args.value ∷ []) kept c.in_ok-head_stays.stays =
+    asked_same (CalledAt g.F.FnMut) c.args.should_retain true _ _ _ _ c.in_ok-head_stays.stays told.asked (ap (λ l. l ++ c.args.value ∷ []) (sym list)) refl in
+    let long = ap (λ l. length l) list in
+    let sum = length-rest_or_all c.in_ok-head_stays.head_stays head (later c.args.slot) in
+    let more = length-append held (c.args.value ∷ []) in
+    let few = asked_few (CalledAt g.F.FnMut) c.args.should_retain true _ _ _ asked in
+    let gone = c.in_ok-head_stays.had + 1 - c.drop_head-left.result in
+    let counts : length held + 1 ≡ gone + length kept = omega (arith, long, sum, more, few, told.had, told.left, c.drop_head-left.ensures.left) in
+    some_taken (CalledAt g.F.FnMut) c.args.should_retain held c.args.value kept c.in_ok-head_stays.stays gone asked counts
 
 pub returns-clause-accepted : goal.returns-clause-accepted
 returns-clause-accepted g c =
-    let newest = c.in-Some.newest.now in
-    let told = c.in_ok-newest_stays.ensures in
-    let later = older_at g.T.Key.PartialEq.eq c.insert_and_retain_older.new.older in
-    let after = length-reverse (later c.args.slot) in
-    let few = few_left g.met.T.Key.Ord.total g.met.T.Translator.exact (g.M.Heads.entries c.self.inside.heads) (older_at g.T.Key.PartialEq.eq c.self.inside.older) later c.args.slot c.self.invariant newest (sym c.in-Some.ensures) c.args.value (CalledAt g.F.FnMut) c.args.should_retain c.in_ok-newest_stays.newest_stays c.in_ok-newest_stays.stays told.asked false c.if-newest_stays.false in
-    let asks = asks_from g.met.T.Key.Ord.total g.met.T.Translator.exact (g.M.Heads.entries c.self.inside.heads) (older_at g.T.Key.PartialEq.eq c.self.inside.older) later c.args.slot c.self.invariant newest (sym c.in-Some.ensures) c.args.value (CalledAt g.F.FnMut) c.args.should_retain c.in_ok-newest_stays.newest_stays c.in_ok-newest_stays.stays told.asked false c.if-newest_stays.false (c.in_ok-newest_stays.had + 1 - c.in_ok-newest_stays.left) (omega (arith, few, after, told.had, told.left)) c.gone_of-taken-2.result c.gone_of-taken-2.ensures in
-    rw (← c.self.view_is) (
-    (reverse (later c.args.slot), asks, rest_alone g.met.T.Key.Ord.total g.met.T.Translator.exact (g.M.Heads.entries c.self.inside.heads) (older_at g.T.Key.PartialEq.eq c.self.inside.older) later c.args.slot c.self.invariant newest (sym c.in-Some.ensures) told.others _ c.remove_at.ensures.content, omega (arith, after, told.left))
+    let tail = tail_at g.E.End.FIRST g.T.Key.PartialEq.eq c.self.inside.tails.map in
+    let later = tail_at g.E.End.FIRST g.T.Key.PartialEq.eq c.insert_and_retain.new.self.map in
+    let head = c.in-Some.head.now in
+    let told = c.in_ok-head_stays.ensures in
+    let list = list-first_and_tail g.met.T.Key.Ord.total g.met.T.Translator.exact (g.M.Heads.entries c.self.inside.heads) tail tail c.args.slot c.self.invariant head (sym c.in-Some.ensures) in
+    let held = list_at g.T.Key.Ord.cmp (content_of g.T.Key.Ord.cmp (g.M.Heads.entries c.self.inside.heads) tail) c.args.slot in
+    let kept = cond c.in_ok-head_stays.head_stays (head ∷ later c.args.slot) (later c.args.slot) in
+    let asked : AsksInTurn (CalledAt g.F.FnMut) c.args.should_retain true (held ++ c.args.value ∷ []) kept c.in_ok-head_stays.stays =
+    asked_same (CalledAt g.F.FnMut) c.args.should_retain true _ _ _ _ c.in_ok-head_stays.stays told.asked (ap (λ l. l ++ c.args.value ∷ []) (sym list)) refl in
+    let long = ap (λ l. length l) list in
+    let sum = length-rest_or_all c.in_ok-head_stays.head_stays head (later c.args.slot) in
+    let more = length-append held (c.args.value ∷ []) in
+    let few = asked_few (CalledAt g.F.FnMut) c.args.should_retain true _ _ _ asked in
+    let gone = c.in_ok-head_stays.had + 1 - c.drop_head-left.result in
+    let counts : length held + 1 ≡ gone + length kept = omega (arith, long, sum, more, few, told.had, told.left, c.drop_head-left.ensures.left) in
+    let asks = asks_behind (CalledAt g.F.FnMut) c.args.should_retain held c.args.value kept c.in_ok-head_stays.stays gone asked counts c.gone_of-taken.result c.gone_of-taken.ensures in
+    rw (← c.self.view_is) ((
+      kept,
+      asks,
+      rest_or_all g.met.T.Key.Ord.total g.met.T.Translator.exact (g.M.Heads.entries c.self.inside.heads) tail later c.args.slot c.self.invariant head (sym c.in-Some.ensures) c.insert_and_retain.ensures.others c.in_ok-head_stays.head_stays _ c.drop_head-left.ensures.content,
+      omega (arith, sum, told.left, c.drop_head-left.ensures.left),
     )
-
-pub returns-then-newest_stays-clause-had : goal.returns-then-newest_stays-clause-had
-returns-then-newest_stays-clause-had g c =
-    let told = c.in_ok-newest_stays.ensures in
-    let older = older_at g.T.Key.PartialEq.eq c.self.inside.older in
-    let long = ap (λ l. length l) (list-newest_first g.met.T.Key.Ord.total g.met.T.Translator.exact (g.M.Heads.entries c.self.inside.heads) (older_at g.T.Key.PartialEq.eq c.self.inside.older) older c.args.slot c.self.invariant c.in-Some.newest.now (sym c.in-Some.ensures)) in
-    let back = length-reverse (older c.args.slot) in
-    rw (← c.self.view_is) (omega (arith, long, back, told.had))
+    )
 
 pub returns-clause-had : goal.returns-clause-had
 returns-clause-had g c =
-    let told = c.in_ok-newest_stays.ensures in
-    let older = older_at g.T.Key.PartialEq.eq c.self.inside.older in
-    let long = ap (λ l. length l) (list-newest_first g.met.T.Key.Ord.total g.met.T.Translator.exact (g.M.Heads.entries c.self.inside.heads) (older_at g.T.Key.PartialEq.eq c.self.inside.older) older c.args.slot c.self.invariant c.in-Some.newest.now (sym c.in-Some.ensures)) in
-    let back = length-reverse (older c.args.slot) in
-    rw (← c.self.view_is) (omega (arith, long, back, told.had))
-
-pub overflow_add-result : goal.overflow_add-result
-overflow_add-result g c =
-    let newest = c.in-Some.newest.now in
-    let told = c.in_ok-newest_stays.ensures in
-    let later = older_at g.T.Key.PartialEq.eq c.insert_and_retain_older.new.older in
-    let after = length-reverse (later c.args.slot) in
-    let few = few_left g.met.T.Key.Ord.total g.met.T.Translator.exact (g.M.Heads.entries c.self.inside.heads) (older_at g.T.Key.PartialEq.eq c.self.inside.older) later c.args.slot c.self.invariant newest (sym c.in-Some.ensures) c.args.value (CalledAt g.F.FnMut) c.args.should_retain c.in_ok-newest_stays.newest_stays c.in_ok-newest_stays.stays told.asked true c.if-newest_stays.true in
-    omega (arith, few, after, told.had, told.left, told.fits)
+    let tail = tail_at g.E.End.FIRST g.T.Key.PartialEq.eq c.self.inside.tails.map in
+    let long = ap (λ l. length l) (list-first_and_tail g.met.T.Key.Ord.total g.met.T.Translator.exact (g.M.Heads.entries c.self.inside.heads) tail tail c.args.slot c.self.invariant c.in-Some.head.now (sym c.in-Some.ensures)) in
+    rw (← c.self.view_is) (omega (arith, long, c.in_ok-head_stays.ensures.had))

@@ -1,27 +1,26 @@
-use Rattle.std.proofs.Common.{true, [], ◌∷◌, cond, length, reverse, refl, sym, ap, ◌∙◌, arith}
-use Rattle.std.proofs.lemmas.List.{length-reverse}
+use Rattle.std.proofs.Common.{true, [], ◌∷◌, cond, length, refl, sym, ap, ◌∙◌, arith}
 use Rattle.std.specs.Fn.{CalledAt}
-use Rattle.key_index_flat.specs.Storage.{older_at, content_of, list_of}
+use Rattle.key_index_flat.specs.Storage.{tail_at, content_of, list_of}
 use Rattle.key_index_flat.specs.Content.{with_list}
 use Rattle.key_index_flat.specs.laws.Laws.{IsLawful-content_of}
 use Rattle.key_index_flat.proofs.asked.TurnLemmas.{asked_few, AsksInTurn-none, asked_same}
 use Rattle.key_index_flat.proofs.content.ContentLemmas.{with_list-same}
 use Rattle.key_index_flat.proofs.content.ChainLemmas.{list_at-content_of}
-use Rattle.key_index_flat.proofs.content.EditLemmas.{list-newest_first, list_later, rest_alone, rest_edited}
+use Rattle.key_index_flat.proofs.content.EditLemmas.{length-rest_or_all, list-first_and_tail, list_later, rest_edited, rest_or_all}
 use Rattle.key_index_flat.proofs.index.storage.chains.Chains.retain_in_turn.Goals as goal
 
 pub returns-in_default : goal.returns-in_default
 returns-in_default g c =
     let heads = g.M.Heads.entries c.self.inside.heads in
-    let older = older_at g.T.Key.PartialEq.eq c.self.inside.older in
-    let held = content_of g.T.Key.Ord.cmp heads older in
-    let list = list_at-content_of g.met.T.Key.Ord.total g.met.T.Translator.exact heads older c.args.slot ∙ ap (λ w. list_of w (older c.args.slot)) (sym c.in_default.ensures) in
+    let tail = tail_at g.E.End.FIRST g.T.Key.PartialEq.eq c.self.inside.tails.map in
+    let held = content_of g.T.Key.Ord.cmp heads tail in
+    let list = list_at-content_of g.met.T.Key.Ord.total g.met.T.Translator.exact (g.M.Heads.entries c.self.inside.heads) tail c.args.slot ∙ ap (λ w. list_of w (tail c.args.slot)) (sym c.in_default.ensures) in
     rw (← c.self.view_is) (
     record {
       kept = (
         [],
         asked_same (CalledAt g.F.FnMut) c.args.should_retain true [] [] _ [] true (AsksInTurn-none (CalledAt g.F.FnMut) c.args.should_retain true) (sym list) refl,
-        sym (with_list-same g.met.T.Key.Ord.total g.met.T.Translator.exact held c.args.slot (IsLawful-content_of g.met.T.Key.Ord.total heads older)) ∙ ap (λ l. with_list g.T.Key.Ord.cmp held c.args.slot l) list,
+        sym (with_list-same g.met.T.Key.Ord.total g.met.T.Translator.exact held c.args.slot (IsLawful-content_of g.met.T.Key.Ord.total heads tail)) ∙ ap (λ l. with_list g.T.Key.Ord.cmp held c.args.slot l) list,
         refl,
         sym (ap (λ l. length l) list),
         omega arith,
@@ -31,68 +30,40 @@ returns-in_default g c =
 
 pub invariant_of-self : goal.invariant_of-self
 invariant_of-self g c =
-    (rest_edited g.met.T.Key.Ord.total g.met.T.Translator.exact (g.M.Heads.entries c.self.inside.heads) (older_at g.T.Key.PartialEq.eq c.self.inside.older) (older_at g.T.Key.PartialEq.eq c.retain_older-newest_stays.new.older) c.args.slot c.self.invariant c.in-Some.newest.now (sym c.in-Some.ensures) c.retain_older-newest_stays.ensures.others).linked
+    let tail = tail_at g.E.End.FIRST g.T.Key.PartialEq.eq c.self.inside.tails.map in
+    let later = tail_at g.E.End.FIRST g.T.Key.PartialEq.eq c.retain-head_stays.new.self.map in
+    (rest_edited g.met.T.Key.Ord.total g.met.T.Translator.exact (g.M.Heads.entries c.self.inside.heads) tail later c.args.slot c.self.invariant c.in-Some.head.now (sym c.in-Some.ensures) c.retain-head_stays.ensures.others).linked
 
-pub invariant_of-self-2 : goal.invariant_of-self-2
-invariant_of-self-2 g c =
-    (rest_edited g.met.T.Key.Ord.total g.met.T.Translator.exact (g.M.Heads.entries c.self.inside.heads) (older_at g.T.Key.PartialEq.eq c.self.inside.older) (older_at g.T.Key.PartialEq.eq c.retain_older-newest_stays.new.older) c.args.slot c.self.invariant c.in-Some.newest.now (sym c.in-Some.ensures) c.retain_older-newest_stays.ensures.others).linked
-
-pub remove_at-requires : goal.remove_at-requires
-remove_at-requires g c =
-    let list = list_later g.met.T.Key.Ord.total g.met.T.Translator.exact (g.M.Heads.entries c.self.inside.heads) (older_at g.T.Key.PartialEq.eq c.self.inside.older) (older_at g.T.Key.PartialEq.eq c.retain_older-newest_stays.new.older) c.args.slot c.self.invariant c.in-Some.newest.now (sym c.in-Some.ensures) in
-    let long = ap (λ l. length l) list in
+pub drop_head-left-requires-clause-held : goal.drop_head-left-requires-clause-held
+drop_head-left-requires-clause-held g c =
+    let tail = tail_at g.E.End.FIRST g.T.Key.PartialEq.eq c.self.inside.tails.map in
+    let later = tail_at g.E.End.FIRST g.T.Key.PartialEq.eq c.retain-head_stays.new.self.map in
+    let long = ap (λ l. length l) (list_later g.met.T.Key.Ord.total g.met.T.Translator.exact (g.M.Heads.entries c.self.inside.heads) tail later c.args.slot c.self.invariant c.in-Some.head.now (sym c.in-Some.ensures)) in
     omega (arith, long)
 
-pub returns-then-newest_stays : goal.returns-then-newest_stays
-returns-then-newest_stays g c =
-    let heads = g.M.Heads.entries c.self.inside.heads in
-    let older = older_at g.T.Key.PartialEq.eq c.self.inside.older in
-    let later = older_at g.T.Key.PartialEq.eq c.retain_older-newest_stays.new.older in
-    let newest = c.in-Some.newest.now in
-    let told = c.retain_older-newest_stays.ensures in
-    let stays = c.retain_older-newest_stays.result.3 in
-    let list = list-newest_first g.met.T.Key.Ord.total g.met.T.Translator.exact heads older older c.args.slot c.self.invariant newest (sym c.in-Some.ensures) in
-    let asked = asked_same (CalledAt g.F.FnMut) c.args.should_retain true _ _ _ _ stays told.asked (sym list) (ap (λ b. cond b (newest ∷ reverse (later c.args.slot)) (reverse (later c.args.slot))) c.if-newest_stays.true) in
-    let long = ap (λ l. length l) list in
-    let before = length-reverse (older c.args.slot) in
-    let after = length-reverse (later c.args.slot) in
-    let few = asked_few (CalledAt g.F.FnMut) c.args.should_retain true _ _ stays asked in
-    rw (← c.self.view_is) (
-    record {
-      kept = (
-        newest ∷ reverse (later c.args.slot),
-        asked,
-        (rest_edited g.met.T.Key.Ord.total g.met.T.Translator.exact heads older later c.args.slot c.self.invariant newest (sym c.in-Some.ensures) told.others).content,
-        omega (arith, after, told.left),
-        omega (arith, long, before, told.had),
-        omega (arith, before, after, few, long, told.had, told.left),
-      );
-    }
-    )
+pub drop_head-left-requires-clause-fits : goal.drop_head-left-requires-clause-fits
+drop_head-left-requires-clause-fits g c = c.retain-head_stays.ensures.fits.1
 
 pub returns : goal.returns
 returns g c =
-    let heads = g.M.Heads.entries c.self.inside.heads in
-    let older = older_at g.T.Key.PartialEq.eq c.self.inside.older in
-    let later = older_at g.T.Key.PartialEq.eq c.retain_older-newest_stays.new.older in
-    let newest = c.in-Some.newest.now in
-    let told = c.retain_older-newest_stays.ensures in
-    let stays = c.retain_older-newest_stays.result.3 in
-    let list = list-newest_first g.met.T.Key.Ord.total g.met.T.Translator.exact heads older older c.args.slot c.self.invariant newest (sym c.in-Some.ensures) in
-    let asked = asked_same (CalledAt g.F.FnMut) c.args.should_retain true _ _ _ _ stays told.asked (sym list) (ap (λ b. cond b (newest ∷ reverse (later c.args.slot)) (reverse (later c.args.slot))) c.if-newest_stays.false) in
+    let tail = tail_at g.E.End.FIRST g.T.Key.PartialEq.eq c.self.inside.tails.map in
+    let later = tail_at g.E.End.FIRST g.T.Key.PartialEq.eq c.retain-head_stays.new.self.map in
+    let head = c.in-Some.head.now in
+    let told = c.retain-head_stays.ensures in
+    let list = list-first_and_tail g.met.T.Key.Ord.total g.met.T.Translator.exact (g.M.Heads.entries c.self.inside.heads) tail tail c.args.slot c.self.invariant head (sym c.in-Some.ensures) in
+    let asked = asked_same (CalledAt g.F.FnMut) c.args.should_retain true _ _ _ _ c.retain-head_stays.result.3 told.asked (sym list) refl in
     let long = ap (λ l. length l) list in
-    let before = length-reverse (older c.args.slot) in
-    let after = length-reverse (later c.args.slot) in
-    let few = asked_few (CalledAt g.F.FnMut) c.args.should_retain true _ _ stays asked in
+    let few = asked_few (CalledAt g.F.FnMut) c.args.should_retain true _ _ _ asked in
+    let sum = length-rest_or_all c.retain-head_stays.result.0 head (later c.args.slot) in
     rw (← c.self.view_is) (
     record {
       kept = (
-        reverse (later c.args.slot),
+        cond c.retain-head_stays.result.0 (head ∷ later c.args.slot) (later c.args.slot),
         asked,
-        rest_alone g.met.T.Key.Ord.total g.met.T.Translator.exact heads older later c.args.slot c.self.invariant newest (sym c.in-Some.ensures) told.others _ c.remove_at.ensures.content,
-        omega (arith, after, told.left),
-        omega (arith, long, before, told.had),
-        omega (arith, before, after, few, long, told.had, told.left),
+        rest_or_all g.met.T.Key.Ord.total g.met.T.Translator.exact (g.M.Heads.entries c.self.inside.heads) tail later c.args.slot c.self.invariant head (sym c.in-Some.ensures) told.others c.retain-head_stays.result.0 _ c.drop_head-left.ensures.content,
+        omega (arith, sum, told.left, c.drop_head-left.ensures.left),
+        omega (arith, long, told.had),
+        omega (arith, few, long, sum, told.had, told.left, c.drop_head-left.ensures.left),
       );
     }
     )

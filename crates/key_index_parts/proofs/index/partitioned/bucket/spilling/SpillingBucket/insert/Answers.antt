@@ -1,7 +1,7 @@
-use Rattle.std.proofs.Common.{false, [], ◌∷◌, map, not, length-append, ap, ◌∙◌, arith}
+use Rattle.std.proofs.Common.{false, [], ◌∷◌, not, length-append, ap, ◌∙◌, arith}
 use Rattle.key_index_flat.specs.Content.{is_filled, item_count, list_at}
 use Rattle.key_index_flat.specs.View.{put_value}
-use Rattle.key_index_parts.specs.Pairs.{grouped, list_of}
+use Rattle.key_index_parts.specs.Pairs.{grouped}
 use Rattle.key_index_parts.specs.laws.PairLaws.{IsLawful-grouped}
 use Rattle.key_index_parts.proofs.standing.SpillingLemmas.{Grows-below_limit, held_now, item_count-stays_positive, item_count-one_more, Grows-limit_reached}
 use Rattle.key_index_parts.proofs.index.partitioned.bucket.spilling.SpillingBucket.insert.Goals as goal
@@ -9,13 +9,13 @@ use Rattle.key_index_parts.proofs.index.partitioned.bucket.spilling.SpillingBuck
 pub invariant_of-self : goal.invariant_of-self
 invariant_of-self g c =
     let tree = c.deref_mut.result.now in
-    let held = map list_of tree.lists.entries in
+    let held = tree.lists in
     let l = list_at g.T.Key.Ord.cmp held c.args.key in
-    let some = held_now c.args.self.now.tree (λ t. map list_of t.lists.entries) c.in-Some.tree tree c.in-Some.is c.deref_mut.ensures.value c.args.self.now.filled in
+    let some = held_now c.args.self.now.tree (λ t. t.lists) c.in-Some.tree tree c.in-Some.is c.deref_mut.ensures.value c.args.self.now.filled in
     let long = length-append l (c.args.value ∷ []) in
     record {
-      filled = item_count-stays_positive g.met.T.Key.Ord.total c.insert.result held (map list_of c.insert.new.self.lists.entries) c.args.key (put_value false c.args.value)
-          (not (is_filled l)) tree.lawful some (omega (arith, long)) c.insert.ensures.accepted c.insert.ensures.refused;
+      filled = item_count-stays_positive g.met.T.Key.Ord.total c.insert.result held c.insert.new.self.lists c.args.key (put_value false c.args.value)
+          (not (is_filled l)) tree.counted.lawful some (omega (arith, long)) c.insert.ensures.accepted c.insert.ensures.refused;
     }
 
 pub returns-then-len-limit-clause-standing : goal.returns-then-len-limit-clause-standing
@@ -30,20 +30,25 @@ returns-then-len-limit-clause-standing g c =
 pub invariant_of-self-in-Ok-insert : goal.invariant_of-self-in-Ok-insert
 invariant_of-self-in-Ok-insert g c =
     let tree = c.deref_mut-2.result.now in
-    let held = map list_of tree.lists.entries in
+    let held = tree.lists in
     let l = list_at g.T.Key.Ord.cmp held c.args.key in
-    let more = item_count-one_more g.met.T.Key.Ord.total held (map list_of c.insert-2.new.self.lists.entries) c.args.key _ tree.lawful (length-append l (c.args.value ∷ []))
+    let more = item_count-one_more g.met.T.Key.Ord.total held c.insert-2.new.self.lists c.args.key _ tree.counted.lawful (length-append l (c.args.value ∷ []))
     c.in-Ok-insert.ensures.accepted.0 in
     record { filled = omega (arith, more) }
 
 pub returns-in-Ok-insert-clause-standing : goal.returns-in-Ok-insert-clause-standing
 returns-in-Ok-insert-clause-standing g c =
     let tree = c.deref_mut-2.result.now in
-    let held = map list_of tree.lists.entries in
+    let held = tree.lists in
     let l = list_at g.T.Key.Ord.cmp held c.args.key in
-    let more = item_count-one_more g.met.T.Key.Ord.total held (map list_of c.insert-2.new.self.lists.entries) c.args.key _ tree.lawful (length-append l (c.args.value ∷ []))
+    let more = item_count-one_more g.met.T.Key.Ord.total held c.insert-2.new.self.lists c.args.key _ tree.counted.lawful (length-append l (c.args.value ∷ []))
     c.in-Ok-insert.ensures.accepted.0 in
-    let same = ap (λ t. item_count (map list_of t.lists.entries)) c.deref_mut-2.ensures.value ∙ ap item_count c.in-Ok.ensures.tree in
-    let told = c.len-moved.ensures ∙ ap (λ t. item_count (map list_of t.lists.entries)) c.deref.ensures in
-    rw c.in_default.is (Grows-limit_reached c.args.limit _ (map list_of c.insert-2.new.self.lists.entries) c.requires
+    let same = ap (λ t. item_count (t.lists)) c.deref_mut-2.ensures.value ∙ ap item_count c.in-Ok.ensures.tree in
+    let told = c.len-moved.ensures ∙ ap (λ t. item_count (t.lists)) c.deref.ensures in
+    rw c.in_default.is (Grows-limit_reached c.args.limit _ c.insert-2.new.self.lists c.requires
     (omega (arith, told, more, same, c.len.ensures, c.if-len-limit.false, c.requires)) told)
+
+pub lower-requires-clause-room : goal.lower-requires-clause-room
+lower-requires-clause-room g c =
+    let same = ap item_count c.in-Err.ensures.refused ∙ ap (λ t. item_count t.lists) c.deref_mut-2.ensures.value ∙ ap item_count c.in-Ok.ensures.tree in
+    omega (arith, same, c.in-Ok.ensures.room)

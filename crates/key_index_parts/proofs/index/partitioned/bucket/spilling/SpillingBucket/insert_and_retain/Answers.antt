@@ -1,7 +1,7 @@
-use Rattle.std.proofs.Common.{map, ap, ◌∙◌, arith}
+use Rattle.std.proofs.Common.{ap, ◌∙◌, arith}
 use Rattle.std.specs.Fn.{CalledAt}
 use Rattle.key_index_flat.specs.Content.{item_count}
-use Rattle.key_index_parts.specs.Pairs.{grouped, list_of}
+use Rattle.key_index_parts.specs.Pairs.{grouped}
 use Rattle.key_index_parts.specs.laws.PairLaws.{IsLawful-grouped}
 use Rattle.key_index_parts.proofs.standing.SpillingLemmas.{Grows-below_limit, in_tree, Grows-limit_reached, item_count-retained}
 use Rattle.key_index_parts.proofs.index.partitioned.bucket.spilling.SpillingBucket.insert_and_retain.Goals as goal
@@ -19,21 +19,26 @@ returns-then-len-limit-clause-standing g c =
 
 pub lower-requires-clause-room : goal.lower-requires-clause-room
 lower-requires-clause-room g c =
-    let told = c.len-left.ensures ∙ ap (λ t. item_count (map list_of t.lists.entries)) c.deref.ensures in
-    omega (arith, told, c.len-len.ensures, c.if-len-limit.false, c.if-left-limit.true, c.in-Ok.ensures.spare.1)
+    let told = c.len-left.ensures ∙ ap (λ t. item_count (t.lists)) c.deref.ensures in
+    omega (arith, told, c.len-len.ensures, c.if-len-limit.false, c.if-left-limit.true, c.in-Ok.ensures.room)
 
 pub returns-then-left-limit-clause-standing : goal.returns-then-left-limit-clause-standing
 returns-then-left-limit-clause-standing g c =
-    let told = c.len-left.ensures ∙ ap (λ t. item_count (map list_of t.lists.entries)) c.deref.ensures in
+    let told = c.len-left.ensures ∙ ap (λ t. item_count (t.lists)) c.deref.ensures in
     let same = ap item_count c.lower.ensures in
     rw c.in_default.is (Grows-below_limit c.args.limit _ (omega (arith, told, same, c.if-left-limit.true)))
 
 pub invariant_of-self-in-Ok-insert_and_retain : goal.invariant_of-self-in-Ok-insert_and_retain
 invariant_of-self-in-Ok-insert_and_retain g c =
-    let told = c.len-left.ensures ∙ ap (λ t. item_count (map list_of t.lists.entries)) c.deref.ensures in
+    let told = c.len-left.ensures ∙ ap (λ t. item_count (t.lists)) c.deref.ensures in
     record { filled = omega (arith, told, c.requires.limit, c.if-left-limit.false) }
 
 pub returns-else-left-limit-clause-standing : goal.returns-else-left-limit-clause-standing
 returns-else-left-limit-clause-standing g c =
-    let told = c.len-left.ensures ∙ ap (λ t. item_count (map list_of t.lists.entries)) c.deref.ensures in
-    rw c.in_default.is (Grows-limit_reached c.args.limit _ (map list_of c.insert_and_retain-2.new.self.lists.entries) c.requires.limit (omega (arith, c.if-left-limit.false)) told)
+    let told = c.len-left.ensures ∙ ap (λ t. item_count (t.lists)) c.deref.ensures in
+    rw c.in_default.is (Grows-limit_reached c.args.limit _ c.insert_and_retain-2.new.self.lists c.requires.limit (omega (arith, c.if-left-limit.false)) told)
+
+pub lower-requires-in-Err-clause-room : goal.lower-requires-in-Err-clause-room
+lower-requires-in-Err-clause-room g c =
+    let same = ap item_count c.in-Err.ensures.refused ∙ ap (λ t. item_count t.lists) c.deref_mut-2.ensures.value ∙ ap item_count c.in-Ok.ensures.tree in
+    omega (arith, same, c.in-Ok.ensures.room)

@@ -1,22 +1,22 @@
-use Rattle.std.proofs.Common.{◌≤◌, length, map, not, subst, arith}
+use Rattle.std.proofs.Common.{◌≤◌, length, not, subst, arith}
 use Rattle.std.proofs.lemmas.List.Edits.{length-insert}
 use Rattle.std.specs.List.{insert}
 use Rattle.key_index_flat.specs.Content.{is_filled, list_at}
-use Rattle.key_index_parts.specs.Pairs.{grouped, list_of}
+use Rattle.key_index_parts.specs.Pairs.{grouped}
 use Rattle.key_index_parts.proofs.standing.SpillingLemmas.{held_by-tree, held_now, item_count-stays_positive}
 use Rattle.key_index_parts.proofs.index.partitioned.bucket.spilling.SpillingEditBucket.insert_at.Goals as goal
 
 pub invariant_of-self : goal.invariant_of-self
 invariant_of-self g c =
     let tree = c.deref_mut.result.now in
-    let held = map list_of tree.lists.entries in
+    let held = tree.lists in
     let l = list_at g.T.Key.Ord.cmp held c.args.key in
-    let some = held_now c.args.self.now.tree (λ t. map list_of t.lists.entries) c.in-Some.tree tree c.in-Some.is c.deref_mut.ensures.value c.args.self.now.filled in
+    let some = held_now c.args.self.now.tree (λ t. t.lists) c.in-Some.tree tree c.in-Some.is c.deref_mut.ensures.value c.args.self.now.filled in
     let upto : c.args.place ≤ length l = subst (λ h. c.args.place ≤ length (list_at g.T.Key.Ord.cmp h c.args.key))
-    (held_by-tree c.args.self.now.tree (λ t. map list_of t.lists.entries) c.in-Some.tree tree (grouped g.T.Key.Ord.cmp c.args.self.now.arrays.pairs.pairs) c.in-Some.is c.deref_mut.ensures.value)
+    (held_by-tree c.args.self.now.tree (λ t. t.lists) c.in-Some.tree tree (grouped g.T.Key.Ord.cmp c.args.self.now.arrays.pairs.pairs) c.in-Some.is c.deref_mut.ensures.value)
     c.requires in
     let long = length-insert l c.args.place c.args.value upto in
     record {
-      filled = item_count-stays_positive g.met.T.Key.Ord.total c.insert_at.result held (map list_of c.insert_at.new.self.lists.entries) c.args.key (λ m. insert m c.args.place c.args.value)
-          (not (is_filled l)) tree.lawful some (omega (arith, long)) c.insert_at.ensures.accepted c.insert_at.ensures.refused;
+      filled = item_count-stays_positive g.met.T.Key.Ord.total c.insert_at.result held (c.insert_at.new.self.lists) c.args.key (λ m. insert m c.args.place c.args.value)
+          (not (is_filled l)) tree.counted.lawful some (omega (arith, long)) c.insert_at.ensures.accepted c.insert_at.ensures.refused;
     }

@@ -1,16 +1,15 @@
-use Rattle.std.proofs.Common.{map, length-set, arith}
+use Rattle.std.proofs.Common.{length-set, arith}
 use Rattle.key_index_flat.specs.Content.{list_at}
-use Rattle.key_index_parts.specs.Pairs.{list_of}
 use Rattle.key_index_parts.proofs.standing.SpillingLemmas.{held_now, some_left}
 use Rattle.key_index_parts.proofs.index.partitioned.bucket.spilling.SpillingEditBucket.set_at.Goals as goal
 
 pub invariant_of-self : goal.invariant_of-self
 invariant_of-self g c =
     let tree = c.deref_mut.result.now in
-    let held = map list_of tree.lists.entries in
+    let held = tree.lists in
     let l = list_at g.T.Key.Ord.cmp held c.args.key in
-    let some = held_now c.args.self.now.tree (λ t. map list_of t.lists.entries) c.in-Some.tree tree c.in-Some.is c.deref_mut.ensures.value c.args.self.now.filled in
+    let some = held_now c.args.self.now.tree (λ t. t.lists) c.in-Some.tree tree c.in-Some.is c.deref_mut.ensures.value c.args.self.now.filled in
     let long = length-set l c.args.place c.args.value in
     record {
-      filled = some_left g.met.T.Key.Ord.total held (map list_of c.set_at.new.self.lists.entries) c.args.key _ tree.lawful some (omega (arith, long)) c.set_at.ensures.content;
+      filled = some_left g.met.T.Key.Ord.total held c.set_at.new.self.lists c.args.key _ tree.counted.lawful some (omega (arith, long)) c.set_at.ensures.content;
     }

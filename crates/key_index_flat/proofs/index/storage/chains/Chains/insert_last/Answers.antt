@@ -1,0 +1,49 @@
+use Rattle.std.proofs.Common.{◌≡◌, ◌++◌, IfErr, ◌∷◌, [], refl, sym, ap, ◌∙◌, subst}
+use Rattle.key_index_flat.specs.Content.{with_list}
+use Rattle.key_index_flat.specs.Storage.{content_of, tail_at}
+use Rattle.key_index_flat.proofs.content.ChainLemmas.{put_absent, behind_linked, behind_content, behind_refused, none_back, some_back}
+use Rattle.key_index_flat.proofs.index.storage.chains.Chains.insert_last.Goals as goal
+
+pub invariant_of-self-in_default : goal.invariant_of-self-in_default
+invariant_of-self-in_default g c =
+    let tail = tail_at g.E.End.FIRST g.T.Key.PartialEq.eq c.self.inside.tails.map in
+    let put = put_absent g.met.T.Key.Ord.total g.met.T.Translator.exact (g.M.Heads.entries c.self.inside.heads) (g.M.Heads.entries c.insert_absent.new.self) tail tail c.args.slot c.self.invariant c.args.value c.in_ok-value.ensures.at c.insert_absent.ensures.others c.in_ok-value.ensures.len
+    (none_back _ c.args.value c.in_ok-value.field-0 c.in_ok-value.ensures.back c.in_default.is) (λ q. refl) in
+    put.1.linked
+
+pub returns-in_default-clause-accepted : goal.returns-in_default-clause-accepted
+returns-in_default-clause-accepted g c =
+    let tail = tail_at g.E.End.FIRST g.T.Key.PartialEq.eq c.self.inside.tails.map in
+    let put = put_absent g.met.T.Key.Ord.total g.met.T.Translator.exact (g.M.Heads.entries c.self.inside.heads) (g.M.Heads.entries c.insert_absent.new.self) tail tail c.args.slot c.self.invariant c.args.value c.in_ok-value.ensures.at c.insert_absent.ensures.others c.in_ok-value.ensures.len
+    (none_back _ c.args.value c.in_ok-value.field-0 c.in_ok-value.ensures.back c.in_default.is) (λ q. refl) in
+    rw (← c.self.view_is) (put.1.content ∙ ap (λ l. with_list g.T.Key.Ord.cmp (content_of g.T.Key.Ord.cmp (g.M.Heads.entries c.self.inside.heads) tail) c.args.slot (l ++ c.args.value ∷ [])) (sym put.0))
+
+pub invariant_of-self-2 : goal.invariant_of-self-2
+invariant_of-self-2 g c =
+    let tail = tail_at g.E.End.FIRST g.T.Key.PartialEq.eq c.self.inside.tails.map in
+    let held = some_back _ c.args.value _ c.in_ok-value.field-0 c.in_ok-value.ensures.back c.in-Some.is in
+    behind_linked g.met.T.Key.Ord.total g.met.T.Translator.exact (g.M.Heads.entries c.self.inside.heads) (g.M.Heads.entries c.insert_absent.new.self) tail (tail_at g.E.End.FIRST g.T.Key.PartialEq.eq c.insert_at.new.self.map) c.args.slot c.self.invariant
+    c.args.value c.in_ok-value.ensures.at c.insert_absent.ensures.others c.in_ok-value.ensures.len held.0 c.in-Some.value held.1 c.insert_at.result c.insert_at.ensures.at c.insert_at.ensures.refused c.insert_at.ensures.others
+
+pub returns-clause-accepted : goal.returns-clause-accepted
+returns-clause-accepted g c =
+    let tail = tail_at g.E.End.FIRST g.T.Key.PartialEq.eq c.self.inside.tails.map in
+    let held = some_back _ c.args.value _ c.in_ok-value.field-0 c.in_ok-value.ensures.back c.in-Some.is in
+    rw (← c.self.view_is) (
+    behind_content g.met.T.Key.Ord.total g.met.T.Translator.exact (g.M.Heads.entries c.self.inside.heads) (g.M.Heads.entries c.insert_absent.new.self) tail (tail_at g.E.End.FIRST g.T.Key.PartialEq.eq c.insert_at.new.self.map) c.args.slot c.self.invariant
+    c.args.value c.in_ok-value.ensures.at c.insert_absent.ensures.others c.in_ok-value.ensures.len held.0 c.in-Some.value held.1 c.insert_at.result c.insert_at.ensures.at c.insert_at.ensures.others
+    )
+
+pub returns-clause-refused : goal.returns-clause-refused
+returns-clause-refused g c =
+    let tail = tail_at g.E.End.FIRST g.T.Key.PartialEq.eq c.self.inside.tails.map in
+    let held = some_back _ c.args.value _ c.in_ok-value.field-0 c.in_ok-value.ensures.back c.in-Some.is in
+    rw (← c.self.view_is) (
+    behind_refused g.met.T.Key.Ord.total g.met.T.Translator.exact (g.M.Heads.entries c.self.inside.heads) (g.M.Heads.entries c.insert_absent.new.self) tail (tail_at g.E.End.FIRST g.T.Key.PartialEq.eq c.insert_at.new.self.map) c.args.slot c.self.invariant
+    c.args.value c.in_ok-value.ensures.at c.insert_absent.ensures.others c.in_ok-value.ensures.len held.0 c.insert_at.result c.insert_at.ensures.refused c.insert_at.ensures.others
+    )
+
+pub returns-clause-returned : goal.returns-clause-returned
+returns-clause-returned g c =
+    let held = some_back _ c.args.value _ c.in_ok-value.field-0 c.in_ok-value.ensures.back c.in-Some.is in
+    subst (λ v. IfErr c.insert_at.result (λ back. back ≡ v)) held.1 c.insert_at.ensures.returned

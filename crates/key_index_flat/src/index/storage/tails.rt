@@ -1,0 +1,420 @@
+//! The tails of lists: of each list that has more than one value, all of them but the first.
+ghost use Rattle.std.specs.Prelude.{◌≡◌, ◌+◌, ◌∷◌, ◌++◌, IfOk, Bool, true, false, ◌-◌, ◌<◌, ◌≤◌, List, length, slice_get, slice_set, insert, remove, unwrap_or, [], IfErr, IfSome, OnErr, OnOk};
+ghost use Rattle.std.specs.Fn.{CalledAt};
+ghost use Rattle.std.specs.Option.{option_map};
+ghost use Rattle.key_index_flat.specs.Retention.{RetainsFrom};
+ghost use Rattle.key_index_flat.specs.Storage.{at_key, index_in, tail_at, SameBut};
+ghost use Rattle.key_index_flat.specs.Values.{in_order};
+
+use crate::index::implement::retain_in_turn;
+use std::alloc::Global;
+use std::collections::HashMap;
+use std::collections::hash_map::Entry;
+use std::hash::Hash;
+use std::marker::PhantomData;
+
+/// One of the two ends of a list.
+pub trait End {
+    ghost FIRST: { Bool };
+
+    /// Whether it is in front of the first value.
+    fn is_first() -> bool
+        ensures { result ≡ FIRST };
+}
+
+/// In front of the first value.
+pub struct Front;
+
+impl End for Front {
+    ghost FIRST = { true };
+
+    #[inline(always)]
+    fn is_first() -> bool {
+        true
+    }
+}
+
+/// Behind the last value.
+pub struct Back;
+
+impl End for Back {
+    ghost FIRST = { false };
+
+    #[inline(always)]
+    fn is_first() -> bool {
+        false
+    }
+}
+
+/// The tails, each in a vector that ends with the value at the end `E` of the list: it is reversed where that is `Front`. The map is
+/// allocated with the first tail, and stays.
+#[derive(Drop)]
+pub(super) struct Tails<K: Ord + Hash + Copy, V, E: End> {
+    map: Option<Box<HashMap<K, Vec<V>>>>,
+    end: PhantomData<E>,
+}
+
+/// Where the value at a place stands in a vector, by the index of the last.
+#[inline(always)]
+fn index_of<E: End>(last: usize, place: usize) -> usize
+    requires { place ≤ last }
+    ensures { result ≡ index_in E.FIRST last place }
+{
+    if E::is_first() { last - place } else { place }
+}
+
+/// Puts a vector in list order, or back.
+#[inline(always)]
+fn turn<V, E: End>(values: &mut Vec<V>)
+    ensures { values.new.items ≡ in_order E.FIRST values.old.items }
+{
+    if E::is_first() {
+        values.reverse();
+    }
+}
+
+/// The vector at a key.
+#[inline(never)]
+fn values_in<K: Ord + Hash + Copy, V>(map: &HashMap<K, Vec<V>>, key: K) -> &[V]
+    ensures values { result.now ≡ at_key K.eq map.now key }
+    ensures small { length result.now < usize.MAX }
+{
+    match map.get(&key) {
+        Some(values) => values.as_slice(),
+        None => &[],
+    }
+}
+
+/// Puts a vector at a key.
+fn put_in<K: Ord + Hash + Copy, V: Drop>(
+    map: &mut HashMap<K, Vec<V>>,
+    key: K,
+    values: Vec<V>,
+) -> Result<(), Vec<V>>
+    ensures at { OnOk result (at_key K.eq map.new key ≡ values.items) }
+    ensures others { SameBut K.cmp (at_key K.eq map.old) (at_key K.eq map.new) key }
+    ensures refused { OnErr result (at_key K.eq map.new key ≡ at_key K.eq map.old key) }
+    ensures returned { IfErr result (λ back. back ≡ values) }
+{
+    match map.insert(key, values) {
+        Ok(_) => Ok(()),
+        Err(failed) => {
+            let (_, values) = failed.value;
+            Err(values)
+        }
+    }
+}
+
+/// Removes the vector at a key, if there is one.
+#[inline(never)]
+fn remove_in<K: Ord + Hash + Copy, V: Drop>(map: &mut HashMap<K, Vec<V>>, key: K) -> Option<Vec<V>>
+    ensures removed { unwrap_or (option_map (λ values. values.items) result) [] ≡ at_key K.eq map.old key }
+    ensures at { at_key K.eq map.new key ≡ [] }
+    ensures others { SameBut K.cmp (at_key K.eq map.old) (at_key K.eq map.new) key }
+{
+    map.remove(&key)
+}
+
+/// Removes the vector at a key, of which so many values are left, where that is none.
+fn remove_empty<K: Ord + Hash + Copy, V: Drop>(map: &mut HashMap<K, Vec<V>>, key: K, left: usize)
+    requires { left ≡ length (at_key K.eq map.old key) }
+    ensures at { at_key K.eq map.new key ≡ at_key K.eq map.old key }
+    ensures others { SameBut K.cmp (at_key K.eq map.old) (at_key K.eq map.new) key }
+{
+    if left == 0 {
+        map.remove(&key);
+    }
+}
+
+/// Inserts a value at a place of a tail, or behind its last value where there is no place.
+fn insert_in<K: Ord + Hash + Copy, V: Drop, E: End>(
+    alloc: Global,
+    map: &mut HashMap<K, Vec<V>>,
+    key: K,
+    place: Option<usize>,
+    value: V,
+) -> Result<(), V>
+    requires { IfSome place (λ at. at ≤ length (at_key K.eq map.old key)) }
+    ensures at { OnOk result (let old = at_key K.eq map.old key in at_key K.eq map.new key
+        ≡ insert old (index_in E.FIRST (length old) (unwrap_or place (length old))) value) }
+    ensures others { SameBut K.cmp (at_key K.eq map.old) (at_key K.eq map.new) key }
+    ensures refused { OnErr result (at_key K.eq map.new key ≡ at_key K.eq map.old key) }
+    ensures returned { IfErr result (λ back. back ≡ value) }
+{
+    match map.entry(key) {
+        Err(_) => Err(value),
+        Ok(Entry::Occupied(entry)) => {
+            let values = entry.into_mut();
+            let len = values.len();
+            match values.insert(index_of::<E>(len, place.unwrap_or(len)), value) {
+                Ok(()) => Ok(()),
+                Err(failed) => Err(failed.value),
+            }
+        }
+        Ok(Entry::Vacant(entry)) => {
+            let mut values = Vec::new(alloc);
+            match values.push(value) {
+                Ok(()) => {
+                    entry.insert(values);
+                    Ok(())
+                }
+                Err(failed) => {
+                    entry.into_key();
+                    Err(failed.value)
+                }
+            }
+        }
+    }
+}
+
+/// Calls the closure once for a list's first value and then for each of its tail, in list order, and removes those of the tail for
+/// which it returns false. Returns its first answer, how many values the tail had, how many it has left, and the last answer.
+fn retain_behind<V: Drop, F: FnMut(&V) -> bool, E: End>(
+    head: &V,
+    values: &mut Vec<V>,
+    mut should_retain: F,
+) -> (bool, usize, usize, bool)
+    requires { F.IsAlwaysCallable should_retain }
+    ensures asked { RetainsFrom (CalledAt F.FnMut) should_retain head.now
+        (in_order E.FIRST values.old.items) (in_order E.FIRST values.new.items) result.0 result.3 }
+    ensures had { result.1 ≡ length values.old.items }
+    ensures left { result.2 ≡ length values.new.items }
+{
+    let head_stays = should_retain(head);
+    let had = values.len();
+    turn::<V, E>(values);
+    let stays = retain_in_turn(values, should_retain, head_stays);
+    turn::<V, E>(values);
+    (head_stays, had, values.len(), stays)
+}
+
+/// `retain_behind`, where there is no tail.
+#[inline]
+fn retain_alone<V, F: FnMut(&V) -> bool>(
+    head: &V,
+    mut should_retain: F,
+) -> (bool, usize, usize, bool)
+    requires { F.IsAlwaysCallable should_retain }
+    ensures asked { RetainsFrom (CalledAt F.FnMut) should_retain head.now [] [] result.0 result.3 }
+    ensures had { result.1 ≡ 0 }
+    ensures left { result.2 ≡ 0 }
+{
+    let stays = should_retain(head);
+    (stays, 0, 0, stays)
+}
+
+impl<K: Ord + Hash + Copy, V, E: End> Tails<K, V, E> {
+    /// No tails. Takes no memory.
+    pub(super) fn new() -> Tails<K, V, E>
+        ensures { (k : K) → tail_at E.FIRST K.eq result.map k ≡ [] }
+    {
+        Tails {
+            map: None,
+            end: PhantomData,
+        }
+    }
+
+    /// The vector of a tail. Where no list has one, nothing is looked up.
+    #[inline(always)]
+    pub(super) fn vector(&self, key: K) -> &[V]
+        ensures values { in_order E.FIRST result.now ≡ tail_at E.FIRST K.eq self.now.map key }
+        ensures small { length result.now < usize.MAX }
+    {
+        match &self.map {
+            Some(map) => {
+                if map.is_empty() {
+                    return &[];
+                }
+                values_in(map, key)
+            }
+            None => &[],
+        }
+    }
+
+    #[inline(always)]
+    pub(super) fn len(&self, key: K) -> usize
+        ensures len { result ≡ length (tail_at E.FIRST K.eq self.now.map key) }
+        ensures fits { result < usize.MAX }
+    {
+        self.vector(key).len()
+    }
+
+    #[inline(always)]
+    pub(super) fn value_at(&self, key: K, place: usize) -> &V
+        requires { place < length (tail_at E.FIRST K.eq self.now.map key) }
+        ensures { slice_get (tail_at E.FIRST K.eq self.now.map key) place ≡ Some result.now }
+    {
+        let values = self.vector(key);
+        &values[index_of::<E>(values.len() - 1, place)]
+    }
+
+    /// Puts another value at a place.
+    pub(super) fn set_at(&mut self, key: K, place: usize, value: V)
+    where
+        V: Drop,
+        requires { place < length (tail_at E.FIRST K.eq self.old.map key) }
+        ensures at { tail_at E.FIRST K.eq self.new.map key ≡ slice_set (tail_at E.FIRST K.eq self.old.map key) place value }
+        ensures others { SameBut K.cmp (tail_at E.FIRST K.eq self.old.map) (tail_at E.FIRST K.eq self.new.map) key }
+    {
+        let Some(map) = &mut self.map else {
+            unreachable!()
+        };
+        let values = map.get_mut(&key).unwrap();
+        let index = index_of::<E>(values.len() - 1, place);
+        values[index] = value;
+    }
+
+    /// Inserts a value at a place, or behind the last value where there is no place. A refusal hands it back and changes nothing.
+    pub(super) fn insert_at(
+        &mut self,
+        alloc: Global,
+        key: K,
+        place: Option<usize>,
+        value: V,
+    ) -> Result<(), V>
+    where
+        V: Drop,
+        requires { IfSome place (λ at. at ≤ length (tail_at E.FIRST K.eq self.old.map key)) }
+        ensures at { OnOk result (let old = tail_at E.FIRST K.eq self.old.map key in
+            tail_at E.FIRST K.eq self.new.map key ≡ insert old (unwrap_or place (length old)) value) }
+        ensures others { SameBut K.cmp (tail_at E.FIRST K.eq self.old.map) (tail_at E.FIRST K.eq self.new.map) key }
+        ensures refused { OnErr result (tail_at E.FIRST K.eq self.new.map key ≡ tail_at E.FIRST K.eq self.old.map key) }
+        ensures returned { IfErr result (λ back. back ≡ value) }
+    {
+        if let Some(map) = &mut self.map {
+            return insert_in::<K, V, E>(alloc, map, key, place, value);
+        }
+        let Ok(mut map) = Box::new(alloc, HashMap::new(alloc)) else {
+            return Err(value);
+        };
+        insert_in::<K, V, E>(alloc, &mut map, key, place, value)?;
+        self.map = Some(map);
+        Ok(())
+    }
+
+    /// Gives a key without a tail one, by its vector. A refusal hands that back and changes nothing.
+    pub(super) fn put(&mut self, alloc: Global, key: K, values: Vec<V>) -> Result<(), Vec<V>>
+    where
+        V: Drop,
+        requires { tail_at E.FIRST K.eq self.old.map key ≡ [] }
+        ensures at { OnOk result (tail_at E.FIRST K.eq self.new.map key ≡ in_order E.FIRST values.items) }
+        ensures others { SameBut K.cmp (tail_at E.FIRST K.eq self.old.map) (tail_at E.FIRST K.eq self.new.map) key }
+        ensures refused { OnErr result (tail_at E.FIRST K.eq self.new.map key ≡ []) }
+        ensures returned { IfErr result (λ back. back ≡ values) }
+    {
+        if values.is_empty() {
+            return Ok(());
+        }
+        if let Some(map) = &mut self.map {
+            return put_in(map, key, values);
+        }
+        let Ok(mut map) = Box::new(alloc, HashMap::new(alloc)) else {
+            return Err(values);
+        };
+        put_in(&mut map, key, values)?;
+        self.map = Some(map);
+        Ok(())
+    }
+
+    /// Removes the value at a place, if there is one. Returns it, and how many are left.
+    pub(super) fn remove_at(&mut self, key: K, place: usize) -> Option<(V, usize)>
+    where
+        V: Drop,
+        ensures value { option_map (λ removed. removed.0) result ≡ slice_get (tail_at E.FIRST K.eq self.old.map key) place }
+        ensures at { tail_at E.FIRST K.eq self.new.map key ≡ remove (tail_at E.FIRST K.eq self.old.map key) place }
+        ensures left { IfSome result (λ removed. removed.1 ≡ length (tail_at E.FIRST K.eq self.new.map key)) }
+        ensures fits { IfSome result (λ removed. removed.1 < usize.MAX) }
+        ensures others { SameBut K.cmp (tail_at E.FIRST K.eq self.old.map) (tail_at E.FIRST K.eq self.new.map) key }
+    {
+        let Some(map) = &mut self.map else {
+            return None;
+        };
+        if map.is_empty() {
+            return None;
+        }
+        let values = map.get_mut(&key)?;
+        let len = values.len();
+        if place >= len {
+            return None;
+        }
+        let value = values.remove(index_of::<E>(len - 1, place));
+        remove_empty(map, key, len - 1);
+        Some((value, len - 1))
+    }
+
+    /// Removes a tail, and returns its vector, if it has one. Where no list has a tail, nothing is looked up.
+    #[inline(always)]
+    pub(super) fn take(&mut self, key: K) -> Option<Vec<V>>
+    where
+        V: Drop,
+        ensures taken { in_order E.FIRST (unwrap_or (option_map (λ values. values.items) result) [])
+            ≡ tail_at E.FIRST K.eq self.old.map key }
+        ensures at { tail_at E.FIRST K.eq self.new.map key ≡ [] }
+        ensures others { SameBut K.cmp (tail_at E.FIRST K.eq self.old.map) (tail_at E.FIRST K.eq self.new.map) key }
+    {
+        let Some(map) = &mut self.map else {
+            return None;
+        };
+        if map.is_empty() {
+            return None;
+        }
+        remove_in(map, key)
+    }
+
+    /// `retain_behind`, of the tail of a key.
+    pub(super) fn retain<F: FnMut(&V) -> bool>(
+        &mut self,
+        key: K,
+        head: &V,
+        should_retain: F,
+    ) -> (bool, usize, usize, bool)
+    where
+        V: Drop,
+        requires { F.IsAlwaysCallable should_retain }
+        ensures asked { RetainsFrom (CalledAt F.FnMut) should_retain head.now
+            (tail_at E.FIRST K.eq self.old.map key) (tail_at E.FIRST K.eq self.new.map key) result.0 result.3 }
+        ensures had { result.1 ≡ length (tail_at E.FIRST K.eq self.old.map key) }
+        ensures left { result.2 ≡ length (tail_at E.FIRST K.eq self.new.map key) }
+        ensures fits { (result.1 < usize.MAX) × (result.2 < usize.MAX) }
+        ensures others { SameBut K.cmp (tail_at E.FIRST K.eq self.old.map) (tail_at E.FIRST K.eq self.new.map) key }
+    {
+        let Some(map) = &mut self.map else {
+            return retain_alone(head, should_retain);
+        };
+        if map.is_empty() {
+            return retain_alone(head, should_retain);
+        }
+        let Some(values) = map.get_mut(&key) else {
+            return retain_alone(head, should_retain);
+        };
+        let told = retain_behind::<V, F, E>(head, values, should_retain);
+        remove_empty(map, key, told.2);
+        told
+    }
+
+    /// Inserts a value behind the last one, which allocates all the memory that the call may need, and then `retain_behind`. A refusal
+    /// hands the value back and changes nothing.
+    pub(super) fn insert_and_retain<F: FnMut(&V) -> bool>(
+        &mut self,
+        alloc: Global,
+        key: K,
+        head: &V,
+        value: V,
+        should_retain: F,
+    ) -> Result<(bool, usize, usize, bool), V>
+    where
+        V: Drop,
+        requires { F.IsAlwaysCallable should_retain }
+        ensures asked { IfOk result (λ told. RetainsFrom (CalledAt F.FnMut) should_retain head.now
+            (tail_at E.FIRST K.eq self.old.map key ++ value ∷ []) (tail_at E.FIRST K.eq self.new.map key) told.0 told.3) }
+        ensures had { IfOk result (λ told. told.1 ≡ length (tail_at E.FIRST K.eq self.old.map key) + 1) }
+        ensures left { IfOk result (λ told. told.2 ≡ length (tail_at E.FIRST K.eq self.new.map key)) }
+        ensures fits { IfOk result (λ told. (told.1 < usize.MAX) × (told.2 < usize.MAX)) }
+        ensures others { SameBut K.cmp (tail_at E.FIRST K.eq self.old.map) (tail_at E.FIRST K.eq self.new.map) key }
+        ensures refused { OnErr result (tail_at E.FIRST K.eq self.new.map key ≡ tail_at E.FIRST K.eq self.old.map key) }
+        ensures returned { IfErr result (λ back. back ≡ value) }
+    {
+        self.insert_at(alloc, key, None, value)?;
+        Ok(self.retain(key, head, should_retain))
+    }
+}
