@@ -163,8 +163,8 @@ pub(super) trait Bucket<T: Translator, V>: EditBucket<T, V> {
     fn is_spilled(&self) -> bool
         ensures { result ≡ Self.spilled self.now };
 
-    /// Moves the values from the arrays to a tree, all or none. It takes all the memory for it before the first value moves. A bucket of a
-    /// kind that never spills stays as it is.
+    /// Moves the values from the arrays to a tree, all or none: after an allocation failure those that moved are back in the arrays. A
+    /// bucket of a kind that never spills stays as it is.
     fn spill(&mut self) -> Result<(), AllocError>
         requires { IsTrue SPILLS → 0 < inline_in SPILLS (Self.spilled self.old) (Self.content self.old) }
         ensures content { Self.content self.new ≡ Self.content self.old }
