@@ -1,6 +1,6 @@
 -- On all values of a content, and on a closure that is called on them.
---     visits_append                 the calls on two lists
---     in_turn, in_turn-more         the values of entries, each first one with its tail; and of one entry more
+--     in_turn                       the values of entries, each first one with its tail
+--     visits_more                   the calls on these, and on those of one entry more
 --     all_values                    these are those of the content that the entries stand for
 use Rattle.std.proofs.Common.{◌≡◌, ◌≤◌, cond, List, [], ◌∷◌, ◌++◌, length, unwrap_or, Some, T, append_assoc, append-nil, refl, sym, ap, subst, ◌∙◌, arith}
 use Rattle.std.proofs.lemmas.List.Sorted.{IsPermutation-refl, IsPermutation-trans, IsPermutation-append_left, IsPermutation-append_right, IsPermutation-append_comm}
@@ -18,7 +18,7 @@ use Rattle.key_index_flat.specs.Values.{values_of, VisitsInTurn}
 use Rattle.key_index_flat.proofs.content.ContentLemmas.{key_count-with_list, entries_for}
 
 module _ {F V : Type 0} (visit : F → V → Unit {0} → F → Type 0) where
-  pub visits_append : (f g h : F) (xs ys : List V) → VisitsInTurn visit f xs g → VisitsInTurn visit g ys h → VisitsInTurn visit f (xs ++ ys) h
+  visits_append : (f g h : F) (xs ys : List V) → VisitsInTurn visit f xs g → VisitsInTurn visit g ys h → VisitsInTurn visit f (xs ++ ys) h
   visits_append f g h [] ys e more = subst (λ x. VisitsInTurn visit x ys h) (sym e) more
   visits_append f g h (x ∷ xs) ys said more = (said.0, said.1, visits_append said.0 g h xs ys said.2 more)
 
@@ -27,10 +27,15 @@ module _ {K V : Type 0} (tail : K → List V) where
   in_turn [] = []
   in_turn (e ∷ es) = (e.1 ∷ tail e.0) ++ in_turn es
 
-  pub in_turn-more : (es : List (K × V)) (e : K × V) → in_turn (es ++ e ∷ []) ≡ in_turn es ++ e.1 ∷ tail e.0
+  in_turn-more : (es : List (K × V)) (e : K × V) → in_turn (es ++ e ∷ []) ≡ in_turn es ++ e.1 ∷ tail e.0
   in_turn-more [] e = append-nil (e.1 ∷ tail e.0)
   in_turn-more (d ∷ ds) e =
       ap (λ l. (d.1 ∷ tail d.0) ++ l) (in_turn-more ds e) ∙ sym (append_assoc (d.1 ∷ tail d.0) (in_turn ds) (e.1 ∷ tail e.0))
+
+  pub visits_more : {F : Type 0} (visit : F → V → Unit {0} → F → Type 0) (f g h : F) (es : List (K × V)) (e : K × V)
+      → VisitsInTurn visit f (in_turn es) g → VisitsInTurn visit g (e.1 ∷ tail e.0) h → VisitsInTurn visit f (in_turn (es ++ e ∷ [])) h
+  visits_more visit f g h es e before more =
+      subst (λ l. VisitsInTurn visit f l h) (sym (in_turn-more es e)) (visits_append visit f g h (in_turn es) (e.1 ∷ tail e.0) before more)
 
 entries_for-zero : {V : Type 0} (l : List V) → entries_for l ≡ 0 → l ≡ []
 entries_for-zero [] e = refl

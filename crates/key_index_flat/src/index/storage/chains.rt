@@ -65,7 +65,7 @@ impl<T: Translator, V: Drop, M: Heads<T::Key, V>, E: End> Chains<T, V, M, E> {
         ensures { result ≡ list_at T.Key.cmp self.now slot }
     {
         match self.heads.get(&slot) {
-            Some(head) => Values::with_first(head, self.tails.vector(slot), E::is_first()),
+            Some(head) => self.tails.list(slot, head),
             None => Values::of_slice(&[]),
         }
     }
@@ -330,7 +330,7 @@ fn values_of<'a, K: Ord + Hash + Copy, V, E: End>(
         ≡ option_map (λ e. e.1 ∷ tail_at E.FIRST K.eq tails.now.map e.0) (option_map deref_pair head.entry) }
 {
     match head {
-        Some((key, head)) => Some(Values::with_first(head, tails.vector(*key), E::is_first())),
+        Some((key, head)) => Some(tails.list(*key, head)),
         None => None,
     }
 }
@@ -408,10 +408,7 @@ fn visit_all<K: Ord + Hash + Copy, V, F: FnMut(&V), E: End>(
     ensures callable { F.IsAlwaysCallable visit.new }
 {
     for (key, head) in heads.iter() {
-        visit_in_turn(
-            Values::with_first(head, tails.vector(*key), E::is_first()),
-            visit,
-        );
+        visit_in_turn(tails.list(*key, head), visit);
     }
 }
 
@@ -428,10 +425,7 @@ fn visit_few<K: Ord + Hash + Copy, V, F: FnMut(&V), E: End>(
     ensures callable { F.IsAlwaysCallable visit.new }
 {
     for (key, head) in heads.iter() {
-        visit_in_turn(
-            Values::with_first(head, tails.vector(*key), E::is_first()),
-            visit,
-        );
+        visit_in_turn(tails.list(*key, head), visit);
     }
 }
 
@@ -448,10 +442,7 @@ fn visit_in_order<K: Ord + Hash + Copy, V, F: FnMut(&V), E: End>(
     ensures callable { F.IsAlwaysCallable visit.new }
 {
     for (key, head) in heads.iter() {
-        visit_in_turn(
-            Values::with_first(head, tails.vector(*key), E::is_first()),
-            visit,
-        );
+        visit_in_turn(tails.list(*key, head), visit);
     }
 }
 

@@ -1,4 +1,4 @@
-//! A map of newest values that has its keys in one array while they are few, and in a hashed map once they are many.
+//! A map of first values that has its keys in one array while they are few, and in a hashed map once they are many.
 ghost use Rattle.std.specs.Prelude.{◌≡◌, ◌+◌, ◌<◌, ◌≤◌, ◌≢◌, ℕ, [], None, Some, IfOk, IfErr, IfSome, IfNone, OnOk, OnErr, List, length, slice_index, is_some, IsSome, if◌then◌else◌};
 ghost use Rattle.std.specs.HashMap.{get, hash_map_len, spare};
 ghost use Rattle.std.specs.List.{IsDistinct};

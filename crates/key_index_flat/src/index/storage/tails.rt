@@ -1,11 +1,13 @@
 //! The tails of lists: of each list that has more than one value, all of them but the first.
-ghost use Rattle.std.specs.Prelude.{◌≡◌, ◌+◌, ◌∷◌, ◌++◌, IfOk, Bool, true, false, ◌-◌, ◌<◌, ◌≤◌, List, length, slice_get, slice_set, insert, remove, unwrap_or, [], IfErr, IfSome, OnErr, OnOk};
+ghost use Rattle.std.specs.Prelude.{◌≡◌, ◌+◌, ◌∷◌, ◌++◌, IfOk, Bool, true, false, ◌-◌, ◌<◌, ◌≤◌, List, length, slice_get, slice_set, insert, remove, unwrap_or, [], IfErr, IfSome, None, OnErr, OnOk};
 ghost use Rattle.std.specs.Fn.{CalledAt};
+ghost use Rattle.std.specs.HashMap.{get};
 ghost use Rattle.std.specs.Option.{option_map};
 ghost use Rattle.key_index_flat.specs.Retention.{RetainsFrom};
 ghost use Rattle.key_index_flat.specs.Storage.{at_key, index_in, tail_at, SameBut};
 ghost use Rattle.key_index_flat.specs.Values.{in_order};
 
+use crate::index::Values;
 use crate::index::implement::retain_in_turn;
 use std::alloc::Global;
 use std::collections::HashMap;
@@ -119,6 +121,7 @@ fn remove_in<K: Ord + Hash + Copy, V: Drop>(map: &mut HashMap<K, Vec<V>>, key: K
 fn remove_empty<K: Ord + Hash + Copy, V: Drop>(map: &mut HashMap<K, Vec<V>>, key: K, left: usize)
     requires { left ≡ length (at_key K.eq map.old key) }
     ensures at { at_key K.eq map.new key ≡ at_key K.eq map.old key }
+    ensures removed { left ≡ 0 → get K.eq map.new key ≡ None }
     ensures others { SameBut K.cmp (at_key K.eq map.old) (at_key K.eq map.new) key }
 {
     if left == 0 {
@@ -188,6 +191,57 @@ fn retain_behind<V: Drop, F: FnMut(&V) -> bool, E: End>(
     (head_stays, had, values.len(), stays)
 }
 
+/// Inserts a value behind the last one of a tail, which allocates all the memory that the call may need, and then `retain_behind`.
+fn insert_and_retain_in<K: Ord + Hash + Copy, V: Drop, F: FnMut(&V) -> bool, E: End>(
+    alloc: Global,
+    map: &mut HashMap<K, Vec<V>>,
+    key: K,
+    head: &V,
+    value: V,
+    should_retain: F,
+) -> Result<(bool, usize, usize, bool), V>
+    requires { F.IsAlwaysCallable should_retain }
+    ensures asked { IfOk result (λ told. RetainsFrom (CalledAt F.FnMut) should_retain head.now
+        (in_order E.FIRST (at_key K.eq map.old key) ++ value ∷ []) (in_order E.FIRST (at_key K.eq map.new key))
+        told.0 told.3) }
+    ensures had { IfOk result (λ told. told.1 ≡ length (at_key K.eq map.old key) + 1) }
+    ensures left { IfOk result (λ told. told.2 ≡ length (at_key K.eq map.new key)) }
+    ensures fits { IfOk result (λ told. (told.1 < usize.MAX) × (told.2 < usize.MAX)) }
+    ensures others { SameBut K.cmp (at_key K.eq map.old) (at_key K.eq map.new) key }
+    ensures refused { OnErr result (at_key K.eq map.new key ≡ at_key K.eq map.old key) }
+    ensures returned { IfErr result (λ back. back ≡ value) }
+{
+    match map.entry(key) {
+        Err(_) => Err(value),
+        Ok(Entry::Occupied(entry)) => {
+            let values = entry.into_mut();
+            let len = values.len();
+            match values.insert(index_of::<E>(len, len), value) {
+                Ok(()) => {
+                    let told = retain_behind::<V, F, E>(head, values, should_retain);
+                    remove_empty(map, key, told.2);
+                    Ok(told)
+                }
+                Err(failed) => Err(failed.value),
+            }
+        }
+        Ok(Entry::Vacant(entry)) => {
+            let mut values = Vec::new(alloc);
+            match values.push(value) {
+                Ok(()) => {
+                    let told = retain_behind::<V, F, E>(head, entry.insert(values), should_retain);
+                    remove_empty(map, key, told.2);
+                    Ok(told)
+                }
+                Err(failed) => {
+                    entry.into_key();
+                    Err(failed.value)
+                }
+            }
+        }
+    }
+}
+
 /// `retain_behind`, where there is no tail.
 #[inline]
 fn retain_alone<V, F: FnMut(&V) -> bool>(
@@ -229,6 +283,14 @@ impl<K: Ord + Hash + Copy, V, E: End> Tails<K, V, E> {
             }
             None => &[],
         }
+    }
+
+    /// The list of a first value and the tail of its key.
+    #[inline(always)]
+    pub(super) fn list<'a>(&'a self, key: K, head: &'a V) -> Values<'a, V>
+        ensures { result ≡ head.now ∷ tail_at E.FIRST K.eq self.now.map key }
+    {
+        Values::with_first(head, self.vector(key), E::is_first())
     }
 
     #[inline(always)]
@@ -414,7 +476,21 @@ impl<K: Ord + Hash + Copy, V, E: End> Tails<K, V, E> {
         ensures refused { OnErr result (tail_at E.FIRST K.eq self.new.map key ≡ tail_at E.FIRST K.eq self.old.map key) }
         ensures returned { IfErr result (λ back. back ≡ value) }
     {
-        self.insert_at(alloc, key, None, value)?;
-        Ok(self.retain(key, head, should_retain))
+        if let Some(map) = &mut self.map {
+            return insert_and_retain_in::<K, V, F, E>(alloc, map, key, head, value, should_retain);
+        }
+        let Ok(mut map) = Box::new(alloc, HashMap::new(alloc)) else {
+            return Err(value);
+        };
+        let told = insert_and_retain_in::<K, V, F, E>(
+            alloc,
+            &mut map,
+            key,
+            head,
+            value,
+            should_retain,
+        )?;
+        self.map = Some(map);
+        Ok(told)
     }
 }

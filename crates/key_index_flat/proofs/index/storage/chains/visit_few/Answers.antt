@@ -2,8 +2,8 @@ use Rattle.std.proofs.Common.{◌≡◌, ◌+◌, [], ◌∷◌, ◌++◌, take,
 use Rattle.std.specs.Fn.{CalledAt}
 use Rattle.std.proofs.lemmas.List.{take_more, take_all}
 use Rattle.key_index_flat.specs.Storage.{tail_at}
-use Rattle.key_index_flat.specs.Values.{VisitsInTurn, in_order}
-use Rattle.key_index_flat.proofs.content.ValueLemmas.{visits_append, in_turn, in_turn-more, all_values}
+use Rattle.key_index_flat.specs.Values.{VisitsInTurn}
+use Rattle.key_index_flat.proofs.content.ValueLemmas.{all_values, in_turn, visits_more}
 use Rattle.key_index_flat.proofs.index.storage.chains.visit_few.Goals as goal
 
 pub loop-key-preserved : goal.loop-key-preserved
@@ -11,13 +11,11 @@ loop-key-preserved g c =
     let tail = tail_at g.E.End.FIRST g.K.PartialEq.eq c.args.tails.now.map in
     let heads = c.args.heads.now in
     let e : g.row.K.Denot × g.row.V.Denot = c.loop-key-item.result in
-    let es = take c.loop-key.key-index heads in
-    let next : take (c.loop-key.key-index + 1) heads ≡ es ++ e ∷ [] = take_more heads c.loop-key.key-index e (omega (arith, c.loop-key-test.true)) ∙ ap (λ x. es ++ x ∷ []) (sym c.loop-key-item.is) in
-    let list : c.with_first.result ≡ e.1 ∷ tail e.0 = c.with_first.ensures ∙ ap (λ r. e.1 ∷ in_order r c.vector.result.now) c.is_first.ensures ∙ ap (λ l. e.1 ∷ l) c.vector.ensures.values in
-    let more = ap (λ l. in_turn tail l) next ∙ in_turn-more tail es e in (
-      subst (λ l. VisitsInTurn (CalledAt g.F.FnMut) c.args.visit.now l c.visit_in_turn.new.visit) (sym more)
-          (visits_append (CalledAt g.F.FnMut) c.args.visit.now c.loop-key.visit c.visit_in_turn.new.visit (in_turn tail es) (e.1 ∷ tail e.0) c.loop-key.invariant.0
-          (subst (λ l. VisitsInTurn (CalledAt g.F.FnMut) c.loop-key.visit l c.visit_in_turn.new.visit) list c.visit_in_turn.ensures.visited)),
+    let next : take (c.loop-key.key-index + 1) heads ≡ take c.loop-key.key-index heads ++ e ∷ [] =
+    take_more heads c.loop-key.key-index e (omega (arith, c.loop-key-test.true)) ∙ ap (λ x. take c.loop-key.key-index heads ++ x ∷ []) (sym c.loop-key-item.is) in
+    let list = subst (λ l. VisitsInTurn (CalledAt g.F.FnMut) c.loop-key.visit l c.visit_in_turn.new.visit) c.list.ensures c.visit_in_turn.ensures.visited in (
+      subst (λ es. VisitsInTurn (CalledAt g.F.FnMut) c.args.visit.now (in_turn tail es) c.visit_in_turn.new.visit) (sym next)
+          (visits_more tail (CalledAt g.F.FnMut) c.args.visit.now c.loop-key.visit c.visit_in_turn.new.visit (take c.loop-key.key-index heads) e c.loop-key.invariant.0 list),
       c.visit_in_turn.ensures.callable,
     )
 

@@ -1,23 +1,21 @@
-use Rattle.std.proofs.Common.{◌≡◌, [], ◌∷◌, map, sym, ap, subst, ◌∙◌}
+use Rattle.std.proofs.Common.{[], ◌∷◌, map, sym, subst, ◌∙◌}
 use Rattle.std.proofs.lemmas.List.{map-append}
 use Rattle.std.proofs.lemmas.Map.Iter.{iter_end}
 use Rattle.std.specs.Fn.{CalledAt}
 use Rattle.std.specs.Map.Iter.{deref_pair}
 use Rattle.key_index_flat.specs.Storage.{tail_at}
-use Rattle.key_index_flat.specs.Values.{VisitsInTurn, in_order}
-use Rattle.key_index_flat.proofs.content.ValueLemmas.{visits_append, in_turn, in_turn-more, all_values}
+use Rattle.key_index_flat.specs.Values.{VisitsInTurn}
+use Rattle.key_index_flat.proofs.content.ValueLemmas.{all_values, in_turn, visits_more}
 use Rattle.key_index_flat.proofs.index.storage.chains.visit_in_order.Goals as goal
 
 pub loop-key-preserved : goal.loop-key-preserved
 loop-key-preserved g c =
     let tail = tail_at g.E.End.FIRST g.K.PartialEq.eq c.args.tails.now.map in
-    let es = map deref_pair c.loop-key.yielded in
     let e : g.row.K.Denot × g.row.V.Denot = (c.in-Some.key.now, c.in-Some.head.now) in
-    let list : c.with_first.result ≡ e.1 ∷ tail e.0 = c.with_first.ensures ∙ ap (λ r. e.1 ∷ in_order r c.vector.result.now) c.is_first.ensures ∙ ap (λ l. e.1 ∷ l) c.vector.ensures.values in
-    let more = ap (λ l. in_turn tail l) (map-append deref_pair c.loop-key.yielded ((c.in-Some.key, c.in-Some.head) ∷ [])) ∙ in_turn-more tail es e in (
-      subst (λ l. VisitsInTurn (CalledAt g.F.FnMut) c.args.visit.now l c.visit_in_turn.new.visit) (sym more)
-          (visits_append (CalledAt g.F.FnMut) c.args.visit.now c.loop-key.visit c.visit_in_turn.new.visit (in_turn tail es) (e.1 ∷ tail e.0) c.loop-key.invariant.0
-          (subst (λ l. VisitsInTurn (CalledAt g.F.FnMut) c.loop-key.visit l c.visit_in_turn.new.visit) list c.visit_in_turn.ensures.visited)),
+    let list = subst (λ l. VisitsInTurn (CalledAt g.F.FnMut) c.loop-key.visit l c.visit_in_turn.new.visit) c.list.ensures c.visit_in_turn.ensures.visited in (
+      subst (λ es. VisitsInTurn (CalledAt g.F.FnMut) c.args.visit.now (in_turn tail es) c.visit_in_turn.new.visit)
+          (sym (map-append deref_pair c.loop-key.yielded ((c.in-Some.key, c.in-Some.head) ∷ [])))
+          (visits_more tail (CalledAt g.F.FnMut) c.args.visit.now c.loop-key.visit c.visit_in_turn.new.visit (map deref_pair c.loop-key.yielded) e c.loop-key.invariant.0 list),
       c.visit_in_turn.ensures.callable,
     )
 

@@ -1,6 +1,5 @@
-use Rattle.std.proofs.Common.{◌∷◌, ap, sym, ◌∙◌}
+use Rattle.std.proofs.Common.{ap, sym, ◌∙◌}
 use Rattle.key_index_flat.specs.Storage.{list_of, tail_at}
-use Rattle.key_index_flat.specs.Values.{in_order}
 use Rattle.key_index_flat.proofs.content.ChainLemmas.{list_at-content_of}
 use Rattle.key_index_flat.proofs.index.storage.chains.Chains.get.Goals as goal
 
@@ -8,9 +7,7 @@ pub returns-in-Some : goal.returns-in-Some
 returns-in-Some g c =
     let tail = tail_at g.E.End.FIRST g.T.Key.PartialEq.eq c.self.inside.tails.map in
     rw (← c.self.view_is) (
-    c.with_first.ensures ∙ ap (λ r. c.in-Some.head.now ∷ in_order r c.vector.result.now) c.is_first.ensures
-    ∙ ap (λ l. c.in-Some.head.now ∷ l) c.vector.ensures.values
-    ∙ ap (λ head. list_of head (tail c.args.slot)) c.in-Some.ensures
+    c.list.ensures ∙ ap (λ head. list_of head (tail c.args.slot)) c.in-Some.ensures
     ∙ sym (list_at-content_of g.met.T.Key.Ord.total g.met.T.Translator.exact (g.M.Heads.entries c.self.inside.heads) tail c.args.slot)
     )
 
