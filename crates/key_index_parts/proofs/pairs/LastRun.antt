@@ -80,7 +80,7 @@ module _ {K : Type 0} {cmp : K → K → Ordering} (o : IsTotalOrder cmp) where
       ends_last : Ends ks start
       ends_last = subst (λ n. Ends ks n) (sym begins) (ends ks (Rises-IsSorted o ks sorted) (last_highest o ks k sorted last))
 
-      pub start_within : start < length ks
+      start_within : start < length ks
       start_within = let within = last_uncounted o ks k sorted last in omega (arith, within, begins)
 
       module _ {V : Type 0} (vs us ws : List V) (head : V) (sized : length ks ≡ length vs) (left : take (start + 1) vs ≡ us ++ head ∷ []) (moved : ws ≡ drop (start + 1) vs) where

@@ -89,6 +89,18 @@ fn last_start<K: Ord>(keys: &[K], last: &K) -> usize
     lower_bound(part(keys, 0..end - 1), last)
 }
 
+/// The last of some sorted keys, and where its run begins.
+fn last_key<K: Ord + Copy>(keys: &[K]) -> (K, usize)
+    requires some { 0 < length keys.now }
+    requires sorted { IsSorted K.cmp keys.now }
+    ensures within { result.1 < length keys.now }
+    ensures last { slice_get keys.now (length keys.now - 1) ≡ Some result.0 }
+    ensures start { result.1 ≡ count_below K.cmp keys.now result.0 }
+{
+    let last = keys[keys.len() - 1];
+    (last, last_start(keys, &last))
+}
+
 /// The values of the first of some sorted keys.
 fn first_run<'a, K: Ord, V>(keys: &[K], values: &'a [V]) -> Option<&'a [V]>
     requires sized { length keys.now ≡ length values.now }
@@ -445,9 +457,7 @@ impl<K: Ord + Copy, V: Drop> Partition<K, V> {
         ensures room { IfOk result (λ run. self.new.room ≡ self.old.room + (1 + length run.2.items)) }
         ensures refused { OnErr result (self.new ≡ self.old) }
     {
-        let keys = self.keys.as_slice();
-        let key = keys[keys.len() - 1];
-        let start = last_start(keys, &key);
+        let (key, start) = last_key(self.keys.as_slice());
         let tail = split_off(*self.keys.allocator(), &mut self.values, start + 1)?;
         let Some(head) = self.values.pop() else {
             unreachable!()
