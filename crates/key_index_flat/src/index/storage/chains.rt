@@ -250,9 +250,9 @@ impl<T: Translator, V: Drop, M: Heads<T::Key, V>, E: End> Chains<T, V, M, E> {
         let Some(head) = self.heads.get(&slot) else {
             return (0, 0, true);
         };
-        let (head_stays, had, left, stays) = self.tails.retain(slot, head, should_retain);
-        let left = self.drop_head(slot, head_stays, left);
-        (had + 1, left, stays)
+        let tail = self.tails.retain(slot, head, should_retain);
+        let left = self.drop_head(slot, tail.head_stays, tail.left);
+        (tail.had + 1, left, tail.stays)
     }
 
     /// Calls the closure once for each value of the index key, in list order, and removes those for which it returns false. Returns how
@@ -294,12 +294,15 @@ impl<T: Translator, V: Drop, M: Heads<T::Key, V>, E: End> Chains<T, V, M, E> {
                 taken: 0,
             });
         };
-        let (head_stays, had, left, stays) = self
+        let tail = self
             .tails
             .insert_and_retain(self.alloc, slot, head, value, should_retain)?;
-        let left = self.drop_head(slot, head_stays, left);
-        let taken = gone_of(had + 1 - left, stays);
-        Ok(Retained { had, left, taken })
+        let left = self.drop_head(slot, tail.head_stays, tail.left);
+        Ok(Retained {
+            had: tail.had,
+            left,
+            taken: gone_of(tail.had + 1 - left, tail.stays),
+        })
     }
 
     /// How many index keys have values.

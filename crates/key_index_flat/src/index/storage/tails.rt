@@ -170,25 +170,40 @@ fn insert_in<K: Ord + Hash + Copy, V: Drop, E: End>(
     }
 }
 
+/// What a retention found and left of a list: whether the first value stays, how many values the tail had, how many it has left, and
+/// the last answer.
+#[derive(Drop)]
+pub(super) struct TailRetained {
+    pub(super) head_stays: bool,
+    pub(super) had: usize,
+    pub(super) left: usize,
+    pub(super) stays: bool,
+}
+
 /// Calls the closure once for a list's first value and then for each of its tail, in list order, and removes those of the tail for
-/// which it returns false. Returns its first answer, how many values the tail had, how many it has left, and the last answer.
+/// which it returns false.
 fn retain_behind<V: Drop, F: FnMut(&V) -> bool, E: End>(
     head: &V,
     values: &mut Vec<V>,
     mut should_retain: F,
-) -> (bool, usize, usize, bool)
+) -> TailRetained
     requires { F.IsAlwaysCallable should_retain }
     ensures asked { RetainsFrom (CalledAt F.FnMut) should_retain head.now
-        (in_order E.FIRST values.old.items) (in_order E.FIRST values.new.items) result.0 result.3 }
-    ensures had { result.1 ≡ length values.old.items }
-    ensures left { result.2 ≡ length values.new.items }
+        (in_order E.FIRST values.old.items) (in_order E.FIRST values.new.items) result.head_stays result.stays }
+    ensures had { result.had ≡ length values.old.items }
+    ensures left { result.left ≡ length values.new.items }
 {
     let head_stays = should_retain(head);
     let had = values.len();
     turn::<V, E>(values);
     let stays = retain_in_turn(values, should_retain, head_stays);
     turn::<V, E>(values);
-    (head_stays, had, values.len(), stays)
+    TailRetained {
+        head_stays,
+        had,
+        left: values.len(),
+        stays,
+    }
 }
 
 /// Inserts a value behind the last one of a tail, which allocates all the memory that the call may need, and then `retain_behind`.
@@ -199,14 +214,14 @@ fn insert_and_retain_in<K: Ord + Hash + Copy, V: Drop, F: FnMut(&V) -> bool, E: 
     head: &V,
     value: V,
     should_retain: F,
-) -> Result<(bool, usize, usize, bool), V>
+) -> Result<TailRetained, V>
     requires { F.IsAlwaysCallable should_retain }
-    ensures asked { IfOk result (λ told. RetainsFrom (CalledAt F.FnMut) should_retain head.now
+    ensures asked { IfOk result (λ retained. RetainsFrom (CalledAt F.FnMut) should_retain head.now
         (in_order E.FIRST (at_key K.eq map.old key) ++ value ∷ []) (in_order E.FIRST (at_key K.eq map.new key))
-        told.0 told.3) }
-    ensures had { IfOk result (λ told. told.1 ≡ length (at_key K.eq map.old key) + 1) }
-    ensures left { IfOk result (λ told. told.2 ≡ length (at_key K.eq map.new key)) }
-    ensures fits { IfOk result (λ told. (told.1 < usize.MAX) × (told.2 < usize.MAX)) }
+        retained.head_stays retained.stays) }
+    ensures had { IfOk result (λ retained. retained.had ≡ length (at_key K.eq map.old key) + 1) }
+    ensures left { IfOk result (λ retained. retained.left ≡ length (at_key K.eq map.new key)) }
+    ensures fits { IfOk result (λ retained. (retained.had < usize.MAX) × (retained.left < usize.MAX)) }
     ensures others { SameBut K.cmp (at_key K.eq map.old) (at_key K.eq map.new) key }
     ensures refused { OnErr result (at_key K.eq map.new key ≡ at_key K.eq map.old key) }
     ensures returned { IfErr result (λ back. back ≡ value) }
@@ -218,9 +233,9 @@ fn insert_and_retain_in<K: Ord + Hash + Copy, V: Drop, F: FnMut(&V) -> bool, E: 
             let len = values.len();
             match values.insert(index_of::<E>(len, len), value) {
                 Ok(()) => {
-                    let told = retain_behind::<V, F, E>(head, values, should_retain);
-                    remove_empty(map, key, told.2);
-                    Ok(told)
+                    let retained = retain_behind::<V, F, E>(head, values, should_retain);
+                    remove_empty(map, key, retained.left);
+                    Ok(retained)
                 }
                 Err(failed) => Err(failed.value),
             }
@@ -229,9 +244,13 @@ fn insert_and_retain_in<K: Ord + Hash + Copy, V: Drop, F: FnMut(&V) -> bool, E: 
             let mut values = Vec::new(alloc);
             match values.push(value) {
                 Ok(()) => {
-                    let told = retain_behind::<V, F, E>(head, entry.insert(values), should_retain);
-                    remove_empty(map, key, told.2);
-                    Ok(told)
+                    let retained = retain_behind::<V, F, E>(
+                        head,
+                        entry.insert(values),
+                        should_retain,
+                    );
+                    remove_empty(map, key, retained.left);
+                    Ok(retained)
                 }
                 Err(failed) => {
                     entry.into_key();
@@ -244,17 +263,19 @@ fn insert_and_retain_in<K: Ord + Hash + Copy, V: Drop, F: FnMut(&V) -> bool, E: 
 
 /// `retain_behind`, where there is no tail.
 #[inline]
-fn retain_alone<V, F: FnMut(&V) -> bool>(
-    head: &V,
-    mut should_retain: F,
-) -> (bool, usize, usize, bool)
+fn retain_alone<V, F: FnMut(&V) -> bool>(head: &V, mut should_retain: F) -> TailRetained
     requires { F.IsAlwaysCallable should_retain }
-    ensures asked { RetainsFrom (CalledAt F.FnMut) should_retain head.now [] [] result.0 result.3 }
-    ensures had { result.1 ≡ 0 }
-    ensures left { result.2 ≡ 0 }
+    ensures asked { RetainsFrom (CalledAt F.FnMut) should_retain head.now [] [] result.head_stays result.stays }
+    ensures had { result.had ≡ 0 }
+    ensures left { result.left ≡ 0 }
 {
     let stays = should_retain(head);
-    (stays, 0, 0, stays)
+    TailRetained {
+        head_stays: stays,
+        had: 0,
+        left: 0,
+        stays,
+    }
 }
 
 impl<K: Ord + Hash + Copy, V, E: End> Tails<K, V, E> {
@@ -429,15 +450,15 @@ impl<K: Ord + Hash + Copy, V, E: End> Tails<K, V, E> {
         key: K,
         head: &V,
         should_retain: F,
-    ) -> (bool, usize, usize, bool)
+    ) -> TailRetained
     where
         V: Drop,
         requires { F.IsAlwaysCallable should_retain }
         ensures asked { RetainsFrom (CalledAt F.FnMut) should_retain head.now
-            (tail_at E.FIRST K.eq self.old.map key) (tail_at E.FIRST K.eq self.new.map key) result.0 result.3 }
-        ensures had { result.1 ≡ length (tail_at E.FIRST K.eq self.old.map key) }
-        ensures left { result.2 ≡ length (tail_at E.FIRST K.eq self.new.map key) }
-        ensures fits { (result.1 < usize.MAX) × (result.2 < usize.MAX) }
+            (tail_at E.FIRST K.eq self.old.map key) (tail_at E.FIRST K.eq self.new.map key) result.head_stays result.stays }
+        ensures had { result.had ≡ length (tail_at E.FIRST K.eq self.old.map key) }
+        ensures left { result.left ≡ length (tail_at E.FIRST K.eq self.new.map key) }
+        ensures fits { (result.had < usize.MAX) × (result.left < usize.MAX) }
         ensures others { SameBut K.cmp (tail_at E.FIRST K.eq self.old.map) (tail_at E.FIRST K.eq self.new.map) key }
     {
         let Some(map) = &mut self.map else {
@@ -449,9 +470,9 @@ impl<K: Ord + Hash + Copy, V, E: End> Tails<K, V, E> {
         let Some(values) = map.get_mut(&key) else {
             return retain_alone(head, should_retain);
         };
-        let told = retain_behind::<V, F, E>(head, values, should_retain);
-        remove_empty(map, key, told.2);
-        told
+        let retained = retain_behind::<V, F, E>(head, values, should_retain);
+        remove_empty(map, key, retained.left);
+        retained
     }
 
     /// Inserts a value behind the last one, which allocates all the memory that the call may need, and then `retain_behind`. A refusal
@@ -463,15 +484,15 @@ impl<K: Ord + Hash + Copy, V, E: End> Tails<K, V, E> {
         head: &V,
         value: V,
         should_retain: F,
-    ) -> Result<(bool, usize, usize, bool), V>
+    ) -> Result<TailRetained, V>
     where
         V: Drop,
         requires { F.IsAlwaysCallable should_retain }
-        ensures asked { IfOk result (λ told. RetainsFrom (CalledAt F.FnMut) should_retain head.now
-            (tail_at E.FIRST K.eq self.old.map key ++ value ∷ []) (tail_at E.FIRST K.eq self.new.map key) told.0 told.3) }
-        ensures had { IfOk result (λ told. told.1 ≡ length (tail_at E.FIRST K.eq self.old.map key) + 1) }
-        ensures left { IfOk result (λ told. told.2 ≡ length (tail_at E.FIRST K.eq self.new.map key)) }
-        ensures fits { IfOk result (λ told. (told.1 < usize.MAX) × (told.2 < usize.MAX)) }
+        ensures asked { IfOk result (λ retained. RetainsFrom (CalledAt F.FnMut) should_retain head.now
+            (tail_at E.FIRST K.eq self.old.map key ++ value ∷ []) (tail_at E.FIRST K.eq self.new.map key) retained.head_stays retained.stays) }
+        ensures had { IfOk result (λ retained. retained.had ≡ length (tail_at E.FIRST K.eq self.old.map key) + 1) }
+        ensures left { IfOk result (λ retained. retained.left ≡ length (tail_at E.FIRST K.eq self.new.map key)) }
+        ensures fits { IfOk result (λ retained. (retained.had < usize.MAX) × (retained.left < usize.MAX)) }
         ensures others { SameBut K.cmp (tail_at E.FIRST K.eq self.old.map) (tail_at E.FIRST K.eq self.new.map) key }
         ensures refused { OnErr result (tail_at E.FIRST K.eq self.new.map key ≡ tail_at E.FIRST K.eq self.old.map key) }
         ensures returned { IfErr result (λ back. back ≡ value) }
@@ -482,7 +503,7 @@ impl<K: Ord + Hash + Copy, V, E: End> Tails<K, V, E> {
         let Ok(mut map) = Box::new(alloc, HashMap::new(alloc)) else {
             return Err(value);
         };
-        let told = insert_and_retain_in::<K, V, F, E>(
+        let retained = insert_and_retain_in::<K, V, F, E>(
             alloc,
             &mut map,
             key,
@@ -491,6 +512,6 @@ impl<K: Ord + Hash + Copy, V, E: End> Tails<K, V, E> {
             should_retain,
         )?;
         self.map = Some(map);
-        Ok(told)
+        Ok(retained)
     }
 }

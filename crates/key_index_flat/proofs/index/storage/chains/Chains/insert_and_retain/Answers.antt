@@ -48,34 +48,34 @@ drop_head-left-requires-clause-held g c =
     omega (arith, long)
 
 pub drop_head-left-requires-clause-fits : goal.drop_head-left-requires-clause-fits
-drop_head-left-requires-clause-fits g c = c.in_ok-head_stays.ensures.fits.1
+drop_head-left-requires-clause-fits g c = c.in_ok-tail.ensures.fits.1
 
-pub overflow_sub-had : goal.overflow_sub-had
-overflow_sub-had g c =
+pub overflow_sub-tail : goal.overflow_sub-tail
+overflow_sub-tail g c =
     let tail = tail_at g.E.End.FIRST g.T.Key.PartialEq.eq c.self.inside.tails.map in
-    let told = c.in_ok-head_stays.ensures in
+    let told = c.in_ok-tail.ensures in
     let list = list-first_and_tail g.met.T.Key.Ord.total g.met.T.Translator.exact (g.M.Heads.entries c.self.inside.heads) tail tail c.args.slot c.self.invariant c.in-Some.head.now (sym c.in-Some.ensures) in
-    few_behind (CalledAt g.F.FnMut) c.args.should_retain _ c.in-Some.head.now _ _ c.args.value c.in_ok-head_stays.head_stays c.in_ok-head_stays.stays list told.asked c.in_ok-head_stays.had c.in_ok-head_stays.left c.drop_head-left.result told.had told.left c.drop_head-left.ensures.left
+    few_behind (CalledAt g.F.FnMut) c.args.should_retain _ c.in-Some.head.now _ _ c.args.value c.in_ok-tail.tail.head_stays c.in_ok-tail.tail.stays list told.asked c.in_ok-tail.tail.had c.in_ok-tail.tail.left c.drop_head-left.result told.had told.left c.drop_head-left.ensures.left
 
-pub gone_of-taken-requires : goal.gone_of-taken-requires
-gone_of-taken-requires g c =
+pub gone_of-requires : goal.gone_of-requires
+gone_of-requires g c =
     let tail = tail_at g.E.End.FIRST g.T.Key.PartialEq.eq c.self.inside.tails.map in
-    let told = c.in_ok-head_stays.ensures in
+    let told = c.in_ok-tail.ensures in
     let list = list-first_and_tail g.met.T.Key.Ord.total g.met.T.Translator.exact (g.M.Heads.entries c.self.inside.heads) tail tail c.args.slot c.self.invariant c.in-Some.head.now (sym c.in-Some.ensures) in
-    one_went_behind (CalledAt g.F.FnMut) c.args.should_retain _ c.in-Some.head.now _ _ c.args.value c.in_ok-head_stays.head_stays c.in_ok-head_stays.stays list told.asked c.in_ok-head_stays.had c.in_ok-head_stays.left c.drop_head-left.result told.had told.left c.drop_head-left.ensures.left
+    one_went_behind (CalledAt g.F.FnMut) c.args.should_retain _ c.in-Some.head.now _ _ c.args.value c.in_ok-tail.tail.head_stays c.in_ok-tail.tail.stays list told.asked c.in_ok-tail.tail.had c.in_ok-tail.tail.left c.drop_head-left.result told.had told.left c.drop_head-left.ensures.left
 
 pub returns-clause-accepted : goal.returns-clause-accepted
 returns-clause-accepted g c =
     let tail = tail_at g.E.End.FIRST g.T.Key.PartialEq.eq c.self.inside.tails.map in
-    let told = c.in_ok-head_stays.ensures in
+    let told = c.in_ok-tail.ensures in
     let list = list-first_and_tail g.met.T.Key.Ord.total g.met.T.Translator.exact (g.M.Heads.entries c.self.inside.heads) tail tail c.args.slot c.self.invariant c.in-Some.head.now (sym c.in-Some.ensures) in
     let later = tail_at g.E.End.FIRST g.T.Key.PartialEq.eq c.insert_and_retain.new.self.map in
-    let asks = asks_put_behind (CalledAt g.F.FnMut) c.args.should_retain _ c.in-Some.head.now _ _ c.args.value c.in_ok-head_stays.head_stays c.in_ok-head_stays.stays list told.asked c.in_ok-head_stays.had c.in_ok-head_stays.left c.drop_head-left.result told.had told.left c.drop_head-left.ensures.left c.gone_of-taken.result c.gone_of-taken.ensures in
-    let left = left_behind (CalledAt g.F.FnMut) c.args.should_retain _ c.in-Some.head.now _ _ c.args.value c.in_ok-head_stays.head_stays c.in_ok-head_stays.stays list told.asked c.in_ok-head_stays.had c.in_ok-head_stays.left c.drop_head-left.result told.had told.left c.drop_head-left.ensures.left in
+    let asks = asks_put_behind (CalledAt g.F.FnMut) c.args.should_retain _ c.in-Some.head.now _ _ c.args.value c.in_ok-tail.tail.head_stays c.in_ok-tail.tail.stays list told.asked c.in_ok-tail.tail.had c.in_ok-tail.tail.left c.drop_head-left.result told.had told.left c.drop_head-left.ensures.left c.gone_of.result c.gone_of.ensures in
+    let left = left_behind (CalledAt g.F.FnMut) c.args.should_retain _ c.in-Some.head.now _ _ c.args.value c.in_ok-tail.tail.head_stays c.in_ok-tail.tail.stays list told.asked c.in_ok-tail.tail.had c.in_ok-tail.tail.left c.drop_head-left.result told.had told.left c.drop_head-left.ensures.left in
     rw (← c.self.view_is) ((
-      kept_behind c.in-Some.head.now (later c.args.slot) c.in_ok-head_stays.head_stays,
+      kept_behind c.in-Some.head.now (later c.args.slot) c.in_ok-tail.tail.head_stays,
       asks,
-      rest_or_all g.met.T.Key.Ord.total g.met.T.Translator.exact (g.M.Heads.entries c.self.inside.heads) tail later c.args.slot c.self.invariant c.in-Some.head.now (sym c.in-Some.ensures) c.insert_and_retain.ensures.others c.in_ok-head_stays.head_stays _ c.drop_head-left.ensures.content,
+      rest_or_all g.met.T.Key.Ord.total g.met.T.Translator.exact (g.M.Heads.entries c.self.inside.heads) tail later c.args.slot c.self.invariant c.in-Some.head.now (sym c.in-Some.ensures) c.insert_and_retain.ensures.others c.in_ok-tail.tail.head_stays _ c.drop_head-left.ensures.content,
       left,
     )
     )
@@ -84,4 +84,4 @@ pub returns-clause-had : goal.returns-clause-had
 returns-clause-had g c =
     let tail = tail_at g.E.End.FIRST g.T.Key.PartialEq.eq c.self.inside.tails.map in
     let long = ap (λ l. length l) (list-first_and_tail g.met.T.Key.Ord.total g.met.T.Translator.exact (g.M.Heads.entries c.self.inside.heads) tail tail c.args.slot c.self.invariant c.in-Some.head.now (sym c.in-Some.ensures)) in
-    rw (← c.self.view_is) (omega (arith, long, c.in_ok-head_stays.ensures.had))
+    rw (← c.self.view_is) (omega (arith, long, c.in_ok-tail.ensures.had))

@@ -31,36 +31,36 @@ returns-in_default g c =
 pub invariant_of-self : goal.invariant_of-self
 invariant_of-self g c =
     let tail = tail_at g.E.End.FIRST g.T.Key.PartialEq.eq c.self.inside.tails.map in
-    let later = tail_at g.E.End.FIRST g.T.Key.PartialEq.eq c.retain-head_stays.new.self.map in
-    (rest_edited g.met.T.Key.Ord.total g.met.T.Translator.exact (g.M.Heads.entries c.self.inside.heads) tail later c.args.slot c.self.invariant c.in-Some.head.now (sym c.in-Some.ensures) c.retain-head_stays.ensures.others).linked
+    let later = tail_at g.E.End.FIRST g.T.Key.PartialEq.eq c.retain-tail.new.self.map in
+    (rest_edited g.met.T.Key.Ord.total g.met.T.Translator.exact (g.M.Heads.entries c.self.inside.heads) tail later c.args.slot c.self.invariant c.in-Some.head.now (sym c.in-Some.ensures) c.retain-tail.ensures.others).linked
 
 pub drop_head-left-requires-clause-held : goal.drop_head-left-requires-clause-held
 drop_head-left-requires-clause-held g c =
     let tail = tail_at g.E.End.FIRST g.T.Key.PartialEq.eq c.self.inside.tails.map in
-    let later = tail_at g.E.End.FIRST g.T.Key.PartialEq.eq c.retain-head_stays.new.self.map in
+    let later = tail_at g.E.End.FIRST g.T.Key.PartialEq.eq c.retain-tail.new.self.map in
     let long = ap (λ l. length l) (list_later g.met.T.Key.Ord.total g.met.T.Translator.exact (g.M.Heads.entries c.self.inside.heads) tail later c.args.slot c.self.invariant c.in-Some.head.now (sym c.in-Some.ensures)) in
     omega (arith, long)
 
 pub drop_head-left-requires-clause-fits : goal.drop_head-left-requires-clause-fits
-drop_head-left-requires-clause-fits g c = c.retain-head_stays.ensures.fits.1
+drop_head-left-requires-clause-fits g c = c.retain-tail.ensures.fits.1
 
 pub returns : goal.returns
 returns g c =
     let tail = tail_at g.E.End.FIRST g.T.Key.PartialEq.eq c.self.inside.tails.map in
-    let later = tail_at g.E.End.FIRST g.T.Key.PartialEq.eq c.retain-head_stays.new.self.map in
+    let later = tail_at g.E.End.FIRST g.T.Key.PartialEq.eq c.retain-tail.new.self.map in
     let head = c.in-Some.head.now in
-    let told = c.retain-head_stays.ensures in
+    let told = c.retain-tail.ensures in
     let list = list-first_and_tail g.met.T.Key.Ord.total g.met.T.Translator.exact (g.M.Heads.entries c.self.inside.heads) tail tail c.args.slot c.self.invariant head (sym c.in-Some.ensures) in
-    let asked = asked_same (CalledAt g.F.FnMut) c.args.should_retain true _ _ _ _ c.retain-head_stays.result.3 told.asked (sym list) refl in
+    let asked = asked_same (CalledAt g.F.FnMut) c.args.should_retain true _ _ _ _ c.retain-tail.result.stays told.asked (sym list) refl in
     let long = ap (λ l. length l) list in
     let few = asked_few (CalledAt g.F.FnMut) c.args.should_retain true _ _ _ asked in
-    let sum = length-rest_or_all c.retain-head_stays.result.0 head (later c.args.slot) in
+    let sum = length-rest_or_all c.retain-tail.result.head_stays head (later c.args.slot) in
     rw (← c.self.view_is) (
     record {
       kept = (
-        cond c.retain-head_stays.result.0 (head ∷ later c.args.slot) (later c.args.slot),
+        cond c.retain-tail.result.head_stays (head ∷ later c.args.slot) (later c.args.slot),
         asked,
-        rest_or_all g.met.T.Key.Ord.total g.met.T.Translator.exact (g.M.Heads.entries c.self.inside.heads) tail later c.args.slot c.self.invariant head (sym c.in-Some.ensures) told.others c.retain-head_stays.result.0 _ c.drop_head-left.ensures.content,
+        rest_or_all g.met.T.Key.Ord.total g.met.T.Translator.exact (g.M.Heads.entries c.self.inside.heads) tail later c.args.slot c.self.invariant head (sym c.in-Some.ensures) told.others c.retain-tail.result.head_stays _ c.drop_head-left.ensures.content,
         omega (arith, sum, told.left, c.drop_head-left.ensures.left),
         omega (arith, long, told.had),
         omega (arith, few, long, sum, told.had, told.left, c.drop_head-left.ensures.left),
