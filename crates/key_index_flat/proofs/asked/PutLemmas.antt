@@ -12,9 +12,11 @@ use Rattle.std.proofs.Common.{◌≡◌, ℕ, ◌+◌, ◌-◌, ◌≤◌, Bool,
 use Rattle.std.specs.declared.cmp.Ordering.{Ordering}
 use Rattle.std.specs.declared.cmp.Ordering.TheVariants.{Equal}
 use Rattle.std.specs.Cmp.{IsTotalOrder}
+use Rattle.std.specs.List.{items_where_true}
+use Rattle.std.specs.List.Retain.{IsFiltered, ReturnsInTurn}
 use Rattle.key_index_flat.specs.Content.{Content, IsLawful, list_at, with_list}
 use Rattle.key_index_flat.specs.Retention.{AsksBehind, AsksInTurn, RetainsFrom}
-use Rattle.key_index_flat.proofs.asked.TurnLemmas.{asked_few, asked_same, asks_behind, some_taken}
+use Rattle.key_index_flat.proofs.asked.TurnLemmas.{asked_few, asked_same, asks_behind, kept_few, some_taken}
 use Rattle.key_index_flat.proofs.content.ContentLemmas.{with_list-twice}
 use Rattle.key_index_flat.proofs.runs.CursorLemmas.{list_at_edit}
 use Rattle.key_index_flat.proofs.content.EditLemmas.{length-rest_or_all}
@@ -44,16 +46,17 @@ module _ {K V : Type 0} {cmp : K → K → Ordering} (o : IsTotalOrder cmp) (c m
     pub asks_put : (gone : ℕ) → taken ≡ gone + cond stays 0 1 → AsksBehind R f (list_at cmp c k) v kept gone
     asks_put = asks_behind R f (list_at cmp c k) v kept stays taken asked_put counts_put
 
-    least_gone : (stays : Bool) (taken : ℕ) → (stays ≡ false → 1 ≤ taken) → taken ≡ taken - cond stays 0 1 + cond stays 0 1
-    least_gone true taken some = omega arith
-    least_gone false taken some = let one = some refl in omega (arith, one)
-
-    -- where no value was held
-    pub asks_alone : 0 ≡ length (list_at cmp c k) → AsksBehind R f (list_at cmp c k) v kept 0
-    asks_alone none =
-        let asks = asks_put (taken - cond stays 0 1) (least_gone stays taken one_went) in
-        let gone : taken - cond stays 0 1 ≡ 0 = let sum = asks.taken in omega (arith, sum, none) in
-        subst (λ n. AsksBehind R f (list_at cmp c k) v kept n) gone asks
+  -- where no value was held
+  pub asks_alone : {F : Type 0} (R : F → V → Bool → F → Type 0) (f : F) (kept : List V) → 0 ≡ length (list_at cmp c k)
+      → IsFiltered R f (list_at cmp mid k) kept → AsksBehind R f (list_at cmp c k) v kept 0
+  asks_alone R f kept none asked = record {
+    answers = asked.0;
+    last = asked.1;
+    long = asked.2 ∙ ap (λ l. length l) list_put ∙ length-append (list_at cmp c k) (v ∷ []);
+    asked = subst (λ (l : List V). ReturnsInTurn R f asked.0 l asked.1) list_put asked.3;
+    kept = asked.4 ∙ ap (λ l. items_where_true asked.0 l) list_put;
+    taken = let few = kept_few asked.0 (list_at cmp c k) in omega (arith, few, none);
+  }
 
 abbrev pub kept_behind : {V : Type 0} → V → List V → Bool → List V
 kept_behind head later head_stays = cond head_stays (head ∷ later) later

@@ -7,7 +7,7 @@ ghost use Rattle.std.specs.Map.Iter.{deref_pair};
 ghost use Rattle.std.specs.Option.{option_map};
 ghost use Rattle.key_index_flat.specs.Content.{Content, key_count, list_at, with_list, with_list_by, IsLawful};
 ghost use Rattle.key_index_flat.specs.Neighbours.{entries_above, entries_below, first_list, last_list, next_list, prev_list};
-ghost use Rattle.key_index_flat.specs.Retention.{AsksBehind, AsksInTurn};
+ghost use Rattle.key_index_flat.specs.Retention.{AsksBehind};
 ghost use Rattle.key_index_flat.specs.Storage.{content_of, tail_at, IsLinked};
 ghost use Rattle.key_index_flat.specs.Values.{values_of, VisitsEach};
 ghost use Rattle.key_index_flat.specs.View.{put_value};
@@ -235,27 +235,6 @@ impl<T: Translator, V: Drop, M: Heads<T::Key, V>, E: End> Chains<T, V, M, E> {
     }
 
     /// Calls the closure once for each value of the index key, in list order, and removes those for which it returns false. Returns how
-    /// many there were, how many are left, and the last answer, which is true if there is no value.
-    fn retain_in_turn<F: FnMut(&V) -> bool>(
-        &mut self,
-        slot: T::Key,
-        should_retain: F,
-    ) -> (usize, usize, bool)
-        requires callable { F.IsAlwaysCallable should_retain }
-        ensures kept { let old = list_at T.Key.cmp self.old slot in (kept : List V)
-            × AsksInTurn (CalledAt F.FnMut) should_retain true old kept result.2
-            × (self.new ≡ with_list T.Key.cmp self.old slot kept)
-            × (result.1 ≡ length kept) × (result.0 ≡ length old) × (result.1 ≤ result.0) }
-    {
-        let Some(head) = self.heads.get(&slot) else {
-            return (0, 0, true);
-        };
-        let tail = self.tails.retain(slot, head, should_retain);
-        let left = self.drop_head(slot, tail.head_stays, tail.left);
-        (tail.had + 1, left, tail.stays)
-    }
-
-    /// Calls the closure once for each value of the index key, in list order, and removes those for which it returns false. Returns how
     /// many there were, and how many are left.
     pub fn retain<F: FnMut(&V) -> bool>(&mut self, slot: T::Key, should_retain: F) -> (usize, usize)
         requires callable { F.IsAlwaysCallable should_retain }
@@ -265,8 +244,12 @@ impl<T: Translator, V: Drop, M: Heads<T::Key, V>, E: End> Chains<T, V, M, E> {
             × (result.1 ≡ length kept)
             × (result.0 ≡ length (list_at T.Key.cmp self.old slot)) × (result.1 ≤ result.0) }
     {
-        let (had, left, _) = self.retain_in_turn(slot, should_retain);
-        (had, left)
+        let Some(head) = self.heads.get(&slot) else {
+            return (0, 0);
+        };
+        let tail = self.tails.retain(slot, head, should_retain);
+        let left = self.drop_head(slot, tail.head_stays, tail.left);
+        (tail.had + 1, left)
     }
 
     /// Inserts a value behind those of the index key, which allocates all the memory that the call may need. Then calls the closure once
@@ -287,7 +270,7 @@ impl<T: Translator, V: Drop, M: Heads<T::Key, V>, E: End> Chains<T, V, M, E> {
     {
         let Some(head) = self.heads.get(&slot) else {
             self.insert_first(slot, value)?;
-            let (_, left, _) = self.retain_in_turn(slot, should_retain);
+            let (_, left) = self.retain(slot, should_retain);
             return Ok(Retained {
                 had: 0,
                 left,

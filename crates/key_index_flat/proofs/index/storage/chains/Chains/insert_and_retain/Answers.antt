@@ -1,6 +1,6 @@
-use Rattle.std.proofs.Common.{◌≡◌, ◌+◌, ◌-◌, length, sym, ap, subst, ◌∙◌, arith}
+use Rattle.std.proofs.Common.{length, sym, ap, subst, ◌∙◌, arith}
 use Rattle.std.specs.Fn.{CalledAt}
-use Rattle.key_index_flat.specs.Content.{IsLawful, list_at}
+use Rattle.key_index_flat.specs.Content.{IsLawful}
 use Rattle.key_index_flat.specs.Storage.{list_of, tail_at}
 use Rattle.key_index_flat.specs.laws.Laws.{IsLawful-content_of}
 use Rattle.key_index_flat.proofs.asked.PutLemmas.{asks_alone, asks_put_behind, few_behind, kept_behind, left_behind, one_went_behind, taken_put}
@@ -20,11 +20,8 @@ returns-in_default-clause-accepted g c =
     let mid = c.insert_first.new.self in
     let put = c.in_ok-insert_first.ensures.accepted in
     let none = returns-in_default-clause-had g c in
-    let told = c.retain_in_turn-left.ensures.kept in
-    let stays = c.retain_in_turn-left.result.2 in
-    let taken = c.retain_in_turn-left.result.0 - c.retain_in_turn-left.result.1 in
-    let counts : taken + length told.0 ≡ length (list_at g.T.Key.Ord.cmp mid c.args.slot) = omega (arith, told.3, told.4, told.5) in
-    let asks = asks_alone g.met.T.Key.Ord.total old mid c.args.slot c.args.value 0 none put (CalledAt g.F.FnMut) c.args.should_retain told.0 stays taken told.1 counts none in
+    let told = c.retain-left.ensures.kept in
+    let asks = asks_alone g.met.T.Key.Ord.total old mid c.args.slot c.args.value 0 none put (CalledAt g.F.FnMut) c.args.should_retain told.0 none told.1 in
     let lawful = subst (λ d. IsLawful g.T.Key.Ord.cmp d) c.self.view_is (IsLawful-content_of g.met.T.Key.Ord.total (g.M.Heads.entries c.self.inside.heads) (tail_at g.E.End.FIRST g.T.Key.PartialEq.eq c.self.inside.tails.map)) in
     (told.0, asks, taken_put g.met.T.Key.Ord.total old mid c.args.slot c.args.value 0 none put g.met.T.Translator.exact lawful told.0 _ told.2, told.3)
 
