@@ -127,7 +127,7 @@ impl<I: Ordered<Value = Record>> Snapshot<I> {
         Ok(())
     }
 
-    /// Takes a key out, and tells whether it was there. A refusal leaves the map.
+    /// Removes a key, and tells whether it was there. A refusal leaves the map.
     pub fn unset(&mut self, key: &[u8]) -> Result<bool, Fault>
         ensures unset { OnOk result (self.new ≡ map.remove self.old key.now) }
         ensures was_there { IfOk result (λ held. held ≡ is_some (map.get self.old key.now)) }

@@ -418,7 +418,7 @@ impl Table {
         }
     }
 
-    /// Takes a position out that is among the candidates of a hash, and answers whether it was. Takes no memory.
+    /// Removes a position from the candidates of a hash, and answers whether it was among them. Takes no memory.
     #[inline]
     pub fn remove(&mut self, hash: u64, position: u64) -> bool
         ensures removed { IsTrue result ↔ Contains (candidates self.old hash) position }

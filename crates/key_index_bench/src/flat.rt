@@ -217,7 +217,7 @@ pub(crate) fn retain<I: Unordered<Value = u64>, M: Meter>(
     Ok(())
 }
 
-/// Takes each key out.
+/// Removes each key.
 pub(crate) fn remove<I: Unordered<Value = u64>, M: Meter>(
     index: &mut I,
     keys: &[[u8; 32]],

@@ -150,7 +150,7 @@ pub(crate) fn next<M: Meter>(
     Ok(())
 }
 
-/// Takes each key out.
+/// Removes each key.
 pub(crate) fn remove<X: Map, M: Meter>(
     map: &mut X,
     keys: &[[u8; 32]],

@@ -93,7 +93,7 @@ fn spill<M: Meter>(alloc: Global, count: usize, report: &mut M) -> Result<(), Fa
 /// How often a partition grows to its threshold and shrinks below half of it.
 const WAVES: usize = 100;
 
-/// Takes a number's key out by `remove`, which moves a small partition back to arrays, or by a cursor, which moves nothing back.
+/// Removes a number's key by `remove`, which moves a small partition back to arrays, or by a cursor, which moves nothing back.
 fn take_rising(index: &mut Index, number: usize, by_cursor: bool) -> Result<(), Failure> {
     let key = rising(number);
     if !by_cursor {

@@ -26,7 +26,7 @@ fn add(pairs: &mut Pairs, key: u16, value: u64) -> Result<(), Refused<u64>> {
     pairs.insert_at(place, key, value)
 }
 
-/// Takes the values of a key out.
+/// Removes the values of a key.
 fn clear(pairs: &mut Pairs, key: u16, answer: &mut Answer) {
     let run = pairs.run_range(&key);
     pairs.remove_run(run);
@@ -94,7 +94,7 @@ fn set(pairs: &mut Pairs, place: usize, value: u64, answer: &mut Answer) {
     }
 }
 
-/// The pair at a place is taken out.
+/// The pair at a place is removed.
 fn take(pairs: &mut Pairs, place: usize, answer: &mut Answer) {
     if place < pairs.len() {
         answer.number(pairs.remove(place));

@@ -68,7 +68,7 @@ impl Listed {
         Ok(())
     }
 
-    /// Takes a position out, and answers what the table does.
+    /// Removes a position, and answers what the table does.
     fn remove(&mut self, hash: u64, position: u64) -> bool
         requires { position < POSITIONS }
     {

@@ -94,7 +94,7 @@ impl<V> Refused<V> {
         Refused { value, fault }
     }
 
-    /// A refusal for want of memory.
+    /// A refusal because an allocation failed.
     pub fn memory(value: V) -> Refused<V>
         ensures value { result.value ≡ value }
         ensures fault { result.fault ≡ Fault.Memory }

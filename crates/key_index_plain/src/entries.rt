@@ -104,7 +104,7 @@ pub(crate) fn insert_first<K: Ord + Drop, V: Drop>(
     }
 }
 
-/// Takes the entry of a key out, and tells how many values it had.
+/// Removes the entry of a key, and tells how many values it had.
 pub(crate) fn remove<K: Ord + Drop, V: Drop>(entries: &mut Vec<Entry<K, V>>, key: &K) -> usize
     requires { IsLawful K.cmp (listed entries.old.items) }
     ensures content { listed entries.new.items ≡ with_list K.cmp (listed entries.old.items) key.now [] }
@@ -157,7 +157,7 @@ pub(crate) fn insert_at<K: Ord + Drop, V: Drop>(
     }
 }
 
-/// Takes the value at a place of a key's list out, and with the only one the entry.
+/// Removes the value at a place of a key's list, and with the only one the entry.
 pub(crate) fn remove_at<K: Ord + Drop, V: Drop>(
     entries: &mut Vec<Entry<K, V>>,
     key: &K,

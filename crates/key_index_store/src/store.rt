@@ -175,7 +175,7 @@ fn find<L: Log>(
     Ok(None)
 }
 
-/// Files the position of a key's newest record: in the place of the older one, or as a new one; of a deletion takes the older one out.
+/// Files the position of a key's newest record: in the place of the older one, or as a new one; of a deletion removes the older one.
 fn settle<I: Unordered<Value = u64>>(
     index: &mut I,
     key: &[u8],
@@ -212,7 +212,7 @@ fn fault_of(refused: Refused<u64>) -> Fault
     }
 }
 
-/// Takes the newest position of a key's list out again.
+/// Removes the newest position of a key's list again.
 fn withdraw<I: Unordered<Value = u64>>(index: &mut I, key: &[u8])
     requires { 0 < length (run_of I.Key.cmp (I.view index.old) key.now) }
     ensures { let s = I.view index.old in I.view index.new
@@ -396,7 +396,7 @@ impl<L: Log, I: Unordered<Value = u64>> Store<L, I> {
         Ok(())
     }
 
-    /// Takes a key out, and tells whether it had a value. A key without a value needs no record, and gets none.
+    /// Removes a key, and tells whether it had a value. A key without a value needs no record, and gets none.
     pub fn delete(&mut self, key: &[u8]) -> Result<bool, Fault>
         ensures removed { L.is_honest → OnOk result (held self.new ≡ map.remove (held self.old) key.now) }
         ensures was_there { L.is_honest → IfOk result (λ had. had ≡ is_some (map.get (held self.old) key.now)) }
@@ -413,7 +413,7 @@ impl<L: Log, I: Unordered<Value = u64>> Store<L, I> {
         self.change(key, None)
     }
 
-    /// Sets the value of a key, or takes the key out where none is given, and tells whether it had one.
+    /// Sets the value of a key, or removes the key where none is given, and tells whether it had one.
     fn change(&mut self, key: &[u8], value: Option<&[u8]>) -> Result<bool, Fault>
         requires { Fits (record { key = key.now; value = option_map (λ v. v.now) value }) }
         ensures changed { L.is_honest → OnOk result

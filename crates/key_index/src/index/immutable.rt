@@ -162,7 +162,7 @@ impl<T: Translator> Index<T> {
         }
     }
 
-    /// Takes out every position below one, which is the start from then on; a start that was passed changes nothing. Each
+    /// Removes every position below one, which is the start from then on; a start that was passed changes nothing. Each
     /// cell that goes is one removal. Takes no memory.
     pub fn prune(&mut self, start: u64)
         ensures keys { (p : ℕ) → key_at self.new p ≡ (if nat_le start p then key_at self.old p else None) }
@@ -196,7 +196,7 @@ impl<T: Translator> Index<T> {
         }
     }
 
-    /// Lets the first cell go, and takes its position out where it is indexed. False where there is no cell.
+    /// Lets the first cell go, and removes its position where it is indexed. False where there is no cell.
     #[inline]
     fn release(&mut self) -> bool
         requires { self.old.start + 1 < 2 ^ 64 }

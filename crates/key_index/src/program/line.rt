@@ -11,7 +11,7 @@ use std::alloc::AllocError;
 pub enum Command {
     /// Puts this value under the key.
     Insert(u64),
-    /// Takes the key out.
+    /// Removes the key.
     Remove,
     /// Shows the values of the key.
     Get,
@@ -41,7 +41,7 @@ pub enum ImmutableCommand {
     Insert(u64),
     /// Shows the positions of the key.
     Get,
-    /// Takes out every position below this one.
+    /// Removes every position below this one.
     Prune(u64),
     /// Shows the counts.
     Counts,

@@ -177,7 +177,7 @@ impl<T: Translator, V: Drop, M: Heads<T::Key, V>> Storage<T, V, M> {
         }
     }
 
-    /// Takes the value at a place out, and tells how many values the index key has left.
+    /// Removes the value at a place, and tells how many values the index key has left.
     pub(crate) fn remove_at(&mut self, slot: T::Key, place: usize) -> (V, usize)
         requires place { place < length (list_at T.Key.cmp self.old.content slot) }
         ensures value { slice_get (list_at T.Key.cmp self.old.content slot) place ≡ Some result.0 }
@@ -247,7 +247,7 @@ impl<T: Translator, V: Drop, M: Heads<T::Key, V>> Storage<T, V, M> {
         }
     }
 
-    /// Takes an index key out, and tells how many values it had.
+    /// Removes an index key, and tells how many values it had.
     pub(crate) fn remove(&mut self, slot: T::Key) -> usize
         ensures removed { view_of T.translated self.new ≡ with_pruned
             (with_run T.Key.cmp (view_of T.translated self.old) slot [])

@@ -14,7 +14,7 @@ use std::alloc::Global;
 pub enum Mark {
     /// Indexes a key at a position.
     Insert(Vec<u8>, u64),
-    /// Takes out every position below one.
+    /// Removes every position below one.
     Prune(u64),
 }
 

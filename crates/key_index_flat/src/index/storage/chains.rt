@@ -157,7 +157,7 @@ impl<T: Translator, V: Drop, M: Heads<T::Key, V>, E: End> Chains<T, V, M, E> {
         Ok(1 + self.tails.len(slot))
     }
 
-    /// Takes an index key out, and tells how many values it had.
+    /// Removes an index key, and tells how many values it had.
     #[inline]
     pub fn remove(&mut self, slot: T::Key) -> usize
         ensures content { self.new ≡ with_list T.Key.cmp self.old slot [] }
@@ -200,7 +200,7 @@ impl<T: Translator, V: Drop, M: Heads<T::Key, V>, E: End> Chains<T, V, M, E> {
             .insert_at(self.alloc, slot, Some(place - 1), value)
     }
 
-    /// Takes the value at a place of the index key's list out, and tells how many are left.
+    /// Removes the value at a place of the index key's list, and tells how many are left.
     #[inline]
     pub fn remove_at(&mut self, slot: T::Key, place: usize) -> (V, usize)
         requires place { place < length (list_at T.Key.cmp self.old slot) }

@@ -1,4 +1,4 @@
-//! Cursors: a place in the list of one index key, at which values are read, put in, changed and taken out.
+//! Cursors: a place in the list of one index key, at which values are read, inserted, changed and removed.
 ghost use Rattle.std.specs.Prelude.{◌≡◌, ◌<◌, ◌-◌, ℕ, List, length, OnOk, OnErr, IfErr, MatchBool};
 ghost use Rattle.std.specs.Borrow.{sem, follows_so};
 ghost use Rattle.std.specs.Fn.{CalledAt};
@@ -22,7 +22,7 @@ pub enum CursorState {
 
 /// A cursor over one list. Its `items` is the list and its `place` where it stands, `held` is how many values there are of all keys;
 /// `stays` relates it before and after a call that changes no value, and `edited` before and after one that does, by how many values
-/// were taken out.
+/// were removed.
 pub trait Cursor {
     type Value;
 
@@ -58,7 +58,7 @@ pub trait Cursor {
         ensures fault { IfErr result (λ r. r.fault ≡ growth_fault (held self.old)) }
         ensures edited { edited self.old self.new 0 };
 
-    /// Takes the value that the cursor is on out. `next` then gives the one behind it.
+    /// Removes the value that the cursor is on. `next` then gives the one behind it.
     fn delete(&mut self)
         requires { IsOnValue (place self.old) }
         ensures items { items self.new ≡ list_after_delete (items self.old) (place self.old) }

@@ -58,7 +58,7 @@ pub trait Runs {
         ensures fault { IfErr result (λ r. r.fault ≡ growth_fault_in (view self.old)) }
         ensures edited { edited self.old self.new };
 
-    /// Takes the value at a place of the index key's list out. Without its only value the index key is absent.
+    /// Removes the value at a place of the index key's list. Without its only value the index key is absent.
     fn remove_at(&mut self, slot: Self::Key, place: usize) -> Self::Value
         requires { place < length (run_at Self.Key.cmp (view self.old) slot) }
         ensures value { slice_get (run_at Self.Key.cmp (view self.old) slot) place ≡ Some result }

@@ -26,7 +26,7 @@ pub(crate) fn nest<I: Runs, F>(
 ///
 /// What a call by key leaves beside content and counts is said by three members: `settled` by an accepted call (the index before,
 /// the index key, the index after), `left_by_refusal` by a refused one, and `may_refuse` tells where a call that inserts nothing
-/// may want memory at all. An index that leaves nothing else and never refuses such a call says none of them.
+/// may need memory at all. An index that leaves nothing else and never refuses such a call says none of them.
 pub trait Search: Runs {
     ghost settled: { Self → Self.Key → Self → Type 0 } = { λ _ _ _. Unit {0} };
 

@@ -87,7 +87,7 @@ pub trait Unordered: Search {
         ensures returned { IfErr result (λ r. r.value ≡ value) }
         ensures fault { IfErr result (λ r. r.fault ≡ growth_fault_in (Self.view self.old)) };
 
-    /// Takes the key's index key out, with all of its values.
+    /// Removes the key's index key, with all of its values.
     fn remove(&mut self, key: &[u8]) -> Result<(), Fault>
         ensures accepted { OnOk result (Self.view self.new ≡ after_remove Self.Key.cmp (Self.view self.old) key.now) }
         ensures settled { OnOk result (AlsoAt Self.view Self.resettled self.old key.now self.new) }
@@ -109,7 +109,7 @@ pub trait Unordered: Search {
     fn items(&self) -> usize
         ensures { result ≡ items_in (Self.view self.now) };
 
-    /// How many held values were ever taken out. The count stops at `u64::MAX`.
+    /// How many held values were ever removed. The count stops at `u64::MAX`.
     fn pruned(&self) -> u64
         ensures { result ≡ (Self.view self.now).pruned };
 

@@ -31,7 +31,7 @@ const THRESHOLD: usize = 512;
 /// `insert` puts a value behind those of its key. A call by key searches one partition: in arrays, of which there are fewer than the
 /// threshold, an edit moves what stands behind it; in a tree it takes the logarithm of the keys. A cursor never spills a partition, so it
 /// may leave arrays at the threshold or past it: such a partition is *due*, the next call by key there spills it first, and `remove`,
-/// `retain` and `get_mut` want memory there and nowhere else. Over a translator that keeps the order of bytes the index also gives the
+/// `retain` and `get_mut` need memory there and nowhere else. Over a translator that keeps the order of bytes the index also gives the
 /// neighbours of a key, however many empty partitions lie between.
 #[derive(Drop)]
 pub struct Index<T: Translator, V: Drop, const P: usize> {

@@ -46,7 +46,7 @@ fn find_next<'a, I: Lists, F: FnMut(Ahead<'a, I::Value>)>(
     Some(values)
 }
 
-/// Takes out the list that waits in the cell of a number, and finds the next one into that cell.
+/// Removes the list that waits in the cell of a number, and finds the next one into that cell.
 fn take_waiting<'a, I: Lists, F: FnMut(Ahead<'a, I::Value>)>(
     index: &'a I,
     later: &mut slice::Iter<'_, (I::Key, usize)>,

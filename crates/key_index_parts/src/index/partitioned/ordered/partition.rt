@@ -334,7 +334,7 @@ impl<K: Ord + Copy, V: Drop> Partition<K, V> {
         Ok(())
     }
 
-    /// Takes the pair at a place out, and moves those behind it.
+    /// Removes the pair at a place, and moves those behind it.
     pub fn remove(&mut self, place: usize) -> V
         requires { place < length self.old.pairs }
         ensures value { slice_get (values_of self.old.pairs) place ≡ Some result }
@@ -378,7 +378,7 @@ impl<K: Ord + Copy, V: Drop> Partition<K, V> {
         self.values.iter()
     }
 
-    /// Takes the whole run of a key out, and moves the pairs behind it.
+    /// Removes the whole run of a key, and moves the pairs behind it.
     pub fn remove_run(&mut self, range: Range<usize>)
         requires { (k : K) × IsRun K.cmp self.old.pairs k range.start range.end }
         ensures pairs { self.new.pairs ≡ remove_range self.old.pairs range.start range.end }
@@ -423,7 +423,7 @@ impl<K: Ord + Copy, V: Drop> Partition<K, V> {
         last_run(part(keys, 0..end), part(values, 0..end))
     }
 
-    /// Takes all pairs out, as one list of values for each key, in the order of the keys, and gives their memory back.
+    /// Removes all pairs, as one list of values for each key, in the order of the keys, and gives their memory back.
     /// It has room for all of them before the first value moves, and a refusal leaves pairs and room as they were.
     pub fn drain_runs(&mut self) -> Result<Vec<(K, Vec<V>)>, Fault>
         ensures runs { IfOk result (λ runs. map list_of runs.items ≡ grouped K.cmp self.old.pairs) }
@@ -447,7 +447,7 @@ impl<K: Ord + Copy, V: Drop> Partition<K, V> {
         *self.keys.allocator()
     }
 
-    /// Takes the run of the greatest key out: the key, its first value, and the others. A refusal leaves all pairs.
+    /// Removes the run of the greatest key: the key, its first value, and the others. A refusal leaves all pairs.
     pub(crate) fn pop_run(&mut self) -> Result<(K, V, Vec<V>), AllocError>
         requires some { 0 < length self.old.pairs }
         requires exact { (a b : K) → K.cmp a b ≡ Equal → a ≡ b }
