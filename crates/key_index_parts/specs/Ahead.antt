@@ -6,14 +6,16 @@
 --     visits_in               the visits among events
 --     SameVisits              those of a batch are the visits of one that finds each list where it visits it
 --     TellsAt                 one call of a closure, at an event
---     TellsAhead              a closure is called once on each event of a batch, by index key and then by place, which leaves it so
+--     Tells                   a closure is called once on each event of a batch, by index key and then by place
+--     Told                    the same, and that leaves it so
 use Rattle.std.specs.Prelude.{◌≡◌, ℕ, List, [], ◌∷◌, ◌++◌, map, length, take, drop}
 use Rattle.std.specs.Borrow.{Bor}
 use Rattle.std.specs.Fn.{Mut, Called}
 use Rattle.std.specs.List.{FoldsTo}
 use Rattle.std.specs.declared.cmp.Ordering.{Ordering}
+use Rattle.std.specs.declared.iter.Iterator.{Ghosts}
 use Rattle.key_index_flat.specs.View.{View, run_at}
-use Rattle.key_index_flat.specs.Visits.{IsSortedBatch, visits_of}
+use Rattle.key_index_flat.specs.Visits.{AreProbes, ByKey, visits_of}
 use Rattle.key_index_parts.specs.declared.index.partitioned.ordered.ahead.Ahead.{Ahead}
 use Rattle.key_index_parts.specs.declared.index.partitioned.ordered.ahead.Ahead.TheVariants as ahead
 
@@ -48,8 +50,13 @@ TellsAt g f (Found place len) last = Called g f (ahead.Found place len, tt) tt l
 TellsAt {V = V} g f (Visit place value) last =
     (shown : Bor V) × (shown.now ≡ value) × Called g f (ahead.Visit place shown, tt) tt last
 
-module _ {F K V : Type 0} (batch : (List ℕ → K) → List (K × ℕ) → Type 0) (tell : F → Event V → F → Type 0) (f : F)
-    (cmp : K → K → Ordering) (s : View K V) (last : F) where
-  abbrev pub TellsAhead : Type 0
-  TellsAhead =
-      (sorted : List (K × ℕ)) × IsSortedBatch batch cmp s sorted × FoldsTo tell f (events_of (run_at cmp s) sorted) last
+-- it: how an iterator goes on; bytes: those of an item
+module _ {S A K V F : Type 0} (it : Ghosts S A) (bytes : A → List ℕ) (keys : S) (cmp : K → K → Ordering) (s : View K V)
+    (g : Mut F (Ahead V × Unit {0}) (Unit {0})) (f : F) where
+  abbrev pub Told : F → Type 0
+  Told last =
+      (probes : List (K × ℕ)) × AreProbes ByKey it bytes keys cmp s probes
+      × FoldsTo (TellsAt g) f (events_of (run_at cmp s) probes) last
+
+  abbrev pub Tells : Type 0
+  Tells = (last : F) × Told last

@@ -1,9 +1,8 @@
 //! Batches: the values of many keys, visited with the places of the keys.
 ghost use Rattle.std.specs.Prelude.{◌≡◌, map, IfErr, IfOk, OnOk};
-ghost use Rattle.std.specs.Iterator.{UpTo};
 ghost use Rattle.std.specs.List.{FoldsTo};
 ghost use Rattle.key_index_flat.specs.View.{run_at};
-ghost use Rattle.key_index_flat.specs.Visits.{IsBatch, IsSortedBatch, VisitsAt, VisitsByKey, VisitsByPlace, visits_of};
+ghost use Rattle.key_index_flat.specs.Visits.{AreProbes, ByKey, ByPlace, IsBatch, Visited, Visits, VisitsAt, visits_of};
 
 use super::{Fault, Runs, Values};
 use std::alloc::Global;
@@ -37,11 +36,9 @@ pub fn visit_by_place<'a, I: Lists, B: Iterator + Drop, F: FnMut(usize, &'a I::V
 ) -> F
 where
     B::Item: AsSlice<u8> + Drop,
-    requires can { B.can_next keys }
-    requires ends { UpTo (B.remaining keys) usize.MAX }
+    requires batch { IsBatch B.Iterator keys }
     requires callable { F.IsAlwaysCallable visit }
-    ensures { VisitsByPlace (IsBatch B.next_gives B.Item.items keys) (VisitsAt F.FnMut) visit
-        I.Key.cmp (I.view index.now) result }
+    ensures { Visited ByPlace B.Iterator B.Item.items keys I.Key.cmp (I.view index.now) F.FnMut visit result }
 {
     let mut place = 0;
     for key in keys {
@@ -71,11 +68,9 @@ pub fn show_by_place<I: Lists, B: Iterator + Drop, F: FnMut(usize, &I::Value)>(
 )
 where
     B::Item: AsSlice<u8> + Drop,
-    requires can { B.can_next keys }
-    requires ends { UpTo (B.remaining keys) usize.MAX }
+    requires batch { IsBatch B.Iterator keys }
     requires callable { F.IsAlwaysCallable visit }
-    ensures { (last : F) × VisitsByPlace (IsBatch B.next_gives B.Item.items keys) (VisitsAt F.FnMut) visit
-        I.Key.cmp (I.view index.now) last }
+    ensures { Visits ByPlace B.Iterator B.Item.items keys I.Key.cmp (I.view index.now) F.FnMut visit }
 {
     let mut place = 0;
     for key in keys {
@@ -92,10 +87,9 @@ fn take_probes<I: Runs, B: Iterator + Drop>(
 ) -> Result<Vec<(I::Key, usize)>, Fault>
 where
     B::Item: AsSlice<u8> + Drop,
-    requires can { B.can_next keys }
-    requires ends { UpTo (B.remaining keys) usize.MAX }
+    requires batch { IsBatch B.Iterator keys }
     ensures probes { IfOk result (λ probes.
-        IsBatch B.next_gives B.Item.items keys (I.view index.now).slot probes.items) }
+        AreProbes ByPlace B.Iterator B.Item.items keys I.Key.cmp (I.view index.now) probes.items) }
     ensures fault { IfErr result (λ f. f ≡ Fault.Memory) }
 {
     let mut probes = Vec::new(alloc);
@@ -115,10 +109,9 @@ pub fn probes_by_key<I: Runs, B: Iterator + Drop>(
 ) -> Result<Vec<(I::Key, usize)>, Fault>
 where
     B::Item: AsSlice<u8> + Drop,
-    requires can { B.can_next keys }
-    requires ends { UpTo (B.remaining keys) usize.MAX }
+    requires batch { IsBatch B.Iterator keys }
     ensures probes { IfOk result (λ sorted.
-        IsSortedBatch (IsBatch B.next_gives B.Item.items keys) I.Key.cmp (I.view index.now) sorted.items) }
+        AreProbes ByKey B.Iterator B.Item.items keys I.Key.cmp (I.view index.now) sorted.items) }
     ensures fault { IfErr result (λ f. f ≡ Fault.Memory) }
 {
     let mut probes = take_probes(alloc, index, keys)?;
@@ -152,12 +145,10 @@ pub fn visit_by_key<'a, I: Lists, B: Iterator + Drop, F: FnMut(usize, &'a I::Val
 ) -> Result<F, (F, Fault)>
 where
     B::Item: AsSlice<u8> + Drop,
-    requires can { B.can_next keys }
-    requires ends { UpTo (B.remaining keys) usize.MAX }
+    requires batch { IsBatch B.Iterator keys }
     requires callable { F.IsAlwaysCallable visit }
-    ensures visited { IfOk result (VisitsByKey (IsBatch B.next_gives B.Item.items keys) (VisitsAt F.FnMut) visit
-        I.Key.cmp (I.view index.now)) }
-    ensures unvisited { IfErr result (λ back. back.0 ≡ visit) }
+    ensures seen { IfOk result (Visited ByKey B.Iterator B.Item.items keys I.Key.cmp (I.view index.now) F.FnMut visit) }
+    ensures unseen { IfErr result (λ back. back.0 ≡ visit) }
     ensures fault { IfErr result (λ back. back.1 ≡ Fault.Memory) }
 {
     match probes_by_key(alloc, index, keys) {
@@ -190,11 +181,9 @@ pub fn show_by_key<I: Lists, B: Iterator + Drop, F: FnMut(usize, &I::Value)>(
 ) -> Result<(), Fault>
 where
     B::Item: AsSlice<u8> + Drop,
-    requires can { B.can_next keys }
-    requires ends { UpTo (B.remaining keys) usize.MAX }
+    requires batch { IsBatch B.Iterator keys }
     requires callable { F.IsAlwaysCallable visit }
-    ensures visited { OnOk result ((last : F) × VisitsByKey (IsBatch B.next_gives B.Item.items keys)
-        (VisitsAt F.FnMut) visit I.Key.cmp (I.view index.now) last) }
+    ensures seen { OnOk result (Visits ByKey B.Iterator B.Item.items keys I.Key.cmp (I.view index.now) F.FnMut visit) }
     ensures fault { IfErr result (λ f. f ≡ Fault.Memory) }
 {
     let probes = probes_by_key(alloc, index, keys)?;

@@ -25,8 +25,7 @@ pub struct Index<T: Translator, V> {
 impl<T: Translator, V: Drop> Index<T, V> {
     ghost use Rattle.key_index_flat.specs.Ordered.{view};
     ghost use Rattle.std.specs.Prelude.{◌≡◌, IfErr, OnOk};
-    ghost use Rattle.std.specs.Iterator.{UpTo};
-    ghost use Rattle.key_index_flat.specs.Visits.{IsBatch, VisitsAt, VisitsByKey};
+    ghost use Rattle.key_index_flat.specs.Visits.{ByKey, IsBatch, Visits};
 
     /// Visits the values of each key of a batch with the key's place in it, from 0, by translated key and, of one translated key, by
     /// place. What it visits may be kept as long as the index is borrowed. Takes memory for the places first, and answers `Memory`
@@ -38,11 +37,9 @@ impl<T: Translator, V: Drop> Index<T, V> {
     ) -> Result<(), Fault>
     where
         B::Item: AsSlice<u8> + Drop,
-        requires can { B.can_next keys }
-        requires ends { UpTo (B.remaining keys) usize.MAX }
+        requires batch { IsBatch B.Iterator keys }
         requires callable { F.IsAlwaysCallable visit }
-        ensures visited { OnOk result ((last : F) × VisitsByKey (IsBatch B.next_gives B.Item.items keys)
-            (VisitsAt F.FnMut) visit T.Key.cmp (view self.now) last) }
+        ensures seen { OnOk result (Visits ByKey B.Iterator B.Item.items keys T.Key.cmp (view self.now) F.FnMut visit) }
         ensures fault { IfErr result (λ f. f ≡ Fault.Memory) }
     {
         match visit_by_key(self.storage.alloc(), self, keys, visit) {
@@ -141,9 +138,8 @@ impl<T: Translator, V: Drop> Search for Index<T, V> {
 
 impl<T: Translator, V: Drop> Unordered for Index<T, V> {
     ghost use Rattle.std.specs.Prelude.{OnOk};
-    ghost use Rattle.std.specs.Iterator.{UpTo};
     ghost use Rattle.key_index_flat.specs.Ordered.{view};
-    ghost use Rattle.key_index_flat.specs.Visits.{IsBatch, VisitsAt, VisitsByKey, VisitsInAnyOrder};
+    ghost use Rattle.key_index_flat.specs.Visits.{ByKey, IsBatch, Visits};
 
     ghost INSERT_FIRST = { true };
 
@@ -167,13 +163,9 @@ impl<T: Translator, V: Drop> Unordered for Index<T, V> {
     ) -> Result<(), Fault>
     where
         B::Item: AsSlice<u8> + Drop,
-        requires can { B.can_next keys }
-        requires ends { UpTo (B.remaining keys) usize.MAX }
+        requires batch { IsBatch B.Iterator keys }
         requires callable { F.IsAlwaysCallable visit }
-        ensures by_key { OnOk result ((last : F) × VisitsByKey (IsBatch B.next_gives B.Item.items keys)
-            (VisitsAt F.FnMut) visit T.Key.cmp (view self.now) last) }
-        ensures visited { OnOk result ((last : F) × VisitsInAnyOrder (IsBatch B.next_gives B.Item.items keys)
-            (VisitsAt F.FnMut) visit T.Key.cmp (view self.now) last) }
+        ensures seen { OnOk result (Visits ByKey B.Iterator B.Item.items keys T.Key.cmp (view self.now) F.FnMut visit) }
         ensures fault { IfErr result (λ f. f ≡ Fault.Memory) }
     {
         show_by_key(self.storage.alloc(), self, keys, visit)

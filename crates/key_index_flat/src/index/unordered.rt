@@ -24,10 +24,9 @@ pub struct Index<T: Translator, V> {
 impl<T: Translator, V: Drop> Index<T, V> {
     ghost use Rattle.key_index_flat.specs.Unordered.{view};
     ghost use Rattle.std.specs.Prelude.{◌≡◌, IsOk};
-    ghost use Rattle.std.specs.Iterator.{UpTo};
     ghost use Rattle.key_index_flat.specs.View.{with_slot};
     ghost use Rattle.key_index_flat.specs.Values.{values_of, VisitsEach};
-    ghost use Rattle.key_index_flat.specs.Visits.{IsBatch, VisitsAt, VisitsByPlace};
+    ghost use Rattle.key_index_flat.specs.Visits.{ByPlace, IsBatch, Visits};
     ghost use Rattle.std.specs.Fn.{CalledAt};
 
     /// Visits the values of each key of a batch with the key's place in it, from 0, by place. What it visits may be kept as long as the
@@ -39,12 +38,10 @@ impl<T: Translator, V: Drop> Index<T, V> {
     ) -> Result<(), Fault>
     where
         B::Item: AsSlice<u8> + Drop,
-        requires can { B.can_next keys }
-        requires ends { UpTo (B.remaining keys) usize.MAX }
+        requires batch { IsBatch B.Iterator keys }
         requires callable { F.IsAlwaysCallable visit }
         ensures made { IsOk result }
-        ensures visited { (last : F) × VisitsByPlace (IsBatch B.next_gives B.Item.items keys) (VisitsAt F.FnMut) visit
-            T.Key.cmp (view self.now) last }
+        ensures seen { Visits ByPlace B.Iterator B.Item.items keys T.Key.cmp (view self.now) F.FnMut visit }
     {
         visit_by_place(self, keys, visit);
         Ok(())
@@ -154,10 +151,8 @@ impl<T: Translator, V: Drop> Search for Index<T, V> {
 }
 
 impl<T: Translator, V: Drop> Unordered for Index<T, V> {
-    ghost use Rattle.std.specs.Prelude.{OnOk};
-    ghost use Rattle.std.specs.Iterator.{UpTo};
     ghost use Rattle.key_index_flat.specs.Unordered.{view};
-    ghost use Rattle.key_index_flat.specs.Visits.{IsBatch, VisitsAt, VisitsByPlace, VisitsInAnyOrder};
+    ghost use Rattle.key_index_flat.specs.Visits.{ByPlace, IsBatch, Visits};
 
     ghost INSERT_FIRST = { true };
 
@@ -181,15 +176,10 @@ impl<T: Translator, V: Drop> Unordered for Index<T, V> {
     ) -> Result<(), Fault>
     where
         B::Item: AsSlice<u8> + Drop,
-        requires can { B.can_next keys }
-        requires ends { UpTo (B.remaining keys) usize.MAX }
+        requires batch { IsBatch B.Iterator keys }
         requires callable { F.IsAlwaysCallable visit }
         ensures made { IsOk result }
-        ensures by_place { (last : F) × VisitsByPlace (IsBatch B.next_gives B.Item.items keys) (VisitsAt F.FnMut) visit
-            T.Key.cmp (view self.now) last }
-        ensures visited { OnOk result ((last : F) × VisitsInAnyOrder (IsBatch B.next_gives B.Item.items keys)
-            (VisitsAt F.FnMut) visit T.Key.cmp (view self.now) last) }
-        ensures fault { IfErr result (λ f. f ≡ Fault.Memory) }
+        ensures seen { Visits ByPlace B.Iterator B.Item.items keys T.Key.cmp (view self.now) F.FnMut visit }
     {
         show_by_place(self, keys, visit);
         Ok(())

@@ -1,10 +1,9 @@
 //! What the indices have in common: generic code is proved over these traits, by the content of an index alone.
 ghost use Rattle.std.specs.Prelude.{◌≡◌, ◌↔◌, IsTrue, ℕ, ◌-◌, ◌<◌, List, [], Bool, All, IfErr, OnOk, OnErr, IfOk};
 ghost use Rattle.std.specs.Fn.{CalledAt};
-ghost use Rattle.std.specs.Iterator.{UpTo};
 ghost use Rattle.key_index_flat.specs.Content.{key_count};
 ghost use Rattle.key_index_flat.specs.View.{items_in, run_of, after_insert, after_remove, growth_fault_in, Admits, AlsoAt, InsertsAndRetainsAt, IsWantAt, RetainsAt, StaysBut};
-ghost use Rattle.key_index_flat.specs.Visits.{IsBatch, VisitsAt, VisitsInAnyOrder};
+ghost use Rattle.key_index_flat.specs.Visits.{InAnyOrder, IsBatch, Visits};
 
 use crate::index::{Fault, Refused, Search, Values};
 use std::alloc::Global;
@@ -37,11 +36,10 @@ pub trait Unordered: Search {
     ) -> Result<(), Fault>
     where
         B::Item: AsSlice<u8> + Drop,
-        requires can { B.can_next keys }
-        requires ends { UpTo (B.remaining keys) usize.MAX }
+        requires batch { IsBatch B.Iterator keys }
         requires callable { F.IsAlwaysCallable visit }
-        ensures visited { OnOk result ((last : F) × VisitsInAnyOrder (IsBatch B.next_gives B.Item.items keys)
-            (VisitsAt F.FnMut) visit Self.Key.cmp (Self.view self.now) last) }
+        ensures seen { OnOk result (Visits InAnyOrder B.Iterator B.Item.items keys
+            Self.Key.cmp (Self.view self.now) F.FnMut visit) }
         ensures fault { IfErr result (λ f. f ≡ Fault.Memory) };
 
     /// Adds a value under the key's index key: in front of those that stand there if `INSERT_FIRST`, and else behind them. A refusal

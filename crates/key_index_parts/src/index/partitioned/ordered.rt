@@ -41,14 +41,13 @@ pub struct Index<T: Translator, V: Drop, const P: usize> {
 
 impl<T: Translator, V: Drop, const P: usize> Index<T, V, P> {
     ghost use Rattle.std.specs.Prelude.{◌≡◌, ◌+◌, ◌*◌, ◌<◌, ◌≤◌, [], IfErr, IfOk, IsTrue, OnOk};
-    ghost use Rattle.std.specs.Iterator.{UpTo};
     ghost use Rattle.std.specs.List.{sum_by};
     ghost use Rattle.key_index_flat.specs.View.{items_in};
     ghost use Rattle.key_index_parts.specs.Moves.{credit};
-    ghost use Rattle.key_index_flat.specs.Visits.{IsBatch, VisitsAt, VisitsByKey};
+    ghost use Rattle.key_index_flat.specs.Visits.{ByKey, IsBatch, Visits};
     ghost use Rattle.key_index_parts.specs.Ordered.{standings, view};
     ghost use Rattle.key_index_parts.specs.Standing.{entries_at, inline_len, new_standings, spilled_in, standing_at};
-    ghost use Rattle.key_index_parts.specs.Ahead.{TellsAhead, TellsAt};
+    ghost use Rattle.key_index_parts.specs.Ahead.{Tells};
 
     /// An index with no values, whose partitions spill at so many. Takes the room of all partitions at once, and answers `Memory` where
     /// that is refused.
@@ -138,11 +137,10 @@ impl<T: Translator, V: Drop, const P: usize> Index<T, V, P> {
     ) -> Result<(), Fault>
     where
         B::Item: AsSlice<u8> + Drop,
-        requires can { B.can_next keys }
-        requires ends { UpTo (B.remaining keys) usize.MAX }
+        requires batch { IsBatch B.Iterator keys }
         requires callable { F.IsAlwaysCallable visit }
-        ensures visited { OnOk result ((last : F) × VisitsByKey (IsBatch B.next_gives B.Item.items keys)
-            (VisitsAt F.FnMut) visit (pair_cmp T.Key.cmp) (view self.now) last) }
+        ensures seen { OnOk result (Visits ByKey B.Iterator B.Item.items keys
+            (pair_cmp T.Key.cmp) (view self.now) F.FnMut visit) }
         ensures fault { IfErr result (λ f. f ≡ Fault.Memory) }
     {
         match visit_by_key(self.storage.alloc(), self, keys, visit) {
@@ -161,11 +159,10 @@ impl<T: Translator, V: Drop, const P: usize> Index<T, V, P> {
     ) -> Result<(), Fault>
     where
         B::Item: AsSlice<u8> + Drop,
-        requires can { B.can_next keys }
-        requires ends { UpTo (B.remaining keys) usize.MAX }
+        requires batch { IsBatch B.Iterator keys }
         requires callable { F.IsAlwaysCallable on }
-        ensures told { OnOk result ((last : F) × TellsAhead (IsBatch B.next_gives B.Item.items keys)
-            (TellsAt F.FnMut) on (pair_cmp T.Key.cmp) (view self.now) last) }
+        ensures told { OnOk result (Tells B.Iterator B.Item.items keys
+            (pair_cmp T.Key.cmp) (view self.now) F.FnMut on) }
         ensures fault { IfErr result (λ f. f ≡ Fault.Memory) }
     {
         show_ahead(self.storage.alloc(), self, keys, on)
@@ -339,8 +336,7 @@ impl<T: Translator, V: Drop, const P: usize> Search for Index<T, V, P> {
 
 impl<T: Translator, V: Drop, const P: usize> Unordered for Index<T, V, P> {
     ghost use Rattle.std.specs.Prelude.{◌≡◌, IfErr, OnOk};
-    ghost use Rattle.std.specs.Iterator.{UpTo};
-    ghost use Rattle.key_index_flat.specs.Visits.{IsBatch, VisitsAt, VisitsByKey, VisitsInAnyOrder};
+    ghost use Rattle.key_index_flat.specs.Visits.{ByKey, IsBatch, Visits};
     ghost use Rattle.key_index_parts.specs.Ordered.{view};
     ghost use Rattle.key_index_parts.specs.laws.PrefixLaws.{prefix_reaches};
 
@@ -368,13 +364,10 @@ impl<T: Translator, V: Drop, const P: usize> Unordered for Index<T, V, P> {
     ) -> Result<(), Fault>
     where
         B::Item: AsSlice<u8> + Drop,
-        requires can { B.can_next keys }
-        requires ends { UpTo (B.remaining keys) usize.MAX }
+        requires batch { IsBatch B.Iterator keys }
         requires callable { F.IsAlwaysCallable visit }
-        ensures by_key { OnOk result ((last : F) × VisitsByKey (IsBatch B.next_gives B.Item.items keys)
-            (VisitsAt F.FnMut) visit (pair_cmp T.Key.cmp) (view self.now) last) }
-        ensures visited { OnOk result ((last : F) × VisitsInAnyOrder (IsBatch B.next_gives B.Item.items keys)
-            (VisitsAt F.FnMut) visit (pair_cmp T.Key.cmp) (view self.now) last) }
+        ensures seen { OnOk result (Visits ByKey B.Iterator B.Item.items keys
+            (pair_cmp T.Key.cmp) (view self.now) F.FnMut visit) }
         ensures fault { IfErr result (λ f. f ≡ Fault.Memory) }
     {
         show_by_key(self.storage.alloc(), self, keys, visit)

@@ -28,8 +28,7 @@ pub struct Index<T: Translator, V: Drop, const P: usize> {
 
 impl<T: Translator, V: Drop, const P: usize> Index<T, V, P> {
     ghost use Rattle.std.specs.Prelude.{◌≡◌, IsOk};
-    ghost use Rattle.std.specs.Iterator.{UpTo};
-    ghost use Rattle.key_index_flat.specs.Visits.{IsBatch, VisitsAt, VisitsByPlace};
+    ghost use Rattle.key_index_flat.specs.Visits.{ByPlace, IsBatch, Visits};
     ghost use Rattle.key_index_parts.specs.Gathered.{pair_cmp};
     ghost use Rattle.key_index_parts.specs.Unordered.{view};
 
@@ -42,12 +41,10 @@ impl<T: Translator, V: Drop, const P: usize> Index<T, V, P> {
     ) -> Result<(), Fault>
     where
         B::Item: AsSlice<u8> + Drop,
-        requires can { B.can_next keys }
-        requires ends { UpTo (B.remaining keys) usize.MAX }
+        requires batch { IsBatch B.Iterator keys }
         requires callable { F.IsAlwaysCallable visit }
         ensures made { IsOk result }
-        ensures visited { (last : F) × VisitsByPlace (IsBatch B.next_gives B.Item.items keys) (VisitsAt F.FnMut) visit
-            (pair_cmp T.Key.cmp) (view self.now) last }
+        ensures seen { Visits ByPlace B.Iterator B.Item.items keys (pair_cmp T.Key.cmp) (view self.now) F.FnMut visit }
     {
         visit_by_place(self, keys, visit);
         Ok(())
@@ -157,9 +154,8 @@ impl<T: Translator, V: Drop, const P: usize> Search for Index<T, V, P> {
 }
 
 impl<T: Translator, V: Drop, const P: usize> Unordered for Index<T, V, P> {
-    ghost use Rattle.std.specs.Prelude.{◌≡◌, IfErr, IsOk, OnOk};
-    ghost use Rattle.std.specs.Iterator.{UpTo};
-    ghost use Rattle.key_index_flat.specs.Visits.{IsBatch, VisitsAt, VisitsByPlace, VisitsInAnyOrder};
+    ghost use Rattle.std.specs.Prelude.{◌≡◌, IsOk};
+    ghost use Rattle.key_index_flat.specs.Visits.{ByPlace, IsBatch, Visits};
     ghost use Rattle.key_index_parts.specs.Unordered.{view};
     ghost use Rattle.key_index_parts.specs.laws.PrefixLaws.{prefix_reaches};
 
@@ -184,15 +180,10 @@ impl<T: Translator, V: Drop, const P: usize> Unordered for Index<T, V, P> {
     ) -> Result<(), Fault>
     where
         B::Item: AsSlice<u8> + Drop,
-        requires can { B.can_next keys }
-        requires ends { UpTo (B.remaining keys) usize.MAX }
+        requires batch { IsBatch B.Iterator keys }
         requires callable { F.IsAlwaysCallable visit }
         ensures made { IsOk result }
-        ensures by_place { (last : F) × VisitsByPlace (IsBatch B.next_gives B.Item.items keys) (VisitsAt F.FnMut) visit
-            (pair_cmp T.Key.cmp) (view self.now) last }
-        ensures visited { OnOk result ((last : F) × VisitsInAnyOrder (IsBatch B.next_gives B.Item.items keys)
-            (VisitsAt F.FnMut) visit (pair_cmp T.Key.cmp) (view self.now) last) }
-        ensures fault { IfErr result (λ f. f ≡ Fault.Memory) }
+        ensures seen { Visits ByPlace B.Iterator B.Item.items keys (pair_cmp T.Key.cmp) (view self.now) F.FnMut visit }
     {
         show_by_place(self, keys, visit);
         Ok(())

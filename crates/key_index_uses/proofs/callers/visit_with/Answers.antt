@@ -12,7 +12,7 @@ use Rattle.key_index_uses.proofs.callers.visit_with.Goals as goal
 pub visit_by_place-requires : goal.visit_by_place-requires
 visit_by_place-requires g c κs = (
   (refl, tt),
-  (tt, (search rules, mut_by _ (λ s. always_mut g.F.FnMut s.0.now) (λ s a i. search (rules, i)) (λ s a r t i e. search (rules, of_calls)) _ c.requires)),
+  ((tt, search rules), mut_by _ (λ s. always_mut g.F.FnMut s.0.now) (λ s a i. search (rules, i)) (λ s a r t i e. search (rules, of_calls)) _ c.requires),
 )
 
 pub returns : goal.returns

@@ -15,15 +15,14 @@ use Rattle.key_index_uses.proofs.records.find_records.Goals as goal
 pub returns-clause-found : goal.returns-clause-found
 returns-clause-found g c = on_ok_weaker c.visit_ahead.result (λ h.
     let last = c.visit_ahead.new.on in
-    let drained = h.1.1.1 in
+    let drained = h.1.1 in
     let run = run_at g.I.Key.Ord.cmp (g.I.Runs.view c.args.index.now) in
     let slot = (g.I.Runs.view c.args.index.now).slot in
     let log = map (λ key. key.now) c.args.log.now in
     let keys = map (λ key. key.now) c.args.keys.now in
-    let items = items_from_drains h.1.1.0 (drained.1.0, drained.1.1, λ _. (drained.0, drained.1.2)) (YieldsList-from_slice c.args.keys.now c.iter.ensures.rest) in
-    let probes : h.1.0 ≡ probes_from slot 0 keys =
-    h.1.1.2 ∙ ap (λ bs. probes_from slot 0 bs) (sym (map-map (λ k. k.now) (λ y. y.now) h.1.1.0) ∙ ap (λ ks. map (λ k. k.now) ks) items) in
-    let moved = subst (λ ps. IsPermutation ps h.0) probes h.1.2 in
+    let items = items_from_drains h.1.0 (drained.1.0, drained.1.1, λ _. (drained.0, drained.1.2)) (YieldsList-from_slice c.args.keys.now c.iter.ensures.rest) in
+    let placed = ap (λ bs. probes_from slot 0 bs) (sym (map-map (λ k. k.now) (λ y. y.now) h.1.0) ∙ ap (λ ks. map (λ k. k.now) ks) items) in
+    let moved = subst (λ ps. IsPermutation ps h.0) placed h.1.2.0 in
     let size : length c.args.answers.now ≡ length keys = c.requires ∙ sym (length-map c.args.keys.now (λ key. key.now)) in
     let filled =
     fold-with_event log keys c.args.answers.now (events_of run h.0) ∙ ap (λ vs. fold (with_visit log keys) c.args.answers.now vs) (c.same_visits.ensures run h.0)

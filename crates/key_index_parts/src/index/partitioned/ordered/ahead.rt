@@ -1,12 +1,11 @@
 //! Batches that look ahead: the lists of the next keys are found before the values of one are visited.
 ghost use Rattle.std.specs.Prelude.{◌≡◌, ◌%◌, None, drop, map, slice_get, slice_index_or, slice_set, take, IfErr, OnErr, OnOk};
-ghost use Rattle.std.specs.Iterator.{UpTo};
 ghost use Rattle.std.specs.List.{FoldsTo};
 ghost use Rattle.std.specs.Option.{option_map};
 ghost use Rattle.std.specs.Slice.Iter.{iter_rest};
 ghost use Rattle.key_index_flat.specs.View.{run_at};
 ghost use Rattle.key_index_flat.specs.Visits.{IsBatch};
-ghost use Rattle.key_index_parts.specs.Ahead.{SameVisits, TellsAhead, TellsAt, events_of, found_at, visits_at};
+ghost use Rattle.key_index_parts.specs.Ahead.{SameVisits, Tells, TellsAt, Told, events_of, found_at, visits_at};
 
 use key_index_flat::index::implement::{Lists, probes_by_key};
 use key_index_flat::index::{Fault, Values};
@@ -114,11 +113,9 @@ pub fn visit_ahead<'a, I: Lists, B: Iterator + Drop, F: FnMut(Ahead<'a, I::Value
 ) -> Result<(), Fault>
 where
     B::Item: AsSlice<u8> + Drop,
-    requires can { B.can_next keys }
-    requires ends { UpTo (B.remaining keys) usize.MAX }
+    requires batch { IsBatch B.Iterator keys }
     requires callable { F.IsAlwaysCallable on.old }
-    ensures told { OnOk result (TellsAhead (IsBatch B.next_gives B.Item.items keys) (TellsAt F.FnMut) on.old
-        I.Key.cmp (I.view index.now) on.new) }
+    ensures told { OnOk result (Told B.Iterator B.Item.items keys I.Key.cmp (I.view index.now) F.FnMut on.old on.new) }
     ensures untold { OnErr result (on.new ≡ on.old) }
     ensures again { F.IsAlwaysCallable on.new }
     ensures fault { IfErr result (λ f. f ≡ Fault.Memory) }
@@ -137,11 +134,9 @@ pub fn show_ahead<I: Lists, B: Iterator + Drop, F: FnMut(Ahead<'_, I::Value>)>(
 ) -> Result<(), Fault>
 where
     B::Item: AsSlice<u8> + Drop,
-    requires can { B.can_next keys }
-    requires ends { UpTo (B.remaining keys) usize.MAX }
+    requires batch { IsBatch B.Iterator keys }
     requires callable { F.IsAlwaysCallable on }
-    ensures told { OnOk result ((last : F) × TellsAhead (IsBatch B.next_gives B.Item.items keys)
-        (TellsAt F.FnMut) on I.Key.cmp (I.view index.now) last) }
+    ensures told { OnOk result (Tells B.Iterator B.Item.items keys I.Key.cmp (I.view index.now) F.FnMut on) }
     ensures fault { IfErr result (λ f. f ≡ Fault.Memory) }
 {
     let sorted = probes_by_key(alloc, index, keys)?;

@@ -1,6 +1,6 @@
 use Rattle.std.proofs.Common.{refl, sym, subst, rules, of_calls}
 use denote.Param.Always.{always_mut, mut_by}
-use Rattle.key_index_flat.specs.Visits.{IsBatch, IsSortedBatch}
+use Rattle.key_index_flat.specs.Visits.{AreProbes, ByKey}
 use Rattle.key_index_parts.proofs.asked.AheadLemmas.{tells_through}
 use Rattle.key_index_parts.proofs.index.partitioned.ordered.ahead.show_ahead.Goals as goal
 
@@ -10,6 +10,6 @@ look_ahead-requires g c κs =
 
 pub returns-clause-told : goal.returns-clause-told
 returns-clause-told g c =
-    let batch = subst (λ l. IsSortedBatch (IsBatch g.B.Iterator.next_gives g.B.Item.AsSlice.items c.args.keys) g.I.Key.Ord.cmp (g.I.Runs.view c.args.index.now) l) (sym c.deref.ensures.value) c.in_ok-sorted.ensures.probes in
+    let probes = subst (λ l. AreProbes ByKey g.B.Iterator g.B.Item.AsSlice.items c.args.keys g.I.Key.Ord.cmp (g.I.Runs.view c.args.index.now) l) (sym c.deref.ensures.value) c.in_ok-sorted.ensures.probes in
     let told = tells_through _ g.F.FnMut (λ s. s.0) (λ p t q e. search (rules, of_calls)) _ c.look_ahead.new.on _ c.look_ahead.ensures.told in
-    (c.look_ahead.new.on.0, (c.deref.result.now, batch, told))
+    (c.look_ahead.new.on.0, (c.deref.result.now, probes, told))
