@@ -73,13 +73,14 @@ module _ {K : Type 0} {cmp : K → K → Ordering} (o : IsTotalOrder cmp) (exact
     unset_after one = (kept_after, unset_map o exact s.slot s.content t.content key l hs.0 ht.0 kept.filed filed_after content one)
 
   module _ (s t : View K Record) (key : List ℕ) (hs : IsLawful cmp s.content) (ht : IsLawful cmp t.content) (kept : IsKept cmp s) where
-    pub put_new : (first : Bool) (r : Record) → key_of r ≡ key → IsBytes key → position_in key (run_of cmp s key) ≡ None → t ≡ after_insert cmp first s key r
+    pub put_new : (first : Bool) (r : Record) → key_of r ≡ key → IsBytes key → get (positions_in s) key ≡ None → t ≡ after_insert cmp first s key r
         → IsKept cmp t × (positions_in t ≡ insert (positions_in s) key r.position)
     put_new first r own bytes none is =
         let P : Record → Type 0 = λ r. IsBytes (key_of r) × (s.slot (key_of r) ≡ s.slot key) in
         let run = run_of cmp s key in
+        let free : position_in key run ≡ None = sym (get-positions_in o exact s.slot s.content hs.0 kept.filed key) ∙ none in
         set_after s t key (put_value first r run) hs ht kept (content-same_view is) (same_slot is) (All-put_value P first r run (subst IsBytes (sym own) bytes, ap s.slot own) (kept.filed (s.slot key)))
-        (put_distinct entry_of first run r (ap (λ k. position_in k run) own ∙ none) (kept.once (s.slot key))) r.position (λ a. put_look entry_of first a key run r own none)
+        (put_distinct entry_of first run r (ap (λ k. position_in k run) own ∙ free) (kept.once (s.slot key))) r.position (λ a. put_look entry_of first a key run r own free)
 
     pub put_held : (place : ℕ) (r : Record) → key_of r ≡ key → IsBytes key → option_map key_of (slice_get (run_of cmp s key) place) ≡ Some key → t ≡ with_edit cmp s (s.slot key) (λ l. slice_set l place r)
         → IsKept cmp t × (positions_in t ≡ insert (positions_in s) key r.position)

@@ -3,6 +3,7 @@
 --     is_filled-with_list, filled_held  what holds a value is filled
 --     IsBucket, bucket_taken            a bucket that was taken from its place
 --     bucket_told, list_told            what a bucket holds is what the family tells of it
+--     bucket_seen                       what a bucket that was taken holds, by what buckets the family has
 --     bucket_edited, bucket_stays       the family after one list of a bucket was edited, and after none was
 --     all_alike, none_filled            buckets that are all alike, and that hold nothing
 --     flags_edited, flags_stay          which buckets are filled after such a call
@@ -85,17 +86,21 @@ pub bucket_taken : {X K V : Type 0} (f : X → Content K V) (xs : List X) {bucke
     → IsBucket f xs p x
 bucket_taken f xs e h at = record { inside = (let len = ap (λ l. length l) e in let same = length-map xs f in omega (arith, len, same, h)); at = at }
 
-module _ {X K V : Type 0} (cmp : K → K → Ordering) {f : X → Content K V} {xs : List X} {p : ℕ} {x : X} (bucket : IsBucket f xs p x) where
-  pub bucket_told : f x ≡ bucket_at (map f xs) p
-  bucket_told = ap f bucket.at ∙ sym (get_or-map f xs p x [] bucket.inside)
+pub bucket_told : {X K V : Type 0} {f : X → Content K V} {xs : List X} {p : ℕ} {x : X} → IsBucket f xs p x → f x ≡ bucket_at (map f xs) p
+bucket_told {f = f} {xs = xs} {p = p} {x = x} bucket = ap f bucket.at ∙ sym (get_or-map f xs p x [] bucket.inside)
 
+pub bucket_seen : {X K V : Type 0} (f : X → Content K V) (xs : List X) {buckets : List (Content K V)} {p : ℕ} {x : X} → map f xs ≡ buckets → p < length buckets → x ≡ slice_index_or xs p x
+    → f x ≡ bucket_at buckets p
+bucket_seen f xs {p = p} e h at = bucket_told (bucket_taken f xs e h at) ∙ ap (λ cs. bucket_at cs p) e
+
+module _ {X K V : Type 0} (cmp : K → K → Ordering) {f : X → Content K V} {xs : List X} {p : ℕ} {x : X} (bucket : IsBucket f xs p x) where
   pub list_told : (k : K) → list_at cmp (f x) k ≡ list_in cmp (map f xs) (p, k)
-  list_told k = ap (λ c. list_at cmp c k) bucket_told
+  list_told k = ap (λ c. list_at cmp c k) (bucket_told bucket)
 
   pub bucket_edited : (y : X) (k : K) (L : List V → List V) → f y ≡ with_list cmp (f x) k (L (list_at cmp (f x) k))
       → map f (set xs p y) ≡ with_list_in cmp (map f xs) (p, k) (L (list_in cmp (map f xs) (p, k)))
   bucket_edited y k L e =
-      map-set f xs p y ∙ ap (λ c. set (map f xs) p c) (e ∙ ap (λ c. with_list cmp c k (L (list_at cmp c k))) bucket_told)
+      map-set f xs p y ∙ ap (λ c. set (map f xs) p c) (e ∙ ap (λ c. with_list cmp c k (L (list_at cmp c k))) (bucket_told bucket))
 
   pub bucket_stays : (y : X) → f y ≡ f x → map f (set xs p y) ≡ map f xs
   bucket_stays y e = map-set_same f xs p y x (e ∙ ap f bucket.at)

@@ -2,13 +2,12 @@
 --     flag_told, flag_at-within               the flag of a bucket, and a flag that is set is of one
 --     first_of, first_none                    the first list of the buckets from a number on, by the first of them that is filled, and where none is
 --     last_of, last_list-no_flags             the last list of the buckets below a number, by the last of them that is filled, and where none is
---     next_list-own_bucket, next_later, ..    the next list of a slot: in its own bucket, in a later one, and past the end
---     prev_list-own_bucket, prev_earlier, ..  the same before it
-use Rattle.std.proofs.Common.{◌≡◌, ℕ, zero, suc, ◌+◌, ◌-◌, ◌<◌, ◌≤◌, nat_lt, true, false, T, List, [], ◌∷◌, ◌++◌, get_or, take, drop, length, Option, Some, None, append-nil, refl, sym, ap, subst, ◌∙◌, arith}
+--     next_list-gathered, prev_list-gathered  the next list of a slot and the previous one: in its own bucket, in one beyond it, or at the other end
+use Rattle.std.proofs.Common.{◌≡◌, ℕ, zero, suc, ◌+◌, ◌-◌, ◌<◌, ◌≤◌, nat_lt, true, false, T, List, [], ◌∷◌, ◌++◌, get_or, take, drop, length, Option, Some, None, append-nil, refl, sym, ap, subst, ◌∙◌, add-one, arith}
 use Rattle.std.proofs.lemmas.Bool.{ltb-true, ltb-false}
-use Rattle.std.proofs.lemmas.List.{get_or-drop, get_or-take, get_or_past}
+use Rattle.std.proofs.lemmas.List.{get_or-drop, get_or-take, get_or_past, length-take}
 use Rattle.std.specs.List.{last_or}
-use Rattle.std.specs.Option.{option_map}
+use Rattle.std.specs.Option.{option_map, option_or}
 use Rattle.std.specs.declared.cmp.Ordering.{Ordering}
 use Rattle.key_index_flat.specs.Content.{Content, is_filled}
 use Rattle.key_index_flat.specs.Neighbours.{first_entry, last_entry, or_cycled, entries_above, entries_below, first_list, last_list, next_list, prev_list}
@@ -20,6 +19,10 @@ use Rattle.key_index_parts.proofs.family.GatheredNeighbours.{above-gathered, bel
 last_or-append_more : {E : Type 0} (o : Option E) (xs : List E) (y : E) (ys : List E) → last_or o (xs ++ y ∷ ys) ≡ last_or None (y ∷ ys)
 last_or-append_more o [] y ys = refl
 last_or-append_more o (x ∷ xs) y ys = last_or-append_more (Some x) xs y ys
+
+first_list-append : {K V : Type 0} (p : ℕ) (c : Content K V) (d : Content (ℕ × K) V) → first_list (tagged p c ++ d) ≡ option_or (first_list c) (first_list d)
+first_list-append p [] d = refl
+first_list-append p (e ∷ es) d = refl
 
 module _ {K V : Type 0} where
   -- the flag of a bucket
@@ -37,18 +40,6 @@ module _ {K V : Type 0} where
   empty-is_filled [] h = refl
   empty-is_filled (e ∷ es) h = absurd (subst T h tt)
 
-  first-append : (p : ℕ) (c : Content K V) (d : Content (ℕ × K) V) (l : List V) → first_list c ≡ Some l → first_list (tagged p c ++ d) ≡ Some l
-  first-append p [] d l h = cc
-  first-append p (e ∷ es) d l h = h
-
-  first_list-none : (c : Content K V) → first_list c ≡ None → c ≡ []
-  first_list-none [] h = refl
-  first_list-none (e ∷ es) h = cc
-
-  first_some : (c : Content K V) → is_filled c ≡ true → (e : K × List V) × (first_list c ≡ Some e.1)
-  first_some [] h = absurd (subst T (sym h) tt)
-  first_some (e ∷ es) h = (e, refl)
-
   -- ---- from a number on
 
   none_from : (m : ℕ) (cs : List (Content K V)) → ((i : ℕ) → is_filled (get_or cs i []) ≡ false) → gathered_from m cs ≡ []
@@ -58,7 +49,8 @@ module _ {K V : Type 0} where
   first_from : (m : ℕ) (cs : List (Content K V)) (j : ℕ) → is_filled (get_or cs j []) ≡ true → ((i : ℕ) → i < j → is_filled (get_or cs i []) ≡ false)
       → first_list (gathered_from m cs) ≡ first_list (get_or cs j [])
   first_from m [] j h before = absurd (subst T (sym h) tt)
-  first_from m (c ∷ cs) zero h before = let some = first_some c h in first-append m c (gathered_from (suc m) cs) some.0.1 some.1 ∙ sym some.1
+  first_from m ([] ∷ cs) zero h before = absurd (subst T (sym h) tt)
+  first_from m ((e ∷ es) ∷ cs) zero h before = refl
   first_from m (c ∷ cs) (suc j) h before =
       ap (λ d. first_list (tagged m d ++ gathered_from (suc m) cs)) (empty-is_filled c (before 0 (omega arith)))
       ∙ first_from (suc m) cs j h (λ i l. before (suc i) (omega (arith, l)))
@@ -81,9 +73,14 @@ module _ {K V : Type 0} where
 
   -- ---- below a number
 
-  last-append : (c d : Content K V) (l : List V) → last_list d ≡ Some l → last_list (c ++ d) ≡ Some l
-  last-append c [] l h = cc
-  last-append c (e ∷ es) l h = ap (λ o. option_map (λ f. f.1) o) (last_or-append_more None c e es) ∙ h
+  last_list-filled : (c : Content K V) (o : Option (List V)) → is_filled c ≡ true → option_or (last_list c) o ≡ last_list c
+  last_list-filled [] o h = absurd (subst T (sym h) tt)
+  last_list-filled (e ∷ []) o h = refl
+  last_list-filled (e ∷ f ∷ fs) o h = last_list-filled (f ∷ fs) o refl
+
+  last_list-append : (c d : Content K V) → last_list (c ++ d) ≡ option_or (last_list d) (last_list c)
+  last_list-append c [] = ap (λ d. last_list d) (append-nil c)
+  last_list-append c (e ∷ es) = ap (λ o. option_map (λ f. f.1) o) (last_or-append_more None c e es) ∙ sym (last_list-filled (e ∷ es) (last_list c) refl)
 
   last-tagged_from : (p : ℕ) (o : Option (K × List V)) (q : Option ((ℕ × K) × List V)) (c : Content K V) → option_map (λ e. e.1) q ≡ option_map (λ e. e.1) o
       → option_map (λ e. e.1) (last_or q (tagged p c)) ≡ option_map (λ e. e.1) (last_or o c)
@@ -93,11 +90,6 @@ module _ {K V : Type 0} where
   pub last-tagged : (p : ℕ) (c : Content K V) → last_list (tagged p c) ≡ last_list c
   last-tagged p c = last-tagged_from p None None c refl
 
-  last_some : (c : Content K V) → is_filled c ≡ true → (l : List V) × (last_list c ≡ Some l)
-  last_some [] h = absurd (subst T (sym h) tt)
-  last_some (e ∷ []) h = (e.1, refl)
-  last_some (e ∷ f ∷ fs) h = last_some (f ∷ fs) refl
-
 module _ {K V : Type 0} where
   last_from : (m : ℕ) (cs : List (Content K V)) (j : ℕ) → is_filled (get_or cs j []) ≡ true → ((i : ℕ) → j < i → is_filled (get_or cs i []) ≡ false)
       → last_list (gathered_from m cs) ≡ last_list (get_or cs j [])
@@ -105,24 +97,15 @@ module _ {K V : Type 0} where
   last_from m (c ∷ cs) zero h behind =
       ap (λ d. last_list (tagged m c ++ d)) (none_from (suc m) cs (λ i. behind (suc i) (omega arith))) ∙ ap (λ d. last_list d) (append-nil (tagged m c)) ∙ last-tagged m c
   last_from m (c ∷ cs) (suc j) h behind =
-      let some = last_some (get_or cs j []) h in
       let rest = last_from (suc m) cs j h (λ i l. behind (suc i) (omega (arith, l))) in
-      last-append (tagged m c) (gathered_from (suc m) cs) some.0 (rest ∙ some.1) ∙ sym some.1
+      last_list-append (tagged m c) (gathered_from (suc m) cs) ∙ ap (λ o. option_or o (last_list (tagged m c))) rest ∙ last_list-filled (get_or cs j []) _ h
 
   module _ (buckets : List (Content K V)) (end : ℕ) where
-    up_to : (i : ℕ) → end ≤ i → get_or (take end buckets) i [] ≡ []
-    up_to i h = get_or_past (take end buckets) i [] (let l = at_most end buckets in omega (arith, l, h))
-      where
-        at_most : (n : ℕ) (cs : List (Content K V)) → length (take n cs) ≤ n
-        at_most zero cs = omega arith
-        at_most (suc n) [] = omega arith
-        at_most (suc n) (c ∷ cs) = let l = at_most n cs in omega (arith, l)
-
     below_end : (i : ℕ) → ((i < end) → flag_at (filled_buckets buckets) i ≡ false) → is_filled (get_or (take end buckets) i []) ≡ false
     below_end i h =
         elim (nat_lt i end) as (λ b. nat_lt i end ≡ b → is_filled (get_or (take end buckets) i []) ≡ false) [
           | true ↦ λ e. let l = ltb-true i end e in ap is_filled (get_or-take end buckets i [] l) ∙ sym (flag_told buckets i) ∙ h l
-          | false ↦ λ e. ap is_filled (up_to i (ltb-false i end e))
+          | false ↦ λ e. let past = ltb-false i end e in ap is_filled (get_or_past (take end buckets) i [] (omega (arith, past, length-take end buckets)))
         ] refl
 
     pub last_of : (n : ℕ) → IsLast (flag_at (filled_buckets buckets)) end n → last_list (gathered (take end buckets)) ≡ last_list (bucket_at buckets n)
@@ -136,64 +119,27 @@ module _ {K V : Type 0} where
 
 -- ---- neighbours
 
-or_cycled-lists : {K V : Type 0} (o p : Option (K × List V)) → option_map (λ n. (n.0.1, n.1)) (or_cycled o p) ≡ or_cycled (option_map (λ e. e.1) o) (option_map (λ e. e.1) p)
+or_cycled-lists : {K V : Type 0} (o p : Option (K × List V)) → or_cycled (option_map (λ e. e.1) o) (option_map (λ e. e.1) p) ≡ option_map (λ n. (n.0.1, n.1)) (or_cycled o p)
 or_cycled-lists (Some e) p = refl
 or_cycled-lists None (Some e) = refl
 or_cycled-lists None None = refl
 
-module _ {K V : Type 0} (cmp : K → K → Ordering) (buckets : List (Content K V)) (slot : ℕ × K) where
-  abbrev own_above : Content K V
-  own_above = entries_above cmp (bucket_at buckets slot.0) slot.1
+-- of a slot whose own bucket holds c: the list that c has, or else the one that the buckets beyond have, or else the one at the other end
+module _ {K V : Type 0} (cmp : K → K → Ordering) (buckets : List (Content K V)) (slot : ℕ × K) {c : Content K V} (told : c ≡ bucket_at buckets slot.0) {o p q : Option (List V)} where
+  pub next_list-gathered : o ≡ first_list (entries_above cmp c slot.1) → p ≡ first_list (gathered_from (slot.0 + 1) (drop (slot.0 + 1) buckets)) → q ≡ first_list (gathered buckets)
+      → or_cycled (option_or o p) q ≡ next_list (pair_cmp cmp) (gathered buckets) slot
+  next_list-gathered own later first =
+      let of_own = own ∙ ap (λ d. first_list (entries_above cmp d slot.1)) told in
+      let of_later = later ∙ ap (λ n. first_list (gathered_from n (drop n buckets))) (add-one slot.0) in
+      (λ i. or_cycled (option_or (of_own i) (of_later i)) (first i))
+      ∙ ap (λ r. or_cycled r (first_list (gathered buckets))) (sym (ap (λ d. first_list d) (above-gathered cmp buckets slot.0 slot.1) ∙ first_list-append slot.0 _ _))
+      ∙ or_cycled-lists (first_entry (entries_above (pair_cmp cmp) (gathered buckets) slot)) (first_entry (gathered buckets))
 
-  abbrev own_below : Content K V
-  own_below = entries_below cmp (bucket_at buckets slot.0) slot.1
-
-  abbrev later : Content (ℕ × K) V
-  later = gathered_from (slot.0 + 1) (drop (slot.0 + 1) buckets)
-
-  abbrev earlier : Content (ℕ × K) V
-  earlier = gathered (take slot.0 buckets)
-
-  entries_above-gathered : entries_above (pair_cmp cmp) (gathered buckets) slot ≡ tagged slot.0 own_above ++ later
-  entries_above-gathered =
-      let next : suc slot.0 ≡ slot.0 + 1 = omega arith in
-      above-gathered cmp buckets slot.0 slot.1 ∙ ap (λ n. tagged slot.0 own_above ++ gathered_from n (drop n buckets)) next
-
-  above_none : first_list own_above ≡ None → entries_above (pair_cmp cmp) (gathered buckets) slot ≡ later
-  above_none h = entries_above-gathered ∙ ap (λ c. tagged slot.0 c ++ later) (first_list-none own_above h)
-
-  next_by : (o : Option (List V)) → first_list (entries_above (pair_cmp cmp) (gathered buckets) slot) ≡ o → next_list (pair_cmp cmp) (gathered buckets) slot ≡ or_cycled o (first_list (gathered buckets))
-  next_by o h = or_cycled-lists (first_entry (entries_above (pair_cmp cmp) (gathered buckets) slot)) (first_entry (gathered buckets)) ∙ ap (λ p. or_cycled p (first_list (gathered buckets))) h
-
-  pub next_list-own_bucket : (l : List V) → first_list own_above ≡ Some l → next_list (pair_cmp cmp) (gathered buckets) slot ≡ Some (l, false)
-  next_list-own_bucket l h = next_by (Some l) (ap (λ c. first_list c) entries_above-gathered ∙ first-append slot.0 own_above later l h)
-
-  pub next_later : (l : List V) → first_list own_above ≡ None → first_list later ≡ Some l → next_list (pair_cmp cmp) (gathered buckets) slot ≡ Some (l, false)
-  next_later l h k = next_by (Some l) (ap (λ c. first_list c) (above_none h) ∙ k)
-
-  pub next_list-gathered_cycled : (o : Option (List V)) → first_list own_above ≡ None → first_list later ≡ None → first_list (gathered buckets) ≡ o
-      → next_list (pair_cmp cmp) (gathered buckets) slot ≡ option_map (λ l. (l, true)) o
-  next_list-gathered_cycled o h k f = next_by None (ap (λ c. first_list c) (above_none h) ∙ k) ∙ ap (λ p. option_map (λ l. (l, true)) p) f
-
-  entries_below-gathered : entries_below (pair_cmp cmp) (gathered buckets) slot ≡ earlier ++ tagged slot.0 own_below
-  entries_below-gathered = below-gathered cmp buckets slot.0 slot.1
-
-  none_last : (c : Content K V) → last_list c ≡ None → c ≡ []
-  none_last [] h = refl
-  none_last (e ∷ es) h = let some = last_some (e ∷ es) refl in cc
-
-  entries_below-own_none : last_list own_below ≡ None → entries_below (pair_cmp cmp) (gathered buckets) slot ≡ earlier
-  entries_below-own_none h = entries_below-gathered ∙ ap (λ c. earlier ++ tagged slot.0 c) (none_last own_below h) ∙ append-nil earlier
-
-  prev_by : (o : Option (List V)) → last_list (entries_below (pair_cmp cmp) (gathered buckets) slot) ≡ o → prev_list (pair_cmp cmp) (gathered buckets) slot ≡ or_cycled o (last_list (gathered buckets))
-  prev_by o h = or_cycled-lists (last_entry (entries_below (pair_cmp cmp) (gathered buckets) slot)) (last_entry (gathered buckets)) ∙ ap (λ p. or_cycled p (last_list (gathered buckets))) h
-
-  pub prev_list-own_bucket : (l : List V) → last_list own_below ≡ Some l → prev_list (pair_cmp cmp) (gathered buckets) slot ≡ Some (l, false)
-  prev_list-own_bucket l h = prev_by (Some l) (ap (λ c. last_list c) entries_below-gathered ∙ last-append earlier (tagged slot.0 own_below) l (last-tagged slot.0 own_below ∙ h))
-
-  pub prev_earlier : (l : List V) → last_list own_below ≡ None → last_list earlier ≡ Some l → prev_list (pair_cmp cmp) (gathered buckets) slot ≡ Some (l, false)
-  prev_earlier l h k = prev_by (Some l) (ap (λ c. last_list c) (entries_below-own_none h) ∙ k)
-
-  pub prev_list-gathered_cycled : (o : Option (List V)) → last_list own_below ≡ None → last_list earlier ≡ None → last_list (gathered buckets) ≡ o
-      → prev_list (pair_cmp cmp) (gathered buckets) slot ≡ option_map (λ l. (l, true)) o
-  prev_list-gathered_cycled o h k f = prev_by None (ap (λ c. last_list c) (entries_below-own_none h) ∙ k) ∙ ap (λ p. option_map (λ l. (l, true)) p) f
+  pub prev_list-gathered : o ≡ last_list (entries_below cmp c slot.1) → p ≡ last_list (gathered (take slot.0 buckets)) → q ≡ last_list (gathered buckets)
+      → or_cycled (option_or o p) q ≡ prev_list (pair_cmp cmp) (gathered buckets) slot
+  prev_list-gathered own earlier last =
+      let own_below = entries_below cmp (bucket_at buckets slot.0) slot.1 in
+      let of_own = own ∙ ap (λ d. last_list (entries_below cmp d slot.1)) told ∙ sym (last-tagged slot.0 own_below) in
+      (λ i. or_cycled (option_or (of_own i) (earlier i)) (last i))
+      ∙ ap (λ r. or_cycled r (last_list (gathered buckets))) (sym (ap (λ d. last_list d) (below-gathered cmp buckets slot.0 slot.1) ∙ last_list-append (gathered (take slot.0 buckets)) (tagged slot.0 own_below)))
+      ∙ or_cycled-lists (last_entry (entries_below (pair_cmp cmp) (gathered buckets) slot)) (last_entry (gathered buckets))

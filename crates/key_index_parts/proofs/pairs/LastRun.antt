@@ -1,8 +1,8 @@
 -- The run of the last of sorted keys, where keys that tie are one.
---     ends            from where it begins on, each key is the last, and those before are below it
---     popped_pairs    so the pairs end with the last key's, one for each of its values
---     popped_paired   the others, which still never fall, popped_below: are below it, and popped_count: how many they are
---     Rises-more      keys that never fall, and one that is below none of them so many times
+--     ends                     from where it begins on, each key is the last, and those before are below it
+--     IsLastRun, start_within  the last key and where its run begins, which is at one of the keys
+--     IsPopped, popped         so the pairs end with the last key's, one for each of its values; the others still never fall, and are below it
+--     Rises-more               keys that never fall, and one that is below none of them so many times
 use Rattle.std.proofs.Common.{◌≡◌, ℕ, zero, suc, ◌+◌, ◌-◌, ◌<◌, false, cond, T, List, [], ◌∷◌, ◌++◌, All, length, take, drop, replicate, slice_get, Some, refl, sym, ap, subst, ◌∙◌, arith, append_assoc, length-append}
 use Rattle.std.proofs.lemmas.List.{length-take-le, take-append-drop}
 use Rattle.std.proofs.lemmas.Map.Made.{keys_of-zip}
@@ -18,6 +18,20 @@ use Rattle.key_index_parts.specs.Pairs.{count_below, Paired}
 use Rattle.key_index_parts.specs.Spread.{pairs_with}
 use Rattle.key_index_parts.proofs.family.SpreadLemmas.{zip-more}
 use Rattle.key_index_parts.proofs.pairs.SearchLemmas.{Rises, Rises-IsSorted, Rises-take, IsSorted-Rises, last_highest, last_uncounted}
+
+-- k is the last of keys that never fall, and its run begins at `start`
+pub record IsLastRun {K : Type 0} (cmp : K → K → Ordering) (ks : List K) (k : K) (start : ℕ) : Type 0 where
+  pub sorted : IsSorted cmp ks
+  pub last : slice_get ks (length ks - 1) ≡ Some k
+  pub begins : start ≡ count_below cmp ks k
+
+-- what is left once k was taken out, with its first value and its others, is `kept`, with the values `us`
+pub record IsPopped {K V : Type 0} (cmp : K → K → Ordering) (ks : List K) (vs : List V) (k : K) (head : V) (ws : List V) (kept : List K) (us : List V) : Type 0 where
+  pub pairs : zip ks vs ≡ zip kept us ++ pairs_with k (head ∷ ws)
+  pub paired : Paired cmp kept us
+  pub below : All (λ x. cmp x k ≡ Less) (keys_of (zip kept us))
+  pub keys_left : length kept + (1 + length ws) ≡ length ks
+  pub values_left : length us + (1 + length ws) ≡ length vs
 
 module _ {K : Type 0} {cmp : K → K → Ordering} (o : IsTotalOrder cmp) where
   All-replicate : (P : K → Type 0) (n : ℕ) (k : K) → P k → All P (replicate n k)
@@ -75,50 +89,31 @@ module _ {K : Type 0} {cmp : K → K → Ordering} (o : IsTotalOrder cmp) where
           | Greater ↦ λ e. absurd (subst T (sym (ap is_lt (o.antisymm k x ∙ ap ordering_reverse e)) ∙ high_at) tt)
         ] refl
 
-    -- the values stand as `us`, the last key's first value and `ws`
-    module _ (ks : List K) (sorted : IsSorted cmp ks) (last : slice_get ks (length ks - 1) ≡ Some k) (start : ℕ) (begins : start ≡ count_below cmp ks k) where
+    module _ {ks : List K} {start : ℕ} (run : IsLastRun cmp ks k start) where
       ends_last : Ends ks start
-      ends_last = subst (λ n. Ends ks n) (sym begins) (ends ks (Rises-IsSorted o ks sorted) (last_highest o ks k sorted last))
+      ends_last = subst (λ n. Ends ks n) (sym run.begins) (ends ks (Rises-IsSorted o ks run.sorted) (last_highest o ks k run.sorted run.last))
 
       start_within : start < length ks
-      start_within = let within = last_uncounted o ks k sorted last in omega (arith, within, begins)
+      start_within = let within = last_uncounted o ks k run.sorted run.last in omega (arith, within, run.begins)
 
-      module _ {V : Type 0} (vs us ws : List V) (head : V) (sized : length ks ≡ length vs) (left : take (start + 1) vs ≡ us ++ head ∷ []) (moved : ws ≡ drop (start + 1) vs) where
-        cut : vs ≡ us ++ head ∷ ws
-        cut =
-            sym (take-append-drop (start + 1) vs) ∙ (λ i. left i ++ sym moved i) ∙ append_assoc us (head ∷ []) ws
-
-        length-front : length us ≡ start
-        length-front =
-            let long = ap (λ l. length l) left ∙ length-append us (head ∷ []) in
-            let most = length-take-le (start + 1) vs (omega (arith, start_within, sized)) in
-            omega (arith, long, most)
-
-        length-keys_front : length (take start ks) ≡ start
-        length-keys_front = length-take-le start ks (omega (arith, start_within))
-
-        length-behind : length (head ∷ ws) ≡ length ks - start
-        length-behind =
-            let all = ap (λ l. length l) cut ∙ length-append us (head ∷ ws) in
-            omega (arith, all, sized, length-front)
-
-        pub popped_pairs : zip ks vs ≡ zip (take start ks) us ++ pairs_with k (head ∷ ws)
-        popped_pairs =
-            let keys : ks ≡ take start ks ++ replicate (length (head ∷ ws)) k =
-            sym (take-append-drop start ks) ∙ ap (λ l. take start ks ++ l) (ends_last.0 ∙ ap (λ n. replicate n k) (sym length-behind)) in
-            (λ i. zip (keys i) (cut i)) ∙ zip-more (take start ks) us (length-keys_front ∙ sym length-front) k (head ∷ ws)
-
-        pub popped_paired : Paired cmp (take start ks) us
-        popped_paired = record {
-          sized = length-keys_front ∙ sym length-front;
-          sorted = IsSorted-Rises o (take start ks) (Rises-take o start ks (Rises-IsSorted o ks sorted));
-        }
-
-        pub popped_below : All (λ x. cmp x k ≡ Less) (keys_of (zip (take start ks) us))
-        popped_below = subst (λ l. All (λ x. cmp x k ≡ Less) l) (sym (keys_of-zip (take start ks) us (length-front ∙ sym length-keys_front))) ends_last.1
-
-        pub popped_count : (length (take start ks) + (1 + length ws) ≡ length ks) × (length us + (1 + length ws) ≡ length vs)
-        popped_count = (
-          omega (arith, length-keys_front, length-behind, start_within),
-          omega (arith, length-front, length-behind, start_within, sized),
-        )
+      -- the values stand as `us`, the last key's first value and `ws`
+      pub popped : {V : Type 0} (vs us ws : List V) (head : V) → length ks ≡ length vs → take (start + 1) vs ≡ us ++ head ∷ [] → ws ≡ drop (start + 1) vs → IsPopped cmp ks vs k head ws (take start ks) us
+      popped vs us ws head sized left moved =
+          let front = take start ks in
+          let cut = sym (take-append-drop (start + 1) vs) ∙ (λ i. left i ++ sym moved i) ∙ append_assoc us (head ∷ []) ws in
+          let long = ap (λ l. length l) left ∙ length-append us (head ∷ []) in
+          let most = length-take-le (start + 1) vs (omega (arith, start_within, sized)) in
+          let values_front : length us ≡ start = omega (arith, long, most) in
+          let keys_front : length front ≡ start = length-take-le start ks (omega (arith, start_within)) in
+          let all = ap (λ l. length l) cut ∙ length-append us (head ∷ ws) in
+          let behind : length (head ∷ ws) ≡ length ks - start = omega (arith, all, sized, values_front) in
+          let keys : ks ≡ front ++ replicate (length (head ∷ ws)) k =
+          sym (take-append-drop start ks) ∙ ap (λ l. front ++ l) (ends_last.0 ∙ ap (λ n. replicate n k) (sym behind)) in
+          let paired = keys_front ∙ sym values_front in
+          record {
+            pairs = (λ i. zip (keys i) (cut i)) ∙ zip-more front us paired k (head ∷ ws);
+            paired = record { sized = paired; sorted = IsSorted-Rises o front (Rises-take o start ks (Rises-IsSorted o ks run.sorted)) };
+            below = subst (λ l. All (λ x. cmp x k ≡ Less) l) (sym (keys_of-zip front us (sym paired))) ends_last.1;
+            keys_left = omega (arith, keys_front, behind, start_within);
+            values_left = omega (arith, values_front, behind, start_within, sized);
+          }

@@ -4,8 +4,9 @@
 --     entries_sum                   and as many values in all
 --     counted_joined                buckets in the place of others
 --     entries-AreFree               places that hold nothing have no values
---     IsPaid-LeavesIn               an edit of a slot's list, in its bucket as that stands
---     growth_paid                   an insertion there
+--     StaysPaid                     the bounds of an index and of a range hold if they held before
+--     StaysPaid-LeavesIn            after an edit of a slot's list, in its bucket as that stands
+--     StaysPaid-growth              after an insertion there
 use Rattle.std.proofs.Common.{◌≡◌, ℕ, ◌+◌, ◌<◌, ◌≤◌, Bool, false, List, [], ◌∷◌, ◌++◌, map, take, drop, length, get_or, refl, sym, ap, ◌∙◌, arith}
 use Rattle.std.proofs.lemmas.List.{get_or-map, get_or-set_same, length-map, map-append, take-map, drop-map}
 use Rattle.std.proofs.lemmas.List.Elements.{All-get_or}
@@ -17,9 +18,9 @@ use Rattle.key_index_flat.specs.Content.{Content, IsLawful, item_count, with_lis
 use Rattle.key_index_flat.specs.View.{pruned_after}
 use Rattle.key_index_flat.proofs.content.ContentLemmas.{item_count-with_list}
 use Rattle.key_index_parts.specs.Family.{AreCounted, AreFree, IsCounted, list_in, bucket_at, settled_in, with_items_from, with_list_in}
-use Rattle.key_index_parts.specs.Moves.{IsPaid}
+use Rattle.key_index_parts.specs.Moves.{IsPaid, IsRangeWithin, IsWithin}
 use Rattle.key_index_parts.specs.Standing.{LeavesIn, Standing, Standings, standing_in, with_entries}
-use Rattle.key_index_parts.proofs.standing.MoveLemmas.{Pays, grows_paid, leaves_paid}
+use Rattle.key_index_parts.proofs.standing.MoveLemmas.{Pays, credit_pays, grows_paid, leaves_paid, range_pays}
 use Rattle.key_index_parts.proofs.family.StorageLemmas.{length-with_list_in}
 
 module _ {K V : Type 0} (contents : List (Content K V)) (standing : List Standing) (told : AreCounted contents standing) where
@@ -62,6 +63,10 @@ counted_joined contents others standing more n told also =
         ∙ (λ i. sym (take-map f n xs) i ++ (map f ys ++ sym (drop-map f (n + length ys) xs) i))
         ∙ ap (λ m. take n (map f xs) ++ (map f ys ++ drop (n + m) (map f xs))) (sym (length-map ys f))
 
+pub record StaysPaid (s t : Standings) (pruned after : ℕ) : Type 0 where
+  pub within : IsWithin s pruned → IsWithin t after
+  pub range_bound : IsRangeWithin s pruned → IsRangeWithin t after
+
 -- places that hold nothing have no values
 pub entries-AreFree : {K V : Type 0} (contents : List (Content K V)) (standing : List Standing) → AreCounted contents standing
     → (start count : ℕ) → start + count ≤ length contents → AreFree contents start count
@@ -93,12 +98,14 @@ module _ {K V : Type 0} {cmp : K → K → Ordering} {p : ℕ} {buckets : List (
     entries-left_and_taken : (standing_in ps slot.0).entries ≤ (standing_in qs slot.0).entries + taken
     entries-left_and_taken = let sum = entries_edited in omega (arith, sum, fits)
 
-    module _ {owed : ℕ → Standing → ℕ} (pays : Pays owed) where
-      pub IsPaid-LeavesIn : LeavesIn ps slot.0 qs → IsPaid (owed t) (standing_so ps) pruned → IsPaid (owed t) (standing_so qs) after
-      IsPaid-LeavesIn stays before = leaves_paid pays (standing_so ps) (standing_so qs) slot.0 pruned after taken within_buckets entries-left_and_taken after_is before (λ i. standing_so (stays i))
+    pub StaysPaid-LeavesIn : LeavesIn ps slot.0 qs → StaysPaid (standing_so ps) (standing_so qs) pruned after
+    StaysPaid-LeavesIn stays = record { within = leaves credit_pays; range_bound = leaves range_pays } where
+      leaves : {owed : ℕ → Standing → ℕ} → Pays owed → IsPaid (owed t) (standing_so ps) pruned → IsPaid (owed t) (standing_so qs) after
+      leaves pays before = leaves_paid pays (standing_so ps) (standing_so qs) slot.0 pruned after taken within_buckets entries-left_and_taken after_is before (λ i. standing_so (stays i))
 
-      pub growth_paid : (kind : Bool) (a b : ℕ)
-          → record { threshold = t; buckets = qs; spills = a; moved = b } ≡ settled_in kind (with_entries (standing_so ps) slot.0 (standing_in qs slot.0).entries) slot.0
-          → IsPaid (owed t) (standing_so ps) pruned → IsPaid (owed t) (record { threshold = t; buckets = qs; spills = a; moved = b }) after
-      growth_paid kind a b grows before =
-          grows_paid pays (standing_so ps) (record { threshold = t; buckets = qs; spills = a; moved = b }) slot.0 pruned after taken within_buckets entries-left_and_taken after_is before kind grows
+    pub StaysPaid-growth : (kind : Bool) (a b : ℕ)
+        → record { threshold = t; buckets = qs; spills = a; moved = b } ≡ settled_in kind (with_entries (standing_so ps) slot.0 (standing_in qs slot.0).entries) slot.0
+        → StaysPaid (standing_so ps) (record { threshold = t; buckets = qs; spills = a; moved = b }) pruned after
+    StaysPaid-growth kind a b is = record { within = grows credit_pays; range_bound = grows range_pays } where
+      grows : {owed : ℕ → Standing → ℕ} → Pays owed → IsPaid (owed t) (standing_so ps) pruned → IsPaid (owed t) (record { threshold = t; buckets = qs; spills = a; moved = b }) after
+      grows pays before = grows_paid pays (standing_so ps) (record { threshold = t; buckets = qs; spills = a; moved = b }) slot.0 pruned after taken within_buckets entries-left_and_taken after_is before kind is

@@ -1,7 +1,8 @@
-use Rattle.std.proofs.Common.{◌≤◌, slice_index, subst, sym, ap, ◌∙◌, arith}
+use Rattle.std.proofs.Common.{◌≡◌, ◌≤◌, slice_index, subst, sym, ap, ◌∙◌, arith}
 use Rattle.std.proofs.lemmas.List.{length-set}
 use Rattle.key_index.specs.Table.{places, Stored, position_count}
 use Rattle.key_index.proofs.tables.TableMaps.{find_contains, find_is, places_full, full_within, full-removed, used-put_used, removed_files}
+use Rattle.key_index.proofs.table.Table.remove.Goals.{In-Some}
 use Rattle.key_index.proofs.table.Table.remove.Goals as goal
 
 pub returns-in_default-clause-removed : goal.returns-in_default-clause-removed
@@ -10,26 +11,24 @@ returns-in_default-clause-removed c =
     rw (← c.self.view_is)
     (find_contains (slice_index c.self.inside.positions.items) c.args.position (places c.self.inside.controls.items c.args.hash) _ (sym c.in_default.is ∙ searched))
 
-pub index_mut-requires : goal.index_mut-requires
-index_mut-requires c =
+-- the cell that was found is full, and holds the position
+cell_found : (c : In-Some) → (slice_index c.self.inside.positions.items c.in-Some.cell ≡ c.args.position) × (2 ≤ slice_index c.self.inside.controls.items c.in-Some.cell)
+cell_found c =
     let searched = rw (c.deref.ensures.value, c.deref-2.ensures.value) at c.cell_of.ensures in
     let found = find_is (slice_index c.self.inside.positions.items) c.args.position (places c.self.inside.controls.items c.args.hash) c.in-Some.cell (sym searched ∙ c.in-Some.is) in
-    let full : 2 ≤ slice_index c.self.inside.controls.items c.in-Some.cell = places_full c.self.inside.controls.items c.args.hash c.in-Some.cell found.1 in
-    let within = full_within c.self.inside.controls.items c.in-Some.cell full in
+    (found.0, places_full c.self.inside.controls.items c.args.hash c.in-Some.cell found.1)
+
+pub index_mut-requires : goal.index_mut-requires
+index_mut-requires c =
+    let within = full_within c.self.inside.controls.items c.in-Some.cell (cell_found (goal.at.index_mut-requires c).In-Some).1 in
     omega (arith, within, c.self.inside.controls.ok)
 
 pub overflow_sub-self : goal.overflow_sub-self
-overflow_sub-self c =
-    let searched = rw (c.deref.ensures.value, c.deref-2.ensures.value) at c.cell_of.ensures in
-    let found = find_is (slice_index c.self.inside.positions.items) c.args.position (places c.self.inside.controls.items c.args.hash) c.in-Some.cell (sym searched ∙ c.in-Some.is) in
-    let full : 2 ≤ slice_index c.self.inside.controls.items c.in-Some.cell = places_full c.self.inside.controls.items c.args.hash c.in-Some.cell found.1 in
-    omega (arith, c.self.invariant.counted, full-removed c.self.inside.controls.items c.in-Some.cell full)
+overflow_sub-self c = omega (arith, c.self.invariant.counted, full-removed c.self.inside.controls.items c.in-Some.cell (cell_found (goal.at.overflow_sub-self c).In-Some).1)
 
 pub invariant_of-self-2 : goal.invariant_of-self-2
 invariant_of-self-2 c =
-    let searched = rw (c.deref.ensures.value, c.deref-2.ensures.value) at c.cell_of.ensures in
-    let found = find_is (slice_index c.self.inside.positions.items) c.args.position (places c.self.inside.controls.items c.args.hash) c.in-Some.cell (sym searched ∙ c.in-Some.is) in
-    let full : 2 ≤ slice_index c.self.inside.controls.items c.in-Some.cell = places_full c.self.inside.controls.items c.args.hash c.in-Some.cell found.1 in
+    let full = (cell_found (goal.at.invariant_of-self-2 c).In-Some).1 in
     let within = full_within c.self.inside.controls.items c.in-Some.cell full in
     let inv = c.self.invariant in
     let same = length-set c.self.inside.controls.items c.in-Some.cell 1 in
@@ -48,14 +47,8 @@ returns-clause-removed c =
 
 pub returns-clause-stored : goal.returns-clause-stored
 returns-clause-stored c = λ m s.
-    let searched = rw (c.deref.ensures.value, c.deref-2.ensures.value) at c.cell_of.ensures in
-    let found = find_is (slice_index c.self.inside.positions.items) c.args.position (places c.self.inside.controls.items c.args.hash) c.in-Some.cell (sym searched ∙ c.in-Some.is) in
-    let full : 2 ≤ slice_index c.self.inside.controls.items c.in-Some.cell = places_full c.self.inside.controls.items c.args.hash c.in-Some.cell found.1 in
-    removed_files c.self.inside.controls.items c.self.inside.positions.items c.in-Some.cell full m c.args.position found.0 (subst (λ t. Stored t m) (sym c.self.view_is) s)
+    let found = cell_found (goal.at.returns-clause-stored c).In-Some in
+    removed_files c.self.inside.controls.items c.self.inside.positions.items c.in-Some.cell found.1 m c.args.position found.0 (subst (λ t. Stored t m) (sym c.self.view_is) s)
 
 pub returns-clause-count : goal.returns-clause-count
-returns-clause-count c =
-    let searched = rw (c.deref.ensures.value, c.deref-2.ensures.value) at c.cell_of.ensures in
-    let found = find_is (slice_index c.self.inside.positions.items) c.args.position (places c.self.inside.controls.items c.args.hash) c.in-Some.cell (sym searched ∙ c.in-Some.is) in
-    let full : 2 ≤ slice_index c.self.inside.controls.items c.in-Some.cell = places_full c.self.inside.controls.items c.args.hash c.in-Some.cell found.1 in
-    full-removed c.self.inside.controls.items c.in-Some.cell full ∙ ap position_count c.self.view_is
+returns-clause-count c = full-removed c.self.inside.controls.items c.in-Some.cell (cell_found (goal.at.returns-clause-count c).In-Some).1 ∙ ap position_count c.self.view_is

@@ -1,7 +1,7 @@
 use Rattle.std.proofs.Common.{◌≡◌, ℕ, ◌<◌, map, false, refl, sym, ap, subst, ◌∙◌}
 use Rattle.key_index_flat.specs.Neighbours.{last_list}
 use Rattle.key_index_parts.specs.Bitmap.{IsLast, flag_at}
-use Rattle.key_index_parts.proofs.family.FamilyLemmas.{bucket_taken, bucket_told}
+use Rattle.key_index_parts.proofs.family.FamilyLemmas.{bucket_seen}
 use Rattle.key_index_parts.proofs.family.FamilyNeighbours.{flag_at-within, last_of, last_list-no_flags}
 use Rattle.key_index_parts.proofs.index.partitioned.directory.Directory.last_below.Goals as goal
 
@@ -11,9 +11,9 @@ returns-in-Some g c =
     let xs = c.self.inside.buckets.items in
     let n = c.in-Some.number in
     let found = subst (λ flags. IsLast (flag_at flags) c.args.end n) c.self.invariant c.in-Some.ensures in
-    let bucket = bucket_taken f xs refl (flag_at-within (map f xs) n found.here) c.index.ensures in
+    let told = bucket_seen f xs refl (flag_at-within (map f xs) n found.here) c.index.ensures in
     rw (← c.self.view_is)
-    (c.last.ensures ∙ ap (λ d. last_list d) (bucket_told g.T.Key.Ord.cmp bucket) ∙ sym (last_of (map f xs) c.args.end n found))
+    (c.last.ensures ∙ ap (λ d. last_list d) told ∙ sym (last_of (map f xs) c.args.end n found))
 
 pub returns-in-None : goal.returns-in-None
 returns-in-None g c =

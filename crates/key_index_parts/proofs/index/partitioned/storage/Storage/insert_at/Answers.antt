@@ -4,8 +4,7 @@ use Rattle.key_index_flat.specs.Content.{item_count}
 use Rattle.key_index_parts.specs.Gathered.{gathered}
 use Rattle.key_index_parts.specs.Family.{held_at, list_in}
 use Rattle.key_index_parts.proofs.family.StorageLemmas.{list_at-gathered_buckets, within_buckets, keys_below, counted_gain, KeepsBuckets-edited, keeps_all, view_edited}
-use Rattle.key_index_parts.proofs.standing.MoveLemmas.{credit_pays, range_pays}
-use Rattle.key_index_parts.proofs.standing.PaidLemmas.{IsPaid-LeavesIn}
+use Rattle.key_index_parts.proofs.standing.PaidLemmas.{StaysPaid-LeavesIn}
 use Rattle.key_index_parts.proofs.standing.StandingLemmas.{pruned_after-zero}
 use Rattle.key_index_parts.proofs.index.partitioned.storage.Storage.insert_at.Goals as goal
 
@@ -56,7 +55,7 @@ invariant_of-self-inside g c =
     let inside = within_buckets c.self.view_is c.args.slot.0 c.requires.admits in
     let seen = subst (λ s. c.args.place ≤ length (held_at g.T.Key.Ord.cmp s.buckets c.args.slot)) (sym c.self.view_is) c.requires.place in
     let more = length-insert list c.args.place c.args.value (subst (λ l. c.args.place ≤ length l) (list_at-gathered_buckets c.self.invariant c.args.slot) seen) in
-    (c.self.inside.least, (c.insert_at.ensures.counted, (IsPaid-LeavesIn c.self.invariant g.met.T.Key.Ord.total c.args.slot (insert list c.args.place c.args.value) c.insert_at.new.self.contents inside c.in-Ok.ensures.accepted.0 c.self.inside.buckets.standing _ c.self.inside.told c.insert_at.ensures.counted c.self.inside.threshold c.self.inside.moves.spills c.self.inside.moves.moved c.self.inside.counts.pruned _ 0 (omega (arith, more)) (c.gain.ensures.pruned ∙ sym (pruned_after-zero c.self.inside.counts.pruned)) credit_pays c.in-Ok.ensures.standing c.self.inside.within, tt)))
+    (c.self.inside.least, (c.insert_at.ensures.counted, ((StaysPaid-LeavesIn c.self.invariant g.met.T.Key.Ord.total c.args.slot (insert list c.args.place c.args.value) c.insert_at.new.self.contents inside c.in-Ok.ensures.accepted.0 c.self.inside.buckets.standing _ c.self.inside.told c.insert_at.ensures.counted c.self.inside.threshold c.self.inside.moves.spills c.self.inside.moves.moved c.self.inside.counts.pruned _ 0 (omega (arith, more)) (c.gain.ensures.pruned ∙ sym (pruned_after-zero c.self.inside.counts.pruned)) c.in-Ok.ensures.standing).within c.self.inside.within, tt)))
 
 pub returns-in-Ok-clause-range_bound : goal.returns-in-Ok-clause-range_bound
 returns-in-Ok-clause-range_bound g c =
@@ -64,4 +63,4 @@ returns-in-Ok-clause-range_bound g c =
     let inside = within_buckets c.self.view_is c.args.slot.0 c.requires.admits in
     let seen = subst (λ s. c.args.place ≤ length (held_at g.T.Key.Ord.cmp s.buckets c.args.slot)) (sym c.self.view_is) c.requires.place in
     let more = length-insert list c.args.place c.args.value (subst (λ l. c.args.place ≤ length l) (list_at-gathered_buckets c.self.invariant c.args.slot) seen) in
-    rw (← c.self.view_is) (IsPaid-LeavesIn c.self.invariant g.met.T.Key.Ord.total c.args.slot (insert list c.args.place c.args.value) c.insert_at.new.self.contents inside c.in-Ok.ensures.accepted.0 c.self.inside.buckets.standing _ c.self.inside.told c.insert_at.ensures.counted c.self.inside.threshold c.self.inside.moves.spills c.self.inside.moves.moved c.self.inside.counts.pruned _ 0 (omega (arith, more)) (c.gain.ensures.pruned ∙ sym (pruned_after-zero c.self.inside.counts.pruned)) range_pays c.in-Ok.ensures.standing)
+    rw (← c.self.view_is) (StaysPaid-LeavesIn c.self.invariant g.met.T.Key.Ord.total c.args.slot (insert list c.args.place c.args.value) c.insert_at.new.self.contents inside c.in-Ok.ensures.accepted.0 c.self.inside.buckets.standing _ c.self.inside.told c.insert_at.ensures.counted c.self.inside.threshold c.self.inside.moves.spills c.self.inside.moves.moved c.self.inside.counts.pruned _ 0 (omega (arith, more)) (c.gain.ensures.pruned ∙ sym (pruned_after-zero c.self.inside.counts.pruned)) range_pays c.in-Ok.ensures.standing)

@@ -6,8 +6,7 @@ use Rattle.key_index_flat.specs.Content.{item_count}
 use Rattle.key_index_parts.specs.Gathered.{gathered}
 use Rattle.key_index_parts.proofs.family.StorageLemmas.{list_at-gathered_buckets, within_buckets, keys_below, counted_gain, KeepsBuckets-edited, keeps_all, view_edited}
 use Rattle.key_index_parts.proofs.standing.StandingLemmas.{grows_to, pruned_after-zero}
-use Rattle.key_index_parts.proofs.standing.MoveLemmas.{credit_pays, range_pays}
-use Rattle.key_index_parts.proofs.standing.PaidLemmas.{growth_paid, listed_by}
+use Rattle.key_index_parts.proofs.standing.PaidLemmas.{StaysPaid-growth, listed_by}
 use Rattle.key_index_parts.specs.Standing.{standings_of}
 use Rattle.key_index_parts.proofs.index.partitioned.storage.Storage.put_absent.Goals as goal
 
@@ -68,7 +67,7 @@ invariant_of-self-inside g c =
     let inside = within_buckets c.self.view_is c.args.slot.0 c.requires.within in
     let zero = c.in-Ok-eq0-default.field-0-0-test in
     let none : length list ≡ 0 = sym c.in-Ok-eq0-default.ensures.len ∙ zero in
-    (c.self.inside.least, (c.insert_absent.ensures.counted, (growth_paid c.self.invariant g.met.T.Key.Ord.total c.args.slot (c.args.value ∷ []) c.insert_absent.new.self.contents inside (c.in-Ok-eq0-default.ensures.inserted zero) c.self.inside.buckets.standing _ c.self.inside.told c.insert_absent.ensures.counted c.self.inside.threshold c.self.inside.moves.spills c.self.inside.moves.moved c.self.inside.counts.pruned _ 0 (omega (arith, none)) (c.gain.ensures.pruned ∙ sym (pruned_after-zero c.self.inside.counts.pruned)) credit_pays g.X.Bucket.SPILLS _ _ (grows_to g.X.Bucket.SPILLS (standings_of c.self.inside.threshold c.self.inside.buckets.standing c.self.inside.moves.spills c.self.inside.moves.moved) c.args.slot.0 _ (listed_by _ _ c.self.inside.told c.args.slot.0 (within_buckets c.self.view_is c.args.slot.0 c.requires.within)) c.self.inside.least _ (c.in-Ok-eq0-default.ensures.standing zero) c.spill.ensures.spills c.spill.ensures.moved) c.self.inside.within, tt)))
+    (c.self.inside.least, (c.insert_absent.ensures.counted, ((StaysPaid-growth c.self.invariant g.met.T.Key.Ord.total c.args.slot (c.args.value ∷ []) c.insert_absent.new.self.contents inside (c.in-Ok-eq0-default.ensures.inserted zero) c.self.inside.buckets.standing _ c.self.inside.told c.insert_absent.ensures.counted c.self.inside.threshold c.self.inside.moves.spills c.self.inside.moves.moved c.self.inside.counts.pruned _ 0 (omega (arith, none)) (c.gain.ensures.pruned ∙ sym (pruned_after-zero c.self.inside.counts.pruned)) g.X.Bucket.SPILLS _ _ (grows_to g.X.Bucket.SPILLS (standings_of c.self.inside.threshold c.self.inside.buckets.standing c.self.inside.moves.spills c.self.inside.moves.moved) c.args.slot.0 _ (listed_by _ _ c.self.inside.told c.args.slot.0 (within_buckets c.self.view_is c.args.slot.0 c.requires.within)) c.self.inside.least _ (c.in-Ok-eq0-default.ensures.standing zero) c.spill.ensures.spills c.spill.ensures.moved)).within c.self.inside.within, tt)))
 
 pub returns-in-Ok-eq0-default-clause-range_bound : goal.returns-in-Ok-eq0-default-clause-range_bound
 returns-in-Ok-eq0-default-clause-range_bound g c =
@@ -76,4 +75,4 @@ returns-in-Ok-eq0-default-clause-range_bound g c =
     let inside = within_buckets c.self.view_is c.args.slot.0 c.requires.within in
     let zero = c.in-Ok-eq0-default.field-0-0-test in
     let none : length list ≡ 0 = sym c.in-Ok-eq0-default.ensures.len ∙ zero in
-    rw (← c.self.view_is) (growth_paid c.self.invariant g.met.T.Key.Ord.total c.args.slot (c.args.value ∷ []) c.insert_absent.new.self.contents inside (c.in-Ok-eq0-default.ensures.inserted zero) c.self.inside.buckets.standing _ c.self.inside.told c.insert_absent.ensures.counted c.self.inside.threshold c.self.inside.moves.spills c.self.inside.moves.moved c.self.inside.counts.pruned _ 0 (omega (arith, none)) (c.gain.ensures.pruned ∙ sym (pruned_after-zero c.self.inside.counts.pruned)) range_pays g.X.Bucket.SPILLS _ _ (grows_to g.X.Bucket.SPILLS (standings_of c.self.inside.threshold c.self.inside.buckets.standing c.self.inside.moves.spills c.self.inside.moves.moved) c.args.slot.0 _ (listed_by _ _ c.self.inside.told c.args.slot.0 (within_buckets c.self.view_is c.args.slot.0 c.requires.within)) c.self.inside.least _ (c.in-Ok-eq0-default.ensures.standing zero) c.spill.ensures.spills c.spill.ensures.moved))
+    rw (← c.self.view_is) (StaysPaid-growth c.self.invariant g.met.T.Key.Ord.total c.args.slot (c.args.value ∷ []) c.insert_absent.new.self.contents inside (c.in-Ok-eq0-default.ensures.inserted zero) c.self.inside.buckets.standing _ c.self.inside.told c.insert_absent.ensures.counted c.self.inside.threshold c.self.inside.moves.spills c.self.inside.moves.moved c.self.inside.counts.pruned _ 0 (omega (arith, none)) (c.gain.ensures.pruned ∙ sym (pruned_after-zero c.self.inside.counts.pruned)) range_pays g.X.Bucket.SPILLS _ _ (grows_to g.X.Bucket.SPILLS (standings_of c.self.inside.threshold c.self.inside.buckets.standing c.self.inside.moves.spills c.self.inside.moves.moved) c.args.slot.0 _ (listed_by _ _ c.self.inside.told c.args.slot.0 (within_buckets c.self.view_is c.args.slot.0 c.requires.within)) c.self.inside.least _ (c.in-Ok-eq0-default.ensures.standing zero) c.spill.ensures.spills c.spill.ensures.moved))

@@ -1,15 +1,30 @@
-use Rattle.std.proofs.Common.{rules, ◌≡◌, ◌<◌, ◌^◌, Some, length, slice_get, remove, refl, subst, sym, arith}
+use Rattle.std.proofs.Common.{rules, ◌≡◌, ◌+◌, ◌<◌, ◌^◌, Some, length, slice_get, remove, refl, subst, sym, arith}
 use Rattle.std.proofs.lemmas.List.Edits.{length-remove}
 use Rattle.key_index_parts.specs.Family.{held_at, list_in}
+use Rattle.key_index_parts.specs.Standing.{standings_of}
 use Rattle.key_index_parts.proofs.family.StorageLemmas.{list_at-gathered_buckets, held_inside, items_within, can_change, counted_change, KeepsBuckets-edited, view_pruned}
-use Rattle.key_index_parts.proofs.standing.MoveLemmas.{credit_pays, range_pays}
-use Rattle.key_index_parts.proofs.standing.PaidLemmas.{IsPaid-LeavesIn}
+use Rattle.key_index_parts.proofs.standing.PaidLemmas.{StaysPaid, StaysPaid-LeavesIn}
+use Rattle.key_index_parts.proofs.index.partitioned.storage.Storage.remove_at.Given.{Over}
+use Rattle.key_index_parts.proofs.index.partitioned.storage.Storage.remove_at.Goals.{After-self, After-change}
 use Rattle.key_index_parts.proofs.index.partitioned.storage.Storage.remove_at.Goals as goal
 
+held : (g : Over) (c : After-self g) → c.args.place < length (held_at g.T.Key.Ord.cmp c.self.inside.buckets.contents c.args.slot)
+held g c = subst (λ s. c.args.place < length (held_at g.T.Key.Ord.cmp s.buckets c.args.slot)) (sym c.self.view_is) c.requires
+
+inside : (g : Over) (c : After-self g) → c.args.slot.0 < length c.self.inside.buckets.contents
+inside g c = held_inside c.self.invariant c.args.slot c.args.place (held g c)
+
+place : (g : Over) (c : After-self g) → c.args.place < length (list_in g.T.Key.Ord.cmp c.self.inside.buckets.contents c.args.slot)
+place g c = subst (λ l. c.args.place < length l) (list_at-gathered_buckets c.self.invariant c.args.slot) (held g c)
+
+one_less : (g : Over) (c : After-self g) → let list = list_in g.T.Key.Ord.cmp c.self.inside.buckets.contents c.args.slot in length (remove list c.args.place) + 1 ≡ length list
+one_less g c =
+    let less = length-remove _ c.args.place (place g c) in
+    let some = place g c in
+    omega (arith, less, some)
+
 pub remove_at-value-requires : goal.remove_at-value-requires
-remove_at-value-requires g c =
-    let seen = subst (λ s. c.args.place < length (held_at g.T.Key.Ord.cmp s.buckets c.args.slot)) (sym c.self.view_is) c.requires in
-    subst (λ l. c.args.place < length l) (list_at-gathered_buckets c.self.invariant c.args.slot) seen
+remove_at-value-requires g c = place g (goal.at.remove_at-value-requires g c).After-self
 
 pub overflow_add-had : goal.overflow_add-had
 overflow_add-had g c =
@@ -19,23 +34,19 @@ overflow_add-had g c =
 
 pub change-requires : goal.change-requires
 change-requires g c =
-    let seen = subst (λ s. c.args.place < length (held_at g.T.Key.Ord.cmp s.buckets c.args.slot)) (sym c.self.view_is) c.requires in
-    let list = list_in g.T.Key.Ord.cmp c.self.inside.buckets.contents c.args.slot in
-    let place : c.args.place < length list = subst (λ m. c.args.place < length m) (list_at-gathered_buckets c.self.invariant c.args.slot) seen in
-    let less = length-remove list c.args.place place in
+    let at = (goal.at.change-requires g c).After-self in
+    let less = one_less g at in
     let left = c.remove_at-value.ensures.left in
     let small : c.self.inside.counts.items < 2 ^ 64 = search rules in
-    can_change c.self.invariant g.met.T.Key.Ord.total g.met.T.Translator.exact c.args.slot (remove list c.args.place) c.remove_at-value.new.self.contents (held_inside c.self.invariant c.args.slot c.args.place seen)
+    can_change c.self.invariant g.met.T.Key.Ord.total g.met.T.Translator.exact c.args.slot _ c.remove_at-value.new.self.contents (inside g at)
     c.remove_at-value.ensures.buckets _ _ left (omega (arith, less, left)) (omega (arith, small))
 
 pub invariant_of-self : goal.invariant_of-self
 invariant_of-self g c =
-    let seen = subst (λ s. c.args.place < length (held_at g.T.Key.Ord.cmp s.buckets c.args.slot)) (sym c.self.view_is) c.requires in
-    let list = list_in g.T.Key.Ord.cmp c.self.inside.buckets.contents c.args.slot in
-    let place : c.args.place < length list = subst (λ m. c.args.place < length m) (list_at-gathered_buckets c.self.invariant c.args.slot) seen in
-    let less = length-remove list c.args.place place in
+    let at = (goal.at.invariant_of-self g c).After-self in
+    let less = one_less g at in
     let left = c.remove_at-value.ensures.left in
-    counted_change c.self.invariant g.met.T.Key.Ord.total g.met.T.Translator.exact c.args.slot (remove list c.args.place) c.remove_at-value.new.self.contents (held_inside c.self.invariant c.args.slot c.args.place seen)
+    counted_change c.self.invariant g.met.T.Key.Ord.total g.met.T.Translator.exact c.args.slot _ c.remove_at-value.new.self.contents (inside g at)
     c.remove_at-value.ensures.buckets _ _ left (omega (arith, less, left)) _ _ c.change.ensures.items c.change.ensures.keys
 
 pub returns-clause-value : goal.returns-clause-value
@@ -46,32 +57,29 @@ returns-clause-value g c =
 
 pub returns-clause-edited : goal.returns-clause-edited
 returns-clause-edited g c =
-    let seen = subst (λ s. c.args.place < length (held_at g.T.Key.Ord.cmp s.buckets c.args.slot)) (sym c.self.view_is) c.requires in
-    let inside = held_inside c.self.invariant c.args.slot c.args.place seen in
+    let within = inside g (goal.at.returns-clause-edited g c).After-self in
     rw (← c.self.view_is) (
-    view_pruned c.self.invariant g.met.T.Key.Ord.total g.met.T.Translator.exact c.args.slot _ c.remove_at-value.new.self.contents inside c.remove_at-value.ensures.buckets g.T.Translator.translated c.self.inside.translator _ _ (λ l. remove l c.args.place) refl 1 c.change.ensures.pruned
+    view_pruned c.self.invariant g.met.T.Key.Ord.total g.met.T.Translator.exact c.args.slot _ c.remove_at-value.new.self.contents within c.remove_at-value.ensures.buckets g.T.Translator.translated c.self.inside.translator _ _ (λ l. remove l c.args.place) refl 1 c.change.ensures.pruned
     )
 
 pub returns-clause-kept : goal.returns-clause-kept
 returns-clause-kept g c =
-    let seen = subst (λ s. c.args.place < length (held_at g.T.Key.Ord.cmp s.buckets c.args.slot)) (sym c.self.view_is) c.requires in
-    let inside = held_inside c.self.invariant c.args.slot c.args.place seen in
-    rw (← c.self.view_is) (KeepsBuckets-edited c.self.invariant g.met.T.Key.Ord.total g.met.T.Translator.exact c.args.slot _ c.remove_at-value.new.self.contents inside c.remove_at-value.ensures.buckets)
+    let within = inside g (goal.at.returns-clause-kept g c).After-self in
+    rw (← c.self.view_is) (KeepsBuckets-edited c.self.invariant g.met.T.Key.Ord.total g.met.T.Translator.exact c.args.slot _ c.remove_at-value.new.self.contents within c.remove_at-value.ensures.buckets)
+
+paid : (g : Over) (c : After-change g) → let s = c.self.inside in
+    StaysPaid (standings_of s.threshold s.buckets.standing s.moves.spills s.moves.moved) (standings_of s.threshold c.remove_at-value.new.self.standing s.moves.spills s.moves.moved) s.counts.pruned c.change.new.self.pruned
+paid g c =
+    let s = c.self.inside in
+    let at = (goal.at.invariant_of-self-inside g c).After-self in
+    let less = one_less g at in
+    StaysPaid-LeavesIn c.self.invariant g.met.T.Key.Ord.total c.args.slot (remove (list_in g.T.Key.Ord.cmp s.buckets.contents c.args.slot) c.args.place) c.remove_at-value.new.self.contents (inside g at) c.remove_at-value.ensures.buckets
+    s.buckets.standing _ s.told c.remove_at-value.ensures.counted s.threshold s.moves.spills s.moves.moved s.counts.pruned _ 1 (omega (arith, less)) c.change.ensures.pruned c.remove_at-value.ensures.standing
 
 pub invariant_of-self-inside : goal.invariant_of-self-inside
-invariant_of-self-inside g c =
-    let seen = subst (λ s. c.args.place < length (held_at g.T.Key.Ord.cmp s.buckets c.args.slot)) (sym c.self.view_is) c.requires in
-    let inside = held_inside c.self.invariant c.args.slot c.args.place seen in
-    let list = list_in g.T.Key.Ord.cmp c.self.inside.buckets.contents c.args.slot in
-    let place : c.args.place < length list = subst (λ m. c.args.place < length m) (list_at-gathered_buckets c.self.invariant c.args.slot) seen in
-    let less = length-remove list c.args.place place in
-    (c.self.inside.least, (c.remove_at-value.ensures.counted, (IsPaid-LeavesIn c.self.invariant g.met.T.Key.Ord.total c.args.slot (remove list c.args.place) c.remove_at-value.new.self.contents inside c.remove_at-value.ensures.buckets c.self.inside.buckets.standing _ c.self.inside.told c.remove_at-value.ensures.counted c.self.inside.threshold c.self.inside.moves.spills c.self.inside.moves.moved c.self.inside.counts.pruned _ 1 (omega (arith, less, place)) c.change.ensures.pruned credit_pays c.remove_at-value.ensures.standing c.self.inside.within, tt)))
+invariant_of-self-inside g c = (c.self.inside.least, (c.remove_at-value.ensures.counted, ((paid g c).within c.self.inside.within, tt)))
 
 pub returns-clause-range_bound : goal.returns-clause-range_bound
 returns-clause-range_bound g c =
-    let seen = subst (λ s. c.args.place < length (held_at g.T.Key.Ord.cmp s.buckets c.args.slot)) (sym c.self.view_is) c.requires in
-    let inside = held_inside c.self.invariant c.args.slot c.args.place seen in
-    let list = list_in g.T.Key.Ord.cmp c.self.inside.buckets.contents c.args.slot in
-    let place : c.args.place < length list = subst (λ m. c.args.place < length m) (list_at-gathered_buckets c.self.invariant c.args.slot) seen in
-    let less = length-remove list c.args.place place in
-    rw (← c.self.view_is) (IsPaid-LeavesIn c.self.invariant g.met.T.Key.Ord.total c.args.slot (remove list c.args.place) c.remove_at-value.new.self.contents inside c.remove_at-value.ensures.buckets c.self.inside.buckets.standing _ c.self.inside.told c.remove_at-value.ensures.counted c.self.inside.threshold c.self.inside.moves.spills c.self.inside.moves.moved c.self.inside.counts.pruned _ 1 (omega (arith, less, place)) c.change.ensures.pruned range_pays c.remove_at-value.ensures.standing)
+    let stays = paid g (goal.at.returns-clause-range_bound g c).After-change in
+    rw (← c.self.view_is) stays.range_bound

@@ -5,8 +5,7 @@ use Rattle.key_index_flat.specs.View.{pruned_after}
 use Rattle.key_index_parts.specs.Family.{held_at, list_in}
 use Rattle.key_index_parts.proofs.family.BucketLemmas.{kept_at_most}
 use Rattle.key_index_parts.proofs.family.StorageLemmas.{list_at-gathered_buckets, within_buckets, can_change, counted_change, KeepsBuckets-edited, view_pruned}
-use Rattle.key_index_parts.proofs.standing.MoveLemmas.{credit_pays}
-use Rattle.key_index_parts.proofs.standing.PaidLemmas.{IsPaid-LeavesIn}
+use Rattle.key_index_parts.proofs.standing.PaidLemmas.{StaysPaid-LeavesIn}
 use Rattle.key_index_parts.proofs.index.partitioned.storage.Storage.retain_in_bucket.Goals as goal
 
 pub retain-had-requires-clause-within : goal.retain-had-requires-clause-within
@@ -59,4 +58,4 @@ invariant_of-self-inside g c =
     let inside = within_buckets c.self.view_is c.args.slot.0 c.requires.within in
     let kept = c.retain-had.ensures.kept in
     let fewer = kept_at_most (CalledAt g.F.FnMut) c.args.should_retain (list_in g.T.Key.Ord.cmp c.self.inside.buckets.contents c.args.slot) kept.0 kept.1 in
-    (c.self.inside.least, (c.retain-had.ensures.counted, (IsPaid-LeavesIn c.self.invariant g.met.T.Key.Ord.total c.args.slot kept.0 c.retain-had.new.self.contents inside kept.2 c.self.inside.buckets.standing _ c.self.inside.told c.retain-had.ensures.counted c.self.inside.threshold c.self.inside.moves.spills c.self.inside.moves.moved c.self.inside.counts.pruned _ _ (omega (arith, c.retain-had.ensures.had, kept.3, fewer)) c.change.ensures.pruned credit_pays c.retain-had.ensures.standing c.self.inside.within, tt)))
+    (c.self.inside.least, (c.retain-had.ensures.counted, ((StaysPaid-LeavesIn c.self.invariant g.met.T.Key.Ord.total c.args.slot kept.0 c.retain-had.new.self.contents inside kept.2 c.self.inside.buckets.standing _ c.self.inside.told c.retain-had.ensures.counted c.self.inside.threshold c.self.inside.moves.spills c.self.inside.moves.moved c.self.inside.counts.pruned _ _ (omega (arith, c.retain-had.ensures.had, kept.3, fewer)) c.change.ensures.pruned c.retain-had.ensures.standing).within c.self.inside.within, tt)))

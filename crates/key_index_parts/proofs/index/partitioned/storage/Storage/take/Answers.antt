@@ -1,8 +1,7 @@
 use Rattle.std.proofs.Common.{rules, ◌<◌, ◌^◌, [], length, refl, ap, sym, ◌∙◌, arith}
 use Rattle.key_index_flat.specs.View.{pruned_after}
 use Rattle.key_index_parts.proofs.family.StorageLemmas.{list_at-gathered_buckets, within_buckets, can_change, counted_change, KeepsBuckets-edited, view_pruned}
-use Rattle.key_index_parts.proofs.standing.MoveLemmas.{credit_pays}
-use Rattle.key_index_parts.proofs.standing.PaidLemmas.{IsPaid-LeavesIn}
+use Rattle.key_index_parts.proofs.standing.PaidLemmas.{StaysPaid-LeavesIn}
 use Rattle.key_index_parts.proofs.index.partitioned.storage.Storage.take.Goals as goal
 
 pub remove-had-requires : goal.remove-had-requires
@@ -36,4 +35,4 @@ returns-clause-kept g c =
 pub invariant_of-self-inside : goal.invariant_of-self-inside
 invariant_of-self-inside g c =
     let inside = within_buckets c.self.view_is c.args.slot.0 c.requires in
-    (c.self.inside.least, (c.remove-had.ensures.counted, (IsPaid-LeavesIn c.self.invariant g.met.T.Key.Ord.total c.args.slot [] c.remove-had.new.self.contents inside c.remove-had.ensures.buckets c.self.inside.buckets.standing _ c.self.inside.told c.remove-had.ensures.counted c.self.inside.threshold c.self.inside.moves.spills c.self.inside.moves.moved c.self.inside.counts.pruned _ _ (omega (arith, c.remove-had.ensures.taken)) c.change.ensures.pruned credit_pays c.remove-had.ensures.standing c.self.inside.within, tt)))
+    (c.self.inside.least, (c.remove-had.ensures.counted, ((StaysPaid-LeavesIn c.self.invariant g.met.T.Key.Ord.total c.args.slot [] c.remove-had.new.self.contents inside c.remove-had.ensures.buckets c.self.inside.buckets.standing _ c.self.inside.told c.remove-had.ensures.counted c.self.inside.threshold c.self.inside.moves.spills c.self.inside.moves.moved c.self.inside.counts.pruned _ _ (omega (arith, c.remove-had.ensures.taken)) c.change.ensures.pruned c.remove-had.ensures.standing).within c.self.inside.within, tt)))
