@@ -46,40 +46,6 @@ impl<T: Translator, V: Drop, X: Held<T, V> + Drop, const P: usize> RangeIndex<T,
     }
 }
 
-impl<T: Translator, V: Drop, X: Bucket<T, V> + Drop, const P: usize> RangeIndex<T, V, X, P> {
-    ghost use Rattle.key_index_parts.specs.Range.{range_view};
-
-    /// Spills the bucket of an index key if it has reached the threshold.
-    fn settle(&mut self, slot: (usize, T::Key)) -> Result<(), Fault>
-        requires { IsTrue ((range_view self.old).admitted slot) }
-        ensures view { range_view self.new ≡ range_view self.old }
-        ensures settled { OnOk result (⟦<RangeIndex<T, V, X, P> as Search>⟧.settled self.old slot self.new) }
-        ensures left { OnErr result (⟦<RangeIndex<T, V, X, P> as Search>⟧.left_by_refusal self.old slot self.new) }
-        ensures want { IfErr result (λ f. IsWant f (⟦<RangeIndex<T, V, X, P> as Search>⟧.may_refuse self.old slot)) }
-    {
-        let own = self.own(slot);
-        self.storage.settle(own.0)
-    }
-
-    /// Puts a value under an index key that has none, and tells how many values the index key had.
-    fn insert_absent(&mut self, slot: (usize, T::Key), value: V) -> Result<usize, Refused<V>>
-        requires { IsTrue ((range_view self.old).admitted slot) }
-        ensures found { IfOk result (λ n. 0 < n → range_view self.new ≡ range_view self.old) }
-        ensures inserted { IfOk result (λ n. n ≡ 0 →
-            range_view self.new ≡ with_run (pair_cmp T.Key.cmp) (range_view self.old) slot (value ∷ [])) }
-        ensures refused { OnErr result (range_view self.new ≡ range_view self.old) }
-        ensures settled { OnOk result (⟦<RangeIndex<T, V, X, P> as Search>⟧.settled self.old slot self.new) }
-        ensures left { OnErr result (⟦<RangeIndex<T, V, X, P> as Search>⟧.left_by_refusal self.old slot self.new) }
-        ensures len { IfOk result (λ n. n ≡ length (run_at (pair_cmp T.Key.cmp) (range_view self.old) slot)) }
-        ensures room { OnOk result (items_in (range_view self.old) < usize.MAX) }
-        ensures returned { IfErr result (λ r. r.value ≡ value) }
-        ensures fault { IfErr result (λ r. r.fault ≡ growth_fault_in (range_view self.old)) }
-    {
-        let own = self.own(slot);
-        self.storage.insert_absent(own, value)
-    }
-}
-
 impl<T: Translator, V: Drop, X: EditBucket<T, V> + Drop, const P: usize> Runs
     for RangeIndex<T, V, X, P> {
     ghost use Rattle.std.proofs.lemmas.Map.Lookups.{exact_pairs, exact_unsigned};
@@ -160,7 +126,8 @@ impl<T: Translator, V: Drop, X: Bucket<T, V> + Drop, const P: usize> Search
 
     fn reach(&mut self, key: &[u8]) -> Result<((usize, T::Key), usize), Fault> {
         let slot = self.slot_of(key);
-        match self.settle(slot) {
+        let own = self.own(slot);
+        match self.storage.settle(own.0) {
             Ok(()) => Ok((slot, self.run_len(slot))),
             Err(fault) => Err(fault),
         }
@@ -172,8 +139,11 @@ impl<T: Translator, V: Drop, X: Bucket<T, V> + Drop, const P: usize> Search
         value: V,
     ) -> Result<((usize, T::Key), usize), Refused<V>> {
         let slot = self.slot_of(key);
-        let len = self.insert_absent(slot, value)?;
-        Ok((slot, len))
+        let own = self.own(slot);
+        match self.storage.insert_absent(own, value) {
+            Ok(len) => Ok((slot, len)),
+            Err(refused) => Err(refused),
+        }
     }
 
     fn search(

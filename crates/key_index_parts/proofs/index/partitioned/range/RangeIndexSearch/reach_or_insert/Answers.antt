@@ -1,21 +1,55 @@
-use Rattle.std.proofs.Common.{◌≡◌, ◌-◌, [], ◌∷◌, length, ap, subst, ◌∙◌}
-use Rattle.key_index_flat.specs.View.{run_at, with_run}
-use Rattle.key_index_parts.specs.Gathered.{pair_cmp}
-use Rattle.key_index_parts.specs.Range.{range_view}
-use Rattle.key_index_parts.specs.Standing.{Settles}
+use Rattle.std.proofs.Common.{◌-◌, ◌<◌, ◌^◌, ◌∷◌, [], length, refl, ap, subst, ◌∙◌}
+use Rattle.key_index_flat.specs.Content.{item_count}
+use Rattle.key_index_flat.specs.Fault.{growth_fault}
+use Rattle.key_index_parts.specs.Family.{view_from}
+use Rattle.key_index_parts.specs.Gathered.{gathered}
+use Rattle.key_index_parts.specs.Standing.{Refuses, Settles}
+use Rattle.key_index_parts.proofs.family.ShiftedLemmas.{items_from, read_from, seen_edited}
+use Rattle.key_index_parts.proofs.standing.StandingLemmas.{left_standing}
 use Rattle.key_index_parts.proofs.index.partitioned.range.RangeIndexSearch.reach_or_insert.Goals as goal
 
-pub returns-clause-reached : goal.returns-clause-reached
-returns-clause-reached g c =
-    let at = c.slot_of-slot.ensures in
-    (at, c.in_ok-len.ensures.len ∙ ap (λ s. length (run_at (pair_cmp g.T.Key.Ord.cmp) (range_view c.args.self.now) s)) at)
-
-pub returns-clause-inserted : goal.returns-clause-inserted
-returns-clause-inserted g c = λ none.
+pub returns-in-Ok-clause-found : goal.returns-in-Ok-clause-found
+returns-in-Ok-clause-found g c = λ some.
     let range = c.args.self.now in
-    let new = c.insert_absent.new.self in
-    let at = c.slot_of-slot.ensures in
-    let settled = c.in_ok-len.ensures.settled in (
-      subst (λ s. range_view new ≡ with_run (pair_cmp g.T.Key.Ord.cmp) (range_view range) s (c.args.value ∷ [])) at (c.in_ok-len.ensures.inserted none),
-      (settled.0, λ is. subst (λ s. Settles range.storage.standings (s.0 - range.offset) new.storage.standings) at (settled.1 is)),
+    let number = c.own-own.ensures.number ∙ ap (λ s. s.0 - range.offset) c.slot_of-slot.ensures in (
+      ap (λ s. view_from g.row.P g.T.Translator.translated range.offset s) (c.in-Ok.ensures.found some),
+      ((refl, c.insert_absent.ensures.kept.sized), λ is. subst (λ n. Settles range.storage.standings n c.insert_absent.new.self.standings) number (c.in-Ok.ensures.settled is)),
     )
+
+pub returns-in-Ok-clause-inserted : goal.returns-in-Ok-clause-inserted
+returns-in-Ok-clause-inserted g c = λ none.
+    let range = c.args.self.now in
+    let number = c.own-own.ensures.number ∙ ap (λ s. s.0 - range.offset) c.slot_of-slot.ensures in (
+      seen_edited g.T.Key.Ord.cmp g.row.P g.T.Translator.translated range.offset range.storage c.insert_absent.new.self c.own-own.result _ (c.own-own.ensures.slot ∙ c.slot_of-slot.ensures) c.insert_absent.ensures.kept.sized
+          (λ _. c.args.value ∷ []) (c.in-Ok.ensures.inserted none),
+      ((refl, c.insert_absent.ensures.kept.sized), λ is. subst (λ n. Settles range.storage.standings n c.insert_absent.new.self.standings) number (c.in-Ok.ensures.settled is)),
+    )
+
+pub returns-in-Ok-clause-reached : goal.returns-in-Ok-clause-reached
+returns-in-Ok-clause-reached g c =
+    let range = c.args.self.now in
+    let at = c.slot_of-slot.ensures in
+    (at, c.in-Ok.ensures.len ∙ ap (λ l. length l) (read_from g.T.Key.Ord.cmp range.offset range.storage.buckets c.own-own.result _ (c.own-own.ensures.slot ∙ at)))
+
+pub returns-in-Ok-clause-room : goal.returns-in-Ok-clause-room
+returns-in-Ok-clause-room g c =
+    let range = c.args.self.now in
+    subst (λ n. n < 2 ^ 64 - 1) (items_from range.offset range.storage.buckets) c.in-Ok.ensures.room
+
+pub returns-in-Err-clause-refused : goal.returns-in-Err-clause-refused
+returns-in-Err-clause-refused g c =
+    let range = c.args.self.now in
+    let number = c.own-own.ensures.number ∙ ap (λ s. s.0 - range.offset) c.slot_of-slot.ensures in (
+      ap (λ s. view_from g.row.P g.T.Translator.translated range.offset s) c.in-Err.ensures.refused,
+      (
+        (refl, c.insert_absent.ensures.kept.sized),
+        λ is.
+            subst (λ n. Refuses (item_count (gathered range.storage.buckets)) range.storage.standings n c.insert_absent.new.self.standings) number
+            (left_standing g.X.Bucket.SPILLS c.own-own.result.0 range.storage c.insert_absent.new.self c.in-Err.ensures.left is),
+      ),
+    )
+
+pub returns-in-Err-clause-fault : goal.returns-in-Err-clause-fault
+returns-in-Err-clause-fault g c =
+    let range = c.args.self.now in
+    c.in-Err.ensures.fault ∙ ap (λ n. growth_fault n) (items_from range.offset range.storage.buckets)
