@@ -21,6 +21,10 @@ words_have-place words place within low =
 in_empty_word : (words : List ℕ) (p : ℕ) → slice_index words (p / 64) ≡ 0 → words_have words p ≡ false
 in_empty_word words p none = in_word words p (p / 64) refl ∙ ap (λ w. word_has w (p % 64)) none ∙ zero_has_no_bit (p % 64)
 
+-- a word that was read from the same words
+pub word_read : (place : ℕ) {read words : List ℕ} → read ≡ words → {word : ℕ} → word ≡ slice_index read place → word ≡ slice_index words place
+word_read place same at = at ∙ ap (λ ws. slice_index ws place) same
+
 pub has_within : (words : List ℕ) (p : ℕ) → words_have words p ≡ true → p < length words * 64
 has_within words p here =
     elim (cases_lt (p / 64) (length words)) as (λ _. p < length words * 64) [

@@ -6,8 +6,8 @@
 --     entries-AreFree               places that hold nothing have no values
 --     StaysPaid                     the bounds of an index and of a range hold if they held before
 --     StaysPaid-LeavesIn            after an edit of a slot's list, in its bucket as that stands
---     StaysPaid-growth              after an insertion there
-use Rattle.std.proofs.Common.{◌≡◌, ℕ, ◌+◌, ◌<◌, ◌≤◌, Bool, false, List, [], ◌∷◌, ◌++◌, map, take, drop, length, get_or, refl, sym, ap, ◌∙◌, arith}
+--     StaysPaid-GrowsIn             after an insertion there
+use Rattle.std.proofs.Common.{◌≡◌, ℕ, ◌+◌, ◌<◌, ◌≤◌, Bool, false, nat_lt, List, [], ◌∷◌, ◌++◌, map, take, drop, length, get_or, refl, sym, ap, ◌∙◌, arith}
 use Rattle.std.proofs.lemmas.List.{get_or-map, get_or-set_same, length-map, map-append, take-map, drop-map}
 use Rattle.std.proofs.lemmas.List.Elements.{All-get_or}
 use Rattle.std.proofs.lemmas.List.Sums.{sum_by-cons}
@@ -17,9 +17,11 @@ use Rattle.std.specs.declared.cmp.Ordering.{Ordering}
 use Rattle.key_index_flat.specs.Content.{Content, IsLawful, item_count, with_list}
 use Rattle.key_index_flat.specs.View.{pruned_after}
 use Rattle.key_index_flat.proofs.content.ContentLemmas.{item_count-with_list}
-use Rattle.key_index_parts.specs.Family.{AreCounted, AreFree, IsCounted, list_in, bucket_at, settled_in, with_items_from, with_list_in}
+use Rattle.key_index_parts.specs.Counts.{one_if}
+use Rattle.key_index_parts.specs.Family.{AreCounted, AreFree, IsCounted, list_in, bucket_at, with_items_from, with_list_in}
 use Rattle.key_index_parts.specs.Moves.{IsPaid, IsRangeWithin, IsWithin}
-use Rattle.key_index_parts.specs.Standing.{LeavesIn, Standing, Standings, standing_in, with_entries}
+use Rattle.key_index_parts.specs.Standing.{GrowsIn, LeavesIn, Standing, Standings, standing_in}
+use Rattle.key_index_parts.proofs.standing.StandingLemmas.{grows_to}
 use Rattle.key_index_parts.proofs.standing.MoveLemmas.{Pays, credit_pays, grows_paid, leaves_paid, range_pays}
 use Rattle.key_index_parts.proofs.family.StorageLemmas.{length-with_list_in}
 
@@ -103,9 +105,10 @@ module _ {K V : Type 0} {cmp : K → K → Ordering} {p : ℕ} {buckets : List (
       leaves : {owed : ℕ → Standing → ℕ} → Pays owed → IsPaid (owed t) (standing_so ps) pruned → IsPaid (owed t) (standing_so qs) after
       leaves pays before = leaves_paid pays (standing_so ps) (standing_so qs) slot.0 pruned after taken within_buckets entries-left_and_taken after_is before (λ i. standing_so (stays i))
 
-    pub StaysPaid-growth : (kind : Bool) (a b : ℕ)
-        → record { threshold = t; buckets = qs; spills = a; moved = b } ≡ settled_in kind (with_entries (standing_so ps) slot.0 (standing_in qs slot.0).entries) slot.0
+    pub StaysPaid-GrowsIn : (kind : Bool) {n a b : ℕ} → 1 ≤ t → GrowsIn kind t ps slot.0 n qs → a ≡ pruned_after spills (one_if (nat_lt 0 n)) → b ≡ pruned_after moved n
         → StaysPaid (standing_so ps) (record { threshold = t; buckets = qs; spills = a; moved = b }) pruned after
-    StaysPaid-growth kind a b is = record { within = grows credit_pays; range_bound = grows range_pays } where
+    StaysPaid-GrowsIn kind {n = n} {a = a} {b = b} least is one more = record { within = grows credit_pays; range_bound = grows range_pays } where
       grows : {owed : ℕ → Standing → ℕ} → Pays owed → IsPaid (owed t) (standing_so ps) pruned → IsPaid (owed t) (record { threshold = t; buckets = qs; spills = a; moved = b }) after
-      grows pays before = grows_paid pays (standing_so ps) (record { threshold = t; buckets = qs; spills = a; moved = b }) slot.0 pruned after taken within_buckets entries-left_and_taken after_is before kind is
+      grows pays before =
+          grows_paid pays (standing_so ps) (record { threshold = t; buckets = qs; spills = a; moved = b }) slot.0 pruned after taken within_buckets entries-left_and_taken after_is before kind
+          (grows_to kind (standing_so ps) slot.0 n within_buckets least qs is one more)

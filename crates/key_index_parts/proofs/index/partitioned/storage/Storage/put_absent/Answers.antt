@@ -6,8 +6,10 @@ use Rattle.key_index_flat.specs.Content.{item_count}
 use Rattle.key_index_parts.specs.Gathered.{gathered}
 use Rattle.key_index_parts.proofs.family.StorageLemmas.{list_at-gathered_buckets, within_buckets, keys_below, counted_gain, KeepsBuckets-edited, keeps_all, view_edited}
 use Rattle.key_index_parts.proofs.standing.StandingLemmas.{grows_to, pruned_after-zero}
-use Rattle.key_index_parts.proofs.standing.PaidLemmas.{StaysPaid-growth, listed_by}
+use Rattle.key_index_parts.proofs.standing.PaidLemmas.{StaysPaid, StaysPaid-GrowsIn, listed_by}
 use Rattle.key_index_parts.specs.Standing.{standings_of}
+use Rattle.key_index_parts.proofs.index.partitioned.storage.Storage.put_absent.Given.{Over}
+use Rattle.key_index_parts.proofs.index.partitioned.storage.Storage.put_absent.Goals.{After-spill}
 use Rattle.key_index_parts.proofs.index.partitioned.storage.Storage.put_absent.Goals as goal
 
 pub insert_absent-requires : goal.insert_absent-requires
@@ -61,18 +63,20 @@ pub returns-in-Ok-eq0-default-clause-standing : goal.returns-in-Ok-eq0-default-c
 returns-in-Ok-eq0-default-clause-standing g c =
     rw (← c.self.view_is) (λ _. grows_to g.X.Bucket.SPILLS (standings_of c.self.inside.threshold c.self.inside.buckets.standing c.self.inside.moves.spills c.self.inside.moves.moved) c.args.slot.0 _ (listed_by _ _ c.self.inside.told c.args.slot.0 (within_buckets c.self.view_is c.args.slot.0 c.requires.within)) c.self.inside.least _ (c.in-Ok-eq0-default.ensures.standing c.in-Ok-eq0-default.field-0-0-test) c.spill.ensures.spills c.spill.ensures.moved)
 
-pub invariant_of-self-inside : goal.invariant_of-self-inside
-invariant_of-self-inside g c =
-    let list = list_in g.T.Key.Ord.cmp c.self.inside.buckets.contents c.args.slot in
-    let inside = within_buckets c.self.view_is c.args.slot.0 c.requires.within in
+paid : (g : Over) (c : After-spill g) → let s = c.self.inside in
+    StaysPaid (standings_of s.threshold s.buckets.standing s.moves.spills s.moves.moved) (standings_of s.threshold c.insert_absent.new.self.standing c.spill.new.self.spills c.spill.new.self.moved) s.counts.pruned c.gain.new.self.pruned
+paid g c =
+    let s = c.self.inside in
     let zero = c.in-Ok-eq0-default.field-0-0-test in
-    let none : length list ≡ 0 = sym c.in-Ok-eq0-default.ensures.len ∙ zero in
-    (c.self.inside.least, (c.insert_absent.ensures.counted, ((StaysPaid-growth c.self.invariant g.met.T.Key.Ord.total c.args.slot (c.args.value ∷ []) c.insert_absent.new.self.contents inside (c.in-Ok-eq0-default.ensures.inserted zero) c.self.inside.buckets.standing _ c.self.inside.told c.insert_absent.ensures.counted c.self.inside.threshold c.self.inside.moves.spills c.self.inside.moves.moved c.self.inside.counts.pruned _ 0 (omega (arith, none)) (c.gain.ensures.pruned ∙ sym (pruned_after-zero c.self.inside.counts.pruned)) g.X.Bucket.SPILLS _ _ (grows_to g.X.Bucket.SPILLS (standings_of c.self.inside.threshold c.self.inside.buckets.standing c.self.inside.moves.spills c.self.inside.moves.moved) c.args.slot.0 _ (listed_by _ _ c.self.inside.told c.args.slot.0 (within_buckets c.self.view_is c.args.slot.0 c.requires.within)) c.self.inside.least _ (c.in-Ok-eq0-default.ensures.standing zero) c.spill.ensures.spills c.spill.ensures.moved)).within c.self.inside.within, tt)))
+    let none = c.in-Ok-eq0-default.ensures.len in
+    StaysPaid-GrowsIn c.self.invariant g.met.T.Key.Ord.total c.args.slot (c.args.value ∷ []) c.insert_absent.new.self.contents (within_buckets c.self.view_is c.args.slot.0 c.requires.within) (c.in-Ok-eq0-default.ensures.inserted zero)
+    s.buckets.standing _ s.told c.insert_absent.ensures.counted s.threshold s.moves.spills s.moves.moved s.counts.pruned _ 0 (omega (arith, none, zero)) (c.gain.ensures.pruned ∙ sym (pruned_after-zero s.counts.pruned))
+    g.X.Bucket.SPILLS s.least (c.in-Ok-eq0-default.ensures.standing zero) c.spill.ensures.spills c.spill.ensures.moved
+
+pub invariant_of-self-inside : goal.invariant_of-self-inside
+invariant_of-self-inside g c = (c.self.inside.least, (c.insert_absent.ensures.counted, ((paid g c).within c.self.inside.within, tt)))
 
 pub returns-in-Ok-eq0-default-clause-range_bound : goal.returns-in-Ok-eq0-default-clause-range_bound
 returns-in-Ok-eq0-default-clause-range_bound g c =
-    let list = list_in g.T.Key.Ord.cmp c.self.inside.buckets.contents c.args.slot in
-    let inside = within_buckets c.self.view_is c.args.slot.0 c.requires.within in
-    let zero = c.in-Ok-eq0-default.field-0-0-test in
-    let none : length list ≡ 0 = sym c.in-Ok-eq0-default.ensures.len ∙ zero in
-    rw (← c.self.view_is) (StaysPaid-growth c.self.invariant g.met.T.Key.Ord.total c.args.slot (c.args.value ∷ []) c.insert_absent.new.self.contents inside (c.in-Ok-eq0-default.ensures.inserted zero) c.self.inside.buckets.standing _ c.self.inside.told c.insert_absent.ensures.counted c.self.inside.threshold c.self.inside.moves.spills c.self.inside.moves.moved c.self.inside.counts.pruned _ 0 (omega (arith, none)) (c.gain.ensures.pruned ∙ sym (pruned_after-zero c.self.inside.counts.pruned)) range_pays g.X.Bucket.SPILLS _ _ (grows_to g.X.Bucket.SPILLS (standings_of c.self.inside.threshold c.self.inside.buckets.standing c.self.inside.moves.spills c.self.inside.moves.moved) c.args.slot.0 _ (listed_by _ _ c.self.inside.told c.args.slot.0 (within_buckets c.self.view_is c.args.slot.0 c.requires.within)) c.self.inside.least _ (c.in-Ok-eq0-default.ensures.standing zero) c.spill.ensures.spills c.spill.ensures.moved))
+    let stays = paid g (goal.at.returns-in-Ok-eq0-default-clause-range_bound g c).After-spill in
+    rw (← c.self.view_is) stays.range_bound

@@ -7,7 +7,7 @@ use Rattle.key_index_parts.specs.Family.{list_in}
 use Rattle.key_index_parts.specs.Gathered.{gathered}
 use Rattle.key_index_parts.proofs.family.StorageLemmas.{list_at-gathered_buckets, within_buckets, can_change, counted_change, KeepsBuckets-edited, keeps_all, view_pruned}
 use Rattle.key_index_parts.proofs.standing.StandingLemmas.{grows_to}
-use Rattle.key_index_parts.proofs.standing.PaidLemmas.{StaysPaid-growth, listed_by}
+use Rattle.key_index_parts.proofs.standing.PaidLemmas.{StaysPaid-GrowsIn, listed_by}
 use Rattle.key_index_parts.specs.Standing.{standings_of}
 use Rattle.key_index_parts.proofs.index.partitioned.storage.Storage.put_and_retain.Goals as goal
 
@@ -69,4 +69,4 @@ invariant_of-self-inside g c =
     let few = held_answers true said.1.answers list c.args.value said.1.long in
     let kept = ap (λ l. length l) said.1.kept in
     let taken = said.1.taken in
-    (c.self.inside.least, (c.insert_and_retain.ensures.counted, ((StaysPaid-growth c.self.invariant g.met.T.Key.Ord.total c.args.slot _ c.insert_and_retain.new.self.contents inside said.2 c.self.inside.buckets.standing _ c.self.inside.told c.insert_and_retain.ensures.counted c.self.inside.threshold c.self.inside.moves.spills c.self.inside.moves.moved c.self.inside.counts.pruned _ _ (omega (arith, few, kept, taken)) c.change.ensures.pruned g.X.Bucket.SPILLS _ _ (grows_to g.X.Bucket.SPILLS (standings_of c.self.inside.threshold c.self.inside.buckets.standing c.self.inside.moves.spills c.self.inside.moves.moved) c.args.slot.0 _ (listed_by _ _ c.self.inside.told c.args.slot.0 (within_buckets c.self.view_is c.args.slot.0 c.requires.within)) c.self.inside.least _ c.in-Ok.ensures.standing c.spill.ensures.spills c.spill.ensures.moved)).within c.self.inside.within, tt)))
+    (c.self.inside.least, (c.insert_and_retain.ensures.counted, ((StaysPaid-GrowsIn c.self.invariant g.met.T.Key.Ord.total c.args.slot _ c.insert_and_retain.new.self.contents inside said.2 c.self.inside.buckets.standing _ c.self.inside.told c.insert_and_retain.ensures.counted c.self.inside.threshold c.self.inside.moves.spills c.self.inside.moves.moved c.self.inside.counts.pruned _ _ (omega (arith, few, kept, taken)) c.change.ensures.pruned g.X.Bucket.SPILLS c.self.inside.least c.in-Ok.ensures.standing c.spill.ensures.spills c.spill.ensures.moved).within c.self.inside.within, tt)))
