@@ -1,10 +1,8 @@
 //! Ranges of an index in partitions, over any kind of bucket.
-ghost use Rattle.std.specs.Prelude.{◌≡◌, ◌+◌, ◌-◌, ◌<◌, ◌≤◌, ◌&&◌, [], ◌∷◌, length, IsTrue, IfOk, IfErr, OnOk, OnErr};
-ghost use Rattle.key_index_flat.specs.Content.{IsLawful, item_count};
-ghost use Rattle.key_index_flat.specs.Fault.{IsWant};
-ghost use Rattle.key_index_flat.specs.View.{growth_fault_in, items_in, run_at, with_run};
+ghost use Rattle.std.specs.Prelude.{◌≡◌, ◌+◌, ◌-◌, ◌≤◌, ◌&&◌, length, IsTrue};
+ghost use Rattle.key_index_flat.specs.Content.{item_count};
 ghost use Rattle.key_index_parts.specs.Family.{IsRange, view_from};
-ghost use Rattle.key_index_parts.specs.Gathered.{gathered, pair_cmp};
+ghost use Rattle.key_index_parts.specs.Gathered.{gathered};
 ghost use Rattle.key_index_parts.specs.Joined.{IsSpanKept, is_between};
 ghost use Rattle.key_index_parts.specs.Moves.{IsRangeWithin};
 ghost use Rattle.key_index_parts.specs.laws.RangeLaws.{shift};
