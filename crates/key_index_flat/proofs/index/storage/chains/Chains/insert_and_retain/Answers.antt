@@ -1,4 +1,4 @@
-use Rattle.std.proofs.Common.{◌≡◌, ◌+◌, ◌-◌, ◌∷◌, [], ◌++◌, true, cond, length, length-append, refl, sym, ap, subst, ◌∙◌, arith}
+use Rattle.std.proofs.Common.{◌≡◌, ◌≤◌, ◌+◌, ◌-◌, ◌∷◌, [], ◌++◌, true, cond, length, length-append, refl, sym, ap, subst, ◌∙◌, arith}
 use Rattle.std.specs.Fn.{CalledAt}
 use Rattle.key_index_flat.specs.Content.{IsLawful, list_at}
 use Rattle.key_index_flat.specs.Retention.{AsksInTurn}
@@ -8,6 +8,8 @@ use Rattle.key_index_flat.proofs.asked.PutLemmas.{asks_alone, taken_put}
 use Rattle.key_index_flat.proofs.asked.TurnLemmas.{asked_few, asked_same, asks_behind, some_taken}
 use Rattle.key_index_flat.proofs.content.ChainLemmas.{list_at-content_of}
 use Rattle.key_index_flat.proofs.content.EditLemmas.{length-rest_or_all, list-first_and_tail, list_later, rest_edited, rest_or_all}
+use Rattle.key_index_flat.proofs.index.storage.chains.Chains.insert_and_retain.Given.{Over}
+use Rattle.key_index_flat.proofs.index.storage.chains.Chains.insert_and_retain.Goals.{After-drop_head-left}
 use Rattle.key_index_flat.proofs.index.storage.chains.Chains.insert_and_retain.Goals as goal
 
 pub returns-in_default-clause-had : goal.returns-in_default-clause-had
@@ -52,8 +54,14 @@ drop_head-left-requires-clause-held g c =
 pub drop_head-left-requires-clause-fits : goal.drop_head-left-requires-clause-fits
 drop_head-left-requires-clause-fits g c = c.in_ok-head_stays.ensures.fits.1
 
-pub overflow_sub-had : goal.overflow_sub-had
-overflow_sub-had g c =
+-- the closure was asked on all values in list order: how many went, and what it said
+asked_all : (g : Over) (c : After-drop_head-left g) →
+    let held = list_at g.T.Key.Ord.cmp (content_of g.T.Key.Ord.cmp (g.M.Heads.entries c.self.inside.heads) (tail_at g.E.End.FIRST g.T.Key.PartialEq.eq c.self.inside.tails.map)) c.args.slot in
+    let later = tail_at g.E.End.FIRST g.T.Key.PartialEq.eq c.insert_and_retain.new.self.map c.args.slot in
+    let kept = cond c.in_ok-head_stays.head_stays (c.in-Some.head.now ∷ later) later in
+    AsksInTurn (CalledAt g.F.FnMut) c.args.should_retain true (held ++ c.args.value ∷ []) kept c.in_ok-head_stays.stays
+    × (c.drop_head-left.result ≤ c.in_ok-head_stays.had + 1) × (length held + 1 ≡ (c.in_ok-head_stays.had + 1 - c.drop_head-left.result) + length kept)
+asked_all g c =
     let tail = tail_at g.E.End.FIRST g.T.Key.PartialEq.eq c.self.inside.tails.map in
     let later = tail_at g.E.End.FIRST g.T.Key.PartialEq.eq c.insert_and_retain.new.self.map in
     let head = c.in-Some.head.now in
@@ -67,50 +75,29 @@ overflow_sub-had g c =
     let sum = length-rest_or_all c.in_ok-head_stays.head_stays head (later c.args.slot) in
     let more = length-append held (c.args.value ∷ []) in
     let few = asked_few (CalledAt g.F.FnMut) c.args.should_retain true _ _ _ asked in
-    omega (arith, few, sum, long, more, told.had, told.left, c.drop_head-left.ensures.left)
+    (asked, omega (arith, few, sum, long, more, told.had, told.left, c.drop_head-left.ensures.left), omega (arith, long, sum, more, few, told.had, told.left, c.drop_head-left.ensures.left))
+
+pub overflow_sub-had : goal.overflow_sub-had
+overflow_sub-had g c = let said = asked_all g c in omega (arith, said.1)
 
 pub gone_of-taken-requires : goal.gone_of-taken-requires
-gone_of-taken-requires g c =
-    let tail = tail_at g.E.End.FIRST g.T.Key.PartialEq.eq c.self.inside.tails.map in
-    let later = tail_at g.E.End.FIRST g.T.Key.PartialEq.eq c.insert_and_retain.new.self.map in
-    let head = c.in-Some.head.now in
-    let told = c.in_ok-head_stays.ensures in
-    let list = list-first_and_tail g.met.T.Key.Ord.total g.met.T.Translator.exact (g.M.Heads.entries c.self.inside.heads) tail tail c.args.slot c.self.invariant head (sym c.in-Some.ensures) in
-    let held = list_at g.T.Key.Ord.cmp (content_of g.T.Key.Ord.cmp (g.M.Heads.entries c.self.inside.heads) tail) c.args.slot in
-    let kept = cond c.in_ok-head_stays.head_stays (head ∷ later c.args.slot) (later c.args.slot) in
-    let asked : AsksInTurn (CalledAt g.F.FnMut) c.args.should_retain true (held ++ c.args.value ∷ []) kept c.in_ok-head_stays.stays =
-    asked_same (CalledAt g.F.FnMut) c.args.should_retain true _ _ _ _ c.in_ok-head_stays.stays told.asked (ap (λ l. l ++ c.args.value ∷ []) (sym list)) refl in
-    let long = ap (λ l. length l) list in
-    let sum = length-rest_or_all c.in_ok-head_stays.head_stays head (later c.args.slot) in
-    let more = length-append held (c.args.value ∷ []) in
-    let few = asked_few (CalledAt g.F.FnMut) c.args.should_retain true _ _ _ asked in
-    let gone = c.in_ok-head_stays.had + 1 - c.drop_head-left.result in
-    let counts : length held + 1 ≡ gone + length kept = omega (arith, long, sum, more, few, told.had, told.left, c.drop_head-left.ensures.left) in
-    some_taken (CalledAt g.F.FnMut) c.args.should_retain held c.args.value kept c.in_ok-head_stays.stays gone asked counts
+gone_of-taken-requires g c = let said = asked_all g c in some_taken (CalledAt g.F.FnMut) c.args.should_retain _ c.args.value _ c.in_ok-head_stays.stays _ said.0 said.2
 
 pub returns-clause-accepted : goal.returns-clause-accepted
 returns-clause-accepted g c =
     let tail = tail_at g.E.End.FIRST g.T.Key.PartialEq.eq c.self.inside.tails.map in
     let later = tail_at g.E.End.FIRST g.T.Key.PartialEq.eq c.insert_and_retain.new.self.map in
     let head = c.in-Some.head.now in
-    let told = c.in_ok-head_stays.ensures in
-    let list = list-first_and_tail g.met.T.Key.Ord.total g.met.T.Translator.exact (g.M.Heads.entries c.self.inside.heads) tail tail c.args.slot c.self.invariant head (sym c.in-Some.ensures) in
+    let said = asked_all g (goal.at.returns-clause-accepted g c).After-drop_head-left in
     let held = list_at g.T.Key.Ord.cmp (content_of g.T.Key.Ord.cmp (g.M.Heads.entries c.self.inside.heads) tail) c.args.slot in
     let kept = cond c.in_ok-head_stays.head_stays (head ∷ later c.args.slot) (later c.args.slot) in
-    let asked : AsksInTurn (CalledAt g.F.FnMut) c.args.should_retain true (held ++ c.args.value ∷ []) kept c.in_ok-head_stays.stays =
-    asked_same (CalledAt g.F.FnMut) c.args.should_retain true _ _ _ _ c.in_ok-head_stays.stays told.asked (ap (λ l. l ++ c.args.value ∷ []) (sym list)) refl in
-    let long = ap (λ l. length l) list in
     let sum = length-rest_or_all c.in_ok-head_stays.head_stays head (later c.args.slot) in
-    let more = length-append held (c.args.value ∷ []) in
-    let few = asked_few (CalledAt g.F.FnMut) c.args.should_retain true _ _ _ asked in
     let gone = c.in_ok-head_stays.had + 1 - c.drop_head-left.result in
-    let counts : length held + 1 ≡ gone + length kept = omega (arith, long, sum, more, few, told.had, told.left, c.drop_head-left.ensures.left) in
-    let asks = asks_behind (CalledAt g.F.FnMut) c.args.should_retain held c.args.value kept c.in_ok-head_stays.stays gone asked counts c.gone_of-taken.result c.gone_of-taken.ensures in
     rw (← c.self.view_is) ((
       kept,
-      asks,
+      asks_behind (CalledAt g.F.FnMut) c.args.should_retain held c.args.value kept c.in_ok-head_stays.stays gone said.0 said.2 c.gone_of-taken.result c.gone_of-taken.ensures,
       rest_or_all g.met.T.Key.Ord.total g.met.T.Translator.exact (g.M.Heads.entries c.self.inside.heads) tail later c.args.slot c.self.invariant head (sym c.in-Some.ensures) c.insert_and_retain.ensures.others c.in_ok-head_stays.head_stays _ c.drop_head-left.ensures.content,
-      omega (arith, sum, told.left, c.drop_head-left.ensures.left),
+      omega (arith, sum, c.in_ok-head_stays.ensures.left, c.drop_head-left.ensures.left),
     )
     )
 
