@@ -9,9 +9,9 @@ use Rattle.key_index.proofs.snapshot.Snapshot.unset.Given.{Over}
 use Rattle.key_index.proofs.snapshot.Snapshot.unset.Goals.{After-items}
 use Rattle.key_index.proofs.snapshot.Snapshot.unset.Goals as goal
 
-taken_out : (g : Over) (c : After-items g) → let s = g.I.Runs.view c.self.inside.index in let t = g.I.Runs.view c.retain.new.self in
+key_taken_out : (g : Over) (c : After-items g) → let s = g.I.Runs.view c.self.inside.index in let t = g.I.Runs.view c.retain.new.self in
     IsKept g.I.Key.Ord.cmp t × (positions_in t ≡ remove (positions_in s) c.args.key.now) × (nat_lt (items_in t) (items_in s) ≡ is_some (get (positions_in s) c.args.key.now))
-taken_out g c =
+key_taken_out g c =
     let old = c.self.inside.index in
     let new = c.retain.new.self in
     let key = c.args.key.now in
@@ -21,10 +21,10 @@ taken_out g c =
     (kept.0, kept.1, fewer_items g.met.I.Key.Ord.total g.met.I.Runs.exact (g.I.Runs.view old) (g.I.Runs.view new) key (g.met.I.Runs.lawful old) (g.met.I.Runs.lawful new) c.self.invariant said.0 _ left said.2)
 
 pub invariant_of-self-2 : goal.invariant_of-self-2
-invariant_of-self-2 g c = (taken_out g c).0
+invariant_of-self-2 g c = (key_taken_out g c).0
 
 pub returns-clause-unset : goal.returns-clause-unset
-returns-clause-unset g c = (taken_out g c).1 ∙ ap (λ m. remove m c.args.key.now) c.self.view_is
+returns-clause-unset g c = (key_taken_out g c).1 ∙ ap (λ m. remove m c.args.key.now) c.self.view_is
 
 pub returns-clause-was_there : goal.returns-clause-was_there
-returns-clause-was_there g c = (λ i. nat_lt (c.items.ensures i) (c.items-held.ensures i)) ∙ (taken_out g c).2 ∙ ap (λ m. is_some (get m c.args.key.now)) c.self.view_is
+returns-clause-was_there g c = (λ i. nat_lt (c.items.ensures i) (c.items-held.ensures i)) ∙ (key_taken_out g c).2 ∙ ap (λ m. is_some (get m c.args.key.now)) c.self.view_is

@@ -33,9 +33,9 @@ loop-place-init g c =
     }
 
 -- the place is one of the run, and so one of all pairs
-within : (g : Over) (c : In-loop-place g) → let at = c.loop-place in
+place_among_run : (g : Over) (c : In-loop-place g) → let at = c.loop-place in
     (at.place - c.args.run.start < length (list_at g.T.Key.Ord.cmp (grouped g.T.Key.Ord.cmp at.pairs.pairs) c.args.key)) × (at.place < length at.pairs.pairs)
-within g c =
+place_among_run g c =
     let at = c.loop-place in
     let i = at.place - c.args.run.start in
     let here = c.loop-place-test.true in
@@ -54,7 +54,7 @@ value_found g c below =
     sym (slice_get-values_of g.met.T.Key.Ord.total g.met.T.Translator.exact at.invariant.found i below) ∙ ap (λ n. slice_get (values_of at.pairs.pairs) n) place ∙ c.value_at.ensures
 
 pub value_at-requires : goal.value_at-requires
-value_at-requires g c = (within g (goal.at.value_at-requires g c).In-loop-place).1
+value_at-requires g c = (place_among_run g (goal.at.value_at-requires g c).In-loop-place).1
 
 pub loop-place-preserved-then-stays : goal.loop-place-preserved-then-stays
 loop-place-preserved-then-stays g c =
@@ -68,7 +68,7 @@ loop-place-preserved-then-stays g c =
     let from = at.invariant.from in
     let i = at.place - c.args.run.start in
     let next : i + 1 ≡ at.place + 1 - c.args.run.start = omega (arith, from) in
-    let found = value_found g places.After-value_at (within g places.In-loop-place).0 in
+    let found = value_found g places.After-value_at (place_among_run g places.In-loop-place).0 in
     let now = c.should_retain-stays.new.self in
     record {
       from = omega (arith, from);
@@ -81,7 +81,7 @@ loop-place-preserved-then-stays g c =
     }
 
 pub remove-requires : goal.remove-requires
-remove-requires g c = (within g (goal.at.remove-requires g c).In-loop-place).1
+remove-requires g c = (place_among_run g (goal.at.remove-requires g c).In-loop-place).1
 
 pub loop-place-preserved : goal.loop-place-preserved
 loop-place-preserved g c =
@@ -100,7 +100,7 @@ loop-place-preserved g c =
     let from = at.invariant.from in
     let i = at.place - start in
     let place : start + i ≡ at.place = omega (arith, from) in
-    let below = (within g places.In-loop-place).0 in
+    let below = (place_among_run g places.In-loop-place).0 in
     let found = value_found g places.After-value_at below in
     let new : c.remove.new.self.pairs ≡ remove at.pairs.pairs (start + i) = c.remove.ensures.pairs ∙ ap (λ n. remove at.pairs.pairs n) (sym place) in
     let list : list_at cmp (grouped cmp c.remove.new.self.pairs) k ≡ remove ys i = ap (λ fs. list_at cmp (grouped cmp fs) k) new ∙ list_at-removed o exact at.invariant.found i below in

@@ -12,13 +12,13 @@ use Rattle.key_index_parts.proofs.index.partitioned.storage.Storage.insert_at.Go
 use Rattle.key_index_parts.proofs.index.partitioned.storage.Storage.insert_at.Goals as goal
 
 -- the place is within the slot's list, of some bucket
-place : (g : Over) (c : After-self g) → c.args.place ≤ length (list_in g.T.Key.Ord.cmp c.self.inside.buckets.contents c.args.slot)
-place g c =
+place_upto_list : (g : Over) (c : After-self g) → c.args.place ≤ length (list_in g.T.Key.Ord.cmp c.self.inside.buckets.contents c.args.slot)
+place_upto_list g c =
     let held = subst (λ s. c.args.place ≤ length (held_at g.T.Key.Ord.cmp s.buckets c.args.slot)) (sym c.self.view_is) c.requires.place in
     subst (λ l. c.args.place ≤ length l) (list_at-gathered_buckets c.self.invariant c.args.slot) held
 
 pub insert_at-requires : goal.insert_at-requires
-insert_at-requires g c = record { within = within_buckets c.self.view_is c.args.slot.0 c.requires.admits; place = place g (goal.at.insert_at-requires g c).After-self }
+insert_at-requires g c = record { within = within_buckets c.self.view_is c.args.slot.0 c.requires.admits; place = place_upto_list g (goal.at.insert_at-requires g c).After-self }
 
 pub gain-requires : goal.gain-requires
 gain-requires g c =
@@ -32,7 +32,7 @@ pub invariant_of-self : goal.invariant_of-self
 invariant_of-self g c =
     let list = list_in g.T.Key.Ord.cmp c.self.inside.buckets.contents c.args.slot in
     let inside = within_buckets c.self.view_is c.args.slot.0 c.requires.admits in
-    let more = length-insert list c.args.place c.args.value (place g (goal.at.invariant_of-self g c).After-self) in
+    let more = length-insert list c.args.place c.args.value (place_upto_list g (goal.at.invariant_of-self g c).After-self) in
     let told = c.in-Ok.ensures.accepted in
     counted_gain c.self.invariant g.met.T.Key.Ord.total g.met.T.Translator.exact c.args.slot (insert list c.args.place c.args.value) c.insert_at.new.self.contents inside told.0 _ _ c.in-Ok.absent told.1
     (omega (arith, more)) c.gain.ensures.items c.gain.ensures.keys
@@ -55,19 +55,19 @@ returns-in-Ok-clause-kept g c =
 pub returns-in-Err-clause-kept : goal.returns-in-Err-clause-kept
 returns-in-Err-clause-kept g c = rw (← c.self.view_is) (keeps_all c.self.invariant _ (ap (λ s. s.contents) c.in-Err.ensures.refused))
 
-paid : (g : Over) (c : After-gain g) → let s = c.self.inside in
+insertion_paid : (g : Over) (c : After-gain g) → let s = c.self.inside in
     StaysPaid (standings_of s.threshold s.buckets.standing s.moves.spills s.moves.moved) (standings_of s.threshold c.insert_at.new.self.standing s.moves.spills s.moves.moved) s.counts.pruned c.gain.new.self.pruned
-paid g c =
+insertion_paid g c =
     let s = c.self.inside in
     let list = list_in g.T.Key.Ord.cmp s.buckets.contents c.args.slot in
-    let more = length-insert list c.args.place c.args.value (place g (goal.at.invariant_of-self-inside g c).After-self) in
+    let more = length-insert list c.args.place c.args.value (place_upto_list g (goal.at.invariant_of-self-inside g c).After-self) in
     StaysPaid-LeavesIn c.self.invariant g.met.T.Key.Ord.total c.args.slot (insert list c.args.place c.args.value) c.insert_at.new.self.contents (within_buckets c.self.view_is c.args.slot.0 c.requires.admits) c.in-Ok.ensures.accepted.0
     s.buckets.standing _ s.told c.insert_at.ensures.counted s.threshold s.moves.spills s.moves.moved s.counts.pruned _ 0 (omega (arith, more)) (c.gain.ensures.pruned ∙ sym (pruned_after-zero s.counts.pruned)) c.in-Ok.ensures.standing
 
 pub invariant_of-self-inside : goal.invariant_of-self-inside
-invariant_of-self-inside g c = (c.self.inside.least, (c.insert_at.ensures.counted, ((paid g c).within c.self.inside.within, tt)))
+invariant_of-self-inside g c = (c.self.inside.least, (c.insert_at.ensures.counted, ((insertion_paid g c).within c.self.inside.within, tt)))
 
 pub returns-in-Ok-clause-range_bound : goal.returns-in-Ok-clause-range_bound
 returns-in-Ok-clause-range_bound g c =
-    let stays = paid g (goal.at.returns-in-Ok-clause-range_bound g c).After-gain in
+    let stays = insertion_paid g (goal.at.returns-in-Ok-clause-range_bound g c).After-gain in
     rw (← c.self.view_is) stays.range_bound

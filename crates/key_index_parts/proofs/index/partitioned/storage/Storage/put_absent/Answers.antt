@@ -63,9 +63,9 @@ pub returns-in-Ok-eq0-default-clause-standing : goal.returns-in-Ok-eq0-default-c
 returns-in-Ok-eq0-default-clause-standing g c =
     rw (← c.self.view_is) (λ _. grows_to g.X.Bucket.SPILLS (standings_of c.self.inside.threshold c.self.inside.buckets.standing c.self.inside.moves.spills c.self.inside.moves.moved) c.args.slot.0 _ (listed_by _ _ c.self.inside.told c.args.slot.0 (within_buckets c.self.view_is c.args.slot.0 c.requires.within)) c.self.inside.least _ (c.in-Ok-eq0-default.ensures.standing c.in-Ok-eq0-default.field-0-0-test) c.spill.ensures.spills c.spill.ensures.moved)
 
-paid : (g : Over) (c : After-spill g) → let s = c.self.inside in
+first_value_paid : (g : Over) (c : After-spill g) → let s = c.self.inside in
     StaysPaid (standings_of s.threshold s.buckets.standing s.moves.spills s.moves.moved) (standings_of s.threshold c.insert_absent.new.self.standing c.spill.new.self.spills c.spill.new.self.moved) s.counts.pruned c.gain.new.self.pruned
-paid g c =
+first_value_paid g c =
     let s = c.self.inside in
     let zero = c.in-Ok-eq0-default.field-0-0-test in
     let none = c.in-Ok-eq0-default.ensures.len in
@@ -74,9 +74,9 @@ paid g c =
     g.X.Bucket.SPILLS s.least (c.in-Ok-eq0-default.ensures.standing zero) c.spill.ensures.spills c.spill.ensures.moved
 
 pub invariant_of-self-inside : goal.invariant_of-self-inside
-invariant_of-self-inside g c = (c.self.inside.least, (c.insert_absent.ensures.counted, ((paid g c).within c.self.inside.within, tt)))
+invariant_of-self-inside g c = (c.self.inside.least, (c.insert_absent.ensures.counted, ((first_value_paid g c).within c.self.inside.within, tt)))
 
 pub returns-in-Ok-eq0-default-clause-range_bound : goal.returns-in-Ok-eq0-default-clause-range_bound
 returns-in-Ok-eq0-default-clause-range_bound g c =
-    let stays = paid g (goal.at.returns-in-Ok-eq0-default-clause-range_bound g c).After-spill in
+    let stays = first_value_paid g (goal.at.returns-in-Ok-eq0-default-clause-range_bound g c).After-spill in
     rw (← c.self.view_is) stays.range_bound

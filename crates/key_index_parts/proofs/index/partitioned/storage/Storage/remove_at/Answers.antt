@@ -8,23 +8,23 @@ use Rattle.key_index_parts.proofs.index.partitioned.storage.Storage.remove_at.Gi
 use Rattle.key_index_parts.proofs.index.partitioned.storage.Storage.remove_at.Goals.{After-self, After-change}
 use Rattle.key_index_parts.proofs.index.partitioned.storage.Storage.remove_at.Goals as goal
 
-held : (g : Over) (c : After-self g) → c.args.place < length (held_at g.T.Key.Ord.cmp c.self.inside.buckets.contents c.args.slot)
-held g c = subst (λ s. c.args.place < length (held_at g.T.Key.Ord.cmp s.buckets c.args.slot)) (sym c.self.view_is) c.requires
+place_held : (g : Over) (c : After-self g) → c.args.place < length (held_at g.T.Key.Ord.cmp c.self.inside.buckets.contents c.args.slot)
+place_held g c = subst (λ s. c.args.place < length (held_at g.T.Key.Ord.cmp s.buckets c.args.slot)) (sym c.self.view_is) c.requires
 
-inside : (g : Over) (c : After-self g) → c.args.slot.0 < length c.self.inside.buckets.contents
-inside g c = held_inside c.self.invariant c.args.slot c.args.place (held g c)
+slot_inside : (g : Over) (c : After-self g) → c.args.slot.0 < length c.self.inside.buckets.contents
+slot_inside g c = held_inside c.self.invariant c.args.slot c.args.place (place_held g c)
 
-place : (g : Over) (c : After-self g) → c.args.place < length (list_in g.T.Key.Ord.cmp c.self.inside.buckets.contents c.args.slot)
-place g c = subst (λ l. c.args.place < length l) (list_at-gathered_buckets c.self.invariant c.args.slot) (held g c)
+place_listed : (g : Over) (c : After-self g) → c.args.place < length (list_in g.T.Key.Ord.cmp c.self.inside.buckets.contents c.args.slot)
+place_listed g c = subst (λ l. c.args.place < length l) (list_at-gathered_buckets c.self.invariant c.args.slot) (place_held g c)
 
-one_less : (g : Over) (c : After-self g) → let list = list_in g.T.Key.Ord.cmp c.self.inside.buckets.contents c.args.slot in length (remove list c.args.place) + 1 ≡ length list
-one_less g c =
-    let less = length-remove _ c.args.place (place g c) in
-    let some = place g c in
+one_value_less : (g : Over) (c : After-self g) → let list = list_in g.T.Key.Ord.cmp c.self.inside.buckets.contents c.args.slot in length (remove list c.args.place) + 1 ≡ length list
+one_value_less g c =
+    let less = length-remove _ c.args.place (place_listed g c) in
+    let some = place_listed g c in
     omega (arith, less, some)
 
 pub remove_at-value-requires : goal.remove_at-value-requires
-remove_at-value-requires g c = place g (goal.at.remove_at-value-requires g c).After-self
+remove_at-value-requires g c = place_listed g (goal.at.remove_at-value-requires g c).After-self
 
 pub overflow_add-had : goal.overflow_add-had
 overflow_add-had g c =
@@ -35,18 +35,18 @@ overflow_add-had g c =
 pub change-requires : goal.change-requires
 change-requires g c =
     let at = (goal.at.change-requires g c).After-self in
-    let less = one_less g at in
+    let less = one_value_less g at in
     let left = c.remove_at-value.ensures.left in
     let small : c.self.inside.counts.items < 2 ^ 64 = search rules in
-    can_change c.self.invariant g.met.T.Key.Ord.total g.met.T.Translator.exact c.args.slot _ c.remove_at-value.new.self.contents (inside g at)
+    can_change c.self.invariant g.met.T.Key.Ord.total g.met.T.Translator.exact c.args.slot _ c.remove_at-value.new.self.contents (slot_inside g at)
     c.remove_at-value.ensures.buckets _ _ left (omega (arith, less, left)) (omega (arith, small))
 
 pub invariant_of-self : goal.invariant_of-self
 invariant_of-self g c =
     let at = (goal.at.invariant_of-self g c).After-self in
-    let less = one_less g at in
+    let less = one_value_less g at in
     let left = c.remove_at-value.ensures.left in
-    counted_change c.self.invariant g.met.T.Key.Ord.total g.met.T.Translator.exact c.args.slot _ c.remove_at-value.new.self.contents (inside g at)
+    counted_change c.self.invariant g.met.T.Key.Ord.total g.met.T.Translator.exact c.args.slot _ c.remove_at-value.new.self.contents (slot_inside g at)
     c.remove_at-value.ensures.buckets _ _ left (omega (arith, less, left)) _ _ c.change.ensures.items c.change.ensures.keys
 
 pub returns-clause-value : goal.returns-clause-value
@@ -57,29 +57,29 @@ returns-clause-value g c =
 
 pub returns-clause-edited : goal.returns-clause-edited
 returns-clause-edited g c =
-    let within = inside g (goal.at.returns-clause-edited g c).After-self in
+    let within = slot_inside g (goal.at.returns-clause-edited g c).After-self in
     rw (← c.self.view_is) (
     view_pruned c.self.invariant g.met.T.Key.Ord.total g.met.T.Translator.exact c.args.slot _ c.remove_at-value.new.self.contents within c.remove_at-value.ensures.buckets g.T.Translator.translated c.self.inside.translator _ _ (λ l. remove l c.args.place) refl 1 c.change.ensures.pruned
     )
 
 pub returns-clause-kept : goal.returns-clause-kept
 returns-clause-kept g c =
-    let within = inside g (goal.at.returns-clause-kept g c).After-self in
+    let within = slot_inside g (goal.at.returns-clause-kept g c).After-self in
     rw (← c.self.view_is) (KeepsBuckets-edited c.self.invariant g.met.T.Key.Ord.total g.met.T.Translator.exact c.args.slot _ c.remove_at-value.new.self.contents within c.remove_at-value.ensures.buckets)
 
-paid : (g : Over) (c : After-change g) → let s = c.self.inside in
+removal_paid : (g : Over) (c : After-change g) → let s = c.self.inside in
     StaysPaid (standings_of s.threshold s.buckets.standing s.moves.spills s.moves.moved) (standings_of s.threshold c.remove_at-value.new.self.standing s.moves.spills s.moves.moved) s.counts.pruned c.change.new.self.pruned
-paid g c =
+removal_paid g c =
     let s = c.self.inside in
     let at = (goal.at.invariant_of-self-inside g c).After-self in
-    let less = one_less g at in
-    StaysPaid-LeavesIn c.self.invariant g.met.T.Key.Ord.total c.args.slot (remove (list_in g.T.Key.Ord.cmp s.buckets.contents c.args.slot) c.args.place) c.remove_at-value.new.self.contents (inside g at) c.remove_at-value.ensures.buckets
+    let less = one_value_less g at in
+    StaysPaid-LeavesIn c.self.invariant g.met.T.Key.Ord.total c.args.slot (remove (list_in g.T.Key.Ord.cmp s.buckets.contents c.args.slot) c.args.place) c.remove_at-value.new.self.contents (slot_inside g at) c.remove_at-value.ensures.buckets
     s.buckets.standing _ s.told c.remove_at-value.ensures.counted s.threshold s.moves.spills s.moves.moved s.counts.pruned _ 1 (omega (arith, less)) c.change.ensures.pruned c.remove_at-value.ensures.standing
 
 pub invariant_of-self-inside : goal.invariant_of-self-inside
-invariant_of-self-inside g c = (c.self.inside.least, (c.remove_at-value.ensures.counted, ((paid g c).within c.self.inside.within, tt)))
+invariant_of-self-inside g c = (c.self.inside.least, (c.remove_at-value.ensures.counted, ((removal_paid g c).within c.self.inside.within, tt)))
 
 pub returns-clause-range_bound : goal.returns-clause-range_bound
 returns-clause-range_bound g c =
-    let stays = paid g (goal.at.returns-clause-range_bound g c).After-change in
+    let stays = removal_paid g (goal.at.returns-clause-range_bound g c).After-change in
     rw (← c.self.view_is) stays.range_bound

@@ -9,18 +9,18 @@ use Rattle.key_index_parts.proofs.index.partitioned.storage.Storage.set_at.Given
 use Rattle.key_index_parts.proofs.index.partitioned.storage.Storage.set_at.Goals.{After-self, After-set_at}
 use Rattle.key_index_parts.proofs.index.partitioned.storage.Storage.set_at.Goals as goal
 
-held : (g : Over) (c : After-self g) → c.args.place < length (held_at g.T.Key.Ord.cmp c.self.inside.buckets.contents c.args.slot)
-held g c = subst (λ s. c.args.place < length (held_at g.T.Key.Ord.cmp s.buckets c.args.slot)) (sym c.self.view_is) c.requires
+place_held : (g : Over) (c : After-self g) → c.args.place < length (held_at g.T.Key.Ord.cmp c.self.inside.buckets.contents c.args.slot)
+place_held g c = subst (λ s. c.args.place < length (held_at g.T.Key.Ord.cmp s.buckets c.args.slot)) (sym c.self.view_is) c.requires
 
-inside : (g : Over) (c : After-self g) → c.args.slot.0 < length c.self.inside.buckets.contents
-inside g c = held_inside c.self.invariant c.args.slot c.args.place (held g c)
+slot_inside : (g : Over) (c : After-self g) → c.args.slot.0 < length c.self.inside.buckets.contents
+slot_inside g c = held_inside c.self.invariant c.args.slot c.args.place (place_held g c)
 
 pub set_at-requires : goal.set_at-requires
-set_at-requires g c = subst (λ l. c.args.place < length l) (list_at-gathered_buckets c.self.invariant c.args.slot) (held g (goal.at.set_at-requires g c).After-self)
+set_at-requires g c = subst (λ l. c.args.place < length l) (list_at-gathered_buckets c.self.invariant c.args.slot) (place_held g (goal.at.set_at-requires g c).After-self)
 
 pub invariant_of-self : goal.invariant_of-self
 invariant_of-self g c =
-    let within = inside g (goal.at.invariant_of-self g c).After-self in
+    let within = slot_inside g (goal.at.invariant_of-self g c).After-self in
     let list = list_in g.T.Key.Ord.cmp c.self.inside.buckets.contents c.args.slot in
     let l = slice_set list c.args.place c.args.value in
     let same = length-set list c.args.place c.args.value in
@@ -29,29 +29,29 @@ invariant_of-self g c =
 
 pub returns-clause-edited : goal.returns-clause-edited
 returns-clause-edited g c =
-    let within = inside g (goal.at.returns-clause-edited g c).After-self in
+    let within = slot_inside g (goal.at.returns-clause-edited g c).After-self in
     rw (← c.self.view_is) (
     view_edited c.self.invariant g.met.T.Key.Ord.total g.met.T.Translator.exact c.args.slot _ c.set_at.new.self.contents within c.set_at.ensures.buckets g.T.Translator.translated c.self.inside.translator _ _ (λ l. slice_set l c.args.place c.args.value) refl refl
     )
 
 pub returns-clause-kept : goal.returns-clause-kept
 returns-clause-kept g c =
-    let within = inside g (goal.at.returns-clause-kept g c).After-self in
+    let within = slot_inside g (goal.at.returns-clause-kept g c).After-self in
     rw (← c.self.view_is) (KeepsBuckets-edited c.self.invariant g.met.T.Key.Ord.total g.met.T.Translator.exact c.args.slot _ c.set_at.new.self.contents within c.set_at.ensures.buckets)
 
-paid : (g : Over) (c : After-set_at g) → let s = c.self.inside in
+setting_paid : (g : Over) (c : After-set_at g) → let s = c.self.inside in
     StaysPaid (standings_of s.threshold s.buckets.standing s.moves.spills s.moves.moved) (standings_of s.threshold c.set_at.new.self.standing s.moves.spills s.moves.moved) s.counts.pruned s.counts.pruned
-paid g c =
+setting_paid g c =
     let s = c.self.inside in
     let list = list_in g.T.Key.Ord.cmp s.buckets.contents c.args.slot in
     let same = length-set list c.args.place c.args.value in
-    StaysPaid-LeavesIn c.self.invariant g.met.T.Key.Ord.total c.args.slot (slice_set list c.args.place c.args.value) c.set_at.new.self.contents (inside g (goal.at.invariant_of-self-inside g c).After-self) c.set_at.ensures.buckets
+    StaysPaid-LeavesIn c.self.invariant g.met.T.Key.Ord.total c.args.slot (slice_set list c.args.place c.args.value) c.set_at.new.self.contents (slot_inside g (goal.at.invariant_of-self-inside g c).After-self) c.set_at.ensures.buckets
     s.buckets.standing _ s.told c.set_at.ensures.counted s.threshold s.moves.spills s.moves.moved s.counts.pruned _ 0 (omega (arith, same)) (omega arith) c.set_at.ensures.standing
 
 pub invariant_of-self-inside : goal.invariant_of-self-inside
-invariant_of-self-inside g c = (c.self.inside.least, (c.set_at.ensures.counted, ((paid g c).within c.self.inside.within, tt)))
+invariant_of-self-inside g c = (c.self.inside.least, (c.set_at.ensures.counted, ((setting_paid g c).within c.self.inside.within, tt)))
 
 pub returns-clause-range_bound : goal.returns-clause-range_bound
 returns-clause-range_bound g c =
-    let stays = paid g (goal.at.returns-clause-range_bound g c).After-set_at in
+    let stays = setting_paid g (goal.at.returns-clause-range_bound g c).After-set_at in
     rw (← c.self.view_is) stays.range_bound

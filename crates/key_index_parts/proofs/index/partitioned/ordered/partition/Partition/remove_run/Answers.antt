@@ -11,8 +11,8 @@ use Rattle.key_index_parts.proofs.index.partitioned.ordered.partition.Partition.
 use Rattle.key_index_parts.proofs.index.partitioned.ordered.partition.Partition.remove_run.Goals as goal
 
 -- the run ends at a key, or behind the last
-ends : (g : Over) (c : After-self g) → c.args.range.end ≤ length c.self.inside.keys.items
-ends g c =
+range_end_within : (g : Over) (c : After-self g) → c.args.range.end ≤ length c.self.inside.keys.items
+range_end_within g c =
     let len = length-zip _ _ c.self.invariant.sized in
     let pairs = ap (λ s. length s.pairs) c.self.view_is in
     let keys = sym (keys_of-zip _ _ (sym c.self.invariant.sized)) ∙ ap (λ s. keys_of s.pairs) c.self.view_is in
@@ -20,25 +20,25 @@ ends g c =
     (subst (λ ks. IsSorted g.K.Ord.cmp ks) keys c.self.invariant.sorted) c.requires.1 in
     omega (arith, len, pairs, within)
 
-left : (g : Over) (c : After-self g) → let start = c.args.range.start in let end = c.args.range.end in
+remove_range_left : (g : Over) (c : After-self g) → let start = c.args.range.start in let end = c.args.range.end in
     (start ≤ end) × (length (remove_range c.self.inside.keys.items start end) + (end - start) ≡ length c.self.inside.keys.items)
     × (length (remove_range c.self.inside.values.items start end) + (end - start) ≡ length c.self.inside.values.items)
-left g c =
+remove_range_left g c =
     let start = c.args.range.start in
     let end = c.args.range.end in
-    let within = ends g c in
+    let within = range_end_within g c in
     let order : start ≤ end = let upto = c.requires.1.upto in omega (arith, upto) in
     (order, length-remove_range _ start end order within, length-remove_range _ start end order (omega (arith, within, c.self.invariant.sized)))
 
 pub drain-requires-clause-in_bounds : goal.drain-requires-clause-in_bounds
-drain-requires-clause-in_bounds g c = let within = ends g (goal.at.drain-requires-clause-in_bounds g c).After-self in omega (arith, within)
+drain-requires-clause-in_bounds g c = let within = range_end_within g (goal.at.drain-requires-clause-in_bounds g c).After-self in omega (arith, within)
 
 pub drain-requires-2-clause-in_bounds : goal.drain-requires-2-clause-in_bounds
-drain-requires-2-clause-in_bounds g c = let within = ends g (goal.at.drain-requires-2-clause-in_bounds g c).After-self in omega (arith, within, c.self.invariant.sized)
+drain-requires-2-clause-in_bounds g c = let within = range_end_within g (goal.at.drain-requires-2-clause-in_bounds g c).After-self in omega (arith, within, c.self.invariant.sized)
 
 pub invariant_of-self : goal.invariant_of-self
 invariant_of-self g c =
-    let less = left g (goal.at.invariant_of-self g c).After-self in
+    let less = remove_range_left g (goal.at.invariant_of-self g c).After-self in
     rw (c.drop-drain.ensures.items, c.drop-drain-2.ensures.items, c.drain.ensures.kept, c.drain-2.ensures.kept) record {
       sized = omega (arith, c.self.invariant.sized, less);
       sorted = IsSorted-remove_range g.met.K.Ord.total c.self.inside.keys.items c.args.range.start c.args.range.end less.0 c.self.invariant.sorted;
@@ -51,7 +51,7 @@ returns-clause-pairs g c =
 
 pub returns-clause-room : goal.returns-clause-room
 returns-clause-room g c =
-    let less = left g (goal.at.returns-clause-room g c).After-self in
+    let less = remove_range_left g (goal.at.returns-clause-room g c).After-self in
     let room = ap (λ s. s.room) c.self.view_is in
     let key_items = ap length (c.drop-drain.ensures.items ∙ c.drain.ensures.kept) in
     let value_items = ap length (c.drop-drain-2.ensures.items ∙ c.drain-2.ensures.kept) in
