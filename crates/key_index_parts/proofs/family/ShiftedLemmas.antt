@@ -1,11 +1,11 @@
 -- On buckets that are numbered from another start.
---     if_ok, IfErr-implied, OnOk-implied  what a call answered
+--     IfErr-implied, OnOk-implied         what a call answered
 --     items_from, keys_from               the counts
 --     list_from, read_from                a list read
 --     below_from, held_from               there is none below the first number
 --     edited_from                         and one put in
 --     seen_edited, seen_pruned            a range as it is seen, after its storage was edited
-use Rattle.std.proofs.Common.{◌≡◌, ℕ, suc, ◌+◌, ◌<◌, ◌≤◌, true, false, cond, not, ◌&&◌, nat_lt, List, [], ◌∷◌, Some, unwrap_or, length, Result, Ok, Err, IfOk, IfErr, OnOk, OnErr, refl, sym, ap, ◌∙◌, arith, lt_of_not-le}
+use Rattle.std.proofs.Common.{◌≡◌, ℕ, suc, ◌+◌, ◌<◌, ◌≤◌, true, false, cond, not, ◌&&◌, nat_lt, List, [], ◌∷◌, Some, unwrap_or, length, Result, Ok, Err, IfErr, OnOk, OnErr, refl, sym, ap, ◌∙◌, arith, lt_of_not-le}
 use Rattle.std.proofs.lemmas.Bool.{lt-ltb}
 use Rattle.std.specs.declared.cmp.Ordering.{Ordering}
 use Rattle.std.specs.declared.cmp.Ordering.TheVariants.{Less, Equal, Greater}
@@ -23,10 +23,6 @@ use Rattle.key_index_parts.specs.laws.RangeLaws.{shift, shifted, gathered_from-s
 
 -- what a call answered, where one fact gives another
 module _ {A E : Type 0} where
-  pub if_ok : (r : Result A E) (P Q : A → Type 0) → ((a : A) → P a → Q a) → IfOk r P → IfOk r Q
-  if_ok (Ok a) P Q f h = f a h
-  if_ok (Err e) P Q f h = tt
-
   pub IfErr-implied : (r : Result A E) (P Q : E → Type 0) → ((e : E) → P e → Q e) → IfErr r P → IfErr r Q
   IfErr-implied (Ok a) P Q f h = tt
   IfErr-implied (Err e) P Q f h = f e h

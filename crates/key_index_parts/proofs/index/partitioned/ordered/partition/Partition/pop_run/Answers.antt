@@ -1,5 +1,9 @@
-use Rattle.std.proofs.Common.{◌-◌, length, slice_get, ap, subst, sym, ◌∙◌, arith}
-use Rattle.key_index_parts.specs.Pairs.{count_below}
+use Rattle.std.proofs.Common.{◌≡◌, ◌-◌, ◌∷◌, ◌++◌, All, length, slice_get, take, ap, subst, sym, ◌∙◌, arith}
+use Rattle.std.specs.List.{zip}
+use Rattle.std.specs.Map.{keys_of}
+use Rattle.std.specs.declared.cmp.Ordering.TheVariants.{Less}
+use Rattle.key_index_parts.specs.Pairs.{count_below, Paired}
+use Rattle.key_index_parts.specs.Spread.{pairs_with}
 use Rattle.key_index_parts.proofs.pairs.LastRun.{IsLastRun, IsPopped, popped}
 use Rattle.key_index_parts.proofs.index.partitioned.ordered.partition.Partition.pop_run.Given.{Over}
 use Rattle.key_index_parts.proofs.index.partitioned.ordered.partition.Partition.pop_run.Goals.{After-last_key-key, After-truncate}
@@ -17,26 +21,30 @@ last_run g c = record {
   begins = c.last_key-key.ensures.start ∙ ap (λ l. count_below g.K.Ord.cmp l c.last_key-key.result.0) c.as_slice.ensures.value;
 }
 
-run_popped : (g : Over) (c : After-truncate g) → IsPopped g.K.Ord.cmp c.self.inside.keys.items c.self.inside.values.items c.last_key-key.result.0 c.in-Some.head c.in_ok-tail.tail.items c.truncate.new.self.items c.pop.new.self.items
+run_popped : (g : Over) (c : After-truncate g) →
+    IsPopped g.K.Ord.cmp c.self.inside.keys.items c.self.inside.values.items c.last_key-key.result.0 c.in-Some.head c.in_ok-tail.tail.items
+    (take c.last_key-key.result.1 c.self.inside.keys.items) c.pop.new.self.items
 run_popped g c =
-    let us = c.pop.new.self.items in
-    let ws = c.in_ok-tail.tail.items in
     let run = last_run g (goal.at.returns-clause-run g c).After-last_key-key in
-    subst (λ ks. IsPopped g.K.Ord.cmp c.self.inside.keys.items c.self.inside.values.items c.last_key-key.result.0 c.in-Some.head ws ks us) (sym c.truncate.ensures.items)
-    (popped g.met.K.Ord.total c.requires.exact c.last_key-key.result.0 run c.self.inside.values.items us ws c.in-Some.head c.self.invariant.sized (sym c.in_ok-tail.ensures.left ∙ c.in-Some.ensures.items) c.in_ok-tail.ensures.moved)
+    popped g.met.K.Ord.total c.requires.exact c.last_key-key.result.0 run c.self.inside.values.items c.pop.new.self.items c.in_ok-tail.tail.items c.in-Some.head
+    c.self.invariant.sized (sym c.in_ok-tail.ensures.left ∙ c.in-Some.ensures.items) c.in_ok-tail.ensures.moved
 
 pub invariant_of-self-2 : goal.invariant_of-self-2
-invariant_of-self-2 g c = (run_popped g c).paired
+invariant_of-self-2 g c = subst (λ ks. Paired g.K.Ord.cmp ks c.pop.new.self.items) (sym c.truncate.ensures.items) (run_popped g c).paired
 
 pub returns-clause-run : goal.returns-clause-run
-returns-clause-run g c = ap (λ s. s.pairs) (sym c.self.view_is) ∙ (run_popped g c).pairs
+returns-clause-run g c =
+    ap (λ s. s.pairs) (sym c.self.view_is) ∙ (run_popped g c).pairs
+    ∙ ap (λ ks. zip ks c.pop.new.self.items ++ pairs_with c.last_key-key.result.0 (c.in-Some.head ∷ c.in_ok-tail.tail.items)) (sym c.truncate.ensures.items)
 
 pub returns-clause-below : goal.returns-clause-below
-returns-clause-below g c = (run_popped g c).below
+returns-clause-below g c =
+    subst (λ ks. All (λ k. g.K.Ord.cmp k c.last_key-key.result.0 ≡ Less) (keys_of (zip ks c.pop.new.self.items))) (sym c.truncate.ensures.items) (run_popped g c).below
 
 pub returns-clause-room : goal.returns-clause-room
 returns-clause-room g c =
     let left = run_popped g c in
+    let keys = ap (λ l. length l) c.truncate.ensures.items in
     let room = ap (λ s. s.room) c.self.view_is in
     let values = c.pop.ensures.capacity ∙ c.split_off.ensures.capacity in
-    omega (arith, left.keys_left, left.values_left, room, values, c.truncate.ensures.capacity)
+    omega (arith, left.keys_left, left.values_left, keys, room, values, c.truncate.ensures.capacity)
