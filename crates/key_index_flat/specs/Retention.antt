@@ -1,7 +1,6 @@
 -- A closure that is asked once on each value of a list, in order.
 --     last_answer   the last of the answers, and b where there is none
 --     AsksInTurn    the closure is asked on each of xs, ys are those that it said true of, and `stays` is its last answer
---     RetainsFrom   it is asked on a list's first value and then on its tail, of which `left` stays
 --     AsksBehind    it is asked on each of the held values and on v last, and left are those that it said true of; so many of the
 --                   held ones are gone
 use Rattle.std.specs.Prelude.{◌≡◌, ℕ, ◌+◌, Bool, true, if◌then◌else◌, List, [], ◌∷◌, ◌++◌, length}
@@ -17,11 +16,6 @@ abbrev pub AsksInTurn : {F V : Type 0} → (F → V → Bool → F → Type 0) �
 AsksInTurn {F = F} ask f before xs ys stays =
     (answers : List Bool) × (last : F) × (length answers ≡ length xs) × ReturnsInTurn ask f answers xs last
     × (ys ≡ items_where_true answers xs) × (stays ≡ last_answer before answers)
-
--- head_stays: what it said of the first
-abbrev pub RetainsFrom : {F V : Type 0} → (F → V → Bool → F → Type 0) → F → V → List V → List V → Bool → Bool → Type 0
-RetainsFrom ask f head tail left head_stays stays =
-    AsksInTurn ask f true (head ∷ tail) (if head_stays then head ∷ left else left) stays
 
 pub record AsksBehind {F V : Type 0} (ask : F → V → Bool → F → Type 0) (f : F) (held : List V) (v : V) (left : List V)
     (gone : ℕ) : Type 0 where

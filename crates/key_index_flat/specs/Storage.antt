@@ -1,5 +1,6 @@
 -- What a flat index keeps: the first value of each list in one map, and in another the tails of the lists that have more.
 --     list_of, content_of   the list that a first value and a tail make; the content that all of them stand for
+--     list_left             what a retention leaves of a list: its first value if that stays, else the next one, if there is one, and the tail
 --     index_in              where the value at a place stands in a vector, reversed or not, by the index of the last
 --     at_key, tail_at       the vector that a map has at a key; the tail there, if there is a map
 --     value_of              the value that entries have at a key
@@ -23,6 +24,9 @@ use Rattle.key_index_flat.specs.View.{View}
 abbrev pub list_of : {V : Type 0} → Option V → List V → List V
 list_of None tail = []
 list_of (Some head) tail = head ∷ tail
+
+abbrev pub list_left : {V : Type 0} → Bool → V → Option V → List V → List V
+list_left head_stays head next tail = list_of (if head_stays then Some head else next) tail
 
 abbrev pub content_of : {K V : Type 0} → (K → K → Ordering) → List (K × V) → (K → List V) → Content K V
 content_of cmp [] tail = []

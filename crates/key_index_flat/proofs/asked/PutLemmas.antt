@@ -4,9 +4,8 @@
 --     one_went      the new value, answered false, is one of those that went
 --     asks_put      the answers on the values that were held and the new one
 --     asks_alone    and on the new one, where none were held
--- The same of a list by its first value and its tail, of which `left` values stay.
---     kept_behind                    what stays of it and of the new value
---     left_behind, few_behind        how many that are
+-- The same of a list by its first value and its tail.
+--     few_behind                         no more are left than there were
 --     one_went_behind, asks_put_behind   as one_went and asks_put
 use Rattle.std.proofs.Common.{◌≡◌, ℕ, ◌+◌, ◌-◌, ◌≤◌, Bool, true, false, cond, List, [], ◌∷◌, ◌++◌, length, insert, refl, sym, ap, subst, ◌∙◌, arith, length-append}
 use Rattle.std.specs.declared.cmp.Ordering.{Ordering}
@@ -15,11 +14,10 @@ use Rattle.std.specs.Cmp.{IsTotalOrder}
 use Rattle.std.specs.List.{items_where_true}
 use Rattle.std.specs.List.Retain.{IsFiltered, ReturnsInTurn}
 use Rattle.key_index_flat.specs.Content.{Content, IsLawful, list_at, with_list}
-use Rattle.key_index_flat.specs.Retention.{AsksBehind, AsksInTurn, RetainsFrom}
+use Rattle.key_index_flat.specs.Retention.{AsksBehind, AsksInTurn}
 use Rattle.key_index_flat.proofs.asked.TurnLemmas.{asked_few, asked_same, asks_behind, kept_few, some_taken}
 use Rattle.key_index_flat.proofs.content.ContentLemmas.{with_list-twice}
 use Rattle.key_index_flat.proofs.runs.CursorLemmas.{list_at_edit}
-use Rattle.key_index_flat.proofs.content.EditLemmas.{length-rest_or_all}
 use Rattle.key_index_flat.proofs.content.InOrderLemmas.{behind_last}
 
 module _ {K V : Type 0} {cmp : K → K → Ordering} (o : IsTotalOrder cmp) (c mid : Content K V) (k : K) (v : V) (at : ℕ)
@@ -58,17 +56,10 @@ module _ {K V : Type 0} {cmp : K → K → Ordering} (o : IsTotalOrder cmp) (c m
     taken = let few = kept_few asked.0 (list_at cmp c k) in omega (arith, few, none);
   }
 
-abbrev pub kept_behind : {V : Type 0} → V → List V → Bool → List V
-kept_behind head later head_stays = cond head_stays (head ∷ later) later
-
-module _ {F V : Type 0} (R : F → V → Bool → F → Type 0) (f : F) (held : List V) (head : V) (t later : List V) (v : V) (head_stays stays : Bool)
-    (is : held ≡ head ∷ t) (asked : RetainsFrom R f head (t ++ v ∷ []) later head_stays stays)
-    (had others left : ℕ) (sized : had ≡ length t + 1) (rest : others ≡ length later) (sum : left ≡ others + cond head_stays 1 0) where
-  asked_behind : AsksInTurn R f true (held ++ v ∷ []) (kept_behind head later head_stays) stays
+module _ {F V : Type 0} (R : F → V → Bool → F → Type 0) (f : F) (held : List V) (head : V) (t kept : List V) (v : V) (stays : Bool) (is : held ≡ head ∷ t)
+    (asked : AsksInTurn R f true (head ∷ (t ++ v ∷ [])) kept stays) (had left : ℕ) (sized : had ≡ length t + 1) (rest : left ≡ length kept) where
+  asked_behind : AsksInTurn R f true (held ++ v ∷ []) kept stays
   asked_behind = asked_same R f true _ _ _ _ stays asked (ap (λ l. l ++ v ∷ []) (sym is)) refl
-
-  pub left_behind : left ≡ length (kept_behind head later head_stays)
-  left_behind = let long = length-rest_or_all head_stays head later in omega (arith, long, rest, sum)
 
   held_behind : length held ≡ had
   held_behind = let long = ap (λ l. length l) is in omega (arith, long, sized)
@@ -77,13 +68,13 @@ module _ {F V : Type 0} (R : F → V → Bool → F → Type 0) (f : F) (held : 
   few_behind =
       let few = asked_few R f true _ _ _ asked_behind in
       let more = length-append held (v ∷ []) in
-      omega (arith, few, more, held_behind, left_behind)
+      omega (arith, few, more, held_behind, rest)
 
-  counts_behind : length held + 1 ≡ had + 1 - left + length (kept_behind head later head_stays)
-  counts_behind = omega (arith, held_behind, left_behind, few_behind)
+  counts_behind : length held + 1 ≡ had + 1 - left + length kept
+  counts_behind = omega (arith, held_behind, rest, few_behind)
 
   pub one_went_behind : stays ≡ false → 1 ≤ had + 1 - left
-  one_went_behind = some_taken R f held v (kept_behind head later head_stays) stays (had + 1 - left) asked_behind counts_behind
+  one_went_behind = some_taken R f held v kept stays (had + 1 - left) asked_behind counts_behind
 
-  pub asks_put_behind : (gone : ℕ) → had + 1 - left ≡ gone + cond stays 0 1 → AsksBehind R f held v (kept_behind head later head_stays) gone
-  asks_put_behind = asks_behind R f held v (kept_behind head later head_stays) stays (had + 1 - left) asked_behind counts_behind
+  pub asks_put_behind : (gone : ℕ) → had + 1 - left ≡ gone + cond stays 0 1 → AsksBehind R f held v kept gone
+  asks_put_behind = asks_behind R f held v kept stays (had + 1 - left) asked_behind counts_behind

@@ -1,12 +1,13 @@
 -- What one edit of a list leaves of first values and tails.
-use Rattle.std.proofs.Common.{◌≡◌, ℕ, suc, zero, ◌+◌, ◌-◌, ◌<◌, ◌≤◌, true, false, List, [], ◌∷◌, length, insert, remove, slice_set, slice_get, cond, is_some, Bool, Option, Some, None, Result, Ok, Err, OnOk, OnErr, T, refl, sym, ap, subst, ◌∙◌, arith, add-zero}
+use Rattle.std.proofs.Common.{◌≡◌, ℕ, suc, zero, ◌+◌, ◌-◌, ◌<◌, ◌≤◌, true, false, List, [], ◌∷◌, length, insert, remove, slice_set, slice_get, cond, is_some, Bool, Option, Some, None, IfNone, Result, Ok, Err, OnOk, OnErr, T, refl, sym, ap, subst, ◌∙◌, arith, add-zero}
+use Rattle.std.proofs.lemmas.List.{nil_from_length}
 use Rattle.std.specs.declared.cmp.Ordering.{Ordering}
 use Rattle.std.specs.declared.cmp.Ordering.TheVariants.{Equal}
 use Rattle.std.specs.Ordering.{eq_by_cmp}
 use Rattle.std.specs.Cmp.{IsTotalOrder}
 use Rattle.std.specs.Option.{option_map}
 use Rattle.key_index_flat.specs.Content.{Content, list_at, with_list}
-use Rattle.key_index_flat.specs.Storage.{list_of, content_of}
+use Rattle.key_index_flat.specs.Storage.{list_left, list_of, content_of}
 use Rattle.key_index_flat.specs.Storage.{value_of, Sets, IsLinked}
 use Rattle.key_index_flat.specs.laws.Laws.{IsLawful-content_of}
 use Rattle.key_index_flat.proofs.content.ContentLemmas.{entries_for, with_list-twice}
@@ -35,10 +36,18 @@ module _ {V : Type 0} (v : V) (t : List V) where
   insert_behind zero x p = absurd (p refl)
   insert_behind (suc i) x p = let e : i ≡ suc i - 1 = omega arith in ap (λ j. v ∷ insert t j x) e
 
--- how many values are left of a list
-pub length-rest_or_all : {V : Type 0} (stays : Bool) (v : V) (t : List V) → length (cond stays (v ∷ t) t) ≡ length t + cond stays 1 0
-length-rest_or_all true v t = omega arith
-length-rest_or_all false v t = omega arith
+-- what is left of a list, by whether its first value stays
+pub left_by_first : {V : Type 0} (stays : Bool) (next : Option V) (v : V) (t l : List V) → (stays ≡ true → t ≡ l) → (stays ≡ false → list_of next t ≡ l)
+    → cond stays (v ∷ l) l ≡ list_left stays v next t
+left_by_first true next v t l stay go = ap (λ m. v ∷ m) (sym (stay refl))
+left_by_first false next v t l stay go = sym (go refl)
+
+-- where the first value goes and no other comes, it was alone
+pub alone_left : {V : Type 0} (stays : Bool) (next : Option V) (v : V) (t l : List V) (left : ℕ) → left ≡ length (list_left stays v next t) → (left ≡ 0 → t ≡ [])
+    → l ≡ v ∷ t → stays ≡ false → IfNone next (length l ≡ 1)
+alone_left true next v t l left e none is goes = absurd (subst T goes tt)
+alone_left false (Some x) v t l left e none is goes = tt
+alone_left false None v t l left e none is goes = ap (λ m. length m) (is ∙ ap (λ m. v ∷ m) (none e))
 
 -- a tail by its first value
 pub first_removed_of : {V : Type 0} (t : List V) (x : V) → slice_get t 0 ≡ Some x → x ∷ remove t 0 ≡ t
@@ -100,19 +109,15 @@ module _ {K V : Type 0} {cmp : K → K → Ordering} (o : IsTotalOrder cmp) (exa
   pub list_later : (v : V) → value_of cmp heads k ≡ Some v → list_at cmp (content_of cmp heads later) k ≡ v ∷ later k
   list_later v some = list_at-content_of o exact heads later k ∙ ap (λ w. list_of w (later k)) some
 
-  -- and then the first value goes
-  rest_alone : (v : V) → value_of cmp heads k ≡ Some v → Others → (c : Content K V) → c ≡ with_list cmp (content_of cmp heads later) k (remove (list_at cmp (content_of cmp heads later) k) 0)
-      → c ≡ with_list cmp (content_of cmp heads tail) k (later k)
-  rest_alone v some others c e =
-      e ∙ ap (λ l. with_list cmp (content_of cmp heads later) k (remove l 0)) (list_later v some)
-      ∙ ap (λ d. with_list cmp d k (later k)) (rest_edited v some others).content
-      ∙ with_list-twice o exact (content_of cmp heads tail) k (v ∷ later k) (later k) (IsLawful-content_of o heads tail)
-
-  pub rest_or_all : (v : V) → value_of cmp heads k ≡ Some v → Others → (stays : Bool) (c : Content K V)
-      → c ≡ cond stays (content_of cmp heads later) (with_list cmp (content_of cmp heads later) k (remove (list_at cmp (content_of cmp heads later) k) 0))
-      → c ≡ with_list cmp (content_of cmp heads tail) k (cond stays (v ∷ later k) (later k))
-  rest_or_all v some others true c e = e ∙ (rest_edited v some others).content
-  rest_or_all v some others false c e = rest_alone v some others c e
+  -- and then the first value stays, or the next one takes its place
+  pub list_left_of : (v : V) → value_of cmp heads k ≡ Some v → Others → (stays : Bool) (next : Option V) (c : Content K V)
+      → c ≡ cond stays (content_of cmp heads later) (with_list cmp (content_of cmp heads later) k (list_of next (remove (list_at cmp (content_of cmp heads later) k) 0)))
+      → c ≡ with_list cmp (content_of cmp heads tail) k (list_left stays v next (later k))
+  list_left_of v some others true next c e = e ∙ (rest_edited v some others).content
+  list_left_of v some others false next c e =
+      e ∙ ap (λ l. with_list cmp (content_of cmp heads later) k (list_of next (remove l 0))) (list_later v some)
+      ∙ ap (λ d. with_list cmp d k (list_of next (later k))) (rest_edited v some others).content
+      ∙ with_list-twice o exact (content_of cmp heads tail) k (v ∷ later k) (list_of next (later k)) (IsLawful-content_of o heads tail)
 
   edited_behind : (f edit : List V → List V) → ((v : V) → edit (v ∷ tail k) ≡ v ∷ f (tail k)) → 0 < length list → later k ≡ f (tail k) → Others
       → StandsFor o exact heads later (with_list cmp (content_of cmp heads tail) k (edit list))
@@ -148,7 +153,21 @@ module _ {K V : Type 0} {cmp : K → K → Ordering} (o : IsTotalOrder cmp) (exa
         (ap (λ l. x ∷ l) (same k) ∙ sym (ap (λ n. slice_set list n x) p ∙ ap (λ l. slice_set l 0 x) (list-first_and_tail d some)))
         (StandsFor-replaced o exact heads news tail later k linked x d some sets more (λ q _. same q))
 
-    -- the first value goes, and the next one takes its place
+    -- the first value goes, and this one takes its place, or there is none
+    pub next_first : (d x : V) → value_of cmp heads k ≡ Some d → Sets cmp heads news k (Some x) → length news ≡ length heads → ((q : K) → later q ≡ tail q)
+        → StandsFor o exact news later (with_list cmp (content_of cmp heads tail) k (x ∷ remove list 0))
+    next_first d x some sets more same =
+        subst (λ (m : List V). StandsFor o exact news later (with_list cmp (content_of cmp heads tail) k m))
+        (ap (λ l. x ∷ l) (same k) ∙ sym (ap (λ l. x ∷ remove l 0) (list-first_and_tail d some)))
+        (StandsFor-replaced o exact heads news tail later k linked x d some sets more (λ q _. same q))
+
+    pub no_first : (d : V) → value_of cmp heads k ≡ Some d → length list ≡ 1 → Sets cmp heads news k None → length news + cond (is_some (value_of cmp heads k)) 1 0 ≡ length heads
+        → ((q : K) → later q ≡ tail q) → StandsFor o exact news later (with_list cmp (content_of cmp heads tail) k [])
+    no_first d some one sets less same =
+        let long = ap (λ l. length l) (list-first_and_tail d some) in
+        StandsFor-taken_out o exact heads news tail later k linked sets less (same k ∙ nil_from_length (tail k) (omega (arith, long, one))) (λ q _. same q)
+
+    -- the first value goes, and the next one of the tail takes its place
     pub first_removed : (place : ℕ) (d next : V) → place ≡ 0 → value_of cmp heads k ≡ Some d → Sets cmp heads news k (Some next) → length news ≡ length heads
         → slice_get (tail k) 0 ≡ Some next → later k ≡ remove (tail k) 0 → Others
         → StandsFor o exact news later (with_list cmp (content_of cmp heads tail) k (remove list place))

@@ -2,10 +2,11 @@
 --     behind_last                                       an insertion at the end
 --     length-in_order, in_order-twice                   as long, and turned twice the same
 --     slice_set-in_order, ..                            changes at a place
+--     popped_first, removed_first                       the first value, taken out of a reversed vector and of another
 --     end_within                                        a place, or the end where there is none
-use Rattle.std.proofs.Common.{◌≡◌, ℕ, zero, suc, ◌-◌, ◌<◌, ◌≤◌, Bool, true, false, List, [], ◌∷◌, ◌++◌, Option, Some, None, IfSome, unwrap_or, length, reverse, insert, remove, slice_set, refl, sym, ap, ◌∙◌, arith, append_assoc, length-append}
+use Rattle.std.proofs.Common.{◌≡◌, ℕ, zero, suc, ◌-◌, ◌<◌, ◌≤◌, Bool, true, false, List, [], ◌∷◌, ◌++◌, Option, Some, None, IfSome, is_some, option_to_list, unwrap_or, length, slice_index_or, reverse, insert, remove, slice_set, T, refl, sym, ap, subst, ◌∙◌, arith, append_assoc, length-append}
 use Rattle.std.proofs.lemmas.List.{length-reverse, reverse-append, reverse-reverse}
-use Rattle.key_index_flat.specs.Storage.{index_in}
+use Rattle.key_index_flat.specs.Storage.{index_in, list_of}
 use Rattle.key_index_flat.specs.Values.{in_order}
 
 module _ {V : Type 0} where
@@ -104,3 +105,13 @@ module _ {V : Type 0} where
 pub end_within : (place : Option ℕ) (n : ℕ) → IfSome place (λ at. at ≤ n) → unwrap_or place n ≤ n
 end_within None n h = omega arith
 end_within (Some at) n h = h
+
+module _ {V : Type 0} where
+  pub popped_first : (vs ws : List V) (r : Option V) → vs ≡ ws ++ option_to_list r → (0 < length vs → is_some r ≡ true) → list_of r (reverse ws) ≡ reverse vs
+  popped_first vs ws (Some x) left some = sym (ap (λ l. reverse l) left ∙ reverse-append ws (x ∷ []))
+  popped_first [] ws None left some = refl
+  popped_first (y ∷ vs) ws None left some = absurd (subst T (sym (some (omega arith))) tt)
+
+  pub removed_first : (vs : List V) (x : V) → 0 < length vs → x ≡ slice_index_or vs 0 x → x ∷ remove vs 0 ≡ vs
+  removed_first [] x some is = absurd (omega (arith, some))
+  removed_first (y ∷ vs) x some is = ap (λ z. z ∷ vs) is

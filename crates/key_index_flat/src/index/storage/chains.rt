@@ -8,7 +8,7 @@ ghost use Rattle.std.specs.Option.{option_map};
 ghost use Rattle.key_index_flat.specs.Content.{Content, key_count, list_at, with_list, with_list_by, IsLawful};
 ghost use Rattle.key_index_flat.specs.Neighbours.{entries_above, entries_below, first_list, last_list, next_list, prev_list};
 ghost use Rattle.key_index_flat.specs.Retention.{AsksBehind};
-ghost use Rattle.key_index_flat.specs.Storage.{content_of, tail_at, IsLinked};
+ghost use Rattle.key_index_flat.specs.Storage.{content_of, list_of, tail_at, IsLinked};
 ghost use Rattle.key_index_flat.specs.Values.{values_of, VisitsEach};
 ghost use Rattle.key_index_flat.specs.View.{put_value};
 
@@ -218,20 +218,22 @@ impl<T: Translator, V: Drop, M: Heads<T::Key, V>, E: End> Chains<T, V, M, E> {
         (self.heads.replace(&slot, next), left + 1)
     }
 
-    /// Removes the first value of an index key that has one, unless it stays. Returns how many values are left beside so many others.
+    /// Unless the first value of an index key stays, puts the next one in its place, or removes the index key where there is none.
     #[inline]
-    fn drop_head(&mut self, slot: T::Key, stays: bool, others: usize) -> usize
+    fn set_first(&mut self, slot: T::Key, stays: bool, next: Option<V>)
         requires held { 0 < length (list_at T.Key.cmp self.old slot) }
-        requires fits { others < usize.MAX }
-        ensures content { self.new
-            ≡ (if stays then self.old else with_list_by T.Key.cmp self.old slot (λ l. remove l 0)) }
-        ensures left { result ≡ others + (if stays then 1 else 0) }
+        requires alone { stays ≡ false → IfNone next (length (list_at T.Key.cmp self.old slot) ≡ 1) }
+        ensures { self.new
+            ≡ (if stays then self.old else with_list_by T.Key.cmp self.old slot (λ l. list_of next (remove l 0))) }
     {
         if stays {
-            return others + 1;
+            return;
         }
-        self.remove_at(slot, 0);
-        others
+        if let Some(next) = next {
+            self.heads.replace(&slot, next);
+            return;
+        }
+        self.heads.remove(&slot);
     }
 
     /// Calls the closure once for each value of the index key, in list order, and removes those for which it returns false. Returns how
@@ -248,8 +250,8 @@ impl<T: Translator, V: Drop, M: Heads<T::Key, V>, E: End> Chains<T, V, M, E> {
             return (0, 0);
         };
         let tail = self.tails.retain(slot, head, should_retain);
-        let left = self.drop_head(slot, tail.head_stays, tail.left);
-        (tail.had + 1, left)
+        self.set_first(slot, tail.head_stays, tail.next);
+        (tail.had + 1, tail.left)
     }
 
     /// Inserts a value behind those of the index key, which allocates all the memory that the call may need. Then calls the closure once
@@ -280,11 +282,11 @@ impl<T: Translator, V: Drop, M: Heads<T::Key, V>, E: End> Chains<T, V, M, E> {
         let tail = self
             .tails
             .insert_and_retain(self.alloc, slot, head, value, should_retain)?;
-        let left = self.drop_head(slot, tail.head_stays, tail.left);
+        self.set_first(slot, tail.head_stays, tail.next);
         Ok(Retained {
             had: tail.had,
-            left,
-            taken: gone_of(tail.had + 1 - left, tail.stays),
+            left: tail.left,
+            taken: gone_of(tail.had + 1 - tail.left, tail.stays),
         })
     }
 

@@ -1,10 +1,10 @@
 //! The tails of lists: of each list that has more than one value, all of them but the first.
-ghost use Rattle.std.specs.Prelude.{◌≡◌, ◌+◌, ◌∷◌, ◌++◌, IfOk, Bool, true, false, ◌-◌, ◌<◌, ◌≤◌, List, length, slice_get, slice_set, insert, remove, unwrap_or, [], IfErr, IfSome, None, OnErr, OnOk};
+ghost use Rattle.std.specs.Prelude.{◌≡◌, ◌+◌, ◌∷◌, ◌++◌, IfOk, Bool, true, false, ◌-◌, ◌<◌, ◌≤◌, List, length, slice_get, slice_set, insert, remove, unwrap_or, [], IfErr, IfNone, IfSome, None, OnErr, OnOk};
 ghost use Rattle.std.specs.Fn.{CalledAt};
 ghost use Rattle.std.specs.HashMap.{get};
 ghost use Rattle.std.specs.Option.{option_map};
-ghost use Rattle.key_index_flat.specs.Retention.{RetainsFrom};
-ghost use Rattle.key_index_flat.specs.Storage.{at_key, index_in, tail_at, SameBut};
+ghost use Rattle.key_index_flat.specs.Retention.{AsksInTurn};
+ghost use Rattle.key_index_flat.specs.Storage.{at_key, index_in, list_left, list_of, tail_at, SameBut};
 ghost use Rattle.key_index_flat.specs.Values.{in_order};
 
 use crate::index::Values;
@@ -170,38 +170,66 @@ fn insert_in<K: Ord + Hash + Copy, V: Drop, E: End>(
     }
 }
 
-/// What a retention found and left of a list: whether the first value stays, how many values the tail had, how many it has left, and
-/// the last answer.
+/// What a retention found and left of a list: whether the first value stays, the one that has come out of the tail in its place where it
+/// doesn't, how many values the tail had, how many the list has left, and the last answer.
 #[derive(Drop)]
-pub(super) struct TailRetained {
+pub(super) struct TailRetained<V> {
     pub(super) head_stays: bool,
+    pub(super) next: Option<V>,
     pub(super) had: usize,
     pub(super) left: usize,
     pub(super) stays: bool,
 }
 
+/// Removes the first value of a list, if it has one.
+fn remove_first<V, E: End>(values: &mut Vec<V>) -> Option<V>
+    ensures values { list_of result (in_order E.FIRST values.new.items) ≡ in_order E.FIRST values.old.items }
+    ensures none { IfNone result (values.new.items ≡ []) }
+{
+    if E::is_first() {
+        return values.pop();
+    }
+    if values.is_empty() {
+        return None;
+    }
+    Some(values.remove(0))
+}
+
 /// Calls the closure once for a list's first value and then for each of its tail, in list order, and removes those of the tail for
-/// which it returns false.
+/// which it returns false. Where the first value goes, the next one comes out of the tail.
 fn retain_behind<V: Drop, F: FnMut(&V) -> bool, E: End>(
     head: &V,
     values: &mut Vec<V>,
     mut should_retain: F,
-) -> TailRetained
+) -> TailRetained<V>
     requires { F.IsAlwaysCallable should_retain }
-    ensures asked { RetainsFrom (CalledAt F.FnMut) should_retain head.now
-        (in_order E.FIRST values.old.items) (in_order E.FIRST values.new.items) result.head_stays result.stays }
+    ensures asked { AsksInTurn (CalledAt F.FnMut) should_retain true (head.now ∷ in_order E.FIRST values.old.items)
+        (list_left result.head_stays head.now result.next (in_order E.FIRST values.new.items)) result.stays }
     ensures had { result.had ≡ length values.old.items }
-    ensures left { result.left ≡ length values.new.items }
+    ensures left { result.left
+        ≡ length (list_left result.head_stays head.now result.next (in_order E.FIRST values.new.items)) }
+    ensures none { result.left ≡ 0 → values.new.items ≡ [] }
 {
     let head_stays = should_retain(head);
     let had = values.len();
     turn::<V, E>(values);
     let stays = retain_in_turn(values, should_retain, head_stays);
     turn::<V, E>(values);
+    let left = values.len();
+    if head_stays {
+        return TailRetained {
+            head_stays,
+            next: None,
+            had,
+            left: left + 1,
+            stays,
+        };
+    }
     TailRetained {
         head_stays,
+        next: remove_first::<V, E>(values),
         had,
-        left: values.len(),
+        left,
         stays,
     }
 }
@@ -214,14 +242,16 @@ fn insert_and_retain_in<K: Ord + Hash + Copy, V: Drop, F: FnMut(&V) -> bool, E: 
     head: &V,
     value: V,
     should_retain: F,
-) -> Result<TailRetained, V>
+) -> Result<TailRetained<V>, V>
     requires { F.IsAlwaysCallable should_retain }
-    ensures asked { IfOk result (λ retained. RetainsFrom (CalledAt F.FnMut) should_retain head.now
-        (in_order E.FIRST (at_key K.eq map.old key) ++ value ∷ []) (in_order E.FIRST (at_key K.eq map.new key))
-        retained.head_stays retained.stays) }
-    ensures had { IfOk result (λ retained. retained.had ≡ length (at_key K.eq map.old key) + 1) }
-    ensures left { IfOk result (λ retained. retained.left ≡ length (at_key K.eq map.new key)) }
-    ensures fits { IfOk result (λ retained. (retained.had < usize.MAX) × (retained.left < usize.MAX)) }
+    ensures asked { IfOk result (λ r. AsksInTurn (CalledAt F.FnMut) should_retain true
+        (head.now ∷ (in_order E.FIRST (at_key K.eq map.old key) ++ value ∷ []))
+        (list_left r.head_stays head.now r.next (in_order E.FIRST (at_key K.eq map.new key))) r.stays) }
+    ensures had { IfOk result (λ r. r.had ≡ length (at_key K.eq map.old key) + 1) }
+    ensures left { IfOk result (λ r. r.left
+        ≡ length (list_left r.head_stays head.now r.next (in_order E.FIRST (at_key K.eq map.new key)))) }
+    ensures none { IfOk result (λ r. r.left ≡ 0 → at_key K.eq map.new key ≡ []) }
+    ensures fits { IfOk result (λ r. r.had < usize.MAX) }
     ensures others { SameBut K.cmp (at_key K.eq map.old) (at_key K.eq map.new) key }
     ensures refused { OnErr result (at_key K.eq map.new key ≡ at_key K.eq map.old key) }
     ensures returned { IfErr result (λ back. back ≡ value) }
@@ -234,7 +264,8 @@ fn insert_and_retain_in<K: Ord + Hash + Copy, V: Drop, F: FnMut(&V) -> bool, E: 
             match values.insert(index_of::<E>(len, len), value) {
                 Ok(()) => {
                     let retained = retain_behind::<V, F, E>(head, values, should_retain);
-                    remove_empty(map, key, retained.left);
+                    let left = values.len();
+                    remove_empty(map, key, left);
                     Ok(retained)
                 }
                 Err(failed) => Err(failed.value),
@@ -244,12 +275,12 @@ fn insert_and_retain_in<K: Ord + Hash + Copy, V: Drop, F: FnMut(&V) -> bool, E: 
             let mut values = Vec::new(alloc);
             match values.push(value) {
                 Ok(()) => {
-                    let retained = retain_behind::<V, F, E>(
-                        head,
-                        entry.insert(values),
-                        should_retain,
-                    );
-                    remove_empty(map, key, retained.left);
+                    let retained = retain_behind::<V, F, E>(head, &mut values, should_retain);
+                    if values.is_empty() {
+                        entry.into_key();
+                        return Ok(retained);
+                    }
+                    entry.insert(values);
                     Ok(retained)
                 }
                 Err(failed) => {
@@ -263,17 +294,19 @@ fn insert_and_retain_in<K: Ord + Hash + Copy, V: Drop, F: FnMut(&V) -> bool, E: 
 
 /// `retain_behind`, where there is no tail.
 #[inline]
-fn retain_alone<V, F: FnMut(&V) -> bool>(head: &V, mut should_retain: F) -> TailRetained
+fn retain_alone<V, F: FnMut(&V) -> bool>(head: &V, mut should_retain: F) -> TailRetained<V>
     requires { F.IsAlwaysCallable should_retain }
-    ensures asked { RetainsFrom (CalledAt F.FnMut) should_retain head.now [] [] result.head_stays result.stays }
+    ensures asked { AsksInTurn (CalledAt F.FnMut) should_retain true (head.now ∷ [])
+        (list_left result.head_stays head.now result.next []) result.stays }
     ensures had { result.had ≡ 0 }
-    ensures left { result.left ≡ 0 }
+    ensures left { result.left ≡ length (list_left result.head_stays head.now result.next []) }
 {
     let stays = should_retain(head);
     TailRetained {
         head_stays: stays,
+        next: None,
         had: 0,
-        left: 0,
+        left: usize::from(stays),
         stays,
     }
 }
@@ -336,7 +369,8 @@ impl<K: Ord + Hash + Copy, V, E: End> Tails<K, V, E> {
     where
         V: Drop,
         requires { place < length (tail_at E.FIRST K.eq self.old.map key) }
-        ensures at { tail_at E.FIRST K.eq self.new.map key ≡ slice_set (tail_at E.FIRST K.eq self.old.map key) place value }
+        ensures at { tail_at E.FIRST K.eq self.new.map key
+            ≡ slice_set (tail_at E.FIRST K.eq self.old.map key) place value }
         ensures others { SameBut K.cmp (tail_at E.FIRST K.eq self.old.map) (tail_at E.FIRST K.eq self.new.map) key }
     {
         let Some(map) = &mut self.map else {
@@ -403,7 +437,8 @@ impl<K: Ord + Hash + Copy, V, E: End> Tails<K, V, E> {
     pub(super) fn remove_at(&mut self, key: K, place: usize) -> Option<(V, usize)>
     where
         V: Drop,
-        ensures value { option_map (λ removed. removed.0) result ≡ slice_get (tail_at E.FIRST K.eq self.old.map key) place }
+        ensures value { option_map (λ removed. removed.0) result
+            ≡ slice_get (tail_at E.FIRST K.eq self.old.map key) place }
         ensures at { tail_at E.FIRST K.eq self.new.map key ≡ remove (tail_at E.FIRST K.eq self.old.map key) place }
         ensures left { IfSome result (λ removed. removed.1 ≡ length (tail_at E.FIRST K.eq self.new.map key)) }
         ensures fits { IfSome result (λ removed. removed.1 < usize.MAX) }
@@ -450,15 +485,18 @@ impl<K: Ord + Hash + Copy, V, E: End> Tails<K, V, E> {
         key: K,
         head: &V,
         should_retain: F,
-    ) -> TailRetained
+    ) -> TailRetained<V>
     where
         V: Drop,
         requires { F.IsAlwaysCallable should_retain }
-        ensures asked { RetainsFrom (CalledAt F.FnMut) should_retain head.now
-            (tail_at E.FIRST K.eq self.old.map key) (tail_at E.FIRST K.eq self.new.map key) result.head_stays result.stays }
+        ensures asked { AsksInTurn (CalledAt F.FnMut) should_retain true
+            (head.now ∷ tail_at E.FIRST K.eq self.old.map key)
+            (list_left result.head_stays head.now result.next (tail_at E.FIRST K.eq self.new.map key)) result.stays }
         ensures had { result.had ≡ length (tail_at E.FIRST K.eq self.old.map key) }
-        ensures left { result.left ≡ length (tail_at E.FIRST K.eq self.new.map key) }
-        ensures fits { (result.had < usize.MAX) × (result.left < usize.MAX) }
+        ensures left { result.left ≡ length
+            (list_left result.head_stays head.now result.next (tail_at E.FIRST K.eq self.new.map key)) }
+        ensures none { result.left ≡ 0 → tail_at E.FIRST K.eq self.new.map key ≡ [] }
+        ensures fits { result.had < usize.MAX }
         ensures others { SameBut K.cmp (tail_at E.FIRST K.eq self.old.map) (tail_at E.FIRST K.eq self.new.map) key }
     {
         let Some(map) = &mut self.map else {
@@ -471,7 +509,8 @@ impl<K: Ord + Hash + Copy, V, E: End> Tails<K, V, E> {
             return retain_alone(head, should_retain);
         };
         let retained = retain_behind::<V, F, E>(head, values, should_retain);
-        remove_empty(map, key, retained.left);
+        let left = values.len();
+        remove_empty(map, key, left);
         retained
     }
 
@@ -484,15 +523,18 @@ impl<K: Ord + Hash + Copy, V, E: End> Tails<K, V, E> {
         head: &V,
         value: V,
         should_retain: F,
-    ) -> Result<TailRetained, V>
+    ) -> Result<TailRetained<V>, V>
     where
         V: Drop,
         requires { F.IsAlwaysCallable should_retain }
-        ensures asked { IfOk result (λ retained. RetainsFrom (CalledAt F.FnMut) should_retain head.now
-            (tail_at E.FIRST K.eq self.old.map key ++ value ∷ []) (tail_at E.FIRST K.eq self.new.map key) retained.head_stays retained.stays) }
-        ensures had { IfOk result (λ retained. retained.had ≡ length (tail_at E.FIRST K.eq self.old.map key) + 1) }
-        ensures left { IfOk result (λ retained. retained.left ≡ length (tail_at E.FIRST K.eq self.new.map key)) }
-        ensures fits { IfOk result (λ retained. (retained.had < usize.MAX) × (retained.left < usize.MAX)) }
+        ensures asked { IfOk result (λ r. AsksInTurn (CalledAt F.FnMut) should_retain true
+            (head.now ∷ (tail_at E.FIRST K.eq self.old.map key ++ value ∷ []))
+            (list_left r.head_stays head.now r.next (tail_at E.FIRST K.eq self.new.map key)) r.stays) }
+        ensures had { IfOk result (λ r. r.had ≡ length (tail_at E.FIRST K.eq self.old.map key) + 1) }
+        ensures left { IfOk result (λ r. r.left ≡ length
+            (list_left r.head_stays head.now r.next (tail_at E.FIRST K.eq self.new.map key))) }
+        ensures none { IfOk result (λ r. r.left ≡ 0 → tail_at E.FIRST K.eq self.new.map key ≡ []) }
+        ensures fits { IfOk result (λ r. r.had < usize.MAX) }
         ensures others { SameBut K.cmp (tail_at E.FIRST K.eq self.old.map) (tail_at E.FIRST K.eq self.new.map) key }
         ensures refused { OnErr result (tail_at E.FIRST K.eq self.new.map key ≡ tail_at E.FIRST K.eq self.old.map key) }
         ensures returned { IfErr result (λ back. back ≡ value) }
