@@ -3,7 +3,7 @@
 --     AsksInTurn    the closure is asked on each of xs, ys are those that it said true of, and `stays` is its last answer
 --     AsksBehind    it is asked on each of the held values and on v last, and left are those that it said true of; so many of the
 --                   held ones are gone
-use Rattle.std.specs.Prelude.{◌≡◌, ℕ, ◌+◌, Bool, true, if◌then◌else◌, List, [], ◌∷◌, ◌++◌, length}
+use Rattle.std.specs.Prelude.{◌≡◌, ℕ, ◌+◌, Bool, List, [], ◌∷◌, ◌++◌, length}
 use Rattle.std.specs.List.{items_where_true}
 use Rattle.std.specs.List.Retain.{ReturnsInTurn}
 

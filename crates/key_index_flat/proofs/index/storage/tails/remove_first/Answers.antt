@@ -1,4 +1,4 @@
-use Rattle.std.proofs.Common.{rules, ◌≡◌, ◌<◌, ◌∷◌, is_some, true, false, length, subst, sym, ap, ◌∙◌}
+use Rattle.std.proofs.Common.{rules, ◌≡◌, ◌<◌, ◌∷◌, is_some, true, length, subst, sym, ap, ◌∙◌}
 use Rattle.key_index_flat.specs.Storage.{list_of}
 use Rattle.key_index_flat.specs.Values.{in_order}
 use Rattle.key_index_flat.proofs.content.InOrderLemmas.{popped_first, removed_first}

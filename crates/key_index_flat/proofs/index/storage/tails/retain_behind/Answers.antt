@@ -1,4 +1,4 @@
-use Rattle.std.proofs.Common.{◌≡◌, ◌∷◌, List, T, false, true, cond, None, refl, ap, sym, subst, ◌∙◌}
+use Rattle.std.proofs.Common.{◌≡◌, ◌∷◌, T, true, cond, None, refl, ap, sym, subst, ◌∙◌}
 use Rattle.std.specs.Fn.{CalledAt}
 use Rattle.key_index_flat.specs.Retention.{AsksInTurn}
 use Rattle.key_index_flat.specs.Values.{in_order}
