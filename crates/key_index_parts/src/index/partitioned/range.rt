@@ -59,7 +59,8 @@ impl<T: Translator, V: Drop, X: EditBucket<T, V> + Drop, const P: usize> Runs
     ghost edited = { λ x y. IsSpanKept (λ range. range.offset) (λ range. length range.storage.buckets) x y
         × LeavesSome x.storage.standings y.storage.standings };
 
-    ghost lawful = { λ range. IsLawful-gathered_from T.Key.cmp range.offset range.storage.buckets range.is_range.lawful };
+    ghost lawful = { λ range.
+        IsLawful-gathered_from T.Key.cmp range.offset range.storage.buckets range.is_range.lawful };
 
     ghost exact = { exact_pairs nat_cmp T.Key.cmp exact_unsigned T.exact };
 
