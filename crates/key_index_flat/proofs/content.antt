@@ -8,3 +8,4 @@ pub mod MoveLemmas
 pub mod PairLemmas
 pub mod TagLemmas
 pub mod ValueLemmas
+pub mod VectorLemmas

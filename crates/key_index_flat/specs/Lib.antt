@@ -4,6 +4,7 @@ pub mod Content
 pub mod Fault
 pub mod Storage
 pub mod SmallMap
+pub mod SmallMapLent
 pub mod Cursor
 pub mod View
 pub mod IndexCursor

@@ -1,8 +1,10 @@
 -- What a flat index keeps: the first value of each list in one map, and in another the tails of the lists that have more.
 --     list_of, content_of   the list that a first value and a tail make; the content that all of them stand for
 --     list_left             what a retention leaves of a list: its first value if that stays, else the next one, if there is one, and the tail
+--     RetainsTail           a closure is asked on a list's first value and then on its tail, of which `new` stays: what that found and left
 --     index_in              where the value at a place stands in a vector, reversed or not, by the index of the last
---     at_key, tail_at       the vector that a map has at a key; the tail there, if there is a map
+--     vector_at, at_key     the vector that entries, or a map of few or of many, have at a key
+--     tail_at               the tail there, if there is a map
 --     value_of              the value that entries have at a key
 --     SameBut, Sets         at each key but k new has what old has; so it is, and it has w at k (None: nothing)
 --     IsLinked              each key with a tail has a first value, and there are as many first values as keys in the content
@@ -15,9 +17,12 @@ use Rattle.std.specs.Option.{option_map}
 use Rattle.std.specs.declared.cmp.Ordering.{Ordering}
 use Rattle.std.specs.Ordering.{eq_by_cmp}
 use Rattle.std.specs.Map.{lookup}
-use Rattle.std.specs.HashMap.{HashMap, get}
 use Rattle.std.specs.declared.vec.Vec.{Vec}
 use Rattle.key_index_flat.specs.Content.{Content, IsLawful, with_list, key_count, item_count}
+use Rattle.key_index_flat.specs.Retention.{AsksInTurn}
+use Rattle.key_index_flat.specs.SmallMap.{entries_in}
+use Rattle.key_index_flat.specs.declared.index.storage.small_map.SmallMap.{SmallMap}
+use Rattle.key_index_flat.specs.declared.index.storage.tails.TailRetained.{TailRetained}
 use Rattle.key_index_flat.specs.Values.{in_order}
 use Rattle.key_index_flat.specs.View.{View}
 
@@ -28,6 +33,12 @@ list_of (Some head) tail = head ∷ tail
 abbrev pub list_left : {V : Type 0} → Bool → V → Option V → List V → List V
 list_left head_stays head next tail = list_of (if head_stays then Some head else next) tail
 
+pub record RetainsTail {F V : Type 0} (ask : F → V → Bool → F → Type 0) (f : F) (head : V) (old new : List V) (r : TailRetained V) : Type 0 where
+  pub asked : AsksInTurn ask f true (head ∷ old) (list_left r.head_stays head r.next new) r.stays
+  pub had : r.had ≡ length old
+  pub left : r.left ≡ length (list_left r.head_stays head r.next new)
+  pub none : r.left ≡ 0 → new ≡ []
+
 abbrev pub content_of : {K V : Type 0} → (K → K → Ordering) → List (K × V) → (K → List V) → Content K V
 content_of cmp [] tail = []
 content_of cmp (e ∷ es) tail = with_list cmp (content_of cmp es tail) e.0 (e.1 ∷ tail e.0)
@@ -35,10 +46,13 @@ content_of cmp (e ∷ es) tail = with_list cmp (content_of cmp es tail) e.0 (e.1
 abbrev pub index_in : Bool → ℕ → ℕ → ℕ
 index_in reversed last place = if reversed then last - place else place
 
-abbrev pub at_key : {K V A S : Type 0} → (K → K → Bool) → HashMap K (Vec V A) S → K → List V
-at_key eq m k = unwrap_or (option_map (λ v. v.items) (get eq m k)) []
+abbrev pub vector_at : {K V A : Type 0} → (K → K → Bool) → List (K × Vec V A) → K → List V
+vector_at eq entries k = unwrap_or (option_map (λ v. v.items) (lookup (eq k) entries)) []
 
-abbrev pub tail_at : {K V A S B : Type 0} → Bool → (K → K → Bool) → Option (Box (HashMap K (Vec V A) S) B) → K → List V
+abbrev pub at_key : {K V A : Type 0} → (K → K → Bool) → SmallMap K (Vec V A) → K → List V
+at_key eq map k = vector_at eq (entries_in map.few map.many) k
+
+abbrev pub tail_at : {K V A B : Type 0} → Bool → (K → K → Bool) → Option (Box (SmallMap K (Vec V A)) B) → K → List V
 tail_at reversed eq None k = []
 tail_at reversed eq (Some m) k = in_order reversed (at_key eq m.value k)
 

@@ -5,7 +5,7 @@
 --     asks_put      the answers on the values that were held and the new one
 --     asks_alone    and on the new one, where none were held
 -- The same of a list by its first value and its tail.
---     few_behind                         no more are left than there were
+--     held_behind, few_behind            how many were held, and no more are left than there were
 --     one_went_behind, asks_put_behind   as one_went and asks_put
 use Rattle.std.proofs.Common.{◌≡◌, ℕ, ◌+◌, ◌-◌, ◌≤◌, Bool, true, false, cond, List, [], ◌∷◌, ◌++◌, length, insert, refl, sym, ap, subst, ◌∙◌, arith, length-append}
 use Rattle.std.specs.declared.cmp.Ordering.{Ordering}
@@ -15,6 +15,8 @@ use Rattle.std.specs.List.{items_where_true}
 use Rattle.std.specs.List.Retain.{IsFiltered, ReturnsInTurn}
 use Rattle.key_index_flat.specs.Content.{Content, IsLawful, list_at, with_list}
 use Rattle.key_index_flat.specs.Retention.{AsksBehind, AsksInTurn}
+use Rattle.key_index_flat.specs.Storage.{list_left, RetainsTail}
+use Rattle.key_index_flat.specs.declared.index.storage.tails.TailRetained.{TailRetained}
 use Rattle.key_index_flat.proofs.asked.TurnLemmas.{asked_few, asked_same, asks_behind, kept_few, some_taken}
 use Rattle.key_index_flat.proofs.content.ContentLemmas.{with_list-twice}
 use Rattle.key_index_flat.proofs.runs.CursorLemmas.{list_at_edit}
@@ -56,25 +58,31 @@ module _ {K V : Type 0} {cmp : K → K → Ordering} (o : IsTotalOrder cmp) (c m
     taken = let few = kept_few asked.0 (list_at cmp c k) in omega (arith, few, none);
   }
 
-module _ {F V : Type 0} (R : F → V → Bool → F → Type 0) (f : F) (held : List V) (head : V) (t kept : List V) (v : V) (stays : Bool) (is : held ≡ head ∷ t)
-    (asked : AsksInTurn R f true (head ∷ (t ++ v ∷ [])) kept stays) (had left : ℕ) (sized : had ≡ length t + 1) (rest : left ≡ length kept) where
-  asked_behind : AsksInTurn R f true (held ++ v ∷ []) kept stays
-  asked_behind = asked_same R f true _ _ _ _ stays asked (ap (λ l. l ++ v ∷ []) (sym is)) refl
+module _ {F V : Type 0} (R : F → V → Bool → F → Type 0) (f : F) (held : List V) (head : V) (t later : List V) (v : V) (r : TailRetained V) (is : held ≡ head ∷ t)
+    (told : RetainsTail R f head (t ++ v ∷ []) later r) where
+  abbrev kept_behind : List V
+  kept_behind = list_left r.head_stays head r.next later
 
-  held_behind : length held ≡ had
-  held_behind = let long = ap (λ l. length l) is in omega (arith, long, sized)
+  asked_behind : AsksInTurn R f true (held ++ v ∷ []) kept_behind r.stays
+  asked_behind = asked_same R f true _ _ _ _ r.stays told.asked (ap (λ l. l ++ v ∷ []) (sym is)) refl
 
-  pub few_behind : left ≤ had + 1
+  pub held_behind : r.had ≡ length held
+  held_behind =
+      let long = ap (λ l. length l) is in
+      let more = length-append t (v ∷ []) in
+      omega (arith, long, more, told.had)
+
+  pub few_behind : r.left ≤ r.had + 1
   few_behind =
       let few = asked_few R f true _ _ _ asked_behind in
       let more = length-append held (v ∷ []) in
-      omega (arith, few, more, held_behind, rest)
+      omega (arith, few, more, held_behind, told.left)
 
-  counts_behind : length held + 1 ≡ had + 1 - left + length kept
-  counts_behind = omega (arith, held_behind, rest, few_behind)
+  counts_behind : length held + 1 ≡ r.had + 1 - r.left + length kept_behind
+  counts_behind = omega (arith, held_behind, told.left, few_behind)
 
-  pub one_went_behind : stays ≡ false → 1 ≤ had + 1 - left
-  one_went_behind = some_taken R f held v kept stays (had + 1 - left) asked_behind counts_behind
+  pub one_went_behind : r.stays ≡ false → 1 ≤ r.had + 1 - r.left
+  one_went_behind = some_taken R f held v kept_behind r.stays (r.had + 1 - r.left) asked_behind counts_behind
 
-  pub asks_put_behind : (gone : ℕ) → had + 1 - left ≡ gone + cond stays 0 1 → AsksBehind R f held v kept gone
-  asks_put_behind = asks_behind R f held v kept stays (had + 1 - left) asked_behind counts_behind
+  pub asks_put_behind : (gone : ℕ) → r.had + 1 - r.left ≡ gone + cond r.stays 0 1 → AsksBehind R f held v kept_behind gone
+  asks_put_behind = asks_behind R f held v kept_behind r.stays (r.had + 1 - r.left) asked_behind counts_behind

@@ -3,9 +3,10 @@
 --     length-in_order, in_order-twice                   as long, and turned twice the same
 --     slice_set-in_order, ..                            changes at a place
 --     popped_first, removed_first                       the first value, taken out of a reversed vector and of another
+--     none_left                                         where there was no first value, and none is left
 --     end_within                                        a place, or the end where there is none
-use Rattle.std.proofs.Common.{◌≡◌, ℕ, zero, suc, ◌-◌, ◌<◌, ◌≤◌, Bool, true, false, List, [], ◌∷◌, ◌++◌, Option, Some, None, IfSome, is_some, option_to_list, unwrap_or, length, slice_index_or, reverse, insert, remove, slice_set, T, refl, sym, ap, subst, ◌∙◌, arith, append_assoc, length-append}
-use Rattle.std.proofs.lemmas.List.{length-reverse, reverse-append, reverse-reverse}
+use Rattle.std.proofs.Common.{◌≡◌, ℕ, zero, suc, ◌-◌, ◌<◌, ◌≤◌, Bool, true, false, List, [], ◌∷◌, ◌++◌, Option, Some, None, IfNone, IfSome, is_some, option_to_list, unwrap_or, length, slice_index_or, reverse, insert, remove, slice_set, T, refl, sym, ap, subst, ◌∙◌, arith, append_assoc, length-append}
+use Rattle.std.proofs.lemmas.List.{length-reverse, nil_from_length, reverse-append, reverse-reverse}
 use Rattle.key_index_flat.specs.Storage.{index_in, list_of}
 use Rattle.key_index_flat.specs.Values.{in_order}
 
@@ -115,3 +116,7 @@ module _ {V : Type 0} where
   pub removed_first : (vs : List V) (x : V) → 0 < length vs → x ≡ slice_index_or vs 0 x → x ∷ remove vs 0 ≡ vs
   removed_first [] x some is = absurd (omega (arith, some))
   removed_first (y ∷ vs) x some is = ap (λ z. z ∷ vs) is
+
+  pub none_left : (first : Bool) (r : Option V) (vs : List V) → IfNone r (vs ≡ []) → length (list_of r (in_order first vs)) ≡ 0 → in_order first vs ≡ []
+  none_left first (Some x) vs none e = absurd (omega (arith, e))
+  none_left first None vs none e = nil_from_length (in_order first vs) (length-in_order first vs ∙ ap (λ l. length l) none)

@@ -7,15 +7,16 @@ use Rattle.std.specs.Ordering.{eq_by_cmp}
 use Rattle.std.specs.Cmp.{IsEquivalence, IsTotalOrder}
 use Rattle.std.specs.List.{IsDistinct, AllByRecursion, Contains, swap_remove}
 use Rattle.std.specs.List.Sorted.{IsPermutation}
-use Rattle.std.specs.Map.{lookup, keys_of}
+use Rattle.std.specs.Map.{lookup, keys_of, set_value}
+use Rattle.std.specs.Option.{IsSome}
 use Rattle.std.proofs.lemmas.List.{map-append}
 use Rattle.std.proofs.lemmas.List.Sorted.{IsPermutation-swap_remove, IsPermutation-map, IsPermutation-sym, Contains-permutation}
-use Rattle.std.proofs.lemmas.Map.{NonePasses, lookup-none, none_passes_from_lookup}
+use Rattle.std.proofs.lemmas.Map.{NonePasses, lookup-none, lookup-set_value, none_passes_from_lookup}
 use Rattle.std.proofs.lemmas.Map.Entries.{lookup_from_place, place_from_lookup}
 use Rattle.std.proofs.lemmas.Map.Keys.{IsDistinct-push, IsDistinct-head, IsDistinct-tail, IsDistinct-IsPermutation}
 use Rattle.std.proofs.lemmas.Map.Made.{is_some-lookup}
 use Rattle.std.proofs.lemmas.Option.{get_or_from_slice_get, slice_get_within, slice_get-get_or, slice_get_read}
-use Rattle.key_index_flat.specs.SmallMap.{IsAt, NoneBefore}
+use Rattle.key_index_flat.specs.SmallMap.{IsAt, NoneBefore, Writes}
 use Rattle.key_index_flat.specs.Storage.{value_of, Sets}
 use Rattle.key_index_flat.proofs.content.KeyLemmas.{value_by_eq, Sets_by_eq}
 
@@ -31,6 +32,11 @@ module _ {K V : Type 0} (test : K → Bool) where
   pub NonePasses-keys : (pairs : List (K × V)) → AllByRecursion (λ y. test y ≡ false) (keys_of pairs) → NonePasses test pairs
   NonePasses-keys [] h = tt
   NonePasses-keys (e ∷ es) h = (h.0, NonePasses-keys es h.1)
+
+  fails_at : (pairs : List (K × V)) (i : ℕ) (e : K × V) → AllByRecursion (λ y. test y ≡ false) (keys_of pairs) → slice_get pairs i ≡ Some e → test e.0 ≡ false
+  fails_at [] i e none at = cc
+  fails_at (d ∷ ds) zero e none at = let same : e ≡ d = cc in ap (λ x. test x.0) same ∙ none.0
+  fails_at (d ∷ ds) (suc i) e none at = fails_at ds i e none.1 at
 
   lookup_push : (pairs : List (K × V)) (e : K × V) → NonePasses test pairs → test e.0 ≡ true → lookup test (pairs ++ e ∷ []) ≡ Some e.1
   lookup_push [] e none is = ap (λ b. cond b (Some e.1) None) is
@@ -67,6 +73,22 @@ module _ {K V : Type 0} {eq : K → K → Bool} (laws : IsEquivalence eq) where
     pub at : lookup (eq k) new ≡ w
     pub others : (q : K) → eq k q ≡ false → lookup (eq q) new ≡ lookup (eq q) old
     pub distinct : IsDistinct eq (keys_of new)
+
+  -- of the pairs, one alone has a key that is equal to k
+  written_at_place : (k : K) (pairs : List (K × V)) → IsDistinct eq (keys_of pairs) → (place : ℕ) (e : K × V) (w : V) → slice_get pairs place ≡ Some e → eq k e.0 ≡ true → slice_set pairs place (e.0, w) ≡ set_value (eq k) pairs w
+  written_at_place k [] differ place e w at is = cc
+  written_at_place k (d ∷ ds) differ zero e w at is =
+      let same : e ≡ d = cc in
+      ap (λ x. (x.0, w) ∷ ds) same ∙ sym (ap (λ b. cond b ((d.0, w) ∷ ds) (d ∷ set_value (eq k) ds w)) (ap (λ x. eq k x.0) (sym same) ∙ is))
+  written_at_place k (d ∷ ds) differ (suc i) e w at is =
+      let other : eq k d.0 ≡ false = laws.congr k e.0 d.0 is ∙ laws.symm e.0 d.0 ∙ fails_at (eq d.0) ds i e (IsDistinct-head eq d.0 (keys_of ds) differ) at in
+      ap (λ l. d ∷ l) (written_at_place k ds (IsDistinct-tail eq d.0 (keys_of ds) differ) i e w at is)
+      ∙ sym (ap (λ b. cond b ((d.0, w) ∷ ds) (d ∷ set_value (eq k) ds w)) other)
+
+  pub Writes-set_value : (k : K) (pairs : List (K × V)) (v w : V) → Some v ≡ lookup (eq k) pairs → Writes eq pairs (set_value (eq k) pairs w) k w
+  Writes-set_value k pairs v w at =
+      let writes : (q : K) → lookup (eq q) (set_value (eq k) pairs w) ≡ cond (eq k q) (Some w) (lookup (eq q) pairs) = λ q. lookup-set_value laws (eq k) (λ x y. laws.congr k x y) q w pairs (subst IsSome at refl) in
+      (writes k ∙ ap (λ b. cond b (Some w) (lookup (eq k) pairs)) (laws.refl k), λ q not. writes q ∙ ap (λ b. cond b (Some w) (lookup (eq q) pairs)) not)
 
   pub same_lookup : (k x : K) → eq k x ≡ true → (pairs : List (K × V)) → lookup (eq k) pairs ≡ lookup (eq x) pairs
   same_lookup k x is pairs = ap (λ (t : K → Bool). lookup t pairs) (λ i y. laws.congr k x y is i)
@@ -146,8 +168,14 @@ module _ {K V : Type 0} {eq : K → K → Bool} {cmp : K → K → Ordering} (ti
     pub key_equal-IsAt : eq k e.0 ≡ true
     key_equal-IsAt = stands.pair e (ap (λ l. slice_get l place) (sym is_now) ∙ slice_get-IsAt)
 
+    pub looked_at : Some e.1 ≡ lookup (eq k) now
+    looked_at = sym (lookup-at_place laws pairs differ k place e slice_get-IsAt key_equal-IsAt) ∙ ap (λ l. lookup (eq k) l) is_now
+
     pub value_at : Some e.1 ≡ value_of cmp now k
-    value_at = value_by_eq eq cmp ties pairs k (Some e.1) (sym (lookup-at_place laws pairs differ k place e slice_get-IsAt key_equal-IsAt)) ∙ ap (λ l. value_of cmp l k) is_now
+    value_at = value_by_eq eq cmp ties now k (Some e.1) looked_at
+
+    pub written_at : (w : V) → slice_set pairs place (e.0, w) ≡ set_value (eq k) now w
+    written_at w = written_at_place laws k pairs differ place e w slice_get-IsAt key_equal-IsAt ∙ ap (λ l. set_value (eq k) l w) is_now
 
     pub pair_at : slice_get pairs place ≡ Some e
     pair_at = slice_get-IsAt
@@ -157,9 +185,6 @@ module _ {K V : Type 0} {eq : K → K → Bool} {cmp : K → K → Ordering} (ti
 
     Edits-take : Edits laws pairs (swap_remove pairs place e) k None
     Edits-take = after_take laws pairs differ k place e slice_get-IsAt key_equal-IsAt
-
-    pub sets_at : (w : V) → Sets cmp now (slice_set pairs place (e.0, w)) k (Some w)
-    sets_at w = sets_from _ k (Some w) (Edits-set w)
 
     pub differ_at : (w : V) → IsDistinct eq (keys_of (slice_set pairs place (e.0, w)))
     differ_at w = (Edits-set w).distinct

@@ -1,9 +1,10 @@
-//! A map of first values that has its keys in one array while they are few, and in a hashed map once they are many.
+//! A map that has its keys in one array while they are few, and in a hashed map once they are many.
 ghost use Rattle.std.specs.Prelude.{◌≡◌, ◌+◌, ◌<◌, ◌≤◌, ◌≢◌, ℕ, [], None, Some, IfOk, IfErr, IfSome, IfNone, OnOk, OnErr, List, length, slice_index, is_some, IsSome, if◌then◌else◌};
+ghost use Rattle.std.specs.Borrow.{sem};
 ghost use Rattle.std.specs.HashMap.{get, hash_map_len, spare};
 ghost use Rattle.std.specs.List.{IsDistinct};
 ghost use Rattle.std.specs.Map.{keys_of, lookup, update};
-ghost use Rattle.std.specs.Option.{option_copied};
+ghost use Rattle.std.specs.Option.{option_copied, option_copied_mut};
 ghost use Rattle.key_index_flat.specs.SmallMap.{tag_of, IsAt, AreTagged, AreTaggedBut, NoneBefore, entries_in};
 ghost use Rattle.key_index_flat.specs.Storage.{value_of, Sets};
 
@@ -110,6 +111,11 @@ pub struct Pairs<K: Ord + Hash + Copy, V> {
 }
 
 impl<K: Ord + Hash + Copy, V> Model for Pairs<K, V> {
+    ghost use Rattle.std.specs.Prelude.{◌≤◌, List, length};
+    ghost use Rattle.std.specs.List.{IsDistinct};
+    ghost use Rattle.std.specs.Map.{keys_of};
+    ghost use Rattle.key_index_flat.specs.SmallMap.{AreTagged};
+
     ghost Value = { List (K × V) };
 
     ghost view = { λ p. p.pairs.items };
@@ -119,6 +125,8 @@ impl<K: Ord + Hash + Copy, V> Model for Pairs<K, V> {
 }
 
 impl<K: Ord + Hash + Copy, V> Pairs<K, V> {
+    ghost use Rattle.key_index_flat.specs.SmallMapLent.{lends_get, lends_value};
+
     fn new(alloc: Global) -> Pairs<K, V>
         ensures { result ≡ [] }
     {
@@ -168,7 +176,29 @@ impl<K: Ord + Hash + Copy, V> Pairs<K, V> {
         ensures sets { Sets K.cmp self.old self.new key (Some value) }
         ensures len { length self.new ≡ length self.old }
     {
-        replace(&mut self.pairs[place].1, value)
+        replace(self.value_mut(place, key), value)
+    }
+
+    /// The value at the place of a key.
+    #[inline(always)]
+    fn value_mut(&mut self, place: usize, key: K) -> &mut V
+        requires { IsAt K.eq self.old place key }
+        ensures* lends { sem 𝓛 (lends_value K.row V.row K.Ord K.Hash self.entry (K.eq key) result) }
+        ensures value { Some result.now ≡ lookup (K.eq key) self.old }
+    {
+        &mut self.pairs[place].1
+    }
+
+    /// The value at a key.
+    #[inline(always)]
+    pub(super) fn get_mut(&mut self, key: &K) -> Option<&mut V>
+        ensures* lends { sem 𝓛 (lends_get K.row V.row K.Ord K.Hash self.entry key.now result) }
+        ensures value { option_copied_mut result ≡ lookup (K.eq key.now) self.old }
+    {
+        match self.place_of(key) {
+            Some(place) => Some(self.value_mut(place, *key)),
+            None => None,
+        }
     }
 
     /// Puts another value at a key that has one.
@@ -261,7 +291,7 @@ impl<K: Ord + Hash + Copy, V> SmallMap<K, V> {
 
     /// Puts in the value of a key that has none.
     #[inline]
-    fn put(&mut self, key: K, value: V) -> Result<(), V>
+    pub(super) fn put(&mut self, key: K, value: V) -> Result<(), V>
     where
         V: Drop,
         requires few { self.old.many ≡ None }

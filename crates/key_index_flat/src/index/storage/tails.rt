@@ -1,12 +1,13 @@
 //! The tails of lists: of each list that has more than one value, all of them but the first.
 ghost use Rattle.std.specs.Prelude.{◌≡◌, ◌+◌, ◌∷◌, ◌++◌, IfOk, Bool, true, false, ◌-◌, ◌<◌, ◌≤◌, List, length, slice_get, slice_set, insert, remove, unwrap_or, [], IfErr, IfNone, IfSome, None, OnErr, OnOk};
 ghost use Rattle.std.specs.Fn.{CalledAt};
-ghost use Rattle.std.specs.HashMap.{get};
 ghost use Rattle.std.specs.Option.{option_map};
-ghost use Rattle.key_index_flat.specs.Retention.{AsksInTurn};
-ghost use Rattle.key_index_flat.specs.Storage.{at_key, index_in, list_left, list_of, tail_at, SameBut};
+ghost use Rattle.key_index_flat.specs.SmallMap.{entries_in};
+ghost use Rattle.key_index_flat.specs.Storage.{at_key, index_in, list_of, tail_at, value_of, vector_at, RetainsTail, SameBut};
 ghost use Rattle.key_index_flat.specs.Values.{in_order};
 
+use super::heads::Heads;
+use super::small_map::SmallMap;
 use crate::index::Values;
 use crate::index::implement::retain_in_turn;
 use std::alloc::Global;
@@ -52,7 +53,7 @@ impl End for Back {
 /// allocated with the first tail, and stays.
 #[derive(Drop)]
 pub(super) struct Tails<K: Ord + Hash + Copy, V, E: End> {
-    map: Option<Box<HashMap<K, Vec<V>>>>,
+    map: Option<Box<SmallMap<K, Vec<V>>>>,
     end: PhantomData<E>,
 }
 
@@ -77,19 +78,20 @@ fn turn<V, E: End>(values: &mut Vec<V>)
 
 /// The vector at a key.
 #[inline(never)]
-fn values_in<K: Ord + Hash + Copy, V>(map: &HashMap<K, Vec<V>>, key: K) -> &[V]
+fn values_in<K: Ord + Hash + Copy, V>(map: &SmallMap<K, Vec<V>>, key: K) -> &[V]
     ensures values { result.now ≡ at_key K.eq map.now key }
     ensures small { length result.now < usize.MAX }
 {
-    match map.get(&key) {
+    match Heads::get(map, &key) {
         Some(values) => values.as_slice(),
         None => &[],
     }
 }
 
 /// Puts a vector at a key.
+#[tactic(auto, using(crate::proofs::content::VectorLemmas::others_set))]
 fn put_in<K: Ord + Hash + Copy, V: Drop>(
-    map: &mut HashMap<K, Vec<V>>,
+    map: &mut SmallMap<K, Vec<V>>,
     key: K,
     values: Vec<V>,
 ) -> Result<(), Vec<V>>
@@ -98,76 +100,211 @@ fn put_in<K: Ord + Hash + Copy, V: Drop>(
     ensures refused { OnErr result (at_key K.eq map.new key ≡ at_key K.eq map.old key) }
     ensures returned { IfErr result (λ back. back ≡ values) }
 {
-    match map.insert(key, values) {
+    match Heads::insert(map, key, values) {
         Ok(_) => Ok(()),
-        Err(failed) => {
-            let (_, values) = failed.value;
-            Err(values)
-        }
+        Err(values) => Err(values),
     }
 }
 
 /// Removes the vector at a key, if there is one.
 #[inline(never)]
-fn remove_in<K: Ord + Hash + Copy, V: Drop>(map: &mut HashMap<K, Vec<V>>, key: K) -> Option<Vec<V>>
+#[tactic(auto, using(crate::proofs::content::VectorLemmas::others_set))]
+fn remove_in<K: Ord + Hash + Copy, V: Drop>(map: &mut SmallMap<K, Vec<V>>, key: K) -> Option<Vec<V>>
     ensures removed { unwrap_or (option_map (λ values. values.items) result) [] ≡ at_key K.eq map.old key }
     ensures at { at_key K.eq map.new key ≡ [] }
     ensures others { SameBut K.cmp (at_key K.eq map.old) (at_key K.eq map.new) key }
 {
-    map.remove(&key)
+    Heads::remove(map, &key)
 }
 
 /// Removes the vector at a key, of which so many values are left, where that is none.
-fn remove_empty<K: Ord + Hash + Copy, V: Drop>(map: &mut HashMap<K, Vec<V>>, key: K, left: usize)
-    requires { left ≡ length (at_key K.eq map.old key) }
-    ensures at { at_key K.eq map.new key ≡ at_key K.eq map.old key }
-    ensures removed { left ≡ 0 → get K.eq map.new key ≡ None }
-    ensures others { SameBut K.cmp (at_key K.eq map.old) (at_key K.eq map.new) key }
+#[tactic(auto, using(crate::proofs::content::VectorLemmas::others_set))]
+fn remove_empty<K: Ord + Hash + Copy, V: Drop, M: Heads<K, Vec<V>>>(
+    map: &mut M,
+    key: K,
+    left: usize,
+)
+    requires { left ≡ length (vector_at K.eq (M.entries map.old) key) }
+    ensures at { vector_at K.eq (M.entries map.new) key ≡ vector_at K.eq (M.entries map.old) key }
+    ensures removed { left ≡ 0 → value_of K.cmp (M.entries map.new) key ≡ None }
+    ensures others { SameBut K.cmp (vector_at K.eq (M.entries map.old)) (vector_at K.eq (M.entries map.new)) key }
 {
     if left == 0 {
         map.remove(&key);
     }
 }
 
-/// Inserts a value at a place of a tail, or behind its last value where there is no place.
-fn insert_in<K: Ord + Hash + Copy, V: Drop, E: End>(
+/// Puts another value at a place of the list that a vector has.
+#[inline]
+fn set_value<V: Drop, E: End>(values: &mut Vec<V>, place: usize, value: V)
+    requires { place < length values.old.items }
+    ensures { in_order E.FIRST values.new.items ≡ slice_set (in_order E.FIRST values.old.items) place value }
+{
+    let index = index_of::<E>(values.len() - 1, place);
+    values[index] = value;
+}
+
+/// Inserts a value at a place of the list that a vector has, or behind its last value where there is no place.
+#[inline]
+fn insert_value<V, E: End>(values: &mut Vec<V>, place: Option<usize>, value: V) -> Result<(), V>
+    requires { IfSome place (λ at. at ≤ length values.old.items) }
+    ensures at { OnOk result (in_order E.FIRST values.new.items
+        ≡ insert (in_order E.FIRST values.old.items) (unwrap_or place (length values.old.items)) value) }
+    ensures refused { OnErr result (values.new.items ≡ values.old.items) }
+    ensures returned { IfErr result (λ back. back ≡ value) }
+{
+    let len = values.len();
+    match values.insert(index_of::<E>(len, place.unwrap_or(len)), value) {
+        Ok(()) => Ok(()),
+        Err(failed) => Err(failed.value),
+    }
+}
+
+/// Removes the value at a place of the list that a vector has, if there is one. Returns it, and how many are left.
+#[inline]
+fn remove_value<V, E: End>(values: &mut Vec<V>, place: usize) -> Option<(V, usize)>
+    ensures value { option_map (λ removed. removed.0) result ≡ slice_get (in_order E.FIRST values.old.items) place }
+    ensures at { in_order E.FIRST values.new.items ≡ remove (in_order E.FIRST values.old.items) place }
+    ensures left { IfSome result (λ removed. removed.1 ≡ length values.new.items) }
+    ensures fits { IfSome result (λ removed. removed.1 < usize.MAX) }
+{
+    let len = values.len();
+    if place >= len {
+        return None;
+    }
+    let value = values.remove(index_of::<E>(len - 1, place));
+    Some((value, len - 1))
+}
+
+/// A vector of one value.
+#[inline]
+fn vector_of<V: Drop>(alloc: Global, value: V) -> Result<Vec<V>, V>
+    ensures value { IfOk result (λ values. values.items ≡ value ∷ []) }
+    ensures returned { IfErr result (λ back. back ≡ value) }
+{
+    let mut values = Vec::new(alloc);
+    match values.push(value) {
+        Ok(()) => Ok(values),
+        Err(failed) => Err(failed.value),
+    }
+}
+
+/// Inserts a value at a place of the list at a key, or behind its last value where there is no place.
+fn insert_many<K: Ord + Hash + Copy, V: Drop, E: End>(
     alloc: Global,
     map: &mut HashMap<K, Vec<V>>,
     key: K,
     place: Option<usize>,
     value: V,
 ) -> Result<(), V>
-    requires { IfSome place (λ at. at ≤ length (at_key K.eq map.old key)) }
-    ensures at { OnOk result (let old = at_key K.eq map.old key in at_key K.eq map.new key
-        ≡ insert old (index_in E.FIRST (length old) (unwrap_or place (length old))) value) }
-    ensures others { SameBut K.cmp (at_key K.eq map.old) (at_key K.eq map.new) key }
-    ensures refused { OnErr result (at_key K.eq map.new key ≡ at_key K.eq map.old key) }
+    requires { IfSome place (λ at. at ≤ length (vector_at K.eq map.old.entries key)) }
+    ensures at { OnOk result (let old = vector_at K.eq map.old.entries key in
+        in_order E.FIRST (vector_at K.eq map.new.entries key)
+        ≡ insert (in_order E.FIRST old) (unwrap_or place (length old)) value) }
+    ensures others { SameBut K.cmp (vector_at K.eq map.old.entries) (vector_at K.eq map.new.entries) key }
+    ensures refused { OnErr result (vector_at K.eq map.new.entries key ≡ vector_at K.eq map.old.entries key) }
     ensures returned { IfErr result (λ back. back ≡ value) }
 {
     match map.entry(key) {
         Err(_) => Err(value),
-        Ok(Entry::Occupied(entry)) => {
-            let values = entry.into_mut();
-            let len = values.len();
-            match values.insert(index_of::<E>(len, place.unwrap_or(len)), value) {
-                Ok(()) => Ok(()),
-                Err(failed) => Err(failed.value),
+        Ok(Entry::Occupied(entry)) => insert_value::<V, E>(entry.into_mut(), place, value),
+        Ok(Entry::Vacant(entry)) => match vector_of(alloc, value) {
+            Ok(values) => {
+                entry.insert(values);
+                Ok(())
             }
-        }
-        Ok(Entry::Vacant(entry)) => {
-            let mut values = Vec::new(alloc);
-            match values.push(value) {
-                Ok(()) => {
-                    entry.insert(values);
-                    Ok(())
-                }
-                Err(failed) => {
-                    entry.into_key();
-                    Err(failed.value)
-                }
+            Err(value) => {
+                entry.into_key();
+                Err(value)
             }
-        }
+        },
     }
+}
+
+/// `insert_many`, while the vectors stand in the array.
+fn insert_few<K: Ord + Hash + Copy, V: Drop, E: End>(
+    alloc: Global,
+    map: &mut SmallMap<K, Vec<V>>,
+    key: K,
+    place: Option<usize>,
+    value: V,
+) -> Result<(), V>
+    requires few { map.old.many ≡ None }
+    requires place { IfSome place (λ at. at ≤ length (at_key K.eq map.old key)) }
+    ensures at { OnOk result (let old = at_key K.eq map.old key in in_order E.FIRST (at_key K.eq map.new key)
+        ≡ insert (in_order E.FIRST old) (unwrap_or place (length old)) value) }
+    ensures others { SameBut K.cmp (at_key K.eq map.old) (at_key K.eq map.new) key }
+    ensures refused { OnErr result (at_key K.eq map.new key ≡ at_key K.eq map.old key) }
+    ensures returned { IfErr result (λ back. back ≡ value) }
+{
+    if let Some(values) = map.few.get_mut(&key) {
+        return insert_value::<V, E>(values, place, value);
+    }
+    let values = vector_of(alloc, value)?;
+    match map.put(key, values) {
+        Ok(()) => Ok(()),
+        Err(mut values) => Err(values.pop().unwrap()),
+    }
+}
+
+/// `insert_many`, of few or of many.
+fn insert_in<K: Ord + Hash + Copy, V: Drop, E: End>(
+    alloc: Global,
+    map: &mut SmallMap<K, Vec<V>>,
+    key: K,
+    place: Option<usize>,
+    value: V,
+) -> Result<(), V>
+    requires { IfSome place (λ at. at ≤ length (at_key K.eq map.old key)) }
+    ensures at { OnOk result (let old = at_key K.eq map.old key in in_order E.FIRST (at_key K.eq map.new key)
+        ≡ insert (in_order E.FIRST old) (unwrap_or place (length old)) value) }
+    ensures others { SameBut K.cmp (at_key K.eq map.old) (at_key K.eq map.new) key }
+    ensures refused { OnErr result (at_key K.eq map.new key ≡ at_key K.eq map.old key) }
+    ensures returned { IfErr result (λ back. back ≡ value) }
+{
+    if let Some(many) = &mut map.many {
+        return insert_many::<K, V, E>(alloc, many, key, place, value);
+    }
+    insert_few::<K, V, E>(alloc, map, key, place, value)
+}
+
+/// `set_value`, of the list at a key.
+fn set_value_in<K: Ord + Hash + Copy, V: Drop, E: End>(
+    map: &mut SmallMap<K, Vec<V>>,
+    key: K,
+    place: usize,
+    value: V,
+)
+    requires { place < length (at_key K.eq map.old key) }
+    ensures at { in_order E.FIRST (at_key K.eq map.new key)
+        ≡ slice_set (in_order E.FIRST (at_key K.eq map.old key)) place value }
+    ensures others { SameBut K.cmp (at_key K.eq map.old) (at_key K.eq map.new) key }
+{
+    if let Some(many) = &mut map.many {
+        set_value::<V, E>(many.get_mut(&key).unwrap(), place, value);
+        return;
+    }
+    set_value::<V, E>(map.few.get_mut(&key).unwrap(), place, value);
+}
+
+/// `remove_value`, of the list at a key.
+fn remove_value_in<K: Ord + Hash + Copy, V: Drop, E: End>(
+    map: &mut SmallMap<K, Vec<V>>,
+    key: K,
+    place: usize,
+) -> Option<(V, usize)>
+    ensures value { option_map (λ removed. removed.0) result
+        ≡ slice_get (in_order E.FIRST (at_key K.eq map.old key)) place }
+    ensures at { in_order E.FIRST (at_key K.eq map.new key)
+        ≡ remove (in_order E.FIRST (at_key K.eq map.old key)) place }
+    ensures left { IfSome result (λ removed. removed.1 ≡ length (at_key K.eq map.new key)) }
+    ensures fits { IfSome result (λ removed. removed.1 < usize.MAX) }
+    ensures others { SameBut K.cmp (at_key K.eq map.old) (at_key K.eq map.new) key }
+{
+    if let Some(many) = &mut map.many {
+        return remove_value::<V, E>(many.get_mut(&key)?, place);
+    }
+    remove_value::<V, E>(map.few.get_mut(&key)?, place)
 }
 
 /// What a retention found and left of a list: whether the first value stays, the one that has come out of the tail in its place where it
@@ -203,12 +340,8 @@ fn retain_behind<V: Drop, F: FnMut(&V) -> bool, E: End>(
     mut should_retain: F,
 ) -> TailRetained<V>
     requires { F.IsAlwaysCallable should_retain }
-    ensures asked { AsksInTurn (CalledAt F.FnMut) should_retain true (head.now ∷ in_order E.FIRST values.old.items)
-        (list_left result.head_stays head.now result.next (in_order E.FIRST values.new.items)) result.stays }
-    ensures had { result.had ≡ length values.old.items }
-    ensures left { result.left
-        ≡ length (list_left result.head_stays head.now result.next (in_order E.FIRST values.new.items)) }
-    ensures none { result.left ≡ 0 → values.new.items ≡ [] }
+    ensures { RetainsTail (CalledAt F.FnMut) should_retain head.now
+        (in_order E.FIRST values.old.items) (in_order E.FIRST values.new.items) result }
 {
     let head_stays = should_retain(head);
     let had = values.len();
@@ -234,72 +367,12 @@ fn retain_behind<V: Drop, F: FnMut(&V) -> bool, E: End>(
     }
 }
 
-/// Inserts a value behind the last one of a tail, which allocates all the memory that the call may need, and then `retain_behind`.
-fn insert_and_retain_in<K: Ord + Hash + Copy, V: Drop, F: FnMut(&V) -> bool, E: End>(
-    alloc: Global,
-    map: &mut HashMap<K, Vec<V>>,
-    key: K,
-    head: &V,
-    value: V,
-    should_retain: F,
-) -> Result<TailRetained<V>, V>
-    requires { F.IsAlwaysCallable should_retain }
-    ensures asked { IfOk result (λ r. AsksInTurn (CalledAt F.FnMut) should_retain true
-        (head.now ∷ (in_order E.FIRST (at_key K.eq map.old key) ++ value ∷ []))
-        (list_left r.head_stays head.now r.next (in_order E.FIRST (at_key K.eq map.new key))) r.stays) }
-    ensures had { IfOk result (λ r. r.had ≡ length (at_key K.eq map.old key) + 1) }
-    ensures left { IfOk result (λ r. r.left
-        ≡ length (list_left r.head_stays head.now r.next (in_order E.FIRST (at_key K.eq map.new key)))) }
-    ensures none { IfOk result (λ r. r.left ≡ 0 → at_key K.eq map.new key ≡ []) }
-    ensures fits { IfOk result (λ r. r.had < usize.MAX) }
-    ensures others { SameBut K.cmp (at_key K.eq map.old) (at_key K.eq map.new) key }
-    ensures refused { OnErr result (at_key K.eq map.new key ≡ at_key K.eq map.old key) }
-    ensures returned { IfErr result (λ back. back ≡ value) }
-{
-    match map.entry(key) {
-        Err(_) => Err(value),
-        Ok(Entry::Occupied(entry)) => {
-            let values = entry.into_mut();
-            let len = values.len();
-            match values.insert(index_of::<E>(len, len), value) {
-                Ok(()) => {
-                    let retained = retain_behind::<V, F, E>(head, values, should_retain);
-                    let left = values.len();
-                    remove_empty(map, key, left);
-                    Ok(retained)
-                }
-                Err(failed) => Err(failed.value),
-            }
-        }
-        Ok(Entry::Vacant(entry)) => {
-            let mut values = Vec::new(alloc);
-            match values.push(value) {
-                Ok(()) => {
-                    let retained = retain_behind::<V, F, E>(head, &mut values, should_retain);
-                    if values.is_empty() {
-                        entry.into_key();
-                        return Ok(retained);
-                    }
-                    entry.insert(values);
-                    Ok(retained)
-                }
-                Err(failed) => {
-                    entry.into_key();
-                    Err(failed.value)
-                }
-            }
-        }
-    }
-}
-
 /// `retain_behind`, where there is no tail.
 #[inline]
 fn retain_alone<V, F: FnMut(&V) -> bool>(head: &V, mut should_retain: F) -> TailRetained<V>
     requires { F.IsAlwaysCallable should_retain }
-    ensures asked { AsksInTurn (CalledAt F.FnMut) should_retain true (head.now ∷ [])
-        (list_left result.head_stays head.now result.next []) result.stays }
-    ensures had { result.had ≡ 0 }
-    ensures left { result.left ≡ length (list_left result.head_stays head.now result.next []) }
+    ensures retained { RetainsTail (CalledAt F.FnMut) should_retain head.now [] [] result }
+    ensures fits { result.had < usize.MAX }
 {
     let stays = should_retain(head);
     TailRetained {
@@ -309,6 +382,108 @@ fn retain_alone<V, F: FnMut(&V) -> bool>(head: &V, mut should_retain: F) -> Tail
         left: usize::from(stays),
         stays,
     }
+}
+
+/// `retain_behind`, of the tail of a key.
+fn retain_in<K: Ord + Hash + Copy, V: Drop, F: FnMut(&V) -> bool, E: End>(
+    map: &mut SmallMap<K, Vec<V>>,
+    key: K,
+    head: &V,
+    should_retain: F,
+) -> TailRetained<V>
+    requires { F.IsAlwaysCallable should_retain }
+    ensures retained { RetainsTail (CalledAt F.FnMut) should_retain head.now
+        (in_order E.FIRST (at_key K.eq map.old key)) (in_order E.FIRST (at_key K.eq map.new key)) result }
+    ensures fits { result.had < usize.MAX }
+    ensures others { SameBut K.cmp (at_key K.eq map.old) (at_key K.eq map.new) key }
+{
+    if let Some(many) = &mut map.many {
+        let Some(values) = many.get_mut(&key) else {
+            return retain_alone(head, should_retain);
+        };
+        let retained = retain_behind::<V, F, E>(head, values, should_retain);
+        let left = values.len();
+        remove_empty(&mut **many, key, left);
+        return retained;
+    }
+    let Some(values) = map.few.get_mut(&key) else {
+        return retain_alone(head, should_retain);
+    };
+    let retained = retain_behind::<V, F, E>(head, values, should_retain);
+    let left = values.len();
+    remove_empty(map, key, left);
+    retained
+}
+
+/// Inserts a value behind the last one of a tail in a hashed map, which allocates all the memory that the call may need, and then
+/// `retain_behind`.
+fn insert_and_retain_many<K: Ord + Hash + Copy, V: Drop, F: FnMut(&V) -> bool, E: End>(
+    alloc: Global,
+    map: &mut HashMap<K, Vec<V>>,
+    key: K,
+    head: &V,
+    value: V,
+    should_retain: F,
+) -> Result<TailRetained<V>, V>
+    requires { F.IsAlwaysCallable should_retain }
+    ensures retained { IfOk result (λ r. RetainsTail (CalledAt F.FnMut) should_retain head.now
+        (in_order E.FIRST (vector_at K.eq map.old.entries key) ++ value ∷ [])
+        (in_order E.FIRST (vector_at K.eq map.new.entries key)) r) }
+    ensures fits { IfOk result (λ r. r.had < usize.MAX) }
+    ensures others { SameBut K.cmp (vector_at K.eq map.old.entries) (vector_at K.eq map.new.entries) key }
+    ensures refused { OnErr result (vector_at K.eq map.new.entries key ≡ vector_at K.eq map.old.entries key) }
+    ensures returned { IfErr result (λ back. back ≡ value) }
+{
+    match map.entry(key) {
+        Err(_) => Err(value),
+        Ok(Entry::Occupied(entry)) => {
+            let values = entry.into_mut();
+            insert_value::<V, E>(values, None, value)?;
+            let retained = retain_behind::<V, F, E>(head, values, should_retain);
+            let left = values.len();
+            remove_empty(map, key, left);
+            Ok(retained)
+        }
+        Ok(Entry::Vacant(entry)) => match vector_of(alloc, value) {
+            Ok(mut values) => {
+                let retained = retain_behind::<V, F, E>(head, &mut values, should_retain);
+                if values.is_empty() {
+                    entry.into_key();
+                    return Ok(retained);
+                }
+                entry.insert(values);
+                Ok(retained)
+            }
+            Err(value) => {
+                entry.into_key();
+                Err(value)
+            }
+        },
+    }
+}
+
+/// `insert_and_retain_many`, of few or of many.
+fn insert_and_retain_in<K: Ord + Hash + Copy, V: Drop, F: FnMut(&V) -> bool, E: End>(
+    alloc: Global,
+    map: &mut SmallMap<K, Vec<V>>,
+    key: K,
+    head: &V,
+    value: V,
+    should_retain: F,
+) -> Result<TailRetained<V>, V>
+    requires { F.IsAlwaysCallable should_retain }
+    ensures retained { IfOk result (λ r. RetainsTail (CalledAt F.FnMut) should_retain head.now
+        (in_order E.FIRST (at_key K.eq map.old key) ++ value ∷ []) (in_order E.FIRST (at_key K.eq map.new key)) r) }
+    ensures fits { IfOk result (λ r. r.had < usize.MAX) }
+    ensures others { SameBut K.cmp (at_key K.eq map.old) (at_key K.eq map.new) key }
+    ensures refused { OnErr result (at_key K.eq map.new key ≡ at_key K.eq map.old key) }
+    ensures returned { IfErr result (λ back. back ≡ value) }
+{
+    if let Some(many) = &mut map.many {
+        return insert_and_retain_many::<K, V, F, E>(alloc, many, key, head, value, should_retain);
+    }
+    insert_few::<K, V, E>(alloc, map, key, None, value)?;
+    Ok(retain_in::<K, V, F, E>(map, key, head, should_retain))
 }
 
 impl<K: Ord + Hash + Copy, V, E: End> Tails<K, V, E> {
@@ -330,7 +505,7 @@ impl<K: Ord + Hash + Copy, V, E: End> Tails<K, V, E> {
     {
         match &self.map {
             Some(map) => {
-                if map.is_empty() {
+                if map.len() == 0 {
                     return &[];
                 }
                 values_in(map, key)
@@ -376,9 +551,7 @@ impl<K: Ord + Hash + Copy, V, E: End> Tails<K, V, E> {
         let Some(map) = &mut self.map else {
             unreachable!()
         };
-        let values = map.get_mut(&key).unwrap();
-        let index = index_of::<E>(values.len() - 1, place);
-        values[index] = value;
+        set_value_in::<K, V, E>(map, key, place, value);
     }
 
     /// Inserts a value at a place, or behind the last value where there is no place. A refusal hands it back and changes nothing.
@@ -401,7 +574,7 @@ impl<K: Ord + Hash + Copy, V, E: End> Tails<K, V, E> {
         if let Some(map) = &mut self.map {
             return insert_in::<K, V, E>(alloc, map, key, place, value);
         }
-        let Ok(mut map) = Box::new(alloc, HashMap::new(alloc)) else {
+        let Ok(mut map) = Box::new(alloc, SmallMap::new(alloc)) else {
             return Err(value);
         };
         insert_in::<K, V, E>(alloc, &mut map, key, place, value)?;
@@ -425,7 +598,7 @@ impl<K: Ord + Hash + Copy, V, E: End> Tails<K, V, E> {
         if let Some(map) = &mut self.map {
             return put_in(map, key, values);
         }
-        let Ok(mut map) = Box::new(alloc, HashMap::new(alloc)) else {
+        let Ok(mut map) = Box::new(alloc, SmallMap::new(alloc)) else {
             return Err(values);
         };
         put_in(&mut map, key, values)?;
@@ -447,17 +620,12 @@ impl<K: Ord + Hash + Copy, V, E: End> Tails<K, V, E> {
         let Some(map) = &mut self.map else {
             return None;
         };
-        if map.is_empty() {
+        if map.len() == 0 {
             return None;
         }
-        let values = map.get_mut(&key)?;
-        let len = values.len();
-        if place >= len {
-            return None;
-        }
-        let value = values.remove(index_of::<E>(len - 1, place));
-        remove_empty(map, key, len - 1);
-        Some((value, len - 1))
+        let (value, left) = remove_value_in::<K, V, E>(map, key, place)?;
+        remove_empty(&mut **map, key, left);
+        Some((value, left))
     }
 
     /// Removes a tail, and returns its vector, if it has one. Where no list has a tail, nothing is looked up.
@@ -473,7 +641,7 @@ impl<K: Ord + Hash + Copy, V, E: End> Tails<K, V, E> {
         let Some(map) = &mut self.map else {
             return None;
         };
-        if map.is_empty() {
+        if map.len() == 0 {
             return None;
         }
         remove_in(map, key)
@@ -489,29 +657,18 @@ impl<K: Ord + Hash + Copy, V, E: End> Tails<K, V, E> {
     where
         V: Drop,
         requires { F.IsAlwaysCallable should_retain }
-        ensures asked { AsksInTurn (CalledAt F.FnMut) should_retain true
-            (head.now ∷ tail_at E.FIRST K.eq self.old.map key)
-            (list_left result.head_stays head.now result.next (tail_at E.FIRST K.eq self.new.map key)) result.stays }
-        ensures had { result.had ≡ length (tail_at E.FIRST K.eq self.old.map key) }
-        ensures left { result.left ≡ length
-            (list_left result.head_stays head.now result.next (tail_at E.FIRST K.eq self.new.map key)) }
-        ensures none { result.left ≡ 0 → tail_at E.FIRST K.eq self.new.map key ≡ [] }
+        ensures retained { RetainsTail (CalledAt F.FnMut) should_retain head.now
+            (tail_at E.FIRST K.eq self.old.map key) (tail_at E.FIRST K.eq self.new.map key) result }
         ensures fits { result.had < usize.MAX }
         ensures others { SameBut K.cmp (tail_at E.FIRST K.eq self.old.map) (tail_at E.FIRST K.eq self.new.map) key }
     {
         let Some(map) = &mut self.map else {
             return retain_alone(head, should_retain);
         };
-        if map.is_empty() {
+        if map.len() == 0 {
             return retain_alone(head, should_retain);
         }
-        let Some(values) = map.get_mut(&key) else {
-            return retain_alone(head, should_retain);
-        };
-        let retained = retain_behind::<V, F, E>(head, values, should_retain);
-        let left = values.len();
-        remove_empty(map, key, left);
-        retained
+        retain_in::<K, V, F, E>(map, key, head, should_retain)
     }
 
     /// Inserts a value behind the last one, which allocates all the memory that the call may need, and then `retain_behind`. A refusal
@@ -527,13 +684,8 @@ impl<K: Ord + Hash + Copy, V, E: End> Tails<K, V, E> {
     where
         V: Drop,
         requires { F.IsAlwaysCallable should_retain }
-        ensures asked { IfOk result (λ r. AsksInTurn (CalledAt F.FnMut) should_retain true
-            (head.now ∷ (tail_at E.FIRST K.eq self.old.map key ++ value ∷ []))
-            (list_left r.head_stays head.now r.next (tail_at E.FIRST K.eq self.new.map key)) r.stays) }
-        ensures had { IfOk result (λ r. r.had ≡ length (tail_at E.FIRST K.eq self.old.map key) + 1) }
-        ensures left { IfOk result (λ r. r.left ≡ length
-            (list_left r.head_stays head.now r.next (tail_at E.FIRST K.eq self.new.map key))) }
-        ensures none { IfOk result (λ r. r.left ≡ 0 → tail_at E.FIRST K.eq self.new.map key ≡ []) }
+        ensures retained { IfOk result (λ r. RetainsTail (CalledAt F.FnMut) should_retain head.now
+            (tail_at E.FIRST K.eq self.old.map key ++ value ∷ []) (tail_at E.FIRST K.eq self.new.map key) r) }
         ensures fits { IfOk result (λ r. r.had < usize.MAX) }
         ensures others { SameBut K.cmp (tail_at E.FIRST K.eq self.old.map) (tail_at E.FIRST K.eq self.new.map) key }
         ensures refused { OnErr result (tail_at E.FIRST K.eq self.new.map key ≡ tail_at E.FIRST K.eq self.old.map key) }
@@ -542,7 +694,7 @@ impl<K: Ord + Hash + Copy, V, E: End> Tails<K, V, E> {
         if let Some(map) = &mut self.map {
             return insert_and_retain_in::<K, V, F, E>(alloc, map, key, head, value, should_retain);
         }
-        let Ok(mut map) = Box::new(alloc, HashMap::new(alloc)) else {
+        let Ok(mut map) = Box::new(alloc, SmallMap::new(alloc)) else {
             return Err(value);
         };
         let retained = insert_and_retain_in::<K, V, F, E>(

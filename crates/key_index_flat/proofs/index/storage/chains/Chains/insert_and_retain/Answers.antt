@@ -3,7 +3,7 @@ use Rattle.std.specs.Fn.{CalledAt}
 use Rattle.key_index_flat.specs.Content.{IsLawful}
 use Rattle.key_index_flat.specs.Storage.{list_left, list_of, tail_at}
 use Rattle.key_index_flat.specs.laws.Laws.{IsLawful-content_of}
-use Rattle.key_index_flat.proofs.asked.PutLemmas.{asks_alone, asks_put_behind, few_behind, one_went_behind, taken_put}
+use Rattle.key_index_flat.proofs.asked.PutLemmas.{asks_alone, asks_put_behind, few_behind, held_behind, one_went_behind, taken_put}
 use Rattle.key_index_flat.proofs.content.ChainLemmas.{list_at-content_of}
 use Rattle.key_index_flat.proofs.content.EditLemmas.{alone_left, list-first_and_tail, list_later, list_left_of, rest_edited}
 use Rattle.key_index_flat.proofs.index.storage.chains.Chains.insert_and_retain.Goals as goal
@@ -48,20 +48,20 @@ pub set_first-requires-clause-alone : goal.set_first-requires-clause-alone
 set_first-requires-clause-alone g c =
     let tail = tail_at g.E.End.FIRST g.T.Key.PartialEq.eq c.self.inside.tails.map in
     let later = tail_at g.E.End.FIRST g.T.Key.PartialEq.eq c.insert_and_retain.new.self.map in
-    alone_left c.in_ok-tail.tail.head_stays c.in_ok-tail.tail.next c.in-Some.head.now (later c.args.slot) _ c.in_ok-tail.tail.left c.in_ok-tail.ensures.left c.in_ok-tail.ensures.none
+    alone_left c.in_ok-tail.tail.head_stays c.in_ok-tail.tail.next c.in-Some.head.now (later c.args.slot) _ c.in_ok-tail.tail.left c.in_ok-tail.ensures.retained.left c.in_ok-tail.ensures.retained.none
     (list_later g.met.T.Key.Ord.total g.met.T.Translator.exact (g.M.Heads.entries c.self.inside.heads) tail later c.args.slot c.self.invariant c.in-Some.head.now (sym c.in-Some.ensures))
 
 pub overflow_sub-tail : goal.overflow_sub-tail
 overflow_sub-tail g c =
     let tail = tail_at g.E.End.FIRST g.T.Key.PartialEq.eq c.self.inside.tails.map in
     let list = list-first_and_tail g.met.T.Key.Ord.total g.met.T.Translator.exact (g.M.Heads.entries c.self.inside.heads) tail tail c.args.slot c.self.invariant c.in-Some.head.now (sym c.in-Some.ensures) in
-    few_behind (CalledAt g.F.FnMut) c.args.should_retain _ c.in-Some.head.now _ _ c.args.value c.in_ok-tail.tail.stays list c.in_ok-tail.ensures.asked c.in_ok-tail.tail.had c.in_ok-tail.tail.left c.in_ok-tail.ensures.had c.in_ok-tail.ensures.left
+    few_behind (CalledAt g.F.FnMut) c.args.should_retain _ c.in-Some.head.now _ _ c.args.value c.in_ok-tail.tail list c.in_ok-tail.ensures.retained
 
 pub gone_of-requires : goal.gone_of-requires
 gone_of-requires g c =
     let tail = tail_at g.E.End.FIRST g.T.Key.PartialEq.eq c.self.inside.tails.map in
     let list = list-first_and_tail g.met.T.Key.Ord.total g.met.T.Translator.exact (g.M.Heads.entries c.self.inside.heads) tail tail c.args.slot c.self.invariant c.in-Some.head.now (sym c.in-Some.ensures) in
-    one_went_behind (CalledAt g.F.FnMut) c.args.should_retain _ c.in-Some.head.now _ _ c.args.value c.in_ok-tail.tail.stays list c.in_ok-tail.ensures.asked c.in_ok-tail.tail.had c.in_ok-tail.tail.left c.in_ok-tail.ensures.had c.in_ok-tail.ensures.left
+    one_went_behind (CalledAt g.F.FnMut) c.args.should_retain _ c.in-Some.head.now _ _ c.args.value c.in_ok-tail.tail list c.in_ok-tail.ensures.retained
 
 pub returns-clause-accepted : goal.returns-clause-accepted
 returns-clause-accepted g c =
@@ -70,14 +70,15 @@ returns-clause-accepted g c =
     let list = list-first_and_tail g.met.T.Key.Ord.total g.met.T.Translator.exact (g.M.Heads.entries c.self.inside.heads) tail tail c.args.slot c.self.invariant c.in-Some.head.now (sym c.in-Some.ensures) in
     rw (← c.self.view_is) ((
       list_left c.in_ok-tail.tail.head_stays c.in-Some.head.now c.in_ok-tail.tail.next (later c.args.slot),
-      asks_put_behind (CalledAt g.F.FnMut) c.args.should_retain _ c.in-Some.head.now _ _ c.args.value c.in_ok-tail.tail.stays list c.in_ok-tail.ensures.asked c.in_ok-tail.tail.had c.in_ok-tail.tail.left c.in_ok-tail.ensures.had c.in_ok-tail.ensures.left c.gone_of.result c.gone_of.ensures,
+      asks_put_behind (CalledAt g.F.FnMut) c.args.should_retain _ c.in-Some.head.now _ _ c.args.value c.in_ok-tail.tail list c.in_ok-tail.ensures.retained c.gone_of.result c.gone_of.ensures,
       list_left_of g.met.T.Key.Ord.total g.met.T.Translator.exact (g.M.Heads.entries c.self.inside.heads) tail later c.args.slot c.self.invariant c.in-Some.head.now (sym c.in-Some.ensures) c.insert_and_retain.ensures.others c.in_ok-tail.tail.head_stays c.in_ok-tail.tail.next _ c.set_first.ensures,
-      c.in_ok-tail.ensures.left,
+      c.in_ok-tail.ensures.retained.left,
     )
     )
 
 pub returns-clause-had : goal.returns-clause-had
 returns-clause-had g c =
     let tail = tail_at g.E.End.FIRST g.T.Key.PartialEq.eq c.self.inside.tails.map in
-    let long = ap (λ l. length l) (list-first_and_tail g.met.T.Key.Ord.total g.met.T.Translator.exact (g.M.Heads.entries c.self.inside.heads) tail tail c.args.slot c.self.invariant c.in-Some.head.now (sym c.in-Some.ensures)) in
-    rw (← c.self.view_is) (omega (arith, long, c.in_ok-tail.ensures.had))
+    let list = list-first_and_tail g.met.T.Key.Ord.total g.met.T.Translator.exact (g.M.Heads.entries c.self.inside.heads) tail tail c.args.slot c.self.invariant c.in-Some.head.now (sym c.in-Some.ensures) in
+    let had = held_behind (CalledAt g.F.FnMut) c.args.should_retain _ c.in-Some.head.now _ _ c.args.value c.in_ok-tail.tail list c.in_ok-tail.ensures.retained in
+    rw (← c.self.view_is) had

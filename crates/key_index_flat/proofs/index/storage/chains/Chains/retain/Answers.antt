@@ -46,7 +46,7 @@ pub set_first-requires-clause-alone : goal.set_first-requires-clause-alone
 set_first-requires-clause-alone g c =
     let tail = tail_at g.E.End.FIRST g.T.Key.PartialEq.eq c.self.inside.tails.map in
     let later = tail_at g.E.End.FIRST g.T.Key.PartialEq.eq c.retain-tail.new.self.map in
-    alone_left c.retain-tail.result.head_stays c.retain-tail.result.next c.in-Some.head.now (later c.args.slot) _ c.retain-tail.result.left c.retain-tail.ensures.left c.retain-tail.ensures.none
+    alone_left c.retain-tail.result.head_stays c.retain-tail.result.next c.in-Some.head.now (later c.args.slot) _ c.retain-tail.result.left c.retain-tail.ensures.retained.left c.retain-tail.ensures.retained.none
     (list_later g.met.T.Key.Ord.total g.met.T.Translator.exact (g.M.Heads.entries c.self.inside.heads) tail later c.args.slot c.self.invariant c.in-Some.head.now (sym c.in-Some.ensures))
 
 pub returns : goal.returns
@@ -54,7 +54,7 @@ returns g c =
     let tail = tail_at g.E.End.FIRST g.T.Key.PartialEq.eq c.self.inside.tails.map in
     let later = tail_at g.E.End.FIRST g.T.Key.PartialEq.eq c.retain-tail.new.self.map in
     let head = c.in-Some.head.now in
-    let told = c.retain-tail.ensures in
+    let told = c.retain-tail.ensures.retained in
     let stays = c.retain-tail.result.head_stays in
     let next = c.retain-tail.result.next in
     let list = list-first_and_tail g.met.T.Key.Ord.total g.met.T.Translator.exact (g.M.Heads.entries c.self.inside.heads) tail tail c.args.slot c.self.invariant head (sym c.in-Some.ensures) in
@@ -66,7 +66,7 @@ returns g c =
       kept = (
         list_left stays head next (later c.args.slot),
         (asked.0, asked.1, asked.2, asked.3, asked.4),
-        list_left_of g.met.T.Key.Ord.total g.met.T.Translator.exact (g.M.Heads.entries c.self.inside.heads) tail later c.args.slot c.self.invariant head (sym c.in-Some.ensures) told.others stays next _ c.set_first.ensures,
+        list_left_of g.met.T.Key.Ord.total g.met.T.Translator.exact (g.M.Heads.entries c.self.inside.heads) tail later c.args.slot c.self.invariant head (sym c.in-Some.ensures) c.retain-tail.ensures.others stays next _ c.set_first.ensures,
         told.left,
         omega (arith, long, told.had),
         omega (arith, few, long, told.had, told.left),

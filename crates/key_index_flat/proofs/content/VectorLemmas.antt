@@ -1,0 +1,58 @@
+-- On the vectors that entries have at their keys.
+--     others_set, at_set    after a change of the entries
+--     absent                where no `&mut` to one of few vectors was found
+--     had, has, others      after a `&mut` to one of few vectors: what it was, what it is, and the others
+--     only_value            the list of a vector with one value
+use Rattle.std.proofs.Common.{◌≡◌, ℕ, zero, suc, ◌≤◌, Bool, true, false, List, [], ◌∷◌, Option, Some, None, IfSome, unwrap_or, insert, refl, sym, ap, subst, ◌∙◌, Box, arith}
+use Rattle.std.specs.declared.cmp.Ordering.{Ordering}
+use Rattle.std.specs.declared.vec.Vec.{Vec}
+use Rattle.std.specs.Borrow.{MutBor}
+use Rattle.std.specs.Cmp.{IsTotalOrder, eq_by_cmp_equiv}
+use Rattle.std.specs.HashMap.{HashMap}
+use Rattle.std.specs.Map.{lookup}
+use Rattle.std.specs.Option.{option_map, option_copied_mut, OnSome}
+use Rattle.std.specs.Ordering.{eq_by_cmp}
+use Rattle.key_index_flat.specs.SmallMap.{entries_in, Writes}
+use Rattle.key_index_flat.specs.Storage.{value_of, vector_at, SameBut}
+use Rattle.key_index_flat.specs.Values.{in_order}
+use Rattle.key_index_flat.proofs.content.PairLemmas.{lookup-value_of}
+
+abbrev items_of : {V A : Type 0} → Option (Vec V A) → List V
+items_of v = unwrap_or (option_map (λ v. v.items) v) []
+
+module _ {K V A : Type 0} {eq : K → K → Bool} (cmp : K → K → Ordering) (ties : (x y : K) → eq x y ≡ eq_by_cmp cmp x y) where
+  pub others_set : (old new : List (K × Vec V A)) (k : K) → SameBut cmp (value_of cmp old) (value_of cmp new) k → SameBut cmp (vector_at eq old) (vector_at eq new) k
+  others_set old new k same q apart =
+      ap items_of (lookup-value_of eq cmp ties new q ∙ same q apart ∙ sym (lookup-value_of eq cmp ties old q))
+
+  pub at_set : (new : List (K × Vec V A)) (k : K) (w : Option (Vec V A)) → value_of cmp new k ≡ w → vector_at eq new k ≡ unwrap_or (option_map (λ v. v.items) w) []
+  at_set new k w is = ap items_of (lookup-value_of eq cmp ties new k ∙ is)
+
+  pub absent : {S B : Type 0} (many : Option (Box (HashMap K (Vec V A) S) B)) → many ≡ None → (old : List (K × Vec V A)) (k : K) (lent : Option (MutBor (Vec V A))) → lent ≡ None → option_copied_mut lent ≡ lookup (eq k) old → vector_at eq (entries_in old many) k ≡ []
+  absent many none old k lent missed held =
+      ap (λ m. vector_at eq (entries_in old m) k) none ∙ sym (ap items_of held) ∙ ap (λ r. items_of (option_copied_mut r)) missed
+
+  module _ (o : IsTotalOrder cmp) {S B : Type 0} (many : Option (Box (HashMap K (Vec V A) S) B)) (none : many ≡ None) (old new : List (K × Vec V A)) (k : K)
+      (lent : Option (MutBor (Vec V A))) (x : MutBor (Vec V A)) (some : lent ≡ Some x) (held : option_copied_mut lent ≡ lookup (eq k) old)
+      (w : Vec V A) (written : OnSome lent (Writes eq old new k w)) where
+    writes : Writes eq old new k w
+    writes = subst (λ r. OnSome r (Writes eq old new k w)) some written
+
+    pub had : vector_at eq (entries_in old many) k ≡ x.now.items
+    had = ap (λ m. vector_at eq (entries_in old m) k) none ∙ sym (ap items_of held) ∙ ap (λ r. items_of (option_copied_mut r)) some
+
+    pub has : vector_at eq (entries_in new many) k ≡ w.items
+    has = ap (λ m. vector_at eq (entries_in new m) k) none ∙ ap items_of writes.0
+
+    pub others : SameBut cmp (vector_at eq (entries_in old many)) (vector_at eq (entries_in new many)) k
+    others q apart =
+        ap (λ m. vector_at eq (entries_in new m) q) none ∙ ap items_of (writes.1 q (ties k q ∙ (eq_by_cmp_equiv o).symm k q ∙ apart))
+        ∙ sym (ap (λ m. vector_at eq (entries_in old m) q) none)
+
+pub only_value : {V : Type 0} (reversed : Bool) (place : Option ℕ) (v : V) → IfSome place (λ at. at ≤ 0) → in_order reversed (v ∷ []) ≡ insert (in_order reversed []) (unwrap_or place 0) v
+only_value true None v h = refl
+only_value true (Some zero) v h = refl
+only_value true (Some (suc n)) v h = absurd (omega (arith, h))
+only_value false None v h = refl
+only_value false (Some zero) v h = refl
+only_value false (Some (suc n)) v h = absurd (omega (arith, h))
