@@ -10,9 +10,9 @@ returns-clause-retained g c =
     let said = c.should_retain-stays.result in
     record {
       asked = asked_same (CalledAt g.F.FnMut) c.args.should_retain true _ _ _ _ said
-      (asked_first (CalledAt g.F.FnMut) c.args.should_retain c.should_retain-stays.new.self true head said [] [] said
-      (record { shown = c.args.head; shows = refl; called = c.should_retain-stays.ensures }) (AsksInTurn-none (CalledAt g.F.FnMut) c.should_retain-stays.new.self said))
-      refl (left_by_first said None head [] [] (λ _. refl) (λ _. refl));
+          (asked_first (CalledAt g.F.FnMut) c.args.should_retain c.should_retain-stays.new.self true head said [] [] said
+          (record { shown = c.args.head; shows = refl; called = c.should_retain-stays.ensures }) (AsksInTurn-none (CalledAt g.F.FnMut) c.should_retain-stays.new.self said))
+          refl (left_by_first said None head [] [] (λ _. refl) (λ _. refl));
       had = refl;
       left = search rules;
       none = λ _. refl;

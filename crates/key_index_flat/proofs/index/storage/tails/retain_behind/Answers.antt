@@ -31,10 +31,10 @@ returns-then-head_stays g c =
     let long = tail_left g (goal.at.returns-then-head_stays g c).After-len-left in
     record {
       asked = asked_same (CalledAt g.F.FnMut) c.args.should_retain true _ _ _ _ c.retain_in_turn-stays.result
-      (asked_first (CalledAt g.F.FnMut) c.args.should_retain c.should_retain-head_stays.new.self true head said _ kept c.retain_in_turn-stays.result
-      (record { shown = c.args.head; shows = refl; called = c.should_retain-head_stays.ensures }) c.retain_in_turn-stays.ensures.asked)
-      (ap (λ l. head ∷ l) c.turn.ensures)
-      (left_by_first said None head _ kept (λ _. back) (λ gone. absurd (subst T (sym c.if-head_stays.true ∙ gone) tt)));
+          (asked_first (CalledAt g.F.FnMut) c.args.should_retain c.should_retain-head_stays.new.self true head said _ kept c.retain_in_turn-stays.result
+          (record { shown = c.args.head; shows = refl; called = c.should_retain-head_stays.ensures }) c.retain_in_turn-stays.ensures.asked)
+          (ap (λ l. head ∷ l) c.turn.ensures)
+          (left_by_first said None head _ kept (λ _. back) (λ gone. absurd (subst T (sym c.if-head_stays.true ∙ gone) tt)));
       had = tail_had g (goal.at.returns-then-head_stays g c).After-len-left;
       left = let is = ap (λ stays. length (list_left stays head None (in_order g.E.End.FIRST c.turn-2.new.values.items))) c.if-head_stays.true in omega (arith, is, long);
       none = λ e. absurd (omega (arith, e));
@@ -49,12 +49,12 @@ returns g c =
     let long = tail_left g (goal.at.returns g c).After-len-left in
     record {
       asked = asked_same (CalledAt g.F.FnMut) c.args.should_retain true _ _ _ _ c.retain_in_turn-stays.result
-      (asked_first (CalledAt g.F.FnMut) c.args.should_retain c.should_retain-head_stays.new.self true head said _ kept c.retain_in_turn-stays.result
-      (record { shown = c.args.head; shows = refl; called = c.should_retain-head_stays.ensures }) c.retain_in_turn-stays.ensures.asked)
-      (ap (λ l. head ∷ l) c.turn.ensures)
-      (left_by_first said c.remove_first.result head _ kept (λ stays. absurd (subst T (sym stays ∙ c.if-head_stays.false) tt)) (λ _. back));
+          (asked_first (CalledAt g.F.FnMut) c.args.should_retain c.should_retain-head_stays.new.self true head said _ kept c.retain_in_turn-stays.result
+          (record { shown = c.args.head; shows = refl; called = c.should_retain-head_stays.ensures }) c.retain_in_turn-stays.ensures.asked)
+          (ap (λ l. head ∷ l) c.turn.ensures)
+          (left_by_first said c.remove_first.result head _ kept (λ stays. absurd (subst T (sym stays ∙ c.if-head_stays.false) tt)) (λ _. back));
       had = tail_had g (goal.at.returns g c).After-len-left;
       left = let is = ap (λ stays. length (list_left stays head c.remove_first.result (in_order g.E.End.FIRST c.remove_first.new.values.items))) c.if-head_stays.false in
-      let same = ap (λ l. length l) c.remove_first.ensures.values in omega (arith, is, same, long);
+          let same = ap (λ l. length l) c.remove_first.ensures.values in omega (arith, is, same, long);
       none = λ e. let same = ap (λ l. length l) c.remove_first.ensures.values in none_left g.E.End.FIRST c.remove_first.result c.remove_first.new.values.items c.remove_first.ensures.none (omega (arith, same, long, e));
     }
