@@ -335,7 +335,7 @@ impl<K: Ord + Hash + Copy, V> SmallMap<K, V> {
 impl<K: Ord + Hash + Copy, V> Heads<K, V> for SmallMap<K, V> {
     ghost entries = { λ map. entries_in map.few map.many };
 
-    #[inline]
+    #[inline(always)]
     fn len(&self) -> usize {
         match &self.many {
             Some(map) => map.len(),

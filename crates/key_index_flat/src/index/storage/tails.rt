@@ -107,7 +107,7 @@ fn put_in<K: Ord + Hash + Copy, V: Drop>(
 }
 
 /// Removes the vector at a key, if there is one.
-#[inline(never)]
+#[inline(always)]
 #[tactic(auto, using(crate::proofs::content::VectorLemmas::others_set))]
 fn remove_in<K: Ord + Hash + Copy, V: Drop>(map: &mut SmallMap<K, Vec<V>>, key: K) -> Option<Vec<V>>
     ensures removed { unwrap_or (option_map (λ values. values.items) result) [] ≡ at_key K.eq map.old key }
