@@ -2,6 +2,7 @@
 from asked import Asked
 from case import KINDS, case_of
 from lists import Lists, random_key
+from session import word
 from xorshift import Numbers
 
 # How many calls by key are made.
@@ -23,3 +24,31 @@ def keeps_lists(*words):
             lists.compare_any(index, numbers)
         if lists.pruned == 0:
             raise ValueError("no value was taken out")
+
+
+def key_beside(lists, number):
+    """One of 80 keys of one partition, each with an index key of its own."""
+    return bytes([0x10] * lists.partition_bytes + [number % 80])
+
+
+@case_of(*KINDS)
+def keeps_eighty_lists(*words):
+    """Eighty keys of one partition get two values each, so that neither the first values nor the others stand in one
+    array any more; three thousand calls are made, and then all keys are removed. Behind each call the called key and
+    another one are looked up."""
+    with Asked(*words) as index:
+        lists, numbers = Lists(words[0]), Numbers()
+        for value in range(160):
+            key = key_beside(lists, value)
+            index.ask(f"insert {word(key)} {value}", lists.insert(key, value))
+            lists.compare(index, key_beside(lists, numbers.next()))
+        for count in range(CALLS):
+            number = numbers.next()
+            key = key_beside(lists, number)
+            chosen = number // 128 % 16
+            lists.call(index, numbers, key, min(chosen, 6) if count // 256 % 2 else chosen)
+            lists.compare(index, key)
+            lists.compare(index, key_beside(lists, numbers.next()))
+        lists.clear(index)
+        for number in range(80):
+            lists.compare(index, key_beside(lists, number))

@@ -153,9 +153,10 @@ def build(kind):
     return lines + lines
 
 
-def crowded(_kind):
-    """Forty keys of one partition, whose array becomes a map with the 33rd."""
-    keys = [f"x07{number:02x}" for number in range(40)]
+def crowded(kind):
+    """Forty keys, of one partition where there are some, each with two values. With the 33rd the array of the older
+    values becomes a map, and in a partition that of the newest ones too."""
+    keys = [f"x{number:02x}" if kind in FLAT else f"x07{number:02x}" for number in range(40)]
     lines = []
     for number, key in enumerate(keys):
         lines += twice([f"insert {key} {number}"], [f"get {held}" for held in keys[: number + 1]] + ["counts"])
@@ -313,7 +314,8 @@ def sessions():
         yield kind, "build", build(kind)
     for kind in SPILLING:
         yield kind, "ahead", ahead(kind)
-    yield "punordered", "crowded", crowded("punordered")
+    for kind in ("unordered", "ordered", "punordered"):
+        yield kind, "crowded", crowded(kind)
     for function in (second, overfull):
         yield "pordered_at_2", function.__name__, function("pordered_at_2")
     yield "pordered_at_8", "shrunken", shrunken("pordered_at_8")
