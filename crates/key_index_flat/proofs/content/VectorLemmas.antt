@@ -1,9 +1,10 @@
 -- On the vectors that entries have at their keys.
 --     others_set, at_set    after a change of the entries
 --     absent                where no `&mut` to one of few vectors was found
---     had, has, others      after a `&mut` to one of few vectors: what it was, what it is, and the others
---     only_value            the list of a vector with one value
-use Rattle.std.proofs.Common.{◌≡◌, ℕ, zero, suc, ◌≤◌, Bool, true, false, List, [], ◌∷◌, Option, Some, None, IfSome, unwrap_or, insert, refl, sym, ap, subst, ◌∙◌, Box, arith}
+--     Lent, lent            after a `&mut` to one of few vectors: what it was, what it is, and the others
+--     only_value            the list of a vector with one value, which was inserted
+--     only_behind           or put behind no others
+use Rattle.std.proofs.Common.{◌≡◌, ℕ, zero, suc, ◌≤◌, Bool, true, false, List, [], ◌∷◌, ◌++◌, Option, Some, None, IfSome, unwrap_or, insert, refl, sym, ap, subst, ◌∙◌, Box, arith}
 use Rattle.std.specs.declared.cmp.Ordering.{Ordering}
 use Rattle.std.specs.declared.vec.Vec.{Vec}
 use Rattle.std.specs.Borrow.{MutBor}
@@ -32,22 +33,24 @@ module _ {K V A : Type 0} {eq : K → K → Bool} (cmp : K → K → Ordering) (
   absent many none old k lent missed held =
       ap (λ m. vector_at eq (entries_in old m) k) none ∙ sym (ap items_of held) ∙ ap (λ r. items_of (option_copied_mut r)) missed
 
-  module _ (o : IsTotalOrder cmp) {S B : Type 0} (many : Option (Box (HashMap K (Vec V A) S) B)) (none : many ≡ None) (old new : List (K × Vec V A)) (k : K)
-      (lent : Option (MutBor (Vec V A))) (x : MutBor (Vec V A)) (some : lent ≡ Some x) (held : option_copied_mut lent ≡ lookup (eq k) old)
-      (w : Vec V A) (written : OnSome lent (Writes eq old new k w)) where
-    writes : Writes eq old new k w
-    writes = subst (λ r. OnSome r (Writes eq old new k w)) some written
+pub record Lent {K V A : Type 0} (eq : K → K → Bool) (cmp : K → K → Ordering) (old new : List (K × Vec V A)) (k : K) (before after : List V) : Type 0 where
+  pub had : vector_at eq old k ≡ before
+  pub has : vector_at eq new k ≡ after
+  pub others : SameBut cmp (vector_at eq old) (vector_at eq new) k
 
-    pub had : vector_at eq (entries_in old many) k ≡ x.now.items
-    had = ap (λ m. vector_at eq (entries_in old m) k) none ∙ sym (ap items_of held) ∙ ap (λ r. items_of (option_copied_mut r)) some
-
-    pub has : vector_at eq (entries_in new many) k ≡ w.items
-    has = ap (λ m. vector_at eq (entries_in new m) k) none ∙ ap items_of writes.0
-
-    pub others : SameBut cmp (vector_at eq (entries_in old many)) (vector_at eq (entries_in new many)) k
-    others q apart =
-        ap (λ m. vector_at eq (entries_in new m) q) none ∙ ap items_of (writes.1 q (ties k q ∙ (eq_by_cmp_equiv o).symm k q ∙ apart))
-        ∙ sym (ap (λ m. vector_at eq (entries_in old m) q) none)
+module _ {K V A S B : Type 0} {eq : K → K → Bool} {cmp : K → K → Ordering} (ties : (x y : K) → eq x y ≡ eq_by_cmp cmp x y) (o : IsTotalOrder cmp)
+    {many : Option (Box (HashMap K (Vec V A) S) B)} (none : many ≡ None) (old : List (K × Vec V A)) (k : K) {found : Option (MutBor (Vec V A))} {x : MutBor (Vec V A)}
+    (some : found ≡ Some x) (held : option_copied_mut found ≡ lookup (eq k) old) (new : List (K × Vec V A)) (w : Vec V A) (written : OnSome found (Writes eq old new k w)) where
+  pub lent : Lent eq cmp (entries_in old many) (entries_in new many) k x.now.items w.items
+  lent =
+      let writes = subst (λ r. OnSome r (Writes eq old new k w)) some written in
+      record {
+        had = ap (λ m. vector_at eq (entries_in old m) k) none ∙ sym (ap items_of held) ∙ ap (λ r. items_of (option_copied_mut r)) some;
+        has = ap (λ m. vector_at eq (entries_in new m) k) none ∙ ap items_of writes.0;
+        others = λ q apart.
+            ap (λ m. vector_at eq (entries_in new m) q) none ∙ ap items_of (writes.1 q (ties k q ∙ (eq_by_cmp_equiv o).symm k q ∙ apart))
+            ∙ sym (ap (λ m. vector_at eq (entries_in old m) q) none);
+      }
 
 pub only_value : {V : Type 0} (reversed : Bool) (place : Option ℕ) (v : V) → IfSome place (λ at. at ≤ 0) → in_order reversed (v ∷ []) ≡ insert (in_order reversed []) (unwrap_or place 0) v
 only_value true None v h = refl
@@ -56,3 +59,7 @@ only_value true (Some (suc n)) v h = absurd (omega (arith, h))
 only_value false None v h = refl
 only_value false (Some zero) v h = refl
 only_value false (Some (suc n)) v h = absurd (omega (arith, h))
+
+pub only_behind : {V : Type 0} (reversed : Bool) (v : V) → in_order reversed (v ∷ []) ≡ in_order reversed [] ++ v ∷ []
+only_behind true v = refl
+only_behind false v = refl

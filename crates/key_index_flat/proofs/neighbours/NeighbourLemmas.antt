@@ -1,18 +1,22 @@
 -- On neighbours among entries in order.
 --     slice_get-last, last_entry-by_place  the entry at the last place, and what an ordered map says of it
 --     last_taken                           what the first step of a walk from the end says
+--     first_taken, rest_taken              and one from the start
 --     last_or-map                          the last of what a function makes of entries
 --     content_of-in_order                  newest values in order stand for a content entry by entry
 --     first_list-in_order, ..              so its ends and neighbours are theirs
 --     content_of-popped, IsLinked-popped   what is left where the first entry goes
 --     range_below                          the entries that a range up to a key has
-use Rattle.std.proofs.Common.{◌≡◌, suc, ◌-◌, ◌<◌, Bool, true, false, cond, not, T, List, [], ◌∷◌, ◌++◌, length, map, slice_get, Option, Some, None, IsSome, is_some, IfSome, MatchOption, ◌↔◌, refl, sym, ap, subst, ◌∙◌, arith}
+--     lookup-from                          a range from a key on has the value at that key
+--     first_behind, first_above            the first of two that such a range has is above the key
+use Rattle.std.proofs.Common.{◌≡◌, suc, ◌-◌, ◌<◌, Bool, true, false, cond, not, ◌&&◌, T, List, [], ◌∷◌, ◌++◌, length, map, drop, slice_get, Option, Some, None, IsSome, is_some, IfSome, MatchOption, ◌↔◌, refl, sym, ap, subst, ◌∙◌, arith}
 use Rattle.std.specs.List.{filter, last_or}
 use Rattle.std.specs.List.Sorted.{IsStrictlySortedBy}
 use Rattle.std.specs.Option.{option_map}
 use Rattle.std.specs.BTreeMap.Range.{entries_between}
-use Rattle.std.specs.declared.ops.Bound.TheVariants.{Excluded, Unbounded}
-use Rattle.std.specs.Map.{keys_of}
+use Rattle.std.specs.declared.ops.Bound.TheVariants.{Excluded, Included, Unbounded}
+use Rattle.std.specs.Map.{keys_of, lookup}
+use Rattle.std.proofs.lemmas.Map.Entries.{lookup-filter-keys}
 use Rattle.std.proofs.lemmas.Map.Keys.{sorted_head, sorted_tail}
 use Rattle.std.specs.declared.cmp.Ordering.{Ordering}
 use Rattle.std.specs.declared.cmp.Ordering.TheVariants.{Less, Equal, Greater}
@@ -48,6 +52,14 @@ last_or-append o (x ∷ xs) e = last_or-append (Some x) xs e
 pub last_taken : {A E : Type 0} (shows : A → E) (r : Option A) (es rest : List E) → MatchOption r ((es ≡ []) × (rest ≡ [])) (λ x. es ≡ rest ++ shows x ∷ []) → option_map shows r ≡ last_entry es
 last_taken shows None es rest h = sym (ap last_entry h.0)
 last_taken shows (Some x) es rest h = sym (ap last_entry h ∙ last_or-append None rest (shows x))
+
+pub first_taken : {A E : Type 0} (shows : A → E) (r : Option A) (es rest : List E) → MatchOption r ((es ≡ []) × (rest ≡ [])) (λ x. es ≡ shows x ∷ rest) → option_map shows r ≡ first_entry es
+first_taken shows None es rest h = sym (ap first_entry h.0)
+first_taken shows (Some x) es rest h = sym (ap first_entry h)
+
+pub rest_taken : {A E : Type 0} (shows : A → E) (r : Option A) (es rest : List E) → MatchOption r ((es ≡ []) × (rest ≡ [])) (λ x. es ≡ shows x ∷ rest) → rest ≡ drop 1 es
+rest_taken shows None es rest h = h.1 ∙ sym (ap (drop 1) h.0)
+rest_taken shows (Some x) es rest h = sym (ap (drop 1) h)
 
 -- ---- tests and maps of entries
 
@@ -142,6 +154,48 @@ is_lt-reverse Less = refl
 is_lt-reverse Equal = refl
 is_lt-reverse Greater = refl
 
+from_equal : (r : Ordering) → is_eq r ≡ true → (is_le r && true) ≡ true
+from_equal Less h = refl
+from_equal Equal h = refl
+from_equal Greater h = cc
+
+module _ {K V : Type 0} (cmp : K → K → Ordering) (k : K) where
+  -- the first entry above the key, by the first one from it on and those behind that
+  abbrev pub first_behind : Option (K × V) → List (K × V) → Option (K × V)
+  first_behind None l = None
+  first_behind (Some e) l = cond (is_eq (cmp k e.0)) (first_entry l) (Some e)
+
 module _ {K V : Type 0} (cmp : K → K → Ordering) (es : List (K × V)) (k : K) where
   pub range_below : IsTotalOrder cmp → entries_between cmp Unbounded (Excluded k) es ≡ entries_below cmp es k
   range_below o = filter_alike _ _ (λ e. is_lt-reverse (cmp k e.0) ∙ ap is_lt (sym (o.antisymm e.0 k))) es
+
+  pub lookup-from : lookup (eq_by_cmp cmp k) (entries_between cmp (Included k) Unbounded es) ≡ value_of cmp es k
+  lookup-from = lookup-filter-keys (eq_by_cmp cmp k) _ true (λ q. from_equal (cmp k q)) es
+
+  abbrev from_key : List (K × V) → List (K × V)
+  from_key l = entries_between cmp (Included k) Unbounded l
+
+  above_from : (d : K) → ((q : K) → cmp d q ≡ Less → cmp k q ≡ Less) → (l : List (K × V)) → AllByRecursion (λ q. cmp d q ≡ Less) (keys_of l) → entries_above cmp l k ≡ from_key l
+  above_from d less [] h = refl
+  above_from d less (e ∷ l) h =
+      let is : cmp k e.0 ≡ Less = less e.0 h.0 in
+      ap (λ r. cond (is_lt r) (e ∷ entries_above cmp l k) (entries_above cmp l k)) is
+      ∙ ap (λ m. e ∷ m) (above_from d less l h.1)
+      ∙ sym (ap (λ r. cond (is_le r && true) (e ∷ from_key l) (from_key l)) is)
+
+  above_by_first : IsTotalOrder cmp → (l : List (K × V)) → IsStrictlySortedBy cmp (keys_of l) → first_entry (entries_above cmp l k) ≡ first_behind cmp k (first_entry (from_key l)) (drop 1 (from_key l))
+  above_by_first o [] h = refl
+  above_by_first o (e ∷ l) h =
+      let above = entries_above cmp l k in
+      let from = from_key l in
+      elim (cmp k e.0) as (λ r. cmp k e.0 ≡ r → first_entry (cond (is_lt r) (e ∷ above) above)
+      ≡ first_behind cmp k (first_entry (cond (is_le r && true) (e ∷ from) from)) (drop 1 (cond (is_le r && true) (e ∷ from) from))) [
+        | Less ↦ λ is. sym (ap (λ r. cond (is_eq r) (first_entry from) (Some e)) is)
+        | Equal ↦ λ is. ap first_entry (above_from e.0 (λ q less. o.congr k e.0 q is ∙ less) l (sorted_head cmp e.0 _ h)) ∙ sym (ap (λ r. cond (is_eq r) (first_entry from) (Some e)) is)
+        | Greater ↦ λ is. above_by_first o l (sorted_tail cmp e.0 _ h)
+      ] refl
+
+  pub first_above : IsTotalOrder cmp → IsStrictlySortedBy cmp (keys_of es) → (from : List (K × V)) → from ≡ from_key es → (first : Option (K × V)) → first ≡ first_entry from
+      → first_behind cmp k first (drop 1 from) ≡ first_entry (entries_above cmp es k)
+  first_above o sorted from is first found =
+      ap (λ f. first_behind cmp k f (drop 1 from)) found ∙ ap (λ l. first_behind cmp k (first_entry l) (drop 1 l)) is ∙ sym (above_by_first o es sorted)

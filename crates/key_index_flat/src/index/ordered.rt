@@ -5,6 +5,7 @@ ghost use Rattle.key_index_flat.specs.Storage.{view_of};
 
 use super::implement::{Lists, show_by_key, visit_by_key};
 use super::storage::Storage;
+use super::storage::tree_key::TreeKey;
 use super::{Factory, Fault, IndexCursor, Ordered, Refused, Runs, Search, Unordered, Values};
 use crate::translator::{OrderedTranslator, Translator};
 use std::alloc::Global;
@@ -18,7 +19,7 @@ use std::convert::AsSlice;
 /// order of bytes it also gives the neighbours of a key: each by a number of comparisons that is logarithmic in the keys.
 #[derive(Drop)]
 pub struct Index<T: Translator, V> {
-    storage: Storage<T, V, BTreeMap<T::Key, V>>,
+    storage: Storage<T, V, BTreeMap<TreeKey<T::Key>, V>>,
     ghost lawful: { IsLawful T.Key.cmp storage.content },
 }
 

@@ -12,6 +12,7 @@ pub mod chains;
 pub mod heads;
 pub mod small_map;
 pub mod tails;
+pub mod tree_key;
 
 use super::implement::Retained;
 use super::{Refused, Values};

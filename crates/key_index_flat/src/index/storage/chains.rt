@@ -12,9 +12,10 @@ ghost use Rattle.key_index_flat.specs.Storage.{content_of, list_of, tail_at, IsL
 ghost use Rattle.key_index_flat.specs.Values.{values_of, VisitsEach};
 ghost use Rattle.key_index_flat.specs.View.{put_value};
 
-use super::heads::{Heads, OrderedHeads};
+use super::heads::{Heads, OrderedHeads, pop_least};
 use super::small_map::SmallMap;
 use super::tails::{Back, End, Tails};
+use super::tree_key::TreeKey;
 use crate::index::Values;
 use crate::index::retain::Retained;
 use crate::index::values::visit_in_turn;
@@ -419,7 +420,7 @@ fn visit_few<K: Ord + Hash + Copy, V, F: FnMut(&V), E: End>(
 
 /// What `visit_all` does, of first values in an ordered map.
 fn visit_in_order<K: Ord + Hash + Copy, V, F: FnMut(&V), E: End>(
-    heads: &BTreeMap<K, V>,
+    heads: &BTreeMap<TreeKey<K>, V>,
     tails: &Tails<K, V, E>,
     visit: &mut F,
 )
@@ -430,11 +431,11 @@ fn visit_in_order<K: Ord + Hash + Copy, V, F: FnMut(&V), E: End>(
     ensures callable { F.IsAlwaysCallable visit.new }
 {
     for (key, head) in heads.iter() {
-        visit_in_turn(tails.list(*key, head), visit);
+        visit_in_turn(tails.list(key.get(), head), visit);
     }
 }
 
-impl<T: Translator, V: Drop> Chains<T, V, BTreeMap<T::Key, V>, Back> {
+impl<T: Translator, V: Drop> Chains<T, V, BTreeMap<TreeKey<T::Key>, V>, Back> {
     /// Calls a closure once on each value.
     pub fn visit_in_order<F: FnMut(&V)>(&self, visit: &mut F)
         requires { F.IsAlwaysCallable visit.old }
@@ -465,9 +466,7 @@ impl<T: Translator, V: Drop> Chains<T, V, BTreeMap<T::Key, V>, Back> {
         ensures some { IfSome result (λ list. self.old ≡ (list.0, list.1 ∷ list.2.items) ∷ self.new) }
         ensures none { IfNone result (self.old ≡ []) }
     {
-        // Its contract says that the keys rise.
-        let _len = self.heads.len();
-        let (slot, head) = self.heads.pop_first()?;
+        let (slot, head) = pop_least(&mut self.heads)?;
         let Some(tail) = self.tails.take(slot) else {
             return Some((slot, head, Vec::new(self.alloc)));
         };

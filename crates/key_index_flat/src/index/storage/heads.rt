@@ -1,5 +1,5 @@
 //! A map from keys to the first value of each list, hashed or in the order of its keys.
-ghost use Rattle.std.specs.Prelude.{◌≡◌, ◌+◌, List, Option, Some, None, IfOk, IfErr, OnOk, OnErr, is_some, IsSome, unwrap_or, not, if◌then◌else◌, length};
+ghost use Rattle.std.specs.Prelude.{◌≡◌, ◌+◌, ◌∷◌, [], List, Option, Some, None, IfSome, IfNone, IfOk, IfErr, OnOk, OnErr, is_some, IsSome, unwrap_or, not, if◌then◌else◌, length};
 ghost use Rattle.std.specs.List.Sorted.{IsStrictlySortedBy};
 ghost use Rattle.std.specs.Map.{keys_of};
 ghost use Rattle.std.specs.Map.Iter.{deref_pair};
@@ -8,11 +8,11 @@ ghost use Rattle.std.specs.HashMap.{get, hash_map_len};
 ghost use Rattle.key_index_flat.specs.Neighbours.{first_entry, last_entry, entries_above, entries_below};
 ghost use Rattle.key_index_flat.specs.Storage.{value_of, SameBut, Sets};
 
+use super::tree_key::TreeKey;
 use std::collections::hash_map::Entry;
 use std::collections::{BTreeMap, HashMap, btree_map};
 use std::hash::Hash;
 use std::mem::replace;
-use std::ops::Bound;
 
 /// A map from keys to the first value of each.
 pub trait Heads<K: Ord + Hash + Copy, V> {
@@ -141,7 +141,7 @@ fn put_absent<K: Ord + Hash + Copy, V: Drop>(
     }
 }
 
-impl<K: Ord + Hash + Copy, V> Heads<K, V> for BTreeMap<K, V> {
+impl<K: Ord + Hash + Copy, V> Heads<K, V> for BTreeMap<TreeKey<K>, V> {
     ghost entries = { λ map. map.entries };
 
     #[inline]
@@ -152,9 +152,9 @@ impl<K: Ord + Hash + Copy, V> Heads<K, V> for BTreeMap<K, V> {
     // A range's walk down the tree asks one thing of each key that it passes, and `get` of the map two.
     #[inline]
     fn get(&self, key: &K) -> Option<&V> {
-        match self.range(*key..).next() {
+        match self.range(TreeKey { key: *key }..).next() {
             Some((found, value)) => {
-                if found.cmp(key).is_eq() {
+                if found.key.cmp(key).is_eq() {
                     return Some(value);
                 }
                 None
@@ -168,7 +168,7 @@ impl<K: Ord + Hash + Copy, V> Heads<K, V> for BTreeMap<K, V> {
     where
         V: Drop,
     {
-        match BTreeMap::insert(self, key, value) {
+        match BTreeMap::insert(self, TreeKey { key }, value) {
             Ok(old) => Ok(old),
             Err(failed) => {
                 let (_, value) = failed.value;
@@ -182,7 +182,7 @@ impl<K: Ord + Hash + Copy, V> Heads<K, V> for BTreeMap<K, V> {
     where
         V: Drop,
     {
-        match self.entry(key) {
+        match self.entry(TreeKey { key }) {
             Err(_) => Err(value),
             Ok(btree_map::Entry::Occupied(entry)) => {
                 entry.into_mut();
@@ -197,12 +197,12 @@ impl<K: Ord + Hash + Copy, V> Heads<K, V> for BTreeMap<K, V> {
 
     #[inline]
     fn replace(&mut self, key: &K, value: V) -> V {
-        replace(self.get_mut(key).unwrap(), value)
+        replace(self.get_mut(&TreeKey { key: *key }).unwrap(), value)
     }
 
     #[inline]
     fn remove(&mut self, key: &K) -> Option<V> {
-        BTreeMap::remove(self, key)
+        BTreeMap::remove(self, &TreeKey { key: *key })
     }
 }
 
@@ -229,27 +229,58 @@ pub trait OrderedHeads<K: Ord + Hash + Copy, V>: Heads<K, V> {
         ensures rises { IsStrictlySortedBy K.cmp (keys_of (Self.entries self.now)) };
 }
 
-impl<K: Ord + Hash + Copy, V> OrderedHeads<K, V> for BTreeMap<K, V> {
+/// Removes the entry with the least key.
+#[inline]
+pub(super) fn pop_least<K: Ord + Copy, V>(map: &mut BTreeMap<TreeKey<K>, V>) -> Option<(K, V)>
+    ensures removal { IfSome result (λ entry. map.old.entries ≡ entry ∷ map.new.entries) }
+    ensures none { IfNone result (map.old.entries ≡ []) }
+    ensures kept { IfNone result (map.new.entries ≡ map.old.entries) }
+    ensures rises { IsStrictlySortedBy K.cmp (keys_of map.old.entries) }
+{
+    // Its contract says that the keys rise.
+    let _len = map.len();
+    let (key, value) = map.pop_first()?;
+    Some((key.get(), value))
+}
+
+/// The key itself of an entry.
+#[inline(always)]
+fn own_key<'a, K, V>(found: Option<(&'a TreeKey<K>, &'a V)>) -> Option<(&'a K, &'a V)>
+    ensures { option_map deref_pair result ≡ option_map deref_pair found.entry }
+{
+    match found {
+        Some((key, value)) => Some((&key.key, value)),
+        None => None,
+    }
+}
+
+impl<K: Ord + Hash + Copy, V> OrderedHeads<K, V> for BTreeMap<TreeKey<K>, V> {
     #[inline]
     fn first(&self) -> Option<(&K, &V)> {
         // Its contract says that the keys rise.
         let _len = self.len();
-        self.first_key_value()
+        own_key(self.first_key_value())
     }
 
     #[inline]
     fn last(&self) -> Option<(&K, &V)> {
         let _len = self.len();
-        self.last_key_value()
+        own_key(self.last_key_value())
     }
 
+    // From the key itself on, since a walk to the first key above one compares more at each key that it passes.
     #[inline]
     fn above(&self, key: &K) -> Option<(&K, &V)> {
-        self.range((Bound::Excluded(*key), Bound::Unbounded)).next()
+        let mut rest = self.range(TreeKey { key: *key }..);
+        let (found, value) = own_key(rest.next())?;
+        if key.cmp(found).is_eq() {
+            return own_key(rest.next());
+        }
+        Some((found, value))
     }
 
     #[inline]
     fn below(&self, key: &K) -> Option<(&K, &V)> {
-        self.range(..*key).next_back()
+        own_key(self.range(..TreeKey { key: *key }).next_back())
     }
 }

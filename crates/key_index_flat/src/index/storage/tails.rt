@@ -371,8 +371,7 @@ fn retain_behind<V: Drop, F: FnMut(&V) -> bool, E: End>(
 #[inline]
 fn retain_alone<V, F: FnMut(&V) -> bool>(head: &V, mut should_retain: F) -> TailRetained<V>
     requires { F.IsAlwaysCallable should_retain }
-    ensures retained { RetainsTail (CalledAt F.FnMut) should_retain head.now [] [] result }
-    ensures fits { result.had < usize.MAX }
+    ensures { RetainsTail (CalledAt F.FnMut) should_retain head.now [] [] result }
 {
     let stays = should_retain(head);
     TailRetained {
@@ -462,6 +461,38 @@ fn insert_and_retain_many<K: Ord + Hash + Copy, V: Drop, F: FnMut(&V) -> bool, E
     }
 }
 
+/// `insert_and_retain_many`, while the vectors stand in the array.
+fn insert_and_retain_few<K: Ord + Hash + Copy, V: Drop, F: FnMut(&V) -> bool, E: End>(
+    alloc: Global,
+    map: &mut SmallMap<K, Vec<V>>,
+    key: K,
+    head: &V,
+    value: V,
+    should_retain: F,
+) -> Result<TailRetained<V>, V>
+    requires few { map.old.many ≡ None }
+    requires callable { F.IsAlwaysCallable should_retain }
+    ensures retained { IfOk result (λ r. RetainsTail (CalledAt F.FnMut) should_retain head.now
+        (in_order E.FIRST (at_key K.eq map.old key) ++ value ∷ []) (in_order E.FIRST (at_key K.eq map.new key)) r) }
+    ensures fits { IfOk result (λ r. r.had < usize.MAX) }
+    ensures others { SameBut K.cmp (at_key K.eq map.old) (at_key K.eq map.new) key }
+    ensures refused { OnErr result (at_key K.eq map.new key ≡ at_key K.eq map.old key) }
+    ensures returned { IfErr result (λ back. back ≡ value) }
+{
+    if let Some(values) = map.few.get_mut(&key) {
+        insert_value::<V, E>(values, None, value)?;
+        let retained = retain_behind::<V, F, E>(head, values, should_retain);
+        let left = values.len();
+        remove_empty(map, key, left);
+        return Ok(retained);
+    }
+    let values = vector_of(alloc, value)?;
+    match map.put(key, values) {
+        Ok(()) => Ok(retain_in::<K, V, F, E>(map, key, head, should_retain)),
+        Err(mut values) => Err(values.pop().unwrap()),
+    }
+}
+
 /// `insert_and_retain_many`, of few or of many.
 fn insert_and_retain_in<K: Ord + Hash + Copy, V: Drop, F: FnMut(&V) -> bool, E: End>(
     alloc: Global,
@@ -482,8 +513,7 @@ fn insert_and_retain_in<K: Ord + Hash + Copy, V: Drop, F: FnMut(&V) -> bool, E: 
     if let Some(many) = &mut map.many {
         return insert_and_retain_many::<K, V, F, E>(alloc, many, key, head, value, should_retain);
     }
-    insert_few::<K, V, E>(alloc, map, key, None, value)?;
-    Ok(retain_in::<K, V, F, E>(map, key, head, should_retain))
+    insert_and_retain_few::<K, V, F, E>(alloc, map, key, head, value, should_retain)
 }
 
 impl<K: Ord + Hash + Copy, V, E: End> Tails<K, V, E> {
@@ -673,6 +703,7 @@ impl<K: Ord + Hash + Copy, V, E: End> Tails<K, V, E> {
 
     /// Inserts a value behind the last one, which allocates all the memory that the call may need, and then `retain_behind`. A refusal
     /// hands the value back and changes nothing.
+    #[inline(always)]
     pub(super) fn insert_and_retain<F: FnMut(&V) -> bool>(
         &mut self,
         alloc: Global,

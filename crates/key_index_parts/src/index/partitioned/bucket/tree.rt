@@ -5,7 +5,7 @@ ghost use Rattle.key_index_flat.specs.Storage.{IsCounted};
 
 use super::{EditBucket, Form, Held, OrderedBucket, ReadBucket};
 use key_index_flat::index::Values;
-use key_index_flat::index::implement::{Back, Chains, Retained};
+use key_index_flat::index::implement::{Back, Chains, Retained, TreeKey};
 use key_index_flat::translator::Translator;
 use std::alloc::Global;
 use std::collections::BTreeMap;
@@ -13,7 +13,7 @@ use std::collections::BTreeMap;
 /// A bucket as lists whose first values stand in an ordered map, and how many values there are: `usize::MAX` at most.
 #[derive(Drop)]
 pub struct Tree<T: Translator, V> {
-    lists: Chains<T, V, BTreeMap<T::Key, V>, Back>,
+    lists: Chains<T, V, BTreeMap<TreeKey<T::Key>, V>, Back>,
     len: usize,
     ghost counted: { IsCounted T.Key.cmp lists len },
 }
@@ -27,7 +27,7 @@ impl<T: Translator, V: Drop> Tree<T, V> {
     }
 
     /// The bucket that some lists are, with so many values in them.
-    pub(super) fn of_lists(lists: Chains<T, V, BTreeMap<T::Key, V>, Back>, len: usize) -> Tree<T, V>
+    pub(super) fn of_lists(lists: Chains<T, V, BTreeMap<TreeKey<T::Key>, V>, Back>, len: usize) -> Tree<T, V>
         requires { IsCounted T.Key.cmp lists len }
         ensures { result.lists ≡ lists }
     {
@@ -35,7 +35,7 @@ impl<T: Translator, V: Drop> Tree<T, V> {
     }
 
     /// The lists of the bucket.
-    pub(super) fn into_lists(self) -> Chains<T, V, BTreeMap<T::Key, V>, Back>
+    pub(super) fn into_lists(self) -> Chains<T, V, BTreeMap<TreeKey<T::Key>, V>, Back>
         ensures { result ≡ self.lists }
     {
         self.lists

@@ -1,4 +1,4 @@
-use Rattle.std.proofs.Common.{[], ◌∷◌, map, sym, subst, ◌∙◌}
+use Rattle.std.proofs.Common.{[], ◌∷◌, map, ap, sym, subst, ◌∙◌}
 use Rattle.std.proofs.lemmas.List.{map-append}
 use Rattle.std.proofs.lemmas.Map.Iter.{iter_end}
 use Rattle.std.specs.Fn.{CalledAt}
@@ -12,7 +12,7 @@ pub loop-key-preserved : goal.loop-key-preserved
 loop-key-preserved g c =
     let tail = tail_at g.E.End.FIRST g.K.PartialEq.eq c.args.tails.now.map in
     let e : g.row.K.Denot × g.row.V.Denot = (c.in-Some.key.now, c.in-Some.head.now) in
-    let list = subst (λ l. VisitsInTurn (CalledAt g.F.FnMut) c.loop-key.visit l c.visit_in_turn.new.visit) c.list.ensures c.visit_in_turn.ensures.visited in (
+    let list = subst (λ l. VisitsInTurn (CalledAt g.F.FnMut) c.loop-key.visit l c.visit_in_turn.new.visit) (c.list.ensures ∙ ap (λ k. c.in-Some.head.now ∷ tail k) c.get.ensures) c.visit_in_turn.ensures.visited in (
       subst (λ es. VisitsInTurn (CalledAt g.F.FnMut) c.args.visit.now (in_turn tail es) c.visit_in_turn.new.visit)
           (sym (map-append deref_pair c.loop-key.yielded ((c.in-Some.key, c.in-Some.head) ∷ [])))
           (visits_more tail (CalledAt g.F.FnMut) c.args.visit.now c.loop-key.visit c.visit_in_turn.new.visit (map deref_pair c.loop-key.yielded) e c.loop-key.invariant.0 list),

@@ -3,27 +3,24 @@ use Rattle.std.proofs.lemmas.Result.{on_ok_weaker, on_err_weaker}
 use Rattle.key_index_flat.specs.SmallMap.{entries_in}
 use Rattle.key_index_flat.specs.Storage.{vector_at}
 use Rattle.key_index_flat.specs.Values.{in_order}
-use Rattle.key_index_flat.proofs.content.VectorLemmas.{absent, at_set, had, has, only_value, others, others_set}
+use Rattle.key_index_flat.proofs.content.VectorLemmas.{absent, at_set, lent, only_value, others_set}
 use Rattle.key_index_flat.proofs.index.storage.tails.insert_few.Goals as goal
 
 pub returns-in-Some-clause-at : goal.returns-in-Some-clause-at
 returns-in-Some-clause-at g c =
     let first = g.E.End.FIRST in
-    let before = had g.K.Ord.cmp g.met.K.Ord.matches_eq g.met.K.Ord.total c.args.map.now.many c.requires.few c.args.map.now.few (c.get_mut.follows.lender c.insert_value.new.values) c.args.key c.get_mut.result c.in-Some.values c.in-Some.is c.get_mut.ensures.value c.insert_value.new.values (c.get_mut.follows.holds c.insert_value.new.values) in
-    let after = has g.K.Ord.cmp g.met.K.Ord.matches_eq g.met.K.Ord.total c.args.map.now.many c.requires.few c.args.map.now.few (c.get_mut.follows.lender c.insert_value.new.values) c.args.key c.get_mut.result c.in-Some.values c.in-Some.is c.get_mut.ensures.value c.insert_value.new.values (c.get_mut.follows.holds c.insert_value.new.values) in
+    let v = lent g.met.K.Ord.matches_eq g.met.K.Ord.total c.requires.few c.args.map.now.few c.args.key c.in-Some.is c.get_mut.ensures.value _ c.insert_value.new.values (c.get_mut.follows.holds c.insert_value.new.values) in
     on_ok_weaker c.insert_value.result
-    (λ at. ap (in_order first) after ∙ at ∙ sym (ap (λ l. insert (in_order first l) (unwrap_or c.args.place (length l)) c.args.value) before))
+    (λ at. ap (in_order first) v.has ∙ at ∙ sym (ap (λ l. insert (in_order first l) (unwrap_or c.args.place (length l)) c.args.value) v.had))
     c.insert_value.ensures.at
 
 pub returns-in-Some-clause-refused : goal.returns-in-Some-clause-refused
 returns-in-Some-clause-refused g c =
-    let before = had g.K.Ord.cmp g.met.K.Ord.matches_eq g.met.K.Ord.total c.args.map.now.many c.requires.few c.args.map.now.few (c.get_mut.follows.lender c.insert_value.new.values) c.args.key c.get_mut.result c.in-Some.values c.in-Some.is c.get_mut.ensures.value c.insert_value.new.values (c.get_mut.follows.holds c.insert_value.new.values) in
-    let after = has g.K.Ord.cmp g.met.K.Ord.matches_eq g.met.K.Ord.total c.args.map.now.many c.requires.few c.args.map.now.few (c.get_mut.follows.lender c.insert_value.new.values) c.args.key c.get_mut.result c.in-Some.values c.in-Some.is c.get_mut.ensures.value c.insert_value.new.values (c.get_mut.follows.holds c.insert_value.new.values) in
-    on_err_weaker c.insert_value.result (λ same. after ∙ same ∙ sym before) c.insert_value.ensures.refused
+    let v = lent g.met.K.Ord.matches_eq g.met.K.Ord.total c.requires.few c.args.map.now.few c.args.key c.in-Some.is c.get_mut.ensures.value _ c.insert_value.new.values (c.get_mut.follows.holds c.insert_value.new.values) in
+    on_err_weaker c.insert_value.result (λ same. v.has ∙ same ∙ sym v.had) c.insert_value.ensures.refused
 
 pub returns-in-Some-clause-others : goal.returns-in-Some-clause-others
-returns-in-Some-clause-others g c =
-    others g.K.Ord.cmp g.met.K.Ord.matches_eq g.met.K.Ord.total c.args.map.now.many c.requires.few c.args.map.now.few (c.get_mut.follows.lender c.insert_value.new.values) c.args.key c.get_mut.result c.in-Some.values c.in-Some.is c.get_mut.ensures.value c.insert_value.new.values (c.get_mut.follows.holds c.insert_value.new.values)
+returns-in-Some-clause-others g c = (lent g.met.K.Ord.matches_eq g.met.K.Ord.total c.requires.few c.args.map.now.few c.args.key c.in-Some.is c.get_mut.ensures.value _ c.insert_value.new.values (c.get_mut.follows.holds c.insert_value.new.values)).others
 
 pub returns-in-Ok-clause-at : goal.returns-in-Ok-clause-at
 returns-in-Ok-clause-at g c =

@@ -4,8 +4,8 @@ use Rattle.key_index_flat.proofs.asked.TurnLemmas.{asked_first, asked_same, Asks
 use Rattle.key_index_flat.proofs.content.EditLemmas.{left_by_first}
 use Rattle.key_index_flat.proofs.index.storage.tails.retain_alone.Goals as goal
 
-pub returns-clause-retained : goal.returns-clause-retained
-returns-clause-retained g c =
+pub returns : goal.returns
+returns g c =
     let head = c.args.head.now in
     let said = c.should_retain-stays.result in
     record {

@@ -2,31 +2,26 @@ use Rattle.std.proofs.Common.{rules, ◌≡◌, length, sym, ap, subst, ◌∙�
 use Rattle.std.specs.Fn.{CalledAt}
 use Rattle.key_index_flat.specs.Storage.{at_key, RetainsTail}
 use Rattle.key_index_flat.specs.Values.{in_order}
-use Rattle.key_index_flat.proofs.content.VectorLemmas.{had, has, others}
+use Rattle.key_index_flat.proofs.content.VectorLemmas.{lent}
 use Rattle.key_index_flat.proofs.index.storage.tails.retain_in.Goals as goal
 
 pub remove_empty-requires-2 : goal.remove_empty-requires-2
 remove_empty-requires-2 g c =
     let values = c.retain_behind-retained-2.new.values in
     let long : c.len-left-2.result ≡ length values.items = search rules in
-    long ∙ sym (ap (λ l. length l) (has g.K.Ord.cmp g.met.K.Ord.matches_eq g.met.K.Ord.total c.args.map.now.many c.in_default.is c.args.map.now.few (c.get_mut-2.follows.lender values) c.args.key c.get_mut-2.result
-    c.in-Some-get_mut-2.values c.in-Some-get_mut-2.is c.get_mut-2.ensures.value values (c.get_mut-2.follows.holds values)))
+    let v = lent g.met.K.Ord.matches_eq g.met.K.Ord.total c.in_default.is c.args.map.now.few c.args.key c.in-Some-get_mut-2.is c.get_mut-2.ensures.value _ values (c.get_mut-2.follows.holds values) in
+    long ∙ sym (ap (λ l. length l) v.has)
 
 pub returns-clause-retained : goal.returns-clause-retained
 returns-clause-retained g c =
     let first = g.E.End.FIRST in
     let values = c.retain_behind-retained-2.new.values in
-    let before = had g.K.Ord.cmp g.met.K.Ord.matches_eq g.met.K.Ord.total c.args.map.now.many c.in_default.is c.args.map.now.few (c.get_mut-2.follows.lender values) c.args.key c.get_mut-2.result
-    c.in-Some-get_mut-2.values c.in-Some-get_mut-2.is c.get_mut-2.ensures.value values (c.get_mut-2.follows.holds values) in
-    let after = has g.K.Ord.cmp g.met.K.Ord.matches_eq g.met.K.Ord.total c.args.map.now.many c.in_default.is c.args.map.now.few (c.get_mut-2.follows.lender values) c.args.key c.get_mut-2.result
-    c.in-Some-get_mut-2.values c.in-Some-get_mut-2.is c.get_mut-2.ensures.value values (c.get_mut-2.follows.holds values) in
-    subst (λ l. RetainsTail (CalledAt g.F.FnMut) c.args.should_retain c.args.head.now (in_order first l) (in_order first (at_key g.K.PartialEq.eq c.remove_empty-2.new.map c.args.key)) c.retain_behind-retained-2.result) (sym before)
-    (subst (λ l. RetainsTail (CalledAt g.F.FnMut) c.args.should_retain c.args.head.now (in_order first c.in-Some-get_mut-2.values.now.items) (in_order first l) c.retain_behind-retained-2.result) (sym (c.remove_empty-2.ensures.at ∙ after))
+    let v = lent g.met.K.Ord.matches_eq g.met.K.Ord.total c.in_default.is c.args.map.now.few c.args.key c.in-Some-get_mut-2.is c.get_mut-2.ensures.value _ values (c.get_mut-2.follows.holds values) in
+    subst (λ l. RetainsTail (CalledAt g.F.FnMut) c.args.should_retain c.args.head.now (in_order first l) (in_order first (at_key g.K.PartialEq.eq c.remove_empty-2.new.map c.args.key)) c.retain_behind-retained-2.result) (sym v.had)
+    (subst (λ l. RetainsTail (CalledAt g.F.FnMut) c.args.should_retain c.args.head.now (in_order first c.in-Some-get_mut-2.values.now.items) (in_order first l) c.retain_behind-retained-2.result) (sym (c.remove_empty-2.ensures.at ∙ v.has))
     c.retain_behind-retained-2.ensures)
 
 pub returns-clause-others : goal.returns-clause-others
 returns-clause-others g c = λ q apart.
     let values = c.retain_behind-retained-2.new.values in
-    c.remove_empty-2.ensures.others q apart
-    ∙ others g.K.Ord.cmp g.met.K.Ord.matches_eq g.met.K.Ord.total c.args.map.now.many c.in_default.is c.args.map.now.few (c.get_mut-2.follows.lender values) c.args.key c.get_mut-2.result
-    c.in-Some-get_mut-2.values c.in-Some-get_mut-2.is c.get_mut-2.ensures.value values (c.get_mut-2.follows.holds values) q apart
+    c.remove_empty-2.ensures.others q apart ∙ (lent g.met.K.Ord.matches_eq g.met.K.Ord.total c.in_default.is c.args.map.now.few c.args.key c.in-Some-get_mut-2.is c.get_mut-2.ensures.value _ values (c.get_mut-2.follows.holds values)).others q apart
