@@ -27,7 +27,10 @@ impl<T: Translator, V: Drop> Tree<T, V> {
     }
 
     /// The bucket that some lists are, with so many values in them.
-    pub(super) fn of_lists(lists: Chains<T, V, BTreeMap<TreeKey<T::Key>, V>, Back>, len: usize) -> Tree<T, V>
+    pub(super) fn of_lists(
+        lists: Chains<T, V, BTreeMap<TreeKey<T::Key>, V>, Back>,
+        len: usize,
+    ) -> Tree<T, V>
         requires { IsCounted T.Key.cmp lists len }
         ensures { result.lists ≡ lists }
     {
