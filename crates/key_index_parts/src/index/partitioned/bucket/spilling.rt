@@ -152,7 +152,7 @@ impl<T: Translator, V: Drop> ReadBucket<T, V> for Spilling<T, V> {
         }
     }
 
-    #[inline]
+    #[inline(always)]
     fn run_len(&self, key: T::Key) -> usize {
         match &self.tree {
             Some(tree) => tree.run_len(key),
@@ -160,7 +160,7 @@ impl<T: Translator, V: Drop> ReadBucket<T, V> for Spilling<T, V> {
         }
     }
 
-    #[inline]
+    #[inline(always)]
     fn value_at(&self, key: T::Key, place: usize) -> &V {
         match &self.tree {
             Some(tree) => tree.value_at(key, place),
@@ -177,6 +177,7 @@ impl<T: Translator, V: Drop> ReadBucket<T, V> for Spilling<T, V> {
 }
 
 impl<T: Translator, V: Drop> EditBucket<T, V> for Spilling<T, V> {
+    #[inline(always)]
     fn set_at(&mut self, key: T::Key, place: usize, value: V) {
         match &mut self.tree {
             Some(tree) => tree.set_at(key, place, value),

@@ -76,12 +76,12 @@ impl<T: Translator, V: Drop> ReadBucket<T, V> for Tree<T, V> {
         self.lists.get(key)
     }
 
-    #[inline]
+    #[inline(never)]
     fn run_len(&self, key: T::Key) -> usize {
         self.lists.run_len(key)
     }
 
-    #[inline]
+    #[inline(never)]
     fn value_at(&self, key: T::Key, place: usize) -> &V {
         self.lists.value_at(key, place)
     }
@@ -92,6 +92,7 @@ impl<T: Translator, V: Drop> ReadBucket<T, V> for Tree<T, V> {
 }
 
 impl<T: Translator, V: Drop> EditBucket<T, V> for Tree<T, V> {
+    #[inline(never)]
     fn set_at(&mut self, key: T::Key, place: usize, value: V) {
         self.lists.set_at(key, place, value);
     }
