@@ -6,4 +6,4 @@ pub use super::retain::{Retained, retain_in_turn};
 pub use super::storage::chains::Chains;
 pub use super::storage::small_map::SmallMap;
 pub use super::storage::tails::{Back, End, Front};
-pub use super::storage::tree_key::TreeKey;
+pub use super::storage::tree_key::TreeMap;

@@ -5,11 +5,10 @@ ghost use Rattle.key_index_flat.specs.Storage.{view_of};
 
 use super::implement::{Lists, show_by_key, visit_by_key};
 use super::storage::Storage;
-use super::storage::tree_key::TreeKey;
+use super::storage::tree_key::TreeMap;
 use super::{Factory, Fault, IndexCursor, Ordered, Refused, Runs, Search, Unordered, Values};
 use crate::translator::{OrderedTranslator, Translator};
 use std::alloc::Global;
-use std::collections::BTreeMap;
 use std::convert::AsSlice;
 
 /// An index over an ordered map from translated key to newest value, and a hashed one from translated key to the older values of the
@@ -19,7 +18,7 @@ use std::convert::AsSlice;
 /// order of bytes it also gives the neighbours of a key: each by a number of comparisons that is logarithmic in the keys.
 #[derive(Drop)]
 pub struct Index<T: Translator, V> {
-    storage: Storage<T, V, BTreeMap<TreeKey<T::Key>, V>>,
+    storage: Storage<T, V, TreeMap<T::Key, V>>,
     ghost lawful: { IsLawful T.Key.cmp storage.content },
 }
 
@@ -261,7 +260,7 @@ impl<T: Translator, V: Drop> Factory for Index<T, V> {
         ensures fault { IfErr result (λ f. f ≡ Fault.Memory) }
     {
         Ok(Index {
-            storage: Storage::new(alloc, translator, BTreeMap::new(alloc)),
+            storage: Storage::new(alloc, translator, TreeMap::new(alloc)),
         })
     }
 }

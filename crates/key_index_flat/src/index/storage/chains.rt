@@ -15,13 +15,13 @@ ghost use Rattle.key_index_flat.specs.View.{put_value};
 use super::heads::{Heads, OrderedHeads, pop_least};
 use super::small_map::SmallMap;
 use super::tails::{Back, End, Tails};
-use super::tree_key::TreeKey;
+use super::tree_key::TreeMap;
 use crate::index::Values;
 use crate::index::retain::Retained;
 use crate::index::values::visit_in_turn;
 use crate::translator::Translator;
 use std::alloc::Global;
-use std::collections::{BTreeMap, HashMap};
+use std::collections::HashMap;
 use std::hash::Hash;
 use std::marker::Model;
 
@@ -420,7 +420,7 @@ fn visit_few<K: Ord + Hash + Copy, V, F: FnMut(&V), E: End>(
 
 /// What `visit_all` does, of first values in an ordered map.
 fn visit_in_order<K: Ord + Hash + Copy, V, F: FnMut(&V), E: End>(
-    heads: &BTreeMap<TreeKey<K>, V>,
+    heads: &TreeMap<K, V>,
     tails: &Tails<K, V, E>,
     visit: &mut F,
 )
@@ -435,7 +435,7 @@ fn visit_in_order<K: Ord + Hash + Copy, V, F: FnMut(&V), E: End>(
     }
 }
 
-impl<T: Translator, V: Drop> Chains<T, V, BTreeMap<TreeKey<T::Key>, V>, Back> {
+impl<T: Translator, V: Drop> Chains<T, V, TreeMap<T::Key, V>, Back> {
     /// Calls a closure once on each value.
     pub fn visit_in_order<F: FnMut(&V)>(&self, visit: &mut F)
         requires { F.IsAlwaysCallable visit.old }

@@ -8,7 +8,7 @@ ghost use Rattle.std.specs.HashMap.{get, hash_map_len};
 ghost use Rattle.key_index_flat.specs.Neighbours.{first_entry, last_entry, entries_above, entries_below};
 ghost use Rattle.key_index_flat.specs.Storage.{value_of, SameBut, Sets};
 
-use super::tree_key::TreeKey;
+use super::tree_key::{TreeKey, TreeMap};
 use std::collections::hash_map::Entry;
 use std::collections::{BTreeMap, HashMap, btree_map};
 use std::hash::Hash;
@@ -141,7 +141,7 @@ fn put_absent<K: Ord + Hash + Copy, V: Drop>(
     }
 }
 
-impl<K: Ord + Hash + Copy, V> Heads<K, V> for BTreeMap<TreeKey<K>, V> {
+impl<K: Ord + Hash + Copy, V> Heads<K, V> for TreeMap<K, V> {
     ghost entries = { λ map. map.entries };
 
     #[inline]
@@ -149,7 +149,7 @@ impl<K: Ord + Hash + Copy, V> Heads<K, V> for BTreeMap<TreeKey<K>, V> {
         BTreeMap::len(self)
     }
 
-    // A range's walk down the tree asks one thing of each key that it passes, and `get` of the map two.
+    // A range's walk down the tree asks of each key whether it is below, and `get` of the map calls a function in each node besides.
     #[inline]
     fn get(&self, key: &K) -> Option<&V> {
         match self.range(TreeKey { key: *key }..).next() {
@@ -231,7 +231,7 @@ pub trait OrderedHeads<K: Ord + Hash + Copy, V>: Heads<K, V> {
 
 /// Removes the entry with the least key.
 #[inline]
-pub(super) fn pop_least<K: Ord + Copy, V>(map: &mut BTreeMap<TreeKey<K>, V>) -> Option<(K, V)>
+pub(super) fn pop_least<K: Ord + Copy, V>(map: &mut TreeMap<K, V>) -> Option<(K, V)>
     ensures removal { IfSome result (λ entry. map.old.entries ≡ entry ∷ map.new.entries) }
     ensures none { IfNone result (map.old.entries ≡ []) }
     ensures kept { IfNone result (map.new.entries ≡ map.old.entries) }
@@ -243,7 +243,7 @@ pub(super) fn pop_least<K: Ord + Copy, V>(map: &mut BTreeMap<TreeKey<K>, V>) -> 
     Some((key.get(), value))
 }
 
-/// The key itself of an entry.
+/// An entry with the key itself in place of the tree's key.
 #[inline(always)]
 fn own_key<'a, K, V>(found: Option<(&'a TreeKey<K>, &'a V)>) -> Option<(&'a K, &'a V)>
     ensures { option_map deref_pair result ≡ option_map deref_pair found.entry }
@@ -254,7 +254,7 @@ fn own_key<'a, K, V>(found: Option<(&'a TreeKey<K>, &'a V)>) -> Option<(&'a K, &
     }
 }
 
-impl<K: Ord + Hash + Copy, V> OrderedHeads<K, V> for BTreeMap<TreeKey<K>, V> {
+impl<K: Ord + Hash + Copy, V> OrderedHeads<K, V> for TreeMap<K, V> {
     #[inline]
     fn first(&self) -> Option<(&K, &V)> {
         // Its contract says that the keys rise.
@@ -268,7 +268,7 @@ impl<K: Ord + Hash + Copy, V> OrderedHeads<K, V> for BTreeMap<TreeKey<K>, V> {
         own_key(self.last_key_value())
     }
 
-    // From the key itself on, since a walk to the first key above one compares more at each key that it passes.
+    // From the key itself on, since a walk to the first key above it would call a function in each node.
     #[inline]
     fn above(&self, key: &K) -> Option<(&K, &V)> {
         let mut rest = self.range(TreeKey { key: *key }..);

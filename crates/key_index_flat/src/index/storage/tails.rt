@@ -479,10 +479,10 @@ fn insert_and_retain_few<K: Ord + Hash + Copy, V: Drop, F: FnMut(&V) -> bool, E:
     ensures refused { OnErr result (at_key K.eq map.new key ≡ at_key K.eq map.old key) }
     ensures returned { IfErr result (λ back. back ≡ value) }
 {
-    if let Some(values) = map.few.get_mut(&key) {
-        insert_value::<V, E>(values, None, value)?;
-        let retained = retain_behind::<V, F, E>(head, values, should_retain);
-        let left = values.len();
+    if let Some(tail) = map.few.get_mut(&key) {
+        insert_value::<V, E>(tail, None, value)?;
+        let retained = retain_behind::<V, F, E>(head, tail, should_retain);
+        let left = tail.len();
         remove_empty(map, key, left);
         return Ok(retained);
     }

@@ -3,10 +3,14 @@ ghost use Rattle.std.specs.Prelude.{◌≡◌, ◌≢◌};
 ghost use Rattle.std.specs.declared.cmp.Ordering.TheVariants.{Less};
 
 use std::cmp::Ordering;
+use std::collections::BTreeMap;
 use std::marker::Model;
 
+/// An ordered map in which a key is sought by `TreeKey`'s comparison.
+pub type TreeMap<K, V> = BTreeMap<TreeKey<K>, V>;
+
 /// A key. Contracts see the key itself.
-#[derive(Clone, Copy, Drop)]
+#[derive(Clone, Copy, Drop, PartialEq, Eq, PartialOrd)]
 pub struct TreeKey<K> {
     pub(super) key: K,
 }
@@ -25,32 +29,6 @@ impl<K: Copy> TreeKey<K> {
         ensures { result ≡ self.now }
     {
         self.key
-    }
-}
-
-impl<K: Ord> PartialEq for TreeKey<K> {
-    ghost eq = { K.eq };
-
-    ghost laws = { K.PartialEq.laws };
-
-    #[inline]
-    fn eq(&self, other: &TreeKey<K>) -> bool {
-        self.key == other.key
-    }
-}
-
-impl<K: Ord> Eq for TreeKey<K> {
-    ghost laws = { K.Eq.laws };
-}
-
-impl<K: Ord> PartialOrd for TreeKey<K> {
-    ghost partial_cmp = { K.partial_cmp };
-
-    ghost laws = { K.PartialOrd.laws };
-
-    #[inline]
-    fn partial_cmp(&self, other: &TreeKey<K>) -> Option<Ordering> {
-        self.key.partial_cmp(&other.key)
     }
 }
 

@@ -11,10 +11,9 @@ use super::tree::Tree;
 use super::{Bucket, EditBucket, Form, Held, OrderedBucket, ReadBucket};
 use crate::index::partitioned::ordered::partition::Partition;
 use key_index_flat::index::Values;
-use key_index_flat::index::implement::{Back, Chains, Retained, TreeKey};
+use key_index_flat::index::implement::{Back, Chains, Retained, TreeMap};
 use key_index_flat::translator::Translator;
 use std::alloc::{AllocError, Global};
-use std::collections::BTreeMap;
 
 /// A bucket as sorted arrays or, spilled, as a tree in a box, which then holds something. The arrays of a spilled bucket have no room.
 #[derive(Drop)]
@@ -27,7 +26,7 @@ pub struct Spilling<T: Translator, V> {
 /// Moves the runs of arrays in front of some lists, the last one first. The arrays keep their memory; a failure leaves some in each.
 fn lift_runs<T: Translator, V: Drop>(
     arrays: &mut Partition<T::Key, V>,
-    lists: &mut Chains<T, V, BTreeMap<TreeKey<T::Key>, V>, Back>,
+    lists: &mut Chains<T, V, TreeMap<T::Key, V>, Back>,
 ) -> Result<(), AllocError>
     requires empty { lists.old ≡ [] }
     ensures whole { arrays.new.pairs ++ spread lists.new ≡ arrays.old.pairs }
@@ -48,7 +47,7 @@ fn lift_runs<T: Translator, V: Drop>(
 
 /// Moves lists behind the pairs of arrays that have room for them, without growth.
 fn lower_lists<T: Translator, V: Drop>(
-    lists: &mut Chains<T, V, BTreeMap<TreeKey<T::Key>, V>, Back>,
+    lists: &mut Chains<T, V, TreeMap<T::Key, V>, Back>,
     arrays: &mut Partition<T::Key, V>,
 )
     requires room { item_count lists.old ≤ arrays.old.room }
@@ -94,7 +93,7 @@ fn lift<T: Translator, V: Drop>(arrays: &mut Arrays<T, V>) -> Result<Box<Tree<T,
     let Ok(mut tree) = Box::new(alloc, Tree::new(alloc)) else {
         return Err(AllocError);
     };
-    let mut lists = Chains::new(alloc, BTreeMap::new(alloc));
+    let mut lists = Chains::new(alloc, TreeMap::new(alloc));
     match lift_runs(&mut arrays.pairs, &mut lists) {
         Ok(()) => {
             *tree = Tree::of_lists(lists, len);

@@ -5,15 +5,14 @@ ghost use Rattle.key_index_flat.specs.Storage.{IsCounted};
 
 use super::{EditBucket, Form, Held, OrderedBucket, ReadBucket};
 use key_index_flat::index::Values;
-use key_index_flat::index::implement::{Back, Chains, Retained, TreeKey};
+use key_index_flat::index::implement::{Back, Chains, Retained, TreeMap};
 use key_index_flat::translator::Translator;
 use std::alloc::Global;
-use std::collections::BTreeMap;
 
 /// A bucket as lists whose first values stand in an ordered map, and how many values there are: `usize::MAX` at most.
 #[derive(Drop)]
 pub struct Tree<T: Translator, V> {
-    lists: Chains<T, V, BTreeMap<TreeKey<T::Key>, V>, Back>,
+    lists: Chains<T, V, TreeMap<T::Key, V>, Back>,
     len: usize,
     ghost counted: { IsCounted T.Key.cmp lists len },
 }
@@ -23,14 +22,11 @@ impl<T: Translator, V: Drop> Tree<T, V> {
     pub(super) fn new(alloc: Global) -> Tree<T, V>
         ensures { result.lists ≡ [] }
     {
-        Tree::of_lists(Chains::new(alloc, BTreeMap::new(alloc)), 0)
+        Tree::of_lists(Chains::new(alloc, TreeMap::new(alloc)), 0)
     }
 
     /// The bucket that some lists are, with so many values in them.
-    pub(super) fn of_lists(
-        lists: Chains<T, V, BTreeMap<TreeKey<T::Key>, V>, Back>,
-        len: usize,
-    ) -> Tree<T, V>
+    pub(super) fn of_lists(lists: Chains<T, V, TreeMap<T::Key, V>, Back>, len: usize) -> Tree<T, V>
         requires { IsCounted T.Key.cmp lists len }
         ensures { result.lists ≡ lists }
     {
@@ -38,7 +34,7 @@ impl<T: Translator, V: Drop> Tree<T, V> {
     }
 
     /// The lists of the bucket.
-    pub(super) fn into_lists(self) -> Chains<T, V, BTreeMap<TreeKey<T::Key>, V>, Back>
+    pub(super) fn into_lists(self) -> Chains<T, V, TreeMap<T::Key, V>, Back>
         ensures { result ≡ self.lists }
     {
         self.lists
@@ -76,6 +72,7 @@ impl<T: Translator, V: Drop> ReadBucket<T, V> for Tree<T, V> {
         self.lists.get(key)
     }
 
+    // Calls by place, here and below, are not inlined, so that a partition that stands as arrays pays for none of their code.
     #[inline(never)]
     fn run_len(&self, key: T::Key) -> usize {
         self.lists.run_len(key)

@@ -31,8 +31,8 @@ returns-in-Some-clause-retained g c =
     let v = lent g.met.K.Ord.matches_eq g.met.K.Ord.total c.requires.few c.args.map.now.few c.args.key c.in-Some.is c.get_mut.ensures.value _ values (c.get_mut.follows.holds values) in
     let inserted : in_order first c.insert_value.new.values.items ≡ in_order first (at_key g.K.PartialEq.eq c.args.map.now c.args.key) ++ c.args.value ∷ [] =
     c.in_ok-insert_value.ensures.at
-    ∙ ap (λ n. insert (in_order first c.in-Some.values.now.items) n c.args.value) (sym (length-in_order first c.in-Some.values.now.items))
-    ∙ behind_last (in_order first c.in-Some.values.now.items) c.args.value
+    ∙ ap (λ n. insert (in_order first c.in-Some.tail.now.items) n c.args.value) (sym (length-in_order first c.in-Some.tail.now.items))
+    ∙ behind_last (in_order first c.in-Some.tail.now.items) c.args.value
     ∙ sym (ap (λ l. in_order first l ++ c.args.value ∷ []) v.had) in
     subst (λ l. RetainsTail (CalledAt g.F.FnMut) c.args.should_retain c.args.head.now l (in_order first (at_key g.K.PartialEq.eq c.remove_empty.new.map c.args.key)) c.retain_behind-retained.result) inserted
     (subst (λ l. RetainsTail (CalledAt g.F.FnMut) c.args.should_retain c.args.head.now (in_order first c.insert_value.new.values.items) (in_order first l) c.retain_behind-retained.result) (sym (c.remove_empty.ensures.at ∙ v.has))

@@ -1,7 +1,7 @@
 use Rattle.std.proofs.Common.{rules, ◌≡◌, false, ◌∙◌}
 use Rattle.std.specs.Ordering.{eq_by_cmp}
 use Rattle.std.specs.Cmp.{eq_by_cmp_equiv}
-use Rattle.key_index_flat.proofs.index.storage.heads.BTreeMapTreeKeyHeads.insert_absent.Goals as goal
+use Rattle.key_index_flat.proofs.index.storage.heads.TreeMapHeads.insert_absent.Goals as goal
 
 pub returns-in-Ok-Occupied-clause-others : goal.returns-in-Ok-Occupied-clause-others
 returns-in-Ok-Occupied-clause-others g c = λ q apart.

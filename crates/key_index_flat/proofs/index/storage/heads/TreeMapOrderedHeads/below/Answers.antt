@@ -2,7 +2,7 @@ use Rattle.std.proofs.Common.{ap, ◌∙◌}
 use Rattle.std.specs.Map.Iter.{deref_pair}
 use Rattle.key_index_flat.specs.Neighbours.{last_entry}
 use Rattle.key_index_flat.proofs.neighbours.NeighbourLemmas.{last_taken, range_below}
-use Rattle.key_index_flat.proofs.index.storage.heads.BTreeMapTreeKeyOrderedHeads.below.Goals as goal
+use Rattle.key_index_flat.proofs.index.storage.heads.TreeMapOrderedHeads.below.Goals as goal
 
 pub returns-clause-entry : goal.returns-clause-entry
 returns-clause-entry g c =

@@ -2,7 +2,7 @@ use Rattle.std.proofs.Common.{ap, sym, ◌∙◌}
 use Rattle.std.specs.Map.{lookup}
 use Rattle.std.specs.Ordering.{eq_by_cmp}
 use Rattle.key_index_flat.proofs.neighbours.NeighbourLemmas.{lookup-from}
-use Rattle.key_index_flat.proofs.index.storage.heads.BTreeMapTreeKeyHeads.get.Goals as goal
+use Rattle.key_index_flat.proofs.index.storage.heads.TreeMapHeads.get.Goals as goal
 
 pub returns-in-None : goal.returns-in-None
 returns-in-None g c =

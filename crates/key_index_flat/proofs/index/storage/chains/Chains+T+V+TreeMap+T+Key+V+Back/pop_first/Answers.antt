@@ -3,7 +3,7 @@ use Rattle.std.specs.List.Sorted.{IsStrictlySortedBy}
 use Rattle.std.specs.Map.{keys_of}
 use Rattle.key_index_flat.specs.Storage.{content_of, tail_at, IsLinked}
 use Rattle.key_index_flat.proofs.neighbours.NeighbourLemmas.{content_of-popped, IsLinked-popped}
-use Rattle.key_index_flat.proofs.index.storage.chains.Chains+T+V+BTreeMap+TreeKey+T+Key+V+Back.pop_first.Goals as goal
+use Rattle.key_index_flat.proofs.index.storage.chains.Chains+T+V+TreeMap+T+Key+V+Back.pop_first.Goals as goal
 
 pub invariant_of-self-in_default : goal.invariant_of-self-in_default
 invariant_of-self-in_default g c =

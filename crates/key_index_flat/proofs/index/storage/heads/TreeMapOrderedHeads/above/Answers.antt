@@ -2,9 +2,9 @@ use Rattle.std.proofs.Common.{◌≡◌, Some, true, false, is_eq, option_map, c
 use Rattle.std.specs.Map.Iter.{deref_pair}
 use Rattle.key_index_flat.specs.Neighbours.{entries_above, first_entry}
 use Rattle.key_index_flat.proofs.neighbours.NeighbourLemmas.{first_above, first_behind, first_taken, rest_taken}
-use Rattle.key_index_flat.proofs.index.storage.heads.BTreeMapTreeKeyOrderedHeads.above.Given.{Over}
-use Rattle.key_index_flat.proofs.index.storage.heads.BTreeMapTreeKeyOrderedHeads.above.Goals.{After-own_key}
-use Rattle.key_index_flat.proofs.index.storage.heads.BTreeMapTreeKeyOrderedHeads.above.Goals as goal
+use Rattle.key_index_flat.proofs.index.storage.heads.TreeMapOrderedHeads.above.Given.{Over}
+use Rattle.key_index_flat.proofs.index.storage.heads.TreeMapOrderedHeads.above.Goals.{After-own_key}
+use Rattle.key_index_flat.proofs.index.storage.heads.TreeMapOrderedHeads.above.Goals as goal
 
 by_first : (g : Over) (c : After-own_key g) → first_behind g.K.Ord.cmp c.args.key.now (option_map (deref_pair {K = g.row.K.Denot} {X = g.row.V.Denot}) c.own_key.result) c.next.new.self
     ≡ first_entry (entries_above g.K.Ord.cmp c.args.self.now.entries c.args.key.now)

@@ -2,7 +2,7 @@ use Rattle.std.proofs.Common.{◌≡◌, ◌+◌, ◌∷◌, [], false, cond, is
 use Rattle.key_index_flat.specs.Content.{list_at, with_list}
 use Rattle.key_index_flat.specs.Storage.{content_of, tail_at}
 use Rattle.key_index_flat.proofs.content.EditLemmas.{absent_at, list_given, list_refused}
-use Rattle.key_index_flat.proofs.index.storage.chains.Chains+T+V+BTreeMap+TreeKey+T+Key+V+Back.insert_list.Goals as goal
+use Rattle.key_index_flat.proofs.index.storage.chains.Chains+T+V+TreeMap+T+Key+V+Back.insert_list.Goals as goal
 
 pub put-requires : goal.put-requires
 put-requires g c =
