@@ -152,7 +152,12 @@ impl<T: Translator, V: Drop> EditBucket<T, V> for Arrays<T, V> {
     fn remove(&mut self, key: T::Key) -> usize {
         let run = self.pairs.run_range(&key);
         let taken = run.end - run.start;
-        self.pairs.remove_run(run);
+        // A list mostly has one value, and two drains cost more.
+        if taken == 1 {
+            self.pairs.remove(run.start);
+        } else {
+            self.pairs.remove_run(run);
+        }
         taken
     }
 }
