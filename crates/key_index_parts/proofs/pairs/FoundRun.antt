@@ -5,37 +5,42 @@
 --     slice_get-values_of                                   the value there
 --     may_insert, grouped-inserted, grouped-inserted_last   a value put in at a place of the list
 --     grouped-set_in, grouped-removed, grouped-removed_all  one in the place of another, one taken out, and the whole run
+--     grouped-kept                                          some in the place of the first, and the rest taken out
 --     may_append                                            behind the last of the run
---     IsFound-removed                                       where the run stands after one of its pairs is taken out
---     found_appended, ..                                    and after a pair was put behind it
+--     found_appended, ..                                    where the run stands after a pair was put behind it
 --     length-kept_of_run, few_of_run, RetainsWith-run       what is left, where each value was asked on then
-use Rattle.std.proofs.Common.{◌≡◌, ℕ, suc, ◌+◌, ◌-◌, ◌<◌, ◌≤◌, Bool, cond, true, false, not, nat_eq, List, [], ◌∷◌, ◌++◌, length, insert, remove, slice_set, slice_get, Some, length-append, sym, ap, subst, ◌∙◌, arith}
+use Rattle.std.proofs.Common.{◌≡◌, ℕ, ◌+◌, ◌-◌, ◌<◌, ◌≤◌, Bool, cond, true, false, not, nat_eq, List, [], ◌∷◌, ◌++◌, length, insert, remove, slice_set, slice_get, take, drop, take-take, All, append_assoc, length-append, sym, ap, subst, ◌∙◌, arith}
 use Rattle.std.proofs.lemmas.Bool.{eq-eqb, ne_eqb}
-use Rattle.std.proofs.lemmas.List.Edits.{length-remove, length-insert, insert_end}
+use Rattle.std.proofs.Math.Seq.{take-add}
+use Rattle.std.proofs.lemmas.List.{length-drop, length-take-le}
+use Rattle.std.proofs.lemmas.Map.Made.{keys_of-zip}
+use Rattle.std.proofs.lemmas.List.Edits.{length-insert, insert_end}
 use Rattle.std.proofs.lemmas.Option.{slice_get-map}
-use Rattle.std.specs.List.{items_where_true, remove_range}
+use Rattle.std.specs.List.{items_where_true, remove_range, slice_range, zip}
 use Rattle.std.specs.List.Retain.{ReturnsInTurn}
 use Rattle.std.specs.List.Sorted.{IsSorted}
 use Rattle.std.specs.Map.{keys_of, values_of}
 use Rattle.std.specs.Option.{option_map}
-use Rattle.std.specs.Cmp.{IsTotalOrder, tied_back, tied_itself}
+use Rattle.std.specs.Cmp.{IsTotalOrder, tied_itself}
 use Rattle.std.specs.declared.cmp.Ordering.{Ordering}
 use Rattle.std.specs.declared.cmp.Ordering.TheVariants.{Equal}
 use Rattle.std.specs.Ordering.{is_lt, is_eq}
 use Rattle.key_index_flat.specs.Content.{is_filled, list_at, with_list, with_list_by}
 use Rattle.key_index_flat.specs.View.{put_value}
-use Rattle.key_index_flat.specs.Neighbours.{entries_below}
+use Rattle.key_index_flat.specs.Neighbours.{entries_above, entries_below}
 use Rattle.key_index_flat.specs.Retention.{AsksInTurn}
 use Rattle.key_index_flat.proofs.content.ContentLemmas.{list_at-with_list, with_list-twice}
 use Rattle.key_index_flat.proofs.asked.TurnLemmas.{held_answers, kept_few}
 use Rattle.key_index_parts.specs.Family.{RetainsWith}
 use Rattle.key_index_parts.specs.laws.PairLaws.{IsLawful-grouped}
 use Rattle.key_index_parts.specs.Pairs.{run_of, grouped, with_value, IsFound}
-use Rattle.key_index_parts.proofs.pairs.SearchLemmas.{Rises, Rises-IsSorted, IsSorted-remove_range}
-use Rattle.key_index_parts.proofs.pairs.PairLemmas.{place_among, filter-insert, filter-remove}
-use Rattle.key_index_parts.proofs.pairs.RunLemmas.{run_within}
+use Rattle.key_index_parts.proofs.pairs.SearchLemmas.{Rises, Rises-IsSorted}
+use Rattle.key_index_parts.proofs.pairs.PairLemmas.{place_among, filter-insert}
+use Rattle.key_index_parts.specs.Spread.{pairs_with}
+use Rattle.key_index_parts.proofs.pairs.RunLemmas.{below_part, run_within}
+use Rattle.key_index_parts.proofs.pairs.ZipLemmas.{length-zip, take-zip, drop-zip, zip-parts, zip-pairs_with}
 use Rattle.key_index_parts.proofs.pairs.GroupLemmas.{list_at-grouped}
-use Rattle.key_index_parts.proofs.pairs.PairEdits.{map-insert, map-remove, slice_get-run_of, IsSorted-insert, grouped-insert, grouped-set, grouped-remove, grouped-remove_run}
+use Rattle.key_index_parts.proofs.pairs.PairEdits.{map-insert, slice_get-run_of, IsSorted-insert, grouped-insert, grouped-set, grouped-remove, grouped-remove_run, grouped-set_run, keys_in_run, above_part}
 
 module _ {K V : Type 0} {cmp : K → K → Ordering} (o : IsTotalOrder cmp) (exact : (x y : K) → cmp x y ≡ Equal → x ≡ y) {es : List (K × V)} {k : K}
     {start end : ℕ} (found : IsFound cmp es k start end) where
@@ -102,30 +107,39 @@ module _ {K V : Type 0} {cmp : K → K → Ordering} (o : IsTotalOrder cmp) (exa
   pub grouped-removed_all : grouped cmp (remove_range es start end) ≡ with_list cmp (grouped cmp es) k []
   grouped-removed_all = grouped-remove_run o es k Rises-found exact start end found.run
 
-  pub list_at-removed : (i : ℕ) → i < length list → list_at cmp (grouped cmp (remove es (start + i))) k ≡ remove list i
-  list_at-removed i l =
-      ap (λ c. list_at cmp c k) (grouped-removed i l) ∙ list_at-with_list o (grouped cmp es) k (remove list i) k
-      ∙ ap (λ r. cond (is_eq r) (remove list i) list) (tied_itself o k)
-
-  -- where one of its pairs is taken out
-  pub IsFound-removed : (i : ℕ) → i < length list → IsFound cmp (remove es (start + i)) k start (end - 1)
-  IsFound-removed i l =
-      let there = slice_get-run_of o es k Rises-found i (run_below i l) in
-      let e = there.0 in
-      let place : slice_get es (start + i) ≡ Some e = ap (λ n. slice_get es n) (start-entries_below i) ∙ there.1 in
-      let below : entries_below cmp (remove es (start + i)) k ≡ entries_below cmp es k =
-      filter-remove (λ f. is_lt (cmp f.0 k)) es (start + i) e place
-      ∙ ap (λ r. cond (is_lt r) (remove (entries_below cmp es k) (place_among (λ f. is_lt (cmp f.0 k)) es (start + i))) (entries_below cmp es k)) (tied_back o k e.0 there.3) in
-      let fewer = length-remove list i l in
-      let left = ap (λ m. length m) (sym (list_at-grouped o (remove es (start + i)) k) ∙ list_at-removed i l) in
-      let whole = run_count in
-      let less = length-remove es (start + i) (place_within i l) in
-      let all = found.within in
-      record {
-        run = record { from = found.run.from ∙ ap (λ m. length m) (sym below); upto = omega (arith, fewer, left, whole, l) };
-        within = omega (arith, less, all);
-        sorted = subst (λ ks. IsSorted cmp ks) (sym (map-remove (λ e. e.0) es (start + i))) (IsSorted-remove_range o (keys_of es) (start + i) (suc (start + i)) (omega arith) found.sorted);
-      }
+  -- some values in the place of the first of the run, and the rest of it taken out
+  pub grouped-kept : (ks : List K) (vs ws : List V) (n : ℕ) → zip ks vs ≡ es → length ks ≡ length vs → length ws ≡ length vs → n ≤ end - start
+      → take start ws ≡ take start vs → drop end ws ≡ drop end vs
+      → grouped cmp (zip (remove_range ks (start + n) end) (remove_range ws (start + n) end)) ≡ with_list cmp (grouped cmp es) k (take n (slice_range ws start end))
+  grouped-kept ks vs ws n is sized long l front back =
+      let rises = Rises-found in
+      let below = entries_below cmp es k in
+      let few : n ≤ length (run_of cmp es k) = let u = found.run.upto in omega (arith, u, l) in
+      let kept = take n (slice_range ws start end) in
+      let whole = length-zip ks vs sized in
+      let all = ap (λ l. length l) is in
+      let inside = found.within in
+      let room : n ≤ length (drop start ws) = let u = found.run.upto in let d = length-drop start ws in omega (arith, d, long, sized, whole, all, inside, l, u) in
+      let kept_is : take n (drop start ws) ≡ kept = sym (take-take n (end - start) (drop start ws) l) in
+      let keys_are : take n (drop start ks) ≡ take n (drop (length below) (keys_of es)) =
+      (λ j. take n (drop (found.run.from j) (sym (keys_of-zip ks vs (sym sized)) j))) ∙ ap (λ fs. take n (drop (length below) (keys_of fs))) is in
+      let one : All (λ x. x ≡ k) (take n (drop start ks)) = subst (λ xs. All (λ x. x ≡ k) xs) (sym keys_are) (keys_in_run o es k rises exact n few) in
+      let beside : length (take n (drop start ks)) ≡ length (take n (drop start ws)) =
+      let a = length-take-le n (drop start ws) room in
+      let d = length-drop start ks in
+      let e = length-drop start ws in
+      let b = length-take-le n (drop start ks) (omega (arith, d, e, long, sized, room)) in
+      omega (arith, a, b) in
+      let ahead : take start (zip ks ws) ≡ below = take-zip start ks ws ∙ ap (zip (take start ks)) front ∙ sym (take-zip start ks vs) ∙ ap (take start) is
+      ∙ ap (λ m. take m es) found.run.from ∙ below_part o es k rises in
+      let own : take n (drop start (zip ks ws)) ≡ pairs_with k kept = ap (take n) (drop-zip start ks ws) ∙ take-zip n (drop start ks) (drop start ws)
+      ∙ zip-pairs_with k (take n (drop start ks)) (take n (drop start ws)) beside one ∙ ap (pairs_with k) kept_is in
+      let rest : zip (drop end ks) (drop end ws) ≡ entries_above cmp es k = ap (zip (drop end ks)) back ∙ sym (drop-zip end ks vs) ∙ ap (drop end) is ∙ above_part o es k rises exact start end found.run in
+      ap (grouped cmp)
+      (zip-parts (start + n) ks (drop end ks) ws (drop end ws) (sized ∙ sym long)
+      ∙ (λ j. (take-add start n (zip ks ws) ∙ (λ i. ahead i ++ own i)) j ++ rest j)
+      ∙ append_assoc below (pairs_with k kept) (entries_above cmp es k))
+      ∙ grouped-set_run o es k rises exact kept
 
   -- where a pair is put behind it
   module _ (v : V) (new : List (K × V)) (is : new ≡ insert es end (k, v)) where

@@ -3,7 +3,8 @@
 --     slice_get-run_of                                                 the pair at a place of a run
 --     IsSorted-insert                                                  a pair of the key may go in at each place of its run
 --     grouped-insert, grouped-set, grouped-remove, grouped-remove_run  the content after it
-use Rattle.std.proofs.Common.{◌≡◌, ℕ, zero, suc, ◌+◌, ◌<◌, ◌≤◌, true, false, cond, T, List, [], ◌∷◌, ◌++◌, length, take, drop, map, insert, remove, slice_set, slice_get, Some, All, refl, sym, ap, subst, ◌∙◌, arith}
+--     grouped-set_run, keys_in_run                                     other values in the place of the run's, and keys of some of it
+use Rattle.std.proofs.Common.{◌≡◌, ℕ, zero, suc, ◌+◌, ◌<◌, ◌≤◌, true, false, cond, T, List, [], ◌∷◌, ◌++◌, length, take, drop, map, insert, remove, slice_set, slice_get, Some, All, append-nil, refl, sym, ap, subst, ◌∙◌, arith}
 use Rattle.std.proofs.Math.Seq.{drop-length, take-append-add, drop-append-add}
 use Rattle.std.proofs.lemmas.List.{map-append, map-set, length-map, take-map, drop-map, take-append-le, drop-append-le, length-take-le}
 use Rattle.std.proofs.lemmas.List.Elements.{All-nil, All-cons, All-head, All-tail, All-append, All-take, All-drop, All-weaker, All-map, filter-append, filter_passes}
@@ -12,7 +13,7 @@ use Rattle.std.specs.List.{filter, zip, remove_range}
 use Rattle.std.specs.List.Sorted.{IsSorted}
 use Rattle.std.specs.Map.{keys_of, values_of}
 use Rattle.std.specs.Option.{option_map}
-use Rattle.std.specs.Cmp.{IsTotalOrder, tied_back}
+use Rattle.std.specs.Cmp.{IsTotalOrder, tied_back, tied_itself}
 use Rattle.std.specs.declared.cmp.Ordering.{Ordering}
 use Rattle.std.specs.declared.cmp.Ordering.TheVariants.{Equal}
 use Rattle.std.specs.Ordering.{is_lt, is_eq, eq_by_cmp, ordering_reverse}
@@ -20,6 +21,7 @@ use Rattle.key_index_flat.specs.Content.{list_at, with_list, with_list_by}
 use Rattle.key_index_flat.specs.laws.Laws.{IsLawful-with_list}
 use Rattle.key_index_flat.specs.Neighbours.{entries_below, entries_above}
 use Rattle.key_index_flat.proofs.content.ContentLemmas.{same_content, list_at-with_list, Equal-is_eq, Less-is_lt}
+use Rattle.key_index_parts.specs.Spread.{pairs_with}
 use Rattle.key_index_parts.specs.Pairs.{run_of, grouped, with_value, IsRun}
 use Rattle.key_index_parts.proofs.pairs.SearchLemmas.{Rises, IsSorted-Rises}
 use Rattle.key_index_parts.proofs.pairs.PairLemmas.{filter-none, filter-all, place_among, filter-insert, filter-remove, filter-set}
@@ -188,24 +190,52 @@ module _ {K V : Type 0} {cmp : K → K → Ordering} (o : IsTotalOrder cmp) (es 
     above_other : All (λ e. eq_by_cmp cmp k e.0 ≡ false) above
     above_other = All-weaker (λ e. is_lt (cmp k e.0) ≡ true) (λ e. eq_by_cmp cmp k e.0 ≡ false) (λ e t. ap is_eq (Less-is_lt (cmp k e.0) (subst T (sym t) tt))) above (filter_passes (λ e. is_lt (cmp k e.0)) es)
 
-    pub grouped-remove_run : (start end : ℕ) → IsRun cmp es k start end → grouped cmp (remove_range es start end) ≡ with_list cmp (grouped cmp es) k []
-    grouped-remove_run start end run =
-        let len = length-map at (λ e. e.1) in
-        let upto : end ≡ length below + length (run_of cmp es k) = let f = run.from in let u = run.upto in omega (arith, f, u) in
-        let left : remove_range es start end ≡ below ++ above =
-        (λ j. take (run.from j) es ++ drop (upto j) es)
-        ∙ (λ j. below_part o es k h j ++ back_is (length (run_of cmp es k)) (omega arith) j)
-        ∙ ap (λ t. below ++ (t ++ above)) (ap (λ n. drop n at) len ∙ drop-length at) in
-        ap (grouped cmp) left ∙ grouped-edit (below ++ above) (λ _. []) (λ q.
+    with_each : (P : K → Type 0) → P k → (vs : List V) → All (λ e. P e.0) (pairs_with k vs)
+    with_each P h [] = All-nil _
+    with_each P h (v ∷ vs) = All-cons (λ e. P e.0) (k, v) (pairs_with k vs) h (with_each P h vs)
+
+    values_of-pairs_with : (vs : List V) → values_of (pairs_with k vs) ≡ vs
+    values_of-pairs_with [] = refl
+    values_of-pairs_with (v ∷ vs) = ap (λ l. v ∷ l) (values_of-pairs_with vs)
+
+    -- other values in the place of those of the run
+    pub grouped-set_run : (vs : List V) → grouped cmp (below ++ (pairs_with k vs ++ above)) ≡ with_list cmp (grouped cmp es) k vs
+    grouped-set_run vs = grouped-edit (below ++ (pairs_with k vs ++ above)) (λ _. vs) (λ q.
         let P = λ (e : K × V). eq_by_cmp cmp q e.0 in
-        elim (eq_by_cmp cmp q k) as (λ b. eq_by_cmp cmp q k ≡ b → values_of (filter P (below ++ above)) ≡ cond b [] (run_of cmp es q)) [
-          | true ↦ λ y. ap (λ z. run_of cmp (below ++ above) z) (exact q k (Equal-is_eq _ y))
-              ∙ ap values_of (filter-append (λ e. eq_by_cmp cmp k e.0) below above
-              ∙ (λ j. filter-none (λ e. eq_by_cmp cmp k e.0) below (All-weaker (λ e. is_lt (cmp e.0 k) ≡ true) (λ e. eq_by_cmp cmp k e.0 ≡ false) not_at below below-all_less) j
-              ++ filter-none (λ e. eq_by_cmp cmp k e.0) above above_other j))
-          | false ↦ λ n. ap values_of (filter-append P below above
-              ∙ ap (λ t. filter P below ++ (t ++ filter P above)) (sym (others_at q n))
-              ∙ ap (λ t. filter P below ++ t) (sym (filter-append P at above))
+        let own = pairs_with k vs in
+        elim (eq_by_cmp cmp q k) as (λ b. eq_by_cmp cmp q k ≡ b → values_of (filter P (below ++ (own ++ above))) ≡ cond b vs (run_of cmp es q)) [
+          | true ↦ λ y. let Q = λ (e : K × V). eq_by_cmp cmp k e.0 in
+              ap (λ z. run_of cmp (below ++ (own ++ above)) z) (exact q k (Equal-is_eq _ y))
+              ∙ ap values_of (filter-append Q below (own ++ above)
+              ∙ (λ j. filter-none Q below (All-weaker (λ e. is_lt (cmp e.0 k) ≡ true) (λ e. Q e ≡ false) not_at below below-all_less) j ++ filter-append Q own above j)
+              ∙ (λ j. filter-all Q own (with_each (λ x. eq_by_cmp cmp k x ≡ true) (ap is_eq (tied_itself o k)) vs) j ++ filter-none Q above above_other j)
+              ∙ append-nil own)
+              ∙ values_of-pairs_with vs
+          | false ↦ λ n. ap values_of (filter-append P below (own ++ above)
+              ∙ ap (λ t. filter P below ++ t) (filter-append P own above
+              ∙ ap (λ t. t ++ filter P above) (filter-none P own (with_each (λ x. eq_by_cmp cmp q x ≡ false) n vs) ∙ sym (others_at q n))
+              ∙ sym (filter-append P at above))
               ∙ sym (filter-append P below (at ++ above))
               ∙ ap (filter P) (sym (pairs-below_at_above o es k h)))
         ] refl)
+
+    -- the keys of the first of the run
+    pub keys_in_run : (n : ℕ) → n ≤ length (run_of cmp es k) → All (λ x. x ≡ k) (take n (drop (length below) (keys_of es)))
+    keys_in_run n l =
+        let within : n ≤ length at = let len = length-map at (λ e. e.1) in omega (arith, len, l) in
+        let part : take n (drop (length below) es) ≡ take n at =
+        ap (λ m. take n (drop m es)) (let zeroth : length below ≡ length below + 0 = omega arith in zeroth) ∙ ap (take n) (back_is 0 (omega arith)) ∙ take-append-le n at above within in
+        let keys : take n (drop (length below) (keys_of es)) ≡ keys_of (take n at) =
+        ap (take n) (drop-map (λ e. e.0) (length below) es) ∙ take-map (λ e. e.0) n (drop (length below) es) ∙ ap keys_of part in
+        subst (λ ks. All (λ x. x ≡ k) ks) (sym keys) (All-map (λ x. x ≡ k) (λ e. e.0) (take n at)
+        (All-weaker (λ e. eq_by_cmp cmp k e.0 ≡ true) (λ e. e.0 ≡ k) (λ e t. sym (exact k e.0 (Equal-is_eq _ t))) (take n at) (All-take (λ e. eq_by_cmp cmp k e.0 ≡ true) n at all_at)))
+
+    pub above_part : (start end : ℕ) → IsRun cmp es k start end → drop end es ≡ above
+    above_part start end run =
+        let len = length-map at (λ e. e.1) in
+        let upto : end ≡ length below + length (run_of cmp es k) = let f = run.from in let u = run.upto in omega (arith, f, u) in
+        ap (λ n. drop n es) upto ∙ back_is (length (run_of cmp es k)) (omega arith) ∙ ap (λ t. t ++ above) (ap (λ n. drop n at) len ∙ drop-length at)
+
+    pub grouped-remove_run : (start end : ℕ) → IsRun cmp es k start end → grouped cmp (remove_range es start end) ≡ with_list cmp (grouped cmp es) k []
+    grouped-remove_run start end run =
+        ap (grouped cmp) ((λ j. take (run.from j) es ++ above_part start end run j) ∙ ap (λ t. t ++ above) (below_part o es k h)) ∙ grouped-set_run []

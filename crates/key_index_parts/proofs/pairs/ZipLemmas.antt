@@ -3,10 +3,13 @@
 --     length-remove_range                  how many are left
 --     take-zip, drop-zip                   a part of both is one of the pairs
 --     zip-insert, zip-remove, zip-remove_range     an edit of both is one of the pairs
-use Rattle.std.proofs.Common.{◌≡◌, ℕ, zero, suc, ◌+◌, ◌-◌, ◌≤◌, List, [], ◌∷◌, ◌++◌, length, take, drop, insert, remove, refl, sym, ap, ◌∙◌, arith}
+--     zip-pairs_with                       values beside keys that are one
+use Rattle.std.proofs.Common.{◌≡◌, ℕ, zero, suc, ◌+◌, ◌-◌, ◌≤◌, List, [], ◌∷◌, ◌++◌, length, take, drop, insert, remove, All, refl, sym, ap, ◌∙◌, arith}
 use Rattle.std.proofs.lemmas.List.{length-append, length-take-le, length-drop}
+use Rattle.std.proofs.lemmas.List.Elements.{All-head, All-tail}
 use Rattle.std.specs.List.{zip, remove_range}
 use Rattle.std.specs.Map.{values_of}
+use Rattle.key_index_parts.specs.Spread.{pairs_with}
 
 module _ {K V : Type 0} where
   pub length-zip : (ks : List K) (vs : List V) → length ks ≡ length vs → length (zip ks vs) ≡ length ks
@@ -37,7 +40,7 @@ module _ {K V : Type 0} where
   drop-zip (suc i) (k ∷ ks) (v ∷ vs) = drop-zip i ks vs
 
   -- of parts that begin with as many keys as values
-  zip-parts : (i : ℕ) (ks js : List K) (vs ws : List V) → length ks ≡ length vs → zip (take i ks ++ js) (take i vs ++ ws) ≡ take i (zip ks vs) ++ zip js ws
+  pub zip-parts : (i : ℕ) (ks js : List K) (vs ws : List V) → length ks ≡ length vs → zip (take i ks ++ js) (take i vs ++ ws) ≡ take i (zip ks vs) ++ zip js ws
   zip-parts zero ks js vs ws h = refl
   zip-parts (suc i) [] js [] ws h = refl
   zip-parts (suc i) [] js (v ∷ vs) ws h = absurd (omega (arith, h))
@@ -53,6 +56,13 @@ module _ {K V : Type 0} where
 
     pub zip-remove : (i : ℕ) → zip (remove ks i) (remove vs i) ≡ remove (zip ks vs) i
     zip-remove i = zip-remove_range i (suc i)
+
+  -- beside keys that are one
+  pub zip-pairs_with : (k : K) (ks : List K) (vs : List V) → length ks ≡ length vs → All (λ x. x ≡ k) ks → zip ks vs ≡ pairs_with k vs
+  zip-pairs_with k [] [] h all = refl
+  zip-pairs_with k [] (v ∷ vs) h all = absurd (omega (arith, h))
+  zip-pairs_with k (x ∷ ks) [] h all = absurd (omega (arith, h))
+  zip-pairs_with k (x ∷ ks) (v ∷ vs) h all = (λ j. (All-head (λ x. x ≡ k) x ks all j, v) ∷ zip-pairs_with k ks vs (omega (arith, h)) (All-tail (λ x. x ≡ k) x ks all) j)
 
 pub length-remove_range : {X : Type 0} (xs : List X) (i j : ℕ) → i ≤ j → j ≤ length xs → length (remove_range xs i j) + (j - i) ≡ length xs
 length-remove_range xs i j le within =

@@ -1,9 +1,7 @@
 //! A bucket as sorted arrays.
-ghost use Rattle.std.specs.Prelude.{◌≡◌, List, [], true, false, length};
-ghost use Rattle.std.specs.Fn.{CalledAt};
-ghost use Rattle.key_index_flat.specs.Content.{item_count, list_at, with_list};
-ghost use Rattle.key_index_flat.specs.Retention.{AsksInTurn};
-ghost use Rattle.key_index_parts.specs.Pairs.{IsFound, grouped};
+ghost use Rattle.std.specs.Prelude.{◌≡◌, [], false};
+ghost use Rattle.key_index_flat.specs.Content.{item_count};
+ghost use Rattle.key_index_parts.specs.Pairs.{grouped};
 
 use super::{EditBucket, Form, Held, OrderedBucket, ReadBucket};
 use crate::index::partitioned::ordered::partition::Partition;
@@ -11,44 +9,11 @@ use key_index_flat::index::Values;
 use key_index_flat::index::implement::Retained;
 use key_index_flat::translator::Translator;
 use std::alloc::Global;
-use std::ops::Range;
 
 /// A bucket as sorted arrays: each key once for each of its values.
 #[derive(Drop)]
 pub struct Arrays<T: Translator, V> {
     pub(super) pairs: Partition<T::Key, V>,
-}
-
-/// Calls the closure once for each value of a key's run, removes those for which it returns false, and tells how many are left, and what it
-/// returned last: true where the run is empty.
-fn retain_run<T: Translator, V: Drop, F: FnMut(&V) -> bool>(
-    pairs: &mut Partition<T::Key, V>,
-    key: T::Key,
-    run: Range<usize>,
-    mut should_retain: F,
-) -> (usize, bool)
-    requires callable { F.IsAlwaysCallable should_retain }
-    requires found { IsFound T.Key.cmp pairs.old.pairs key run.start run.end }
-    ensures kept { (kept : List V)
-        × AsksInTurn (CalledAt F.FnMut) should_retain true (list_at T.Key.cmp (grouped T.Key.cmp pairs.old.pairs) key)
-        kept result.1
-        × (grouped T.Key.cmp pairs.new.pairs ≡ with_list T.Key.cmp (grouped T.Key.cmp pairs.old.pairs) key kept)
-        × (result.0 ≡ length kept) }
-{
-    let start = run.start;
-    let mut end = run.end;
-    let mut place = start;
-    let mut stays = true;
-    while place < end {
-        stays = should_retain(pairs.value_at(place));
-        if stays {
-            place += 1;
-        } else {
-            pairs.remove(place);
-            end -= 1;
-        }
-    }
-    (end - start, stays)
 }
 
 impl<T: Translator, V: Drop> Arrays<T, V> {
@@ -145,19 +110,14 @@ impl<T: Translator, V: Drop> EditBucket<T, V> for Arrays<T, V> {
     fn retain<F: FnMut(&V) -> bool>(&mut self, key: T::Key, should_retain: F) -> (usize, usize) {
         let run = self.pairs.run_range(&key);
         let had = run.end - run.start;
-        let (left, _) = retain_run::<T, V, F>(&mut self.pairs, key, run, should_retain);
+        let (left, _) = self.pairs.retain_run(key, run, should_retain);
         (had, left)
     }
 
     fn remove(&mut self, key: T::Key) -> usize {
         let run = self.pairs.run_range(&key);
         let taken = run.end - run.start;
-        // A list mostly has one value, and two drains cost more.
-        if taken == 1 {
-            self.pairs.remove(run.start);
-        } else {
-            self.pairs.remove_run(run);
-        }
+        self.pairs.remove_run(run);
         taken
     }
 }
@@ -184,7 +144,7 @@ impl<T: Translator, V: Drop> Form<T, V> for Arrays<T, V> {
         match self.pairs.insert_at(run.end, key, value) {
             Ok(()) => {
                 let run = start..self.pairs.len() - behind;
-                let (left, stays) = retain_run::<T, V, F>(&mut self.pairs, key, run, should_retain);
+                let (left, stays) = self.pairs.retain_run(key, run, should_retain);
                 let taken = had + usize::from(stays) - left;
                 Ok(Retained { had, left, taken })
             }

@@ -1,6 +1,7 @@
 //! One partition: its keys in order, and beside each key a value.
-ghost use Rattle.std.specs.Prelude.{◌≡◌, ◌+◌, ◌-◌, ◌<◌, ◌≤◌, List, [], ◌++◌, ◌∷◌, All, false, replicate, length, min, slice_get, insert, remove, Some, IsOk, IfOk, IfErr, OnOk, OnErr, map, take, drop, vec_len};
+ghost use Rattle.std.specs.Prelude.{◌≡◌, ◌+◌, ◌-◌, ◌<◌, ◌≤◌, List, [], ◌++◌, ◌∷◌, All, true, false, replicate, length, min, slice_get, insert, remove, Some, IsOk, IfOk, IfErr, OnOk, OnErr, map, take, drop, vec_len};
 ghost use Rattle.std.specs.Bool.{◌==◌, Decides};
+ghost use Rattle.std.specs.Fn.{CalledAt};
 ghost use Rattle.std.specs.List.{flat_map, zip, slice_range, remove_range};
 ghost use Rattle.std.specs.List.Sorted.{IsSorted};
 ghost use Rattle.std.specs.Map.{keys_of, values_of};
@@ -10,11 +11,13 @@ ghost use Rattle.std.specs.declared.cmp.Ordering.TheVariants.{Equal, Less};
 ghost use Rattle.std.specs.Slice.Iter.{iter_rest};
 ghost use Rattle.std.specs.Vec.{vec_capacity};
 ghost use Rattle.std.specs.Vec.Iter.{into_iter_items};
-ghost use Rattle.key_index_flat.specs.Content.{Content};
+ghost use Rattle.key_index_flat.specs.Content.{Content, list_at, with_list};
 ghost use Rattle.key_index_flat.specs.Neighbours.{entries_above, entries_below, first_list, last_list};
+ghost use Rattle.key_index_flat.specs.Retention.{AsksInTurn};
 ghost use Rattle.key_index_parts.specs.Spread.{pairs_with};
 ghost use Rattle.key_index_parts.specs.Pairs.{Pairs, Paired, IsFound, IsRun, count_below, count_upto, with_value, run_of, grouped, list_of, room_of, room_for};
 
+use key_index_flat::index::implement::keep_in_front;
 use key_index_flat::index::{Fault, Refused};
 use std::alloc::{AllocError, Global};
 use std::marker::Model;
@@ -227,6 +230,51 @@ fn push_times<K: Copy>(keys: &mut Vec<K>, key: K, count: usize)
     }
 }
 
+/// Removes the items in a range of places. Each one behind them moves once: by a swap where more than one goes, since `Vec::drain` moves
+/// them by a room of its own, which costs more than most of a partition.
+fn take_out<T: Drop>(items: &mut Vec<T>, from: usize, to: usize)
+    requires order { from ≤ to }
+    requires within { to ≤ length items.old.items }
+    ensures items { items.new.items ≡ remove_range items.old.items from to }
+    ensures capacity { vec_capacity items.new ≡ vec_capacity items.old }
+{
+    let count = to - from;
+    if count == 0 {
+        return;
+    }
+    if count == 1 {
+        items.remove(from);
+        return;
+    }
+    let mut into = from;
+    let mut at = to;
+    'items: while at < items.len() {
+        items.swap(into, at);
+        into += 1;
+        at += 1;
+    }
+    items.truncate(into);
+}
+
+/// `keep_in_front`, of the values at a range of places.
+fn keep_in_run<V, F: FnMut(&V) -> bool>(
+    values: &mut [V],
+    run: Range<usize>,
+    should_retain: F,
+) -> (usize, bool)
+    requires callable { F.IsAlwaysCallable should_retain }
+    requires start { run.start ≤ run.end }
+    requires end { run.end ≤ length values.old }
+    ensures asked { AsksInTurn (CalledAt F.FnMut) should_retain true (slice_range values.old run.start run.end)
+        (take result.0 (slice_range values.new run.start run.end)) result.1 }
+    ensures within { result.0 ≤ run.end - run.start }
+    ensures front { take run.start values.new ≡ take run.start values.old }
+    ensures back { drop run.end values.new ≡ drop run.end values.old }
+    ensures len { length values.new ≡ length values.old }
+{
+    keep_in_front(&mut values[run], should_retain, true)
+}
+
 /// The keys in order, and beside each of them a value. Pairs of one key stand in a run, one behind another.
 #[derive(Drop)]
 pub struct Partition<K: Ord + Copy, V> {
@@ -384,8 +432,36 @@ impl<K: Ord + Copy, V: Drop> Partition<K, V> {
         ensures pairs { self.new.pairs ≡ remove_range self.old.pairs range.start range.end }
         ensures room { self.new.room ≡ self.old.room + (range.end - range.start) }
     {
-        self.keys.drain(range.start..range.end);
-        self.values.drain(range.start..range.end);
+        take_out(&mut self.keys, range.start, range.end);
+        take_out(&mut self.values, range.start, range.end);
+    }
+
+    /// Calls the closure once for each value of a key's run, in order, and removes those for which it returns false. Returns how many are
+    /// left, and the last answer: true where the run is empty. The pairs behind the run move once.
+    pub(crate) fn retain_run<F: FnMut(&V) -> bool>(
+        &mut self,
+        key: K,
+        run: Range<usize>,
+        should_retain: F,
+    ) -> (usize, bool)
+        requires callable { F.IsAlwaysCallable should_retain }
+        requires found { IsFound K.cmp self.old.pairs key run.start run.end }
+        requires exact { (a b : K) → K.cmp a b ≡ Equal → a ≡ b }
+        ensures kept { (kept : List V)
+            × AsksInTurn (CalledAt F.FnMut) should_retain true (list_at K.cmp (grouped K.cmp self.old.pairs) key)
+            kept result.1
+            × (grouped K.cmp self.new.pairs ≡ with_list K.cmp (grouped K.cmp self.old.pairs) key kept)
+            × (result.0 ≡ length kept) }
+    {
+        let (left, stays) = keep_in_run(
+            self.values.as_mut_slice(),
+            run.start..run.end,
+            should_retain,
+        );
+        let from = run.start + left;
+        take_out(&mut self.keys, from, run.end);
+        take_out(&mut self.values, from, run.end);
+        (left, stays)
     }
 
     /// The values of the least key. None where it holds no pair.

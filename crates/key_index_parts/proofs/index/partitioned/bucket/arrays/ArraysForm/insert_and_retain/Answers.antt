@@ -46,5 +46,5 @@ returns-in-Ok-clause-accepted g c =
     let left = length-kept_of_run g.met.T.Key.Ord.total g.met.T.Translator.exact c.run_range-run.ensures c.args.value c.insert_at.new.self.pairs new (CalledAt g.F.FnMut) c.args.should_retain c.retain_run-left.ensures.kept.1 in
     let few = few_of_run g.met.T.Key.Ord.total g.met.T.Translator.exact c.run_range-run.ensures c.args.value c.insert_at.new.self.pairs new (CalledAt g.F.FnMut) c.args.should_retain c.retain_run-left.ensures.kept.1 in
     let last = as_byte c.retain_run-left.result.1 in
-    RetainsWith-run g.met.T.Key.Ord.total g.met.T.Translator.exact c.run_range-run.ensures c.args.value c.insert_at.new.self.pairs new (CalledAt g.F.FnMut) c.args.should_retain c.retain_run-left.ensures.kept.1 c.retain_run-left.new.pairs.pairs _ _ _ kept.2 (omega (arith, count)) kept.3
+    RetainsWith-run g.met.T.Key.Ord.total g.met.T.Translator.exact c.run_range-run.ensures c.args.value c.insert_at.new.self.pairs new (CalledAt g.F.FnMut) c.args.should_retain c.retain_run-left.ensures.kept.1 c.retain_run-left.new.self.pairs _ _ _ kept.2 (omega (arith, count)) kept.3
     (omega (arith, count, left, few, last, c.from.ensures, kept.3))

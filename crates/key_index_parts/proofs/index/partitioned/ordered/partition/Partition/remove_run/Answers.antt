@@ -30,31 +30,29 @@ remove_range_left g c =
     let order : start ≤ end = let upto = c.requires.1.upto in omega (arith, upto) in
     (order, length-remove_range _ start end order within, length-remove_range _ start end order (omega (arith, within, c.self.invariant.sized)))
 
-pub drain-requires-clause-in_bounds : goal.drain-requires-clause-in_bounds
-drain-requires-clause-in_bounds g c = let within = range_end_within g (goal.at.drain-requires-clause-in_bounds g c).After-self in omega (arith, within)
+pub take_out-requires-clause-within : goal.take_out-requires-clause-within
+take_out-requires-clause-within g c = let within = range_end_within g (goal.at.take_out-requires-clause-within g c).After-self in omega (arith, within)
 
-pub drain-requires-2-clause-in_bounds : goal.drain-requires-2-clause-in_bounds
-drain-requires-2-clause-in_bounds g c = let within = range_end_within g (goal.at.drain-requires-2-clause-in_bounds g c).After-self in omega (arith, within, c.self.invariant.sized)
+pub take_out-requires-2-clause-within : goal.take_out-requires-2-clause-within
+take_out-requires-2-clause-within g c = let within = range_end_within g (goal.at.take_out-requires-2-clause-within g c).After-self in omega (arith, within, c.self.invariant.sized)
 
 pub invariant_of-self : goal.invariant_of-self
 invariant_of-self g c =
     let less = remove_range_left g (goal.at.invariant_of-self g c).After-self in
-    rw (c.drop-drain.ensures.items, c.drop-drain-2.ensures.items, c.drain.ensures.kept, c.drain-2.ensures.kept) record {
+    rw (c.take_out.ensures.items, c.take_out-2.ensures.items) record {
       sized = omega (arith, c.self.invariant.sized, less);
       sorted = IsSorted-remove_range g.met.K.Ord.total c.self.inside.keys.items c.args.range.start c.args.range.end less.0 c.self.invariant.sorted;
     }
 
 pub returns-clause-pairs : goal.returns-clause-pairs
 returns-clause-pairs g c =
-    rw (c.drop-drain.ensures.items, c.drop-drain-2.ensures.items, c.drain.ensures.kept, c.drain-2.ensures.kept, ← c.self.view_is)
+    rw (c.take_out.ensures.items, c.take_out-2.ensures.items, ← c.self.view_is)
     (zip-remove_range c.self.inside.keys.items c.self.inside.values.items c.self.invariant.sized c.args.range.start c.args.range.end)
 
 pub returns-clause-room : goal.returns-clause-room
 returns-clause-room g c =
     let less = remove_range_left g (goal.at.returns-clause-room g c).After-self in
     let room = ap (λ s. s.room) c.self.view_is in
-    let key_items = ap length (c.drop-drain.ensures.items ∙ c.drain.ensures.kept) in
-    let value_items = ap length (c.drop-drain-2.ensures.items ∙ c.drain-2.ensures.kept) in
-    let key_capacity = c.drop-drain.ensures.capacity ∙ c.drain.ensures.capacity in
-    let value_capacity = c.drop-drain-2.ensures.capacity ∙ c.drain-2.ensures.capacity in
-    omega (arith, less, room, key_items, value_items, key_capacity, value_capacity)
+    let key_items = ap length c.take_out.ensures.items in
+    let value_items = ap length c.take_out-2.ensures.items in
+    omega (arith, less, room, key_items, value_items, c.take_out.ensures.capacity, c.take_out-2.ensures.capacity)
