@@ -520,7 +520,7 @@ def table_gives_what_it_was_given():
         table.tells("counts", "2 false 3")
 
 
-# Hashes with four different tops and sixteen different low ends.
+# Hashes with four different tops and sixteen different low ends. Three of the tops have one control byte.
 HASHES = [number % 4 << 56 | number // 4 for number in range(64)]
 
 

@@ -1,3 +1,4 @@
 pub mod TableCopies
 pub mod TableLemmas
 pub mod TableMaps
+pub mod ControlLemmas

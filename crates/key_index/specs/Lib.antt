@@ -1,4 +1,5 @@
 pub mod Answers
+pub mod Controls
 pub mod Immutable
 pub mod Line
 pub mod Marks

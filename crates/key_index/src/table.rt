@@ -3,27 +3,24 @@ ghost use Rattle.std.specs.Prelude.{◌≡◌, ℕ, ◌+◌, ◌-◌, ◌*◌, �
 ghost use Rattle.std.specs.Bool.{OnTrue, OnFalse};
 ghost use Rattle.std.specs.Iterator.{YieldsFirst, item_count};
 ghost use Rattle.std.specs.List.{All, Contains, find, range_with_len};
-ghost use Rattle.key_index.specs.Table.{Cells, control_of, is_full, is_used, home, from_cell, marked, places, candidates, position_count, with_hash, without, Files, Stored, HasSize, AreCandidates, Resolves, IsPut};
+ghost use Rattle.key_index.specs.Table.{Cells, fingerprint, is_full, is_used, home, from_cell, marked, places, candidates, position_count, with_hash, without, Files, Stored, HasSize, AreCandidates, Resolves, IsPut};
 
+mod controls;
+
+use controls::{ControlSlice, Controls};
 use key_index_flat::index::Fault;
 use std::alloc::{AllocError, Global};
 use std::marker::Model;
 
-/// Marks a cell that never held a position since its table was made.
-const EMPTY: u16 = 0;
-/// Marks a cell whose position was removed.
-const REMOVED: u16 = 1;
-/// Cells with a position are marked by this number and more.
-const FULL: u16 = 2;
 /// How many cells a table has at the least.
 const LEAST_CELLS: usize = 8;
 
-/// What marks a cell whose position is stored under a hash.
+/// The top eight bits of a hash.
 #[inline]
-fn control_of(hash: u64) -> u16
-    ensures { result ≡ control_of hash }
+fn fingerprint(hash: u64) -> u8
+    ensures { result ≡ fingerprint hash }
 {
-    (hash >> 56) as u16 + FULL
+    (hash >> 56) as u8
 }
 
 /// The cell at which a search for a hash begins, of so many.
@@ -47,13 +44,13 @@ fn limit(cells: usize) -> usize
 
 /// The first cell in a range that holds no position.
 #[inline]
-fn free_between(controls: &[u16], from: usize, to: usize) -> Option<usize>
+fn free_between(controls: &ControlSlice<'_>, from: usize, to: usize) -> Option<usize>
     requires { to ≤ length controls.now }
     ensures first { result ≡ find (λ i. nat_lt (slice_index controls.now i) 2) (range_with_len from (to - from)) }
     ensures within { IfSome result (λ cell. cell < to) }
 {
     for cell in from..to {
-        if controls[cell] < FULL {
+        if controls.is_free_at(cell) {
             return Some(cell);
         }
     }
@@ -62,7 +59,7 @@ fn free_between(controls: &[u16], from: usize, to: usize) -> Option<usize>
 
 /// The first cell that holds no position, from one on and round to it.
 #[inline]
-fn free_from(controls: &[u16], start: usize) -> usize
+fn free_from(controls: &ControlSlice<'_>, start: usize) -> usize
     requires start { start < length controls.now }
     requires free { count_by is_used controls.now < length controls.now }
     ensures first { find (λ i. nat_lt (slice_index controls.now i) 2) (from_cell (length controls.now) start)
@@ -81,38 +78,40 @@ fn free_from(controls: &[u16], start: usize) -> usize
 /// The cells that a search for a hash finds.
 #[derive(Drop)]
 struct Places<'a> {
-    controls: &'a [u16],
-    wanted: u16,
+    controls: ControlSlice<'a>,
+    wanted: u8,
     next: usize,
     end: usize,
     rest: usize,
 }
 
 impl<'a> Model for Places<'a> {
-    ghost use Rattle.std.specs.Prelude.{◌≤◌, ◌-◌, ◌++◌, List, ℕ, length};
+    ghost use Rattle.std.specs.Prelude.{◌≤◌, ◌<◌, ◌^◌, ◌+◌, ◌-◌, ◌++◌, List, ℕ, length};
     ghost use Rattle.std.specs.List.{range_with_len};
     ghost use Rattle.key_index.specs.Table.{marked};
 
     ghost Value = { List ℕ };
 
-    ghost view = { λ s. marked s.controls.now s.wanted
+    ghost view = { λ s. marked s.controls (s.wanted + 2)
         (range_with_len s.next (s.end - s.next) ++ range_with_len 0 s.rest) };
 
-    ghost invariant = { λ s. (s.next ≤ s.end) × (s.end ≤ length s.controls.now) × (s.rest ≤ length s.controls.now) };
+    ghost invariant = { λ s. (s.next ≤ s.end) × (s.end ≤ length s.controls) × (s.rest ≤ length s.controls)
+        × (length s.controls < 2 ^ 64) };
 }
 
 impl<'a> Places<'a> {
     #[inline]
-    fn new(controls: &'a [u16], hash: u64) -> Places<'a>
+    fn new(controls: &'a Controls, hash: u64) -> Places<'a>
         requires { 0 < length controls.now }
         ensures { result ≡ places controls.now hash }
     {
-        let start = home_of(hash, controls.len());
+        let end = controls.len();
+        let start = home_of(hash, end);
         Places {
-            controls,
-            wanted: control_of(hash),
+            controls: controls.as_slice(),
+            wanted: fingerprint(hash),
             next: start,
-            end: controls.len(),
+            end,
             rest: start,
         }
     }
@@ -133,14 +132,13 @@ impl<'a> Places<'a> {
                 continue;
             }
             let cell = self.next;
-            let control = self.controls[cell];
-            if control == EMPTY {
+            if self.controls.is_empty_at(cell) {
                 self.end = cell;
                 self.rest = 0;
                 return None;
             }
             self.next += 1;
-            if control == self.wanted {
+            if self.controls.has(cell, self.wanted) {
                 return Some(cell);
             }
         }
@@ -149,7 +147,7 @@ impl<'a> Places<'a> {
 
 /// The cell of a position among those that a search for a hash finds.
 #[inline]
-fn cell_of(controls: &[u16], positions: &[u64], hash: u64, position: u64) -> Option<usize>
+fn cell_of(controls: &Controls, positions: &[u64], hash: u64, position: u64) -> Option<usize>
     requires cells { 0 < length controls.now }
     requires sized { length positions.now ≡ length controls.now }
     ensures { result ≡ find (λ i. slice_index positions.now i == position) (places controls.now hash) }
@@ -165,42 +163,43 @@ fn cell_of(controls: &[u16], positions: &[u64], hash: u64, position: u64) -> Opt
 
 /// Puts a position into the first cell without one. Answers whether that cell was empty.
 #[inline]
-fn put(controls: &mut Vec<u16>, positions: &mut Vec<u64>, hash: u64, position: u64) -> bool
-    requires free { count_by is_used controls.old.items < length controls.old.items }
-    requires sized { length positions.old.items ≡ length controls.old.items }
-    ensures { IsPut controls.old.items positions.old.items hash position controls.new.items positions.new.items result }
+fn put(controls: &mut Controls, positions: &mut Vec<u64>, hash: u64, position: u64) -> bool
+    requires free { count_by is_used controls.old < length controls.old }
+    requires sized { length positions.old.items ≡ length controls.old }
+    ensures { IsPut controls.old positions.old.items hash position controls.new positions.new.items result }
 {
-    let cell = free_from(controls, home_of(hash, controls.len()));
-    let empty = controls[cell] == EMPTY;
-    controls[cell] = control_of(hash);
+    let slice = controls.as_slice();
+    let cell = free_from(&slice, home_of(hash, slice.len()));
+    let empty = slice.is_empty_at(cell);
+    controls.fill(cell, fingerprint(hash));
     positions[cell] = position;
     empty
 }
 
 /// Puts all positions of some cells into empty ones, by the hashes that the resolver answers.
 fn put_all<F: Fn(u64) -> u64>(
-    controls: &[u16],
+    controls: &ControlSlice<'_>,
     positions: &[u64],
-    new_controls: &mut Vec<u16>,
+    new_controls: &mut Controls,
     new_positions: &mut Vec<u64>,
     resolver: &F,
 )
     requires sized { length positions.now ≡ length controls.now }
-    requires new_sized { length new_positions.old.items ≡ length new_controls.old.items }
-    requires empty { new_controls.old.items ≡ replicate (length new_controls.old.items) 0 }
-    requires room { count_by is_full controls.now < length new_controls.old.items }
+    requires new_sized { length new_positions.old.items ≡ length new_controls.old }
+    requires empty { new_controls.old ≡ replicate (length new_controls.old) 0 }
+    requires room { count_by is_full controls.now < length new_controls.old }
     requires resolver { (m : ℕ → Option ℕ) × Files controls.now positions.now m
         × Resolves (F.pre resolver.now) (F.post resolver.now) m }
     ensures files { (m : ℕ → Option ℕ) → Files controls.now positions.now m
         → Resolves (F.pre resolver.now) (F.post resolver.now) m
-        → Files new_controls.new.items new_positions.new.items m }
-    ensures full { count_by is_full new_controls.new.items ≡ count_by is_full controls.now }
-    ensures used { count_by is_used new_controls.new.items ≡ count_by is_full controls.now }
-    ensures sized { length new_positions.new.items ≡ length new_controls.new.items }
-    ensures long { length new_controls.new.items ≡ length new_controls.old.items }
+        → Files new_controls.new new_positions.new.items m }
+    ensures full { count_by is_full new_controls.new ≡ count_by is_full controls.now }
+    ensures used { count_by is_used new_controls.new ≡ count_by is_full controls.now }
+    ensures sized { length new_positions.new.items ≡ length new_controls.new }
+    ensures long { length new_controls.new ≡ length new_controls.old }
 {
     for cell in 0..controls.len() {
-        if controls[cell] < FULL {
+        if controls.is_free_at(cell) {
             continue;
         }
         let position = positions[cell];
@@ -218,10 +217,10 @@ fn cells_for(capacity: usize) -> Option<usize>
 }
 
 /// So many empty cells.
-fn empty_cells(alloc: Global, cells: usize) -> Result<(Vec<u16>, Vec<u64>), AllocError>
-    ensures { IfOk result (λ s. (s.0.items ≡ replicate cells 0) × (s.1.items ≡ replicate cells 0)) }
+fn empty_cells(alloc: Global, cells: usize) -> Result<(Controls, Vec<u64>), AllocError>
+    ensures { IfOk result (λ s. (s.0 ≡ replicate cells 0) × (s.1.items ≡ replicate cells 0)) }
 {
-    Ok((vec![in alloc; EMPTY; cells]?, vec![in alloc; 0; cells]?))
+    Ok((Controls::new(alloc, cells)?, vec![in alloc; 0; cells]?))
 }
 
 /// The positions under one hash, and some under others that have its fingerprint.
@@ -262,7 +261,7 @@ impl<'a> Iterator for Candidates<'a> {
 /// under it, and perhaps others whose hashes have the same top eight bits.
 #[derive(Drop)]
 pub struct Table {
-    controls: Vec<u16>,
+    controls: Controls,
     positions: Vec<u64>,
     len: usize,
     used: usize,
@@ -274,9 +273,9 @@ impl Model for Table {
 
     ghost Value = { Cells };
 
-    ghost view = { λ t. record { controls = t.controls.items; positions = t.positions.items; removals = t.removals } };
+    ghost view = { λ t. record { controls = t.controls; positions = t.positions.items; removals = t.removals } };
 
-    ghost invariant = { λ t. AreCells t.controls.items t.positions.items t.len t.used };
+    ghost invariant = { λ t. AreCells t.controls t.positions.items t.len t.used };
 }
 
 impl Table {
@@ -329,7 +328,7 @@ impl Table {
         ensures stored { (m : ℕ → Option ℕ) → Stored self.now m → AreCandidates m hash result }
     {
         Candidates {
-            places: Places::new(self.controls.as_slice(), hash),
+            places: Places::new(&self.controls, hash),
             positions: self.positions.as_slice(),
         }
     }
@@ -360,12 +359,11 @@ impl Table {
             };
             cells = more;
         }
-        let Ok((mut controls, mut positions)) = empty_cells(*self.controls.allocator(), cells)
-        else {
+        let Ok((mut controls, mut positions)) = empty_cells(self.controls.alloc(), cells) else {
             return Err(Fault::Memory);
         };
         put_all(
-            &self.controls,
+            &self.controls.as_slice(),
             &self.positions,
             &mut controls,
             &mut positions,
@@ -432,7 +430,7 @@ impl Table {
         let Some(cell) = cell_of(&self.controls, &self.positions, hash, position) else {
             return false;
         };
-        self.controls[cell] = REMOVED;
+        self.controls.remove(cell);
         self.len -= 1;
         true
     }

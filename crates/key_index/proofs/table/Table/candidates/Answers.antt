@@ -6,11 +6,10 @@ use Rattle.key_index.proofs.table.Table.candidates.Goals as goal
 
 pub invariant_of-result : goal.invariant_of-result
 invariant_of-result c =
-    subst (λ l. All (λ i. i < length c.as_slice-2.result.now) l) (sym c.new.ensures)
-    (places_within c.as_slice.result.now c.args.hash (length c.as_slice-2.result.now)
-    (ap length c.as_slice-2.ensures.value ∙ c.self.invariant.sized ∙ sym (ap length c.as_slice.ensures.value)))
+    subst (λ l. All (λ i. i < length c.as_slice.result.now) l) (sym c.new.ensures)
+    (places_within c.self.inside.controls c.args.hash (length c.as_slice.result.now) (ap length c.as_slice.ensures.value ∙ c.self.invariant.sized))
 
 pub returns-clause-stored : goal.returns-clause-stored
 returns-clause-stored c = λ m s.
-    rw (c.new.ensures, c.as_slice.ensures.value, c.as_slice-2.ensures.value)
-    (files_candidates c.self.inside.controls.items c.self.inside.positions.items m c.args.hash (subst (λ t. Stored t m) (sym c.self.view_is) s))
+    rw (c.new.ensures, c.as_slice.ensures.value)
+    (files_candidates c.self.inside.controls c.self.inside.positions.items m c.args.hash (subst (λ t. Stored t m) (sym c.self.view_is) s))

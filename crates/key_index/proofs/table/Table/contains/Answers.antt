@@ -6,5 +6,5 @@ use Rattle.key_index.proofs.table.Table.contains.Goals as goal
 pub returns : goal.returns
 returns c =
     rw (← c.self.view_is, c.is_some.ensures)
-    (find_contains (slice_index c.self.inside.positions.items) c.args.position (places c.self.inside.controls.items c.args.hash) c.cell_of.result
-    (rw (c.deref.ensures.value, c.deref-2.ensures.value) at c.cell_of.ensures))
+    (find_contains (slice_index c.self.inside.positions.items) c.args.position (places c.self.inside.controls c.args.hash) c.cell_of.result
+    (rw (c.deref.ensures.value) at c.cell_of.ensures))

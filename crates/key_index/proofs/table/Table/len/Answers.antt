@@ -6,4 +6,4 @@ use Rattle.key_index.proofs.table.Table.len.Goals as goal
 pub returns-clause-size : goal.returns-clause-size
 returns-clause-size c = λ m s.
     subst (HasSize m) (sym c.self.invariant.counted)
-    (files_size c.self.inside.controls.items c.self.inside.positions.items m (subst (λ t. Stored t m) (sym c.self.view_is) s))
+    (files_size c.self.inside.controls c.self.inside.positions.items m (subst (λ t. Stored t m) (sym c.self.view_is) s))
