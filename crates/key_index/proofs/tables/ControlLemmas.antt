@@ -1,7 +1,7 @@
 -- Controls of a byte, and of a fingerprint beside the byte that three have.
 --     control_low, control_shared, control_own          what a byte stands for
 --     control_empty, control_free                       what it tells of its control
---     has_another, has_own, has_shared                  whether a control is that of a fingerprint
+--     has_another, has_own                              whether a control is that of a fingerprint
 --     control_of_own                                    it is where the bytes are one, and not that of three
 --     controls_empty                                    controls of empty cells
 --     cells_length, cells_within, control_read          the controls of cells, by their bytes and fingerprints
@@ -81,13 +81,6 @@ module _ (byte f g : ℕ) where
 
   pub has_own : byte ≡ byte_of g → byte_of g ≢ 2 → (control_by byte f == g + 2) ≡ true
   has_own e n = eq-eqb _ _ (control_of_own e n)
-
-  pub has_shared : byte ≡ 2 → nat_eq f g ≡ (control_by byte f == g + 2)
-  has_shared e =
-      elim (nat_eq f g) as (λ b. nat_eq f g ≡ b → b ≡ (control_by byte f == g + 2)) [
-        | true ↦ λ t. sym (eq-eqb _ _ (control_shared byte f e ∙ ap (λ m. m + 2) (eqb-true f g t)))
-        | false ↦ λ t. sym (ne_eqb _ _ (λ s. let shared = control_shared byte f e in eqb-false f g t (omega (arith, s, shared))))
-      ] refl
 
 pub controls_empty : (n : ℕ) → controls_by (replicate n 0) (replicate n 0) ≡ replicate n 0
 controls_empty zero = refl
