@@ -4,7 +4,8 @@
 --     item_count-retained                              an insertion with retention leaves at most one value more
 --     in_tree, Grows-below_limit, Grows-limit_reached  how a tree stands after an insertion, arrays below the limit, and a tree that arrays became
 --     held_by-tree, held_now                           what a bucket with a tree holds, which is something
-use Rattle.std.proofs.Common.{◌≡◌, ℕ, zero, suc, ◌+◌, ◌<◌, ◌≤◌, Bool, true, false, not, ◌&&◌, ◌||◌, nat_lt, nat_le, if◌then◌else◌, List, length, Option, Some, Result, Ok, Err, IfOk, OnErr, Box, refl, sym, ap, subst, ◌∙◌, arith}
+--     none_beside                                      and its arrays hold nothing
+use Rattle.std.proofs.Common.{◌≡◌, ℕ, zero, suc, ◌+◌, ◌<◌, ◌≤◌, Bool, true, false, not, ◌&&◌, ◌||◌, nat_lt, nat_le, if◌then◌else◌, List, length, Option, Some, is_some, Result, Ok, Err, IfOk, OnErr, Box, refl, sym, ap, subst, ◌∙◌, arith}
 use Rattle.std.proofs.lemmas.Bool.{lt-leb, le-leb, lt-ltb}
 use Rattle.std.specs.Cmp.{IsTotalOrder}
 use Rattle.std.specs.declared.cmp.Ordering.{Ordering}
@@ -39,6 +40,9 @@ module _ {K V : Type 0} where
   pub held_now : {X A : Type 0} (tree : Option (Box X A)) (f : X → Content K V) (b : Box X A) (x : X) → tree ≡ Some b → x ≡ b.value → HoldsSome f tree
       → 0 < item_count (f x)
   held_now tree f b x is now h = subst (λ y. 0 < item_count (f y)) (sym now) (subst (λ o. HoldsSome f o) is h)
+
+pub none_beside : {X : Type 0} (tree : Option X) (x : X) (some : Bool) → tree ≡ Some x → (is_some tree && some) ≡ false → some ≡ false
+none_beside tree x some is alone = subst (λ o. (is_some o && some) ≡ false) is alone
 
 module _ {K V : Type 0} {cmp : K → K → Ordering} (o : IsTotalOrder cmp) where
   pub some_left : (c new : Content K V) (k : K) (l : List V) → IsLawful cmp c → 0 < item_count c → length (list_at cmp c k) ≤ length l

@@ -1,6 +1,7 @@
 //! A bucket as sorted arrays or, spilled, as a tree.
-ghost use Rattle.std.specs.Prelude.{◌≡◌, ◌≤◌, ◌<◌, ◌++◌, true, false, is_some, [], IfOk, OnOk, OnErr};
-ghost use Rattle.key_index_flat.specs.Content.{IsLawful, item_count};
+ghost use Rattle.std.specs.Prelude.{◌≡◌, ◌≤◌, ◌<◌, ◌++◌, ◌&&◌, true, false, not, is_some, None, MatchOption, [], IfOk, OnOk, OnErr};
+ghost use Rattle.std.specs.Bool.{OnTrue};
+ghost use Rattle.key_index_flat.specs.Content.{IsLawful, is_filled, item_count};
 ghost use Rattle.key_index_parts.specs.Family.{stays_spilled};
 ghost use Rattle.key_index_parts.specs.Pairs.{grouped};
 ghost use Rattle.key_index_parts.specs.Spread.{AreBelow, spread};
@@ -15,12 +16,14 @@ use key_index_flat::index::implement::{Back, Chains, Retained, TreeMap};
 use key_index_flat::translator::Translator;
 use std::alloc::{AllocError, Global};
 
-/// A bucket as sorted arrays or, spilled, as a tree in a box, which then holds something. The arrays of a spilled bucket have no room.
+/// A bucket as sorted arrays or, spilled, as a tree in a box, which then holds something. The arrays of a spilled bucket hold nothing, and
+/// have no room.
 #[derive(Drop)]
 pub struct Spilling<T: Translator, V> {
     arrays: Arrays<T, V>,
     tree: Option<Box<Tree<T, V>>>,
     ghost filled: { HoldsSome (λ t. t.lists) tree } by { HoldsSome-prop _ tree },
+    ghost alone: { (is_some tree && is_filled (grouped T.Key.cmp arrays.pairs.pairs)) ≡ false },
 }
 
 /// Moves the runs of arrays in front of some lists, the last one first. The arrays keep their memory; a failure leaves some in each.
@@ -65,11 +68,13 @@ fn drop_emptied<T: Translator, V: Drop>(
     arrays: &mut Arrays<T, V>,
     tree: &mut Option<Box<Tree<T, V>>>,
 )
+    requires { (is_some tree.old && is_filled (grouped T.Key.cmp arrays.old.pairs.pairs)) ≡ false }
     ensures content { held_by (λ t. t.lists) tree.new (grouped T.Key.cmp arrays.new.pairs.pairs)
         ≡ held_by (λ t. t.lists) tree.old (grouped T.Key.cmp arrays.old.pairs.pairs) }
     ensures standing { is_some tree.new ≡ stays_spilled (is_some tree.old)
         (held_by (λ t. t.lists) tree.new (grouped T.Key.cmp arrays.new.pairs.pairs)) }
     ensures filled { HoldsSome (λ t. t.lists) tree.new }
+    ensures alone { (is_some tree.new && is_filled (grouped T.Key.cmp arrays.new.pairs.pairs)) ≡ false }
 {
     let emptied = match &*tree {
         Some(tree) => tree.is_empty(),
@@ -134,10 +139,40 @@ impl<T: Translator, V> Held<T, V> for Spilling<T, V> {
         (grouped T.Key.cmp bucket.arrays.pairs.pairs) bucket.filled h };
 }
 
+impl<T: Translator, V: Drop> Spilling<T, V> {
+    /// Whether its values stand in arrays. Where these hold some, the tree isn't looked for, which may stand in another cache line.
+    #[inline(always)]
+    fn is_inline(&self) -> bool
+        ensures standing { result ≡ not (is_some self.now.tree) }
+        ensures inline { OnTrue result (self.now.tree ≡ None) }
+    {
+        !self.arrays.is_empty() || self.tree.is_none()
+    }
+
+    /// The tree, where it stands as one.
+    #[inline(always)]
+    fn tree(&self) -> Option<&Tree<T, V>>
+        ensures held { MatchOption result
+            (held_by (λ t. t.lists) self.now.tree (grouped T.Key.cmp self.now.arrays.pairs.pairs)
+            ≡ grouped T.Key.cmp self.now.arrays.pairs.pairs)
+            (λ tree. held_by (λ t. t.lists) self.now.tree (grouped T.Key.cmp self.now.arrays.pairs.pairs)
+            ≡ tree.now.lists) }
+        ensures standing { is_some result ≡ is_some self.now.tree }
+    {
+        if self.is_inline() {
+            return None;
+        }
+        match &self.tree {
+            Some(tree) => Some(&**tree),
+            None => None,
+        }
+    }
+}
+
 impl<T: Translator, V: Drop> ReadBucket<T, V> for Spilling<T, V> {
     #[inline]
     fn is_empty(&self) -> bool {
-        match &self.tree {
+        match self.tree() {
             Some(_) => false,
             None => self.arrays.is_empty(),
         }
@@ -145,7 +180,7 @@ impl<T: Translator, V: Drop> ReadBucket<T, V> for Spilling<T, V> {
 
     #[inline]
     fn get(&self, key: T::Key) -> Values<'_, V> {
-        match &self.tree {
+        match self.tree() {
             Some(tree) => tree.get(key),
             None => self.arrays.get(key),
         }
@@ -153,7 +188,7 @@ impl<T: Translator, V: Drop> ReadBucket<T, V> for Spilling<T, V> {
 
     #[inline(always)]
     fn run_len(&self, key: T::Key) -> usize {
-        match &self.tree {
+        match self.tree() {
             Some(tree) => tree.run_len(key),
             None => self.arrays.run_len(key),
         }
@@ -161,14 +196,14 @@ impl<T: Translator, V: Drop> ReadBucket<T, V> for Spilling<T, V> {
 
     #[inline(always)]
     fn value_at(&self, key: T::Key, place: usize) -> &V {
-        match &self.tree {
+        match self.tree() {
             Some(tree) => tree.value_at(key, place),
             None => self.arrays.value_at(key, place),
         }
     }
 
     fn for_each_value<F: FnMut(&V)>(&self, visit: &mut F) {
-        match &self.tree {
+        match self.tree() {
             Some(tree) => tree.for_each_value(visit),
             None => self.arrays.for_each_value(visit),
         }
@@ -178,50 +213,60 @@ impl<T: Translator, V: Drop> ReadBucket<T, V> for Spilling<T, V> {
 impl<T: Translator, V: Drop> EditBucket<T, V> for Spilling<T, V> {
     #[inline(always)]
     fn set_at(&mut self, key: T::Key, place: usize, value: V) {
-        match &mut self.tree {
-            Some(tree) => tree.set_at(key, place, value),
-            None => self.arrays.set_at(key, place, value),
+        if self.is_inline() {
+            self.arrays.set_at(key, place, value);
+            return;
         }
+        let Some(tree) = &mut self.tree else {
+            unreachable!()
+        };
+        tree.set_at(key, place, value);
     }
 
     fn insert_at(&mut self, key: T::Key, place: usize, value: V) -> Result<bool, V> {
-        match &mut self.tree {
-            Some(tree) => tree.insert_at(key, place, value),
-            None => self.arrays.insert_at(key, place, value),
+        if self.is_inline() {
+            return self.arrays.insert_at(key, place, value);
         }
+        let Some(tree) = &mut self.tree else {
+            unreachable!()
+        };
+        tree.insert_at(key, place, value)
     }
 
     fn remove_at(&mut self, key: T::Key, place: usize) -> (V, usize) {
-        match &mut self.tree {
-            Some(tree) => {
-                let removed = tree.remove_at(key, place);
-                drop_emptied(&mut self.arrays, &mut self.tree);
-                removed
-            }
-            None => self.arrays.remove_at(key, place),
+        if self.is_inline() {
+            return self.arrays.remove_at(key, place);
         }
+        let Some(tree) = &mut self.tree else {
+            unreachable!()
+        };
+        let removed = tree.remove_at(key, place);
+        drop_emptied(&mut self.arrays, &mut self.tree);
+        removed
     }
 
     fn retain<F: FnMut(&V) -> bool>(&mut self, key: T::Key, should_retain: F) -> (usize, usize) {
-        match &mut self.tree {
-            Some(tree) => {
-                let counts = tree.retain(key, should_retain);
-                drop_emptied(&mut self.arrays, &mut self.tree);
-                counts
-            }
-            None => self.arrays.retain(key, should_retain),
+        if self.is_inline() {
+            return self.arrays.retain(key, should_retain);
         }
+        let Some(tree) = &mut self.tree else {
+            unreachable!()
+        };
+        let counts = tree.retain(key, should_retain);
+        drop_emptied(&mut self.arrays, &mut self.tree);
+        counts
     }
 
     fn remove(&mut self, key: T::Key) -> usize {
-        match &mut self.tree {
-            Some(tree) => {
-                let taken = tree.remove(key);
-                drop_emptied(&mut self.arrays, &mut self.tree);
-                taken
-            }
-            None => self.arrays.remove(key),
+        if self.is_inline() {
+            return self.arrays.remove(key);
         }
+        let Some(tree) = &mut self.tree else {
+            unreachable!()
+        };
+        let taken = tree.remove(key);
+        drop_emptied(&mut self.arrays, &mut self.tree);
+        taken
     }
 }
 
@@ -239,15 +284,12 @@ impl<T: Translator, V: Drop> Bucket<T, V> for Spilling<T, V> {
 
     #[inline]
     fn inline_len(&self) -> usize {
-        match &self.tree {
-            Some(_) => 0,
-            None => self.arrays.len(),
-        }
+        self.arrays.len()
     }
 
     #[inline]
     fn is_spilled(&self) -> bool {
-        self.tree.is_some()
+        !self.is_inline()
     }
 
     #[inline(never)]
@@ -260,7 +302,7 @@ impl<T: Translator, V: Drop> Bucket<T, V> for Spilling<T, V> {
 
     #[inline]
     fn spilled_len(&self) -> usize {
-        match &self.tree {
+        match self.tree() {
             Some(tree) => tree.len(),
             None => 0,
         }
@@ -282,7 +324,10 @@ impl<T: Translator, V: Drop> Bucket<T, V> for Spilling<T, V> {
     }
 
     fn insert(&mut self, key: T::Key, value: V, limit: usize) -> Result<(bool, usize), V> {
-        if let Some(tree) = &mut self.tree {
+        if !self.is_inline() {
+            let Some(tree) = &mut self.tree else {
+                unreachable!()
+            };
             let absent = tree.insert(key, value)?;
             return Ok((absent, 0));
         }
@@ -324,7 +369,10 @@ impl<T: Translator, V: Drop> Bucket<T, V> for Spilling<T, V> {
         should_retain: F,
         limit: usize,
     ) -> Result<(Retained, usize), V> {
-        if let Some(tree) = &mut self.tree {
+        if !self.is_inline() {
+            let Some(tree) = &mut self.tree else {
+                unreachable!()
+            };
             let told = tree.insert_and_retain(key, value, should_retain)?;
             drop_emptied(&mut self.arrays, &mut self.tree);
             return Ok((told, 0));
@@ -359,7 +407,7 @@ impl<T: Translator, V: Drop> Bucket<T, V> for Spilling<T, V> {
 impl<T: Translator, V: Drop> OrderedBucket<T, V> for Spilling<T, V> {
     #[inline]
     fn first(&self) -> Option<Values<'_, V>> {
-        match &self.tree {
+        match self.tree() {
             Some(tree) => tree.first(),
             None => self.arrays.first(),
         }
@@ -367,7 +415,7 @@ impl<T: Translator, V: Drop> OrderedBucket<T, V> for Spilling<T, V> {
 
     #[inline]
     fn last(&self) -> Option<Values<'_, V>> {
-        match &self.tree {
+        match self.tree() {
             Some(tree) => tree.last(),
             None => self.arrays.last(),
         }
@@ -375,7 +423,7 @@ impl<T: Translator, V: Drop> OrderedBucket<T, V> for Spilling<T, V> {
 
     #[inline]
     fn above(&self, key: T::Key) -> Option<Values<'_, V>> {
-        match &self.tree {
+        match self.tree() {
             Some(tree) => tree.above(key),
             None => self.arrays.above(key),
         }
@@ -383,7 +431,7 @@ impl<T: Translator, V: Drop> OrderedBucket<T, V> for Spilling<T, V> {
 
     #[inline]
     fn below(&self, key: T::Key) -> Option<Values<'_, V>> {
-        match &self.tree {
+        match self.tree() {
             Some(tree) => tree.below(key),
             None => self.arrays.below(key),
         }

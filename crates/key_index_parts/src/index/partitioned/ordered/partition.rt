@@ -231,7 +231,7 @@ fn push_times<K: Copy>(keys: &mut Vec<K>, key: K, count: usize)
 }
 
 /// Removes the items in a range of places. Each one behind them moves once: by a swap where more than one goes, since `Vec::drain` moves
-/// them by a room of its own, which costs more than most of a partition.
+/// them through a buffer of its own, which costs more than most of a partition.
 fn take_out<T: Drop>(items: &mut Vec<T>, from: usize, to: usize)
     requires order { from ≤ to }
     requires within { to ≤ length items.old.items }

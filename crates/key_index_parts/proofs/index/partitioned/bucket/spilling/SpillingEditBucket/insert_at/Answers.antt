@@ -3,11 +3,11 @@ use Rattle.std.proofs.lemmas.List.Edits.{length-insert}
 use Rattle.std.specs.List.{insert}
 use Rattle.key_index_flat.specs.Content.{is_filled, list_at}
 use Rattle.key_index_parts.specs.Pairs.{grouped}
-use Rattle.key_index_parts.proofs.standing.SpillingLemmas.{held_by-tree, held_now, item_count-stays_positive}
+use Rattle.key_index_parts.proofs.standing.SpillingLemmas.{held_by-tree, held_now, none_beside, item_count-stays_positive}
 use Rattle.key_index_parts.proofs.index.partitioned.bucket.spilling.SpillingEditBucket.insert_at.Goals as goal
 
-pub invariant_of-self : goal.invariant_of-self
-invariant_of-self g c =
+pub invariant_of-self-2 : goal.invariant_of-self-2
+invariant_of-self-2 g c =
     let tree = c.deref_mut.result.now in
     let held = tree.lists in
     let l = list_at g.T.Key.Ord.cmp held c.args.key in
@@ -17,6 +17,7 @@ invariant_of-self g c =
     c.requires in
     let long = length-insert l c.args.place c.args.value upto in
     record {
-      filled = item_count-stays_positive g.met.T.Key.Ord.total c.insert_at.result held (c.insert_at.new.self.lists) c.args.key (λ m. insert m c.args.place c.args.value)
-          (not (is_filled l)) tree.counted.lawful some (omega (arith, long)) c.insert_at.ensures.accepted c.insert_at.ensures.refused;
+      alone = none_beside c.args.self.now.tree c.in-Some.tree _ c.in-Some.is c.args.self.now.alone;
+      filled = item_count-stays_positive g.met.T.Key.Ord.total c.insert_at-2.result held (c.insert_at-2.new.self.lists) c.args.key (λ m. insert m c.args.place c.args.value)
+          (not (is_filled l)) tree.counted.lawful some (omega (arith, long)) c.insert_at-2.ensures.accepted c.insert_at-2.ensures.refused;
     }
