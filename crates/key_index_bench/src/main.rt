@@ -157,8 +157,8 @@ fn run_gap<I: Factory<Translator = EightCap, Value = u64> + Ordered + Drop, M: M
     }
 }
 
-/// Measures an index whose keys are in order, but for its neighbours alone.
-fn run_in_order<I: Factory<Translator = EightCap, Value = u64> + Ordered + Drop, M: Meter>(
+/// Measures an index of all keys, which are in order.
+fn run_all_keys<I: Factory<Translator = EightCap, Value = u64> + Ordered + Drop, M: Meter>(
     alloc: Global,
     present: &[[u8; 32]],
     absent: &[[u8; 32]],
@@ -180,7 +180,8 @@ fn run_in_order<I: Factory<Translator = EightCap, Value = u64> + Ordered + Drop,
     flat::remove(&mut index, half, report)
 }
 
-/// Measures an index whose keys are in order. The index of many keys is made first, as most programs do.
+/// Measures an index of all keys, which are in order, and then the neighbours in one of few. The large index is made first, as most
+/// programs do.
 fn run_ordered<I: Factory<Translator = EightCap, Value = u64> + Ordered + Drop, M: Meter>(
     alloc: Global,
     present: &[[u8; 32]],
@@ -189,7 +190,7 @@ fn run_ordered<I: Factory<Translator = EightCap, Value = u64> + Ordered + Drop, 
 ) -> Result<(), Failure>
     requires { I.makes }
 {
-    run_in_order::<I, M>(alloc, present, absent, report)?;
+    run_all_keys::<I, M>(alloc, present, absent, report)?;
     run_gap::<I, M>(alloc, present, report)
 }
 
