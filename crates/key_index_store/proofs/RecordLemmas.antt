@@ -1,28 +1,84 @@
 -- On records: what reading finds at the front of some bytes.
+--     part-short       fewer bytes have no part of so many with its checksum
+--     key_front, read_front  more bytes behind those that a record takes change nothing
 --     read_again       what was encoded is read, whatever follows it
---     read_more        more bytes behind whole ones change nothing
+--     Whole            what is known of bytes that are read as a record
 --     IsFound-reading  what is read was encoded
-use Rattle.std.proofs.Common.{◌≡◌, ℕ, zero, suc, ◌+◌, ◌^◌, ◌<◌, ◌≤◌, Bool, true, false, cond, not, ◌||◌, List, [], ◌∷◌, ◌++◌, length, take, drop, slice_index_or, Option, Some, None, Result, Ok, Err, inl, inr, refl, sym, ap, subst, ◌∙◌, append_assoc, length-append, length-drop, length-take, arith}
+--     begun_stops      a part of a record, from its front on, is none
+use Rattle.std.proofs.Common.{◌≡◌, ℕ, zero, suc, ◌+◌, ◌-◌, ◌^◌, ◌<◌, ◌≤◌, Bool, true, false, cond, not, List, [], ◌∷◌, ◌++◌, length, take, drop, slice_index_or, Option, Some, None, Result, Ok, Err, inl, inr, refl, sym, ap, subst, ◌∙◌, append_assoc, length-append, length-drop, length-take, arith}
 use Rattle.std.specs.Int.{w32, from_le_bytes}
+use Rattle.std.specs.Option.{option_map, unwrap_or}
 use Rattle.std.specs.Result.{IfErr, OnErr, OnOk, is_ok}
 use Rattle.std.specs.Str.{bytes_eq}
 use Rattle.std.proofs.lemmas.Bool.{false≢true, cases_lt, le-ltb, ltb-false}
-use Rattle.std.proofs.lemmas.List.{take_at, drop_at, take-append-drop, take-append-le, drop-append-le, drop-drop, get_or-drop, get_or-take, get_or_past}
+use Rattle.std.proofs.lemmas.List.{append-nil, take_at, drop_at, take-append-drop, take-append-le, drop-append-le, drop-drop, get_or-drop, get_or-take, get_or_past}
 use Rattle.std.proofs.lemmas.Nat.{le_bytes_4, from_le_bytes-to_le_bytes_4}
 use Rattle.std.proofs.lemmas.Slice.Eq.{bytes_eq-Decides}
 use Rattle.key_index_store.specs.Checksum.{crc32}
-use Rattle.key_index_store.specs.Record.{Entry, Fits, Outcome, Complete, Torn, Damaged, mark_of, bytes_of, number, number_at, body, encoded, body_length, is_torn, marked, fields_of, checked, reading, IsFound, IsWithin}
+use Rattle.key_index_store.specs.Record.{Entry, Fits, Outcome, Complete, Torn, Damaged, mark_of, bytes_of, number, number_at, summed, head, encoded, is_summed, part, key_length, value_place, record_length, key_in, value_in_record, marked, fields_of, behind_head, reading, IsFound, IsWithin, Stops}
 
-or-false : (a b : Bool) → (a || b) ≡ false → (a ≡ false) × (b ≡ false)
-or-false true b e = absurd (false≢true (sym e))
-or-false false b e = (refl, e)
+-- ---- a part with its checksum
 
--- whole bytes are as many as their lengths say
-pub is_torn-lengths : (bytes : List ℕ) → is_torn bytes ≡ false → (9 ≤ length bytes) × (body_length bytes + 4 ≤ length bytes)
-is_torn-lengths bytes e = let both = or-false _ _ e in (ltb-false _ _ both.0, ltb-false _ _ both.1)
+four_of : (x : ℕ) → length (number x) ≡ 4
+four_of x = refl
 
-pub not_torn : (bytes : List ℕ) → 9 ≤ length bytes → body_length bytes + 4 ≤ length bytes → is_torn bytes ≡ false
-not_torn bytes p q = (λ i. le-ltb (length bytes) 9 p i || le-ltb (length bytes) (body_length bytes + 4) q i)
+pub not_summed-short : (n : ℕ) (bytes : List ℕ) → length bytes < n + 4 → is_summed n bytes ≡ false
+not_summed-short n bytes h = elim (is_summed n bytes) as (λ b. is_summed n bytes ≡ b → b ≡ false) [
+  | true ↦ λ e. absurd (
+    let same = ap (λ l. length l) ((bytes_eq-Decides (take 4 (drop n bytes)) (number (crc32 (take n bytes)))).0 e) in
+    omega (arith, same, four_of (crc32 (take n bytes)), length-take 4 (drop n bytes), length-drop n bytes, h))
+  | false ↦ λ e. refl
+] refl
+
+pub part-short : (n : ℕ) (bytes : List ℕ) → length bytes < n + 4 → part n bytes ≡ None
+part-short n bytes h = ap (λ b. cond b (Some (take n bytes)) None) (not_summed-short n bytes h)
+
+pub part-summed : (n : ℕ) (bytes : List ℕ) → is_summed n bytes ≡ true → part n bytes ≡ Some (take n bytes)
+part-summed n bytes e = ap (λ b. cond b (Some (take n bytes)) None) e
+
+pub part-not_summed : (n : ℕ) (bytes : List ℕ) → is_summed n bytes ≡ false → part n bytes ≡ None
+part-not_summed n bytes e = ap (λ b. cond b (Some (take n bytes)) None) e
+
+pub part_is : (n : ℕ) (bytes p : List ℕ) → part n bytes ≡ Some p → (is_summed n bytes ≡ true) × (take n bytes ≡ p) × (n + 4 ≤ length bytes)
+part_is n bytes p e = elim (is_summed n bytes) as (λ b. is_summed n bytes ≡ b → cond b (Some (take n bytes)) None ≡ Some p → (b ≡ true) × (take n bytes ≡ p) × (n + 4 ≤ length bytes)) [
+  | true ↦ λ t q. (refl, ap (λ o. unwrap_or o p) q, long t)
+  | false ↦ λ t q. absurd (cc)
+] refl e
+  where
+    long : is_summed n bytes ≡ true → n + 4 ≤ length bytes
+    long t = elim (cases_lt (length bytes) (n + 4)) [
+      | inl less ↦ absurd (false≢true (sym (not_summed-short n bytes less) ∙ t))
+      | inr le ↦ le
+    ]
+
+pub summed_front : (n : ℕ) (a b : List ℕ) → n + 4 ≤ length a → is_summed n (a ++ b) ≡ is_summed n a
+summed_front n a b h =
+    let behind : 4 ≤ length (drop n a) = omega (arith, length-drop n a, h) in
+    (λ i. bytes_eq (take 4 (drop-append-le n a b (omega (arith, h)) i)) (number (crc32 (take-append-le n a b (omega (arith, h)) i))))
+    ∙ ap (λ l. bytes_eq l (number (crc32 (take n a)))) (take-append-le 4 (drop n a) b behind)
+
+pub part_front : (n : ℕ) (a b : List ℕ) → n + 4 ≤ length a → part n (a ++ b) ≡ part n a
+part_front n a b h =
+    (λ i. cond (summed_front n a b h i) (Some (take-append-le n a b (omega (arith, h)) i)) None)
+
+-- a part and its checksum, whatever follows
+pub part_again : (p rest : List ℕ) (n : ℕ) → n ≡ length p → part n (summed p ++ rest) ≡ Some p
+part_again p rest n is =
+    let sum : List ℕ = number (crc32 p) in
+    let behind : List ℕ = sum ++ rest in
+    let front : take n (p ++ behind) ≡ p = take_at p behind n (sym is) in
+    let back : drop n (p ++ behind) ≡ behind = drop_at p behind n (sym is) in
+    let same : bytes_eq sum sum ≡ true = (bytes_eq-Decides sum sum).1 refl in
+    ap (part n) (append_assoc p sum rest)
+    ∙ (λ i. cond (bytes_eq (take 4 (back i)) (number (crc32 (front i)))) (Some (front i)) None)
+    ∙ ap (λ b. cond b (Some p) None) same
+
+-- bytes that begin with a part and its checksum
+pub summed_back : (n : ℕ) (bytes : List ℕ) → is_summed n bytes ≡ true → bytes ≡ summed (take n bytes) ++ drop (n + 4) bytes
+summed_back n bytes e =
+    let sum : take 4 (drop n bytes) ≡ number (crc32 (take n bytes)) = (bytes_eq-Decides (take 4 (drop n bytes)) (number (crc32 (take n bytes)))).0 e in
+    sym (take-append-drop n bytes) ∙ ap (λ l. take n bytes ++ l) (sym (take-append-drop 4 (drop n bytes)))
+    ∙ (λ i. take n bytes ++ (sum i ++ drop-drop 4 n bytes i)) ∙ sym (append_assoc (take n bytes) (number (crc32 (take n bytes))) (drop (n + 4) bytes))
 
 -- ---- bytes behind others
 
@@ -32,41 +88,72 @@ number_front place a b h =
     ap (λ l. from_le_bytes w32 (take 4 l)) (drop-append-le place a b (omega (arith, h)))
     ∙ ap (from_le_bytes w32) (take-append-le 4 (drop place a) b long)
 
-pub length_front : (a b : List ℕ) → 9 ≤ length a → body_length (a ++ b) ≡ body_length a
-length_front a b h = (λ i. 9 + (number_front 1 a b (omega (arith, h)) i + number_front 5 a b h i))
+module _ (a b : List ℕ) (h : 13 ≤ length a) where
+  key_length_front : key_length (a ++ b) ≡ key_length a
+  key_length_front = number_front 1 a b (omega (arith, h))
 
-pub body_front : (bytes : List ℕ) → 9 ≤ length bytes → body_length (take (body_length bytes) bytes) ≡ body_length bytes
-body_front bytes h =
-    let n = body_length bytes in
-    let long : 9 ≤ length (take n bytes) = omega (arith, length-take n bytes, h) in
-    sym (length_front (take n bytes) (drop n bytes) long) ∙ ap body_length (take-append-drop n bytes)
+  value_length_front : number_at 5 (a ++ b) ≡ number_at 5 a
+  value_length_front = number_front 5 a b (omega (arith, h))
 
-pub read_more : (a b : List ℕ) → is_torn a ≡ false → reading (a ++ b) ≡ reading a
-read_more a b e =
-    let sizes = is_torn-lengths a e in
-    let n = body_length a in
-    let same = length_front a b sizes.0 in
-    let torn : is_torn (a ++ b) ≡ false = not_torn (a ++ b) (omega (arith, length-append a b, sizes.0)) (omega (arith, same, length-append a b, sizes.1)) in
-    let behind : 4 ≤ length (drop n a) = omega (arith, length-drop n a, sizes.1) in
-    ap (λ t. cond t Torn (checked (take (body_length (a ++ b)) (a ++ b)) (drop (body_length (a ++ b)) (a ++ b)))) torn
-    ∙ ap (λ m. checked (take m (a ++ b)) (drop m (a ++ b))) same
-    ∙ (λ i. checked (take-append-le n a b (omega (arith, sizes.1)) i) (drop-append-le n a b (omega (arith, sizes.1)) i))
-    ∙ ap (λ l. cond (bytes_eq l (number (crc32 (take n a)))) (fields_of (take n a)) Damaged) (take-append-le 4 (drop n a) b behind)
-    ∙ sym (ap (λ t. cond t Torn (checked (take n a) (drop n a))) e)
+  pub record_length_front : record_length (a ++ b) ≡ record_length a
+  record_length_front = (λ i. 21 + (key_length_front i + value_length_front i))
 
-pub checked_front : (bytes : List ℕ) → is_torn bytes ≡ false → bytes_eq (take 4 (drop (body_length bytes) bytes)) (number (crc32 (take (body_length bytes) bytes))) ≡ true
-    → reading bytes ≡ fields_of (take (body_length bytes) bytes)
-checked_front bytes whole fits =
-    let n = body_length bytes in
-    ap (λ t. cond t Torn (checked (take n bytes) (drop n bytes))) whole ∙ ap (λ t. cond t (fields_of (take n bytes)) Damaged) fits
+  head_front : is_summed 9 (a ++ b) ≡ is_summed 9 a
+  head_front = summed_front 9 a b h
 
-pub on_ok_told : {A E : Type 0} {P : Type 0} (r : Result A E) → is_ok r ≡ true → OnOk r P → P
-on_ok_told (Ok x) e h = h
-on_ok_told (Err x) e h = absurd (false≢true e)
+  key_part_front : 17 + key_length a ≤ length a → part (key_length (a ++ b)) (drop 13 (a ++ b)) ≡ part (key_length a) (drop 13 a)
+  key_part_front long =
+      (λ i. part (key_length_front i) (drop-append-le 13 a b h i))
+      ∙ part_front (key_length a) (drop 13 a) b (omega (arith, length-drop 13 a, long))
 
-pub was_equal : (b : Bool) → not b ≡ false → b ≡ true
-was_equal true e = refl
-was_equal false e = absurd (false≢true (sym e))
+  pub key_front : (is_summed 9 a ≡ true → 17 + key_length a ≤ length a) → key_in (a ++ b) ≡ key_in a
+  key_front long =
+      ap (λ t. cond t (part (key_length (a ++ b)) (drop 13 (a ++ b))) None) head_front
+      ∙ elim (is_summed 9 a) as (λ t. is_summed 9 a ≡ t → cond t (part (key_length (a ++ b)) (drop 13 (a ++ b))) None ≡ cond t (part (key_length a) (drop 13 a)) None) [
+        | true ↦ λ e. key_part_front (long e)
+        | false ↦ λ e. refl
+      ] refl
+
+  module _ (long : record_length a ≤ length a) where
+    value_front : value_in_record (a ++ b) ≡ value_in_record a
+    value_front =
+        let place : value_place (a ++ b) ≡ value_place a = ap (λ n. 17 + n) key_length_front in
+        (λ i. part (value_length_front i) (drop (place i) (a ++ b)))
+        ∙ ap (part (number_at 5 a)) (drop-append-le (value_place a) a b (omega (arith, long)))
+        ∙ part_front (number_at 5 a) (drop (value_place a) a) b (omega (arith, length-drop (value_place a) a, long))
+
+    first_byte : (key value : List ℕ) → marked (a ++ b) key value ≡ marked a key value
+    first_byte key value = of a h
+      where
+        of : (l : List ℕ) → 13 ≤ length l → marked (l ++ b) key value ≡ marked l key value
+        of [] p = absurd (omega (arith, p))
+        of (zero ∷ l) p = elim value as (λ v. marked (zero ∷ (l ++ b)) key v ≡ marked (zero ∷ l) key v) [ [] ↦ refl | x ∷ xs ↦ refl ]
+        of (suc zero ∷ l) p = refl
+        of (suc (suc n) ∷ l) p = refl
+
+    fields_front : (k v : Option (List ℕ)) → fields_of (a ++ b) k v ≡ fields_of a k v
+    fields_front None v = refl
+    fields_front (Some k) None = refl
+    fields_front (Some k) (Some v) = first_byte k v
+
+    whole_front : behind_head (a ++ b) ≡ behind_head a
+    whole_front =
+        let more : record_length (a ++ b) ≤ length (a ++ b) = omega (arith, record_length_front, length-append a b, long) in
+        ap (λ t. cond t Torn (fields_of (a ++ b) (part (key_length (a ++ b)) (drop 13 (a ++ b))) (value_in_record (a ++ b)))) (le-ltb _ _ more)
+        ∙ (λ i. fields_of (a ++ b) (key_part_front (omega (arith, long)) i) (value_front i))
+        ∙ fields_front (part (key_length a) (drop 13 a)) (value_in_record a)
+        ∙ sym (ap (λ t. cond t Torn (fields_of a (part (key_length a) (drop 13 a)) (value_in_record a))) (le-ltb _ _ long))
+
+  pub read_front : (is_summed 9 a ≡ true → record_length a ≤ length a) → reading (a ++ b) ≡ reading a
+  read_front long =
+      let more : 13 ≤ length (a ++ b) = omega (arith, length-append a b, h) in
+      ap (λ t. cond t Torn (cond (is_summed 9 (a ++ b)) (behind_head (a ++ b)) Damaged)) (le-ltb _ _ more)
+      ∙ ap (λ t. cond t (behind_head (a ++ b)) Damaged) head_front
+      ∙ elim (is_summed 9 a) as (λ t. is_summed 9 a ≡ t → cond t (behind_head (a ++ b)) Damaged ≡ cond t (behind_head a) Damaged) [
+        | true ↦ λ e. whole_front (long e)
+        | false ↦ λ e. refl
+      ] refl
+      ∙ sym (ap (λ t. cond t Torn (cond (is_summed 9 a) (behind_head a) Damaged)) (le-ltb _ _ h))
 
 -- ---- what was encoded is read
 
@@ -74,51 +161,131 @@ module _ (r : Entry) (fits : Fits r) where
   from_le_bytes-key_length : from_le_bytes w32 (number (length r.key)) ≡ length r.key
   from_le_bytes-key_length = from_le_bytes-to_le_bytes_4 (length r.key) fits.key
 
-  value_told : from_le_bytes w32 (number (length (bytes_of r.value))) ≡ length (bytes_of r.value)
-  value_told = from_le_bytes-to_le_bytes_4 (length (bytes_of r.value)) fits.value
+  from_le_bytes-value_length : from_le_bytes w32 (number (length (bytes_of r.value))) ≡ length (bytes_of r.value)
+  from_le_bytes-value_length = from_le_bytes-to_le_bytes_4 (length (bytes_of r.value)) fits.value
 
-  length_told : (rest : List ℕ) → body_length (body r ++ rest) ≡ length (body r)
-  length_told rest =
-      let both : number_at 1 (body r ++ rest) + number_at 5 (body r ++ rest) ≡ length r.key + length (bytes_of r.value) = (λ i. from_le_bytes-key_length i + value_told i) in
-      omega (arith, both, length-append r.key (bytes_of r.value))
+  pub length-encoded : length (encoded r) ≡ 21 + (length r.key + length (bytes_of r.value))
+  length-encoded = omega (arith, length-append r.key (number (crc32 r.key)), length-append (bytes_of r.value) (number (crc32 (bytes_of r.value))), length-append (summed r.key) (summed (bytes_of r.value)))
 
   marked_told : (o : Option (List ℕ)) (key rest : List ℕ) → marked (mark_of o ∷ rest) key (bytes_of o) ≡ Complete (record { key = key; value = o })
   marked_told None key rest = refl
   marked_told (Some v) key rest = refl
 
-  fields_told : fields_of (body r) ≡ Complete r
-  fields_told =
-      ap (λ n. marked (take 9 (body r)) (take n (r.key ++ bytes_of r.value)) (drop n (r.key ++ bytes_of r.value))) from_le_bytes-key_length
-      ∙ (λ i. marked (take 9 (body r)) (take_at r.key (bytes_of r.value) (length r.key) refl i) (drop_at r.key (bytes_of r.value) (length r.key) refl i))
-      ∙ marked_told r.value r.key (drop 1 (take 9 (body r)))
+  module _ (rest : List ℕ) where
+    abbrev behind : List ℕ
+    behind = summed (bytes_of r.value) ++ rest
 
-  pub read_again : (rest : List ℕ) → reading (encoded r ++ rest) ≡ Complete r
-  read_again rest =
-      let b = body r in
-      let n = length b in
-      let behind : List ℕ = number (crc32 b) ++ rest in
-      let bytes : List ℕ = b ++ behind in
-      let told : body_length bytes ≡ n = length_told behind in
-      let parts : length behind ≡ 4 + length rest = omega arith in
-      let long : length bytes ≡ n + (4 + length rest) = length-append b behind ∙ ap (λ m. n + m) parts in
-      let nine : 9 ≤ n = omega arith in
-      let torn : is_torn bytes ≡ false = not_torn bytes (omega (arith, long, nine)) (omega (arith, long, told)) in
-      let front : take (body_length bytes) bytes ≡ b = take_at b behind (body_length bytes) (sym told) in
-      let back : drop (body_length bytes) bytes ≡ behind = drop_at b behind (body_length bytes) (sym told) in
-      let same : bytes_eq (number (crc32 b)) (number (crc32 b)) ≡ true = (bytes_eq-Decides (number (crc32 b)) (number (crc32 b))).1 refl in
-      ap reading (append_assoc b (number (crc32 b)) rest)
-      ∙ checked_front bytes torn ((λ i. bytes_eq (take 4 (back i)) (number (crc32 (front i)))) ∙ same)
-      ∙ ap fields_of front ∙ fields_told
+    -- the parts one behind the other
+    abbrev spread : List ℕ
+    spread = summed (head r) ++ (summed r.key ++ behind)
+
+    spread_is : encoded r ++ rest ≡ spread
+    spread_is =
+        append_assoc (summed (head r)) (summed r.key ++ summed (bytes_of r.value)) rest
+        ∙ ap (λ l. summed (head r) ++ l) (append_assoc (summed r.key) (summed (bytes_of r.value)) rest)
+
+    spread_length : length spread ≡ 21 + (length r.key + length (bytes_of r.value)) + length rest
+    spread_length = sym (ap (λ l. length l) spread_is) ∙ length-append (encoded r) rest ∙ ap (λ n. n + length rest) length-encoded
+
+    key_told : part (key_length spread) (drop 13 spread) ≡ Some r.key
+    key_told = part_again r.key behind (key_length spread) from_le_bytes-key_length
+
+    place_told : drop (value_place spread) spread ≡ behind
+    place_told =
+        let at : 13 + (length r.key + 4) ≡ value_place spread = omega (arith, from_le_bytes-key_length) in
+        let size : length (summed r.key) ≡ length r.key + 4 = length-append r.key (number (crc32 r.key)) in
+        ap (λ n. drop n spread) (sym at) ∙ sym (drop-drop (length r.key + 4) 13 spread) ∙ drop_at (summed r.key) behind (length r.key + 4) size
+
+    value_told : value_in_record spread ≡ Some (bytes_of r.value)
+    value_told = ap (part (number_at 5 spread)) place_told ∙ part_again (bytes_of r.value) rest (number_at 5 spread) from_le_bytes-value_length
+
+    long_told : record_length spread ≤ length spread
+    long_told = omega (arith, spread_length, from_le_bytes-key_length, from_le_bytes-value_length)
+
+    thirteen : 13 ≤ length spread
+    thirteen = let size = spread_length in omega (arith, size)
+
+    head_told : is_summed 9 spread ≡ true
+    head_told = (part_is 9 spread (head r) (part_again (head r) (summed r.key ++ behind) 9 refl)).0
+
+    pub read_again : reading (encoded r ++ rest) ≡ Complete r
+    read_again =
+        ap reading spread_is
+        ∙ ap (λ t. cond t Torn (cond (is_summed 9 spread) (behind_head spread) Damaged)) (le-ltb 13 (length spread) thirteen)
+        ∙ ap (λ t. cond t (behind_head spread) Damaged) head_told
+        ∙ ap (λ t. cond t Torn (fields_of spread (part (key_length spread) (drop 13 spread)) (value_in_record spread))) (le-ltb _ _ long_told)
+        ∙ (λ i. fields_of spread (key_told i) (value_told i))
+        ∙ marked_told r.value r.key (drop 1 spread)
+
+-- ---- what is known of bytes that are read as a record
+
+pub record Whole (bytes : List ℕ) (r : Entry) : Type 0 where
+  pub head_long : 13 ≤ length bytes
+  pub head : is_summed 9 bytes ≡ true
+  pub long : record_length bytes ≤ length bytes
+  pub key : part (key_length bytes) (drop 13 bytes) ≡ Some r.key
+  pub value : value_in_record bytes ≡ Some (bytes_of r.value)
+  pub mark : slice_index_or bytes 0 0 ≡ mark_of r.value
+
+complete_is : (x y : Entry) → Complete x ≡ Complete y → x ≡ y
+complete_is x y e = cc
+
+marked_parts : (r : Entry) (bytes key value : List ℕ) → marked bytes key value ≡ Complete r
+    → (slice_index_or bytes 0 0 ≡ mark_of r.value) × (key ≡ r.key) × (value ≡ bytes_of r.value)
+marked_parts r [] key value e = absurd (cc)
+marked_parts r (zero ∷ rest) key [] e =
+    let was : r ≡ record { key = key; value = None } = sym (complete_is _ _ e) in
+    (ap (λ (x : Entry). mark_of x.value) (sym was), ap (λ (x : Entry). x.key) (sym was), ap (λ (x : Entry). bytes_of x.value) (sym was))
+marked_parts r (zero ∷ rest) key (v ∷ vs) e = absurd (cc)
+marked_parts r (suc zero ∷ rest) key value e =
+    let was : r ≡ record { key = key; value = Some value } = sym (complete_is _ _ e) in
+    (ap (λ (x : Entry). mark_of x.value) (sym was), ap (λ (x : Entry). x.key) (sym was), ap (λ (x : Entry). bytes_of x.value) (sym was))
+marked_parts r (suc (suc n) ∷ rest) key value e = absurd (cc)
+
+fields_parts : (r : Entry) (bytes : List ℕ) (k v : Option (List ℕ)) → fields_of bytes k v ≡ Complete r
+    → (slice_index_or bytes 0 0 ≡ mark_of r.value) × (k ≡ Some r.key) × (v ≡ Some (bytes_of r.value))
+fields_parts r bytes None v e = absurd (cc)
+fields_parts r bytes (Some k) None e = absurd (cc)
+fields_parts r bytes (Some k) (Some v) e =
+    let parts = marked_parts r bytes k v e in (parts.0, ap (λ l. Some l) parts.1, ap (λ l. Some l) parts.2)
+
+not_first : (r : Entry) (x : Outcome) → ¬ (x ≡ Complete r) → (t : Bool) (o : Outcome) → cond t x o ≡ Complete r → (t ≡ false) × (o ≡ Complete r)
+not_first r x never true o e = absurd (never e)
+not_first r x never false o e = (refl, e)
+
+not_second : (r : Entry) (x : Outcome) → ¬ (x ≡ Complete r) → (t : Bool) (o : Outcome) → cond t o x ≡ Complete r → (t ≡ true) × (o ≡ Complete r)
+not_second r x never true o e = (refl, e)
+not_second r x never false o e = absurd (never e)
+
+torn_apart : (r : Entry) → ¬ (Torn ≡ Complete r)
+torn_apart r e = cc
+
+damaged_apart : (r : Entry) → ¬ (Damaged ≡ Complete r)
+damaged_apart r e = cc
+
+pub whole_of : (bytes : List ℕ) (r : Entry) → reading bytes ≡ Complete r → Whole bytes r
+whole_of bytes r e =
+    let first = not_first r Torn (torn_apart r) _ _ e in
+    let second = not_second r Damaged (damaged_apart r) _ _ first.1 in
+    let third = not_first r Torn (torn_apart r) _ _ second.1 in
+    let parts = fields_parts r bytes _ _ third.1 in
+    record { head_long = ltb-false _ _ first.0; head = second.0; long = ltb-false _ _ third.0; key = parts.1; value = parts.2; mark = parts.0 }
+
+pub key_in-whole : (bytes : List ℕ) (r : Entry) → reading bytes ≡ Complete r → key_in bytes ≡ Some r.key
+key_in-whole bytes r e = let w = whole_of bytes r e in ap (λ t. cond t (part (key_length bytes) (drop 13 bytes)) None) w.head ∙ w.key
+
+pub read_more : (a b : List ℕ) (r : Entry) → reading a ≡ Complete r → reading (a ++ b) ≡ Complete r
+read_more a b r e = let w = whole_of a r e in read_front a b w.head_long (λ _. w.long) ∙ e
 
 -- ---- what is read was encoded
 
 abbrev pub AreBytes : List ℕ → Type 0
 AreBytes bytes = (i : ℕ) → slice_index_or bytes i 0 < 256
 
-AreBytes-drop : (n : ℕ) (bytes : List ℕ) → AreBytes bytes → AreBytes (drop n bytes)
+pub AreBytes-drop : (n : ℕ) (bytes : List ℕ) → AreBytes bytes → AreBytes (drop n bytes)
 AreBytes-drop n bytes h i = subst (λ x. x < 256) (sym (get_or-drop n bytes i 0)) (h (n + i))
 
-AreBytes-take : (n : ℕ) (bytes : List ℕ) → AreBytes bytes → AreBytes (take n bytes)
+pub AreBytes-take : (n : ℕ) (bytes : List ℕ) → AreBytes bytes → AreBytes (take n bytes)
 AreBytes-take n bytes h i =
     elim (cases_lt i n) [
       | inl lt ↦ subst (λ x. x < 256) (sym (get_or-take n bytes i 0 lt)) (h i)
@@ -153,108 +320,65 @@ take-header (m ∷ bytes) fits h =
     eight (a ∷ b ∷ c ∷ []) = refl
     eight (a ∷ b ∷ c ∷ d ∷ l) = refl
 
-complete_is : (x y : Entry) → Complete x ≡ Complete y → x ≡ y
-complete_is x y e = cc
+module _ (bytes : List ℕ) (r : Entry) (are : AreBytes bytes) (w : Whole bytes r) where
+  key_part : (is_summed (key_length bytes) (drop 13 bytes) ≡ true) × (take (key_length bytes) (drop 13 bytes) ≡ r.key) × (key_length bytes + 4 ≤ length (drop 13 bytes))
+  key_part = part_is (key_length bytes) (drop 13 bytes) r.key w.key
 
-found_parts : (r : Entry) (head key value : List ℕ) → marked head key value ≡ Complete r
-    → (slice_index_or head 0 0 ≡ mark_of r.value) × (key ≡ r.key) × (value ≡ bytes_of r.value)
-found_parts r [] key value e = absurd (cc)
-found_parts r (zero ∷ rest) key [] e =
-    let was : r ≡ record { key = key; value = None } = sym (complete_is _ _ e) in
-    (ap (λ (x : Entry). mark_of x.value) (sym was), ap (λ (x : Entry). x.key) (sym was), ap (λ (x : Entry). bytes_of x.value) (sym was))
-found_parts r (zero ∷ rest) key (v ∷ vs) e = absurd (cc)
-found_parts r (suc zero ∷ rest) key value e =
-    let was : r ≡ record { key = key; value = Some value } = sym (complete_is _ _ e) in
-    (ap (λ (x : Entry). mark_of x.value) (sym was), ap (λ (x : Entry). x.key) (sym was), ap (λ (x : Entry). bytes_of x.value) (sym was))
-found_parts r (suc (suc n) ∷ rest) key value e = absurd (cc)
+  value_part : (is_summed (number_at 5 bytes) (drop (value_place bytes) bytes) ≡ true) × (take (number_at 5 bytes) (drop (value_place bytes) bytes) ≡ bytes_of r.value) × (number_at 5 bytes + 4 ≤ length (drop (value_place bytes) bytes))
+  value_part = part_is (number_at 5 bytes) (drop (value_place bytes) bytes) (bytes_of r.value) w.value
 
--- a body is the one of its fields
-body_back : (bytes : List ℕ) (r : Entry) → AreBytes bytes → 9 ≤ length bytes → body_length bytes ≡ length bytes → fields_of bytes ≡ Complete r → Fits r × (bytes ≡ body r)
-body_back bytes r fits nine whole e =
-    let n = number_at 1 bytes in
-    let tail = drop 9 bytes in
-    let parts = found_parts r (take 9 bytes) (take n tail) (drop n tail) e in
-    let left = length-drop 9 bytes in
-    let key_long : length (take n tail) ≡ n = omega (arith, length-take n tail, left, whole) in
-    let value_long : length (drop n tail) ≡ number_at 5 bytes = omega (arith, length-drop n tail, left, whole) in
-    let key_is : n ≡ length r.key = sym key_long ∙ ap (λ l. length l) parts.1 in
-    let value_is : number_at 5 bytes ≡ length (bytes_of r.value) = sym value_long ∙ ap (λ l. length l) parts.2 in
-    let mark_is : slice_index_or bytes 0 0 ≡ mark_of r.value = sym (get_or-take 9 bytes 0 0 (omega arith)) ∙ parts.0 in (
-      record { key = omega (arith, key_is, number_below 1 bytes fits); value = omega (arith, value_is, number_below 5 bytes fits) },
-      sym (take-append-drop 9 bytes)
-          ∙ (λ i. take-header bytes fits nine i ++ sym (take-append-drop n tail) i)
-          ∙ (λ i. (mark_is i ∷ (number (key_is i) ++ number (value_is i))) ++ (parts.1 i ++ parts.2 i)),
-    )
+  key_size : key_length bytes ≡ length r.key
+  key_size = omega (arith, ap (λ l. length l) key_part.1, length-take (key_length bytes) (drop 13 bytes), key_part.2)
 
-not_first : (r : Entry) (x : Outcome) → ¬ (x ≡ Complete r) → (t : Bool) (o : Outcome) → cond t x o ≡ Complete r → (t ≡ false) × (o ≡ Complete r)
-not_first r x never true o e = absurd (never e)
-not_first r x never false o e = (refl, e)
+  value_size : number_at 5 bytes ≡ length (bytes_of r.value)
+  value_size = omega (arith, ap (λ l. length l) value_part.1, length-take (number_at 5 bytes) (drop (value_place bytes) bytes), value_part.2)
 
-not_second : (r : Entry) (x : Outcome) → ¬ (x ≡ Complete r) → (t : Bool) (o : Outcome) → cond t o x ≡ Complete r → (t ≡ true) × (o ≡ Complete r)
-not_second r x never true o e = (refl, e)
-not_second r x never false o e = absurd (never e)
+  pub whole_fits : Fits r
+  whole_fits = record { key = omega (arith, key_size, number_below 1 bytes are); value = omega (arith, value_size, number_below 5 bytes are) }
 
-pub Torn-not_Complete : (r : Entry) → ¬ (Torn ≡ Complete r)
-Torn-not_Complete r e = cc
+  head_is : take 9 bytes ≡ head r
+  head_is = take-header bytes are (omega (arith, w.head_long)) ∙ (λ i. w.mark i ∷ (number (key_size i) ++ number (value_size i)))
 
-damaged_apart : (r : Entry) → ¬ (Damaged ≡ Complete r)
-damaged_apart r e = cc
+  size : record_length bytes ≡ length (encoded r)
+  size = omega (arith, key_size, value_size, length-encoded r whole_fits)
 
-pub complete_whole : (bytes : List ℕ) (r : Entry) → reading bytes ≡ Complete r → is_torn bytes ≡ false
-complete_whole bytes r e = (not_first r Torn (Torn-not_Complete r) (is_torn bytes) (checked (take (body_length bytes) bytes) (drop (body_length bytes) bytes)) e).0
-
-pub found_complete : (bytes : List ℕ) (r : Entry) → AreBytes bytes → reading bytes ≡ Complete r → Fits r × (bytes ≡ encoded r ++ drop (length (encoded r)) bytes)
-found_complete bytes r fits e =
-    let n = body_length bytes in
-    let b = take n bytes in
-    let behind = drop n bytes in
-    let first = not_first r Torn (Torn-not_Complete r) (is_torn bytes) (checked b behind) e in
-    let second = not_second r Damaged (damaged_apart r) (bytes_eq (take 4 behind) (number (crc32 b))) (fields_of b) first.1 in
-    let sizes = is_torn-lengths bytes first.0 in
-    let long : length b ≡ n = omega (arith, length-take n bytes, sizes.1) in
-    let parts = body_back b r (AreBytes-take n bytes fits) (omega (arith, long)) (body_front bytes sizes.0 ∙ sym long) second.1 in
-    let sum : take 4 behind ≡ number (crc32 (body r)) = (bytes_eq-Decides (take 4 behind) (number (crc32 b))).0 second.0 ∙ ap (λ l. number (crc32 l)) parts.1 in
-    let size : length (encoded r) ≡ n + 4 = length-append (body r) (number (crc32 (body r))) ∙ ap (λ m. m + 4) (sym (ap (λ l. length l) parts.1) ∙ long) in
-    let rest : drop 4 behind ≡ drop (length (encoded r)) bytes = drop-drop 4 n bytes ∙ ap (λ m. drop m bytes) (sym size) in (
-      parts.0,
-      sym (take-append-drop n bytes) ∙ (λ i. parts.1 i ++ sym (take-append-drop 4 behind) i)
-          ∙ (λ i. body r ++ (sum i ++ rest i)) ∙ sym (append_assoc (body r) (number (crc32 (body r))) (drop (length (encoded r)) bytes)),
-    )
+  pub whole_spelled : bytes ≡ encoded r ++ drop (length (encoded r)) bytes
+  whole_spelled =
+      let k = key_length bytes in
+      let v = number_at 5 bytes in
+      let rest : List ℕ = drop (v + 4) (drop (value_place bytes) bytes) in
+      let last : rest ≡ drop (length (encoded r)) bytes = drop-drop (v + 4) (value_place bytes) bytes ∙ ap {y = length (encoded r)} (λ n. drop n bytes) (omega (arith, size)) in
+      let value : drop (k + 4) (drop 13 bytes) ≡ summed (bytes_of r.value) ++ rest =
+      drop-drop (k + 4) 13 bytes ∙ ap {y = value_place bytes} (λ n. drop n bytes) (omega arith) ∙ summed_back v (drop (value_place bytes) bytes) value_part.0 ∙ ap (λ l. summed l ++ rest) value_part.1 in
+      let key : drop 13 bytes ≡ summed r.key ++ (summed (bytes_of r.value) ++ rest) =
+      summed_back k (drop 13 bytes) key_part.0 ∙ (λ i. summed (key_part.1 i) ++ value i) in
+      summed_back 9 bytes w.head ∙ (λ i. summed (head_is i) ++ key i)
+      ∙ sym (spread_is r whole_fits rest) ∙ ap (λ l. encoded r ++ l) last
 
 pub IsFound-reading : (bytes : List ℕ) (o : Outcome) → AreBytes bytes → o ≡ reading bytes → IsFound bytes o
-IsFound-reading bytes (Complete r) fits e = found_complete bytes r fits (sym e)
-IsFound-reading bytes Torn fits e = tt
-IsFound-reading bytes Damaged fits e = tt
+IsFound-reading bytes (Complete r) are e = let w = whole_of bytes r (sym e) in (whole_fits bytes r are w, whole_spelled bytes r are w)
+IsFound-reading bytes Torn are e = tt
+IsFound-reading bytes Damaged are e = tt
 
 -- ---- a record in a longer log
-
-pub found_front : (a b : List ℕ) (o : Outcome) → IsFound a o → IsFound (a ++ b) o
-found_front a b (Complete r) h =
-    let n = length (encoded r) in
-    let long : n ≤ length a = omega (arith, ap (λ l. length l) h.1, length-append (encoded r) (drop n a)) in
-    (h.0, ap (λ l. l ++ b) h.1 ∙ append_assoc (encoded r) (drop n a) b ∙ ap (λ l. encoded r ++ l) (sym (drop-append-le n a b long)))
-found_front a b Torn h = tt
-found_front a b Damaged h = tt
 
 pub within_found : (n : ℕ) (a : List ℕ) (o : Outcome) → IsFound a o → length a ≤ n → IsWithin n o
 within_found n a (Complete r) h le = (h.0, omega (arith, ap (λ l. length l) h.1, length-append (encoded r) (drop (length (encoded r)) a), le))
 within_found n a Torn h le = tt
 within_found n a Damaged h le = tt
 
--- the bytes that the first nine count are enough to read
-pub read_piece : (bytes : List ℕ) → 9 ≤ length bytes → body_length (take 9 bytes) + 4 ≤ length bytes
-    → reading (take (body_length (take 9 bytes) + 4) bytes) ≡ reading bytes
-read_piece bytes nine enough =
-    let n = body_length (take 9 bytes) + 4 in
-    let piece = take n bytes in
-    let rest = drop n bytes in
-    let head_long : 9 ≤ length (take 9 bytes) = omega (arith, length-take 9 bytes, nine) in
-    let long : length piece ≡ n = omega (arith, length-take n bytes, enough) in
-    let same : body_length piece ≡ body_length (take 9 bytes) =
-    sym (length_front piece rest (omega (arith, long))) ∙ ap body_length (take-append-drop n bytes ∙ sym (take-append-drop 9 bytes))
-    ∙ length_front (take 9 bytes) (drop 9 bytes) head_long in
-    sym (read_more piece rest (not_torn piece (omega (arith, long)) (omega (arith, long, same)))) ∙ ap reading (take-append-drop n bytes)
-
-pub if_err_never : {A E : Type 0} {P : Type 0} (Q : E → Type 0) (r : Result A E) → (P → ⊥) → OnErr r P → IfErr r Q
-if_err_never Q (Ok x) never h = tt
-if_err_never Q (Err x) never h = absurd (never h)
+-- a part of a record, from its front on, is no record
+pub begun_stops : (r : Entry) (n : ℕ) → Fits r → n < length (encoded r) → Stops (reading (take n (encoded r)))
+begun_stops r n fits less = of (reading (take n (encoded r))) refl
+  where
+    of : (o : Outcome) → reading (take n (encoded r)) ≡ o → Stops o
+    of (Complete x) e =
+        let a = take n (encoded r) in
+        let b = drop n (encoded r) in
+        let w = whole_of a x e in
+        let all : a ++ b ≡ encoded r ++ [] = take-append-drop n (encoded r) ∙ sym (append-nil (encoded r)) in
+        let size : record_length (encoded r ++ []) ≡ length (encoded r) =
+        ap record_length (spread_is r fits []) ∙ omega (arith, from_le_bytes-key_length r fits, from_le_bytes-value_length r fits, length-encoded r fits) in
+        absurd (omega (arith, w.long, sym (record_length_front a b w.head_long) ∙ ap record_length all ∙ size, length-take n (encoded r), less))
+    of Torn e = tt
+    of Damaged e = tt

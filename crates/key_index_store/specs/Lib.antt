@@ -1,5 +1,3 @@
 pub mod Checksum
-pub mod Indexed
-pub mod Log
+pub mod Device
 pub mod Record
-pub mod Stored

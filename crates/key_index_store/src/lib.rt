@@ -2,7 +2,5 @@
 #![tactic(auto)]
 
 pub mod checksum;
-pub mod log;
-pub mod memory_log;
+pub mod device;
 pub mod record;
-pub mod store;

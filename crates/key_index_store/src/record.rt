@@ -1,18 +1,21 @@
 //! Records of a log, and their bytes.
 //!
-//! A record is a mark (1 where it has a value, 0 where it marks a deletion), the length of its key and that of its value, the key, the
-//! value, and the CRC-32 of all that. Lengths and checksum are four bytes each, the lowest first.
-ghost use Rattle.std.specs.Prelude.{◌≡◌, ℕ, ◌+◌, ◌≤◌, List, ◌++◌, length, drop, take, option_map, IfOk};
+//! A record is a head (a mark, 1 where it has a value and 0 where it marks a deletion, the length of its key and that of its value), the key
+//! and the value. Behind each of the three stands its CRC-32. Lengths and checksums are four bytes each, the lowest first.
+ghost use Rattle.std.specs.Prelude.{◌≡◌, ℕ, ◌+◌, ◌≤◌, ◌<◌, ◌^◌, List, ◌∷◌, ◌++◌, length, drop, take, option_map, IfOk, OnOk};
 ghost use Rattle.std.specs.Int.{w32, from_le_bytes};
-ghost use Rattle.key_index_store.specs.Record.{Entry, Fits, encoded, body_length, reading, fields_of, entry_of, outcome_of, Complete, IsFound};
+ghost use Rattle.key_index_store.specs.Record.{Entry, Fits, summed, encoded, reading, part, key_length, value_place, record_length, key_in, value_in_record, entry_of, outcome_of, marked, Complete, IsFound, behind_head};
 
 use crate::checksum::crc32;
 use std::alloc::{AllocError, Global};
 
-/// How many bytes the mark and the two lengths take.
-pub const HEAD: usize = 9;
+/// How many bytes the head and its checksum take.
+pub const HEAD: usize = 13;
 
-/// How many bytes the checksum takes.
+/// How many bytes the mark and the two lengths take.
+const FIELDS: usize = 9;
+
+/// How many bytes a checksum takes.
 const SUM: usize = 4;
 
 /// A key with its value, or with none: then it marks the deletion of the key.
@@ -29,7 +32,7 @@ impl Record {
         ensures { result ≡ length (encoded (entry_of self.now)) }
     {
         let value_length = self.value.as_ref().map_or(0, |value| value.len());
-        (HEAD + SUM) as u64 + self.key.len() as u64 + value_length as u64
+        (HEAD + 2 * SUM) as u64 + self.key.len() as u64 + value_length as u64
     }
 }
 
@@ -38,9 +41,9 @@ impl Record {
 pub enum Reading {
     /// A whole record.
     Complete(Record),
-    /// Fewer bytes than a record's lengths say, or than lengths take.
+    /// Fewer bytes than a head takes, or than a good head says.
     Torn,
-    /// As many bytes as the lengths say, which are no record's.
+    /// As many bytes, which are no record's.
     Damaged,
 }
 
@@ -53,12 +56,57 @@ fn u32_at(bytes: &[u8], place: usize) -> u32
     u32::from_le_bytes([front[0], front[1], front[2], front[3]])
 }
 
-/// How many bytes the record takes whose first `HEAD` bytes these are.
-pub fn record_length(head: &[u8]) -> u64
-    requires { 9 ≤ length head.now }
-    ensures { result ≡ body_length head.now + 4 }
+/// How many bytes the key takes whose record has these bytes at its front.
+pub fn key_length(bytes: &[u8]) -> u64
+    requires { 13 ≤ length bytes.now }
+    ensures value { result ≡ key_length bytes.now }
+    ensures bound { result < 2 ^ 32 }
 {
-    (HEAD + SUM) as u64 + u32_at(head, 1) as u64 + u32_at(head, 5) as u64
+    u32_at(bytes, 1) as u64
+}
+
+/// How many bytes the record takes that has these bytes at its front.
+pub fn record_length(bytes: &[u8]) -> u64
+    requires { 13 ≤ length bytes.now }
+    ensures value { result ≡ record_length bytes.now }
+    ensures bound { result < 2 ^ 34 }
+{
+    (HEAD + 2 * SUM) as u64 + u32_at(bytes, 1) as u64 + u32_at(bytes, 5) as u64
+}
+
+/// The first bytes, so many, if they have their checksum behind them.
+fn part(bytes: &[u8], length: u64) -> Option<&[u8]>
+    ensures { option_map (λ p. p.now) result ≡ part length bytes.now }
+{
+    if bytes.len() < SUM || ((bytes.len() - SUM) as u64) < length {
+        return None;
+    }
+    let (part, rest) = bytes.split_at(length as usize);
+    let (sum, _) = rest.split_at(SUM);
+    if sum == crc32(part).to_le_bytes().as_slice() {
+        Some(part)
+    } else {
+        None
+    }
+}
+
+/// The key of the record at the front of some bytes, if head and key have their checksums.
+pub fn key_in(bytes: &[u8]) -> Option<&[u8]>
+    ensures { option_map (λ k. k.now) result ≡ key_in bytes.now }
+{
+    let _ = part(bytes, FIELDS as u64)?;
+    let (_, rest) = bytes.split_at(HEAD);
+    part(rest, key_length(bytes))
+}
+
+/// The value's bytes of the record at the front of some bytes, if they have their checksum.
+pub fn value_in(bytes: &[u8]) -> Option<&[u8]>
+    requires { record_length bytes.now ≤ length bytes.now }
+    ensures { option_map (λ v. v.now) result ≡ value_in_record bytes.now }
+{
+    let place = HEAD as u64 + key_length(bytes) + SUM as u64;
+    let (_, rest) = bytes.split_at(place as usize);
+    part(rest, u32_at(bytes, 5) as u64)
 }
 
 /// The bytes of a record of a key and a value, or of the deletion of a key.
@@ -71,32 +119,51 @@ pub fn encode(alloc: Global, key: &[u8], value: Option<&[u8]>) -> Result<Vec<u8>
         Some(value) => (1, value),
         None => (0, b"".as_slice()),
     };
-    let mut bytes = Vec::with_capacity(alloc, HEAD + key.len() + value.len() + SUM)?;
+    let mut bytes = Vec::with_capacity(alloc, HEAD + key.len() + value.len() + 2 * SUM)?;
     bytes.push(mark)?;
     bytes.extend_from_slice(&(key.len() as u32).to_le_bytes())?;
     bytes.extend_from_slice(&(value.len() as u32).to_le_bytes())?;
-    bytes.extend_from_slice(key)?;
-    bytes.extend_from_slice(value)?;
     let sum = crc32(bytes.as_slice());
     bytes.extend_from_slice(&sum.to_le_bytes())?;
+    push_summed(&mut bytes, key)?;
+    push_summed(&mut bytes, value)?;
     Ok(bytes)
 }
 
-/// The record of these bytes, which are a record's but for its checksum.
-fn fields(alloc: Global, body: &[u8]) -> Result<Reading, AllocError>
-    requires { body_length body.now ≡ length body.now }
-    ensures { IfOk result (λ r. outcome_of r ≡ fields_of body.now) }
+/// Appends bytes, and their checksum.
+fn push_summed(bytes: &mut Vec<u8>, part: &[u8]) -> Result<(), AllocError>
+    ensures { OnOk result (bytes.new.items ≡ bytes.old.items ++ summed part.now) }
 {
-    let key_length = u32_at(body, 1) as usize;
-    let (head, rest) = body.split_at(HEAD);
-    let (key, value) = rest.split_at(key_length);
-    let value = match head[0] {
+    bytes.extend_from_slice(part)?;
+    bytes.extend_from_slice(&crc32(part).to_le_bytes())
+}
+
+/// The record of a mark, a key and a value.
+fn fields(alloc: Global, mark: u8, key: &[u8], value: &[u8]) -> Result<Reading, AllocError>
+    ensures { (rest : List ℕ) → IfOk result (λ r. outcome_of r ≡ marked (mark ∷ rest) key.now value.now) }
+{
+    let value = match mark {
         0 if value.is_empty() => None,
         1 => Some(Vec::from_slice(alloc, value)?),
         _ => return Ok(Reading::Damaged),
     };
     let key = Vec::from_slice(alloc, key)?;
     Ok(Reading::Complete(Record { key, value }))
+}
+
+/// What stands at the front of some bytes, which have a good head.
+fn behind_head(alloc: Global, bytes: &[u8]) -> Result<Reading, AllocError>
+    requires { 13 ≤ length bytes.now }
+    ensures { IfOk result (λ r. outcome_of r ≡ behind_head bytes.now) }
+{
+    if (bytes.len() as u64) < record_length(bytes) {
+        return Ok(Reading::Torn);
+    }
+    let (_, rest) = bytes.split_at(HEAD);
+    let (Some(key), Some(value)) = (part(rest, key_length(bytes)), value_in(bytes)) else {
+        return Ok(Reading::Damaged);
+    };
+    fields(alloc, bytes[0], key, value)
 }
 
 /// What stands at the front of some bytes.
@@ -106,16 +173,10 @@ fn front(alloc: Global, bytes: &[u8]) -> Result<Reading, AllocError>
     if bytes.len() < HEAD {
         return Ok(Reading::Torn);
     }
-    let length = record_length(bytes);
-    if (bytes.len() as u64) < length {
-        return Ok(Reading::Torn);
-    }
-    let (body, rest) = bytes.split_at(length as usize - SUM);
-    let (sum, _) = rest.split_at(SUM);
-    if sum != crc32(body).to_le_bytes().as_slice() {
+    if part(bytes, FIELDS as u64).is_none() {
         return Ok(Reading::Damaged);
     }
-    fields(alloc, body)
+    behind_head(alloc, bytes)
 }
 
 /// Reads the record at the front of some bytes. More may follow it.
