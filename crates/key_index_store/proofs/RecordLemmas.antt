@@ -211,7 +211,7 @@ module _ (r : Entry) (fits : Fits r) where
     pub read_again : reading (encoded r ++ rest) ≡ Complete r
     read_again =
         ap reading spread_is
-        ∙ ap (λ t. cond t Torn (cond (is_summed 9 spread) (behind_head spread) Damaged)) (le-ltb 13 (length spread) thirteen)
+        ∙ ap (λ t. cond t Torn (cond (is_summed 9 spread) (behind_head spread) Damaged)) (le-ltb _ _ thirteen)
         ∙ ap (λ t. cond t (behind_head spread) Damaged) head_told
         ∙ ap (λ t. cond t Torn (fields_of spread (part (key_length spread) (drop 13 spread)) (value_in_record spread))) (le-ltb _ _ long_told)
         ∙ (λ i. fields_of spread (key_told i) (value_told i))
@@ -347,9 +347,11 @@ module _ (bytes : List ℕ) (r : Entry) (are : AreBytes bytes) (w : Whole bytes 
       let k = key_length bytes in
       let v = number_at 5 bytes in
       let rest : List ℕ = drop (v + 4) (drop (value_place bytes) bytes) in
-      let last : rest ≡ drop (length (encoded r)) bytes = drop-drop (v + 4) (value_place bytes) bytes ∙ ap {y = length (encoded r)} (λ n. drop n bytes) (omega (arith, size)) in
+      let end : value_place bytes + (v + 4) ≡ length (encoded r) = omega (arith, size) in
+      let last : rest ≡ drop (length (encoded r)) bytes = drop-drop (v + 4) (value_place bytes) bytes ∙ ap (λ n. drop n bytes) end in
+      let place : 13 + (k + 4) ≡ value_place bytes = omega arith in
       let value : drop (k + 4) (drop 13 bytes) ≡ summed (bytes_of r.value) ++ rest =
-      drop-drop (k + 4) 13 bytes ∙ ap {y = value_place bytes} (λ n. drop n bytes) (omega arith) ∙ summed_back v (drop (value_place bytes) bytes) value_part.0 ∙ ap (λ l. summed l ++ rest) value_part.1 in
+      drop-drop (k + 4) 13 bytes ∙ ap (λ n. drop n bytes) place ∙ summed_back v (drop (value_place bytes) bytes) value_part.0 ∙ ap (λ l. summed l ++ rest) value_part.1 in
       let key : drop 13 bytes ≡ summed r.key ++ (summed (bytes_of r.value) ++ rest) =
       summed_back k (drop 13 bytes) key_part.0 ∙ (λ i. summed (key_part.1 i) ++ value i) in
       summed_back 9 bytes w.head ∙ (λ i. summed (head_is i) ++ key i)

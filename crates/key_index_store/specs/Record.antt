@@ -119,7 +119,7 @@ IsWithin n Damaged = Unit {0}
 -- ---- the code's records as entries
 
 abbrev pub entry_of : Record → Entry
-entry_of r = record { key = r.key.items; value = option_map (λ v. v.items) r.value }
+entry_of r = record { key = r.key.now; value = option_map (λ v. v.now) r.value }
 
 abbrev pub outcome_of : Reading → Outcome
 outcome_of (read.Complete r) = Complete (entry_of r)

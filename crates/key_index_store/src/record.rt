@@ -4,7 +4,7 @@
 //! and the value. Behind each of the three stands its CRC-32. Lengths and checksums are four bytes each, the lowest first.
 ghost use Rattle.std.specs.Prelude.{◌≡◌, ℕ, ◌+◌, ◌≤◌, ◌<◌, ◌^◌, List, ◌∷◌, ◌++◌, length, drop, take, option_map, IfOk, OnOk};
 ghost use Rattle.std.specs.Int.{w32, from_le_bytes};
-ghost use Rattle.key_index_store.specs.Record.{Entry, Fits, summed, encoded, reading, part, key_length, value_place, record_length, key_in, value_in_record, entry_of, outcome_of, marked, Complete, IsFound, behind_head};
+ghost use Rattle.key_index_store.specs.Record.{Entry, Fits, summed, is_summed, encoded, reading, part, key_length, value_place, record_length, key_in, value_in_record, entry_of, outcome_of, marked, Complete, IsFound, behind_head};
 
 use crate::checksum::crc32;
 use std::alloc::{AllocError, Global};
@@ -19,28 +19,28 @@ const FIELDS: usize = 9;
 const SUM: usize = 4;
 
 /// A key with its value, or with none: then it marks the deletion of the key.
-#[derive(Debug, Drop)]
-pub struct Record {
-    pub key: Vec<u8>,
-    pub value: Option<Vec<u8>>,
+#[derive(Clone, Copy, Debug)]
+pub struct Record<'a> {
+    pub key: &'a [u8],
+    pub value: Option<&'a [u8]>,
 }
 
-impl Record {
+impl Record<'_> {
     /// How many bytes the record takes.
     pub fn length(&self) -> u64
         requires { Fits (entry_of self.now) }
         ensures { result ≡ length (encoded (entry_of self.now)) }
     {
-        let value_length = self.value.as_ref().map_or(0, |value| value.len());
+        let value_length = self.value.map_or(0, |value| value.len());
         (HEAD + 2 * SUM) as u64 + self.key.len() as u64 + value_length as u64
     }
 }
 
 /// What stands at the front of some bytes.
-#[derive(Debug, Drop)]
-pub enum Reading {
+#[derive(Clone, Copy, Debug)]
+pub enum Reading<'a> {
     /// A whole record.
-    Complete(Record),
+    Complete(Record<'a>),
     /// Fewer bytes than a head takes, or than a good head says.
     Torn,
     /// As many bytes, which are no record's.
@@ -90,11 +90,20 @@ fn part(bytes: &[u8], length: u64) -> Option<&[u8]>
     }
 }
 
+/// Whether a head with its checksum stands at the front of some bytes.
+pub fn has_head(bytes: &[u8]) -> bool
+    ensures { result ≡ is_summed 9 bytes.now }
+{
+    part(bytes, FIELDS as u64).is_some()
+}
+
 /// The key of the record at the front of some bytes, if head and key have their checksums.
 pub fn key_in(bytes: &[u8]) -> Option<&[u8]>
     ensures { option_map (λ k. k.now) result ≡ key_in bytes.now }
 {
-    let _ = part(bytes, FIELDS as u64)?;
+    if !has_head(bytes) {
+        return None;
+    }
     let (_, rest) = bytes.split_at(HEAD);
     part(rest, key_length(bytes))
 }
@@ -139,55 +148,54 @@ fn push_summed(bytes: &mut Vec<u8>, part: &[u8]) -> Result<(), AllocError>
 }
 
 /// The record of a mark, a key and a value.
-fn fields(alloc: Global, mark: u8, key: &[u8], value: &[u8]) -> Result<Reading, AllocError>
-    ensures { (rest : List ℕ) → IfOk result (λ r. outcome_of r ≡ marked (mark ∷ rest) key.now value.now) }
+fn fields<'a>(mark: u8, key: &'a [u8], value: &'a [u8]) -> Reading<'a>
+    ensures { (rest : List ℕ) → outcome_of result ≡ marked (mark ∷ rest) key.now value.now }
 {
     let value = match mark {
         0 if value.is_empty() => None,
-        1 => Some(Vec::from_slice(alloc, value)?),
-        _ => return Ok(Reading::Damaged),
+        1 => Some(value),
+        _ => return Reading::Damaged,
     };
-    let key = Vec::from_slice(alloc, key)?;
-    Ok(Reading::Complete(Record { key, value }))
+    Reading::Complete(Record { key, value })
 }
 
 /// What stands at the front of some bytes, which have a good head.
-fn behind_head(alloc: Global, bytes: &[u8]) -> Result<Reading, AllocError>
+fn behind_head(bytes: &[u8]) -> Reading<'_>
     requires { 13 ≤ length bytes.now }
-    ensures { IfOk result (λ r. outcome_of r ≡ behind_head bytes.now) }
+    ensures { outcome_of result ≡ behind_head bytes.now }
 {
     if (bytes.len() as u64) < record_length(bytes) {
-        return Ok(Reading::Torn);
+        return Reading::Torn;
     }
     let (_, rest) = bytes.split_at(HEAD);
     let (Some(key), Some(value)) = (part(rest, key_length(bytes)), value_in(bytes)) else {
-        return Ok(Reading::Damaged);
+        return Reading::Damaged;
     };
-    fields(alloc, bytes[0], key, value)
+    fields(bytes[0], key, value)
 }
 
 /// What stands at the front of some bytes.
-fn front(alloc: Global, bytes: &[u8]) -> Result<Reading, AllocError>
-    ensures { IfOk result (λ r. outcome_of r ≡ reading bytes.now) }
+fn front(bytes: &[u8]) -> Reading<'_>
+    ensures { outcome_of result ≡ reading bytes.now }
 {
     if bytes.len() < HEAD {
-        return Ok(Reading::Torn);
+        return Reading::Torn;
     }
-    if part(bytes, FIELDS as u64).is_none() {
-        return Ok(Reading::Damaged);
+    if !has_head(bytes) {
+        return Reading::Damaged;
     }
-    behind_head(alloc, bytes)
+    behind_head(bytes)
 }
 
 /// Reads the record at the front of some bytes. More may follow it.
-pub fn decode(alloc: Global, bytes: &[u8]) -> Result<Reading, AllocError>
+pub fn decode(bytes: &[u8]) -> Reading<'_>
     // What is read was encoded.
-    ensures found { IfOk result (λ r. IsFound bytes.now (outcome_of r)) }
+    ensures found { IsFound bytes.now (outcome_of result) }
     // What was encoded is read, whatever follows it.
     ensures only { (r : Entry) (rest : List ℕ) → Fits r → bytes.now ≡ encoded r ++ rest
-        → IfOk result (λ read. outcome_of read ≡ Complete r) }
+        → outcome_of result ≡ Complete r }
     // A torn record is told apart from a damaged one.
-    ensures exact { IfOk result (λ r. outcome_of r ≡ reading bytes.now) }
+    ensures exact { outcome_of result ≡ reading bytes.now }
 {
-    front(alloc, bytes)
+    front(bytes)
 }
