@@ -98,6 +98,9 @@ module _ (a b : List ℕ) (h : 13 ≤ length a) where
   pub record_length_front : record_length (a ++ b) ≡ record_length a
   record_length_front = (λ i. 21 + (key_length_front i + value_length_front i))
 
+  pub value_place_front : value_place (a ++ b) ≡ value_place a
+  value_place_front = ap (λ n. 17 + n) key_length_front
+
   head_front : is_summed 9 (a ++ b) ≡ is_summed 9 a
   head_front = summed_front 9 a b h
 
@@ -117,8 +120,7 @@ module _ (a b : List ℕ) (h : 13 ≤ length a) where
   module _ (long : record_length a ≤ length a) where
     value_front : value_in_record (a ++ b) ≡ value_in_record a
     value_front =
-        let place : value_place (a ++ b) ≡ value_place a = ap (λ n. 17 + n) key_length_front in
-        (λ i. part (value_length_front i) (drop (place i) (a ++ b)))
+        (λ i. part (value_length_front i) (drop (value_place_front i) (a ++ b)))
         ∙ ap (part (number_at 5 a)) (drop-append-le (value_place a) a b (omega (arith, long)))
         ∙ part_front (number_at 5 a) (drop (value_place a) a) b (omega (arith, length-drop (value_place a) a, long))
 
@@ -257,7 +259,7 @@ not_second : (r : Entry) (x : Outcome) → ¬ (x ≡ Complete r) → (t : Bool) 
 not_second r x never true o e = (refl, e)
 not_second r x never false o e = absurd (never e)
 
-torn_apart : (r : Entry) → ¬ (Torn ≡ Complete r)
+pub torn_apart : (r : Entry) → ¬ (Torn ≡ Complete r)
 torn_apart r e = cc
 
 damaged_apart : (r : Entry) → ¬ (Damaged ≡ Complete r)

@@ -5,6 +5,7 @@
 --     Stays         no byte is changed
 --     NoMore        a crash leaves nothing that it could not leave before
 --     AddsAtMost    or what it could leave before, or the bytes with some of the new ones behind them
+--     IsRead        no byte is changed, and a crash leaves nothing more
 --     IsBegun       some of the bytes, but not the whole of them, were appended
 use Rattle.std.specs.Prelude.{◌≡◌, ◌⊎◌, ◌<◌, ℕ, List, [], ◌++◌, length, take, Option, Some}
 
@@ -25,3 +26,7 @@ AddsAtMost old bytes before after = (c : List ℕ) → after c → before c ⊎ 
 
 abbrev pub IsBegun : List ℕ → List ℕ → List ℕ → Type 0
 IsBegun bytes old new = (n : ℕ) × (new ≡ old ++ take n bytes) × ((n < length bytes) ⊎ (n ≡ 0))
+
+pub record IsRead {D : Type 0} (seen : D → Option (List ℕ)) (may_leave : D → List ℕ → Type 0) (old new : D) : Type 0 where
+  pub stays : Stays (seen old) (seen new)
+  pub crash : NoMore (may_leave old) (may_leave new)

@@ -1,3 +1,6 @@
 pub mod Checksum
 pub mod Device
+pub mod Indexed
+pub mod Reads
 pub mod Record
+pub mod Stored

@@ -4,3 +4,4 @@
 pub mod checksum;
 pub mod device;
 pub mod record;
+pub mod store;

@@ -1,0 +1,137 @@
+-- What a log stands for: the map that its complete records leave, up to the first place where none stands.
+--     Values              a finite map from full keys to values, in the order of the keys' bytes
+--     records_of          the complete records at the front of some bytes
+--     held_by             the map that they leave, from the empty one on
+--     end_of              how many bytes they take
+--     entry_after, entry_before  the entry with the least key strictly above one, and with the greatest strictly below
+--     gap_in              of a key without a value both of them
+--     entries_behind      the entries with keys above one, or all where none is given
+--     in_bytes            an entry that the code has
+--     with_record         after a record was appended, in the place of what stands behind the complete ones
+--     IsBeforeOrAfter     a log of the same map as before a record was appended, or as after it
+--     MayRead, MayRefuse  why a call may be refused
+--     compacted           a log that has a record of each entry of a map, in the order of the keys, and nothing else
+--     tail_in, IsTail     what stands behind the last complete record;  what a store knows of that
+use Rattle.std.specs.Prelude.{◌≡◌, ◌⊎◌, ◌-◌, ◌^◌, ◌==◌, ◌&&◌, ℕ, zero, suc, Bool, true, List, [], ◌∷◌, ◌++◌, length, map, take, drop, Option, Some, None, is_some, if◌then◌else◌, Vec}
+use Rattle.std.specs.FinMap.{FinMap, empty, entries, get, insert, len, remove}
+use Rattle.std.specs.List.{flat_map, fold}
+use Rattle.std.specs.Option.{option_map}
+use Rattle.std.specs.declared.alloc.Global.{Global}
+use Rattle.key_index_flat.specs.FullKeys.{byte_cmp}
+use Rattle.key_index_flat.specs.Neighbours.{entries_above, entries_below, first_entry, last_entry}
+use Rattle.key_index_flat.specs.declared.index.Fault as index
+use Rattle.key_index_flat.specs.declared.index.Fault.TheVariants as index_fault
+use Rattle.key_index_store.specs.declared.store.Fault.{Fault}
+use Rattle.key_index_store.specs.declared.store.Fault.TheVariants as fault
+use Rattle.key_index_store.specs.declared.store.Tail.{Tail}
+use Rattle.key_index_store.specs.declared.store.Tail.TheVariants.{Nothing}
+use Rattle.key_index_store.specs.declared.store.Tail.TheVariants as tail
+use Rattle.key_index_store.specs.Record.{Entry, Fits, Outcome, Complete, Torn, Damaged, encoded, reading}
+
+abbrev pub Values : Type 0
+Values = FinMap byte_cmp (List ℕ)
+
+-- a key with a value, or without one
+abbrev pub with_value : Values → List ℕ → Option (List ℕ) → Values
+with_value m key None = remove m key
+with_value m key (Some value) = insert m key value
+
+abbrev pub after_record : Values → Entry → Values
+after_record m r = with_value m r.key r.value
+
+-- by what stands at the front, and by the records behind it
+abbrev pub first_and : (List ℕ → List Entry) → List ℕ → Outcome → List Entry
+first_and records bytes (Complete r) = r ∷ records (drop (length (encoded r)) bytes)
+first_and records bytes Torn = []
+first_and records bytes Damaged = []
+
+-- n of them at most
+unfoldable pub records_up_to : ℕ → List ℕ → List Entry
+records_up_to zero bytes = []
+records_up_to (suc n) bytes = first_and (λ rest. records_up_to n rest) bytes (reading bytes)
+
+abbrev pub records_of : List ℕ → List Entry
+records_of bytes = records_up_to (length bytes) bytes
+
+abbrev pub held_by : List ℕ → Values
+held_by bytes = fold after_record empty (records_of bytes)
+
+abbrev pub end_of : List ℕ → ℕ
+end_of log = length (flat_map encoded (records_of log))
+
+abbrev pub entry_after : Values → List ℕ → Option (List ℕ × List ℕ)
+entry_after m key = first_entry (entries_above byte_cmp (entries m) key)
+
+abbrev pub entry_before : Values → List ℕ → Option (List ℕ × List ℕ)
+entry_before m key = last_entry (entries_below byte_cmp (entries m) key)
+
+abbrev pub gap_in : Values → List ℕ → Option (Option (List ℕ × List ℕ) × Option (List ℕ × List ℕ))
+gap_in m key = if is_some (get m key) then None else Some (entry_before m key, entry_after m key)
+
+abbrev pub entries_behind : Option (List ℕ) → Values → List (List ℕ × List ℕ)
+entries_behind None m = entries m
+entries_behind (Some key) m = entries_above byte_cmp (entries m) key
+
+abbrev pub in_bytes : Option (Vec ℕ Global × Vec ℕ Global) → Option (List ℕ × List ℕ)
+in_bytes o = option_map (λ e. (e.0.items, e.1.items)) o
+
+abbrev pub with_record : List ℕ → Entry → List ℕ
+with_record log r = take (end_of log) log ++ encoded r
+
+pub data IsBeforeOrAfter (old : List ℕ) (r : Entry) (log : List ℕ) : Type 0 where
+  before : held_by log ≡ held_by old → IsBeforeOrAfter old r log
+  after : held_by log ≡ after_record (held_by old) r → IsBeforeOrAfter old r log
+
+-- the record of an entry
+abbrev pub put_of : List ℕ × List ℕ → Entry
+put_of e = record { key = e.0; value = Some e.1 }
+
+abbrev pub compacted : Values → List ℕ
+compacted m = flat_map encoded (map put_of (entries m))
+
+-- ---- what stands behind the records
+
+abbrev pub is_zeros : List ℕ → Bool
+is_zeros [] = true
+is_zeros (b ∷ bytes) = (b == 0) && is_zeros bytes
+
+abbrev pub tail_by : Outcome → Tail
+tail_by (Complete r) = Nothing
+tail_by Torn = tail.Torn
+tail_by Damaged = tail.Damaged
+
+-- by the bytes behind them
+abbrev pub tail_of : List ℕ → Tail
+tail_of [] = Nothing
+tail_of (b ∷ rest) = if is_zeros (b ∷ rest) then tail.Torn else tail_by (reading (b ∷ rest))
+
+abbrev pub tail_in : List ℕ → Tail
+tail_in log = tail_of (drop (end_of log) log)
+
+-- after a write that failed, nothing may stand where a torn record may
+abbrev pub IsTail : Tail → List ℕ → Type 0
+IsTail Nothing rest = rest ≡ []
+IsTail tail.Torn rest = ¬ (tail_of rest ≡ tail.Damaged)
+IsTail tail.Damaged rest = tail_of rest ≡ tail.Damaged
+
+-- ---- why a call may be refused
+
+-- what the index refused
+abbrev pub refusal_of : index.Fault → Fault
+refusal_of index_fault.Memory = fault.Memory
+refusal_of index_fault.Full = fault.Full
+refusal_of index_fault.TooFar = fault.Full
+
+-- one that only reads
+abbrev pub MayRead : Fault → Type 0
+MayRead f = (f ≡ fault.Memory) ⊎ (f ≡ fault.ReadFailed)
+
+-- one that would append a record. Each of the others may come at any time
+abbrev pub MayRefuse : List ℕ → Entry → Fault → Type 0
+MayRefuse log r fault.TooLong = ¬ Fits r
+MayRefuse log r fault.Damaged = tail_in log ≡ tail.Damaged
+MayRefuse log r fault.Full = (get (held_by log) r.key ≡ None) × (len (held_by log) ≡ 2 ^ 64 - 1)
+MayRefuse log r fault.NotEmpty = ⊥
+MayRefuse log r fault.Memory = Unit {0}
+MayRefuse log r fault.ReadFailed = Unit {0}
+MayRefuse log r fault.WriteFailed = Unit {0}
