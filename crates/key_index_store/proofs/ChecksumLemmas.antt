@@ -81,7 +81,7 @@ byte_in c b x h =
     ap (bit_xor (after_byte c b)) (sym (after_bits-zeros 8 x)) ∙ sym (after_bits-xor 8 (bit_xor c b) (x * 256))
     ∙ ap (after_bits 8) (xor_assoc c b (x * 256) ∙ ap (bit_xor c) (sym (above b x h)))
 
-pub byte_out : (n b x : ℕ) → b < 256 → after_bits (8 + n) (b + x * 256) ≡ bit_xor (after_bits (8 + n) b) (after_bits n x)
+byte_out : (n b x : ℕ) → b < 256 → after_bits (8 + n) (b + x * 256) ≡ bit_xor (after_bits (8 + n) b) (after_bits n x)
 byte_out n b x h =
     ap (after_bits (8 + n)) (above b x h) ∙ after_bits-xor (8 + n) b (x * 256)
     ∙ ap (bit_xor (after_bits (8 + n) b)) (after_bits-add 8 n (x * 256) ∙ ap (after_bits n) (after_bits-zeros 8 x))
@@ -100,29 +100,29 @@ abbrev number : List ℕ → ℕ
 number [] = 0
 number (b ∷ bs) = b + number bs * 256
 
-one_more : (n : ℕ) → 8 * suc n ≡ 8 + 8 * n
-one_more n = omega arith
+-- how many bits the bytes have
+abbrev bits : List ℕ → ℕ
+bits [] = 0
+bits (b ∷ bs) = 8 + bits bs
 
-in_at_once : (bs : List ℕ) (c : ℕ) → AreBytes bs → fold after_byte c bs ≡ after_bits (8 * length bs) (bit_xor c (number bs))
+in_at_once : (bs : List ℕ) (c : ℕ) → AreBytes bs → fold after_byte c bs ≡ after_bits (bits bs) (bit_xor c (number bs))
 unfolding after_bits
 in_at_once [] c h = sym (xor_zero_r c)
 in_at_once (b ∷ bs) c h =
-    in_at_once bs (after_byte c b) (λ k. h (suc k)) ∙ ap (after_bits (8 * length bs)) (byte_in c b (number bs) (h 0))
-    ∙ sym (after_bits-add 8 (8 * length bs) (bit_xor c (b + number bs * 256))) ∙ ap (λ n. after_bits n (bit_xor c (b + number bs * 256))) (sym (one_more (length bs)))
+    in_at_once bs (after_byte c b) (λ k. h (suc k)) ∙ ap (after_bits (bits bs)) (byte_in c b (number bs) (h 0))
+    ∙ sym (after_bits-add 8 (bits bs) (bit_xor c (b + number bs * 256)))
 
-abbrev left : ℕ → List ℕ → ℕ
-left sum [] = sum
-left sum (b ∷ bs) = left (bit_xor sum (after_bits (8 * length (b ∷ bs)) b)) bs
+-- what is left of bytes, the last of them first
+abbrev left : List ℕ → ℕ
+left [] = 0
+left (b ∷ bs) = bit_xor (left bs) (after_bits (8 + bits bs) b)
 
-out_by_bytes : (bs : List ℕ) (sum : ℕ) → AreBytes bs → bit_xor sum (after_bits (8 * length bs) (number bs)) ≡ left sum bs
+out_by_bytes : (bs : List ℕ) → AreBytes bs → after_bits (bits bs) (number bs) ≡ left bs
 unfolding after_bits
-out_by_bytes [] sum h = xor_zero_r sum
-out_by_bytes (b ∷ bs) sum h =
-    let n : ℕ = 8 * length bs in
-    ap (bit_xor sum) (ap (λ m. after_bits m (b + number bs * 256)) (one_more (length bs)) ∙ byte_out n b (number bs) (h 0))
-    ∙ sym (xor_assoc sum (after_bits (8 + n) b) (after_bits n (number bs)))
-    ∙ ap (λ m. bit_xor (bit_xor sum (after_bits m b)) (after_bits n (number bs))) (sym (one_more (length bs)))
-    ∙ out_by_bytes bs (bit_xor sum (after_bits (8 * suc (length bs)) b)) (λ k. h (suc k))
+out_by_bytes [] h = refl
+out_by_bytes (b ∷ bs) h =
+    let first : ℕ = after_bits (8 + bits bs) b in
+    byte_out (bits bs) b (number bs) (h 0) ∙ xor_comm first (after_bits (bits bs) (number bs)) ∙ ap (λ r. bit_xor r first) (out_by_bytes bs (λ k. h (suc k)))
 
 -- ---- eight bytes
 
@@ -139,11 +139,11 @@ abbrev eight : List ℕ → List ℕ
 eight bs = get_or bs 0 0 ∷ get_or bs 1 0 ∷ get_or bs 2 0 ∷ get_or bs 3 0 ∷ get_or bs 4 0 ∷ get_or bs 5 0 ∷ get_or bs 6 0 ∷ get_or bs 7 0 ∷ []
 
 pub eight_told : (c n : ℕ) (bs out : List ℕ) → length bs ≡ 8 → AreBytes bs → c < 2 ^ 32 → n < 2 ^ 64
-    → n ≡ from_le_bytes w64 bs → out ≡ to_le_bytes w64 (bit_xor c n) → left 0 (eight out) ≡ fold after_byte c bs
+    → n ≡ from_le_bytes w64 bs → out ≡ to_le_bytes w64 (bit_xor c n) → left (eight out) ≡ fold after_byte c bs
 eight_told c n bs out l h fits fits' is is' =
     let word : ℕ = bit_xor c n in
     let same : to_le_bytes w64 n ≡ bs = le_bytes_8 bs n l h is in
-    ap (λ o. left 0 (eight o)) is' ∙ sym (out_by_bytes (to_le_bytes w64 word) 0 (low_first-bytes 0 8 word))
+    ap (λ o. left (eight o)) is' ∙ sym (out_by_bytes (to_le_bytes w64 word) (low_first-bytes 0 8 word))
     ∙ ap (after_bits 64) (number-to_le_bytes word (xor_lt 64 c n (omega arith) fits') ∙ ap (bit_xor c) (sym (number-to_le_bytes n fits')))
     ∙ sym (in_at_once (to_le_bytes w64 n) c (low_first-bytes 0 8 n)) ∙ ap (fold after_byte c) same
 
@@ -163,7 +163,7 @@ in_chunks_and_rest k c bs =
 
 -- ---- the tables
 
-pub tables_told : TABLES ≡ map (λ j. map (after_bits (8 * (j + 1))) (range_with_len 0 256)) (range_with_len 0 8)
+tables_told : TABLES ≡ map (λ j. map (after_bits (8 * (j + 1))) (range_with_len 0 256)) (range_with_len 0 8)
 unfolding after_bits after_bit
 tables_told = refl
 

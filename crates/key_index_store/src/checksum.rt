@@ -3,7 +3,7 @@ ghost use Rattle.std.specs.Prelude.{◌≡◌, ◌+◌, ◌*◌, ◌<◌};
 ghost use Rattle.std.specs.List.{fold};
 ghost use Rattle.key_index_store.specs.Checksum.{after_bits, after_byte, crc32};
 
-// The exclusive or of each choice among some words: that of a number's bits stands at the number.
+// For each number, the exclusive or of the words that stand at its bits.
 macro_rules! spanned {
     ([$($all:expr),*]) => { [$($all),*] };
     ([$($all:expr),*] $word:literal $($words:literal)*) => { spanned!([$($all,)* $($all ^ $word),*] $($words)*) };
@@ -21,7 +21,7 @@ static TABLES: [[u32; 256]; 8] = [
     spanned!([0] 0xccaa_009e 0x4225_077d 0x844a_0efa 0xd3e5_1bb5 0x7cbb_312b 0xf976_6256 0x299d_c2ed 0x533b_85da),
 ];
 
-/// What a byte leaves of an empty register, once some zero bytes have followed it.
+/// What a byte leaves of an empty register, once `followers` zero bytes have followed it.
 fn left_of(byte: u8, followers: usize) -> u32
     requires { followers < 8 }
     ensures { result ≡ after_bits (8 * (followers + 1)) byte }
@@ -37,20 +37,21 @@ fn after_next(register: u32, byte: u8) -> u32
     left_of((mixed & 255) as u8, 0) ^ (mixed >> 8)
 }
 
-/// Takes eight bytes in.
+/// Takes eight bytes in, each by its own table (Kounavis and Berry, 2005).
 fn after_eight(register: u32, bytes: &[u8; 8]) -> u32
     ensures { result ≡ fold after_byte register bytes.now }
 {
     let word = register as u64 ^ u64::from_le_bytes(*bytes);
     let [a, b, c, d, e, f, g, h] = word.to_le_bytes();
-    left_of(a, 7)
-        ^ left_of(b, 6)
-        ^ left_of(c, 5)
-        ^ left_of(d, 4)
-        ^ left_of(e, 3)
-        ^ left_of(f, 2)
+    // The first four bytes wait for the register, so they come last.
+    left_of(h, 0)
         ^ left_of(g, 1)
-        ^ left_of(h, 0)
+        ^ left_of(f, 2)
+        ^ left_of(e, 3)
+        ^ left_of(d, 4)
+        ^ left_of(c, 5)
+        ^ left_of(b, 6)
+        ^ left_of(a, 7)
 }
 
 /// The checksum of some bytes. Of the nine digits "123456789" it is 0xcbf4_3926.
