@@ -1,8 +1,8 @@
--- On CRC-32: registers are added as polynomials, so that several bytes go in as one number, and each goes out by a table.
---     after_bits-xor   a sum goes on as the sum of what its parts become
---     in_at_once       bytes that are taken in one after another are one number that is taken in at once
---     out_by_bytes     what is left of a number is the sum of what is left of its bytes
---     left_told        that of a byte is in the tables
+-- On CRC-32: a register goes on as a polynomial does, so that bytes go in at once as one number, and go out one by one.
+--     next_told             one byte, by what is left of it
+--     eight_told            eight bytes, by what is left of each
+--     in_chunks_and_rest    all bytes, by eights and the rest
+--     left_told             what is left of a byte stands in the tables
 use Rattle.std.proofs.Common.{◌≡◌, ℕ, zero, suc, ◌+◌, ◌*◌, ◌/◌, ◌%◌, ◌^◌, ◌<◌, ◌==◌, cond, true, false, List, [], ◌∷◌, length, get_or, take, drop, map, slice_index_or, refl, sym, ap, ◌∙◌, add_comm, arith}
 use Rattle.std.specs.Prelude.{bit_and, bit_xor}
 use Rattle.std.specs.List.{fold, range_with_len}
@@ -18,7 +18,7 @@ use Rattle.std.proofs.lemmas.List.FromFn.{get_or-map-range_with_len}
 use Rattle.key_index_store.specs.Checksum.{after_bit, after_bits, after_byte}
 use Rattle.key_index_store.specs.declared.checksum.TheConstants.{TABLES}
 
--- ---- a sum goes on as the sum of what its parts become
+-- ---- an exclusive or goes on as that of what its parts become
 
 abbrev divided : ℕ → ℕ
 divided b = cond (b == 1) 0xEDB88320 0
