@@ -3,5 +3,7 @@
 
 pub mod checksum;
 pub mod device;
+pub mod headed;
 pub mod record;
+pub mod salvage;
 pub mod store;

@@ -1,8 +1,27 @@
 //! A key-value store on a log. The index keeps positions alone: it gives those that a shortened key may mean, and the log confirms.
+ghost use Rattle.std.specs.Prelude.{◌≡◌, ◌↔◌, ◌⊎◌, ◌<◌, ◌≤◌, ◌^◌, ◌-◌, ◌||◌, ◌≢◌, ℕ, List, [], ◌++◌, if◌then◌else◌, length, take, drop, slice_get, false, Some, None, is_some, All, IsSome, IsTrue, IfSome, IfOk, IfErr, OnOk, OnErr};
+ghost use Rattle.std.specs.FinMap as map;
+ghost use Rattle.std.specs.Option.{option_map};
+ghost use Rattle.key_index_flat.specs.FullKeys.{IsBytes};
+ghost use Rattle.key_index_flat.specs.View.{growth_fault_in, run_of, with_edit, with_pruned};
+ghost use Rattle.key_index_store.specs.Device.{AddsAtMost, Changes, IsBegun, IsRead, NoMore, Sees, Stays};
+ghost use Rattle.key_index_store.specs.Indexed.{Indexes, IsLive, Keeps, KeepsLists, Settles, without_newest};
+ghost use Rattle.key_index_store.specs.Record.{Complete, Entry, Fits, IsFound, IsWithin, Stops, encoded, entry_of, outcome_of, reading};
+ghost use Rattle.key_index_store.specs.Stored.{IsBeforeOrAfter, MayRead, MayRefuse, refusal_of, end_of, held_by, is_zeros, tail_in, tail_of, with_record, with_value};
 
+mod compact;
 mod find;
+mod neighbours;
+mod replay;
 
-use std::alloc::AllocError;
+use crate::device::Device;
+use crate::record::encode;
+use find::{find, read_value};
+use key_index_flat::index::{self, Refused, Unordered, Values};
+pub use neighbours::Gap;
+use replay::replay;
+use std::alloc::{AllocError, Global};
+use std::marker::Model;
 
 /// Why a call was refused. A refused call leaves the map.
 #[derive(Clone, Copy, Debug, PartialEq, Eq)]
@@ -25,7 +44,6 @@ pub enum Fault {
 }
 
 impl From<AllocError> for Fault {
-    ghost use Rattle.std.specs.Prelude.{◌≡◌};
     ghost use Rattle.key_index_store.specs.declared.store.Fault.TheVariants.{Memory};
 
     ghost from_gives = { λ _ fault. fault ≡ Memory };
@@ -40,8 +58,273 @@ impl From<AllocError> for Fault {
 pub enum Tail {
     /// The end of the log.
     Nothing,
-    /// A record that was not written to its end, or nothing but zeros.
+    /// A record that was not written to its end, or nothing but zeros. The next call that writes cuts it off.
     Torn,
-    /// Bytes that are no record's.
+    /// Bytes that are no record's. No call that writes is answered until `cut_tail`.
     Damaged,
+}
+
+/// Records on a log, with an index of their positions. Contracts see a store as its device, whose bytes are the log: its complete
+/// records leave the map.
+#[derive(Drop)]
+pub struct Store<D: Device, I: Unordered<Value = u64>> {
+    alloc: Global,
+    device: D,
+    index: I,
+    end: u64,
+    tail: Tail,
+}
+
+impl<D: Device, I: Unordered<Value = u64>> Model for Store<D, I> {
+    ghost use Rattle.key_index_store.specs.Device.{Sees};
+    ghost use Rattle.key_index_store.specs.Indexed.{Keeps};
+
+    ghost Value = { D };
+
+    ghost view = { λ s. s.device };
+
+    ghost invariant = { λ s. Sees (D.seen s.device) (λ log. Keeps I.Key.cmp log (I.view s.index) s.end s.tail) };
+}
+
+/// Files the position of a key's newest record: in the place of the older one, or as a new one; of a deletion removes the older one.
+fn settle<I: Unordered<Value = u64>>(
+    index: &mut I,
+    key: &[u8],
+    has_value: bool,
+    place: Option<usize>,
+    position: u64,
+) -> Result<(), Fault>
+    requires { IfSome place (λ p. p < length (run_of I.Key.cmp (I.view index.old) key.now)) }
+    ensures settled { OnOk result (Settles I.Key.cmp I.INSERT_FIRST
+        (I.view index.old) key.now has_value place position (I.view index.new)) }
+    ensures refused { OnErr result (I.view index.new ≡ I.view index.old) }
+    ensures sure { OnErr result (place ≡ None) }
+    ensures fault { IfErr result (λ f. f ≡ refusal_of (growth_fault_in (I.view index.old))) }
+{
+    let slot = index.slot_of(key);
+    match place {
+        Some(place) if has_value => index.set_at(slot, place, position),
+        Some(place) => {
+            index.remove_at(slot, place);
+        }
+        None if has_value => index.insert(key, position).map_err(fault_of)?,
+        None => {}
+    }
+    Ok(())
+}
+
+/// Why the store refuses what the index refused.
+fn fault_of(refused: Refused<u64>) -> Fault
+    ensures { result ≡ refusal_of refused.fault }
+{
+    match refused.fault {
+        index::Fault::Memory => Fault::Memory,
+        index::Fault::Full | index::Fault::TooFar => Fault::Full,
+    }
+}
+
+/// Removes the newest position of a key's list again.
+fn withdraw<I: Unordered<Value = u64>>(index: &mut I, key: &[u8])
+    requires { 0 < length (run_of I.Key.cmp (I.view index.old) key.now) }
+    ensures { let s = I.view index.old in I.view index.new
+        ≡ with_pruned (with_edit I.Key.cmp s (s.slot key.now) (without_newest I.INSERT_FIRST)) 1 }
+{
+    let slot = index.slot_of(key);
+    let last = index.run_len(slot) - 1;
+    index.remove_at(slot, if I::INSERT_FIRST { 0 } else { last });
+}
+
+/// The positions that may be those of a key, whose items are bytes.
+fn positions_of<'a, I: Unordered<Value = u64>>(index: &'a I, key: &[u8]) -> Values<'a, u64>
+    ensures run { result ≡ run_of I.Key.cmp (I.view index.now) key.now }
+    ensures bytes { IsBytes key.now }
+{
+    index.get(key)
+}
+
+/// Writes the bytes of a record at the end of a log and files their position. A refusal leaves the index.
+fn write<D: Device, I: Unordered<Value = u64>>(
+    device: &mut D,
+    index: &mut I,
+    key: &[u8],
+    has_value: bool,
+    place: Option<usize>,
+    position: u64,
+    bytes: &[u8],
+) -> Result<(), Fault>
+    requires known { has_value ≡ false → IsSome place }
+    requires place { IfSome place (λ p. p < length (run_of I.Key.cmp (I.view index.old) key.now)) }
+    ensures written { OnOk result (Changes (D.seen device.old) (D.seen device.new) (λ old new.
+        position ≡ length old → new ≡ old ++ bytes.now)) }
+    ensures failed { OnErr result (Changes (D.seen device.old) (D.seen device.new) (λ old new.
+        position ≡ length old → IsBegun bytes.now old new)) }
+    ensures crash { (old : List ℕ) → D.seen device.old ≡ Some old → position ≡ length old
+        → AddsAtMost old bytes.now (D.may_leave device.old) (D.may_leave device.new) }
+    ensures settled { OnOk result (Settles I.Key.cmp I.INSERT_FIRST
+        (I.view index.old) key.now has_value place position (I.view index.new)) }
+    ensures refused { OnErr result (KeepsLists (I.view index.old) (I.view index.new)) }
+    ensures fault { IfErr result (λ f. (f ≡ Fault.WriteFailed)
+        ⊎ ((place ≡ None) × (f ≡ refusal_of (growth_fault_in (I.view index.old))))) }
+{
+    if place.is_none() {
+        settle(index, key, has_value, place, position)?;
+        if device.write_at(position, bytes).is_err() {
+            withdraw(index, key);
+            return Err(Fault::WriteFailed);
+        }
+        return Ok(());
+    }
+    let written = device.write_at(position, bytes);
+    written.map_err(|_| Fault::WriteFailed)?;
+    settle(index, key, has_value, place, position)
+}
+
+impl<D: Device, I: Unordered<Value = u64>> Store<D, I> {
+    /// A store on a log, over an empty index. It reads the log once, from its front, and nothing behind the first place where no whole
+    /// record stands, but to tell zeros. No byte of the log is changed.
+    pub fn open(alloc: Global, mut device: D, mut index: I) -> Result<Store<D, I>, Fault>
+    where
+        D: Drop,
+        I: Drop,
+        requires { (I.view index).content ≡ [] }
+        ensures read { IfOk result (λ store. IsRead D.seen D.may_leave device store) }
+        ensures fault { IfErr result MayRead }
+    {
+        let (end, tail) = replay(alloc, &mut device, &mut index)?;
+        Ok(Store {
+            alloc,
+            device,
+            index,
+            end,
+            tail,
+        })
+    }
+
+    /// How many keys have a value. It reads nothing.
+    pub fn len(&self) -> usize
+        ensures { Sees (D.seen self.now) (λ log. result ≡ map.len (held_by log)) }
+    {
+        self.index.items()
+    }
+
+    pub fn is_empty(&self) -> bool
+        ensures { Sees (D.seen self.now) (λ log. IsTrue result ↔ (held_by log ≡ map.empty)) }
+    {
+        self.len() == 0
+    }
+
+    /// How many bytes of the log its complete records take.
+    pub fn end(&self) -> u64
+        ensures { Sees (D.seen self.now) (λ log. result ≡ end_of log) }
+    {
+        self.end
+    }
+
+    /// What stands behind them. After a write that failed, nothing may stand where `Torn` is told.
+    pub fn tail(&self) -> Tail
+        ensures { Sees (D.seen self.now) (λ log. (result ≡ Tail.Damaged) ↔ (tail_in log ≡ Tail.Damaged)) }
+    {
+        self.tail
+    }
+
+    /// The value of a key, copied.
+    pub fn get(&mut self, key: &[u8]) -> Result<Option<Vec<u8>>, Fault>
+        ensures value { Sees (D.seen self.new) (λ log. IfOk result (λ o.
+            option_map (λ v. v.items) o ≡ map.get (held_by log) key.now)) }
+        ensures read { IsRead D.seen D.may_leave self.old self.new }
+        ensures fault { Sees (D.seen self.new) (λ log. IfErr result MayRead) }
+    {
+        let (alloc, end) = (self.alloc, self.end);
+        let Some(found) = find(alloc, &mut self.device, self.index.get(key), key, end)? else {
+            return Ok(None);
+        };
+        let front = found.bytes.as_slice();
+        let value = read_value(alloc, &mut self.device, found.position, end, front)?;
+        Ok(Some(value))
+    }
+
+    /// Whether a key has a value, which isn't read.
+    pub fn contains_key(&mut self, key: &[u8]) -> Result<bool, Fault>
+        ensures held { Sees (D.seen self.new) (λ log. IfOk result (λ has. has ≡ is_some (map.get (held_by log) key.now))) }
+        ensures read { IsRead D.seen D.may_leave self.old self.new }
+        ensures fault { Sees (D.seen self.new) (λ log. IfErr result MayRead) }
+    {
+        let (alloc, end) = (self.alloc, self.end);
+        let found = find(alloc, &mut self.device, self.index.get(key), key, end)?;
+        Ok(found.is_some())
+    }
+
+    /// Sets the value of a key, by a record behind the others. A key and a value have fewer than 2^32 bytes each.
+    pub fn put(&mut self, key: &[u8], value: &[u8]) -> Result<(), Fault> {
+        if key.len() > u32::MAX as usize || value.len() > u32::MAX as usize {
+            return Err(Fault::TooLong);
+        }
+        self.change(key, Some(value))?;
+        Ok(())
+    }
+
+    /// Removes a key, and tells whether it had a value. A key without a value needs no record, and gets none.
+    pub fn delete(&mut self, key: &[u8]) -> Result<bool, Fault> {
+        if key.len() > u32::MAX as usize {
+            return Err(Fault::TooLong);
+        }
+        self.change(key, None)
+    }
+
+    /// Cuts a torn record off, and refuses where something else stands behind the whole ones.
+    fn make_room(&mut self) -> Result<(), Fault> {
+        match self.tail {
+            Tail::Nothing => Ok(()),
+            Tail::Torn => self.cut_tail(),
+            Tail::Damaged => Err(Fault::Damaged),
+        }
+    }
+
+    /// Sets the value of a key, or removes the key where none is given, and tells whether it had one.
+    fn change(&mut self, key: &[u8], value: Option<&[u8]>) -> Result<bool, Fault> {
+        let (alloc, end) = (self.alloc, self.end);
+        let found = find(alloc, &mut self.device, self.index.get(key), key, end)?;
+        let place = found.map(|found| found.place);
+        if value.is_none() && place.is_none() {
+            return Ok(false);
+        }
+        let bytes = encode(alloc, key, value)?;
+        self.make_room()?;
+        let has_value = value.is_some();
+        let (device, index) = (&mut self.device, &mut self.index);
+        let written = write(device, index, key, has_value, place, end, bytes.as_slice());
+        if let Err(fault) = written {
+            self.tail = Tail::Torn;
+            return Err(fault);
+        }
+        self.end += bytes.len() as u64;
+        Ok(place.is_some())
+    }
+
+    /// Cuts off what stands behind the last whole record, from the first place where none stands to the end of the log. Calls that
+    /// write are then answered again.
+    pub fn cut_tail(&mut self) -> Result<(), Fault> {
+        let cut = self.device.set_len(self.end);
+        cut.map_err(|_| Fault::WriteFailed)?;
+        self.tail = Tail::Nothing;
+        Ok(())
+    }
+
+    /// Forces what was written to the disk: a crash behind it leaves each record of the log.
+    pub fn sync(&mut self) -> Result<(), Fault> {
+        self.device.sync().map_err(|_| Fault::WriteFailed)
+    }
+
+    /// The device, to be opened anew.
+    pub fn into_device(self) -> D
+    where
+        I: Drop,
+    {
+        self.device
+    }
+
+    /// The device.
+    pub fn device_mut(&mut self) -> &mut D {
+        &mut self.device
+    }
 }
