@@ -1,3 +1,4 @@
 pub mod Checksum
 pub mod Device
+pub mod MemoryDevice
 pub mod Record

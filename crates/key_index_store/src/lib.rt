@@ -3,4 +3,5 @@
 
 pub mod checksum;
 pub mod device;
+pub mod memory_device;
 pub mod record;
