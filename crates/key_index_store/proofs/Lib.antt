@@ -1,2 +1,3 @@
 pub mod ChecksumLemmas
+pub mod HistoryLemmas
 pub mod RecordLemmas

@@ -3,5 +3,7 @@
 
 pub mod checksum;
 pub mod device;
+pub mod file_device;
+mod history;
 pub mod memory_device;
 pub mod record;
