@@ -1,6 +1,9 @@
 pub mod Checksum
 pub mod Device
+pub mod FileDevice
+pub mod History
 pub mod Indexed
+pub mod MemoryDevice
 pub mod Reads
 pub mod Record
 pub mod Stored

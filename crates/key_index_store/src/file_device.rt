@@ -1,0 +1,121 @@
+//! A device over a file of the operating system.
+ghost use Rattle.std.specs.Prelude.{◌≡◌, ◌<◌, ◌≤◌, List, ℕ, [], length, IfOk};
+
+use crate::device::{Device, Failed};
+use crate::history::{Call, History};
+use std::fs::{File, OpenFile};
+use std::io::{Error, ErrorKind};
+use std::marker::PhantomData;
+use std::os::unix::fs::FileExt;
+
+/// How often a write that a signal interrupts is tried.
+const TRIES: usize = 100;
+
+/// What a file held as it was opened. No code can read it. What is proved over any `S: Start` is proved for all contents.
+pub trait Start: Drop {
+    /// Its bytes then.
+    ghost first: { List ℕ };
+}
+
+/// For `main` to name, which does not know what the file held.
+#[derive(Drop)]
+pub struct Unknown;
+
+impl Start for Unknown {
+    ghost first = { [] };
+}
+
+/// A device over a file that held `S::first`, on the disk too. Its bytes are what the calls on the file make of that, and they are seen
+/// until a length or a read is not that of a file with these bytes. A call that fails is taken as one that did nothing: where it wrote
+/// all the same, only a later read can tell.
+#[derive(Drop)]
+pub struct FileDevice<S: Start> {
+    file: File,
+    sync_failed: bool,
+    history: History,
+    start: PhantomData<S>,
+}
+
+impl<S: Start> FileDevice<S> {
+    ghost use Rattle.key_index_store.specs.FileDevice.{calls_of};
+
+    /// The device over a file that is open for reading and writing at any place.
+    pub fn new(file: File, _start: S) -> FileDevice<S>
+        ensures { calls_of result ≡ [] }
+    {
+        FileDevice {
+            file,
+            sync_failed: false,
+            history: History::new(),
+            start: PhantomData,
+        }
+    }
+}
+
+fn failed(_error: Error) -> Failed {
+    Failed
+}
+
+/// Writes one or more of the bytes, and says how many.
+fn write_some(file: &File, position: u64, bytes: &[u8]) -> Result<usize, Failed>
+    ensures { IfOk result (λ n. (0 < n) × (n ≤ length bytes.now)) }
+{
+    for _ in 0..TRIES {
+        match file.write_at(bytes, position) {
+            Ok(0) => return Err(Failed),
+            Ok(n) => return Ok(n),
+            Err(error) if error.kind() == ErrorKind::Interrupted => {}
+            Err(_) => return Err(Failed),
+        }
+    }
+    Err(Failed)
+}
+
+impl<S: Start> Device for FileDevice<S> {
+    ghost use Rattle.key_index_store.specs.FileDevice.{file_seen, FileLeaves};
+
+    ghost seen = { file_seen S.Start };
+
+    ghost may_leave = { FileLeaves S.Start };
+
+    fn len(&mut self) -> Result<u64, Failed> {
+        let len = self.file.metadata().map_err(failed)?.len();
+        self.history = self.history.and(&Call::Told(len), &[]);
+        Ok(len)
+    }
+
+    fn read_at(&mut self, position: u64, buffer: &mut [u8]) -> Result<(), Failed> {
+        self.file.read_exact_at(buffer, position).map_err(failed)?;
+        self.history = self.history.and(&Call::Gave(position), buffer);
+        Ok(())
+    }
+
+    fn write_at(&mut self, position: u64, bytes: &[u8]) -> Result<(), Failed> {
+        let mut done = 0;
+        while done < bytes.len() {
+            let at = position.checked_add(done as u64).ok_or(Failed)?;
+            let n = write_some(&self.file, at, &bytes[done..])?;
+            self.history = self.history.and(&Call::Took(at), &bytes[done..done + n]);
+            done += n;
+        }
+        Ok(())
+    }
+
+    fn set_len(&mut self, len: u64) -> Result<(), Failed> {
+        OpenFile::set_len(&self.file, len).map_err(failed)?;
+        self.history = self.history.and(&Call::Cut(len), &[]);
+        Ok(())
+    }
+
+    /// Fails where a sync before it failed: the system may have dropped what that one could not write.
+    fn sync(&mut self) -> Result<(), Failed> {
+        if self.sync_failed {
+            return Err(Failed);
+        }
+        self.sync_failed = true;
+        self.file.sync_all().map_err(failed)?;
+        self.sync_failed = false;
+        self.history = self.history.and(&Call::Synced, &[]);
+        Ok(())
+    }
+}

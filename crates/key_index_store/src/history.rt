@@ -1,0 +1,47 @@
+//! The calls on a file, which only clauses read.
+ghost use Rattle.std.specs.Prelude.{◌≡◌, List, [], ◌∷◌};
+ghost use Rattle.std.specs.Borrow.{ftrue};
+ghost use Rattle.key_index_store.specs.History.{Noted};
+
+use std::marker::Model;
+
+/// A call that succeeded. Its bytes, where it has some, stand beside it.
+#[derive(Clone, Copy)]
+pub(crate) enum Call {
+    /// The file said that it has so many bytes.
+    Told(u64),
+    /// It gave these bytes from a position on.
+    Gave(u64),
+    /// It took these bytes at a position.
+    Took(u64),
+    /// It took this for its length.
+    Cut(u64),
+    /// It said that the disk has its bytes.
+    Synced,
+}
+
+/// The calls so far, the newest first.
+#[derive(Drop)]
+pub(crate) struct History {
+    pub(crate) ghost calls: { List Noted },
+}
+
+impl Model for History {
+    ghost also_owns = { λ _. ftrue };
+}
+
+impl History {
+    /// No calls.
+    pub(crate) fn new() -> History
+        ensures { result.calls ≡ [] }
+    {
+        History {}
+    }
+
+    /// One more call.
+    pub(crate) fn and(&self, _call: &Call, _bytes: &[u8]) -> History
+        ensures { result.calls ≡ (_call.now, _bytes.now) ∷ self.now.calls }
+    {
+        History {}
+    }
+}
