@@ -4,3 +4,4 @@ pub mod IndexLemmas
 pub mod LogLemmas
 pub mod ReadLemmas
 pub mod RecordLemmas
+pub mod StoreLemmas

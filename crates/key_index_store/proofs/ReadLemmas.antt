@@ -1,14 +1,22 @@
 -- On reads of the front of a record: what is read tells as much as all that stands there.
 --     front_tells     the key
 --     whole_tells     the record, where all of it was asked for
-use Rattle.std.proofs.Common.{◌≡◌, ◌⊎◌, ℕ, zero, suc, ◌+◌, ◌-◌, ◌≤◌, ◌<◌, min, Bool, true, false, cond, List, [], ◌∷◌, ◌++◌, length, take, drop, Result, Ok, Err, inl, inr, refl, sym, ap, subst, ◌∙◌, take-append-drop, length-take, length-drop, arith}
+--     read-then       two calls that only read, one after the other
+--     match_same, match_other, match_readable  a candidate whose key is known, beside the one that is sought
+use Rattle.std.proofs.Common.{◌≡◌, ◌⊎◌, ℕ, zero, suc, ◌+◌, ◌-◌, ◌≤◌, ◌<◌, min, Bool, true, false, cond, List, [], ◌∷◌, ◌++◌, slice_get, get_or, length, take, drop, Option, Some, None, Result, Ok, Err, inl, inr, refl, sym, ap, subst, ◌∙◌, take-append-drop, length-take, length-drop, arith}
 use Rattle.std.specs.Result.{OnOk, is_ok}
 use Rattle.std.proofs.lemmas.Bool.{cases_lt}
 use Rattle.std.proofs.lemmas.Bool.{false≢true}
 use Rattle.std.proofs.lemmas.List.{drop-take, nil_from_length, take_all}
+use Rattle.std.specs.Str.{bytes_eq}
+use Rattle.std.proofs.lemmas.Slice.Eq.{bytes_eq-Decides}
+use Rattle.key_index_store.specs.Device.{IsRead}
+use Rattle.key_index_store.specs.Indexed.{IsLive, key_at, match_of}
+use Rattle.key_index_store.specs.declared.store.find.Match.{Match}
+use Rattle.key_index_store.specs.declared.store.find.Match.TheVariants.{Same, Other, Unreadable}
 use Rattle.key_index_store.specs.Record.{Complete, Entry, key_in, is_summed, reading, record_length, value_place}
 use Rattle.key_index_store.specs.Reads.{wanted}
-use Rattle.key_index_store.proofs.RecordLemmas.{key_front, read_front, record_length_front, summed_front, value_place_front}
+use Rattle.key_index_store.proofs.RecordLemmas.{key_front, key_in-whole, read_front, record_length_front, summed_front, value_place_front}
 
 -- all there is, or a head and what it wants
 abbrev pub Suffices : Bool → List ℕ → List ℕ → Type 0
@@ -34,6 +42,13 @@ module _ (w : Bool) (x v : List ℕ) (front : v ≡ take (length v) x) where
   whole_tells is (inl all) = ap reading all
   whole_tells is (inr enough) =
       sym (read_front v (drop (length v) x) enough.0 (λ head. subst (λ t. cond t (record_length v) (value_place v) ≤ length v) is (wanted_head w v enough.1 head))) ∙ ap reading whole
+
+pub whole_enough : (v x : List ℕ) → 13 ≤ length v → record_length v ≤ length v → Suffices true v x
+whole_enough v x head long = inr (head, of (is_summed 9 v))
+  where
+    of : (b : Bool) → cond b (record_length v) 0 ≤ length v
+    of true = long
+    of false = omega arith
 
 -- ---- the bytes that are read
 
@@ -105,3 +120,45 @@ module _ (log : List ℕ) (limit p : ℕ) (within : limit ≤ length log) where
 pub on_ok_told : {A E : Type 0} {P : Type 0} (r : Result A E) → is_ok r ≡ true → OnOk r P → P
 on_ok_told (Ok x) e h = h
 on_ok_told (Err x) e h = absurd (false≢true e)
+
+module _ {D : Type 0} {seen : D → Option (List ℕ)} {may_leave : D → List ℕ → Type 0} where
+  pub read-none : (a : D) → IsRead seen may_leave a a
+  read-none a = record { stays = λ bytes h. h; crash = λ c h. h }
+
+  pub read-then : (a b c : D) → IsRead seen may_leave a b → IsRead seen may_leave b c → IsRead seen may_leave a c
+  read-then a b c first second = record { stays = λ bytes h. first.stays bytes (second.stays bytes h); crash = λ left h. first.crash left (second.crash left h) }
+
+-- ---- a candidate's key
+
+module _ (o : Option (List ℕ)) (key k : List ℕ) (m : Match) (is : m ≡ match_of o key) (known : o ≡ Some k) where
+  told : m ≡ cond (bytes_eq k key) Same Other
+  told = is ∙ ap (λ x. match_of x key) known
+
+  tested : (b : Bool) → bytes_eq k key ≡ b → m ≡ cond b Same Other
+  tested b e = told ∙ ap (λ t. cond t Same Other) e
+
+  pub match_same : m ≡ Same → bytes_eq k key ≡ true
+  match_same same = elim (bytes_eq k key) as (λ b. bytes_eq k key ≡ b → b ≡ true) [
+    | true ↦ λ e. refl
+    | false ↦ λ e. (let other = tested false e in absurd (cc))
+  ] refl
+
+  pub match_other : m ≡ Other → bytes_eq k key ≡ false
+  match_other same = elim (bytes_eq k key) as (λ b. bytes_eq k key ≡ b → b ≡ false) [
+    | true ↦ λ e. (let other = tested true e in absurd (cc))
+    | false ↦ λ e. refl
+  ] refl
+
+  pub match_readable : ¬ (m ≡ Unreadable)
+  match_readable same = elim (bytes_eq k key) as (λ b. bytes_eq k key ≡ b → ⊥) [
+    | true ↦ λ e. (let other = tested true e in absurd (cc))
+    | false ↦ λ e. (let other = tested false e in absurd (cc))
+  ] refl
+
+pub key_in-live : (log : List ℕ) (p : ℕ) → IsLive log p → key_in (drop p log) ≡ Some (key_at log p)
+key_in-live log p live = key_in-whole (drop p log) _ live
+
+pub slice_get-here : (l : List ℕ) (n v : ℕ) → n < length l → v ≡ get_or l n v → slice_get l n ≡ Some v
+slice_get-here [] n v less is = absurd (omega (arith, less))
+slice_get-here (x ∷ xs) zero v less is = ap (λ y. Some y) (sym is)
+slice_get-here (x ∷ xs) (suc n) v less is = slice_get-here xs n v (omega (arith, less)) is

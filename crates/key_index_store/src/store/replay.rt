@@ -1,4 +1,9 @@
 //! The records of a log, filed in an index from the first one on.
+ghost use Rattle.std.specs.Prelude.{◌≡◌, ◌≤◌, ◌<◌, ◌+◌, ◌^◌, ℕ, List, Option, if◌then◌else◌, [], ◌++◌, length, take, drop, is_some, IfOk, IfErr, OnOk};
+ghost use Rattle.key_index_store.specs.Device.{IsRead, Sees};
+ghost use Rattle.key_index_store.specs.Indexed.{Indexes};
+ghost use Rattle.key_index_store.specs.Record.{Damaged, Fits, Torn, encoded, reading};
+ghost use Rattle.key_index_store.specs.Stored.{MayRead, is_zeros, tail_of};
 
 use super::find::{find, read_bytes, read_front};
 use super::{Fault, Tail, positions_of, settle};
@@ -18,7 +23,15 @@ fn file<D: Device, I: Unordered<Value = u64>>(
     key: &[u8],
     has_value: bool,
     position: u64,
-) -> Result<(), Fault> {
+) -> Result<(), Fault>
+    ensures filed { Sees (D.seen device.new) (λ log. (value : Option (List ℕ)) → has_value ≡ is_some value
+        → Fits (record { key = key.now; value = value }) → position ≤ length log
+        → Indexes I.Key.cmp (take position log) (I.view index.old) → OnOk result
+        (Indexes I.Key.cmp (take position log ++ encoded (record { key = key.now; value = value })) (I.view index.new))) }
+    ensures read { IsRead D.seen D.may_leave device.old device.new }
+    ensures fault { Sees (D.seen device.new) (λ log. position ≤ length log → position < usize.MAX
+        → Indexes I.Key.cmp (take position log) (I.view index.old) → IfErr result MayRead) }
+{
     let found = find(alloc, device, positions_of(index, key), key, position)?;
     let place = found.map(|found| found.place);
     settle(index, key, has_value, place, position)
@@ -31,7 +44,16 @@ fn file_all<D: Device, I: Unordered<Value = u64>>(
     index: &mut I,
     bytes: &[u8],
     position: u64,
-) -> Result<u64, Fault> {
+) -> Result<u64, Fault>
+    requires { position + length bytes.now < 2 ^ 64 }
+    ensures indexed { Sees (D.seen device.new) (λ log. bytes.now ≡ take (length bytes.now) (drop position log)
+        → Indexes I.Key.cmp (take position log) (I.view index.old)
+        → IfOk result (λ n. Indexes I.Key.cmp (take (position + n) log) (I.view index.new))) }
+    ensures within { IfOk result (λ n. n ≤ length bytes.now) }
+    ensures read { IsRead D.seen D.may_leave device.old device.new }
+    ensures fault { Sees (D.seen device.new) (λ log. bytes.now ≡ take (length bytes.now) (drop position log)
+        → Indexes I.Key.cmp (take position log) (I.view index.old) → IfErr result MayRead) }
+{
     let mut rest = bytes;
     while let Reading::Complete(record) = decode(rest) {
         let place = position + (bytes.len() - rest.len()) as u64;
@@ -43,11 +65,21 @@ fn file_all<D: Device, I: Unordered<Value = u64>>(
 }
 
 /// Whether the bytes of a log from a position on are zeros.
-fn are_zeros<D: Device>(alloc: Global, device: &mut D, position: u64, len: u64) -> Result<bool, Fault> {
+fn are_zeros<D: Device>(
+    alloc: Global,
+    device: &mut D,
+    position: u64,
+    len: u64,
+) -> Result<bool, Fault>
+    ensures told { Sees (D.seen device.new) (λ log. len ≡ length log → IfOk result (λ are.
+        are ≡ is_zeros (drop position log))) }
+    ensures read { IsRead D.seen D.may_leave device.old device.new }
+    ensures fault { IfErr result MayRead }
+{
     let mut position = position;
     while position < len {
         let block = read_bytes(alloc, device, position, (len - position).min(BLOCK))?;
-        if block.iter().any(|byte| *byte != 0) {
+        if !is_zeros(block.as_slice()) {
             return Ok(false);
         }
         position += block.len() as u64;
@@ -55,47 +87,35 @@ fn are_zeros<D: Device>(alloc: Global, device: &mut D, position: u64, len: u64) 
     Ok(true)
 }
 
-/// What stands behind the last whole record.
+fn is_zeros(bytes: &[u8]) -> bool
+    ensures { result ≡ is_zeros bytes.now }
+{
+    for byte in bytes {
+        if *byte != 0 {
+            return false;
+        }
+    }
+    true
+}
+
+/// What stands behind the last whole record of a log of `len` bytes.
 fn tail_at<D: Device>(
     alloc: Global,
     device: &mut D,
     end: u64,
     len: u64,
-    is_damaged: bool,
-) -> Result<Tail, Fault> {
-    if end == len {
+    is_torn: bool,
+) -> Result<Tail, Fault>
+    ensures told { Sees (D.seen device.new) (λ log. len ≡ length log
+        → (reading (drop end log) ≡ (if is_torn then Torn else Damaged)) → IfOk result (λ t. t ≡ tail_of (drop end log))) }
+    ensures read { IsRead D.seen D.may_leave device.old device.new }
+    ensures fault { IfErr result MayRead }
+{
+    if end >= len {
         return Ok(Tail::Nothing);
     }
-    if is_damaged && !are_zeros(alloc, device, end, len)? {
-        return Ok(Tail::Damaged);
+    if is_torn || are_zeros(alloc, device, end, len)? {
+        return Ok(Tail::Torn);
     }
-    Ok(Tail::Torn)
-}
-
-/// Files the complete records of a log, the oldest first. Gives how many bytes they take, and what stands behind them.
-pub(super) fn replay<D: Device, I: Unordered<Value = u64>>(
-    alloc: Global,
-    device: &mut D,
-    index: &mut I,
-) -> Result<(u64, Tail), Fault> {
-    let len = device.len().map_err(|_| Fault::ReadFailed)?;
-    let mut end = 0;
-    while end < len {
-        let block = read_bytes(alloc, device, end, (len - end).min(BLOCK))?;
-        let filed = file_all(alloc, device, index, block.as_slice(), end)?;
-        end += filed;
-        if filed == 0 {
-            // No record ends in the block.
-            let bytes = read_front(alloc, device, end, len, true)?;
-            match decode(bytes.as_slice()) {
-                Reading::Complete(record) => {
-                    file(alloc, device, index, record.key, record.value.is_some(), end)?;
-                    end += record.length();
-                }
-                Reading::Torn => return Ok((end, tail_at(alloc, device, end, len, false)?)),
-                Reading::Damaged => return Ok((end, tail_at(alloc, device, end, len, true)?)),
-            }
-        }
-    }
-    Ok((end, Tail::Nothing))
+    Ok(Tail::Damaged)
 }

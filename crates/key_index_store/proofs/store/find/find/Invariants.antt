@@ -8,6 +8,6 @@ abbrev pub invariant-loop-position : goal.invariant-loop-position
 invariant-loop-position g l = record {
   counted : l.place ≡ length l.yielded;
   read : IsRead g.D.Device.seen g.D.Device.may_leave l.fn.device l.device;
-  none : Sees (g.D.Device.seen l.device) (λ log. l.limit ≤ length log → All (IsLive (take l.limit log)) (map (λ p. p.now) l.yielded)
+  none : Sees (g.D.Device.seen l.device) (λ log. l.limit ≤ length log → All (IsLive (take l.limit log)) l.fn.positions
       → (value_in (take l.limit log) l.key (map (λ p. p.now) l.yielded) ≡ None) × (l.is_unreadable ≡ false));
 }

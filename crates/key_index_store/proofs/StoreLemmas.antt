@@ -1,0 +1,92 @@
+-- On a store: what it holds before and after a call.
+--     looked_up                  the value of a key, by the positions in the index
+--     Indexes-written            after a record was appended and its position filed
+--     left_front                 after a refused call
+--     open_held, open_end        a log that is opened
+--     remove_absent              a key without a value is taken out
+--     len-after_records          records leave no more keys than there are records
+--     refusal-Memory             so an index of the records of fewer bytes than `usize::MAX` is never full
+use Rattle.std.proofs.Common.{◌≡◌, ◌==◌, ◌↔◌, ℕ, ◌+◌, ◌-◌, ◌^◌, ◌<◌, ◌≤◌, if◌then◌else◌, Bool, true, false, cond, List, [], ◌∷◌, ◌++◌, length, take, drop, Option, Some, None, is_some, All, refl, sym, ap, subst, ◌∙◌, length-append, length-take, take-append-drop, arith}
+use Rattle.std.proofs.lemmas.List.{append-nil, take_all, take-append-le}
+use Rattle.std.proofs.lemmas.List.Elements.{All-weaker}
+use Rattle.std.proofs.lemmas.Bool.{eq-eqb, eqb-true, false≢true, ne_eqb}
+use Rattle.std.specs.Cmp.{IsTotalOrder}
+use Rattle.std.specs.Cmp.Lexicographic.{nat_list_cmp_total}
+use Rattle.std.specs.FinMap.{empty, empty_of_len, find, get, len, len-empty, len-insert, len-remove, remove, get-remove, same_map}
+use Rattle.std.specs.List.{flat_map, fold}
+use Rattle.std.specs.Option.{option_map}
+use Rattle.std.specs.declared.cmp.Ordering.{Ordering}
+use Rattle.std.specs.declared.cmp.Ordering.TheVariants.{Equal}
+use Rattle.key_index_flat.specs.Content.{IsLawful}
+use Rattle.key_index_flat.specs.FullKeys.{IsBytes, byte_cmp}
+use Rattle.key_index_flat.specs.View.{View, growth_fault_in, items_in, run_of}
+use Rattle.key_index_flat.specs.declared.index.Fault.TheVariants as index_fault
+use Rattle.key_index_flat.proofs.content.ContentLemmas.{Equal-is_eq}
+use Rattle.key_index_store.specs.Indexed.{Indexes, IsLive, IsUnder, Settles, entry_at, value_in}
+use Rattle.key_index_store.specs.Record.{Entry, Fits, Stops, encoded, reading}
+use Rattle.key_index_store.specs.Stored.{LeavesLog, Stored, Values, after_record, opened, records_of, refusal_of, held_by, with_value}
+use Rattle.key_index_store.specs.declared.store.Fault.{Fault}
+use Rattle.key_index_store.specs.declared.store.Fault.TheVariants as fault
+use Rattle.std.proofs.lemmas.Map.Lookups.{exact_bytes}
+use Rattle.key_index_flat.proofs.entries.EntryLemmas.{same}
+use Rattle.key_index_store.proofs.IndexLemmas.{IsAt, Indexes-filed}
+use Rattle.key_index_store.proofs.LogLemmas.{entries_there, held_more, live_more, spelled_records}
+
+module _ {K : Type 0} (cmp : K → K → Ordering) where
+  -- the positions of a key are live
+  pub live_run : (log : List ℕ) (s : View K ℕ) (key : List ℕ) → Indexes cmp log s → All (IsLive log) (run_of cmp s key)
+  live_run log s key h = All-weaker (IsUnder log s.slot (s.slot key)) (IsLive log) (λ p q. q.0) (run_of cmp s key) (h.live (s.slot key))
+
+-- ---- a key that has no value
+
+pub remove_absent : (m : Values) (k : List ℕ) → get m k ≡ None → m ≡ remove m k
+remove_absent m k none = same_map nat_list_cmp_total exact_bytes m (remove m k) (λ a.
+    elim (same a k) as (λ b. same a k ≡ b → get m a ≡ cond b None (get m a)) [
+      | true ↦ λ e. ap (get m) (exact_bytes a k (Equal-is_eq _ e)) ∙ none
+      | false ↦ λ e. refl
+    ] refl
+    ∙ sym (get-remove nat_list_cmp_total m k a))
+
+pub mapped_none : {A B : Type 0} (f : A → B) (o : Option A) → is_some (option_map f o) ≡ false → o ≡ None
+mapped_none f None e = refl
+mapped_none f (Some x) e = absurd (false≢true (sym e))
+
+pub values_empty-len : (m : Values) (n : ℕ) → n ≡ len m → (n == 0 ≡ true) ↔ (m ≡ empty)
+values_empty-len m n is = ((λ t. empty_of_len m (sym is ∙ eqb-true n 0 t)), (λ none. eq-eqb n 0 (is ∙ ap (λ x. len x) none ∙ len-empty byte_cmp (List ℕ))))
+
+-- ---- how many keys there can be
+
+len-less : (b : Bool) (n : ℕ) → cond b (n - 1) n ≤ n + 1
+len-less true n = omega arith
+len-less false n = omega arith
+
+len-more : (b : Bool) (n : ℕ) → cond b n (n + 1) ≤ n + 1
+len-more true n = omega arith
+len-more false n = omega arith
+
+len-with_value : (m : Values) (k : List ℕ) (v : Option (List ℕ)) → len (with_value m k v) ≤ len m + 1
+len-with_value m k None = let one = len-remove nat_list_cmp_total m k in let less = len-less (is_some (get m k)) (len m) in omega (arith, one, less)
+len-with_value m k (Some v) = let one = len-insert nat_list_cmp_total m k v in let more = len-more (is_some (get m k)) (len m) in omega (arith, one, more)
+
+pub len-after_records : (rs : List Entry) (m : Values) → len (fold after_record m rs) ≤ len m + length rs
+len-after_records [] m = omega arith
+len-after_records (r ∷ rs) m =
+    let rest = len-after_records rs (after_record m r) in
+    let one = len-with_value m r.key r.value in
+    omega (arith, rest, one)
+
+length-encoded_all : (rs : List Entry) → length rs ≤ length (flat_map encoded rs)
+length-encoded_all [] = omega arith
+length-encoded_all (r ∷ rs) =
+    let rest = length-encoded_all rs in
+    let some : 1 ≤ length (encoded r) = omega arith in
+    let all = length-append (encoded r) (flat_map encoded rs) in
+    omega (arith, rest, some, all)
+
+pub refusal-Memory : {K : Type 0} (cmp : K → K → Ordering) (front : List ℕ) (s : View K ℕ) → Indexes cmp front s → length front < 2 ^ 64 - 1 → refusal_of (growth_fault_in s) ≡ fault.Memory
+refusal-Memory cmp front s h short =
+    let few = len-after_records (records_of front) empty in
+    let bytes = length-encoded_all (records_of front) in
+    let none = len-empty byte_cmp (List ℕ) in
+    let same = ap (λ l. length l) h.spelled in
+    ap (λ b. refusal_of (if b then index_fault.Full else index_fault.Memory)) (ne_eqb (items_in s) (2 ^ 64 - 1) (λ e. omega (arith, e, h.counted, few, bytes, none, same, short)))
