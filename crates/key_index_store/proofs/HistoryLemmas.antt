@@ -2,14 +2,13 @@
 --     may_stay      a crash may leave all that the file holds
 --     Grown         what writes at the end have made of a file, so far
 --     Grown-more    one more of them
-use Rattle.std.proofs.Common.{◌≡◌, ◌⊎◌, ℕ, ◌+◌, ◌-◌, ◌<◌, ◌≤◌, Bool, true, cond, List, [], ◌∷◌, ◌++◌, length, take, drop, Some, None, inl, inr, refl, sym, ap, ◌∙◌, subst, append_assoc, take_all, length-append, length-take, length-drop, arith}
+use Rattle.std.proofs.Common.{◌≡◌, ◌⊎◌, ℕ, ◌+◌, ◌≤◌, true, List, [], ◌∷◌, ◌++◌, length, take, drop, inl, inr, refl, sym, ap, ◌∙◌, subst, append_assoc, take_all, length-append, length-take, arith}
 use Rattle.std.proofs.lemmas.Bool.{and_parts, cases_lt}
 use Rattle.std.proofs.lemmas.List.{append-nil, take-take}
 use Rattle.std.proofs.Math.Seq.{take-add, take-append_seam, take-length}
 use Rattle.std.proofs.Math.ListN.{drop_of_length-le}
-use Rattle.key_index_store.specs.Device.{AddsAtMost, Changes}
-use Rattle.key_index_store.specs.History.{Noted, filled, overlaid, content, all_agree, seen_after, left_by, may_leave_after}
-use Rattle.key_index_store.specs.declared.history.Call.{Call}
+use Rattle.key_index_store.specs.Device.{AddsAtMost}
+use Rattle.key_index_store.specs.History.{Noted, filled, overlaid, content, all_agree, may_leave_after}
 use Rattle.key_index_store.specs.declared.history.Call.TheVariants.{Told, Gave, Took, Cut, Synced}
 
 pub may_stay : (first : List ℕ) (calls : List Noted) → may_leave_after first calls (content first calls)
@@ -40,9 +39,6 @@ pub record Grown (first : List ℕ) (position : ℕ) (bytes : List ℕ) (done : 
   pub agree : all_agree first now ≡ true → all_agree first before ≡ true
   pub more : position ≡ length (content first before) → content first now ≡ content first before ++ take done bytes
   pub left : position ≡ length (content first before) → AddsAtMost (content first before) bytes (may_leave_after first before) (may_leave_after first now)
-
-pub Grown-none : (first : List ℕ) (position : ℕ) (bytes : List ℕ) (calls : List Noted) → Grown first position bytes 0 calls calls
-Grown-none first position bytes calls = record { within = omega arith; agree = λ h. h; more = λ at. sym (append-nil _); left = λ at c may. inl may }
 
 module _ (first : List ℕ) (position : ℕ) (bytes : List ℕ) (done : ℕ) (before now : List Noted) (g : Grown first position bytes done before now) (at : position ≡ length (content first before)) where
   abbrev old : List ℕ

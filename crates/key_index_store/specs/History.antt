@@ -4,8 +4,10 @@
 --     after_call         what a file holds after a call, by what it held before
 --     agrees             the answer of a call is that of a file that holds these bytes
 --     content            what it holds after all calls, by what it held first
---     seen_after         the same, while all answers agree
---     left_by            what a crash may leave after a call, by what the file held, and by what a crash might leave, before
+--     all_agree          each answer agrees with what the file held then
+--     seen_after         what it holds, while all answers agree
+--     left_by            what a crash may leave after a call, by what the file held, and by what a crash might leave, before it
+--     may_leave_after    what it may leave after all calls: at first, only what the file held
 use Rattle.std.specs.Prelude.{◌≡◌, ◌⊎◌, ℕ, ◌+◌, ◌-◌, ◌==◌, Bool, true, ◌&&◌, if◌then◌else◌, List, [], ◌∷◌, ◌++◌, length, take, drop, replicate, Option, Some, None}
 use Rattle.std.specs.Str.{bytes_eq}
 use Rattle.key_index_store.specs.declared.history.Call.{Call}

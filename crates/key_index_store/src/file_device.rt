@@ -3,7 +3,7 @@ ghost use Rattle.std.specs.Prelude.{◌≡◌, ◌<◌, ◌≤◌, List, ℕ, []
 
 use crate::device::{Device, Failed};
 use crate::history::{Call, History};
-use std::fs::{File, OpenFile};
+use std::fs::File;
 use std::io::{Error, ErrorKind};
 use std::marker::PhantomData;
 use std::os::unix::fs::FileExt;
@@ -11,13 +11,13 @@ use std::os::unix::fs::FileExt;
 /// How often a write that a signal interrupts is tried.
 const TRIES: usize = 100;
 
-/// What a file held as it was opened. No code can read it. What is proved over any `S: Start` is proved for all contents.
+/// What a file held when it was opened. Only clauses read it, so what is proved over any `S: Start` is proved for all contents.
 pub trait Start: Drop {
     /// Its bytes then.
     ghost first: { List ℕ };
 }
 
-/// For `main` to name, which does not know what the file held.
+/// For `main` to name, which knows of no bytes. At this type the clauses speak of a file that held none.
 #[derive(Drop)]
 pub struct Unknown;
 
@@ -25,9 +25,10 @@ impl Start for Unknown {
     ghost first = { [] };
 }
 
-/// A device over a file that held `S::first`, on the disk too. Its bytes are what the calls on the file make of that, and they are seen
-/// until a length or a read is not that of a file with these bytes. A call that fails is taken as one that did nothing: where it wrote
-/// all the same, only a later read can tell.
+/// A device over a file that held `S::first` when it was opened, and had that on the disk.
+///
+/// Its bytes are what the calls on the file make of `S::first`. They are seen until an answer, a length or the bytes of a read, is not
+/// that of a file which holds them. A call that fails is taken as one that did nothing: if it wrote all the same, a later read may tell.
 #[derive(Drop)]
 pub struct FileDevice<S: Start> {
     file: File,
@@ -102,7 +103,7 @@ impl<S: Start> Device for FileDevice<S> {
     }
 
     fn set_len(&mut self, len: u64) -> Result<(), Failed> {
-        OpenFile::set_len(&self.file, len).map_err(failed)?;
+        self.file.set_len(len).map_err(failed)?;
         self.history = self.history.and(&Call::Cut(len), &[]);
         Ok(())
     }
