@@ -4,4 +4,5 @@ pub mod IndexLemmas
 pub mod LogLemmas
 pub mod ReadLemmas
 pub mod RecordLemmas
+pub mod ReplayLemmas
 pub mod StoreLemmas

@@ -1,8 +1,5 @@
 -- On a store: what it holds before and after a call.
---     looked_up                  the value of a key, by the positions in the index
---     Indexes-written            after a record was appended and its position filed
---     left_front                 after a refused call
---     open_held, open_end        a log that is opened
+--     live_run                   the positions of a key are live
 --     remove_absent              a key without a value is taken out
 --     len-after_records          records leave no more keys than there are records
 --     refusal-Memory             so an index of the records of fewer bytes than `usize::MAX` is never full
@@ -24,13 +21,11 @@ use Rattle.key_index_flat.specs.declared.index.Fault.TheVariants as index_fault
 use Rattle.key_index_flat.proofs.content.ContentLemmas.{Equal-is_eq}
 use Rattle.key_index_store.specs.Indexed.{Indexes, IsLive, IsUnder, Settles, entry_at, value_in}
 use Rattle.key_index_store.specs.Record.{Entry, Fits, Stops, encoded, reading}
-use Rattle.key_index_store.specs.Stored.{LeavesLog, Stored, Values, after_record, opened, records_of, refusal_of, held_by, with_value}
+use Rattle.key_index_store.specs.Stored.{Values, after_record, records_of, refusal_of, held_by, with_value}
 use Rattle.key_index_store.specs.declared.store.Fault.{Fault}
 use Rattle.key_index_store.specs.declared.store.Fault.TheVariants as fault
 use Rattle.std.proofs.lemmas.Map.Lookups.{exact_bytes}
 use Rattle.key_index_flat.proofs.entries.EntryLemmas.{same}
-use Rattle.key_index_store.proofs.IndexLemmas.{IsAt, Indexes-filed}
-use Rattle.key_index_store.proofs.LogLemmas.{entries_there, held_more, live_more, spelled_records}
 
 module _ {K : Type 0} (cmp : K → K → Ordering) where
   -- the positions of a key are live

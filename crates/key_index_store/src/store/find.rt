@@ -102,6 +102,16 @@ pub(super) struct Found {
     pub(super) bytes: Vec<u8>,
 }
 
+/// Where the key was found.
+pub(super) fn place_of(found: &Option<Found>) -> Option<usize>
+    ensures { result ≡ option_map (λ f. f.place) found.now }
+{
+    match found {
+        Some(found) => Some(found.place),
+        None => None,
+    }
+}
+
 /// Looks positions up in the first `limit` bytes of a log, until the record of a key is found. A record that doesn't read is the one
 /// that is sought, for all that is known, unless another has the key.
 pub(super) fn find<D: Device>(

@@ -1,11 +1,11 @@
 //! The records of a log, filed in an index from the first one on.
-ghost use Rattle.std.specs.Prelude.{◌≡◌, ◌≤◌, ◌<◌, ◌+◌, ◌^◌, ℕ, List, Option, if◌then◌else◌, [], ◌++◌, length, take, drop, is_some, IfOk, IfErr, OnOk};
+ghost use Rattle.std.specs.Prelude.{◌≡◌, ◌≤◌, ◌<◌, ◌+◌, ◌^◌, ℕ, List, Option, if◌then◌else◌, [], ◌++◌, length, take, drop, is_some, IfOk, IfErr, OnOk, OnErr};
 ghost use Rattle.key_index_store.specs.Device.{IsRead, Sees};
-ghost use Rattle.key_index_store.specs.Indexed.{Indexes};
-ghost use Rattle.key_index_store.specs.Record.{Damaged, Fits, Torn, encoded, reading};
+ghost use Rattle.key_index_store.specs.Indexed.{Indexes, Keeps};
+ghost use Rattle.key_index_store.specs.Record.{Damaged, Fits, Stops, Torn, encoded, reading};
 ghost use Rattle.key_index_store.specs.Stored.{MayRead, is_zeros, tail_of};
 
-use super::find::{find, read_bytes, read_front};
+use super::find::{find, place_of, read_bytes, read_front};
 use super::{Fault, Tail, positions_of, settle};
 use crate::device::Device;
 use crate::record::{Reading, decode};
@@ -33,7 +33,7 @@ fn file<D: Device, I: Unordered<Value = u64>>(
         → Indexes I.Key.cmp (take position log) (I.view index.old) → IfErr result MayRead) }
 {
     let found = find(alloc, device, positions_of(index, key), key, position)?;
-    let place = found.map(|found| found.place);
+    let place = place_of(&found);
     settle(index, key, has_value, place, position)
 }
 
@@ -118,4 +118,65 @@ fn tail_at<D: Device>(
         return Ok(Tail::Torn);
     }
     Ok(Tail::Damaged)
+}
+
+/// Files the record that begins at a position, where it is longer than a block. Gives how many bytes it takes, or what stands there.
+fn file_one<D: Device, I: Unordered<Value = u64>>(
+    alloc: Global,
+    device: &mut D,
+    index: &mut I,
+    end: u64,
+    len: u64,
+) -> Result<Result<u64, Tail>, Fault>
+    requires { end < len }
+    ensures indexed { Sees (D.seen device.new) (λ log. len ≡ length log
+        → Indexes I.Key.cmp (take end log) (I.view index.old)
+        → IfOk result (λ r. IfOk r (λ n. Indexes I.Key.cmp (take (end + n) log) (I.view index.new)))) }
+    ensures within { IfOk result (λ r. IfOk r (λ n. (0 < n) × (end + n ≤ len))) }
+    ensures tail { Sees (D.seen device.new) (λ log. len ≡ length log → IfOk result (λ r. IfErr r (λ t.
+        (t ≡ tail_of (drop end log)) × Stops (reading (drop end log))))) }
+    ensures same { IfOk result (λ r. OnErr r (I.view index.new ≡ I.view index.old)) }
+    ensures read { IsRead D.seen D.may_leave device.old device.new }
+    ensures fault { Sees (D.seen device.new) (λ log. len ≡ length log
+        → Indexes I.Key.cmp (take end log) (I.view index.old) → IfErr result MayRead) }
+{
+    let bytes = read_front(alloc, device, end, len, true)?;
+    let is_torn = match decode(bytes.as_slice()) {
+        Reading::Complete(record) => {
+            file(alloc, device, index, record.key, record.value.is_some(), end)?;
+            return Ok(Ok(record.length()));
+        }
+        Reading::Torn => true,
+        Reading::Damaged => false,
+    };
+    Ok(Err(tail_at(alloc, device, end, len, is_torn)?))
+}
+
+/// Files the complete records of a log, the oldest first. Gives how many bytes they take, and what stands behind them.
+pub(super) fn replay<D: Device, I: Unordered<Value = u64>>(
+    alloc: Global,
+    device: &mut D,
+    index: &mut I,
+) -> Result<(u64, Tail), Fault>
+    requires { (I.view index.old).content ≡ [] }
+    ensures kept { Sees (D.seen device.new) (λ log. IfOk result (λ r. Keeps I.Key.cmp log (I.view index.new) r.0 r.1)) }
+    ensures exact { Sees (D.seen device.new) (λ log. IfOk result (λ r. r.1 ≡ tail_of (drop r.0 log))) }
+    ensures read { IsRead D.seen D.may_leave device.old device.new }
+    ensures fault { Sees (D.seen device.new) (λ log. IfErr result MayRead) }
+{
+    let len = device.len().map_err(|_| Fault::ReadFailed)?;
+    let mut end = 0;
+    while end < len {
+        let block = read_bytes(alloc, device, end, (len - end).min(BLOCK))?;
+        let filed = file_all(alloc, device, index, block.as_slice(), end)?;
+        if filed != 0 {
+            end += filed;
+            continue;
+        }
+        match file_one(alloc, device, index, end, len)? {
+            Ok(filed) => end += filed,
+            Err(tail) => return Ok((end, tail)),
+        }
+    }
+    Ok((end, Tail::Nothing))
 }

@@ -1,6 +1,5 @@
 use Rattle.std.proofs.Common.{not, ap, ◌∙◌}
 use Rattle.key_index_store.proofs.IndexLemmas.{after_insert-Settles, one_there, some_none, KeepsLists-undone}
-use Rattle.key_index_store.proofs.RecordLemmas.{if_err_never}
 use Rattle.key_index_store.proofs.store.write.Goals as goal
 
 pub withdraw-requires : goal.withdraw-requires
@@ -17,5 +16,3 @@ returns-then-is_err-clause-refused g c =
     let is = after_insert-Settles g.I.Key.Ord.cmp g.I.Unordered.INSERT_FIRST s t c.args.key.now c.args.position c.args.has_value c.args.place (c.is_none.ensures ∙ ap not c.if-is_none.true) c.requires.known c.in_ok-settle.ensures.settled in
     KeepsLists-undone g.met.I.Key.Ord.total g.met.I.Runs.exact g.I.Unordered.INSERT_FIRST s t c.args.key.now c.args.position (g.met.I.Runs.lawful c.args.index.now) is _ c.withdraw.ensures
 
-pub returns-clause-left : goal.returns-clause-left
-returns-clause-left g c = λ h. if_err_never _ c.settle-2.result (λ none. some_none _ (c.is_none.ensures ∙ ap not c.if-is_none.false) none) c.settle-2.ensures.sure
