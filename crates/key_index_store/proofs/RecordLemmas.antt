@@ -366,6 +366,12 @@ IsFound-reading bytes Damaged are e = tt
 
 -- ---- a record in a longer log
 
+pub found_front : (a b : List ℕ) (r : Entry) → IsFound a (Complete r) → IsFound (a ++ b) (Complete r)
+found_front a b r h =
+    let n = length (encoded r) in
+    let long : n ≤ length a = omega (arith, ap (λ l. length l) h.1, length-append (encoded r) (drop n a)) in
+    (h.0, ap (λ l. l ++ b) h.1 ∙ append_assoc (encoded r) (drop n a) b ∙ ap (λ l. encoded r ++ l) (sym (drop-append-le n a b long)))
+
 pub within_found : (n : ℕ) (a : List ℕ) (o : Outcome) → IsFound a o → length a ≤ n → IsWithin n o
 within_found n a (Complete r) h le = (h.0, omega (arith, ap (λ l. length l) h.1, length-append (encoded r) (drop (length (encoded r)) a), le))
 within_found n a Torn h le = tt

@@ -2,11 +2,14 @@
 --     zeros_split     zeros in a block, and behind it
 --     found_place     a record that is found in a block stands in the log
 --     one_more        and the log up to its end is the log in front of it, with it
-use Rattle.std.proofs.Common.{◌≡◌, ℕ, ◌+◌, ◌-◌, ◌≤◌, ◌==◌, ◌&&◌, Bool, true, false, List, [], ◌∷◌, ◌++◌, length, take, drop, refl, sym, ap, subst, ◌∙◌, append_assoc, length-append, length-drop, length-take, take-append-drop, arith}
-use Rattle.std.proofs.lemmas.List.{drop-append-le, drop-drop}
-use Rattle.key_index_store.specs.Record.{Complete, Entry, IsFound, encoded}
-use Rattle.key_index_store.specs.Stored.{is_zeros}
+use Rattle.std.proofs.Common.{◌≡◌, ℕ, ◌+◌, ◌-◌, ◌≤◌, ◌==◌, ◌&&◌, Bool, true, false, cond, List, [], ◌∷◌, ◌++◌, length, take, drop, refl, sym, ap, subst, ◌∙◌, append_assoc, length-append, length-drop, length-take, take-append-drop, arith}
+use Rattle.std.proofs.lemmas.List.{drop-append-le, drop-drop, take_all}
+use Rattle.key_index_store.specs.Record.{Complete, Damaged, Entry, IsFound, Outcome, Stops, Torn, encoded, reading}
+use Rattle.key_index_store.specs.Stored.{IsTail, is_zeros, tail_by, tail_of}
+use Rattle.key_index_store.specs.declared.store.Tail.{Tail}
+use Rattle.key_index_store.specs.declared.store.Tail.TheVariants as tail
 use Rattle.key_index_store.proofs.LogLemmas.{one_read}
+use Rattle.key_index_store.proofs.RecordLemmas.{found_front}
 
 and_assoc : (a b c : Bool) → (a && (b && c)) ≡ ((a && b) && c)
 and_assoc true b c = refl
@@ -61,3 +64,33 @@ module _ (log bytes : List ℕ) (position : ℕ) (block : bytes ≡ take (length
 
     pub one_more : take (place rest + length (encoded r)) log ≡ take (place rest) log ++ encoded r
     one_more = one_read log (place rest) r (omega (arith, length-take (place rest) log, place-within)) found_place
+
+-- a record that is read by itself
+module _ (log v : List ℕ) (end len : ℕ) (r : Entry) (whole : len ≡ length log) (front : v ≡ take (length v) (drop end (take len log))) (found : IsFound v (Complete r)) where
+  pub found_whole : IsFound (drop end log) (Complete r)
+  found_whole =
+      let x = drop end (take len log) in
+      let all : take len log ≡ log = take_all len log (omega (arith, whole)) in
+      let longer : v ++ drop (length v) x ≡ x = ap (λ l. l ++ drop (length v) x) front ∙ take-append-drop (length v) x in
+      subst (λ l. IsFound l (Complete r)) (longer ∙ ap (drop end) all) (found_front v (drop (length v) x) r found)
+
+  pub one_whole : end ≤ len → take (end + length (encoded r)) log ≡ take end log ++ encoded r
+  one_whole le = one_read log end r (omega (arith, length-take end log, whole, le)) found_whole
+
+-- what a block is, as the code has it
+pub block-is : (log : List ℕ) (end n : ℕ) (v slice : List ℕ) → slice ≡ v → v ≡ take n (drop end log) → length v ≡ n → slice ≡ take (length slice) (drop end log)
+block-is log end n v slice value told counted =
+    value ∙ told ∙ ap (λ m. take m (drop end log)) (sym counted ∙ ap (λ l. length l) (sym value))
+
+-- a tail that is told is one that the store may keep
+not_nothing : (z : Bool) (o : Outcome) → Stops o → ¬ (tail.Nothing ≡ cond z tail.Torn (tail_by o))
+not_nothing true o stops is = cc
+not_nothing false (Complete r) stops is = stops
+not_nothing false Torn stops is = cc
+not_nothing false Damaged stops is = cc
+
+pub told-IsTail : (t : Tail) (rest : List ℕ) → t ≡ tail_of rest → Stops (reading rest) → IsTail t rest
+told-IsTail tail.Nothing [] is stops = refl
+told-IsTail tail.Nothing (b ∷ rest) is stops = absurd (not_nothing (is_zeros (b ∷ rest)) (reading (b ∷ rest)) stops is)
+told-IsTail tail.Torn rest is stops = λ damaged. (let both = is ∙ damaged in cc)
+told-IsTail tail.Damaged rest is stops = sym is

@@ -7,8 +7,9 @@
 --     gap_in              of a key without a value both of them
 --     entries_behind      the entries with keys above one, or all where none is given
 --     in_bytes            an entry that the code has
---     with_record         after a record was appended, in the place of what stands behind the complete ones
---     IsBeforeOrAfter     a log of the same map as before a record was appended, or as after it
+--     without_tail, with_record  without what stands behind the complete records;  and with one more record
+--     IsBeforeOrAfter, LeavesBeforeOrAfter  a log of the same map as before a record was appended, or as after it;  what a crash leaves
+--     IsRefused           after a call was refused that would have appended a record
 --     MayRead, MayRefuse  why a call may be refused
 --     compacted           a log that has a record of each entry of a map, in the order of the keys, and nothing else
 --     tail_in, IsTail     what stands behind the last complete record;  what a store knows of that
@@ -21,6 +22,7 @@ use Rattle.key_index_flat.specs.FullKeys.{byte_cmp}
 use Rattle.key_index_flat.specs.Neighbours.{entries_above, entries_below, first_entry, last_entry}
 use Rattle.key_index_flat.specs.declared.index.Fault as index
 use Rattle.key_index_flat.specs.declared.index.Fault.TheVariants as index_fault
+use Rattle.key_index_store.specs.Device.{IsBegun}
 use Rattle.key_index_store.specs.declared.store.Fault.{Fault}
 use Rattle.key_index_store.specs.declared.store.Fault.TheVariants as fault
 use Rattle.key_index_store.specs.declared.store.Tail.{Tail}
@@ -75,12 +77,23 @@ entries_behind (Some key) m = entries_above byte_cmp (entries m) key
 abbrev pub in_bytes : Option (Vec ℕ Global × Vec ℕ Global) → Option (List ℕ × List ℕ)
 in_bytes o = option_map (λ e. (e.0.items, e.1.items)) o
 
-abbrev pub with_record : List ℕ → Entry → List ℕ
-with_record log r = take (end_of log) log ++ encoded r
+abbrev pub without_tail : List ℕ → List ℕ
+without_tail log = take (end_of log) log
 
-pub data IsBeforeOrAfter (old : List ℕ) (r : Entry) (log : List ℕ) : Type 0 where
-  before : held_by log ≡ held_by old → IsBeforeOrAfter old r log
-  after : held_by log ≡ after_record (held_by old) r → IsBeforeOrAfter old r log
+abbrev pub with_record : List ℕ → Entry → List ℕ
+with_record log r = without_tail log ++ encoded r
+
+-- the same map as before, or the one with the record
+abbrev pub IsBeforeOrAfter : List ℕ → Entry → List ℕ → Type 0
+IsBeforeOrAfter old r log = (held_by log ≡ held_by old) ⊎ (held_by log ≡ after_record (held_by old) r)
+
+-- a crash leaves what it might have left before, or one of these
+abbrev pub LeavesBeforeOrAfter : List ℕ → Entry → (List ℕ → Type 0) → (List ℕ → Type 0) → Type 0
+LeavesBeforeOrAfter old r before after = (c : List ℕ) → after c → before c ⊎ IsBeforeOrAfter old r c
+
+-- the records stay, and a part of the new one may stand behind them
+abbrev pub IsRefused : List ℕ → Entry → List ℕ → Type 0
+IsRefused old r new = (held_by new ≡ held_by old) × ((new ≡ old) ⊎ IsBegun (encoded r) (without_tail old) new)
 
 -- the record of an entry
 abbrev pub put_of : List ℕ × List ℕ → Entry

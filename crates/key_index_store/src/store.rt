@@ -7,13 +7,16 @@ ghost use Rattle.key_index_flat.specs.View.{growth_fault_in, run_of, with_edit, 
 ghost use Rattle.key_index_store.specs.Device.{AddsAtMost, Changes, IsBegun, IsRead, NoMore, Sees, Stays};
 ghost use Rattle.key_index_store.specs.Indexed.{Indexes, IsLive, Keeps, KeepsLists, Settles, without_newest};
 ghost use Rattle.key_index_store.specs.Record.{Complete, Entry, Fits, IsFound, IsWithin, Stops, encoded, entry_of, outcome_of, reading};
-ghost use Rattle.key_index_store.specs.Stored.{IsBeforeOrAfter, MayRead, MayRefuse, refusal_of, end_of, held_by, is_zeros, tail_in, tail_of, with_record, with_value};
+ghost use Rattle.key_index_store.specs.Stored.{IsRefused, IsTail, LeavesBeforeOrAfter, MayRead, MayRefuse, refusal_of, end_of, held_by, is_zeros, tail_in, tail_of, with_record, with_value, without_tail};
 
 mod find;
 mod replay;
 
 use crate::device::Device;
+use crate::record::encode;
+use find::{find, place_of, read_value};
 use key_index_flat::index::{self, Refused, Unordered, Values};
+use replay::replay;
 use std::alloc::{AllocError, Global};
 use std::marker::Model;
 
@@ -173,3 +176,242 @@ fn write<D: Device, I: Unordered<Value = u64>>(
     settle(index, key, has_value, place, position)
 }
 
+/// A log that can't be opened, with the device.
+#[derive(Debug, Drop)]
+pub struct NotOpened<D: Drop> {
+    pub fault: Fault,
+    pub device: D,
+}
+
+impl<D: Drop> From<NotOpened<D>> for Fault {
+    ghost from_gives = { λ refused fault. fault ≡ refused.fault };
+
+    fn from(refused: NotOpened<D>) -> Fault {
+        refused.fault
+    }
+}
+
+impl<D: Device, I: Unordered<Value = u64>> Store<D, I> {
+    /// A store on a log, over an empty index. It reads the log once, from its front, and nothing behind the first place where no whole
+    /// record stands, but to tell zeros. No byte of the log is changed.
+    pub fn open(alloc: Global, mut device: D, mut index: I) -> Result<Store<D, I>, NotOpened<D>>
+    where
+        D: Drop,
+        I: Drop,
+        requires { (I.view index).content ≡ [] }
+        ensures read { IfOk result (λ store. IsRead D.seen D.may_leave device store) }
+        ensures refused { IfErr result (λ e. IsRead D.seen D.may_leave device e.device) }
+        ensures fault { IfErr result (λ e. Sees (D.seen e.device) (λ log. MayRead e.fault)) }
+    {
+        match replay(alloc, &mut device, &mut index) {
+            Ok((end, tail)) => Ok(Store {
+                alloc,
+                device,
+                index,
+                end,
+                tail,
+            }),
+            Err(fault) => Err(NotOpened { fault, device }),
+        }
+    }
+
+    /// How many keys have a value. It reads nothing.
+    pub fn len(&self) -> usize
+        ensures { Sees (D.seen self.now) (λ log. result ≡ map.len (held_by log)) }
+    {
+        self.index.items()
+    }
+
+    pub fn is_empty(&self) -> bool
+        ensures { Sees (D.seen self.now) (λ log. IsTrue result ↔ (held_by log ≡ map.empty)) }
+    {
+        self.len() == 0
+    }
+
+    /// How many bytes of the log its complete records take.
+    pub fn end(&self) -> u64
+        ensures { Sees (D.seen self.now) (λ log. result ≡ end_of log) }
+    {
+        self.end
+    }
+
+    /// What stands behind them. After a write that failed, nothing may stand where `Torn` is told.
+    pub fn tail(&self) -> Tail
+        ensures { Sees (D.seen self.now) (λ log. IsTail result (drop (end_of log) log)) }
+    {
+        self.tail
+    }
+
+    /// The value of a key, copied.
+    pub fn get(&mut self, key: &[u8]) -> Result<Option<Vec<u8>>, Fault>
+        ensures value { Sees (D.seen self.new) (λ log. IfOk result (λ o.
+            option_map (λ v. v.items) o ≡ map.get (held_by log) key.now)) }
+        ensures read { IsRead D.seen D.may_leave self.old self.new }
+        ensures fault { Sees (D.seen self.new) (λ log. IfErr result MayRead) }
+    {
+        let (alloc, end) = (self.alloc, self.end);
+        let positions = positions_of(&self.index, key);
+        let Some(found) = find(alloc, &mut self.device, positions, key, end)? else {
+            return Ok(None);
+        };
+        let front = found.bytes.as_slice();
+        let value = read_value(alloc, &mut self.device, found.position, end, front)?;
+        Ok(Some(value))
+    }
+
+    /// Whether a key has a value, which isn't read.
+    pub fn contains_key(&mut self, key: &[u8]) -> Result<bool, Fault>
+        ensures held { Sees (D.seen self.new) (λ log. IfOk result (λ has.
+            has ≡ is_some (map.get (held_by log) key.now))) }
+        ensures read { IsRead D.seen D.may_leave self.old self.new }
+        ensures fault { Sees (D.seen self.new) (λ log. IfErr result MayRead) }
+    {
+        let (alloc, end) = (self.alloc, self.end);
+        let positions = positions_of(&self.index, key);
+        let found = find(alloc, &mut self.device, positions, key, end)?;
+        Ok(found.is_some())
+    }
+
+    /// Sets the value of a key, by a record behind the others. A key and a value have fewer than 2^32 bytes each. Where it is refused,
+    /// the log stands for the same map as before, so that the value doesn't come back when it is opened again.
+    pub fn put(&mut self, key: &[u8], value: &[u8]) -> Result<(), Fault>
+        ensures set { OnOk result (Changes (D.seen self.old) (D.seen self.new) (λ old new.
+            held_by new ≡ map.insert (held_by old) key.now value.now)) }
+        ensures logged { OnOk result (Changes (D.seen self.old) (D.seen self.new) (λ old new.
+            new ≡ with_record old (record { key = key.now; value = Some value.now }))) }
+        ensures undamaged { OnOk result (Changes (D.seen self.old) (D.seen self.new) (λ old new.
+            tail_in old ≢ Tail.Damaged)) }
+        ensures refused { OnErr result (Changes (D.seen self.old) (D.seen self.new) (λ old new.
+            IsRefused old (record { key = key.now; value = Some value.now }) new)) }
+        ensures crash { (old : List ℕ) → D.seen self.old ≡ Some old → LeavesBeforeOrAfter old
+            (record { key = key.now; value = Some value.now }) (D.may_leave self.old) (D.may_leave self.new) }
+        ensures fault { IfErr result (λ f. Changes (D.seen self.old) (D.seen self.new) (λ old new.
+            MayRefuse old (record { key = key.now; value = Some value.now }) f)) }
+    {
+        if key.len() > u32::MAX as usize || value.len() > u32::MAX as usize {
+            return Err(Fault::TooLong);
+        }
+        self.change(key, Some(value))?;
+        Ok(())
+    }
+
+    /// Removes a key, and tells whether it had a value. A key without a value needs no record, and gets none.
+    pub fn delete(&mut self, key: &[u8]) -> Result<bool, Fault>
+        ensures removed { OnOk result (Changes (D.seen self.old) (D.seen self.new) (λ old new.
+            held_by new ≡ map.remove (held_by old) key.now)) }
+        ensures was_there { IfOk result (λ had. Changes (D.seen self.old) (D.seen self.new) (λ old new.
+            had ≡ is_some (map.get (held_by old) key.now))) }
+        ensures logged { IfOk result (λ had. Changes (D.seen self.old) (D.seen self.new) (λ old new.
+            new ≡ (if had then with_record old (record { key = key.now; value = None }) else without_tail old))) }
+        ensures undamaged { OnOk result (Changes (D.seen self.old) (D.seen self.new) (λ old new.
+            tail_in old ≢ Tail.Damaged)) }
+        ensures refused { OnErr result (Changes (D.seen self.old) (D.seen self.new) (λ old new.
+            IsRefused old (record { key = key.now; value = None }) new)) }
+        ensures crash { (old : List ℕ) → D.seen self.old ≡ Some old → LeavesBeforeOrAfter old
+            (record { key = key.now; value = None }) (D.may_leave self.old) (D.may_leave self.new) }
+        ensures fault { IfErr result (λ f. Changes (D.seen self.old) (D.seen self.new) (λ old new.
+            MayRefuse old (record { key = key.now; value = None }) f)) }
+    {
+        if key.len() > u32::MAX as usize {
+            return Err(Fault::TooLong);
+        }
+        self.change(key, None)
+    }
+
+    /// Cuts a torn record off, and refuses where something else stands behind the whole ones.
+    fn make_room(&mut self) -> Result<(), Fault>
+        ensures cut { OnOk result (Changes (D.seen self.old) (D.seen self.new) (λ old new.
+            (new ≡ without_tail old) × (tail_in old ≢ Tail.Damaged))) }
+        ensures refused { OnErr result (Stays (D.seen self.old) (D.seen self.new)) }
+        ensures crash { (old c : List ℕ) → D.seen self.old ≡ Some old → D.may_leave self.new c
+            → D.may_leave self.old c ⊎ ((tail_in old ≢ Tail.Damaged) × (c ≡ without_tail old)) }
+        ensures fault { IfErr result (λ f. Sees (D.seen self.new) (λ log.
+            (f ≡ Fault.WriteFailed) ⊎ ((f ≡ Fault.Damaged) × (tail_in log ≡ Tail.Damaged)))) }
+    {
+        match self.tail {
+            Tail::Nothing => Ok(()),
+            Tail::Torn => self.cut_tail(),
+            Tail::Damaged => Err(Fault::Damaged),
+        }
+    }
+
+    /// Sets the value of a key, or removes the key where none is given, and tells whether it had one.
+    fn change(&mut self, key: &[u8], value: Option<&[u8]>) -> Result<bool, Fault>
+        requires { Fits (record { key = key.now; value = option_map (λ v. v.now) value }) }
+        ensures logged { IfOk result (λ had. Changes (D.seen self.old) (D.seen self.new) (λ old new.
+            new ≡ (if is_some value.entry || had
+            then with_record old (record { key = key.now; value = option_map (λ v. v.now) value.entry }) else without_tail old))) }
+        ensures was_there { IfOk result (λ had. Changes (D.seen self.old) (D.seen self.new) (λ old new.
+            had ≡ is_some (map.get (held_by old) key.now))) }
+        ensures changed { OnOk result (Changes (D.seen self.old) (D.seen self.new) (λ old new.
+            held_by new ≡ with_value (held_by old) key.now (option_map (λ v. v.now) value.entry))) }
+        ensures undamaged { OnOk result (Changes (D.seen self.old) (D.seen self.new) (λ old new.
+            tail_in old ≢ Tail.Damaged)) }
+        ensures refused { OnErr result (Changes (D.seen self.old) (D.seen self.new) (λ old new.
+            IsRefused old (record { key = key.now; value = option_map (λ v. v.now) value.entry }) new)) }
+        ensures crash { (old : List ℕ) → D.seen self.old ≡ Some old → LeavesBeforeOrAfter old
+            (record { key = key.now; value = option_map (λ v. v.now) value.entry })
+            (D.may_leave self.old) (D.may_leave self.new) }
+        ensures fault { IfErr result (λ f. Changes (D.seen self.old) (D.seen self.new) (λ old new.
+            MayRefuse old (record { key = key.now; value = option_map (λ v. v.now) value.entry }) f)) }
+    {
+        self.make_room()?;
+        let (alloc, end) = (self.alloc, self.end);
+        let positions = positions_of(&self.index, key);
+        let found = find(alloc, &mut self.device, positions, key, end)?;
+        let place = place_of(&found);
+        if value.is_none() && place.is_none() {
+            return Ok(false);
+        }
+        let bytes = encode(alloc, key, value)?;
+        let Some(longer) = end.checked_add(bytes.len() as u64) else {
+            return Err(Fault::WriteFailed);
+        };
+        let has_value = value.is_some();
+        let (device, index) = (&mut self.device, &mut self.index);
+        if let Err(fault) = write(device, index, key, has_value, place, end, bytes.as_slice()) {
+            self.tail = Tail::Torn;
+            return Err(fault);
+        }
+        self.end = longer;
+        Ok(place.is_some())
+    }
+
+    /// Cuts off what stands behind the last whole record, from the first place where none stands to the end of the log. Calls that
+    /// write are then answered again.
+    pub fn cut_tail(&mut self) -> Result<(), Fault>
+        ensures cut { OnOk result (Changes (D.seen self.old) (D.seen self.new) (λ old new. new ≡ without_tail old)) }
+        ensures held { Changes (D.seen self.old) (D.seen self.new) (λ old new. held_by new ≡ held_by old) }
+        ensures refused { OnErr result (Stays (D.seen self.old) (D.seen self.new)) }
+        ensures crash { (old c : List ℕ) → D.seen self.old ≡ Some old → D.may_leave self.new c
+            → D.may_leave self.old c ⊎ (c ≡ without_tail old) }
+        ensures fault { IfErr result (λ f. f ≡ Fault.WriteFailed) }
+    {
+        if self.device.set_len(self.end).is_err() {
+            return Err(Fault::WriteFailed);
+        }
+        self.tail = Tail::Nothing;
+        Ok(())
+    }
+
+    /// Forces what was written to the disk: whatever crash comes, until the next call that writes, leaves this log.
+    pub fn sync(&mut self) -> Result<(), Fault>
+        ensures durable { OnOk result (Sees (D.seen self.new) (λ log. NoMore (λ c. c ≡ log) (D.may_leave self.new))) }
+        ensures read { IsRead D.seen D.may_leave self.old self.new }
+        ensures fault { IfErr result (λ f. f ≡ Fault.WriteFailed) }
+    {
+        match self.device.sync() {
+            Ok(()) => Ok(()),
+            Err(_) => Err(Fault::WriteFailed),
+        }
+    }
+
+    /// The device, to be opened anew.
+    pub fn into_device(self) -> D
+    where
+        I: Drop,
+        ensures { result ≡ self }
+    {
+        self.device
+    }
+}

@@ -1,5 +1,5 @@
 //! Reads of records, and the search of a key among positions.
-ghost use Rattle.std.specs.Prelude.{◌≡◌, ◌≤◌, ◌<◌, ◌^◌, ℕ, List, length, take, drop, slice_get, true, Some, All, IfSome, IfOk, IfErr, IsTrue, option_map};
+ghost use Rattle.std.specs.Prelude.{◌≡◌, ◌≤◌, ◌<◌, ◌^◌, ◌-◌, ℕ, List, length, take, drop, slice_get, true, Some, All, IfSome, IfOk, IfErr, IsTrue, option_map};
 ghost use Rattle.key_index_store.specs.Device.{IsRead, Sees};
 ghost use Rattle.key_index_store.specs.Indexed.{IsAt, IsLive, entry_at, match_of};
 ghost use Rattle.key_index_store.specs.Reads.{wanted};
@@ -61,6 +61,7 @@ pub(super) fn read_front<D: Device>(
         v.items ≡ take (length v.items) (drop position (take limit log)))) }
     ensures key { Sees (D.seen device.new) (λ log. limit ≤ length log → IfOk result (λ v.
         key_in v.items ≡ key_in (drop position (take limit log)))) }
+    ensures within { IfOk result (λ v. length v.items ≤ limit - position) }
     ensures whole { is_whole ≡ true → Sees (D.seen device.new) (λ log. limit ≤ length log → IfOk result (λ v.
         reading v.items ≡ reading (drop position (take limit log)))) }
     ensures read { IsRead D.seen D.may_leave device.old device.new }

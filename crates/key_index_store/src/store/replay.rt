@@ -152,6 +152,18 @@ fn file_one<D: Device, I: Unordered<Value = u64>>(
     Ok(Err(tail_at(alloc, device, end, len, is_torn)?))
 }
 
+/// How many bytes a log has.
+pub(super) fn length_of<D: Device>(device: &mut D) -> Result<u64, Fault>
+    ensures told { Sees (D.seen device.new) (λ log. IfOk result (λ n. n ≡ length log)) }
+    ensures read { IsRead D.seen D.may_leave device.old device.new }
+    ensures fault { IfErr result MayRead }
+{
+    match device.len() {
+        Ok(len) => Ok(len),
+        Err(_) => Err(Fault::ReadFailed),
+    }
+}
+
 /// Files the complete records of a log, the oldest first. Gives how many bytes they take, and what stands behind them.
 pub(super) fn replay<D: Device, I: Unordered<Value = u64>>(
     alloc: Global,
@@ -164,7 +176,7 @@ pub(super) fn replay<D: Device, I: Unordered<Value = u64>>(
     ensures read { IsRead D.seen D.may_leave device.old device.new }
     ensures fault { Sees (D.seen device.new) (λ log. IfErr result MayRead) }
 {
-    let len = device.len().map_err(|_| Fault::ReadFailed)?;
+    let len = length_of(device)?;
     let mut end = 0;
     while end < len {
         let block = read_bytes(alloc, device, end, (len - end).min(BLOCK))?;
