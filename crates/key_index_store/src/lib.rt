@@ -2,6 +2,7 @@
 #![tactic(auto)]
 
 pub mod checksum;
+pub mod crashes;
 pub mod device;
 pub mod file_device;
 mod history;
