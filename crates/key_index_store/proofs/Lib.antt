@@ -1,4 +1,5 @@
 pub mod ChecksumLemmas
+pub mod HeaderLemmas
 pub mod HistoryLemmas
 pub mod IndexLemmas
 pub mod LogLemmas

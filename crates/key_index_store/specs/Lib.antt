@@ -1,6 +1,7 @@
 pub mod Checksum
 pub mod Device
 pub mod FileDevice
+pub mod Header
 pub mod History
 pub mod Indexed
 pub mod MemoryDevice

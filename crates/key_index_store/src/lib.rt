@@ -4,6 +4,7 @@
 pub mod checksum;
 pub mod device;
 pub mod file_device;
+pub mod headed;
 mod history;
 pub mod memory_device;
 pub mod record;
