@@ -78,33 +78,36 @@ part_of old lack bytes n (inr (le, none)) = record {
 abbrev Behind : (List ℕ → Type 0) → List ℕ → Type 0
 Behind left c = (bytes : List ℕ) × left bytes × (c ≡ drop 16 bytes)
 
--- `known` is how many bytes the device had, where that is known
-module _ (before after : Option (List ℕ)) (known : Option ℕ) (end position : ℕ) (is : known ≡ Some end) (told : Sees before (λ old. IfSome known (λ n. n ≡ length old))) where
-  pub at_end : Sees before (λ old. end ≡ length old)
-  at_end old seen = subst (λ o. IfSome o (λ n. n ≡ length old)) is (told old seen)
+-- a device has so many bytes
+pub record Ends (before : Option (List ℕ)) (end : ℕ) : Type 0 where
+  pub at : Sees before (λ old. end ≡ length old)
 
-  module _ (bytes : List ℕ) where
+pub ends_of : {before : Option (List ℕ)} {known : Option ℕ} {end : ℕ} → known ≡ Some end → Sees before (λ old. IfSome known (λ n. n ≡ length old)) → Ends before end
+ends_of is told = record { at = λ old seen. subst (λ o. IfSome o (λ n. n ≡ length old)) is (told old seen) }
+
+module _ {before : Option (List ℕ)} {end : ℕ} (ends : Ends before end) (bytes : List ℕ) where
+  module _ {after : Option (List ℕ)} where
     pub written_length : Changes before after (λ old new. end ≡ length old → new ≡ old ++ (drop end header ++ bytes))
         → Sees after (λ new. max end 16 + length bytes ≡ length new)
     written_length change new seen =
         let was = change new seen in
-        let at = at_end was.0 was.1 in
+        let at = ends.at was.0 was.1 in
         omega (arith, ap (λ l. length l) (was.2 at), length-append was.0 (drop end header ++ bytes), length-append (drop end header) bytes, length-drop end header, length_header, at)
 
-    pub written_behind : Changes before after (λ old new. end ≡ length old → new ≡ old ++ (drop end header ++ bytes))
+    pub written_behind : (position : ℕ) → Changes before after (λ old new. end ≡ length old → new ≡ old ++ (drop end header ++ bytes))
         → Changes (option_map (drop 16) before) (option_map (drop 16) after) (λ old new. position ≡ length old → new ≡ old ++ bytes)
-    written_behind change x seen =
+    written_behind position change x seen =
         let inner = seen_in after x seen in
         let was = change inner.0 inner.1 in
-        let at = at_end was.0 was.1 in
+        let at = ends.at was.0 was.1 in
         (drop 16 was.0, ap (option_map (drop 16)) was.1, λ _. inner.2 ∙ ap (drop 16) (was.2 at) ∙ whole_of was.0 (drop end header) bytes (lacks_of was.0 end at))
 
-    pub failed_behind : Changes before after (λ old new. end ≡ length old → IsBegun (drop end header ++ bytes) old new)
+    pub failed_behind : (position : ℕ) → Changes before after (λ old new. end ≡ length old → IsBegun (drop end header ++ bytes) old new)
         → Changes (option_map (drop 16) before) (option_map (drop 16) after) (λ old new. position ≡ length old → IsBegun bytes old new)
-    failed_behind change x seen =
+    failed_behind position change x seen =
         let inner = seen_in after x seen in
         let was = change inner.0 inner.1 in
-        let at = at_end was.0 was.1 in
+        let at = ends.at was.0 was.1 in
         let old = was.0 in
         let begun = was.2 at in
         let part = part_of old (drop end header) bytes begun.0 (lacks_of old end at) in (
@@ -116,48 +119,48 @@ module _ (before after : Option (List ℕ)) (known : Option ℕ) (end position :
           ],
         )
 
-    pub left_behind : (left more : List ℕ → Type 0)
-        → ((old : List ℕ) → before ≡ Some old → end ≡ length old → AddsAtMost old (drop end header ++ bytes) left more)
-        → (old : List ℕ) → option_map (drop 16) before ≡ Some old → position ≡ length old → AddsAtMost old bytes (Behind left) (Behind more)
-    left_behind left more crash x seen _ c may =
-        let inner = seen_in before x seen in
-        let at = at_end inner.0 inner.1 in
-        elim (crash inner.0 inner.1 at may.0 may.1) [
-          | inl was ↦ inl (may.0, was, may.2)
-          | inr added ↦ (
-              let part = part_of inner.0 (drop end header) bytes added.0 (lacks_of inner.0 end at) in
-              inr (part.m, may.2 ∙ ap (drop 16) added.1 ∙ part.is ∙ ap (λ l. l ++ take part.m bytes) (sym inner.2)))
-        ]
+  pub left_behind : (position : ℕ) (left more : List ℕ → Type 0)
+      → ((old : List ℕ) → before ≡ Some old → end ≡ length old → AddsAtMost old (drop end header ++ bytes) left more)
+      → (old : List ℕ) → option_map (drop 16) before ≡ Some old → position ≡ length old → AddsAtMost old bytes (Behind left) (Behind more)
+  left_behind position left more crash x seen _ c may =
+      let inner = seen_in before x seen in
+      let at = ends.at inner.0 inner.1 in
+      elim (crash inner.0 inner.1 at may.0 may.1) [
+        | inl was ↦ inl (may.0, was, may.2)
+        | inr added ↦ (
+            let part = part_of inner.0 (drop end header) bytes added.0 (lacks_of inner.0 end at) in
+            inr (part.m, may.2 ∙ ap (drop 16) added.1 ∙ part.is ∙ ap (λ l. l ++ take part.m bytes) (sym inner.2)))
+      ]
 
-  module _ (len : ℕ) (less : len < end - 16) where
-    within : (old : List ℕ) → end ≡ length old → len + 16 ≤ length old
-    within old at = omega (arith, less, at)
+cut_is : (len : ℕ) (old : List ℕ) → drop 16 (take (len + 16) old) ≡ take len (drop 16 old)
+cut_is len old = let sum : len + 16 ≡ 16 + len = omega arith in ap (λ n. drop 16 (take n old)) sum ∙ drop-take 16 len old
 
-    cut_is : (old : List ℕ) → drop 16 (take (len + 16) old) ≡ take len (drop 16 old)
-    cut_is old = let sum : len + 16 ≡ 16 + len = omega arith in ap (λ n. drop 16 (take n old)) sum ∙ drop-take 16 len old
+module _ {before : Option (List ℕ)} {end : ℕ} (ends : Ends before end) (len : ℕ) (less : len < end - 16) where
+  within : (old : List ℕ) → before ≡ Some old → len + 16 ≤ length old
+  within old seen = omega (arith, less, ends.at old seen)
 
-    pub cut_length : Changes before after (λ old new. len + 16 ≤ length old → new ≡ take (len + 16) old) → Sees after (λ new. len + 16 ≡ length new)
-    cut_length change new seen =
+  module _ {after : Option (List ℕ)} (change : Changes before after (λ old new. len + 16 ≤ length old → new ≡ take (len + 16) old)) where
+    pub cut_length : Sees after (λ new. len + 16 ≡ length new)
+    cut_length new seen =
         let was = change new seen in
-        let le = within was.0 (at_end was.0 was.1) in
+        let le = within was.0 was.1 in
         omega (arith, ap (λ l. length l) (was.2 le), length-take (len + 16) was.0, le)
 
-    pub cut_behind : Changes before after (λ old new. len + 16 ≤ length old → new ≡ take (len + 16) old)
-        → Changes (option_map (drop 16) before) (option_map (drop 16) after) (λ old new. len ≤ length old → new ≡ take len old)
-    cut_behind change x seen =
+    pub cut_behind : Changes (option_map (drop 16) before) (option_map (drop 16) after) (λ old new. len ≤ length old → new ≡ take len old)
+    cut_behind x seen =
         let inner = seen_in after x seen in
         let was = change inner.0 inner.1 in
-        (drop 16 was.0, ap (option_map (drop 16)) was.1, λ _. inner.2 ∙ ap (drop 16) (was.2 (within was.0 (at_end was.0 was.1))) ∙ cut_is was.0)
+        (drop 16 was.0, ap (option_map (drop 16)) was.1, λ _. inner.2 ∙ ap (drop 16) (was.2 (within was.0 was.1)) ∙ cut_is len was.0)
 
-    pub left_cut : (left more : List ℕ → Type 0)
-        → ((old c : List ℕ) → before ≡ Some old → len + 16 ≤ length old → more c → left c ⊎ (c ≡ take (len + 16) old))
-        → (old c : List ℕ) → option_map (drop 16) before ≡ Some old → len ≤ length old → Behind more c → Behind left c ⊎ (c ≡ take len old)
-    left_cut left more crash x c seen _ may =
-        let inner = seen_in before x seen in
-        elim (crash inner.0 may.0 inner.1 (within inner.0 (at_end inner.0 inner.1)) may.1) [
-          | inl was ↦ inl (may.0, was, may.2)
-          | inr cut ↦ inr (may.2 ∙ ap (drop 16) cut ∙ cut_is inner.0 ∙ ap (take len) (sym inner.2))
-        ]
+  pub left_cut : (left more : List ℕ → Type 0)
+      → ((old c : List ℕ) → before ≡ Some old → len + 16 ≤ length old → more c → left c ⊎ (c ≡ take (len + 16) old))
+      → (old c : List ℕ) → option_map (drop 16) before ≡ Some old → len ≤ length old → Behind more c → Behind left c ⊎ (c ≡ take len old)
+  left_cut left more crash x c seen _ may =
+      let inner = seen_in before x seen in
+      elim (crash inner.0 may.0 inner.1 (within inner.0 inner.1) may.1) [
+        | inl was ↦ inl (may.0, was, may.2)
+        | inr cut ↦ inr (may.2 ∙ ap (drop 16) cut ∙ cut_is len inner.0 ∙ ap (take len) (sym inner.2))
+      ]
 
 pub ok_told : {E : Type 0} (P : ℕ → Type 0) (r : Result ℕ E) → IfOk r P → IfSome (result_ok r) P
 ok_told P (Ok n) h = h
