@@ -5,4 +5,5 @@ pub mod IndexLemmas
 pub mod LogLemmas
 pub mod ReadLemmas
 pub mod RecordLemmas
+pub mod SalvageLemmas
 pub mod StoreLemmas

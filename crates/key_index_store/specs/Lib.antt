@@ -7,4 +7,5 @@ pub mod Indexed
 pub mod MemoryDevice
 pub mod Reads
 pub mod Record
+pub mod Salvage
 pub mod Stored

@@ -8,4 +8,5 @@ pub mod headed;
 mod history;
 pub mod memory_device;
 pub mod record;
+pub mod salvage;
 pub mod store;
