@@ -2,8 +2,9 @@
 --     seen_in         what is seen with the header, by what is seen behind it
 --     written_behind, failed_behind, left_behind  what stands behind the header, once bytes and before them what the header lacked
 --                     were written; once a part of that was; and what a crash leaves then
+--     headed_more     whatever part of that was written, it begins with the header, or is a part of one
 --     cut_behind, left_cut  once bytes were cut off, and what a crash leaves then
-use Rattle.std.proofs.Common.{◌≡◌, ◌⊎◌, ℕ, ◌+◌, ◌-◌, ◌≤◌, ◌<◌, max, min, Bool, true, false, not, List, [], ◌++◌, length, take, drop, Option, Some, None, Result, Ok, Err, subst, take_all, inl, inr, refl, sym, ap, ◌∙◌, append_assoc, length-append, length-drop, length-take, arith}
+use Rattle.std.proofs.Common.{◌≡◌, ◌⊎◌, ℕ, ◌+◌, ◌-◌, ◌≤◌, ◌<◌, max, min, Bool, true, false, not, List, [], ◌++◌, length, take, drop, Option, Some, None, Result, Ok, Err, subst, take_all, inl, inr, refl, sym, ap, ◌∙◌, append_assoc, take-append-drop, length-append, length-drop, length-take, arith}
 use Rattle.std.specs.Option.{IfSome, SomeIff, option_map}
 use Rattle.std.specs.Result.{IfOk, OnErr, is_ok, result_ok}
 use Rattle.std.specs.Str.{bytes_eq}
@@ -11,6 +12,7 @@ use Rattle.std.proofs.lemmas.Bool.{cases_lt, false≢true}
 use Rattle.std.proofs.lemmas.List.{append-nil, drop_at, take_at, drop-append-le, drop-take, take-append-le, nil_from_length}
 use Rattle.std.proofs.lemmas.Slice.Eq.{bytes_eq-Decides}
 use Rattle.std.proofs.Math.Seq.{take-append-add}
+use Rattle.key_index_store.proofs.ReadLemmas.{take-take}
 use Rattle.key_index_store.specs.Device.{AddsAtMost, Changes, IsBegun, Sees}
 use Rattle.key_index_store.specs.Header.{IsHeaded, header}
 
@@ -73,6 +75,37 @@ part_of old lack bytes n (inr (le, none)) = record {
   is = ap (λ l. drop 16 (old ++ take n (l ++ bytes))) none ∙ drop-append-le 16 old (take n bytes) le;
   less = λ h. inl (omega (arith, ap (λ l. length (l ++ bytes)) none, h));
 }
+
+-- ---- what was begun opens again
+
+begun_front : (old bytes : List ℕ) (n : ℕ) → IsHeaded old → length old < 16 → old ++ take n (drop (length old) header ++ bytes) ≡ take (length old + n) (header ++ bytes)
+begun_front old bytes n headed short =
+    let lack : List ℕ = drop (length old) header in
+    let front : old ≡ take (length old) header = sym (take_all 16 old (omega (arith, short))) ∙ headed in
+    let whole : old ++ (lack ++ bytes) ≡ header ++ bytes =
+    sym (append_assoc old lack bytes) ∙ ap (λ l. l ++ bytes) (ap (λ l. l ++ lack) front ∙ take-append-drop (length old) header) in
+    sym (take-append-add old (lack ++ bytes) n) ∙ ap (take (length old + n)) whole
+
+headed_take : (bytes : List ℕ) (m : ℕ) → IsHeaded (take m (header ++ bytes))
+headed_take bytes m = elim (cases_lt 16 m) [
+  | inl more ↦ (
+      let long : 16 ≤ length (take m (header ++ bytes)) = omega (arith, more, length-take m (header ++ bytes), length-append header bytes, length_header) in
+      take-take 16 m (header ++ bytes) (omega (arith, more)) ∙ take_at header bytes 16 length_header
+      ∙ sym (take_all (length (take m (header ++ bytes))) header (omega (arith, long, length_header))))
+  | inr few ↦ (
+      let front : take m (header ++ bytes) ≡ take m header = take-append-le m header bytes (omega (arith, few, length_header)) in
+      let size : length (take m header) ≡ m = omega (arith, few, length-take m header, length_header) in
+      subst IsHeaded (sym front) (take_all 16 (take m header) (omega (arith, size, few)) ∙ ap (λ k. take k header) (sym size)))
+]
+
+pub headed_more : (old bytes : List ℕ) (n : ℕ) → IsHeaded old → IsHeaded (old ++ take n (drop (length old) header ++ bytes))
+headed_more old bytes n headed = elim (cases_lt (length old) 16) [
+  | inl short ↦ subst IsHeaded (sym (begun_front old bytes n headed short)) (headed_take bytes (length old + n))
+  | inr le ↦ (
+      let more : List ℕ = take n (drop (length old) header ++ bytes) in
+      take-append-le 16 old more le ∙ headed ∙ take_all (length old) header (omega (arith, le, length_header))
+      ∙ sym (take_all (length (old ++ more)) header (omega (arith, le, length_header, length-append old more))))
+]
 
 -- what a crash leaves behind the header
 abbrev Behind : (List ℕ → Type 0) → List ℕ → Type 0

@@ -1,5 +1,5 @@
 //! A device behind a header, which says that a file is a store's.
-ghost use Rattle.std.specs.Prelude.{◌≡◌, ℕ, List, ◌++◌, length, drop, Some, Err, IfOk, IfErr, OnOk, OnErr};
+ghost use Rattle.std.specs.Prelude.{◌≡◌, ◌⊎◌, ℕ, List, ◌++◌, length, drop, Some, Err, IfOk, IfErr, OnOk, OnErr};
 ghost use Rattle.key_index_store.specs.Device.{AddsAtMost, Changes, IsBegun, IsRead, Sees};
 ghost use Rattle.key_index_store.specs.Header.{IsHeaded, header};
 
@@ -66,10 +66,12 @@ impl<D: Device> Model for Headed<D> {
 }
 
 impl<D: Device> Headed<D> {
-    /// What stands behind the header of a device: nothing where it is empty, or has only a part of a header. No byte is changed.
+    /// What stands behind the header of a device: nothing where it is empty, or has only a part of a header. No byte is
+    /// changed.
     pub fn open(alloc: Global, mut device: D) -> Result<Headed<D>, NotHeaded<D>>
         ensures headed { IfOk result (λ h. Sees (D.seen h) IsHeaded) }
-        ensures refused { IfErr result (λ e. e.reason ≡ OpenError.NoStore → Sees (D.seen e.device) (λ bytes. ¬ IsHeaded bytes)) }
+        ensures refused { IfErr result (λ e. e.reason ≡ OpenError.NoStore
+            → Sees (D.seen e.device) (λ bytes. ¬ IsHeaded bytes)) }
         ensures read { IfOk result (λ h. IsRead D.seen D.may_leave device h) }
         ensures kept { IfErr result (λ e. IsRead D.seen D.may_leave device e.device) }
     {
@@ -115,6 +117,9 @@ fn append<D: Device>(alloc: Global, device: &mut D, end: u64, bytes: &[u8]) -> R
         end ≡ length old → IsBegun (drop end header ++ bytes.now) old new)) }
     ensures crash { (old : List ℕ) → D.seen device.old ≡ Some old → end ≡ length old
         → AddsAtMost old (drop end header ++ bytes.now) (D.may_leave device.old) (D.may_leave device.new) }
+    // What a crash leaves of it opens again.
+    ensures opens { (old c : List ℕ) → D.seen device.old ≡ Some old → end ≡ length old → IsHeaded old
+        → D.may_leave device.new c → D.may_leave device.old c ⊎ IsHeaded c }
 {
     if end >= LENGTH {
         return device.write_at(end, bytes);

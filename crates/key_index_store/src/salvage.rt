@@ -43,8 +43,8 @@ fn bytes_from(bytes: &[u8], place: u64) -> &[u8]
     }
 }
 
-/// Copies each whole record of a log to the end of a fresh one, in their order, behind damage too: where none stands, it looks for one a
-/// byte further on.
+/// Copies each whole record of a log to a fresh one, in their order, behind damage too: where none stands, it looks for
+/// one a byte further on.
 pub fn salvage<D: Device, C: Device>(
     alloc: Global,
     from: &mut D,

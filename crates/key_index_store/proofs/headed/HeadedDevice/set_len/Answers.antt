@@ -1,4 +1,4 @@
-use Rattle.std.proofs.Common.{◌≡◌, ◌-◌, ◌<◌, ◌≤◌, length, drop, Some, ap, sym, ◌∙◌, length-drop, take_all, arith}
+use Rattle.std.proofs.Common.{◌≡◌, ◌-◌, ◌<◌, ◌≤◌, length, Some, ap, sym, length-drop, take_all, arith}
 use Rattle.key_index_store.proofs.HeaderLemmas.{cut_behind, cut_length, ends_of, left_cut, seen_in}
 use Rattle.key_index_store.proofs.headed.HeadedDevice.set_len.Goals as goal
 
