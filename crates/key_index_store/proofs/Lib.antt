@@ -1,5 +1,6 @@
 pub mod ChecksumLemmas
 pub mod CrashLemmas
+pub mod HeaderLemmas
 pub mod HistoryLemmas
 pub mod IndexLemmas
 pub mod KeepLemmas
@@ -7,4 +8,5 @@ pub mod LogLemmas
 pub mod ReadLemmas
 pub mod RecordLemmas
 pub mod ReplayLemmas
+pub mod SalvageLemmas
 pub mod StoreLemmas

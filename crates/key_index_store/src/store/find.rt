@@ -50,7 +50,7 @@ fn wanted(bytes: &[u8], is_whole: bool) -> u64
 
 /// The front of the record at a position, in the first `limit` bytes of a log: its head and its key at least, and the whole record where
 /// that is asked.
-pub(super) fn read_front<D: Device>(
+pub(crate) fn read_front<D: Device>(
     alloc: Global,
     device: &mut D,
     position: u64,
