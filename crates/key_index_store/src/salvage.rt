@@ -9,7 +9,7 @@ ghost use Rattle.key_index_store.specs.Stored.{records_of};
 use crate::device::Device;
 use crate::record::{Reading, decode};
 use crate::store::Fault;
-use crate::store::find::read_front;
+use crate::store::find::{length_of, read_front};
 use std::alloc::Global;
 
 /// What a salvage copied, and what it left out.
@@ -19,18 +19,6 @@ pub struct Salvaged {
     pub records: u64,
     /// How many bytes of the log are no record's.
     pub left_out: u64,
-}
-
-/// How many bytes a device has.
-fn length_of<D: Device>(device: &mut D) -> Result<u64, Fault>
-    ensures told { Sees (D.seen device.new) (λ bytes. IfOk result (λ n. n ≡ length bytes)) }
-    ensures read { IsRead D.seen D.may_leave device.old device.new }
-    ensures fault { IfErr result (λ f. f ≡ Fault.ReadFailed) }
-{
-    match device.len() {
-        Ok(len) => Ok(len),
-        Err(_) => Err(Fault::ReadFailed),
-    }
 }
 
 /// The bytes from a place on.
