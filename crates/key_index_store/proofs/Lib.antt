@@ -2,6 +2,7 @@ pub mod ChecksumLemmas
 pub mod HistoryLemmas
 pub mod IndexLemmas
 pub mod LogLemmas
+pub mod NearestLemmas
 pub mod ReadLemmas
 pub mod RecordLemmas
 pub mod ReplayLemmas

@@ -10,12 +10,14 @@ ghost use Rattle.key_index_store.specs.Record.{Complete, Entry, Fits, IsFound, I
 ghost use Rattle.key_index_store.specs.Stored.{IsRefused, IsTail, LeavesBeforeOrAfter, MayRead, MayRefuse, refusal_of, end_of, held_by, is_zeros, tail_in, tail_of, with_record, with_value, without_tail};
 
 mod find;
+mod neighbours;
 mod replay;
 
 use crate::device::Device;
 use crate::record::encode;
 use find::{find, place_of, read_value};
 use key_index_flat::index::{self, Refused, Unordered, Values};
+pub use neighbours::Gap;
 use replay::replay;
 use std::alloc::{AllocError, Global};
 use std::marker::Model;
