@@ -1,6 +1,7 @@
 pub mod ChecksumLemmas
 pub mod HistoryLemmas
 pub mod IndexLemmas
+pub mod KeepLemmas
 pub mod LogLemmas
 pub mod NearestLemmas
 pub mod ReadLemmas

@@ -4,13 +4,13 @@
 --     read_again       what was encoded is read, whatever follows it
 --     Whole            what is known of bytes that are read as a record
 --     IsFound-reading  what is read was encoded
---     begun_stops      a part of a record, from its front on, is none
+--     begun_torn       a part of a record, from its front on, is torn
 use Rattle.std.proofs.Common.{◌≡◌, ℕ, zero, suc, ◌+◌, ◌-◌, ◌^◌, ◌<◌, ◌≤◌, Bool, true, false, cond, not, List, [], ◌∷◌, ◌++◌, length, take, drop, slice_index_or, Option, Some, None, Result, Ok, Err, inl, inr, refl, sym, ap, subst, ◌∙◌, append_assoc, length-append, length-drop, length-take, arith}
 use Rattle.std.specs.Int.{w32, from_le_bytes}
 use Rattle.std.specs.Option.{option_map, unwrap_or}
 use Rattle.std.specs.Result.{IfErr, OnErr, OnOk, is_ok}
 use Rattle.std.specs.Str.{bytes_eq}
-use Rattle.std.proofs.lemmas.Bool.{false≢true, cases_lt, le-ltb, ltb-false}
+use Rattle.std.proofs.lemmas.Bool.{false≢true, cases_lt, le-ltb, lt-ltb, ltb-false}
 use Rattle.std.proofs.lemmas.List.{append-nil, take_at, drop_at, take-append-drop, take-append-le, drop-append-le, drop-drop, get_or-drop, get_or-take, get_or_past}
 use Rattle.std.proofs.lemmas.Nat.{le_bytes_4, from_le_bytes-to_le_bytes_4}
 use Rattle.std.proofs.lemmas.Slice.Eq.{bytes_eq-Decides}
@@ -377,18 +377,21 @@ within_found n a (Complete r) h le = (h.0, omega (arith, ap (λ l. length l) h.1
 within_found n a Torn h le = tt
 within_found n a Damaged h le = tt
 
--- a part of a record, from its front on, is no record
-pub begun_stops : (r : Entry) (n : ℕ) → Fits r → n < length (encoded r) → Stops (reading (take n (encoded r)))
-begun_stops r n fits less = of (reading (take n (encoded r))) refl
-  where
-    of : (o : Outcome) → reading (take n (encoded r)) ≡ o → Stops o
-    of (Complete x) e =
-        let a = take n (encoded r) in
-        let b = drop n (encoded r) in
-        let w = whole_of a x e in
-        let all : a ++ b ≡ encoded r ++ [] = take-append-drop n (encoded r) ∙ sym (append-nil (encoded r)) in
-        let size : record_length (encoded r ++ []) ≡ length (encoded r) =
-        ap record_length (spread_is r fits []) ∙ omega (arith, from_le_bytes-key_length r fits, from_le_bytes-value_length r fits, length-encoded r fits) in
-        absurd (omega (arith, w.long, sym (record_length_front a b w.head_long) ∙ ap record_length all ∙ size, length-take n (encoded r), less))
-    of Torn e = tt
-    of Damaged e = tt
+-- a part of a record, from its front on, is torn
+pub begun_torn : (r : Entry) (n : ℕ) → Fits r → n < length (encoded r) → reading (take n (encoded r)) ≡ Torn
+begun_torn r n fits less =
+    let a = take n (encoded r) in
+    let b = drop n (encoded r) in
+    let size : length a ≡ n = omega (arith, length-take n (encoded r), less) in
+    let all : a ++ b ≡ spread r fits [] = take-append-drop n (encoded r) ∙ sym (append-nil (encoded r)) ∙ spread_is r fits [] in
+    elim (cases_lt n 13) [
+      | inl few ↦ ap (λ t. cond t Torn (cond (is_summed 9 a) (behind_head a) Damaged)) (lt-ltb (length a) 13 (omega (arith, size, few)))
+      | inr le ↦ (
+        let thirteen : 13 ≤ length a = omega (arith, size, le) in
+        let good : is_summed 9 a ≡ true = sym (head_front a b thirteen) ∙ ap (is_summed 9) all ∙ head_told r fits [] in
+        let whole : record_length a ≡ length (encoded r) =
+        sym (record_length_front a b thirteen) ∙ ap record_length all ∙ omega (arith, from_le_bytes-key_length r fits, from_le_bytes-value_length r fits, length-encoded r fits) in
+        ap (λ t. cond t Torn (cond (is_summed 9 a) (behind_head a) Damaged)) (le-ltb _ _ thirteen)
+        ∙ ap (λ t. cond t (behind_head a) Damaged) good
+        ∙ ap (λ t. cond t Torn (fields_of a (part (key_length a) (drop 13 a)) (value_in_record a))) (lt-ltb (length a) (record_length a) (omega (arith, size, whole, less))))
+    ]

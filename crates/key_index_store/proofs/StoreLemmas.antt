@@ -3,15 +3,15 @@
 --     remove_absent              a key without a value is taken out
 --     len-after_records          records leave no more keys than there are records
 --     refusal-Memory             so an index of the records of fewer bytes than `usize::MAX` is never full
-use Rattle.std.proofs.Common.{◌≡◌, ◌==◌, ◌↔◌, ℕ, ◌+◌, ◌-◌, ◌^◌, ◌<◌, ◌≤◌, if◌then◌else◌, Bool, true, false, cond, List, [], ◌∷◌, ◌++◌, length, take, drop, Option, Some, None, is_some, All, refl, sym, ap, subst, ◌∙◌, length-append, length-take, take-append-drop, arith}
+use Rattle.std.proofs.Common.{◌≡◌, ◌==◌, ◌↔◌, ℕ, zero, suc, slice_get, ◌+◌, ◌-◌, ◌^◌, ◌<◌, ◌≤◌, if◌then◌else◌, Bool, true, false, cond, List, [], ◌∷◌, ◌++◌, length, take, drop, Option, Some, None, is_some, All, refl, sym, ap, subst, ◌∙◌, length-append, length-take, take-append-drop, arith}
 use Rattle.std.proofs.lemmas.List.{append-nil, take_all, take-append-le}
-use Rattle.std.proofs.lemmas.List.Elements.{All-weaker}
+use Rattle.std.proofs.lemmas.List.Elements.{All-head, All-tail, All-weaker}
 use Rattle.std.proofs.lemmas.Bool.{eq-eqb, eqb-true, false≢true, ne_eqb}
 use Rattle.std.specs.Cmp.{IsTotalOrder}
 use Rattle.std.specs.Cmp.Lexicographic.{nat_list_cmp_total}
 use Rattle.std.specs.FinMap.{empty, empty_of_len, find, get, len, len-empty, len-insert, len-remove, remove, get-remove, same_map}
 use Rattle.std.specs.List.{flat_map, fold}
-use Rattle.std.specs.Option.{option_map}
+use Rattle.std.specs.Option.{option_map, unwrap_or}
 use Rattle.std.specs.declared.cmp.Ordering.{Ordering}
 use Rattle.std.specs.declared.cmp.Ordering.TheVariants.{Equal}
 use Rattle.key_index_flat.specs.Content.{IsLawful}
@@ -85,3 +85,10 @@ refusal-Memory cmp front s h short =
     let none = len-empty byte_cmp (List ℕ) in
     let same = ap (λ l. length l) h.spelled in
     ap (λ b. refusal_of (if b then index_fault.Full else index_fault.Memory)) (ne_eqb (items_in s) (2 ^ 64 - 1) (λ e. omega (arith, e, h.counted, few, bytes, none, same, short)))
+
+-- ---- an item of a list
+
+pub All-slice_get : (P : ℕ → Type 0) (l : List ℕ) (i p : ℕ) → All P l → slice_get l i ≡ Some p → P p
+All-slice_get P [] i p all at = absurd (cc)
+All-slice_get P (x ∷ xs) zero p all at = subst P (ap (λ o. unwrap_or o x) at) (All-head P x xs all)
+All-slice_get P (x ∷ xs) (suc i) p all at = All-slice_get P xs i p (All-tail P x xs all) at

@@ -11,9 +11,10 @@
 --     IsBeforeOrAfter, LeavesBeforeOrAfter  a log of the same map as before a record was appended, or as after it;  what a crash leaves
 --     IsRefused           after a call was refused that would have appended a record
 --     MayRead, MayRefuse  why a call may be refused
+--     HasChanged, HasRefused  after a call that appends a record where one is wanted
 --     compacted           a log that has a record of each entry of a map, in the order of the keys, and nothing else
 --     tail_in, IsTail     what stands behind the last complete record;  what a store knows of that
-use Rattle.std.specs.Prelude.{◌≡◌, ◌⊎◌, ◌-◌, ◌^◌, ◌==◌, ◌&&◌, ℕ, zero, suc, Bool, true, List, [], ◌∷◌, ◌++◌, length, map, take, drop, Option, Some, None, is_some, if◌then◌else◌, Vec}
+use Rattle.std.specs.Prelude.{◌≡◌, ◌⊎◌, ◌-◌, ◌^◌, ◌==◌, ◌&&◌, ◌||◌, ℕ, zero, suc, Bool, true, List, [], ◌∷◌, ◌++◌, length, map, take, drop, Option, Some, None, is_some, if◌then◌else◌, Vec}
 use Rattle.std.specs.FinMap.{FinMap, empty, entries, get, insert, len, remove}
 use Rattle.std.specs.List.{flat_map, fold}
 use Rattle.std.specs.Option.{option_map}
@@ -91,6 +92,10 @@ IsBeforeOrAfter old r log = (held_by log ≡ held_by old) ⊎ (held_by log ≡ a
 abbrev pub LeavesBeforeOrAfter : List ℕ → Entry → (List ℕ → Type 0) → (List ℕ → Type 0) → Type 0
 LeavesBeforeOrAfter old r before after = (c : List ℕ) → after c → before c ⊎ IsBeforeOrAfter old r c
 
+-- a crash leaves what it might have left before, or the same map
+abbrev pub LeavesSame : List ℕ → (List ℕ → Type 0) → (List ℕ → Type 0) → Type 0
+LeavesSame old before after = (c : List ℕ) → after c → before c ⊎ (held_by c ≡ held_by old)
+
 -- the records stay, and a part of the new one may stand behind them
 abbrev pub IsRefused : List ℕ → Entry → List ℕ → Type 0
 IsRefused old r new = (held_by new ≡ held_by old) × ((new ≡ old) ⊎ IsBegun (encoded r) (without_tail old) new)
@@ -148,3 +153,22 @@ MayRefuse log r fault.NotEmpty = ⊥
 MayRefuse log r fault.Memory = Unit {0}
 MayRefuse log r fault.ReadFailed = Unit {0}
 MayRefuse log r fault.WriteFailed = Unit {0}
+
+-- ---- a call that appends a record, or finds that none is wanted: had tells whether the key had a value
+
+-- after room was made for a record
+pub record HasRoom (old new : List ℕ) : Type 0 where
+  pub cut : new ≡ without_tail old
+  pub held : held_by new ≡ held_by old
+  pub all : end_of new ≡ length new
+  pub undamaged : ¬ (tail_in old ≡ tail.Damaged)
+
+pub record HasChanged (old : List ℕ) (r : Entry) (had : Bool) (new : List ℕ) : Type 0 where
+  pub held : held_by new ≡ after_record (held_by old) r
+  pub was_there : had ≡ is_some (get (held_by old) r.key)
+  pub logged : new ≡ (if is_some r.value || had then with_record old r else without_tail old)
+  pub undamaged : ¬ (tail_in old ≡ tail.Damaged)
+
+pub record HasRefused (old : List ℕ) (r : Entry) (f : Fault) (new : List ℕ) : Type 0 where
+  pub refused : IsRefused old r new
+  pub fault : MayRefuse old r f

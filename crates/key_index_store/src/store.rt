@@ -7,7 +7,7 @@ ghost use Rattle.key_index_flat.specs.View.{growth_fault_in, run_of, with_edit, 
 ghost use Rattle.key_index_store.specs.Device.{AddsAtMost, Changes, IsBegun, IsRead, NoMore, Sees, Stays};
 ghost use Rattle.key_index_store.specs.Indexed.{Indexes, IsLive, Keeps, KeepsLists, Settles, without_newest};
 ghost use Rattle.key_index_store.specs.Record.{Complete, Entry, Fits, IsFound, IsWithin, Stops, encoded, entry_of, outcome_of, reading};
-ghost use Rattle.key_index_store.specs.Stored.{IsRefused, IsTail, LeavesBeforeOrAfter, MayRead, MayRefuse, refusal_of, end_of, held_by, is_zeros, tail_in, tail_of, with_record, with_value, without_tail};
+ghost use Rattle.key_index_store.specs.Stored.{HasChanged, HasRefused, HasRoom, LeavesSame, IsRefused, IsTail, LeavesBeforeOrAfter, MayRead, MayRefuse, refusal_of, end_of, held_by, is_zeros, tail_in, tail_of, with_record, with_value, without_tail};
 
 mod find;
 mod neighbours;
@@ -285,8 +285,8 @@ impl<D: Device, I: Unordered<Value = u64>> Store<D, I> {
             tail_in old ≢ Tail.Damaged)) }
         ensures refused { OnErr result (Changes (D.seen self.old) (D.seen self.new) (λ old new.
             IsRefused old (record { key = key.now; value = Some value.now }) new)) }
-        ensures crash { (old : List ℕ) → D.seen self.old ≡ Some old → LeavesBeforeOrAfter old
-            (record { key = key.now; value = Some value.now }) (D.may_leave self.old) (D.may_leave self.new) }
+        ensures crash { Changes (D.seen self.old) (D.seen self.new) (λ old new. LeavesBeforeOrAfter old
+            (record { key = key.now; value = Some value.now }) (D.may_leave self.old) (D.may_leave self.new)) }
         ensures fault { IfErr result (λ f. Changes (D.seen self.old) (D.seen self.new) (λ old new.
             MayRefuse old (record { key = key.now; value = Some value.now }) f)) }
     {
@@ -309,8 +309,8 @@ impl<D: Device, I: Unordered<Value = u64>> Store<D, I> {
             tail_in old ≢ Tail.Damaged)) }
         ensures refused { OnErr result (Changes (D.seen self.old) (D.seen self.new) (λ old new.
             IsRefused old (record { key = key.now; value = None }) new)) }
-        ensures crash { (old : List ℕ) → D.seen self.old ≡ Some old → LeavesBeforeOrAfter old
-            (record { key = key.now; value = None }) (D.may_leave self.old) (D.may_leave self.new) }
+        ensures crash { Changes (D.seen self.old) (D.seen self.new) (λ old new. LeavesBeforeOrAfter old
+            (record { key = key.now; value = None }) (D.may_leave self.old) (D.may_leave self.new)) }
         ensures fault { IfErr result (λ f. Changes (D.seen self.old) (D.seen self.new) (λ old new.
             MayRefuse old (record { key = key.now; value = None }) f)) }
     {
@@ -322,11 +322,10 @@ impl<D: Device, I: Unordered<Value = u64>> Store<D, I> {
 
     /// Cuts a torn record off, and refuses where something else stands behind the whole ones.
     fn make_room(&mut self) -> Result<(), Fault>
-        ensures cut { OnOk result (Changes (D.seen self.old) (D.seen self.new) (λ old new.
-            (new ≡ without_tail old) × (tail_in old ≢ Tail.Damaged))) }
+        ensures room { OnOk result (Changes (D.seen self.old) (D.seen self.new) (λ old new. HasRoom old new)) }
         ensures refused { OnErr result (Stays (D.seen self.old) (D.seen self.new)) }
-        ensures crash { (old c : List ℕ) → D.seen self.old ≡ Some old → D.may_leave self.new c
-            → D.may_leave self.old c ⊎ ((tail_in old ≢ Tail.Damaged) × (c ≡ without_tail old)) }
+        ensures crash { (old : List ℕ) → D.seen self.old ≡ Some old
+            → LeavesSame old (D.may_leave self.old) (D.may_leave self.new) }
         ensures fault { IfErr result (λ f. Sees (D.seen self.new) (λ log.
             (f ≡ Fault.WriteFailed) ⊎ ((f ≡ Fault.Damaged) × (tail_in log ≡ Tail.Damaged)))) }
     {
@@ -340,22 +339,13 @@ impl<D: Device, I: Unordered<Value = u64>> Store<D, I> {
     /// Sets the value of a key, or removes the key where none is given, and tells whether it had one.
     fn change(&mut self, key: &[u8], value: Option<&[u8]>) -> Result<bool, Fault>
         requires { Fits (record { key = key.now; value = option_map (λ v. v.now) value }) }
-        ensures logged { IfOk result (λ had. Changes (D.seen self.old) (D.seen self.new) (λ old new.
-            new ≡ (if is_some value.entry || had
-            then with_record old (record { key = key.now; value = option_map (λ v. v.now) value.entry }) else without_tail old))) }
-        ensures was_there { IfOk result (λ had. Changes (D.seen self.old) (D.seen self.new) (λ old new.
-            had ≡ is_some (map.get (held_by old) key.now))) }
-        ensures changed { OnOk result (Changes (D.seen self.old) (D.seen self.new) (λ old new.
-            held_by new ≡ with_value (held_by old) key.now (option_map (λ v. v.now) value.entry))) }
-        ensures undamaged { OnOk result (Changes (D.seen self.old) (D.seen self.new) (λ old new.
-            tail_in old ≢ Tail.Damaged)) }
-        ensures refused { OnErr result (Changes (D.seen self.old) (D.seen self.new) (λ old new.
-            IsRefused old (record { key = key.now; value = option_map (λ v. v.now) value.entry }) new)) }
-        ensures crash { (old : List ℕ) → D.seen self.old ≡ Some old → LeavesBeforeOrAfter old
+        ensures changed { IfOk result (λ had. Changes (D.seen self.old) (D.seen self.new) (λ old new.
+            HasChanged old (record { key = key.now; value = option_map (λ v. v.now) value.entry }) had new)) }
+        ensures refused { IfErr result (λ f. Changes (D.seen self.old) (D.seen self.new) (λ old new.
+            HasRefused old (record { key = key.now; value = option_map (λ v. v.now) value.entry }) f new)) }
+        ensures crash { Changes (D.seen self.old) (D.seen self.new) (λ old new. LeavesBeforeOrAfter old
             (record { key = key.now; value = option_map (λ v. v.now) value.entry })
-            (D.may_leave self.old) (D.may_leave self.new) }
-        ensures fault { IfErr result (λ f. Changes (D.seen self.old) (D.seen self.new) (λ old new.
-            MayRefuse old (record { key = key.now; value = option_map (λ v. v.now) value.entry }) f)) }
+            (D.may_leave self.old) (D.may_leave self.new)) }
     {
         self.make_room()?;
         let (alloc, end) = (self.alloc, self.end);
@@ -383,10 +373,11 @@ impl<D: Device, I: Unordered<Value = u64>> Store<D, I> {
     /// write are then answered again.
     pub fn cut_tail(&mut self) -> Result<(), Fault>
         ensures cut { OnOk result (Changes (D.seen self.old) (D.seen self.new) (λ old new. new ≡ without_tail old)) }
+        ensures all { OnOk result (Sees (D.seen self.new) (λ log. end_of log ≡ length log)) }
         ensures held { Changes (D.seen self.old) (D.seen self.new) (λ old new. held_by new ≡ held_by old) }
         ensures refused { OnErr result (Stays (D.seen self.old) (D.seen self.new)) }
-        ensures crash { (old c : List ℕ) → D.seen self.old ≡ Some old → D.may_leave self.new c
-            → D.may_leave self.old c ⊎ (c ≡ without_tail old) }
+        ensures crash { (old : List ℕ) → D.seen self.old ≡ Some old
+            → LeavesSame old (D.may_leave self.old) (D.may_leave self.new) }
         ensures fault { IfErr result (λ f. f ≡ Fault.WriteFailed) }
     {
         if self.device.set_len(self.end).is_err() {

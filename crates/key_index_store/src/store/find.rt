@@ -1,7 +1,7 @@
 //! Reads of records, and the search of a key among positions.
 ghost use Rattle.std.specs.Prelude.{◌≡◌, ◌≤◌, ◌<◌, ◌^◌, ◌-◌, ℕ, List, length, take, drop, slice_get, true, Some, All, IfSome, IfOk, IfErr, IsTrue, option_map};
 ghost use Rattle.key_index_store.specs.Device.{IsRead, Sees};
-ghost use Rattle.key_index_store.specs.Indexed.{IsAt, IsLive, entry_at, match_of};
+ghost use Rattle.key_index_store.specs.Indexed.{IsAt, IsLive, entry_at, match_of, value_in};
 ghost use Rattle.key_index_store.specs.Reads.{wanted};
 ghost use Rattle.key_index_store.specs.Record.{Complete, Entry, bytes_of, key_in, reading, record_length};
 ghost use Rattle.key_index_store.specs.Stored.{MayRead};
@@ -125,6 +125,9 @@ pub(super) fn find<D: Device>(
     requires { length positions < 2 ^ 64 }
     ensures at { Sees (D.seen device.new) (λ log. limit ≤ length log → All (IsLive (take limit log)) positions.entry
         → IfOk result (λ o. IsAt (entry_at (take limit log)) key.now positions.entry (option_map (λ f. f.place) o))) }
+    ensures value { Sees (D.seen device.new) (λ log. limit ≤ length log → All (IsLive (take limit log)) positions.entry
+        → IfOk result (λ o. option_map (λ f. (entry_at (take limit log) f.position).1) o
+        ≡ value_in (take limit log) key.now positions.entry)) }
     ensures found { IfOk result (λ o. IfSome o (λ f. slice_get positions.entry f.place ≡ Some f.position)) }
     ensures front { Sees (D.seen device.new) (λ log. limit ≤ length log → IfOk result (λ o. IfSome o (λ f.
         f.bytes.items ≡ take (length f.bytes.items) (drop f.position (take limit log))))) }

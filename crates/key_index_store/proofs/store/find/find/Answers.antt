@@ -3,7 +3,7 @@ use Rattle.std.proofs.lemmas.Iterator.Consumers.{YieldsList-turn, YieldsList-so_
 use Rattle.std.specs.Option.{option_map}
 use Rattle.key_index_store.specs.Indexed.{IsLive, entry_at, key_at, value_in}
 use Rattle.key_index_store.specs.Record.{key_in}
-use Rattle.key_index_flat.proofs.entries.EntryLemmas.{key-slice_get, passed_by, within_all}
+use Rattle.key_index_flat.proofs.entries.EntryLemmas.{key-slice_get, look-at_place, passed_by, within_all}
 use Rattle.key_index_store.proofs.ReadLemmas.{key_in-live, slice_get-here, match_other, match_readable, match_same, read-none, read-then}
 use Rattle.key_index_store.proofs.store.find.find.Goals.{in-Other, in-Unreadable}
 use Rattle.key_index_store.proofs.store.find.find.Goals as goal
@@ -20,6 +20,21 @@ returns-in-Same-clause-at g c = λ log seen within live.
     let own = match_same _ key _ c.match_of.result c.match_of.ensures told c.in-Same.is in
     (λ i. option_map (key_at front) (slice_get (sym c.into_iter-position-iterator.ensures.into_iter_gives i) (c.loop-position.invariant.counted i)))
     ∙ key-slice_get (entry_at front) key all (length c.loop-position.yielded) c.in-Some.position.now turn.0 turn.1 own
+
+pub returns-in-Same-clause-value : goal.returns-in-Same-clause-value
+returns-in-Same-clause-value g c = λ log seen within live.
+    let front = take c.args.limit log in
+    let key = c.args.key.now in
+    let all = c.into_iter-position-iterator.result in
+    let road = YieldsList-from_first (λ x. x.now) (λ values. values) all refl in
+    let turn = YieldsList-turn road c.loop-position.yielded _ c.loop-position.yielded_by _ _ c.in-Some.position c.in-Some.is c.next.ensures.steps in
+    let so_far = YieldsList-so_far road c.loop-position.yielded _ c.loop-position.yielded_by in
+    let here : IsLive front c.in-Some.position.now = subst (IsLive front) (sym turn.1) (subst (All (IsLive front)) (sym c.into_iter-position-iterator.ensures.into_iter_gives) live (length c.loop-position.yielded) c.in-Some.position.now turn.0) in
+    let told = ap key_in c.as_slice.ensures.value ∙ c.in_ok-bytes.ensures.key log seen within ∙ key_in-live front c.in-Some.position.now here in
+    let own = match_same _ key _ c.match_of.result c.match_of.ensures told c.in-Same.is in
+    let before = c.loop-position.invariant.none log (c.in_ok-bytes.ensures.read.stays log seen) within live in
+    let found = look-at_place (entry_at front) key all (length c.loop-position.yielded) c.in-Some.position.now turn.0 turn.1 (ap (value_in front key) (sym so_far) ∙ before.0) own in
+    sym (ap (value_in front key) (sym c.into_iter-position-iterator.ensures.into_iter_gives) ∙ found)
 
 pub returns-in-Same-clause-found : goal.returns-in-Same-clause-found
 returns-in-Same-clause-found g c =

@@ -1,0 +1,159 @@
+-- On what a store keeps of its log.
+--     kept_held, kept_end, kept_front, kept_tail  the map, the end and the tail of the whole log
+--     cut_keeps                                   after the tail was cut off
+--     written_keeps, begun_keeps                  after a record was written behind the others, or a part of it
+use Rattle.std.proofs.Common.{◌≡◌, ◌⊎◌, ◌<◌, ◌≤◌, ℕ, zero, suc, ◌+◌, Bool, true, false, cond, List, [], ◌∷◌, ◌++◌, length, take, drop, Option, is_some, inl, inr, refl, sym, ap, subst, ◌∙◌, length-append, length-take, length-drop, take-append-drop, arith}
+use Rattle.std.proofs.lemmas.List.{append-nil, drop_at, drop-append-le, nil_from_length, take_all, take-append-le}
+use Rattle.std.proofs.lemmas.Bool.{cases_lt}
+use Rattle.std.specs.Cmp.{IsTotalOrder}
+use Rattle.std.specs.FinMap.{empty}
+use Rattle.std.specs.List.{flat_map, fold}
+use Rattle.std.specs.declared.cmp.Ordering.{Ordering}
+use Rattle.std.specs.declared.cmp.Ordering.TheVariants.{Equal}
+use Rattle.key_index_flat.specs.Content.{IsLawful}
+use Rattle.key_index_flat.specs.FullKeys.{IsBytes}
+use Rattle.key_index_flat.specs.View.{View, run_of}
+use Rattle.key_index_store.specs.Indexed.{Indexes, IsAt, Keeps, KeepsLists, Settles, entry_at}
+use Rattle.key_index_store.specs.Record.{Entry, Fits, Outcome, Complete, Torn, Damaged, Stops, encoded, reading}
+use Rattle.key_index_store.specs.Stored.{IsTail, after_record, end_of, held_by, is_zeros, records_of, tail_by, tail_in, tail_of, without_tail}
+use Rattle.key_index_store.specs.declared.store.Tail.{Tail}
+use Rattle.key_index_store.specs.declared.store.Tail.TheVariants as tail
+use Rattle.key_index_store.proofs.IndexLemmas.{Indexes-filed, indexes_kept}
+use Rattle.key_index_store.proofs.LogLemmas.{held_more, spelled_records}
+use Rattle.key_index_store.proofs.RecordLemmas.{begun_torn}
+
+module _ {K : Type 0} (cmp : K → K → Ordering) (log : List ℕ) (s : View K ℕ) (end : ℕ) (t : Tail) (h : Keeps cmp log s end t) where
+  kept_records : records_of log ≡ records_of (take end log)
+  kept_records =
+      ap records_of (sym (take-append-drop end log) ∙ ap (λ l. l ++ drop end log) (sym h.indexed.spelled))
+      ∙ spelled_records (records_of (take end log)) (drop end log) h.indexed.fit h.stops
+
+  pub kept_held : held_by log ≡ held_by (take end log)
+  kept_held = ap (fold after_record empty) kept_records
+
+  pub kept_end : end_of log ≡ end
+  kept_end =
+      ap (λ rs. length (flat_map encoded rs)) kept_records ∙ ap (λ l. length l) h.indexed.spelled ∙ omega (arith, length-take end log, h.within)
+
+  pub kept_front : without_tail log ≡ take end log
+  kept_front = ap (λ n. take n log) kept_end
+
+  pub kept_tail : IsTail t (drop (end_of log) log)
+  kept_tail = subst (λ n. IsTail t (drop n log)) (sym kept_end) h.told
+
+  take_twice : take end (take end log) ≡ take end log
+  take_twice = take_all end (take end log) (omega (arith, length-take end log))
+
+  pub cut_keeps : Keeps cmp (take end log) s end tail.Nothing
+  cut_keeps =
+      let none : drop end (take end log) ≡ [] = nil_from_length (drop end (take end log)) (omega (arith, length-drop end (take end log), length-take end log)) in
+      record {
+        within = omega (arith, length-take end log, h.within);
+        indexed = subst (λ l. Indexes cmp l s) (sym take_twice) h.indexed;
+        stops = subst (λ l. Stops (reading l)) (sym none) tt;
+        told = none;
+      }
+
+  pub cut_held : held_by (take end log) ≡ held_by log
+  cut_held = sym kept_held
+
+  pub cut_end : end_of (take end log) ≡ length (take end log)
+  cut_end = ap (λ l. length l) h.indexed.spelled
+
+  -- nothing stands behind the records
+  pub ends_keep : end ≡ length log → Keeps cmp log s end tail.Nothing
+  ends_keep all = record {
+    within = h.within;
+    indexed = h.indexed;
+    stops = h.stops;
+    told = nil_from_length (drop end log) (omega (arith, length-drop end log, all));
+  }
+
+  pub nothing_cut : t ≡ tail.Nothing → (log ≡ without_tail log) × (end_of log ≡ length log) × (¬ (tail_in log ≡ tail.Damaged))
+  nothing_cut is =
+      let none : drop end log ≡ [] = subst (λ x. IsTail x (drop end log)) is h.told in
+      let all : end ≡ length log = omega (arith, ap (λ l. length l) none, length-drop end log, h.within) in (
+        sym (kept_front ∙ take_all end log (omega (arith, all))),
+        kept_end ∙ all,
+        λ e. (let both = sym (ap tail_of (ap (λ n. drop n log) kept_end ∙ none)) ∙ e in cc),
+      )
+
+  pub torn_undamaged : t ≡ tail.Torn → ¬ (tail_in log ≡ tail.Damaged)
+  torn_undamaged is = subst (λ x. IsTail x (drop (end_of log) log)) is kept_tail
+
+  pub damaged_tail : t ≡ tail.Damaged → tail_in log ≡ tail.Damaged
+  damaged_tail is = subst (λ x. IsTail x (drop (end_of log) log)) is kept_tail
+
+-- a part of a record from its front on is no damage
+begun_undamaged : (r : Entry) (n : ℕ) → Fits r → n < length (encoded r) → ¬ (tail_of (take n (encoded r)) ≡ tail.Damaged)
+begun_undamaged r n fits less = of (take n (encoded r)) (begun_torn r n fits less)
+  where
+    torn : (z : Bool) (o : Outcome) → o ≡ Torn → ¬ (cond z tail.Torn (tail_by o) ≡ tail.Damaged)
+    torn true o is e = cc
+    torn false o is e = (let both = ap tail_by (sym is) ∙ e in cc)
+
+    of : (l : List ℕ) → reading l ≡ Torn → ¬ (tail_of l ≡ tail.Damaged)
+    of [] is e = cc
+    of (b ∷ l) is e = torn (is_zeros (b ∷ l)) (reading (b ∷ l)) is e
+
+-- a log that ends with its records, and one more record or a part of it
+module _ {K : Type 0} {cmp : K → K → Ordering} (o : IsTotalOrder cmp) (exact : (x y : K) → cmp x y ≡ Equal → x ≡ y) (first : Bool) (log : List ℕ) (s : View K ℕ) (end : ℕ) (h : Keeps cmp log s end tail.Nothing) (r : Entry) (fits : Fits r) where
+  pub end-at : end ≡ length log
+  end-at = omega (arith, h.within, length-drop end log, ap (λ l. length l) h.told)
+
+  pub all_front : take end log ≡ log
+  all_front = take_all end log (omega (arith, end-at))
+
+  indexed-all : Indexes cmp log s
+  indexed-all = subst (λ l. Indexes cmp l s) all_front h.indexed
+
+  pub held_written : held_by (log ++ encoded r) ≡ after_record (held_by log) r
+  held_written = held_more log r (record { spelled = indexed-all.spelled; fit = indexed-all.fit }) fits
+
+  pub written_keeps : IsBytes r.key → (t : View K ℕ) → IsLawful cmp s.content → IsLawful cmp t.content → (positions : List ℕ) → positions ≡ run_of cmp s r.key → (b : Bool) → b ≡ is_some r.value → (place : Option ℕ)
+      → IsAt (entry_at (take end log)) r.key positions place → Settles cmp first s r.key b place end t → (longer : ℕ) → longer ≡ end + length (encoded r) → Keeps cmp (log ++ encoded r) t longer tail.Nothing
+  written_keeps bytes t hs ht positions run b has place at is longer size =
+      let all : longer ≡ length (log ++ encoded r) = omega (arith, size, end-at, length-append log (encoded r)) in
+      let whole : take longer (log ++ encoded r) ≡ log ++ encoded r = take_all longer (log ++ encoded r) (omega (arith, all)) in
+      let none : drop longer (log ++ encoded r) ≡ [] = nil_from_length (drop longer (log ++ encoded r)) (omega (arith, length-drop longer (log ++ encoded r), all)) in
+      let filed = Indexes-filed o exact first log [] (take end log) r fits bytes s t hs ht indexed-all (all_front ∙ sym (append-nil log)) r.key positions refl run b has place at end end-at is in
+      record {
+        within = omega (arith, all);
+        indexed = subst (λ l. Indexes cmp l t) (sym whole) filed;
+        stops = subst (λ l. Stops (reading l)) (sym none) tt;
+        told = none;
+      }
+
+  module _ (n : ℕ) (less : (n < length (encoded r)) ⊎ (n ≡ 0)) where
+    part_behind : drop end (log ++ take n (encoded r)) ≡ take n (encoded r)
+    part_behind = drop_at log (take n (encoded r)) end (sym end-at)
+
+    part_in_front : take end (log ++ take n (encoded r)) ≡ log
+    part_in_front = take-append-le end log (take n (encoded r)) (omega (arith, end-at)) ∙ all_front
+
+    pub begun_keeps : (t : View K ℕ) → KeepsLists s t → Keeps cmp (log ++ take n (encoded r)) t end tail.Torn
+    begun_keeps t same = record {
+      within = omega (arith, length-append log (take n (encoded r)), end-at);
+      indexed = subst (λ l. Indexes cmp l t) (sym part_in_front) (indexes_kept cmp log s t indexed-all same);
+      stops = subst (λ l. Stops (reading l)) (sym part_behind) (stopped less);
+      told = subst (λ l. ¬ (tail_of l ≡ tail.Damaged)) (sym part_behind) (undamaged less);
+    }
+      where
+        stopped : (n < length (encoded r)) ⊎ (n ≡ 0) → Stops (reading (take n (encoded r)))
+        stopped (inl lt) = subst Stops (sym (begun_torn r n fits lt)) tt
+        stopped (inr none) = subst (λ m. Stops (reading (take m (encoded r)))) (sym none) tt
+
+        undamaged : (n < length (encoded r)) ⊎ (n ≡ 0) → ¬ (tail_of (take n (encoded r)) ≡ tail.Damaged)
+        undamaged (inl lt) = begun_undamaged r n fits lt
+        undamaged (inr none) = subst (λ m. ¬ (tail_of (take m (encoded r)) ≡ tail.Damaged)) (sym none) (λ e. cc)
+
+    pub held_begun : held_by (log ++ take n (encoded r)) ≡ held_by log
+    held_begun =
+        kept_held cmp (log ++ take n (encoded r)) s end tail.Torn (begun_keeps s ( refl , refl )) ∙ ap held_by part_in_front
+
+  -- whatever part of it was written
+  pub held_part : (n : ℕ) → (held_by (log ++ take n (encoded r)) ≡ held_by log) ⊎ (held_by (log ++ take n (encoded r)) ≡ after_record (held_by log) r)
+  held_part n = elim (cases_lt n (length (encoded r))) [
+    | inl lt ↦ inl (held_begun n (inl lt))
+    | inr le ↦ inr (ap (λ l. held_by (log ++ l)) (take_all n (encoded r) le) ∙ held_written)
+  ]
