@@ -236,11 +236,10 @@ impl<D: Device, I: Ordered<Value = u64>> Store<D, I> {
         ensures fault { Sees (D.seen self.new) (λ log. IfErr result MayRead) }
     {
         let (alloc, end) = (self.alloc, self.end);
-        let positions = self.index.last_translated_key();
-        let found = match positions {
-            Some(positions) => nearest::<Below, D>(alloc, &mut self.device, positions, None, end)?,
-            None => None,
+        let Some(positions) = self.index.last_translated_key() else {
+            return Ok(None);
         };
+        let found = nearest::<Below, D>(alloc, &mut self.device, positions, None, end)?;
         with_its_value(alloc, &mut self.device, found, end)
     }
 }
