@@ -1,4 +1,5 @@
 pub mod ChecksumLemmas
+pub mod CompactLemmas
 pub mod HistoryLemmas
 pub mod IndexLemmas
 pub mod KeepLemmas

@@ -9,6 +9,7 @@ ghost use Rattle.key_index_store.specs.Indexed.{Indexes, IsLive, Keeps, KeepsLis
 ghost use Rattle.key_index_store.specs.Record.{Complete, Entry, Fits, IsFound, IsWithin, Stops, encoded, entry_of, outcome_of, reading};
 ghost use Rattle.key_index_store.specs.Stored.{HasChanged, HasRefused, HasRoom, LeavesSame, IsRefused, IsTail, LeavesBeforeOrAfter, MayRead, MayRefuse, refusal_of, end_of, held_by, is_zeros, tail_in, tail_of, with_record, with_value, without_tail};
 
+mod compact;
 mod find;
 mod neighbours;
 mod replay;
