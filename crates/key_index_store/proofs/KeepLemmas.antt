@@ -1,26 +1,32 @@
 -- On what a store keeps of its log.
 --     kept_held, kept_end, kept_front, kept_tail  the map, the end and the tail of the whole log
 --     cut_keeps                                   after the tail was cut off
+--     HasRoom, at_end                             a record that is to stand behind the others: refused, written, or nothing to write
 --     written_keeps, begun_keeps                  after a record was written behind the others, or a part of it
-use Rattle.std.proofs.Common.{◌≡◌, ◌⊎◌, ◌<◌, ◌≤◌, ℕ, zero, suc, ◌+◌, Bool, true, false, cond, List, [], ◌∷◌, ◌++◌, length, take, drop, Option, is_some, inl, inr, refl, sym, ap, subst, ◌∙◌, length-append, length-take, length-drop, take-append-drop, arith}
+use Rattle.std.proofs.Common.{◌≡◌, ◌⊎◌, ◌<◌, ◌≤◌, ℕ, zero, suc, ◌+◌, ◌-◌, ◌^◌, ◌==◌, ◌||◌, if◌then◌else◌, Some, None, Bool, true, false, cond, List, [], ◌∷◌, ◌++◌, length, take, drop, Option, is_some, Result, Ok, Err, inl, inr, refl, sym, ap, subst, ◌∙◌, length-append, length-take, length-drop, take-append-drop, arith}
 use Rattle.std.proofs.lemmas.List.{append-nil, drop_at, drop-append-le, nil_from_length, take_all, take-append-le}
-use Rattle.std.proofs.lemmas.Bool.{cases_lt}
+use Rattle.std.proofs.lemmas.Bool.{cases_lt, eqb-true}
 use Rattle.std.specs.Cmp.{IsTotalOrder}
-use Rattle.std.specs.FinMap.{empty}
+use Rattle.std.specs.FinMap.{empty, get, len}
 use Rattle.std.specs.List.{flat_map, fold}
+use Rattle.std.specs.Result.{OnOk}
 use Rattle.std.specs.declared.cmp.Ordering.{Ordering}
 use Rattle.std.specs.declared.cmp.Ordering.TheVariants.{Equal}
 use Rattle.key_index_flat.specs.Content.{IsLawful}
 use Rattle.key_index_flat.specs.FullKeys.{IsBytes}
-use Rattle.key_index_flat.specs.View.{View, run_of}
+use Rattle.key_index_flat.specs.View.{View, growth_fault_in, items_in, run_of}
+use Rattle.key_index_flat.specs.declared.index.Fault.TheVariants as index_fault
 use Rattle.key_index_store.specs.Indexed.{Indexes, IsAt, Keeps, KeepsLists, Settles, entry_at}
 use Rattle.key_index_store.specs.Record.{Entry, Fits, Outcome, Complete, Torn, Damaged, Stops, encoded, reading}
-use Rattle.key_index_store.specs.Stored.{IsTail, after_record, end_of, held_by, is_zeros, records_of, tail_by, tail_in, tail_of, without_tail}
+use Rattle.key_index_store.specs.Stored.{HasChanged, HasRefused, HasRoom, IsBeforeOrAfter, IsTail, MayRead, MayRefuse, after_record, end_of, held_by, is_zeros, records_of, refusal_of, tail_by, tail_in, tail_of, with_record, with_value, without_tail}
+use Rattle.key_index_store.specs.declared.store.Fault.{Fault}
+use Rattle.key_index_store.specs.declared.store.Fault.TheVariants as fault
 use Rattle.key_index_store.specs.declared.store.Tail.{Tail}
 use Rattle.key_index_store.specs.declared.store.Tail.TheVariants as tail
 use Rattle.key_index_store.proofs.IndexLemmas.{Indexes-filed, indexes_kept}
 use Rattle.key_index_store.proofs.LogLemmas.{held_more, spelled_records}
 use Rattle.key_index_store.proofs.RecordLemmas.{begun_torn}
+use Rattle.key_index_store.proofs.StoreLemmas.{remove_absent}
 
 module _ {K : Type 0} (cmp : K → K → Ordering) (log : List ℕ) (s : View K ℕ) (end : ℕ) (t : Tail) (h : Keeps cmp log s end t) where
   kept_records : records_of log ≡ records_of (take end log)
@@ -149,7 +155,7 @@ module _ {K : Type 0} {cmp : K → K → Ordering} (o : IsTotalOrder cmp) (exact
 
     pub held_begun : held_by (log ++ take n (encoded r)) ≡ held_by log
     held_begun =
-        kept_held cmp (log ++ take n (encoded r)) s end tail.Torn (begun_keeps s ( refl , refl )) ∙ ap held_by part_in_front
+        kept_held cmp (log ++ take n (encoded r)) s end tail.Torn (begun_keeps s (refl, refl)) ∙ ap held_by part_in_front
 
   -- whatever part of it was written
   pub held_part : (n : ℕ) → (held_by (log ++ take n (encoded r)) ≡ held_by log) ⊎ (held_by (log ++ take n (encoded r)) ≡ after_record (held_by log) r)
@@ -157,3 +163,83 @@ module _ {K : Type 0} {cmp : K → K → Ordering} (o : IsTotalOrder cmp) (exact
     | inl lt ↦ inl (held_begun n (inl lt))
     | inr le ↦ inr (ap (λ l. held_by (log ++ l)) (take_all n (encoded r) le) ∙ held_written)
   ]
+
+-- ---- a record that is to stand behind the others: the log before the call, and where room was made
+
+module _ (old mid : List ℕ) (room : HasRoom old mid) (r : Entry) where
+  pub refused_early : (f : Fault) → MayRefuse old r f → HasRefused old r f mid
+  refused_early f may = record {
+    refused = (room.held, inr (0, room.cut ∙ sym (append-nil (without_tail old)), inr refl));
+    fault = may;
+  }
+
+  module _ {K : Type 0} {cmp : K → K → Ordering} (o : IsTotalOrder cmp) (exact : (x y : K) → cmp x y ≡ Equal → x ≡ y) (first : Bool) (s : View K ℕ) (end : ℕ) (t : Tail) (h : Keeps cmp mid s end t) (fits : Fits r) where
+    pub all_kept : end ≡ length mid
+    all_kept = sym (kept_end cmp mid s end t h) ∙ room.all
+
+    pub at_end : Keeps cmp mid s end tail.Nothing
+    at_end = ends_keep cmp mid s end t h all_kept
+
+    pub begun_refused : (n : ℕ) → (n < length (encoded r)) ⊎ (n ≡ 0) → (f : Fault) → MayRefuse old r f → HasRefused old r f (mid ++ take n (encoded r))
+    begun_refused n less f may = record {
+      refused = (held_begun o exact first mid s end at_end r fits n less ∙ room.held, inr (n, ap (λ l. l ++ take n (encoded r)) room.cut, less));
+      fault = may;
+    }
+
+    pub held_any : (n : ℕ) → IsBeforeOrAfter old r (mid ++ take n (encoded r))
+    held_any n = elim (held_part o exact first mid s end at_end r fits n) [
+      | inl same ↦ inl (same ∙ room.held)
+      | inr more ↦ inr (more ∙ ap (λ m. after_record m r) room.held)
+    ]
+
+    pub written_changed : (had : Bool) → had ≡ is_some (get (held_by old) r.key) → (is_some r.value || had) ≡ true → HasChanged old r had (mid ++ encoded r)
+    written_changed had was some = record {
+      held = held_written o exact first mid s end at_end r fits ∙ ap (λ m. after_record m r) room.held;
+      was_there = was;
+      logged = ap (λ l. l ++ encoded r) room.cut ∙ sym (ap (λ b. cond b (with_record old r) (without_tail old)) some);
+      undamaged = room.undamaged;
+    }
+
+  -- a key without a value is taken out
+  pub nothing_changed : r.value ≡ None → get (held_by mid) r.key ≡ None → HasChanged old r false mid
+  nothing_changed deleted absent = record {
+    held = room.held ∙ remove_absent (held_by old) r.key none ∙ ap (with_value (held_by old) r.key) (sym deleted);
+    was_there = sym (ap is_some none);
+    logged = room.cut ∙ sym (ap (λ v. cond (is_some v || false) (with_record old r) (without_tail old)) deleted);
+    undamaged = room.undamaged;
+  }
+    where
+      none : get (held_by old) r.key ≡ None
+      none = ap (λ m. get m r.key) (sym room.held) ∙ absent
+
+-- ---- why it is refused
+
+pub may_read-refuse : (log : List ℕ) (r : Entry) (f : Fault) → MayRead f → MayRefuse log r f
+may_read-refuse log r f (inl is) = subst (MayRefuse log r) (sym is) tt
+may_read-refuse log r f (inr is) = subst (MayRefuse log r) (sym is) tt
+
+pub room-refuse : (log : List ℕ) (r : Entry) (f : Fault) → (f ≡ fault.WriteFailed) ⊎ ((f ≡ fault.Damaged) × (tail_in log ≡ tail.Damaged)) → MayRefuse log r f
+room-refuse log r f (inl is) = subst (MayRefuse log r) (sym is) tt
+room-refuse log r f (inr is) = subst (MayRefuse log r) (sym is.0) is.1
+
+pub append-refuse : {X : Type 0} (log : List ℕ) (r : Entry) (f : Fault) → (X → MayRefuse log r f) → (f ≡ fault.WriteFailed) ⊎ (f ≡ fault.Memory) ⊎ X → MayRefuse log r f
+append-refuse log r f full (inl is) = subst (MayRefuse log r) (sym is) tt
+append-refuse log r f full (inr (inl is)) = subst (MayRefuse log r) (sym is) tt
+append-refuse log r f full (inr (inr x)) = full x
+
+pub full-refuse : {K : Type 0} (s : View K ℕ) (log : List ℕ) (r : Entry) (f : Fault) → items_in s ≡ len (held_by log) → get (held_by log) r.key ≡ None → f ≡ refusal_of (growth_fault_in s) → MayRefuse log r f
+full-refuse s log r f counted none is = subst (MayRefuse log r) (sym is) (of (items_in s == 2 ^ 64 - 1) refl)
+  where
+    of : (b : Bool) → (items_in s == 2 ^ 64 - 1) ≡ b → MayRefuse log r (refusal_of (if b then index_fault.Full else index_fault.Memory))
+    of true e = (none, sym counted ∙ eqb-true _ _ e)
+    of false e = tt
+
+-- ---- outcomes
+
+pub on_ok_with : {A E P Q R : Type 0} (r : Result A E) → OnOk r P → OnOk r Q → (P → Q → R) → OnOk r R
+on_ok_with (Ok x) p q f = f p q
+on_ok_with (Err e) p q f = tt
+
+pub or-true : (a : Bool) → (a || true) ≡ true
+or-true true = refl
+or-true false = refl

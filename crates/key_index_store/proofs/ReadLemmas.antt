@@ -65,12 +65,12 @@ module _ (log : List ℕ) (limit p : ℕ) (within : limit ≤ length log) where
   x-is_taken : x ≡ take (limit - p) (drop p log)
   x-is_taken = elim (cases_lt limit p) [
     | inl past ↦ (
-      let none : x ≡ [] = nil_from_length x (omega (arith, length-drop p (take limit log), length-take limit log, past)) in
-      let zero : limit - p ≡ 0 = omega (arith, past) in
-      none ∙ sym (ap (λ n. take n (drop p log)) zero))
+        let none : x ≡ [] = nil_from_length x (omega (arith, length-drop p (take limit log), length-take limit log, past)) in
+        let zero : limit - p ≡ 0 = omega (arith, past) in
+        none ∙ sym (ap (λ n. take n (drop p log)) zero))
     | inr le ↦ (
-      let sum : p + (limit - p) ≡ limit = omega (arith, le) in
-      ap (λ n. drop p (take n log)) (sym sum) ∙ drop-take p (limit - p) log)
+        let sum : p + (limit - p) ≡ limit = omega (arith, le) in
+        ap (λ n. drop p (take n log)) (sym sum) ∙ drop-take p (limit - p) log)
   ]
 
   length-x : length x ≡ limit - p
@@ -109,11 +109,11 @@ module _ (log : List ℕ) (limit p : ℕ) (within : limit ≤ length log) where
       let long = length-read u (min want (limit - p)) (omega arith) read in
       elim (cases_lt want (limit - p)) [
         | inl lt ↦ (
-          let front : v ≡ take (length v) u = read-in_front v (min (limit - p) 1024) (omega arith) is ∙ sym (ap (take (length v)) (read-in_front u (min want (limit - p)) (omega arith) read) ∙ take-take (length v) (length u) x (omega (arith, long, less))) in
-          let whole : v ++ drop (length v) u ≡ u = ap (λ l. l ++ drop (length v) u) front ∙ take-append-drop (length v) u in
-          let thirteen : 13 ≤ length v = omega (arith, size, less) in
-          let wants : wanted w u ≡ want = sym (ap (wanted w) whole) ∙ wanted_front w v (drop (length v) u) thirteen ∙ sym same in
-          inr (omega (arith, long, less, thirteen), omega (arith, wants, long)))
+            let front : v ≡ take (length v) u = read-in_front v (min (limit - p) 1024) (omega arith) is ∙ sym (ap (take (length v)) (read-in_front u (min want (limit - p)) (omega arith) read) ∙ take-take (length v) (length u) x (omega (arith, long, less))) in
+            let whole : v ++ drop (length v) u ≡ u = ap (λ l. l ++ drop (length v) u) front ∙ take-append-drop (length v) u in
+            let thirteen : 13 ≤ length v = omega (arith, size, less) in
+            let wants : wanted w u ≡ want = sym (ap (wanted w) whole) ∙ wanted_front w v (drop (length v) u) thirteen ∙ sym same in
+            inr (omega (arith, long, less, thirteen), omega (arith, wants, long)))
         | inr le ↦ inl (all_read u (min want (limit - p)) (omega arith) read (omega (arith, le)))
       ]
 

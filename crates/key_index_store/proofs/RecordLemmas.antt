@@ -25,8 +25,8 @@ four_of x = refl
 pub not_summed-short : (n : ℕ) (bytes : List ℕ) → length bytes < n + 4 → is_summed n bytes ≡ false
 not_summed-short n bytes h = elim (is_summed n bytes) as (λ b. is_summed n bytes ≡ b → b ≡ false) [
   | true ↦ λ e. absurd (
-    let same = ap (λ l. length l) ((bytes_eq-Decides (take 4 (drop n bytes)) (number (crc32 (take n bytes)))).0 e) in
-    omega (arith, same, four_of (crc32 (take n bytes)), length-take 4 (drop n bytes), length-drop n bytes, h))
+      let same = ap (λ l. length l) ((bytes_eq-Decides (take 4 (drop n bytes)) (number (crc32 (take n bytes)))).0 e) in
+      omega (arith, same, four_of (crc32 (take n bytes)), length-take 4 (drop n bytes), length-drop n bytes, h))
   | false ↦ λ e. refl
 ] refl
 
@@ -387,11 +387,11 @@ begun_torn r n fits less =
     elim (cases_lt n 13) [
       | inl few ↦ ap (λ t. cond t Torn (cond (is_summed 9 a) (behind_head a) Damaged)) (lt-ltb (length a) 13 (omega (arith, size, few)))
       | inr le ↦ (
-        let thirteen : 13 ≤ length a = omega (arith, size, le) in
-        let good : is_summed 9 a ≡ true = sym (head_front a b thirteen) ∙ ap (is_summed 9) all ∙ head_told r fits [] in
-        let whole : record_length a ≡ length (encoded r) =
-        sym (record_length_front a b thirteen) ∙ ap record_length all ∙ omega (arith, from_le_bytes-key_length r fits, from_le_bytes-value_length r fits, length-encoded r fits) in
-        ap (λ t. cond t Torn (cond (is_summed 9 a) (behind_head a) Damaged)) (le-ltb _ _ thirteen)
-        ∙ ap (λ t. cond t (behind_head a) Damaged) good
-        ∙ ap (λ t. cond t Torn (fields_of a (part (key_length a) (drop 13 a)) (value_in_record a))) (lt-ltb (length a) (record_length a) (omega (arith, size, whole, less))))
+          let thirteen : 13 ≤ length a = omega (arith, size, le) in
+          let good : is_summed 9 a ≡ true = sym (head_front a b thirteen) ∙ ap (is_summed 9) all ∙ head_told r fits [] in
+          let whole : record_length a ≡ length (encoded r) =
+          sym (record_length_front a b thirteen) ∙ ap record_length all ∙ omega (arith, from_le_bytes-key_length r fits, from_le_bytes-value_length r fits, length-encoded r fits) in
+          ap (λ t. cond t Torn (cond (is_summed 9 a) (behind_head a) Damaged)) (le-ltb _ _ thirteen)
+          ∙ ap (λ t. cond t (behind_head a) Damaged) good
+          ∙ ap (λ t. cond t Torn (fields_of a (part (key_length a) (drop 13 a)) (value_in_record a))) (lt-ltb (length a) (record_length a) (omega (arith, size, whole, less))))
     ]

@@ -1,5 +1,5 @@
 //! A key-value store on a log. The index keeps positions alone: it gives those that a shortened key may mean, and the log confirms.
-ghost use Rattle.std.specs.Prelude.{◌≡◌, ◌↔◌, ◌⊎◌, ◌<◌, ◌≤◌, ◌^◌, ◌-◌, ◌||◌, ◌≢◌, ℕ, List, [], ◌++◌, if◌then◌else◌, length, take, drop, slice_get, false, Some, None, is_some, All, IsSome, IsTrue, IfSome, IfOk, IfErr, OnOk, OnErr};
+ghost use Rattle.std.specs.Prelude.{◌≡◌, ◌↔◌, ◌⊎◌, ◌<◌, ◌≤◌, ◌^◌, ◌-◌, ◌||◌, ◌≢◌, ◌+◌, ℕ, List, [], ◌++◌, if◌then◌else◌, length, take, drop, slice_get, false, Some, None, is_some, All, IsSome, IsTrue, IfSome, IfOk, IfErr, OnOk, OnErr};
 ghost use Rattle.std.specs.FinMap as map;
 ghost use Rattle.std.specs.Option.{option_map};
 ghost use Rattle.key_index_flat.specs.FullKeys.{IsBytes};
@@ -16,7 +16,7 @@ mod replay;
 
 use crate::device::Device;
 use crate::record::encode;
-use find::{find, place_of, read_value};
+use find::{find, find_place, read_value};
 use key_index_flat::index::{self, Refused, Unordered, Values};
 pub use neighbours::Gap;
 use replay::replay;
@@ -179,6 +179,50 @@ fn write<D: Device, I: Unordered<Value = u64>>(
     settle(index, key, has_value, place, position)
 }
 
+/// Writes a record at the end of a log and files its position. Gives how many bytes the records take then. A refusal leaves the index.
+fn append<D: Device, I: Unordered<Value = u64>>(
+    alloc: Global,
+    device: &mut D,
+    index: &mut I,
+    key: &[u8],
+    value: Option<&[u8]>,
+    place: Option<usize>,
+    end: u64,
+) -> Result<u64, Fault>
+    requires fits { Fits (record { key = key.now; value = option_map (λ v. v.now) value }) }
+    requires known { is_some value ≡ false → IsSome place }
+    requires place { IfSome place (λ p. p < length (run_of I.Key.cmp (I.view index.old) key.now)) }
+    ensures longer { IfOk result (λ longer. longer ≡ end
+        + length (encoded (record { key = key.now; value = option_map (λ v. v.now) value.entry }))) }
+    ensures written { OnOk result (Changes (D.seen device.old) (D.seen device.new) (λ old new. end ≡ length old
+        → new ≡ old ++ encoded (record { key = key.now; value = option_map (λ v. v.now) value.entry }))) }
+    ensures failed { OnErr result (Changes (D.seen device.old) (D.seen device.new) (λ old new. end ≡ length old
+        → IsBegun (encoded (record { key = key.now; value = option_map (λ v. v.now) value.entry })) old new)) }
+    ensures crash { (old : List ℕ) → D.seen device.old ≡ Some old → end ≡ length old → AddsAtMost old
+        (encoded (record { key = key.now; value = option_map (λ v. v.now) value.entry }))
+        (D.may_leave device.old) (D.may_leave device.new) }
+    ensures settled { OnOk result (Settles I.Key.cmp I.INSERT_FIRST
+        (I.view index.old) key.now (is_some value.entry) place end (I.view index.new)) }
+    ensures refused { OnErr result (KeepsLists (I.view index.old) (I.view index.new)) }
+    ensures fault { IfErr result (λ f. (f ≡ Fault.WriteFailed) ⊎ (f ≡ Fault.Memory)
+        ⊎ ((place ≡ None) × (f ≡ refusal_of (growth_fault_in (I.view index.old))))) }
+{
+    let bytes = encode(alloc, key, value)?;
+    let Some(longer) = end.checked_add(bytes.len() as u64) else {
+        return Err(Fault::WriteFailed);
+    };
+    write(
+        device,
+        index,
+        key,
+        value.is_some(),
+        place,
+        end,
+        bytes.as_slice(),
+    )?;
+    Ok(longer)
+}
+
 /// A log that can't be opened, with the device.
 #[derive(Debug, Drop)]
 pub struct NotOpened<D: Drop> {
@@ -271,8 +315,8 @@ impl<D: Device, I: Unordered<Value = u64>> Store<D, I> {
     {
         let (alloc, end) = (self.alloc, self.end);
         let positions = positions_of(&self.index, key);
-        let found = find(alloc, &mut self.device, positions, key, end)?;
-        Ok(found.is_some())
+        let place = find_place(alloc, &mut self.device, positions, key, end)?;
+        Ok(place.is_some())
     }
 
     /// Sets the value of a key, by a record behind the others. A key and a value have fewer than 2^32 bytes each. Where it is refused,
@@ -351,23 +395,29 @@ impl<D: Device, I: Unordered<Value = u64>> Store<D, I> {
         self.make_room()?;
         let (alloc, end) = (self.alloc, self.end);
         let positions = positions_of(&self.index, key);
-        let found = find(alloc, &mut self.device, positions, key, end)?;
-        let place = place_of(&found);
+        let place = find_place(alloc, &mut self.device, positions, key, end)?;
         if value.is_none() && place.is_none() {
             return Ok(false);
         }
-        let bytes = encode(alloc, key, value)?;
-        let Some(longer) = end.checked_add(bytes.len() as u64) else {
-            return Err(Fault::WriteFailed);
-        };
-        let has_value = value.is_some();
-        let (device, index) = (&mut self.device, &mut self.index);
-        if let Err(fault) = write(device, index, key, has_value, place, end, bytes.as_slice()) {
-            self.tail = Tail::Torn;
-            return Err(fault);
+        match append(
+            alloc,
+            &mut self.device,
+            &mut self.index,
+            key,
+            value,
+            place,
+            end,
+        ) {
+            Ok(longer) => {
+                self.end = longer;
+                self.tail = Tail::Nothing;
+                Ok(place.is_some())
+            }
+            Err(fault) => {
+                self.tail = Tail::Torn;
+                Err(fault)
+            }
         }
-        self.end = longer;
-        Ok(place.is_some())
     }
 
     /// Cuts off what stands behind the last whole record, from the first place where none stands to the end of the log. Calls that
@@ -381,11 +431,13 @@ impl<D: Device, I: Unordered<Value = u64>> Store<D, I> {
             → LeavesSame old (D.may_leave self.old) (D.may_leave self.new) }
         ensures fault { IfErr result (λ f. f ≡ Fault.WriteFailed) }
     {
-        if self.device.set_len(self.end).is_err() {
-            return Err(Fault::WriteFailed);
+        match self.device.set_len(self.end) {
+            Ok(()) => {
+                self.tail = Tail::Nothing;
+                Ok(())
+            }
+            Err(_) => Err(Fault::WriteFailed),
         }
-        self.tail = Tail::Nothing;
-        Ok(())
     }
 
     /// Forces what was written to the disk: whatever crash comes, until the next call that writes, leaves this log.

@@ -1,5 +1,5 @@
 //! Reads of records, and the search of a key among positions.
-ghost use Rattle.std.specs.Prelude.{◌≡◌, ◌≤◌, ◌<◌, ◌^◌, ◌-◌, ℕ, List, length, take, drop, slice_get, true, Some, All, IfSome, IfOk, IfErr, IsTrue, option_map};
+ghost use Rattle.std.specs.Prelude.{◌≡◌, ◌≤◌, ◌<◌, ◌^◌, ◌-◌, ℕ, List, length, take, drop, slice_get, true, Some, is_some, All, IfSome, IfOk, IfErr, IsTrue, option_map};
 ghost use Rattle.key_index_store.specs.Device.{IsRead, Sees};
 ghost use Rattle.key_index_store.specs.Indexed.{IsAt, IsLive, entry_at, match_of, value_in};
 ghost use Rattle.key_index_store.specs.Reads.{wanted};
@@ -103,16 +103,6 @@ pub(super) struct Found {
     pub(super) bytes: Vec<u8>,
 }
 
-/// Where the key was found.
-pub(super) fn place_of(found: &Option<Found>) -> Option<usize>
-    ensures { result ≡ option_map (λ f. f.place) found.now }
-{
-    match found {
-        Some(found) => Some(found.place),
-        None => None,
-    }
-}
-
 /// Looks positions up in the first `limit` bytes of a log, until the record of a key is found. A record that doesn't read is the one
 /// that is sought, for all that is known, unless another has the key.
 pub(super) fn find<D: Device>(
@@ -157,6 +147,39 @@ pub(super) fn find<D: Device>(
         return Err(Fault::Damaged);
     }
     Ok(None)
+}
+
+/// Where the key was found.
+fn place_of(found: &Option<Found>) -> Option<usize>
+    ensures { result ≡ option_map (λ f. f.place) found.now }
+{
+    match found {
+        Some(found) => Some(found.place),
+        None => None,
+    }
+}
+
+/// Where a key stands in a list of positions.
+pub(super) fn find_place<D: Device>(
+    alloc: Global,
+    device: &mut D,
+    positions: Values<'_, u64>,
+    key: &[u8],
+    limit: u64,
+) -> Result<Option<usize>, Fault>
+    requires { length positions < 2 ^ 64 }
+    ensures at { Sees (D.seen device.new) (λ log. limit ≤ length log → All (IsLive (take limit log)) positions.entry
+        → IfOk result (λ place. IsAt (entry_at (take limit log)) key.now positions.entry place)) }
+    ensures held { Sees (D.seen device.new) (λ log. limit ≤ length log → All (IsLive (take limit log)) positions.entry
+        → IfOk result (λ place. is_some place ≡ is_some (value_in (take limit log) key.now positions.entry))) }
+    ensures within { IfOk result (λ place. IfSome place (λ p. p < length positions.entry)) }
+    ensures read { IsRead D.seen D.may_leave device.old device.new }
+    ensures fault { Sees (D.seen device.new) (λ log. limit ≤ length log → All (IsLive (take limit log)) positions.entry
+        → IfErr result MayRead) }
+{
+    let found = find(alloc, device, positions, key, limit)?;
+    let place = place_of(&found);
+    Ok(place)
 }
 
 /// Whether the whole record stands at the front of some bytes, by its lengths.

@@ -5,7 +5,7 @@ ghost use Rattle.key_index_store.specs.Indexed.{Indexes, Keeps};
 ghost use Rattle.key_index_store.specs.Record.{Damaged, Fits, Stops, Torn, encoded, reading};
 ghost use Rattle.key_index_store.specs.Stored.{MayRead, is_zeros, tail_of};
 
-use super::find::{find, place_of, read_bytes, read_front};
+use super::find::{find_place, read_bytes, read_front};
 use super::{Fault, Tail, positions_of, settle};
 use crate::device::Device;
 use crate::record::{Reading, decode};
@@ -32,8 +32,7 @@ fn file<D: Device, I: Unordered<Value = u64>>(
     ensures fault { Sees (D.seen device.new) (λ log. position ≤ length log → position < usize.MAX
         → Indexes I.Key.cmp (take position log) (I.view index.old) → IfErr result MayRead) }
 {
-    let found = find(alloc, device, positions_of(index, key), key, position)?;
-    let place = place_of(&found);
+    let place = find_place(alloc, device, positions_of(index, key), key, position)?;
     settle(index, key, has_value, place, position)
 }
 
@@ -57,7 +56,14 @@ fn file_all<D: Device, I: Unordered<Value = u64>>(
     let mut rest = bytes;
     while let Reading::Complete(record) = decode(rest) {
         let place = position + (bytes.len() - rest.len()) as u64;
-        file(alloc, device, index, record.key, record.value.is_some(), place)?;
+        file(
+            alloc,
+            device,
+            index,
+            record.key,
+            record.value.is_some(),
+            place,
+        )?;
         let (_, behind) = rest.split_at(record.length() as usize);
         rest = behind;
     }
@@ -143,7 +149,14 @@ fn file_one<D: Device, I: Unordered<Value = u64>>(
     let bytes = read_front(alloc, device, end, len, true)?;
     let is_torn = match decode(bytes.as_slice()) {
         Reading::Complete(record) => {
-            file(alloc, device, index, record.key, record.value.is_some(), end)?;
+            file(
+                alloc,
+                device,
+                index,
+                record.key,
+                record.value.is_some(),
+                end,
+            )?;
             return Ok(Ok(record.length()));
         }
         Reading::Torn => true,

@@ -15,4 +15,3 @@ returns-then-is_err-clause-refused g c =
     let t = g.I.Runs.view c.settle.new.index in
     let is = after_insert-Settles g.I.Key.Ord.cmp g.I.Unordered.INSERT_FIRST s t c.args.key.now c.args.position c.args.has_value c.args.place (c.is_none.ensures ∙ ap not c.if-is_none.true) c.requires.known c.in_ok-settle.ensures.settled in
     KeepsLists-undone g.met.I.Key.Ord.total g.met.I.Runs.exact g.I.Unordered.INSERT_FIRST s t c.args.key.now c.args.position (g.met.I.Runs.lawful c.args.index.now) is _ c.withdraw.ensures
-

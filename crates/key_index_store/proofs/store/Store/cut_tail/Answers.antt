@@ -1,22 +1,66 @@
+use Rattle.std.proofs.Common.{◌≡◌, inl, inr, length, take, refl, sym, ap, subst, ◌∙◌}
+use Rattle.key_index_store.specs.Indexed.{Keeps}
+use Rattle.key_index_store.specs.Stored.{end_of, held_by}
+use Rattle.key_index_store.specs.declared.store.Tail.TheVariants as tail
+use Rattle.key_index_store.proofs.KeepLemmas.{cut_end, cut_held, cut_keeps, kept_front}
 use Rattle.key_index_store.proofs.store.Store.cut_tail.Goals as goal
 
-pub returns-then-is_err-clause-crash : goal.returns-then-is_err-clause-crash
-returns-then-is_err-clause-crash g c = λ log seen. ?
+pub returns-in-Err-clause-crash : goal.returns-in-Err-clause-crash
+returns-in-Err-clause-crash g c = λ log seen c' left.
+    let seen_in = ap g.D.Device.seen c.self.view_is ∙ seen in
+    let h = c.self.invariant log seen_in in
+    elim (c.in-Err.ensures.crash log c' seen_in h.within left) [
+      | inl could ↦ inl (subst (λ d. g.D.Device.may_leave d c') c.self.view_is could)
+      | inr is ↦ inr (ap held_by is ∙ cut_held g.I.Key.Ord.cmp log (g.I.Runs.view c.self.inside.index) c.self.inside.end c.self.inside.tail h)
+    ]
 
-pub returns-then-is_err-clause-held : goal.returns-then-is_err-clause-held
-returns-then-is_err-clause-held g c = ?
+pub returns-in-Err-clause-held : goal.returns-in-Err-clause-held
+returns-in-Err-clause-held g c = λ new seen. (new, sym (ap g.D.Device.seen c.self.view_is) ∙ c.in-Err.ensures.failed new seen, refl)
 
-pub invariant_of-self-2 : goal.invariant_of-self-2
-invariant_of-self-2 g c = ?
+pub returns-in-Err-clause-refused : goal.returns-in-Err-clause-refused
+returns-in-Err-clause-refused g c = λ new seen. sym (ap g.D.Device.seen c.self.view_is) ∙ c.in-Err.ensures.failed new seen
 
-pub returns-clause-cut : goal.returns-clause-cut
-returns-clause-cut g c = ?
+pub invariant_of-self : goal.invariant_of-self
+invariant_of-self g c = λ new seen.
+    let before = c.in-Ok.ensures.cut new seen in
+    let old = before.0 in
+    let h = c.self.invariant old before.1 in
+    let is = before.2 h.within in
+    let was = sym (ap g.D.Device.seen c.self.view_is) ∙ before.1 in
+    subst (λ l. Keeps g.I.Key.Ord.cmp l (g.I.Runs.view c.self.inside.index) c.self.inside.end tail.Nothing) (sym is) (cut_keeps g.I.Key.Ord.cmp old (g.I.Runs.view c.self.inside.index) c.self.inside.end c.self.inside.tail h)
 
-pub returns-clause-all : goal.returns-clause-all
-returns-clause-all g c = ?
+pub returns-in-Ok-clause-cut : goal.returns-in-Ok-clause-cut
+returns-in-Ok-clause-cut g c = λ new seen.
+    let before = c.in-Ok.ensures.cut new seen in
+    let old = before.0 in
+    let h = c.self.invariant old before.1 in
+    let is = before.2 h.within in
+    let was = sym (ap g.D.Device.seen c.self.view_is) ∙ before.1 in
+    (old, was, is ∙ sym (kept_front g.I.Key.Ord.cmp old (g.I.Runs.view c.self.inside.index) c.self.inside.end c.self.inside.tail h))
 
-pub returns-clause-held : goal.returns-clause-held
-returns-clause-held g c = ?
+pub returns-in-Ok-clause-all : goal.returns-in-Ok-clause-all
+returns-in-Ok-clause-all g c = λ new seen.
+    let before = c.in-Ok.ensures.cut new seen in
+    let old = before.0 in
+    let h = c.self.invariant old before.1 in
+    let is = before.2 h.within in
+    let was = sym (ap g.D.Device.seen c.self.view_is) ∙ before.1 in
+    subst (λ l. end_of l ≡ length l) (sym is) (cut_end g.I.Key.Ord.cmp old (g.I.Runs.view c.self.inside.index) c.self.inside.end c.self.inside.tail h)
 
-pub returns-clause-crash : goal.returns-clause-crash
-returns-clause-crash g c = ?
+pub returns-in-Ok-clause-held : goal.returns-in-Ok-clause-held
+returns-in-Ok-clause-held g c = λ new seen.
+    let before = c.in-Ok.ensures.cut new seen in
+    let old = before.0 in
+    let h = c.self.invariant old before.1 in
+    let is = before.2 h.within in
+    let was = sym (ap g.D.Device.seen c.self.view_is) ∙ before.1 in
+    (old, was, ap held_by is ∙ cut_held g.I.Key.Ord.cmp old (g.I.Runs.view c.self.inside.index) c.self.inside.end c.self.inside.tail h)
+
+pub returns-in-Ok-clause-crash : goal.returns-in-Ok-clause-crash
+returns-in-Ok-clause-crash g c = λ log seen c' left.
+    let seen_in = ap g.D.Device.seen c.self.view_is ∙ seen in
+    let h = c.self.invariant log seen_in in
+    elim (c.in-Ok.ensures.crash log c' seen_in h.within left) [
+      | inl could ↦ inl (subst (λ d. g.D.Device.may_leave d c') c.self.view_is could)
+      | inr is ↦ inr (ap held_by is ∙ cut_held g.I.Key.Ord.cmp log (g.I.Runs.view c.self.inside.index) c.self.inside.end c.self.inside.tail h)
+    ]

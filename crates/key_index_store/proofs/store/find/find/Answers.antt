@@ -62,7 +62,8 @@ loop-position-preserved g c =
           elim c.match-match_of.branch [
             | in-Other w ↦ (
               passed_by (entry_at front) (λ p. p.now) key c.loop-position.yielded c.in-Some.position before.0 (match_other _ key _ c.match_of.result c.match_of.ensures told w.in-Other.is),
-              w.is_unreadable-is ∙ before.1)
+              w.is_unreadable-is ∙ before.1,
+            )
             | in-Unreadable w ↦ absurd (match_readable _ key _ c.match_of.result c.match_of.ensures told w.in-Unreadable.is)
           ];
     }

@@ -84,4 +84,3 @@ returns-clause-whole g c = λ is_whole log seen within.
     let enough = more_suffices log limit p within c.args.is_whole v u.items c.wanted.result is wants less read in
     let front = read-in_front log limit p within u.items (min c.wanted.result (limit - p)) (omega arith) read in
     whole_tells c.args.is_whole _ u.items front is_whole enough) (c.read_bytes-2.ensures.told log seen)
-

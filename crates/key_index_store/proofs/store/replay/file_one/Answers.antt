@@ -45,9 +45,9 @@ returns-clause-tail g c = λ log seen whole.
     c.decode.ensures.exact ∙ ap reading c.as_slice.ensures.value ∙ c.in_ok-bytes.ensures.whole refl log seen_first (omega (arith, whole)) ∙ ap (λ l. reading (drop end l)) all in
     elim c.match-decode.branch [
       | in-Torn w ↦ (
-        let is : reading (drop end log) ≡ Torn = sym told ∙ ap outcome_of w.in-Torn.is in
-        (c.in_ok-tail_at.ensures.told log seen whole (is ∙ sym (ap (λ b. cond b Torn Damaged) w.is_torn-is)), subst Stops (sym is) tt))
+          let is : reading (drop end log) ≡ Torn = sym told ∙ ap outcome_of w.in-Torn.is in
+          (c.in_ok-tail_at.ensures.told log seen whole (is ∙ sym (ap (λ b. cond b Torn Damaged) w.is_torn-is)), subst Stops (sym is) tt))
       | in-Damaged w ↦ (
-        let is : reading (drop end log) ≡ Damaged = sym told ∙ ap outcome_of w.in-Damaged.is in
-        (c.in_ok-tail_at.ensures.told log seen whole (is ∙ sym (ap (λ b. cond b Torn Damaged) w.is_torn-is)), subst Stops (sym is) tt))
+          let is : reading (drop end log) ≡ Damaged = sym told ∙ ap outcome_of w.in-Damaged.is in
+          (c.in_ok-tail_at.ensures.told log seen whole (is ∙ sym (ap (λ b. cond b Torn Damaged) w.is_torn-is)), subst Stops (sym is) tt))
     ]
