@@ -50,8 +50,9 @@ impl<D: Device, I: Ordered<Value = u64>> Store<D, I> {
         ensures copied { OnOk result (Sees (D.seen self.new) (λ log. EntriesFit (held_by log)
             → Changes (C.seen copy.old) (C.seen copy.new) (λ old new. old ≡ [] → IsCopy (held_by log) new))) }
         ensures read { IsRead D.seen D.may_leave self.old self.new }
-        ensures fault { IfErr result (λ f. Sees (D.seen self.new) (λ log. EntriesFit (held_by log)
-            → Changes (C.seen copy.old) (C.seen copy.new) (λ old new. old ≡ [] → MayRead f ⊎ (f ≡ Fault.WriteFailed)))) }
+        ensures fault { Sees (D.seen self.new) (λ log. EntriesFit (held_by log)
+            → Changes (C.seen copy.old) (C.seen copy.new) (λ old new. old ≡ []
+            → IfErr result (λ f. MayRead f ⊎ (f ≡ Fault.WriteFailed)))) }
     {
         let mut last: Option<Vec<u8>> = None;
         for copied in 0..self.len() {
