@@ -339,9 +339,10 @@ module _ {K : Type 0} {cmp : K → K → Ordering} (o : IsTotalOrder cmp) (log :
         pub own_after : is_some own ≡ true → IsEntry log own (entry_after m key)
         unfolding over
         own_after some = (
-            nearest_live log nat_list_cmp_total _ own near_above (All-filter (λ p. is_lt (byte_cmp key (key_at log p))) (IsLive log) (run_of cmp s key) (live_at (s.slot key))),
-            entry_of_nearest log nat_list_cmp_total _ own near_above
-            ∙ own_found log byte_cmp (beyond log byte_cmp (Some key) (run_of cmp s key)) over (entry_after m key) above_told (key_in_bytes own) near_above (shown_some own ∙ some))
+          nearest_live log nat_list_cmp_total _ own near_above (All-filter (λ p. is_lt (byte_cmp key (key_at log p))) (IsLive log) (run_of cmp s key) (live_at (s.slot key))),
+          entry_of_nearest log nat_list_cmp_total _ own near_above
+              ∙ own_found log byte_cmp (beyond log byte_cmp (Some key) (run_of cmp s key)) over (entry_after m key) above_told (key_in_bytes own) near_above (shown_some own ∙ some),
+        )
 
         pub next_after : is_some own ≡ false → (list : Option (List ℕ × Bool)) → list ≡ next_list cmp s.content (s.slot key) → (found : Option (Vec ℕ Global × ℕ))
             → IsNearest log byte_cmp (unflagged list) (key_in_bytes found) → IsEntry log found (entry_after m key)
@@ -350,7 +351,8 @@ module _ {K : Type 0} {cmp : K → K → Ordering} (o : IsTotalOrder cmp) (log :
             let other = subst (λ l. IsNearest log byte_cmp (unflagged l) (key_in_bytes found)) same behind in (
               nearest_live log nat_list_cmp_total _ found other (live_above key),
               entry_of_nearest log nat_list_cmp_total _ found other
-              ∙ other_found log byte_cmp (beyond log byte_cmp (Some key) (run_of cmp s key)) over (entry_after m key) above_told (key_in_bytes own) (key_in_bytes found) near_above (shown_some own ∙ none) other)
+                  ∙ other_found log byte_cmp (beyond log byte_cmp (Some key) (run_of cmp s key)) over (entry_after m key) above_told (key_in_bytes own) (key_in_bytes found) near_above (shown_some own ∙ none) other,
+            )
 
       module _ (near : IsNearest log down (beyond log down (Some key) run) (key_in_bytes own)) where
         near_below : IsNearest log down (beyond log down (Some key) (run_of cmp s key)) (key_in_bytes own)
@@ -359,9 +361,10 @@ module _ {K : Type 0} {cmp : K → K → Ordering} (o : IsTotalOrder cmp) (log :
         pub own_before : is_some own ≡ true → IsEntry log own (entry_before m key)
         unfolding under
         own_before some = (
-            nearest_live log (back_total nat_list_cmp_total) _ own near_below (All-filter (λ p. is_lt (down key (key_at log p))) (IsLive log) (run_of cmp s key) (live_at (s.slot key))),
-            entry_of_nearest log (back_total nat_list_cmp_total) _ own near_below
-            ∙ own_found log down (beyond log down (Some key) (run_of cmp s key)) under (entry_before m key) below_told (key_in_bytes own) near_below (shown_some own ∙ some))
+          nearest_live log (back_total nat_list_cmp_total) _ own near_below (All-filter (λ p. is_lt (down key (key_at log p))) (IsLive log) (run_of cmp s key) (live_at (s.slot key))),
+          entry_of_nearest log (back_total nat_list_cmp_total) _ own near_below
+              ∙ own_found log down (beyond log down (Some key) (run_of cmp s key)) under (entry_before m key) below_told (key_in_bytes own) near_below (shown_some own ∙ some),
+        )
 
         pub prev_before : is_some own ≡ false → (list : Option (List ℕ × Bool)) → list ≡ prev_list cmp s.content (s.slot key) → (found : Option (Vec ℕ Global × ℕ))
             → IsNearest log down (unflagged list) (key_in_bytes found) → IsEntry log found (entry_before m key)
@@ -370,7 +373,8 @@ module _ {K : Type 0} {cmp : K → K → Ordering} (o : IsTotalOrder cmp) (log :
             let other = subst (λ l. IsNearest log down (unflagged l) (key_in_bytes found)) same behind in (
               nearest_live log (back_total nat_list_cmp_total) _ found other (live_below key),
               entry_of_nearest log (back_total nat_list_cmp_total) _ found other
-              ∙ other_found log down (beyond log down (Some key) (run_of cmp s key)) under (entry_before m key) below_told (key_in_bytes own) (key_in_bytes found) near_below (shown_some own ∙ none) other)
+                  ∙ other_found log down (beyond log down (Some key) (run_of cmp s key)) under (entry_before m key) below_told (key_in_bytes own) (key_in_bytes found) near_below (shown_some own ∙ none) other,
+            )
 
   -- ---- the greatest key of all
 
@@ -409,8 +413,9 @@ module _ {K : Type 0} {cmp : K → K → Ordering} (o : IsTotalOrder cmp) (log :
 
     pub last_told : (l : List ℕ) → list ≡ Some l → (found : Option (Vec ℕ Global × ℕ)) → IsNearest log (flip_args byte_cmp) l (key_in_bytes found) → IsEntry log found (last_entry (entries m))
     last_told l is found near = (
-        nearest_live log (back_total nat_list_cmp_total) l found near (live_last l is),
-        entry_of_nearest log (back_total nat_list_cmp_total) l found near ∙ greatest_told near.0 (least_of_all s.content lawful IsFiled-content l (sym is ∙ same) near.0 near.1))
+      nearest_live log (back_total nat_list_cmp_total) l found near (live_last l is),
+      entry_of_nearest log (back_total nat_list_cmp_total) l found near ∙ greatest_told near.0 (least_of_all s.content lawful IsFiled-content l (sym is ∙ same) near.0 near.1),
+    )
 
 -- ---- the first entry of all, by the empty key
 

@@ -1,6 +1,5 @@
 //! A store copied to a fresh log.
-ghost use Rattle.std.specs.Prelude.{◌≡◌, ◌⊎◌, ◌<◌, List, [], length, Some, IfOk, IfErr, OnOk};
-ghost use Rattle.std.specs.FinMap.{entries};
+ghost use Rattle.std.specs.Prelude.{◌≡◌, ◌⊎◌, ◌<◌, [], length, Some, IfOk, IfErr, OnOk};
 ghost use Rattle.std.specs.Option.{option_map};
 ghost use Rattle.key_index_flat.specs.Neighbours.{first_entry};
 ghost use Rattle.key_index_store.specs.Device.{Changes, IsRead, Sees};
@@ -67,7 +66,11 @@ impl<D: Device, I: Ordered<Value = u64>> Store<D, I> {
 
     /// A store of the same map on a fresh log, over an empty index: the log has a record of each key that has a value, in the order
     /// of the keys. A log that has bytes is refused with `NotEmpty`. This store is as before, whatever comes.
-    pub fn compact<C: Device + Drop>(&mut self, mut into: C, index: I) -> Result<Store<C, I>, NotOpened<C>>
+    pub fn compact<C: Device + Drop>(
+        &mut self,
+        mut into: C,
+        index: I,
+    ) -> Result<Store<C, I>, NotOpened<C>>
     where
         I: Drop,
         requires { (I.view index).content ≡ [] }
