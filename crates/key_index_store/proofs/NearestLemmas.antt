@@ -5,9 +5,8 @@
 --     live_above, live_below                                  the lists of neighbours are live
 --     none_last, live_last, last_told                         and the greatest key of all, in the last list
 --     first_held, first_entry-above_empty_key                 the least of all is the empty key, or the next one
-use Rattle.std.proofs.Common.{◌≡◌, ◌<◌, ℕ, Bool, true, false, List, [], ◌∷◌, ◌++◌, cond, map, take, drop, take-append-drop, T, All, Vec, Global, Result, IfOk, Option, Some, None, is_some, refl, sym, ap, subst, ◌∙◌, append-nil}
+use Rattle.std.proofs.Common.{◌≡◌, ◌<◌, ℕ, Bool, true, false, List, [], ◌∷◌, ◌++◌, cond, map, T, All, Vec, Global, Option, Some, None, is_some, refl, sym, ap, subst, ◌∙◌, append-nil}
 use Rattle.std.proofs.lemmas.Bool.{false≢true}
-use Rattle.std.proofs.lemmas.Result.{IfOk-weaker}
 use Rattle.std.proofs.lemmas.List.Elements.{All-append, All-cons, All-filter, All-head, All-nil, All-tail, All-weaker, filter-append}
 use Rattle.std.specs.BTreeMap.Range.{IsLeBy}
 use Rattle.std.specs.Cmp.{IsTotalOrder, back_total, nat_cmp_is, on_total, tied_itself}

@@ -1,4 +1,4 @@
-use Rattle.std.proofs.Common.{◌≡◌, [], inl, inr, sym, ap, ◌∙◌, arith}
+use Rattle.std.proofs.Common.{inl, inr, sym, ap, ◌∙◌, arith}
 use Rattle.std.proofs.lemmas.List.{nil_from_length}
 use Rattle.key_index_store.proofs.CompactLemmas.{kept_fit}
 use Rattle.key_index_store.proofs.store.Store.compact.Goals as goal

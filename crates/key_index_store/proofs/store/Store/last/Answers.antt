@@ -1,4 +1,4 @@
-use Rattle.std.proofs.Common.{rules, ◌≡◌, take, sym, ap, ◌∙◌}
+use Rattle.std.proofs.Common.{rules, take, sym, ap, ◌∙◌}
 use Rattle.std.proofs.lemmas.Result.{IfOk-weaker}
 use Rattle.std.specs.FinMap.{entries}
 use Rattle.key_index_flat.specs.Neighbours.{last_entry}

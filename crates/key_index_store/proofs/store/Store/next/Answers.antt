@@ -1,4 +1,4 @@
-use Rattle.std.proofs.Common.{rules, ◌≡◌, All, take, sym, ap, subst, ◌∙◌}
+use Rattle.std.proofs.Common.{rules, All, take, sym, ap, subst, ◌∙◌}
 use Rattle.std.proofs.lemmas.Result.{IfOk-weaker}
 use Rattle.key_index_flat.specs.FullKeys.{unflagged}
 use Rattle.key_index_store.specs.Indexed.{IsLive}

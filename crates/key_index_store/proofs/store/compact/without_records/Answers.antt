@@ -1,4 +1,3 @@
-use Rattle.std.proofs.Common.{◌≡◌}
 use Rattle.key_index_store.proofs.CompactLemmas.{fresh_keeps}
 use Rattle.key_index_store.proofs.store.compact.without_records.Goals as goal
 

@@ -1,6 +1,6 @@
-use Rattle.std.proofs.Common.{rules, ◌≡◌, ◌∷◌, [], List, ℕ, take, drop, length, Some, refl, sym, ap, subst, ◌∙◌}
-use Rattle.std.specs.Option.{IfSome, option_map}
-use Rattle.key_index_store.specs.Indexed.{IsLive, entry_at}
+use Rattle.std.proofs.Common.{take, Some, refl, sym, ap, subst, ◌∙◌}
+use Rattle.std.specs.Option.{IfSome}
+use Rattle.key_index_store.specs.Indexed.{IsLive}
 use Rattle.key_index_store.proofs.NearestLemmas.{entry_of_found}
 use Rattle.key_index_store.proofs.store.neighbours.with_its_value.Goals as goal
 
