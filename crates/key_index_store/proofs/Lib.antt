@@ -1,10 +1,12 @@
 pub mod ChecksumLemmas
+pub mod CompactLemmas
 pub mod CrashLemmas
 pub mod HeaderLemmas
 pub mod HistoryLemmas
 pub mod IndexLemmas
 pub mod KeepLemmas
 pub mod LogLemmas
+pub mod NearestLemmas
 pub mod ReadLemmas
 pub mod RecordLemmas
 pub mod ReplayLemmas

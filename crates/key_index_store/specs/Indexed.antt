@@ -10,12 +10,13 @@
 --     Keeps                 what a store keeps of its log: where the complete records end, what stands behind them, and the index of them
 --     Settles               after the position of a key's newest record was filed: in the place of the older one, or as a new one
 --     KeepsLists            no list is another
-use Rattle.std.specs.Prelude.{◌≡◌, ◌-◌, ◌≤◌, ℕ, Bool, if◌then◌else◌, true, false, List, [], map, length, drop, take, remove, slice_get, slice_set, Option, Some, None, All}
+use Rattle.std.specs.Prelude.{◌≡◌, ◌-◌, ◌≤◌, ℕ, Bool, if◌then◌else◌, true, false, List, [], map, length, drop, take, remove, slice_get, slice_set, Option, Some, None, All, Vec}
 use Rattle.std.specs.FinMap.{find, get, len}
 use Rattle.std.specs.List.{filter, flat_map, IsDistinct}
 use Rattle.std.specs.Option.{option_map}
 use Rattle.std.specs.Ordering.{eq_by_cmp, is_lt, on}
 use Rattle.std.specs.Str.{bytes_eq}
+use Rattle.std.specs.declared.alloc.Global.{Global}
 use Rattle.std.specs.declared.cmp.Ordering.{Ordering}
 use Rattle.key_index_flat.specs.FullKeys.{IsBytes, IsLeast, byte_cmp}
 use Rattle.key_index_flat.specs.View.{View, after_insert, items_in, run_at, run_of, with_edit, with_pruned}
@@ -29,6 +30,10 @@ abbrev pub parts_of : Outcome → List ℕ × List ℕ
 parts_of (Complete r) = (r.key, bytes_of r.value)
 parts_of Torn = ([], [])
 parts_of Damaged = ([], [])
+
+-- a key that the code has, with its position
+abbrev pub key_in_bytes : Option (Vec ℕ Global × ℕ) → Option (List ℕ × ℕ)
+key_in_bytes o = option_map (λ f. (f.0.items, f.1)) o
 
 -- a key comes behind another, or none is given
 abbrev pub is_behind : (List ℕ → List ℕ → Ordering) → Option (List ℕ) → List ℕ → Bool
@@ -63,8 +68,8 @@ module _ (log : List ℕ) where
   beyond cmp None ps = ps
   beyond cmp (Some a) ps = filter (λ p. is_lt (cmp a (key_at p))) ps
 
-  abbrev pub IsNearest : (List ℕ → List ℕ → Ordering) → List ℕ → Option (List ℕ × List ℕ) → Type 0
-  IsNearest cmp ps entry = (o : Option ℕ) × IsLeast (on key_at cmp) ps o × (entry ≡ option_map entry_at o)
+  abbrev pub IsNearest : (List ℕ → List ℕ → Ordering) → List ℕ → Option (List ℕ × ℕ) → Type 0
+  IsNearest cmp ps found = (o : Option ℕ) × IsLeast (on key_at cmp) ps o × (found ≡ option_map (λ p. (key_at p, p)) o)
 
 module _ {K : Type 0} (cmp : K → K → Ordering) where
   pub record Indexes (log : List ℕ) (s : View K ℕ) : Type 0 where

@@ -13,6 +13,7 @@
 --     MayRead, MayRefuse  why a call may be refused
 --     HasChanged, HasRefused  after a call that appends a record where one is wanted
 --     compacted           a log that has a record of each entry of a map, in the order of the keys, and nothing else
+--     EntriesFit, IsCopy  each entry of a map has a record;  that log, which leaves the map
 --     tail_in, IsTail     what stands behind the last complete record;  what a store knows of that
 use Rattle.std.specs.Prelude.{◌≡◌, ◌⊎◌, ◌-◌, ◌^◌, ◌==◌, ◌&&◌, ◌||◌, ℕ, zero, suc, Bool, true, List, [], ◌∷◌, ◌++◌, length, map, take, drop, Option, Some, None, is_some, if◌then◌else◌, Vec}
 use Rattle.std.specs.FinMap.{FinMap, empty, entries, get, insert, len, remove}
@@ -106,6 +107,13 @@ put_of e = record { key = e.0; value = Some e.1 }
 
 abbrev pub compacted : Values → List ℕ
 compacted m = flat_map encoded (map put_of (entries m))
+
+-- each entry has a record
+abbrev pub EntriesFit : Values → Type 0
+EntriesFit m = (key value : List ℕ) → get m key ≡ Some value → Fits (put_of (key, value))
+
+abbrev pub IsCopy : Values → List ℕ → Type 0
+IsCopy m log = (log ≡ compacted m) × (held_by log ≡ m)
 
 -- ---- what stands behind the records
 

@@ -11,7 +11,9 @@ ghost use Rattle.key_index_store.specs.Record.{Complete, Entry, Fits, IsFound, I
 ghost use Rattle.key_index_store.specs.Salvage.{MaySalvage, salvaged};
 ghost use Rattle.key_index_store.specs.Stored.{HasChanged, HasRefused, HasRoom, LeavesSame, IsRefused, IsTail, LeavesBeforeOrAfter, MayRead, MayRefuse, refusal_of, end_of, held_by, is_zeros, tail_in, tail_of, with_record, with_value, without_tail};
 
+mod compact;
 pub(crate) mod find;
+mod neighbours;
 mod replay;
 
 use crate::device::Device;
@@ -19,6 +21,7 @@ use crate::record::encode;
 use crate::salvage::{Salvaged, salvage};
 use find::{find, find_place, length_of, read_value};
 use key_index_flat::index::{self, Refused, Unordered, Values};
+pub use neighbours::Gap;
 use replay::replay;
 use std::alloc::{AllocError, Global};
 use std::marker::Model;
