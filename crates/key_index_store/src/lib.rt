@@ -10,3 +10,4 @@ pub mod memory_device;
 pub mod record;
 pub mod salvage;
 pub mod store;
+pub mod translator;
