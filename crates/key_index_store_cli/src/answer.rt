@@ -10,17 +10,14 @@ pub type Entry = (Vec<u8>, Vec<u8>);
 /// What a command gives.
 #[derive(Drop)]
 pub enum Answer {
-    Done,
-    Deleted(bool),
-    Has(bool),
-    Count(usize),
-    Dead(u64),
+    /// A word that says all.
+    Word(&'static str),
+    /// A number, behind the word that says of what.
+    Number(&'static str, u64),
     Value(Option<Vec<u8>>),
     Entry(Option<Entry>),
     Gap(Option<Gap>),
-    /// Behind the entries of a scan.
-    End,
-    /// How many records a salvage copied, and how many bytes it left out.
+    /// How many records were copied, and how many bytes left out.
     Salvaged(u64, u64),
 }
 
@@ -34,25 +31,19 @@ pub struct Line<'a>(pub &'a Answered, pub bool);
 impl fmt::Display for Line<'_> {
     fn fmt<W: fmt::Write>(&self, f: &mut fmt::Formatter<W>) -> fmt::Result {
         let is_text = self.1;
-        let bytes = |bytes| Bytes(bytes, is_text);
         match self.0 {
-            Ok(Answer::Done | Answer::Deleted(true)) => write!(f, "ok"),
-            Ok(Answer::Has(has)) => write!(f, "{}", if *has { "yes" } else { "no" }),
-            Ok(Answer::Count(count)) => write!(f, "count {count}"),
-            Ok(Answer::Dead(count)) => write!(f, "dead {count}"),
-            Ok(Answer::Value(Some(value))) => write!(f, "value {}", bytes(value)),
+            Ok(Answer::Word(word)) => write!(f, "{word}"),
+            Ok(Answer::Number(word, number)) => write!(f, "{word} {number}"),
+            Ok(Answer::Value(Some(value))) => write!(f, "value {}", Bytes(value, is_text)),
             Ok(Answer::Entry(Some((key, value)))) => {
-                write!(f, "entry {} {}", bytes(key), bytes(value))
+                write!(f, "entry {} {}", Bytes(key, is_text), Bytes(value, is_text))
             }
             Ok(Answer::Gap(Some(gap))) => {
                 let (before, after) = (Key(&gap.before, is_text), Key(&gap.after, is_text));
                 write!(f, "between {before} {after}")
             }
             Ok(Answer::Gap(None)) => write!(f, "held"),
-            Ok(Answer::Deleted(false) | Answer::Value(None) | Answer::Entry(None)) => {
-                write!(f, "none")
-            }
-            Ok(Answer::End) => write!(f, "end"),
+            Ok(Answer::Value(None) | Answer::Entry(None)) => write!(f, "none"),
             Ok(Answer::Salvaged(records, left_out)) => {
                 write!(f, "salvaged {records} records, {left_out} bytes left out")
             }
@@ -61,18 +52,27 @@ impl fmt::Display for Line<'_> {
     }
 }
 
+/// The key of a neighbour, or `none`.
+#[derive(Clone, Copy)]
+struct Key<'a>(&'a Option<Entry>, bool);
+
+impl fmt::Display for Key<'_> {
+    fn fmt<W: fmt::Write>(&self, f: &mut fmt::Formatter<W>) -> fmt::Result {
+        match self.0 {
+            Some((key, _)) => write!(f, "{}", Bytes(key, self.1)),
+            None => write!(f, "none"),
+        }
+    }
+}
+
 /// Bytes as a word: two hexadecimal digits for each, or `-` where there are none; or, where that is asked and all of them are printable
-/// ASCII, in double quotes.
+/// ASCII, a text in double quotes.
 #[derive(Clone, Copy)]
 struct Bytes<'a>(&'a [u8], bool);
 
-fn is_printable(byte: u8) -> bool {
-    (b' '..=b'~').contains(&byte)
-}
-
 impl fmt::Display for Bytes<'_> {
     fn fmt<W: fmt::Write>(&self, f: &mut fmt::Formatter<W>) -> fmt::Result {
-        if self.1 && self.0.iter().all(|byte| is_printable(*byte)) {
+        if self.1 && self.0.iter().all(|byte| (b' '..=b'~').contains(byte)) {
             return write_text(self.0, f);
         }
         if self.0.is_empty() {
@@ -95,31 +95,4 @@ fn write_text<W: fmt::Write>(bytes: &[u8], f: &mut fmt::Formatter<W>) -> fmt::Re
         write!(f, "{}", char::from(*byte))?;
     }
     write!(f, "\"")
-}
-
-/// The key of a neighbour, or `none`.
-#[derive(Clone, Copy)]
-struct Key<'a>(&'a Option<Entry>, bool);
-
-impl fmt::Display for Key<'_> {
-    fn fmt<W: fmt::Write>(&self, f: &mut fmt::Formatter<W>) -> fmt::Result {
-        match self.0 {
-            Some((key, _)) => write!(f, "{}", Bytes(key, self.1)),
-            None => write!(f, "none"),
-        }
-    }
-}
-
-/// A word of the input as it can be printed: other bytes than printable ASCII are shown as `?`, and no more than the first 32.
-#[derive(Clone, Copy)]
-pub struct Printable<'a>(pub &'a [u8]);
-
-impl fmt::Display for Printable<'_> {
-    fn fmt<W: fmt::Write>(&self, f: &mut fmt::Formatter<W>) -> fmt::Result {
-        for byte in self.0.iter().take(32) {
-            let shown = if is_printable(*byte) { *byte } else { b'?' };
-            write!(f, "{}", char::from(shown))?;
-        }
-        Ok(())
-    }
 }

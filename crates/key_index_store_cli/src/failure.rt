@@ -2,16 +2,15 @@
 
 use key_index_store::store::Fault;
 use std::alloc::AllocError;
-use std::fmt;
-use std::io;
 use std::io::Write;
+use std::{fmt, io};
 use thiserror::Error;
 
 /// Why the program ends before its input does. The text is what it prints on standard error.
 #[derive(Debug, Drop, Error)]
 pub enum Failure<'a> {
     /// The arguments are not those of the program.
-    #[error("usage: key_index_store [--text] [--durable] [--keep-going] FILE [KIND]\n       key_index_store --help")]
+    #[error("usage: key_index_store [--text] [--durable] [--keep-going] FILE [KIND]; all about it: --help")]
     Usage,
     /// A file that is opened would take the place of a standard stream.
     #[error("failed: standard input or output is closed")]
@@ -22,60 +21,39 @@ pub enum Failure<'a> {
     /// The store on the file of a name is refused.
     #[error("refused {0}: {1}")]
     Refused(Refusal, &'a str),
-    /// A stream, or memory, failed outside a command.
+    /// A stream failed.
     #[error("failed: {0}")]
     Failed(#[from] io::Error),
+    /// There was no memory outside a command.
+    #[error("failed: {0}")]
+    Memory(#[from(alloc)] AllocError),
 }
 
 /// Why a command is refused. The text is the reason in its answer.
-#[derive(Clone, Copy, Debug, PartialEq, Eq, Error)]
+#[derive(Debug, Drop, Error)]
 pub enum Refusal {
+    /// For the reason that this word says.
+    #[error("{0}")]
+    For(&'static str),
+    /// There was no memory.
     #[error("memory")]
-    Memory,
-    #[error("full")]
-    Full,
-    #[error("long")]
-    Long,
-    #[error("read")]
-    Read,
-    #[error("write")]
-    Write,
-    #[error("damaged")]
-    Damaged,
-    #[error("not empty")]
-    NotEmpty,
-    #[error("unordered")]
-    Unordered,
-    #[error("read-only")]
-    ReadOnly,
-    #[error("open")]
-    Open,
-    #[error("busy")]
-    Busy,
-    #[error("sync")]
-    Sync,
-    /// Of a file that is opened.
-    #[error("no store")]
-    NoStore,
+    Memory(#[from(alloc)] AllocError),
+    /// It is no command.
+    #[error("no command")]
+    NoCommand,
 }
 
 impl From<Fault> for Refusal {
     fn from(fault: Fault) -> Refusal {
-        match fault {
-            Fault::Memory => Refusal::Memory,
-            Fault::Full => Refusal::Full,
-            Fault::TooLong => Refusal::Long,
-            Fault::ReadFailed => Refusal::Read,
-            Fault::WriteFailed => Refusal::Write,
-            Fault::Damaged => Refusal::Damaged,
-            Fault::NotEmpty => Refusal::NotEmpty,
-        }
-    }
-}
-
-impl From<AllocError> for Refusal {
-    fn from(_error: AllocError) -> Refusal {
-        Refusal::Memory
+        Refusal::For(match fault {
+            Fault::Memory => "memory",
+            Fault::Full => "full",
+            Fault::TooLong => "long",
+            Fault::ReadFailed => "read",
+            Fault::WriteFailed => "write",
+            Fault::Damaged => "damaged",
+            Fault::NotEmpty => "not empty",
+        })
     }
 }
 
@@ -86,13 +64,7 @@ impl Failure<'_> {
             return refusal;
         }
         tell(rt, self);
-        Refusal::Open
-    }
-}
-
-impl From<AllocError> for Failure<'_> {
-    fn from(error: AllocError) -> Self {
-        Failure::Failed(io::Error::from(error))
+        Refusal::For("open")
     }
 }
 

@@ -3,12 +3,11 @@
 use crate::failure::{Failure, Refusal, tell};
 use key_index_store::file_device::{FileDevice, Unknown};
 use key_index_store::headed::{Headed, OpenError};
-use std::fs;
 use std::fs::{File, OpenFile, OpenOptions, TryLockError};
-use std::io;
 use std::io::ErrorKind;
 use std::os::fd::AsRawFd;
 use std::path::Path;
+use std::{fs, io};
 
 /// What a store stands on.
 pub type Disk = Headed<FileDevice<Unknown>>;
@@ -57,19 +56,19 @@ pub fn lock<'a>(
     };
     match locked {
         Ok(()) if is_at(rt, file, path) => Ok(()),
-        Ok(()) | Err(TryLockError::WouldBlock) => Err(Failure::Refused(Refusal::Busy, path)),
+        Ok(()) | Err(TryLockError::WouldBlock) => Err(Failure::Refused(Refusal::For("busy"), path)),
         Err(TryLockError::Error(error)) => Err(Failure::CannotOpen(path, error)),
     }
 }
 
-/// What stands behind the header of a file.
-pub fn headed(file: File, path: &str) -> Result<Disk, Failure<'_>> {
+/// What stands behind the header of a file. It is refused with `no_store` where it is no store's.
+pub fn headed<'a>(file: File, path: &'a str, no_store: &'static str) -> Result<Disk, Failure<'a>> {
     Headed::open(FileDevice::new(file, Unknown)).map_err(|error| {
-        let refusal = match error {
-            OpenError::ReadFailed => Refusal::Read,
-            OpenError::NoStore => Refusal::NoStore,
+        let reason = match error {
+            OpenError::ReadFailed => "read",
+            OpenError::NoStore => no_store,
         };
-        Failure::Refused(refusal, path)
+        Failure::Refused(Refusal::For(reason), path)
     })
 }
 
@@ -103,7 +102,7 @@ pub fn open_store<'a>(rt: &HostRuntime, path: &'a str) -> Result<Opened, Failure
     let file = opened.map_err(|error| Failure::CannotOpen(path, error))?;
     lock(rt, &file, path, is_read_only)?;
     Ok(Opened {
-        disk: headed(file, path)?,
+        disk: headed(file, path, "no store")?,
         is_new,
         is_read_only,
     })
@@ -119,6 +118,6 @@ pub fn sync_folder(rt: &HostRuntime, path: &str) -> Result<(), Refusal> {
     let synced = opened.and_then(|folder| folder.sync_all());
     synced.map_err(|error| {
         tell(rt, Failure::CannotOpen(folder, error));
-        Refusal::Sync
+        Refusal::For("sync")
     })
 }

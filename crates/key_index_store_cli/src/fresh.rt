@@ -4,8 +4,12 @@ use crate::failure::{Failure, Refusal, tell};
 use crate::file::{Disk, headed, lock, open};
 use key_index_store::device::Device;
 use std::fs;
-use std::fs::{File, OpenFile};
-use std::io::ErrorKind;
+use std::fs::{File, OpenFile, Permissions};
+use std::io::{Error, ErrorKind};
+use std::os::unix::fs::PermissionsExt;
+
+/// The permissions to read and to write of a file's owner.
+const OWNER: u32 = 0o600;
 
 /// A file with `.part` behind its name, and the path whose file it becomes.
 #[derive(Drop)]
@@ -26,26 +30,37 @@ fn take_place<'a>(rt: &HostRuntime, path: &'a str) -> Result<Option<File>, Failu
     let locked = lock(rt, &file, path, false);
     match file.metadata() {
         Ok(metadata) if metadata.is_file() && metadata.len() == 0 => locked.map(|()| Some(file)),
-        Ok(_) => Err(Failure::Refused(Refusal::NotEmpty, path)),
+        Ok(_) => Err(Failure::Refused(Refusal::For("not empty"), path)),
         Err(error) => Err(Failure::CannotOpen(path, error)),
     }
 }
 
-/// The file at a path, made where there is none, with the permissions of another one. What it holds has to be a store, and is dropped.
+/// Refuses to put another file in the place of a device.
+fn check_regular<'a>(rt: &HostRuntime, path: &'a str) -> Result<(), Failure<'a>> {
+    match fs::metadata(rt, path) {
+        Ok(metadata) if metadata.is_file() => Ok(()),
+        Ok(_) => Err(Failure::CannotOpen(path, Error::other("not a regular file"))),
+        Err(error) => Err(Failure::CannotOpen(path, error)),
+    }
+}
+
+/// The file at a path, made where there is none, with the permissions of another one, which its owner may write. What it
+/// holds has to be a store, and is dropped.
 fn open_part<'a>(rt: &HostRuntime, path: &'a str, from: &str) -> Result<Disk, Failure<'a>> {
     let cannot_open = |error| Failure::CannotOpen(path, error);
     let file = open(rt, path, true, true).map_err(cannot_open)?;
     lock(rt, &file, path, false)?;
-    let permissions = fs::metadata(rt, from).map_err(cannot_open)?.permissions();
+    let mode = fs::metadata(rt, from)
+        .map_err(cannot_open)?
+        .permissions()
+        .mode();
+    let permissions = Permissions::from_mode(mode | OWNER);
     if permissions != file.metadata().map_err(cannot_open)?.permissions() {
         OpenFile::set_permissions(&file, permissions).map_err(cannot_open)?;
     }
-    let mut disk = headed(file, path).map_err(|failure| match failure {
-        Failure::Refused(Refusal::NoStore, path) => Failure::Refused(Refusal::NotEmpty, path),
-        failure => failure,
-    })?;
+    let mut disk = headed(file, path, "not empty")?;
     let emptied = disk.set_len(0);
-    emptied.map_err(|_| Failure::Refused(Refusal::Write, path))?;
+    emptied.map_err(|_| Failure::Refused(Refusal::For("write"), path))?;
     Ok(disk)
 }
 
@@ -58,11 +73,12 @@ impl<'a> Fresh<'a> {
         from: &str,
         is_own: bool,
     ) -> Result<(Fresh<'a>, Disk), Refusal> {
-        let _place = if is_own {
-            None
+        let place = if is_own {
+            check_regular(rt, target).map(|()| None)
         } else {
-            take_place(rt, target).map_err(|failure| failure.into_refusal(rt))?
+            take_place(rt, target)
         };
+        let _place = place.map_err(|failure| failure.into_refusal(rt))?;
         let part = format!(in rt.alloc(); "{target}.part")?;
         let disk = open_part(rt, part.as_str(), from).map_err(|failure| failure.into_refusal(rt))?;
         let fresh = Fresh {
@@ -77,7 +93,7 @@ impl<'a> Fresh<'a> {
         let renamed = fs::rename(rt, self.part.as_str(), self.target);
         renamed.map_err(|error| {
             tell(rt, Failure::CannotOpen(self.target, error));
-            Refusal::Write
+            Refusal::For("write")
         })
     }
 

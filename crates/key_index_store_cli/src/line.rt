@@ -1,9 +1,9 @@
 //! One line of input, parsed into a command.
 ghost use Rattle.std.specs.Prelude.{◌<◌, ◌≤◌, IfOk, length};
 
-use std::alloc::{AllocError, Global};
+use crate::failure::Refusal;
+use std::alloc::Global;
 use std::str;
-use thiserror::Error;
 
 /// How many words a command has at most.
 const WORDS: usize = 3;
@@ -41,15 +41,6 @@ pub enum InOrder {
     Move(String),
 }
 
-/// Why a line gives no command.
-#[derive(Debug, Drop, Error)]
-pub enum LineError {
-    #[error("no command")]
-    NoCommand,
-    #[error("memory")]
-    Memory(#[from(alloc)] AllocError),
-}
-
 /// A word of a line, or the text between its quotes.
 #[derive(Drop)]
 enum Word<'a> {
@@ -58,28 +49,28 @@ enum Word<'a> {
 }
 
 /// The value of a hexadecimal digit of either case.
-fn digit(byte: u8) -> Result<u8, LineError>
+fn digit(byte: u8) -> Result<u8, Refusal>
     ensures { IfOk result (λ value. value < 16) }
 {
     let value = char::from(byte).to_digit(16);
-    Ok(value.ok_or(LineError::NoCommand)? as u8)
+    Ok(value.ok_or(Refusal::NoCommand)? as u8)
 }
 
 /// The bytes that a plain word writes: two hexadecimal digits for each, or `-` for none.
-fn bytes_of(alloc: Global, word: &[u8]) -> Result<Vec<u8>, LineError> {
+fn bytes_of(alloc: Global, word: &[u8]) -> Result<Vec<u8>, Refusal> {
     let mut bytes = Vec::new(alloc);
     if word == b"-".as_slice() {
         return Ok(bytes);
     }
     for pair in word.chunks(2) {
         let [high, low] = pair else {
-            return Err(LineError::NoCommand);
+            return Err(Refusal::NoCommand);
         };
         let (high, low) = (digit(*high)?, digit(*low)?);
         bytes.push(16 * high + low)?;
     }
     if bytes.is_empty() {
-        Err(LineError::NoCommand)
+        Err(Refusal::NoCommand)
     } else {
         Ok(bytes)
     }
@@ -87,7 +78,7 @@ fn bytes_of(alloc: Global, word: &[u8]) -> Result<Vec<u8>, LineError> {
 
 impl Word<'_> {
     /// The bytes of a key or a value.
-    fn bytes(self, alloc: Global) -> Result<Vec<u8>, LineError> {
+    fn bytes(self, alloc: Global) -> Result<Vec<u8>, Refusal> {
         match self {
             Word::Plain(word) => bytes_of(alloc, word),
             Word::Text(text) => Ok(text),
@@ -95,45 +86,45 @@ impl Word<'_> {
     }
 
     /// The name of a file.
-    fn name(self, alloc: Global) -> Result<String, LineError> {
+    fn name(self, alloc: Global) -> Result<String, Refusal> {
         let bytes = match self {
             Word::Plain(word) => Vec::from_slice(alloc, word)?,
             Word::Text(text) => text,
         };
         match String::from_utf8(bytes) {
             Ok(name) if !name.is_empty() => Ok(name),
-            _ => Err(LineError::NoCommand),
+            _ => Err(Refusal::NoCommand),
         }
     }
 
-    fn number(self) -> Result<u64, LineError> {
+    fn number(self) -> Result<u64, Refusal> {
         let Word::Plain(word) = self else {
-            return Err(LineError::NoCommand);
+            return Err(Refusal::NoCommand);
         };
         let number = str::from_utf8(word).ok().and_then(|word| word.parse().ok());
-        number.ok_or(LineError::NoCommand)
+        number.ok_or(Refusal::NoCommand)
     }
 }
 
 /// The text behind a quote, and what follows the quote at its end.
-fn text_of(alloc: Global, line: &[u8]) -> Result<(Word<'_>, &[u8]), LineError> {
+fn text_of(alloc: Global, line: &[u8]) -> Result<(Word<'_>, &[u8]), Refusal> {
     let mut text = Vec::new(alloc);
     let mut rest = line;
     for _ in 0..line.len() {
         let (byte, behind) = match rest {
             [b'"', behind @ ..] => return Ok((Word::Text(text), behind)),
             [b'\\', byte, behind @ ..] if *byte == b'"' || *byte == b'\\' => (*byte, behind),
-            [b'\\', ..] | [] => return Err(LineError::NoCommand),
+            [b'\\', ..] | [] => return Err(Refusal::NoCommand),
             [byte, behind @ ..] => (*byte, behind),
         };
         text.push(byte)?;
         rest = behind;
     }
-    Err(LineError::NoCommand)
+    Err(Refusal::NoCommand)
 }
 
 /// The word at the front of a line, and what follows it.
-fn word_of(alloc: Global, line: &[u8]) -> Result<(Word<'_>, &[u8]), LineError> {
+fn word_of(alloc: Global, line: &[u8]) -> Result<(Word<'_>, &[u8]), Refusal> {
     if let [b'"', rest @ ..] = line {
         return text_of(alloc, rest);
     }
@@ -150,7 +141,7 @@ pub fn first_word(line: &[u8]) -> &[u8]
 }
 
 /// The words of a line, which single spaces separate.
-fn words_of(alloc: Global, line: &[u8]) -> Result<Vec<Word<'_>>, LineError> {
+fn words_of(alloc: Global, line: &[u8]) -> Result<Vec<Word<'_>>, Refusal> {
     let mut words = Vec::new(alloc);
     let mut rest = line;
     for _ in 0..WORDS {
@@ -159,17 +150,17 @@ fn words_of(alloc: Global, line: &[u8]) -> Result<Vec<Word<'_>>, LineError> {
         match behind {
             [] => return Ok(words),
             [b' ', others @ ..] => rest = others,
-            _ => return Err(LineError::NoCommand),
+            _ => return Err(Refusal::NoCommand),
         }
     }
-    Err(LineError::NoCommand)
+    Err(Refusal::NoCommand)
 }
 
 /// What a line says, without its end.
-pub fn parse(alloc: Global, line: &[u8]) -> Result<Command, LineError> {
+pub fn parse(alloc: Global, line: &[u8]) -> Result<Command, Refusal> {
     let mut words = words_of(alloc, line)?.into_iter();
     let Some(Word::Plain(name)) = words.next() else {
-        return Err(LineError::NoCommand);
+        return Err(Refusal::NoCommand);
     };
     let name = str::from_utf8(name).unwrap_or("");
     let command = match (name, words.next(), words.next()) {
@@ -192,7 +183,7 @@ fn in_order(
     name: &str,
     first: Option<Word<'_>>,
     second: Option<Word<'_>>,
-) -> Result<InOrder, LineError> {
+) -> Result<InOrder, Refusal> {
     let command = match (name, first, second) {
         ("next", Some(key), None) => InOrder::Next(key.bytes(alloc)?),
         ("prev", Some(key), None) => InOrder::Prev(key.bytes(alloc)?),
@@ -207,7 +198,7 @@ fn in_order(
         ("compact", None, _) => InOrder::Compact(None),
         ("compact", Some(file), None) => InOrder::Compact(Some(file.name(alloc)?)),
         ("move", Some(file), None) => InOrder::Move(file.name(alloc)?),
-        _ => return Err(LineError::NoCommand),
+        _ => return Err(Refusal::NoCommand),
     };
     Ok(command)
 }

@@ -21,7 +21,6 @@ use key_index_store::translator::ThirtyTwoCap;
 use order::{Order, With, Without};
 use session::{Options, Session};
 use std::env;
-use std::io;
 use std::io::{BufReader, BufWriter, ErrorKind, Write};
 use std::process::ExitCode;
 use std::random::RandomSource;
@@ -43,7 +42,7 @@ fn over<'a, I: Factory<Translator = T, Value = u64> + Drop, O: Order<I, T>, T: C
     let mut input = BufReader::with_capacity(alloc, BUFFER, rt.stdin())?;
     let mut output = BufWriter::with_capacity(alloc, BUFFER, rt.stdout())?;
     let refused = |refusal| Failure::Refused(refusal, path);
-    let index = I::new(alloc, translator).map_err(|_| refused(Refusal::Memory))?;
+    let index = I::new(alloc, translator).map_err(|_| refused(Refusal::For("memory")))?;
     let opened = open_store(rt, path)?;
     let store = Store::open(alloc, opened.disk, index);
     let mut session = Session {
@@ -75,12 +74,16 @@ fn over_kind<'a>(
 ) -> Result<bool, Failure<'a>> {
     let cap = ThirtyTwoCap;
     match kind {
-        "unordered" => over::<unordered::Index<ThirtyTwoCap, u64>, Without, _>(rt, path, options, cap),
+        "unordered" => over::<unordered::Index<ThirtyTwoCap, u64>, Without, _>(
+            rt, path, options, cap,
+        ),
         "ordered" => over::<ordered::Index<ThirtyTwoCap, u64>, With, _>(rt, path, options, cap),
         "punordered" => {
             over::<punordered::Index<ThirtyTwoCap, u64, 1>, Without, _>(rt, path, options, cap)
         }
-        "pordered" => over::<pordered::Index<ThirtyTwoCap, u64, 1>, With, _>(rt, path, options, cap),
+        "pordered" => over::<pordered::Index<ThirtyTwoCap, u64, 1>, With, _>(
+            rt, path, options, cap,
+        ),
         "hashed" => {
             let mut seed = [0; 8];
             rt.fill_bytes(&mut seed)?;
@@ -110,7 +113,7 @@ fn run<'a>(rt: &HostRuntime, words: &'a [String]) -> Result<bool, Failure<'a>> {
             "--durable" => options.is_durable = true,
             "--keep-going" => options.keeps_going = true,
             flag if flag.starts_with("--") => return Err(Failure::Usage),
-            name => names.push(name).map_err(io::Error::from)?,
+            name => names.push(name)?,
         }
     }
     match names.as_slice() {
@@ -143,7 +146,11 @@ fn ended(rt: &HostRuntime, run: Result<bool, Failure<'_>>) -> ExitCode {
         Ok(true) => ExitCode::from(0),
         Ok(false) => ExitCode::from(1),
         Err(failure) => {
-            let status = if matches!(failure, Failure::Usage) { 2 } else { 1 };
+            let status = if matches!(failure, Failure::Usage) {
+                2
+            } else {
+                1
+            };
             tell(rt, failure);
             ExitCode::from(status)
         }

@@ -1,10 +1,10 @@
 //! A session: commands, and a line that answers each.
 
-use crate::answer::{Answer, Answered, Line, Printable};
-use crate::failure::{Failure, Refusal, tell};
+use crate::answer::{Answer, Answered, Line};
+use crate::failure::{Refusal, tell};
 use crate::file::{Disk, sync_folder};
 use crate::fresh::Fresh;
-use crate::line::{Command, LineError, first_word, parse};
+use crate::line::{Command, first_word, parse};
 use crate::order::Order;
 use key_index_flat::index::Factory;
 use key_index_store::device::Device;
@@ -15,6 +15,12 @@ use std::io::{BufRead, BufReader, BufWriter, Stdin, Stdout, Write};
 
 /// How many bytes of a file stand in front of its records.
 const HEADER: u64 = 16;
+
+/// How many bytes are shown of a line that is no command.
+const SHOWN: usize = 32;
+
+/// The answer to what was done.
+pub const DONE: Answer = Answer::Word("ok");
 
 /// Where commands come from.
 pub type Input = BufReader<Stdin>;
@@ -51,90 +57,103 @@ pub struct Session<'a, I: Factory<Value = u64> + Drop> {
 }
 
 impl<I: Factory<Translator = T, Value = u64> + Drop, T: Copy> Session<'_, I> {
-    /// How many bytes stand behind the last whole record.
-    fn tail_length(&mut self) -> Result<u64, Refusal> {
+    /// How many bytes stand behind the header.
+    pub fn len(&mut self) -> Result<u64, Refusal> {
         let len = self.store.device_mut().len();
-        Ok(len.map_err(|_| Refusal::Read)?.saturating_sub(self.store.end()))
+        len.map_err(|_| Refusal::For("read"))
+    }
+
+    /// Where the last whole record ends in the file, and how many bytes stand behind it.
+    fn tail(&mut self) -> Result<(u64, u64), Refusal> {
+        let (len, end) = (self.len()?, self.store.end());
+        Ok((end.saturating_add(HEADER), len.saturating_sub(end)))
     }
 
     /// Tells what stands behind the last whole record.
     pub fn tell_tail(&mut self) {
-        let place = self.store.end().saturating_add(HEADER);
-        let length = self.tail_length().unwrap_or(0);
-        let rt = self.rt;
+        let (place, length) = self.tail().unwrap_or((0, 0));
         match self.store.tail() {
             Tail::Nothing => {}
-            Tail::Torn => tell(rt, format_args!(
-                "a torn record at {place}, {length} bytes: the next put or delete cuts it off"
-            )),
-            Tail::Damaged => tell(rt, format_args!(
-                "damaged at {place}, {length} bytes behind it: put and delete are refused; salvage FILE saves what reads"
-            )),
+            Tail::Torn => tell(
+                self.rt,
+                format_args!(
+                    "a torn record at {place}, {length} bytes: the next put or delete cuts it off"
+                ),
+            ),
+            Tail::Damaged => tell(
+                self.rt,
+                format_args!(
+                    "damaged at {place}, {length} bytes behind it: put and delete are refused; salvage FILE saves what reads"
+                ),
+            ),
         }
     }
 
     /// Refuses to change a file that may only be read.
     pub fn check_writable(&self) -> Result<(), Refusal> {
         if self.is_read_only {
-            return Err(Refusal::ReadOnly);
+            return Err(Refusal::For("read-only"));
         }
         Ok(())
     }
 
     /// Forces what was written to the disk.
-    pub fn sync(&mut self) -> Result<(), Refusal> {
+    pub fn sync(&mut self) -> Answered {
         if self.is_new {
             sync_folder(self.rt, self.path.as_str())?;
             self.is_new = false;
         }
-        self.store.sync().map_err(|_| Refusal::Sync)?;
+        self.store.sync().map_err(|_| Refusal::For("sync"))?;
         self.is_changed = false;
-        Ok(())
+        Ok(DONE)
     }
 
     /// What follows a change.
-    fn changed(&mut self) -> Result<(), Refusal> {
+    fn changed(&mut self) -> Answered {
         self.is_changed = true;
         if self.options.is_durable {
-            self.sync()?;
+            return self.sync();
         }
-        Ok(())
+        Ok(DONE)
     }
 
     fn put(&mut self, key: &[u8], value: &[u8]) -> Answered {
         self.check_writable()?;
         self.store.put(key, value)?;
-        self.changed()?;
-        Ok(Answer::Done)
+        self.changed()
     }
 
     fn delete(&mut self, key: &[u8]) -> Answered {
         self.check_writable()?;
-        let is_deleted = self.store.delete(key)?;
-        if is_deleted {
-            self.changed()?;
+        if self.store.delete(key)? {
+            return self.changed();
         }
-        Ok(Answer::Deleted(is_deleted))
+        Ok(Answer::Word("none"))
+    }
+
+    fn has(&mut self, key: &[u8]) -> Answered {
+        let has = self.store.contains_key(key)?;
+        Ok(Answer::Word(if has { "yes" } else { "no" }))
     }
 
     fn cut(&mut self) -> Answered {
         self.check_writable()?;
-        let place = self.store.end().saturating_add(HEADER);
-        let length = self.tail_length()?;
+        let (place, length) = self.tail()?;
         if length != 0 {
             tell(self.rt, format_args!("cuts off {length} bytes at {place}"));
         }
         self.store.cut_tail()?;
-        self.changed()?;
-        Ok(Answer::Done)
+        self.changed()
     }
 
     fn salvage(&mut self, target: &str) -> Answered {
         let rt = self.rt;
         let (fresh, mut disk) = Fresh::new(rt, target, self.path.as_str(), false)?;
-        let salvaged = salvage(rt.alloc(), self.store.device_mut(), &mut disk);
-        let synced = match salvaged {
-            Ok(salvaged) => disk.sync().map(|()| salvaged).map_err(|_| Refusal::Sync),
+        let synced = match salvage(rt.alloc(), self.store.device_mut(), &mut disk) {
+            Ok(salvaged) => {
+                let synced = disk.sync().map_err(|_| Refusal::For("sync"));
+                synced.map(|()| salvaged)
+            }
             Err(fault) => Err(Refusal::from(fault)),
         };
         let salvaged = fresh.settle(rt, synced)?;
@@ -148,10 +167,10 @@ impl<I: Factory<Translator = T, Value = u64> + Drop, T: Copy> Session<'_, I> {
         match command {
             Command::Put(key, value) => self.put(&key, &value),
             Command::Get(key) => Ok(Answer::Value(self.store.get(&key)?)),
-            Command::Has(key) => Ok(Answer::Has(self.store.contains_key(&key)?)),
+            Command::Has(key) => self.has(&key),
             Command::Delete(key) => self.delete(&key),
-            Command::Count => Ok(Answer::Count(self.store.len())),
-            Command::Sync => self.sync().map(|()| Answer::Done),
+            Command::Count => Ok(Answer::Number("count", self.store.len() as u64)),
+            Command::Sync => self.sync(),
             Command::Cut => self.cut(),
             Command::Salvage(target) => self.salvage(target.as_str()),
             Command::InOrder(command) => O::answer(self, command, output),
@@ -167,17 +186,16 @@ impl<I: Factory<Translator = T, Value = u64> + Drop, T: Copy> Session<'_, I> {
     ) -> io::Result<bool>
         requires { I.makes }
     {
-        let answered = match parse(self.rt.alloc(), line) {
-            Ok(command) => self.answer::<O>(command, output),
-            Err(LineError::Memory(_)) => Err(Refusal::Memory),
-            Err(LineError::NoCommand) => {
-                output.flush()?;
-                let word = Printable(first_word(line));
-                tell(self.rt, format_args!("bad line {number}: {word}"));
-                self.is_well = false;
-                return Ok(self.options.keeps_going);
-            }
-        };
+        let parsed = parse(self.rt.alloc(), line);
+        let answered = parsed.and_then(|command| self.answer::<O>(command, output));
+        if let Err(Refusal::NoCommand) = answered {
+            output.flush()?;
+            let word = first_word(line);
+            let word = word.get(..SHOWN).unwrap_or(word).escape_ascii();
+            tell(self.rt, format_args!("bad line {number}: {word}"));
+            self.is_well = false;
+            return Ok(self.options.keeps_going);
+        }
         self.is_well &= answered.is_ok();
         writeln!(output, "{}", Line(&answered, self.options.is_text))?;
         Ok(true)
