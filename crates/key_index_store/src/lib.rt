@@ -11,3 +11,4 @@ pub mod memory_device;
 pub mod record;
 pub mod salvage;
 pub mod store;
+pub mod translator;

@@ -1,55 +1,83 @@
 //! The lines that answer commands.
 
-use key_index_store::store::{Fault, Gap};
+use crate::failure::Refusal;
+use key_index_store::store::Gap;
 use std::fmt;
 
-/// What a command gives. Its text is the line that answers it.
+/// A key that has a value, with it.
+pub type Entry = (Vec<u8>, Vec<u8>);
+
+/// What a command gives.
 #[derive(Drop)]
 pub enum Answer {
-    Done,
-    Deleted(bool),
-    Count(usize),
+    /// A word that says all.
+    Word(&'static str),
+    /// A number, behind the word that says of what.
+    Number(&'static str, u64),
+    /// The value of a key, if it has one.
     Value(Option<Vec<u8>>),
-    Entry(Option<(Vec<u8>, Vec<u8>)>),
+    /// An entry, if there is one.
+    Entry(Option<Entry>),
+    /// The neighbours of a key, if it has no value.
     Gap(Option<Gap>),
-    /// With the reason, in a word.
-    Refused(&'static str),
+    /// How many records were copied, and how many bytes left out.
+    Salvaged(u64, u64),
 }
 
-impl fmt::Display for Answer {
+/// What a command gives, or why it is refused.
+pub type Answered = Result<Answer, Refusal>;
+
+/// An answer as a line, with its bytes as texts where that is asked.
+#[derive(Clone, Copy)]
+pub struct Line<'a>(pub &'a Answered, pub bool);
+
+impl fmt::Display for Line<'_> {
     fn fmt<W: fmt::Write>(&self, f: &mut fmt::Formatter<W>) -> fmt::Result {
-        match self {
-            Answer::Done | Answer::Deleted(true) => write!(f, "ok"),
-            Answer::Count(count) => write!(f, "count {count}"),
-            Answer::Value(Some(value)) => write!(f, "value {}", Hex(value)),
-            Answer::Entry(Some((key, value))) => write!(f, "entry {} {}", Hex(key), Hex(value)),
-            Answer::Gap(Some(gap)) => write!(f, "between {} {}", Key(&gap.before), Key(&gap.after)),
-            Answer::Gap(None) => write!(f, "held"),
-            Answer::Deleted(false) | Answer::Value(None) | Answer::Entry(None) => write!(f, "none"),
-            Answer::Refused(reason) => write!(f, "refused {reason}"),
+        let is_text = self.1;
+        match self.0 {
+            Ok(Answer::Word(word)) => write!(f, "{word}"),
+            Ok(Answer::Number(word, number)) => write!(f, "{word} {number}"),
+            Ok(Answer::Value(Some(value))) => write!(f, "value {}", Bytes(value, is_text)),
+            Ok(Answer::Entry(Some((key, value)))) => {
+                write!(f, "entry {} {}", Bytes(key, is_text), Bytes(value, is_text))
+            }
+            Ok(Answer::Gap(Some(gap))) => {
+                let (before, after) = (Key(&gap.before, is_text), Key(&gap.after, is_text));
+                write!(f, "between {before} {after}")
+            }
+            Ok(Answer::Gap(None)) => write!(f, "held"),
+            Ok(Answer::Value(None) | Answer::Entry(None)) => write!(f, "none"),
+            Ok(Answer::Salvaged(records, left_out)) => {
+                write!(f, "salvaged {records} records, {left_out} bytes left out")
+            }
+            Err(refusal) => write!(f, "refused {refusal}"),
         }
     }
 }
 
-/// Why the store refused a command, in a word.
-pub fn reason(fault: Fault) -> &'static str {
-    match fault {
-        Fault::Memory => "memory",
-        Fault::Full => "full",
-        Fault::TooLong => "long",
-        Fault::ReadFailed => "read",
-        Fault::WriteFailed => "write",
-        Fault::Tail => "tail",
-        Fault::Changed => "changed",
+/// The key of a neighbour, or `none`.
+#[derive(Clone, Copy)]
+struct Key<'a>(&'a Option<Entry>, bool);
+
+impl fmt::Display for Key<'_> {
+    fn fmt<W: fmt::Write>(&self, f: &mut fmt::Formatter<W>) -> fmt::Result {
+        match self.0 {
+            Some((key, _)) => write!(f, "{}", Bytes(key, self.1)),
+            None => write!(f, "none"),
+        }
     }
 }
 
-/// Bytes, shown by two hexadecimal digits for each, or by `-` where there are none.
+/// Bytes as a word: two hexadecimal digits for each, or `-` where there are none; or, where that is asked and all of them are printable
+/// ASCII, a text in double quotes.
 #[derive(Clone, Copy)]
-struct Hex<'a>(&'a [u8]);
+struct Bytes<'a>(&'a [u8], bool);
 
-impl fmt::Display for Hex<'_> {
+impl fmt::Display for Bytes<'_> {
     fn fmt<W: fmt::Write>(&self, f: &mut fmt::Formatter<W>) -> fmt::Result {
+        if self.1 && self.0.iter().all(|byte| (b' '..=b'~').contains(byte)) {
+            return write_text(self.0, f);
+        }
         if self.0.is_empty() {
             return write!(f, "-");
         }
@@ -60,15 +88,14 @@ impl fmt::Display for Hex<'_> {
     }
 }
 
-/// The key of a neighbour, or `none`.
-#[derive(Clone, Copy)]
-struct Key<'a>(&'a Option<(Vec<u8>, Vec<u8>)>);
-
-impl fmt::Display for Key<'_> {
-    fn fmt<W: fmt::Write>(&self, f: &mut fmt::Formatter<W>) -> fmt::Result {
-        match self.0 {
-            Some((key, _)) => write!(f, "{}", Hex(key)),
-            None => write!(f, "none"),
+/// Writes a text in double quotes, with a backslash in front of each quote and backslash.
+fn write_text<W: fmt::Write>(bytes: &[u8], f: &mut fmt::Formatter<W>) -> fmt::Result {
+    write!(f, "\"")?;
+    for byte in bytes {
+        if *byte == b'"' || *byte == b'\\' {
+            write!(f, "\\")?;
         }
+        write!(f, "{}", char::from(*byte))?;
     }
+    write!(f, "\"")
 }

@@ -1,24 +1,79 @@
-//! Why the program ends early.
+//! Why the program ends early, and why a command is refused.
+
+use key_index_store::store::Fault;
+use std::alloc::AllocError;
+use std::io::{ErrorKind, Write};
+use std::{fmt, io};
 use thiserror::Error;
 
 /// Why the program ends before its input does. The text is what it prints on standard error.
-#[derive(Clone, Copy, Debug, PartialEq, Eq, Error)]
-pub enum Failure {
+#[derive(Debug, Drop, Error)]
+pub enum Failure<'a> {
     /// The arguments are not those of the program.
-    #[error("usage: key_index_store FILE [KIND]")]
+    #[error("usage: key_index_store [--text] [--durable] [--keep-going] FILE [KIND]; all about it: --help")]
     Usage,
-    /// This line, counted from 1, is no command.
-    #[error("bad line {0}")]
-    BadLine(u64),
-    /// The store on the file is refused, for this reason.
-    #[error("refused {0}")]
-    Refused(&'static str),
-    /// The file, a stream or memory failed outside a command.
-    #[error("failed")]
-    Failed,
+    /// A file that is opened would take the place of a standard stream.
+    #[error("failed: standard input or output is closed")]
+    Closed,
+    /// The file of a name can't be opened.
+    #[error("cannot open {0}: {1}")]
+    CannotOpen(&'a str, io::Error),
+    /// The store on the file of a name is refused.
+    #[error("refused {0}: {1}")]
+    Refused(Refusal, &'a str),
+    /// A stream failed.
+    #[error("failed: {0}")]
+    Failed(#[from] io::Error),
+    /// There was no memory outside a command.
+    #[error("failed: {0}")]
+    Memory(#[from(alloc)] AllocError),
 }
 
-/// What any failure outside a command ends the program with.
-pub fn failed<E: Drop>(_error: E) -> Failure {
-    Failure::Failed
+/// Why a command is refused. The text is the reason in its answer.
+#[derive(Debug, Drop, Error)]
+pub enum Refusal {
+    /// For the reason that this word says.
+    #[error("{0}")]
+    For(&'static str),
+    /// There was no memory.
+    #[error("memory")]
+    Memory(#[from(alloc)] AllocError),
+    /// It is no command.
+    #[error("no command")]
+    NoCommand,
+}
+
+impl From<Fault> for Refusal {
+    fn from(fault: Fault) -> Refusal {
+        Refusal::For(match fault {
+            Fault::Memory => "memory",
+            Fault::Full => "full",
+            Fault::TooLong => "long",
+            Fault::ReadFailed => "read",
+            Fault::WriteFailed => "write",
+            Fault::Damaged => "damaged",
+            Fault::NotEmpty => "not empty",
+        })
+    }
+}
+
+impl Failure<'_> {
+    /// Why a command is refused that needed the file. What the system said is told.
+    pub fn into_refusal(self, rt: &HostRuntime) -> Refusal {
+        match self {
+            Failure::Refused(refusal, _) => refusal,
+            Failure::CannotOpen(_, error) if error.kind() == ErrorKind::OutOfMemory => {
+                Refusal::For("memory")
+            }
+            failure => {
+                tell(rt, failure);
+                Refusal::For("open")
+            }
+        }
+    }
+}
+
+/// Prints a line on standard error. That it can't be printed changes nothing.
+pub fn tell(rt: &HostRuntime, line: impl fmt::Display + Drop) {
+    let _ = writeln!(rt.stderr(), "{line}");
 }

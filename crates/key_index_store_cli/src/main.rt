@@ -3,83 +3,156 @@
 
 mod answer;
 mod failure;
-mod file_log;
+mod file;
+mod fresh;
+mod help;
 mod line;
 mod order;
 mod session;
 
-use answer::reason;
-use failure::{Failure, failed};
-use file_log::FileLog;
+use failure::{Failure, Refusal, tell};
+use file::{fill_streams, open_store};
+use help::{HELP, VERSION};
 use key_index_flat::index::{Factory, ordered, unordered};
-use key_index_flat::translator::EightCap;
+use key_index_flat::translator::{EightCap, Hashed, SeededSha256};
 use key_index_parts::index::partitioned::{ordered as pordered, unordered as punordered};
-use key_index_store::store::{Store, Tail};
+use key_index_store::store::Store;
+use key_index_store::translator::ThirtyTwoCap;
 use order::{Order, With, Without};
-use session::run_lines;
+use session::{Options, Session};
 use std::env;
 use std::io::{BufReader, BufWriter, ErrorKind, Write};
 use std::process::ExitCode;
+use std::random::RandomSource;
 
-/// What is told where bytes behind the last whole record are cut off.
-fn told(tail: Tail) -> Option<&'static str> {
-    match tail {
-        Tail::Nothing => None,
-        Tail::Torn => Some("cut off a torn record"),
-        Tail::Damaged => Some("cut off damaged bytes"),
-    }
-}
+/// How many bytes of standard input or output are held at a time.
+const BUFFER: usize = 65536;
 
-/// Runs the commands on the file at a path, over an index of a kind. What stands behind the last whole record is cut off.
-fn over<I: Factory<Translator = EightCap, Value = u64> + Drop, O: Order<I>>(
+/// Runs the commands on the file at a path, over an index of a kind. Gives whether all went well.
+fn over<'a, I: Factory<Translator = T, Value = u64> + Drop, O: Order<I, T>, T: Copy>(
     rt: &HostRuntime,
-    path: &str,
-) -> Result<(), Failure>
+    path: &'a str,
+    options: Options,
+    translator: T,
+) -> Result<bool, Failure<'a>>
     requires { I.makes }
 {
     let alloc = rt.alloc();
-    let log = FileLog::open(rt, path).map_err(failed)?;
-    let index = I::new(alloc, EightCap).map_err(failed)?;
-    let opened = Store::open(alloc, log, index);
-    let (mut store, tail) = opened.map_err(|fault| Failure::Refused(reason(fault)))?;
-    if let Some(told) = told(tail) {
-        let _ = writeln!(rt.stderr(), "{told}");
-        store.cut_tail().map_err(failed)?;
-    }
-    let mut input = BufReader::new(alloc, rt.stdin()).map_err(failed)?;
-    let mut output = BufWriter::new(alloc, rt.stdout()).map_err(failed)?;
-    let ended = run_lines::<I, O, _, _>(rt, &mut store, &mut input, &mut output);
-    output.flush().map_err(failed)?;
-    ended
+    let _streams = fill_streams(rt)?;
+    let mut input = BufReader::with_capacity(alloc, BUFFER, rt.stdin())?;
+    let mut output = BufWriter::with_capacity(alloc, BUFFER, rt.stdout())?;
+    let refused = |refusal| Failure::Refused(refusal, path);
+    let index = I::new(alloc, translator).map_err(|_| refused(Refusal::For("memory")))?;
+    let opened = open_store(rt, path)?;
+    let store = Store::open(alloc, opened.disk, index);
+    let mut session = Session {
+        rt,
+        options,
+        store: store.map_err(|fault| refused(Refusal::from(fault)))?,
+        translator,
+        path: String::from_str(alloc, path)?,
+        is_read_only: opened.is_read_only,
+        is_new: opened.is_new,
+        is_changed: false,
+        is_well: true,
+    };
+    session.tell_tail();
+    let ended = session.run_lines::<O>(&mut input, &mut output);
+    let flushed = output.flush();
+    let is_well = session.finish();
+    ended?;
+    flushed?;
+    Ok(is_well)
 }
 
-/// Runs the program. An argument that is no text names no file and no kind.
-fn run(rt: &HostRuntime) -> Result<(), Failure> {
-    let args = env::args(rt).map_err(|error| match error.kind() {
-        ErrorKind::InvalidData => Failure::Usage,
-        _ => Failure::Failed,
-    })?;
-    let words: Vec<String> = args.skip(1).collect(rt.alloc()).map_err(failed)?;
-    let (path, kind) = match words.as_slice() {
-        [path] => (path.as_str(), "ordered"),
-        [path, kind] => (path.as_str(), kind.as_str()),
-        _ => return Err(Failure::Usage),
-    };
+/// Runs the commands over an index of the kind of a name.
+fn over_kind<'a>(
+    rt: &HostRuntime,
+    path: &'a str,
+    kind: &str,
+    options: Options,
+) -> Result<bool, Failure<'a>> {
+    let cap = ThirtyTwoCap;
     match kind {
-        "unordered" => over::<unordered::Index<EightCap, u64>, Without>(rt, path),
-        "ordered" => over::<ordered::Index<EightCap, u64>, With>(rt, path),
-        "punordered" => over::<punordered::Index<EightCap, u64, 1>, Without>(rt, path),
-        "pordered" => over::<pordered::Index<EightCap, u64, 1>, With>(rt, path),
+        "unordered" => over::<unordered::Index<ThirtyTwoCap, u64>, Without, _>(
+            rt, path, options, cap,
+        ),
+        "ordered" => over::<ordered::Index<ThirtyTwoCap, u64>, With, _>(rt, path, options, cap),
+        "punordered" => {
+            over::<punordered::Index<ThirtyTwoCap, u64, 1>, Without, _>(rt, path, options, cap)
+        }
+        "pordered" => over::<pordered::Index<ThirtyTwoCap, u64, 1>, With, _>(
+            rt, path, options, cap,
+        ),
+        "hashed" => {
+            let mut seed = [0; 8];
+            rt.fill_bytes(&mut seed)?;
+            let hashed = Hashed::new(u64::from_le_bytes(seed), EightCap);
+            over::<unordered::Index<Hashed<EightCap, SeededSha256>, u64>, Without, _>(
+                rt, path, options, hashed,
+            )
+        }
         _ => Err(Failure::Usage),
     }
 }
 
+fn print<'a>(rt: &HostRuntime, text: &str) -> Result<bool, Failure<'a>> {
+    writeln!(rt.stdout(), "{text}")?;
+    Ok(true)
+}
+
+/// Runs the program on the words behind its name. Gives whether all went well.
+fn run<'a>(rt: &HostRuntime, words: &'a [String]) -> Result<bool, Failure<'a>> {
+    let mut options = Options::default();
+    let mut names: Vec<&str> = Vec::new(rt.alloc());
+    for word in words {
+        match word.as_str() {
+            "--help" => return print(rt, HELP),
+            "--version" => return print(rt, VERSION),
+            "--text" => options.is_text = true,
+            "--durable" => options.is_durable = true,
+            "--keep-going" => options.keeps_going = true,
+            flag if flag.starts_with("--") => return Err(Failure::Usage),
+            name => names.push(name)?,
+        }
+    }
+    match names.as_slice() {
+        [path] => over_kind(rt, path, "ordered", options),
+        [path, kind] => over_kind(rt, path, kind, options),
+        _ => Err(Failure::Usage),
+    }
+}
+
+/// The words behind the program's name. One that is no text names no file and no kind.
+fn arguments(rt: &HostRuntime) -> Result<Vec<String>, Failure<'static>> {
+    let args = env::args(rt).map_err(|error| match error.kind() {
+        ErrorKind::InvalidData => Failure::Usage,
+        _ => Failure::Failed(error),
+    })?;
+    Ok(args.skip(1).collect(rt.alloc())?)
+}
+
 fn main(rt: HostRuntime) -> ExitCode {
-    match run(&rt) {
-        Ok(()) => ExitCode::from(0),
+    let words = match arguments(&rt) {
+        Ok(words) => words,
+        Err(failure) => return ended(&rt, Err(failure)),
+    };
+    ended(&rt, run(&rt, &words))
+}
+
+/// Tells why the program ends early. Gives its status.
+fn ended(rt: &HostRuntime, run: Result<bool, Failure<'_>>) -> ExitCode {
+    match run {
+        Ok(true) => ExitCode::from(0),
+        Ok(false) => ExitCode::from(1),
         Err(failure) => {
-            let _ = writeln!(rt.stderr(), "{failure}");
-            ExitCode::from(if failure == Failure::Usage { 2 } else { 1 })
+            let status = if matches!(failure, Failure::Usage) {
+                2
+            } else {
+                1
+            };
+            tell(rt, failure);
+            ExitCode::from(status)
         }
     }
 }

@@ -1,67 +1,155 @@
 //! The commands that ask for the order of the keys, which not every kind of index keeps.
 
-use crate::answer::Answer;
-use crate::file_log::FileLog;
+use crate::answer::{Answer, Answered, Entry, Line};
+use crate::failure::{Failure, Refusal};
+use crate::file::{Disk, sync_folder};
+use crate::fresh::Fresh;
 use crate::line::InOrder;
+use crate::session::{DONE, Output, Session};
 use key_index_flat::index::{Factory, Ordered};
-use key_index_flat::translator::EightCap;
-use key_index_store::store::{Fault, Store};
-use std::str;
+use key_index_store::device::Device;
+use key_index_store::record::HEAD;
+use key_index_store::store::{Store, Tail};
+use std::fs;
+use std::io::Write;
 
-/// What a command gives, or why the store refused it.
-pub type Answered = Result<Answer, Fault>;
+/// How many bytes a record takes besides its key and its value.
+const FRAME: u64 = HEAD as u64 + 8;
 
 /// What runs the commands that ask for the order of the keys.
-pub trait Order<I: Factory<Translator = EightCap, Value = u64> + Drop> {
-    fn answer(rt: &HostRuntime, store: &mut Store<FileLog, I>, command: &InOrder) -> Answered
+pub trait Order<I: Factory<Translator = T, Value = u64> + Drop, T: Copy> {
+    /// Runs one. A scan writes its entries to the output.
+    fn answer(session: &mut Session<'_, I>, command: InOrder, output: &mut Output) -> Answered
         requires { I.makes };
 }
 
 /// Refuses them.
 pub struct Without;
 
-impl<I: Factory<Translator = EightCap, Value = u64> + Drop> Order<I> for Without {
-    fn answer(_rt: &HostRuntime, _store: &mut Store<FileLog, I>, _command: &InOrder) -> Answered {
-        Ok(Answer::Refused("unordered"))
+impl<I: Factory<Translator = T, Value = u64> + Drop, T: Copy> Order<I, T> for Without {
+    fn answer(_session: &mut Session<'_, I>, _command: InOrder, _output: &mut Output) -> Answered {
+        Err(Refusal::For("unordered"))
     }
-}
-
-/// A store over the file of a name with a record of each key; none where it can't be opened.
-fn copy<I: Ordered<Value = u64> + Factory<Translator = EightCap> + Drop>(
-    rt: &HostRuntime,
-    store: &Store<FileLog, I>,
-    name: &[u8],
-) -> Result<Option<Store<FileLog, I>>, Fault>
-    requires { I.makes }
-{
-    let path = str::from_utf8(name).ok();
-    let Some(log) = path.and_then(|path| FileLog::open(rt, path).ok()) else {
-        return Ok(None);
-    };
-    let index = I::new(rt.alloc(), EightCap).map_err(|_| Fault::Memory)?;
-    store.compact(log, index).map(Some)
 }
 
 /// Runs them over an index that keeps the order.
 pub struct With;
 
-impl<I: Ordered<Value = u64> + Factory<Translator = EightCap> + Drop> Order<I> for With {
-    fn answer(rt: &HostRuntime, store: &mut Store<FileLog, I>, command: &InOrder) -> Answered {
+impl<I: Ordered<Value = u64> + Factory<Translator = T> + Drop, T: Copy> Order<I, T> for With {
+    fn answer(session: &mut Session<'_, I>, command: InOrder, output: &mut Output) -> Answered {
         match command {
-            InOrder::Next(key) => store.next(key).map(Answer::Entry),
-            InOrder::Prev(key) => store.prev(key).map(Answer::Entry),
-            InOrder::Absent(key) => store.absent(key).map(Answer::Gap),
-            InOrder::Compact(name) => match copy(rt, store, name)? {
-                Some(_) => Ok(Answer::Done),
-                None => Ok(Answer::Refused("open")),
-            },
-            InOrder::Move(name) => match copy(rt, store, name)? {
-                Some(copied) => {
-                    *store = copied;
-                    Ok(Answer::Done)
-                }
-                None => Ok(Answer::Refused("open")),
-            },
+            InOrder::Next(key) => Ok(Answer::Entry(session.store.next(&key)?)),
+            InOrder::Prev(key) => Ok(Answer::Entry(session.store.prev(&key)?)),
+            InOrder::Absent(key) => Ok(Answer::Gap(session.store.absent(&key)?)),
+            InOrder::First => Ok(Answer::Entry(session.store.first()?)),
+            InOrder::Last => Ok(Answer::Entry(session.store.last()?)),
+            InOrder::Scan(key, count) => session.scan(&key, count, b"", output),
+            InOrder::ScanPrefix(key, count) => session.scan(&key, count, &key, output),
+            InOrder::Dead => session.dead(),
+            InOrder::Compact(None) => session.compact(),
+            InOrder::Compact(Some(target)) => {
+                session.copy(target.as_str(), false)?;
+                sync_folder(session.rt, target.as_str())?;
+                Ok(DONE)
+            }
+            InOrder::Move(target) => {
+                let store = session.copy(target.as_str(), false)?;
+                session.path = target;
+                session.go_on(store)
+            }
         }
+    }
+}
+
+impl<I: Ordered<Value = u64> + Factory<Translator = T> + Drop, T: Copy> Session<'_, I> {
+    /// The first entry of a key or a greater one.
+    fn entry_from(&mut self, key: &[u8]) -> Result<Option<Entry>, Refusal> {
+        match self.store.get(key)? {
+            Some(value) => Ok(Some((Vec::from_slice(self.rt.alloc(), key)?, value))),
+            None => Ok(self.store.next(key)?),
+        }
+    }
+
+    /// Writes the entries from a key on, so many at most, whose keys begin with a prefix.
+    fn scan(&mut self, start: &[u8], count: u64, prefix: &[u8], output: &mut Output) -> Answered {
+        let mut last: Option<Vec<u8>> = None;
+        for _ in 0..count {
+            let found = match &last {
+                Some(key) => self.store.next(key)?,
+                None => self.entry_from(start)?,
+            };
+            let Some((key, value)) = found else {
+                break;
+            };
+            if !key.starts_with(prefix) {
+                break;
+            }
+            last = Some(Vec::from_slice(self.rt.alloc(), &key)?);
+            let entry = Ok(Answer::Entry(Some((key, value))));
+            // What can't be written here can't be written behind it either, and is told there.
+            let written = writeln!(output, "{}", Line(&entry, self.options.is_text));
+            written.map_err(|_| Refusal::For("write"))?;
+        }
+        Ok(Answer::Word("end"))
+    }
+
+    /// How many bytes of the file a compaction would leave out.
+    fn dead(&mut self) -> Answered {
+        let mut left = self.len()?;
+        let mut entry = self.store.first()?;
+        for _ in 0..self.store.len() {
+            let Some((key, value)) = entry else {
+                break;
+            };
+            left = left.saturating_sub(FRAME).saturating_sub(key.len() as u64);
+            left = left.saturating_sub(value.len() as u64);
+            entry = self.store.next(&key)?;
+        }
+        Ok(Answer::Number("dead", left))
+    }
+
+    /// A store over a fresh file at a path, with a record of each key.
+    fn copy(&mut self, target: &str, is_own: bool) -> Result<Store<Disk, I>, Refusal>
+        requires { I.makes }
+    {
+        let rt = self.rt;
+        let index = I::new(rt.alloc(), self.translator).map_err(|_| Refusal::For("memory"))?;
+        let (fresh, disk) = Fresh::new(rt, target, self.path.as_str(), is_own)?;
+        let synced = match self.store.compact(disk, index) {
+            Ok(mut store) => store
+                .sync()
+                .map(|()| store)
+                .map_err(|_| Refusal::For("sync")),
+            Err(fault) => Err(Refusal::from(fault)),
+        };
+        fresh.settle(rt, synced)
+    }
+
+    /// Goes on over another file, which has all that was written.
+    fn go_on(&mut self, store: Store<Disk, I>) -> Answered {
+        self.store = store;
+        self.is_changed = false;
+        self.is_read_only = false;
+        // Until the folder is on the disk.
+        self.is_new = true;
+        self.sync()
+    }
+
+    /// Puts a copy in the place of the file. A file with damage is kept, since a copy has nothing that stands behind it.
+    fn compact(&mut self) -> Answered
+        requires { I.makes }
+    {
+        self.check_writable()?;
+        if self.store.tail() == Tail::Damaged {
+            return Err(Refusal::For("damaged"));
+        }
+        // Where the name is that of a link, the file that it leads to is replaced.
+        let rt = self.rt;
+        let path = fs::canonicalize(rt, self.path.as_str()).map_err(|error| Failure::CannotOpen(
+            self.path.as_str(),
+            error,
+        ).into_refusal(rt))?;
+        let store = self.copy(path.as_str(), true)?;
+        self.go_on(store)
     }
 }

@@ -1,0 +1,124 @@
+//! The files of stores: how they are opened and locked, and how a fresh one takes its place.
+
+use crate::failure::{Failure, Refusal, tell};
+use key_index_store::file_device::{FileDevice, Unknown};
+use key_index_store::headed::{Headed, OpenError};
+use std::fs::{File, OpenFile, OpenOptions, TryLockError};
+use std::io::ErrorKind;
+use std::os::fd::AsRawFd;
+use std::path::Path;
+use std::{fs, io};
+
+/// What a store stands on.
+pub type Disk = Headed<FileDevice<Unknown>>;
+
+/// Where nothing is read or written.
+const NULL: &str = "/dev/null";
+
+/// Opens a file for reading, and where that is asked for writing. One that isn't there is made where that is asked.
+pub fn open(rt: &HostRuntime, path: &str, writes: bool, creates: bool) -> io::Result<File> {
+    let mut how = OpenOptions::new();
+    how.read(true).write(writes).create(creates);
+    how.open(rt, path)
+}
+
+/// Files for the standard streams that are closed. Without them, the file of a store could get the number of one.
+pub fn fill_streams<'a>(rt: &HostRuntime) -> Result<[File; 3], Failure<'a>> {
+    let null = || open(rt, NULL, true, false).map_err(|error| Failure::CannotOpen(NULL, error));
+    let files = [null()?, null()?, null()?];
+    if files.iter().any(|file| file.as_raw_fd() < 2) {
+        return Err(Failure::Closed);
+    }
+    Ok(files)
+}
+
+/// Whether a file is the one that is at a path now. Another one may be there by the time that it is locked.
+fn is_at(rt: &HostRuntime, file: &File, path: &str) -> bool {
+    let (Ok(own), Ok(there)) = (file.metadata(), fs::metadata(rt, path)) else {
+        return false;
+    };
+    own.len() == there.len()
+        && own.modified().ok() == there.modified().ok()
+        && own.created().ok() == there.created().ok()
+}
+
+/// Locks the file that was opened at a path, for this process alone or for all that read it.
+pub fn lock<'a>(
+    rt: &HostRuntime,
+    file: &File,
+    path: &'a str,
+    is_shared: bool,
+) -> Result<(), Failure<'a>> {
+    let locked = if is_shared {
+        file.try_lock_shared()
+    } else {
+        file.try_lock()
+    };
+    match locked {
+        Ok(()) if is_at(rt, file, path) => Ok(()),
+        Ok(()) | Err(TryLockError::WouldBlock) => Err(Failure::Refused(Refusal::For("busy"), path)),
+        Err(TryLockError::Error(error)) => Err(Failure::CannotOpen(path, error)),
+    }
+}
+
+/// What stands behind the header of a file. It is refused with `no_store` where it is no store's.
+pub fn headed<'a>(file: File, path: &'a str, no_store: &'static str) -> Result<Disk, Failure<'a>> {
+    Headed::open(FileDevice::new(file, Unknown)).map_err(|error| {
+        let reason = match error {
+            OpenError::ReadFailed => "read",
+            OpenError::NoStore => no_store,
+        };
+        Failure::Refused(Refusal::For(reason), path)
+    })
+}
+
+/// A file of a store.
+#[derive(Drop)]
+pub struct Opened {
+    /// What stands behind its header.
+    pub disk: Disk,
+    /// It was not there before.
+    pub is_new: bool,
+    /// It may not be written.
+    pub is_read_only: bool,
+}
+
+/// The file at a path, which is made where there is none, and locked.
+pub fn open_store<'a>(rt: &HostRuntime, path: &'a str) -> Result<Opened, Failure<'a>> {
+    let (mut is_new, mut is_read_only) = (false, false);
+    let opened = match open(rt, path, true, false) {
+        Err(error) => match error.kind() {
+            ErrorKind::NotFound => {
+                is_new = true;
+                open(rt, path, true, true)
+            }
+            ErrorKind::PermissionDenied | ErrorKind::ReadOnlyFilesystem => {
+                is_read_only = true;
+                open(rt, path, false, false)
+            }
+            _ => Err(error),
+        },
+        opened => opened,
+    };
+    let file = opened.map_err(|error| Failure::CannotOpen(path, error))?;
+    lock(rt, &file, path, is_read_only)?;
+    Ok(Opened {
+        disk: headed(file, path, "no store")?,
+        is_new,
+        is_read_only,
+    })
+}
+
+/// Forces the name of a file to the disk.
+pub fn sync_folder(rt: &HostRuntime, path: &str) -> Result<(), Refusal> {
+    let folder = match Path::new(path).parent() {
+        Some(folder) if folder.to_string_lossy() != "" => folder.to_string_lossy(),
+        _ => ".",
+    };
+    let opened = open(rt, folder, false, false);
+    let synced = opened.and_then(|folder| folder.sync_all());
+    synced.map_err(|error| {
+        tell(rt, Failure::CannotOpen(folder, error));
+        Refusal::For("sync")
+    })
+}

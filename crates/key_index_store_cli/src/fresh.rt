@@ -1,0 +1,115 @@
+//! A fresh file of a store, which is written beside the place that it takes once it is whole.
+
+use crate::failure::{Failure, Refusal, tell};
+use crate::file::{Disk, headed, lock, open};
+use key_index_store::device::Device;
+use std::fs;
+use std::fs::{File, OpenFile, Permissions};
+use std::io::{Error, ErrorKind};
+use std::os::unix::fs::PermissionsExt;
+
+/// The permissions to read and to write of a file's owner.
+const OWNER: u32 = 0o600;
+
+/// A file with `.part` behind its name, and the path whose file it becomes.
+#[derive(Drop)]
+pub struct Fresh<'a> {
+    part: String,
+    target: &'a str,
+    /// The empty file that is there, locked, so that nobody opens it meanwhile.
+    _place: Option<File>,
+}
+
+/// The file at a path, if there is one. It has to be empty, and is locked.
+fn take_place<'a>(rt: &HostRuntime, path: &'a str) -> Result<Option<File>, Failure<'a>> {
+    let file = match open(rt, path, true, false) {
+        Ok(file) => file,
+        Err(error) if error.kind() == ErrorKind::NotFound => return Ok(None),
+        Err(error) => return Err(Failure::CannotOpen(path, error)),
+    };
+    let locked = lock(rt, &file, path, false);
+    match file.metadata() {
+        Ok(metadata) if metadata.is_file() && metadata.len() == 0 => locked.map(|()| Some(file)),
+        Ok(_) => Err(Failure::Refused(Refusal::For("not empty"), path)),
+        Err(error) => Err(Failure::CannotOpen(path, error)),
+    }
+}
+
+/// Refuses to put another file in the place of a device.
+fn check_regular<'a>(rt: &HostRuntime, path: &'a str) -> Result<(), Failure<'a>> {
+    match fs::metadata(rt, path) {
+        Ok(metadata) if metadata.is_file() => Ok(()),
+        Ok(_) => Err(Failure::CannotOpen(path, Error::other("not a regular file"))),
+        Err(error) => Err(Failure::CannotOpen(path, error)),
+    }
+}
+
+/// The file at a path, made where there is none, with the permissions of another one, which its owner may write. What it
+/// holds has to be a store, and is dropped.
+fn open_part<'a>(rt: &HostRuntime, path: &'a str, from: &str) -> Result<Disk, Failure<'a>> {
+    let cannot_open = |error| Failure::CannotOpen(path, error);
+    let file = open(rt, path, true, true).map_err(cannot_open)?;
+    lock(rt, &file, path, false)?;
+    let mode = fs::metadata(rt, from)
+        .map_err(cannot_open)?
+        .permissions()
+        .mode();
+    let permissions = Permissions::from_mode(mode | OWNER);
+    if permissions != file.metadata().map_err(cannot_open)?.permissions() {
+        OpenFile::set_permissions(&file, permissions).map_err(cannot_open)?;
+    }
+    let mut disk = headed(file, path, "not empty")?;
+    let emptied = disk.set_len(0);
+    emptied.map_err(|_| Failure::Refused(Refusal::For("write"), path))?;
+    Ok(disk)
+}
+
+impl<'a> Fresh<'a> {
+    /// A fresh file that takes a path, with the permissions of the file `from`. Only where that is the one at the path, it may hold
+    /// something.
+    pub fn new(
+        rt: &HostRuntime,
+        target: &'a str,
+        from: &str,
+        is_own: bool,
+    ) -> Result<(Fresh<'a>, Disk), Refusal> {
+        let place = if is_own {
+            check_regular(rt, target).map(|()| None)
+        } else {
+            take_place(rt, target)
+        };
+        let _place = place.map_err(|failure| failure.into_refusal(rt))?;
+        let part = format!(in rt.alloc(); "{target}.part")?;
+        let disk = open_part(rt, part.as_str(), from).map_err(|failure| failure.into_refusal(rt))?;
+        let fresh = Fresh {
+            part,
+            target,
+            _place,
+        };
+        Ok((fresh, disk))
+    }
+
+    fn rename(&self, rt: &HostRuntime) -> Result<(), Refusal> {
+        let renamed = fs::rename(rt, self.part.as_str(), self.target);
+        renamed.map_err(|error| {
+            tell(rt, Failure::CannotOpen(self.target, error));
+            Refusal::For("write")
+        })
+    }
+
+    /// Puts the file in its place, if what filled it succeeded, and else removes it.
+    pub fn settle<T: Drop>(
+        self,
+        rt: &HostRuntime,
+        filled: Result<T, Refusal>,
+    ) -> Result<T, Refusal> {
+        let settled = match filled {
+            Ok(filled) => self.rename(rt).map(|()| filled),
+            Err(refusal) => Err(refusal),
+        };
+        if settled.is_err() {
+            let _ = fs::remove_file(rt, self.part.as_str());
+        }
+        settled
+    }
+}
