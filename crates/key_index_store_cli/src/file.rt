@@ -62,9 +62,14 @@ pub fn lock<'a>(
 }
 
 /// What stands behind the header of a file. It is refused with `no_store` where it is no store's.
-pub fn headed<'a>(file: File, path: &'a str, no_store: &'static str) -> Result<Disk, Failure<'a>> {
-    Headed::open(FileDevice::new(file, Unknown)).map_err(|error| {
-        let reason = match error {
+pub fn headed<'a>(
+    rt: &HostRuntime,
+    file: File,
+    path: &'a str,
+    no_store: &'static str,
+) -> Result<Disk, Failure<'a>> {
+    Headed::open(rt.alloc(), FileDevice::new(file, Unknown)).map_err(|refused| {
+        let reason = match refused.reason {
             OpenError::ReadFailed => "read",
             OpenError::NoStore => no_store,
         };
@@ -103,7 +108,7 @@ pub fn open_store<'a>(rt: &HostRuntime, path: &'a str) -> Result<Opened, Failure
     let file = opened.map_err(|error| Failure::CannotOpen(path, error))?;
     lock(rt, &file, path, is_read_only)?;
     Ok(Opened {
-        disk: headed(file, path, "no store")?,
+        disk: headed(rt, file, path, "no store")?,
         is_new,
         is_read_only,
     })

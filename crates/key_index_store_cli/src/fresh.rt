@@ -58,7 +58,7 @@ fn open_part<'a>(rt: &HostRuntime, path: &'a str, from: &str) -> Result<Disk, Fa
     if permissions != file.metadata().map_err(cannot_open)?.permissions() {
         OpenFile::set_permissions(&file, permissions).map_err(cannot_open)?;
     }
-    let mut disk = headed(file, path, "not empty")?;
+    let mut disk = headed(rt, file, path, "not empty")?;
     let emptied = disk.set_len(0);
     emptied.map_err(|_| Failure::Refused(Refusal::For("write"), path))?;
     Ok(disk)

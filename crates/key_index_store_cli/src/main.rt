@@ -48,7 +48,7 @@ fn over<'a, I: Factory<Translator = T, Value = u64> + Drop, O: Order<I, T>, T: C
     let mut session = Session {
         rt,
         options,
-        store: store.map_err(|fault| refused(Refusal::from(fault)))?,
+        store: store.map_err(|error| refused(Refusal::from(error.fault)))?,
         translator,
         path: String::from_str(alloc, path)?,
         is_read_only: opened.is_read_only,

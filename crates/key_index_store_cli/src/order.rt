@@ -120,7 +120,7 @@ impl<I: Ordered<Value = u64> + Factory<Translator = T> + Drop, T: Copy> Session<
                 .sync()
                 .map(|()| store)
                 .map_err(|_| Refusal::For("sync")),
-            Err(fault) => Err(Refusal::from(fault)),
+            Err(refused) => Err(Refusal::from(refused.fault)),
         };
         fresh.settle(rt, synced)
     }

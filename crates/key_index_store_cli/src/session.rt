@@ -8,7 +8,6 @@ use crate::line::{Command, first_word, parse};
 use crate::order::Order;
 use key_index_flat::index::Factory;
 use key_index_store::device::Device;
-use key_index_store::salvage::salvage;
 use key_index_store::store::{Store, Tail};
 use std::io;
 use std::io::{BufRead, BufReader, BufWriter, Stdin, Stdout, Write};
@@ -65,7 +64,7 @@ pub struct Session<'a, I: Factory<Value = u64> + Drop> {
 impl<I: Factory<Translator = T, Value = u64> + Drop, T: Copy> Session<'_, I> {
     /// How many bytes stand behind the header.
     pub fn len(&mut self) -> Result<u64, Refusal> {
-        let len = self.store.device_mut().len();
+        let len = self.store.log_len();
         len.map_err(|_| Refusal::For("read"))
     }
 
@@ -155,7 +154,7 @@ impl<I: Factory<Translator = T, Value = u64> + Drop, T: Copy> Session<'_, I> {
     fn salvage(&mut self, target: &str) -> Answered {
         let rt = self.rt;
         let (fresh, mut disk) = Fresh::new(rt, target, self.path.as_str(), false)?;
-        let synced = match salvage(rt.alloc(), self.store.device_mut(), &mut disk) {
+        let synced = match self.store.salvage(&mut disk) {
             Ok(salvaged) => {
                 let synced = disk.sync().map_err(|_| Refusal::For("sync"));
                 synced.map(|()| salvaged)
