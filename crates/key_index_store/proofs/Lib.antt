@@ -1,5 +1,7 @@
 pub mod ChecksumLemmas
 pub mod CompactLemmas
+pub mod CrashLemmas
+pub mod HeaderLemmas
 pub mod HistoryLemmas
 pub mod IndexLemmas
 pub mod KeepLemmas
@@ -8,4 +10,5 @@ pub mod NearestLemmas
 pub mod ReadLemmas
 pub mod RecordLemmas
 pub mod ReplayLemmas
+pub mod SalvageLemmas
 pub mod StoreLemmas

@@ -1,9 +1,11 @@
 pub mod Checksum
 pub mod Device
 pub mod FileDevice
+pub mod Header
 pub mod History
 pub mod Indexed
 pub mod MemoryDevice
 pub mod Reads
 pub mod Record
+pub mod Salvage
 pub mod Stored

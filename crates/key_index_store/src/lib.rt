@@ -2,9 +2,12 @@
 #![tactic(auto)]
 
 pub mod checksum;
+pub mod crashes;
 pub mod device;
 pub mod file_device;
+pub mod headed;
 mod history;
 pub mod memory_device;
 pub mod record;
+pub mod salvage;
 pub mod store;

@@ -1,22 +1,25 @@
 //! A key-value store on a log. The index keeps positions alone: it gives those that a shortened key may mean, and the log confirms.
 ghost use Rattle.std.specs.Prelude.{◌≡◌, ◌↔◌, ◌⊎◌, ◌<◌, ◌≤◌, ◌^◌, ◌-◌, ◌||◌, ◌≢◌, ◌+◌, ℕ, List, [], ◌++◌, if◌then◌else◌, length, take, drop, slice_get, false, Some, None, is_some, All, IsSome, IsTrue, IfSome, IfOk, IfErr, OnOk, OnErr};
 ghost use Rattle.std.specs.FinMap as map;
+ghost use Rattle.std.specs.List.{flat_map};
 ghost use Rattle.std.specs.Option.{option_map};
 ghost use Rattle.key_index_flat.specs.FullKeys.{IsBytes};
 ghost use Rattle.key_index_flat.specs.View.{growth_fault_in, run_of, with_edit, with_pruned};
 ghost use Rattle.key_index_store.specs.Device.{AddsAtMost, Changes, IsBegun, IsRead, NoMore, Sees, Stays};
 ghost use Rattle.key_index_store.specs.Indexed.{Indexes, IsLive, Keeps, KeepsLists, Settles, without_newest};
 ghost use Rattle.key_index_store.specs.Record.{Complete, Entry, Fits, IsFound, IsWithin, Stops, encoded, entry_of, outcome_of, reading};
+ghost use Rattle.key_index_store.specs.Salvage.{MaySalvage, salvaged};
 ghost use Rattle.key_index_store.specs.Stored.{HasChanged, HasRefused, HasRoom, LeavesSame, IsRefused, IsTail, LeavesBeforeOrAfter, MayRead, MayRefuse, refusal_of, end_of, held_by, is_zeros, tail_in, tail_of, with_record, with_value, without_tail};
 
 mod compact;
-mod find;
+pub(crate) mod find;
 mod neighbours;
 mod replay;
 
 use crate::device::Device;
 use crate::record::encode;
-use find::{find, find_place, read_value};
+use crate::salvage::{Salvaged, salvage};
+use find::{find, find_place, length_of, read_value};
 use key_index_flat::index::{self, Refused, Unordered, Values};
 pub use neighbours::Gap;
 use replay::replay;
@@ -450,6 +453,28 @@ impl<D: Device, I: Unordered<Value = u64>> Store<D, I> {
             Ok(()) => Ok(()),
             Err(_) => Err(Fault::WriteFailed),
         }
+    }
+
+    /// How many bytes the log has, those behind the records too. It asks the device.
+    pub fn log_len(&mut self) -> Result<u64, Fault>
+        ensures told { Sees (D.seen self.new) (λ log. IfOk result (λ n. n ≡ length log)) }
+        ensures read { IsRead D.seen D.may_leave self.old self.new }
+        ensures fault { IfErr result (λ f. f ≡ Fault.ReadFailed) }
+    {
+        length_of(&mut self.device)
+    }
+
+    /// Copies each whole record of the log to a fresh one, in their order, behind damage too.
+    pub fn salvage<C: Device>(&mut self, into: &mut C) -> Result<Salvaged, Fault>
+        ensures copied { OnOk result (Sees (D.seen self.new) (λ log. Sees (C.seen into.new) (λ bytes.
+            bytes ≡ flat_map encoded (salvaged log)))) }
+        ensures records { IfOk result (λ s. Sees (D.seen self.new) (λ log. s.records ≡ length (salvaged log))) }
+        ensures left_out { IfOk result (λ s. Sees (D.seen self.new) (λ log. Sees (C.seen into.new) (λ bytes.
+            s.left_out ≡ length log - length bytes))) }
+        ensures read { IsRead D.seen D.may_leave self.old self.new }
+        ensures fault { IfErr result (MaySalvage (C.seen into.new)) }
+    {
+        salvage(self.alloc, &mut self.device, into)
     }
 
     /// The device, to be opened anew.

@@ -2,6 +2,7 @@
 mod batches;
 mod checks;
 mod checksums;
+mod crashes;
 mod partitions;
 mod plain;
 mod program;

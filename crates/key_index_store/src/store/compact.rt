@@ -5,7 +5,7 @@ ghost use Rattle.key_index_flat.specs.Neighbours.{first_entry};
 ghost use Rattle.key_index_store.specs.Device.{Changes, IsRead, Sees};
 ghost use Rattle.key_index_store.specs.Stored.{EntriesFit, IsCopy, MayRead, compacted, entries_behind, held_by, in_bytes};
 
-use super::replay::length_of;
+use super::find::length_of;
 use super::{Fault, NotOpened, Store, Tail};
 use crate::device::Device;
 use key_index_flat::index::{Ordered, Unordered};

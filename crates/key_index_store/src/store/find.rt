@@ -15,6 +15,18 @@ use std::alloc::Global;
 /// How many bytes of a record are read at first.
 const BLOCK: u64 = 1024;
 
+/// How many bytes a log has.
+pub(crate) fn length_of<D: Device>(device: &mut D) -> Result<u64, Fault>
+    ensures told { Sees (D.seen device.new) (λ log. IfOk result (λ n. n ≡ length log)) }
+    ensures read { IsRead D.seen D.may_leave device.old device.new }
+    ensures fault { IfErr result (λ f. f ≡ Fault.ReadFailed) }
+{
+    match device.len() {
+        Ok(len) => Ok(len),
+        Err(_) => Err(Fault::ReadFailed),
+    }
+}
+
 /// Some bytes of a log.
 pub(super) fn read_bytes<D: Device>(
     alloc: Global,
@@ -50,7 +62,7 @@ fn wanted(bytes: &[u8], is_whole: bool) -> u64
 
 /// The front of the record at a position, in the first `limit` bytes of a log: its head and its key at least, and the whole record where
 /// that is asked.
-pub(super) fn read_front<D: Device>(
+pub(crate) fn read_front<D: Device>(
     alloc: Global,
     device: &mut D,
     position: u64,

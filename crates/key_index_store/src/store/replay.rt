@@ -5,7 +5,7 @@ ghost use Rattle.key_index_store.specs.Indexed.{Indexes, Keeps};
 ghost use Rattle.key_index_store.specs.Record.{Damaged, Fits, Stops, Torn, encoded, reading};
 ghost use Rattle.key_index_store.specs.Stored.{MayRead, is_zeros, tail_of};
 
-use super::find::{find_place, read_bytes, read_front};
+use super::find::{find_place, length_of, read_bytes, read_front};
 use super::{Fault, Tail, positions_of, settle};
 use crate::device::Device;
 use crate::record::{Reading, decode};
@@ -163,18 +163,6 @@ fn file_one<D: Device, I: Unordered<Value = u64>>(
         Reading::Damaged => false,
     };
     Ok(Err(tail_at(alloc, device, end, len, is_torn)?))
-}
-
-/// How many bytes a log has.
-pub(super) fn length_of<D: Device>(device: &mut D) -> Result<u64, Fault>
-    ensures told { Sees (D.seen device.new) (λ log. IfOk result (λ n. n ≡ length log)) }
-    ensures read { IsRead D.seen D.may_leave device.old device.new }
-    ensures fault { IfErr result MayRead }
-{
-    match device.len() {
-        Ok(len) => Ok(len),
-        Err(_) => Err(Fault::ReadFailed),
-    }
 }
 
 /// Files the complete records of a log, the oldest first. Gives how many bytes they take, and what stands behind them.

@@ -1,0 +1,17 @@
+use Rattle.std.proofs.Common.{◌+◌, ◌-◌, ◌*◌, ◌≤◌, min}
+use Rattle.key_index_store.specs.Device.{Changes, IsRead, Sees}
+use Rattle.key_index_store.proofs.SalvageLemmas.{Copied, Scan}
+use Rattle.key_index_store.proofs.salvage.salvage.Given as goal
+
+abbrev pub invariant-loop-position : goal.invariant-loop-position
+invariant-loop-position g l = record {
+  order : l.start ≤ l.position;
+  few : l.records ≤ l.position;
+  behind : l.end ≤ l.position;
+  read : IsRead g.D.Device.seen g.D.Device.may_leave l.fn.from l.from;
+  scan : Sees (g.D.Device.seen l.from) (λ log. Scan log l.block.items l.len l.start l.position l.records);
+  copied : Sees (g.D.Device.seen l.from) (λ log. Changes (g.C.Device.seen l.fn.into) (g.C.Device.seen l.into) (Copied log l.position l.end));
+}
+
+abbrev pub decreases-loop-position : goal.decreases-loop-position
+decreases-loop-position g l = 2 * (l.len - l.position) + min (l.position - l.start) 1
