@@ -5,7 +5,7 @@
 --     live_above, live_below                                  the lists of neighbours are live
 --     none_last, live_last, last_told                         and the greatest key of all, in the last list
 --     first_held, first_entry-above_empty_key                 the least of all is the empty key, or the next one
-use Rattle.std.proofs.Common.{◌≡◌, ◌<◌, ℕ, Bool, true, false, List, [], ◌∷◌, ◌++◌, cond, map, T, All, Vec, Global, Option, Some, None, is_some, refl, sym, ap, subst, ◌∙◌, append-nil}
+use Rattle.std.proofs.Common.{◌≡◌, ◌<◌, ℕ, Bool, true, false, List, [], ◌∷◌, ◌++◌, cond, map, take, T, All, Vec, Global, Option, Some, None, is_some, refl, sym, ap, subst, ◌∙◌, append-nil}
 use Rattle.std.proofs.lemmas.Bool.{false≢true}
 use Rattle.std.proofs.lemmas.List.Elements.{All-append, All-cons, All-filter, All-head, All-nil, All-tail, All-weaker, filter-append}
 use Rattle.std.specs.BTreeMap.Range.{IsLeBy}
@@ -27,8 +27,10 @@ use Rattle.key_index_flat.specs.View.{View, run_at, run_of}
 use Rattle.key_index_flat.proofs.content.ContentLemmas.{Less-is_lt, Equal-is_eq, list_at-below_all}
 use Rattle.key_index_flat.proofs.neighbours.FullKeyLemmas.{filed_first, filed_rest, least_own, next_of_filed, prev_of_filed}
 use Rattle.key_index_flat.proofs.neighbours.LeastLemmas.{IsLeast-back, least_has, pushed_keeps, pushed_takes}
-use Rattle.key_index_store.specs.Indexed.{Indexes, IsLive, IsNearest, IsUnder, beyond, entry_at, is_behind, key_at, key_in_bytes}
+use Rattle.key_index_store.specs.Indexed.{Indexes, Keeps, IsLive, IsNearest, IsUnder, beyond, entry_at, is_behind, key_at, key_in_bytes}
 use Rattle.key_index_store.specs.Stored.{Values, entry_after, entry_before, held_by}
+use Rattle.key_index_store.specs.declared.store.Tail.{Tail}
+use Rattle.key_index_store.proofs.KeepLemmas.{kept_held}
 use Rattle.std.proofs.lemmas.Map.Lookups.{exact_bytes}
 use Rattle.key_index_flat.proofs.entries.MapLemmas.{first_entry-IsLeast, own_list, last_entry-IsLeast}
 
@@ -285,15 +287,21 @@ found_among log (p ∷ ps) h q f =
 
 -- ---- on an index
 
-module _ {K : Type 0} {cmp : K → K → Ordering} (o : IsTotalOrder cmp) (log : List ℕ) (s : View K ℕ) (keeps : KeepsOrder cmp s.slot) (lawful : IsLawful cmp s.content) (h : Indexes cmp log s) where
+module _ {K : Type 0} {cmp : K → K → Ordering} (o : IsTotalOrder cmp) (whole : List ℕ) (s : View K ℕ) (end : ℕ) (t : Tail) (keeps : KeepsOrder cmp s.slot) (lawful : IsLawful cmp s.content) (kept : Keeps cmp whole s end t) where
+  abbrev log : List ℕ
+  log = take end whole
+
+  abbrev h : Indexes cmp log s
+  h = kept.indexed
+
   abbrev m : Values
-  m = held_by log
+  m = held_by whole
 
   IsFiled-content : IsFiled (key_at log) cmp s.slot s.content
   IsFiled-content k = All-weaker (IsUnder log s.slot k) (λ p. IsBytes (key_at log p) × (s.slot (key_at log p) ≡ k)) (λ p q. (q.1, q.2)) (run_at cmp s k) (h.live k)
 
   find-entries_filed : (q : List ℕ) → find byte_cmp q (entries m) ≡ find byte_cmp q (map (entry_at log) (values_of s.content))
-  find-entries_filed q = sym (get-entries m q) ∙ sym (h.found q) ∙ sym (own_list (entry_at log) o s.slot q s.content lawful.0 IsFiled-content)
+  find-entries_filed q = sym (get-entries m q) ∙ ap (λ x. get x q) (kept_held cmp whole s end t kept) ∙ sym (h.found q) ∙ sym (own_list (entry_at log) o s.slot q s.content lawful.0 IsFiled-content)
 
   -- the lists of neighbours are live
   live_at : (k : K) → All (IsLive log) (run_at cmp s k)
@@ -331,48 +339,50 @@ module _ {K : Type 0} {cmp : K → K → Ordering} (o : IsTotalOrder cmp) (log :
     under = unflagged (prev_list cmp s.content (s.slot key))
 
     module _ (run : List ℕ) (is : run ≡ run_of cmp s key) (own : Option (Vec ℕ Global × ℕ)) where
-      module _ (near : IsNearest log byte_cmp (beyond log byte_cmp (Some key) run) (key_in_bytes own)) where
+      module _ (near : All (IsLive log) run → IsNearest log byte_cmp (beyond log byte_cmp (Some key) run) (key_in_bytes own)) where
         near_above : IsNearest log byte_cmp (beyond log byte_cmp (Some key) (run_of cmp s key)) (key_in_bytes own)
-        near_above = subst (λ l. IsNearest log byte_cmp (beyond log byte_cmp (Some key) l) (key_in_bytes own)) is near
+        near_above = subst (λ l. IsNearest log byte_cmp (beyond log byte_cmp (Some key) l) (key_in_bytes own)) is (near (subst (All (IsLive log)) (sym is) (live_at (s.slot key))))
 
-        pub own_after : is_some own ≡ true → IsEntry log own (entry_after m key)
+        pub own_after : true ≡ is_some own → IsEntry log own (entry_after m key)
         unfolding over
         own_after some = (
           nearest_live log nat_list_cmp_total _ own near_above (All-filter (λ p. is_lt (byte_cmp key (key_at log p))) (IsLive log) (run_of cmp s key) (live_at (s.slot key))),
           entry_of_nearest log nat_list_cmp_total _ own near_above
-              ∙ own_found log byte_cmp (beyond log byte_cmp (Some key) (run_of cmp s key)) over (entry_after m key) above_told (key_in_bytes own) near_above (shown_some own ∙ some),
+              ∙ own_found log byte_cmp (beyond log byte_cmp (Some key) (run_of cmp s key)) over (entry_after m key) above_told (key_in_bytes own) near_above (shown_some own ∙ sym some),
         )
 
-        pub next_after : is_some own ≡ false → (list : Option (List ℕ × Bool)) → list ≡ next_list cmp s.content (s.slot key) → (found : Option (Vec ℕ Global × ℕ))
-            → IsNearest log byte_cmp (unflagged list) (key_in_bytes found) → IsEntry log found (entry_after m key)
+        pub next_after : false ≡ is_some own → (list : Option (List ℕ × Bool)) → list ≡ next_list cmp s.content (s.slot key) → (found : Option (Vec ℕ Global × ℕ))
+            → (All (IsLive log) (unflagged list) → IsNearest log byte_cmp (unflagged list) (key_in_bytes found)) → IsEntry log found (entry_after m key)
         unfolding over
         next_after none list same found behind =
-            let other = subst (λ l. IsNearest log byte_cmp (unflagged l) (key_in_bytes found)) same behind in (
-              nearest_live log nat_list_cmp_total _ found other (live_above key),
+            let live = live_above key in
+            let other = subst (λ l. IsNearest log byte_cmp (unflagged l) (key_in_bytes found)) same (behind (subst (λ l. All (IsLive log) (unflagged l)) (sym same) live)) in (
+              nearest_live log nat_list_cmp_total _ found other live,
               entry_of_nearest log nat_list_cmp_total _ found other
-                  ∙ other_found log byte_cmp (beyond log byte_cmp (Some key) (run_of cmp s key)) over (entry_after m key) above_told (key_in_bytes own) (key_in_bytes found) near_above (shown_some own ∙ none) other,
+                  ∙ other_found log byte_cmp (beyond log byte_cmp (Some key) (run_of cmp s key)) over (entry_after m key) above_told (key_in_bytes own) (key_in_bytes found) near_above (shown_some own ∙ sym none) other,
             )
 
-      module _ (near : IsNearest log down (beyond log down (Some key) run) (key_in_bytes own)) where
+      module _ (near : All (IsLive log) run → IsNearest log down (beyond log down (Some key) run) (key_in_bytes own)) where
         near_below : IsNearest log down (beyond log down (Some key) (run_of cmp s key)) (key_in_bytes own)
-        near_below = subst (λ l. IsNearest log down (beyond log down (Some key) l) (key_in_bytes own)) is near
+        near_below = subst (λ l. IsNearest log down (beyond log down (Some key) l) (key_in_bytes own)) is (near (subst (All (IsLive log)) (sym is) (live_at (s.slot key))))
 
-        pub own_before : is_some own ≡ true → IsEntry log own (entry_before m key)
+        pub own_before : true ≡ is_some own → IsEntry log own (entry_before m key)
         unfolding under
         own_before some = (
           nearest_live log (back_total nat_list_cmp_total) _ own near_below (All-filter (λ p. is_lt (down key (key_at log p))) (IsLive log) (run_of cmp s key) (live_at (s.slot key))),
           entry_of_nearest log (back_total nat_list_cmp_total) _ own near_below
-              ∙ own_found log down (beyond log down (Some key) (run_of cmp s key)) under (entry_before m key) below_told (key_in_bytes own) near_below (shown_some own ∙ some),
+              ∙ own_found log down (beyond log down (Some key) (run_of cmp s key)) under (entry_before m key) below_told (key_in_bytes own) near_below (shown_some own ∙ sym some),
         )
 
-        pub prev_before : is_some own ≡ false → (list : Option (List ℕ × Bool)) → list ≡ prev_list cmp s.content (s.slot key) → (found : Option (Vec ℕ Global × ℕ))
-            → IsNearest log down (unflagged list) (key_in_bytes found) → IsEntry log found (entry_before m key)
+        pub prev_before : false ≡ is_some own → (list : Option (List ℕ × Bool)) → list ≡ prev_list cmp s.content (s.slot key) → (found : Option (Vec ℕ Global × ℕ))
+            → (All (IsLive log) (unflagged list) → IsNearest log down (unflagged list) (key_in_bytes found)) → IsEntry log found (entry_before m key)
         unfolding under
         prev_before none list same found behind =
-            let other = subst (λ l. IsNearest log down (unflagged l) (key_in_bytes found)) same behind in (
-              nearest_live log (back_total nat_list_cmp_total) _ found other (live_below key),
+            let live = live_below key in
+            let other = subst (λ l. IsNearest log down (unflagged l) (key_in_bytes found)) same (behind (subst (λ l. All (IsLive log) (unflagged l)) (sym same) live)) in (
+              nearest_live log (back_total nat_list_cmp_total) _ found other live,
               entry_of_nearest log (back_total nat_list_cmp_total) _ found other
-                  ∙ other_found log down (beyond log down (Some key) (run_of cmp s key)) under (entry_before m key) below_told (key_in_bytes own) (key_in_bytes found) near_below (shown_some own ∙ none) other,
+                  ∙ other_found log down (beyond log down (Some key) (run_of cmp s key)) under (entry_before m key) below_told (key_in_bytes own) (key_in_bytes found) near_below (shown_some own ∙ sym none) other,
             )
 
   -- ---- the greatest key of all
@@ -410,11 +420,12 @@ module _ {K : Type 0} {cmp : K → K → Ordering} (o : IsTotalOrder cmp) (log :
         of None h is = absurd (false≢true (sym (ap is_some is)))
         of (Some e) h is = subst (All (IsLive log)) (sym (ap (λ (x : Option (List ℕ)). unwrap_or x l) is)) h
 
-    pub last_told : (l : List ℕ) → list ≡ Some l → (found : Option (Vec ℕ Global × ℕ)) → IsNearest log (flip_args byte_cmp) l (key_in_bytes found) → IsEntry log found (last_entry (entries m))
-    last_told l is found near = (
-      nearest_live log (back_total nat_list_cmp_total) l found near (live_last l is),
-      entry_of_nearest log (back_total nat_list_cmp_total) l found near ∙ greatest_told near.0 (least_of_all s.content lawful IsFiled-content l (sym is ∙ same) near.0 near.1),
-    )
+    pub last_told : (l : List ℕ) → list ≡ Some l → (found : Option (Vec ℕ Global × ℕ)) → (All (IsLive log) l → IsNearest log (flip_args byte_cmp) l (key_in_bytes found)) → IsEntry log found (last_entry (entries m))
+    last_told l is found nearest =
+        let near = nearest (live_last l is) in (
+          nearest_live log (back_total nat_list_cmp_total) l found near (live_last l is),
+          entry_of_nearest log (back_total nat_list_cmp_total) l found near ∙ greatest_told near.0 (least_of_all s.content lawful IsFiled-content l (sym is ∙ same) near.0 near.1),
+        )
 
 -- ---- the first entry of all, by the empty key
 

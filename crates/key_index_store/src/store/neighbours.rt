@@ -105,8 +105,8 @@ fn nearest<S: Side, D: Device>(
     after: Option<&[u8]>,
     limit: u64,
 ) -> Result<Option<(Vec<u8>, u64)>, Fault>
-    ensures nearest { let after = option_map (λ a. a.now) after.entry in Sees (D.seen device.new) (λ log. limit ≤ length log
-        → All (IsLive (take limit log)) positions.entry → IfOk result (λ o.
+    ensures nearest { let after = option_map (λ a. a.now) after.entry in Sees (D.seen device.new) (λ log.
+        limit ≤ length log → All (IsLive (take limit log)) positions.entry → IfOk result (λ o.
         IsNearest (take limit log) S.cmp (beyond (take limit log) S.cmp after positions.entry) (key_in_bytes o))) }
     ensures read { IsRead D.seen D.may_leave device.old device.new }
     ensures fault { Sees (D.seen device.new) (λ log. limit ≤ length log → All (IsLive (take limit log)) positions.entry
@@ -151,11 +151,12 @@ fn with_its_value<D: Device>(
     found: Option<(Vec<u8>, u64)>,
     limit: u64,
 ) -> Result<Option<(Vec<u8>, Vec<u8>)>, Fault>
-    ensures value { Sees (D.seen device.new) (λ log. limit ≤ length log → IfSome found (λ f. IsLive (take limit log) f.1)
-        → IfOk result (λ o. in_bytes o ≡ option_map (λ f. (f.0.items, (entry_at (take limit log) f.1).1)) found)) }
+    ensures value { Sees (D.seen device.new) (λ log. limit ≤ length log
+        → IfSome found (λ f. IsLive (take limit log) f.1) → IfOk result (λ o.
+        in_bytes o ≡ option_map (λ f. (f.0.items, (entry_at (take limit log) f.1).1)) found)) }
     ensures read { IsRead D.seen D.may_leave device.old device.new }
-    ensures fault { Sees (D.seen device.new) (λ log. limit ≤ length log → IfSome found (λ f. IsLive (take limit log) f.1)
-        → IfErr result MayRead) }
+    ensures fault { Sees (D.seen device.new) (λ log. limit ≤ length log
+        → IfSome found (λ f. IsLive (take limit log) f.1) → IfErr result MayRead) }
 {
     let Some((key, position)) = found else {
         return Ok(None);
@@ -167,7 +168,8 @@ fn with_its_value<D: Device>(
 impl<D: Device, I: Ordered<Value = u64>> Store<D, I> {
     /// The least key strictly above one, of those that have a value, with its value. `None` where none is above: it doesn't go round.
     pub fn next(&mut self, key: &[u8]) -> Result<Option<(Vec<u8>, Vec<u8>)>, Fault>
-        ensures next { Sees (D.seen self.new) (λ log. IfOk result (λ o. in_bytes o ≡ entry_after (held_by log) key.now)) }
+        ensures next { Sees (D.seen self.new) (λ log. IfOk result (λ o.
+            in_bytes o ≡ entry_after (held_by log) key.now)) }
         ensures read { IsRead D.seen D.may_leave self.old self.new }
         ensures fault { Sees (D.seen self.new) (λ log. IfErr result MayRead) }
     {
@@ -185,7 +187,8 @@ impl<D: Device, I: Ordered<Value = u64>> Store<D, I> {
     /// The greatest key strictly below one, of those that have a value, with its value. `None` where none is below: it doesn't go
     /// round.
     pub fn prev(&mut self, key: &[u8]) -> Result<Option<(Vec<u8>, Vec<u8>)>, Fault>
-        ensures prev { Sees (D.seen self.new) (λ log. IfOk result (λ o. in_bytes o ≡ entry_before (held_by log) key.now)) }
+        ensures prev { Sees (D.seen self.new) (λ log. IfOk result (λ o.
+            in_bytes o ≡ entry_before (held_by log) key.now)) }
         ensures read { IsRead D.seen D.may_leave self.old self.new }
         ensures fault { Sees (D.seen self.new) (λ log. IfErr result MayRead) }
     {

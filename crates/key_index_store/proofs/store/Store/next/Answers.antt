@@ -1,9 +1,7 @@
-use Rattle.std.proofs.Common.{rules, All, take, sym, ap, subst, ◌∙◌}
+use Rattle.std.proofs.Common.{rules, All, take, sym, subst, ◌∙◌}
 use Rattle.std.proofs.lemmas.Result.{IfOk-weaker}
 use Rattle.key_index_flat.specs.FullKeys.{unflagged}
 use Rattle.key_index_store.specs.Indexed.{IsLive}
-use Rattle.key_index_store.specs.Stored.{entry_after}
-use Rattle.key_index_store.proofs.KeepLemmas.{kept_held}
 use Rattle.key_index_store.proofs.NearestLemmas.{live_above, next_after, own_after}
 use Rattle.key_index_store.proofs.StoreLemmas.{live_run}
 use Rattle.key_index_store.proofs.store.Store.next.Goals as goal
@@ -18,77 +16,43 @@ returns-in_err-own-clause-fault g c = λ log seen.
 
 pub returns-then-is_some-clause-next : goal.returns-then-is_some-clause-next
 returns-then-is_some-clause-next g c = λ log seen.
-    let front = take c.self.inside.end log in
-    let s = g.I.Runs.view c.self.inside.index in
-    let key = c.args.key.now in
-    let positions = c.positions_of-positions.ensures in
     let before = c.with_its_value.ensures.read.stays log seen in
     let keeps = c.self.invariant log (c.in_ok-own.ensures.read.stays log before) in
-    let live = live_run g.I.Key.Ord.cmp front s key keeps.indexed in
-    let near = c.in_ok-own.ensures.nearest log before keeps.within (subst (All (IsLive front)) (sym positions.run) live) in
-    let told = own_after g.met.I.Key.Ord.total front s (g.met.I.Ordered.keeps_order c.self.inside.index) (g.met.I.Runs.lawful c.self.inside.index) keeps.indexed key positions.bytes
-    c.positions_of-positions.result positions.run c.in_ok-own.own near (sym c.if-is_some.ensures) in
-    IfOk-weaker c.with_its_value.result _ _ (λ o value. value ∙ told.1 ∙ ap (λ m. entry_after m key) (sym (kept_held g.I.Key.Ord.cmp log s c.self.inside.end c.self.inside.tail keeps)))
-    (c.with_its_value.ensures.value log seen keeps.within told.0)
+    let told = own_after g.met.I.Key.Ord.total log (g.I.Runs.view c.self.inside.index) c.self.inside.end c.self.inside.tail (g.met.I.Ordered.keeps_order c.self.inside.index) (g.met.I.Runs.lawful c.self.inside.index) keeps
+    c.args.key.now c.positions_of-positions.ensures.bytes c.positions_of-positions.result c.positions_of-positions.ensures.run c.in_ok-own.own (c.in_ok-own.ensures.nearest log before keeps.within) c.if-is_some.ensures in
+    IfOk-weaker c.with_its_value.result _ _ (λ o value. value ∙ told.1) (c.with_its_value.ensures.value log seen keeps.within told.0)
 
 pub returns-then-is_some-clause-fault : goal.returns-then-is_some-clause-fault
 returns-then-is_some-clause-fault g c = λ log seen.
-    let front = take c.self.inside.end log in
-    let s = g.I.Runs.view c.self.inside.index in
-    let key = c.args.key.now in
-    let positions = c.positions_of-positions.ensures in
     let before = c.with_its_value.ensures.read.stays log seen in
     let keeps = c.self.invariant log (c.in_ok-own.ensures.read.stays log before) in
-    let live = live_run g.I.Key.Ord.cmp front s key keeps.indexed in
-    let near = c.in_ok-own.ensures.nearest log before keeps.within (subst (All (IsLive front)) (sym positions.run) live) in
-    let told = own_after g.met.I.Key.Ord.total front s (g.met.I.Ordered.keeps_order c.self.inside.index) (g.met.I.Runs.lawful c.self.inside.index) keeps.indexed key positions.bytes
-    c.positions_of-positions.result positions.run c.in_ok-own.own near (sym c.if-is_some.ensures) in
+    let told = own_after g.met.I.Key.Ord.total log (g.I.Runs.view c.self.inside.index) c.self.inside.end c.self.inside.tail (g.met.I.Ordered.keeps_order c.self.inside.index) (g.met.I.Runs.lawful c.self.inside.index) keeps
+    c.args.key.now c.positions_of-positions.ensures.bytes c.positions_of-positions.result c.positions_of-positions.ensures.run c.in_ok-own.own (c.in_ok-own.ensures.nearest log before keeps.within) c.if-is_some.ensures in
     c.with_its_value.ensures.fault log seen keeps.within told.0
 
 pub returns-in_err-found-clause-fault : goal.returns-in_err-found-clause-fault
 returns-in_err-found-clause-fault g c = λ log seen.
-    let front = take c.self.inside.end log in
-    let s = g.I.Runs.view c.self.inside.index in
     let keeps = c.self.invariant log (c.in_ok-own.ensures.read.stays log (c.in_err-found.ensures.read.stays log seen)) in
-    let live = live_above g.met.I.Key.Ord.total front s (g.met.I.Ordered.keeps_order c.self.inside.index) (g.met.I.Runs.lawful c.self.inside.index) keeps.indexed c.args.key.now in
-    let may = c.in_err-found.ensures.fault log seen keeps.within (subst (λ x. All (IsLive front) (unflagged x)) (sym c.next_translated_key-other.ensures) live) in
+    let live = live_above g.met.I.Key.Ord.total log (g.I.Runs.view c.self.inside.index) c.self.inside.end c.self.inside.tail (g.met.I.Ordered.keeps_order c.self.inside.index) (g.met.I.Runs.lawful c.self.inside.index) keeps c.args.key.now in
+    let may = c.in_err-found.ensures.fault log seen keeps.within (subst (λ x. All (IsLive (take c.self.inside.end log)) (unflagged x)) (sym c.next_translated_key-other.ensures) live) in
     search (rules, may)
 
 pub returns-clause-next : goal.returns-clause-next
 returns-clause-next g c = λ log seen.
-    let front = take c.self.inside.end log in
-    let s = g.I.Runs.view c.self.inside.index in
-    let key = c.args.key.now in
-    let positions = c.positions_of-positions.ensures in
     let found_seen = c.with_its_value-2.ensures.read.stays log seen in
     let own_seen = c.in_ok-found.ensures.read.stays log found_seen in
     let keeps = c.self.invariant log (c.in_ok-own.ensures.read.stays log own_seen) in
-    let live = live_run g.I.Key.Ord.cmp front s key keeps.indexed in
-    let near = c.in_ok-own.ensures.nearest log own_seen keeps.within (subst (All (IsLive front)) (sym positions.run) live) in
-    let order = g.met.I.Ordered.keeps_order c.self.inside.index in
-    let lawful = g.met.I.Runs.lawful c.self.inside.index in
-    let above = live_above g.met.I.Key.Ord.total front s order lawful keeps.indexed key in
-    let other = c.in_ok-found.ensures.nearest log found_seen keeps.within (subst (λ x. All (IsLive front) (unflagged x)) (sym c.next_translated_key-other.ensures) above) in
-    let told = next_after g.met.I.Key.Ord.total front s order lawful keeps.indexed key positions.bytes
-    c.positions_of-positions.result positions.run c.in_ok-own.own near (sym c.if-is_some.ensures) c.next_translated_key-other.result c.next_translated_key-other.ensures c.in_ok-found.found other in
-    IfOk-weaker c.with_its_value-2.result _ _ (λ o value. value ∙ told.1 ∙ ap (λ m. entry_after m key) (sym (kept_held g.I.Key.Ord.cmp log s c.self.inside.end c.self.inside.tail keeps)))
-    (c.with_its_value-2.ensures.value log seen keeps.within told.0)
+    let told = next_after g.met.I.Key.Ord.total log (g.I.Runs.view c.self.inside.index) c.self.inside.end c.self.inside.tail (g.met.I.Ordered.keeps_order c.self.inside.index) (g.met.I.Runs.lawful c.self.inside.index) keeps
+    c.args.key.now c.positions_of-positions.ensures.bytes c.positions_of-positions.result c.positions_of-positions.ensures.run c.in_ok-own.own (c.in_ok-own.ensures.nearest log own_seen keeps.within) c.if-is_some.ensures
+    c.next_translated_key-other.result c.next_translated_key-other.ensures c.in_ok-found.found (c.in_ok-found.ensures.nearest log found_seen keeps.within) in
+    IfOk-weaker c.with_its_value-2.result _ _ (λ o value. value ∙ told.1) (c.with_its_value-2.ensures.value log seen keeps.within told.0)
 
 pub returns-clause-fault : goal.returns-clause-fault
 returns-clause-fault g c = λ log seen.
-    let front = take c.self.inside.end log in
-    let s = g.I.Runs.view c.self.inside.index in
-    let key = c.args.key.now in
-    let positions = c.positions_of-positions.ensures in
     let found_seen = c.with_its_value-2.ensures.read.stays log seen in
     let own_seen = c.in_ok-found.ensures.read.stays log found_seen in
     let keeps = c.self.invariant log (c.in_ok-own.ensures.read.stays log own_seen) in
-    let live = live_run g.I.Key.Ord.cmp front s key keeps.indexed in
-    let near = c.in_ok-own.ensures.nearest log own_seen keeps.within (subst (All (IsLive front)) (sym positions.run) live) in
-    let order = g.met.I.Ordered.keeps_order c.self.inside.index in
-    let lawful = g.met.I.Runs.lawful c.self.inside.index in
-    let above = live_above g.met.I.Key.Ord.total front s order lawful keeps.indexed key in
-    let other = c.in_ok-found.ensures.nearest log found_seen keeps.within (subst (λ x. All (IsLive front) (unflagged x)) (sym c.next_translated_key-other.ensures) above) in
-    let told = next_after g.met.I.Key.Ord.total front s order lawful keeps.indexed key positions.bytes
-    c.positions_of-positions.result positions.run c.in_ok-own.own near (sym c.if-is_some.ensures) c.next_translated_key-other.result c.next_translated_key-other.ensures c.in_ok-found.found other in
+    let told = next_after g.met.I.Key.Ord.total log (g.I.Runs.view c.self.inside.index) c.self.inside.end c.self.inside.tail (g.met.I.Ordered.keeps_order c.self.inside.index) (g.met.I.Runs.lawful c.self.inside.index) keeps
+    c.args.key.now c.positions_of-positions.ensures.bytes c.positions_of-positions.result c.positions_of-positions.ensures.run c.in_ok-own.own (c.in_ok-own.ensures.nearest log own_seen keeps.within) c.if-is_some.ensures
+    c.next_translated_key-other.result c.next_translated_key-other.ensures c.in_ok-found.found (c.in_ok-found.ensures.nearest log found_seen keeps.within) in
     c.with_its_value-2.ensures.fault log seen keeps.within told.0
