@@ -1,6 +1,6 @@
 //! A device in memory.
-ghost use Rattle.std.specs.Prelude.{◌≡◌, ◌-◌, [], Some, length, max, take};
-ghost use Rattle.key_index_store.specs.Device.{NoMore};
+ghost use Rattle.std.specs.Prelude.{◌≡◌, ◌≢◌, ◌↔◌, ◌⊎◌, ◌+◌, ◌-◌, ◌<◌, ◌≤◌, ℕ, List, [], ◌++◌, Some, Ok, length, max, min, nat_lt, if◌then◌else◌, take, drop, is_ok, IsOk, IsTrue, OnOk, OnErr, vec_capacity};
+ghost use Rattle.key_index_store.specs.Device.{AddsAtMost, NoMore};
 ghost use Rattle.key_index_store.specs.MemoryDevice.{held, kept, MayLeave};
 
 use crate::device::{Device, Failed};
@@ -43,26 +43,46 @@ impl Device for MemoryDevice {
 
     ghost may_leave = { MayLeave };
 
-    fn len(&mut self) -> Result<u64, Failed> {
+    /// It doesn't fail.
+    fn len(&mut self) -> Result<u64, Failed>
+        ensures told { result ≡ Ok (length (held self.old)) }
+        ensures same { self.new ≡ self.old }
+    {
         Ok(self.bytes.len() as u64)
     }
 
-    fn read_at(&mut self, position: u64, buffer: &mut [u8]) -> Result<(), Failed> {
+    fn read_at(&mut self, position: u64, buffer: &mut [u8]) -> Result<(), Failed>
+        ensures told { OnOk result (buffer.new ≡ take (length buffer.old) (drop position (held self.old))) }
+        ensures within { IsTrue (is_ok result) ↔ (position + length buffer.old ≤ length (held self.old)) }
+        ensures same { self.new ≡ self.old }
+    {
         let rest = self.bytes.get(position as usize..).ok_or(Failed)?;
         buffer.copy_from_slice(rest.get(..buffer.len()).ok_or(Failed)?);
         Ok(())
     }
 
-    /// Fails where the position is not the end, or where there is no memory.
-    fn write_at(&mut self, position: u64, bytes: &[u8]) -> Result<(), Failed> {
+    /// Fails where the position is not the end, or where there is no memory, and then changes nothing.
+    fn write_at(&mut self, position: u64, bytes: &[u8]) -> Result<(), Failed>
+        ensures written { OnOk result (held self.new ≡ held self.old ++ bytes.now) }
+        ensures kept { kept self.new ≡ kept self.old }
+        ensures failed { OnErr result (held self.new ≡ held self.old) }
+        ensures full { OnErr result ((position ≢ length (held self.old))
+            ⊎ (vec_capacity self.old.bytes < length (held self.old) + length bytes.now)) }
+        ensures crash { (old : List ℕ) → Some (held self.old) ≡ Some old → position ≡ length old
+            → AddsAtMost old bytes.now (MayLeave self.old) (MayLeave self.new) }
+    {
         if position != self.bytes.len() as u64 {
             return Err(Failed);
         }
         self.bytes.extend_from_slice(bytes).map_err(|_| Failed)
     }
 
-    /// Changes nothing where there are no more than `len` bytes.
-    fn set_len(&mut self, len: u64) -> Result<(), Failed> {
+    /// Changes nothing where there are no more than `len` bytes. It doesn't fail.
+    fn set_len(&mut self, len: u64) -> Result<(), Failed>
+        ensures done { IsOk result }
+        ensures cut { held self.new ≡ take len (held self.old) }
+        ensures kept { kept self.new ≡ (if nat_lt len (length (held self.old)) then min (kept self.old) len else kept self.old) }
+    {
         if len < self.bytes.len() as u64 {
             self.bytes.truncate(len as usize);
             self.kept = self.kept.min(len as usize);
@@ -70,7 +90,13 @@ impl Device for MemoryDevice {
         Ok(())
     }
 
-    fn sync(&mut self) -> Result<(), Failed> {
+    /// It doesn't fail.
+    fn sync(&mut self) -> Result<(), Failed>
+        ensures done { IsOk result }
+        ensures same { held self.new ≡ held self.old }
+        ensures kept { kept self.new ≡ length (held self.old) }
+        ensures crash { NoMore (MayLeave self.old) (MayLeave self.new) }
+    {
         self.kept = self.bytes.len();
         Ok(())
     }
