@@ -8,7 +8,7 @@ use crate::line::{Command, first_word, parse};
 use crate::order::Order;
 use key_index_flat::index::Factory;
 use key_index_store::device::Device;
-use key_index_store::store::{Store, Tail};
+use key_index_store::store::{Fault, Store, Tail};
 use std::io;
 use std::io::{BufRead, BufReader, BufWriter, Stdin, Stdout, Write};
 
@@ -122,15 +122,25 @@ impl<I: Factory<Translator = T, Value = u64> + Drop, T: Copy> Session<'_, I> {
         Ok(DONE)
     }
 
+    /// Cuts off what a failed write left of a record, or all of it, where the system told a failure of what it did.
+    fn undone(&mut self, fault: Fault) -> Refusal {
+        if fault == Fault::WriteFailed {
+            let _ = self.store.cut_tail();
+        }
+        Refusal::from(fault)
+    }
+
     fn put(&mut self, key: &[u8], value: &[u8]) -> Answered {
         self.check_writable()?;
-        self.store.put(key, value)?;
+        let put = self.store.put(key, value);
+        put.map_err(|fault| self.undone(fault))?;
         self.changed()
     }
 
     fn delete(&mut self, key: &[u8]) -> Answered {
         self.check_writable()?;
-        if self.store.delete(key)? {
+        let deleted = self.store.delete(key);
+        if deleted.map_err(|fault| self.undone(fault))? {
             return self.changed();
         }
         Ok(Answer::Word("none"))
