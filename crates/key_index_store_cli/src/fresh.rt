@@ -16,20 +16,30 @@ const OWNER: u32 = 0o600;
 pub struct Fresh<'a> {
     part: String,
     target: &'a str,
-    /// The empty file that is there, locked, so that nobody opens it meanwhile.
-    _place: Option<File>,
+    place: Option<Place>,
 }
 
-/// The file at a path, if there is one. It has to be empty, and is locked.
-fn take_place<'a>(rt: &HostRuntime, path: &'a str) -> Result<Option<File>, Failure<'a>> {
-    let file = match open(rt, path, true, false) {
-        Ok(file) => file,
-        Err(error) if error.kind() == ErrorKind::NotFound => return Ok(None),
-        Err(error) => return Err(Failure::CannotOpen(path, error)),
-    };
+/// An empty file at the path, locked, so that nobody puts anything into it meanwhile.
+#[derive(Drop)]
+struct Place {
+    _file: File,
+    /// It was not there before.
+    is_new: bool,
+}
+
+/// The file at a path, which is made where there is none. It has to be empty, and is locked.
+fn take_place<'a>(rt: &HostRuntime, path: &'a str) -> Result<Place, Failure<'a>> {
+    let is_new = !fs::exists(rt, path).unwrap_or(true);
+    let file = open(rt, path, true, true).map_err(|error| Failure::CannotOpen(path, error))?;
     let locked = lock(rt, &file, path, false);
     match file.metadata() {
-        Ok(metadata) if metadata.is_file() && metadata.len() == 0 => locked.map(|()| Some(file)),
+        Ok(metadata) if metadata.is_file() && metadata.len() == 0 => {
+            locked?;
+            Ok(Place {
+                _file: file,
+                is_new,
+            })
+        }
         Ok(_) => Err(Failure::Refused(Refusal::For("not empty"), path)),
         Err(error) => Err(Failure::CannotOpen(path, error)),
     }
@@ -73,20 +83,33 @@ impl<'a> Fresh<'a> {
         from: &str,
         is_own: bool,
     ) -> Result<(Fresh<'a>, Disk), Refusal> {
+        let part = format!(in rt.alloc(); "{target}.part")?;
         let place = if is_own {
             check_regular(rt, target).map(|()| None)
         } else {
-            take_place(rt, target)
+            take_place(rt, target).map(Some)
         };
-        let _place = place.map_err(|failure| failure.into_refusal(rt))?;
-        let part = format!(in rt.alloc(); "{target}.part")?;
-        let disk = open_part(rt, part.as_str(), from).map_err(|failure| failure.into_refusal(rt))?;
+        let place = place.map_err(|failure| failure.into_refusal(rt))?;
         let fresh = Fresh {
             part,
             target,
-            _place,
+            place,
         };
-        Ok((fresh, disk))
+        match open_part(rt, fresh.part.as_str(), from) {
+            Ok(disk) => Ok((fresh, disk)),
+            Err(failure) => {
+                let refusal = failure.into_refusal(rt);
+                fresh.leave(rt);
+                Err(refusal)
+            }
+        }
+    }
+
+    /// Removes the file at the path, where there was none before.
+    fn leave(&self, rt: &HostRuntime) {
+        if self.place.as_ref().is_some_and(|place| place.is_new) {
+            let _ = fs::remove_file(rt, self.target);
+        }
     }
 
     fn rename(&self, rt: &HostRuntime) -> Result<(), Refusal> {
@@ -109,6 +132,7 @@ impl<'a> Fresh<'a> {
         };
         if settled.is_err() {
             let _ = fs::remove_file(rt, self.part.as_str());
+            self.leave(rt);
         }
         settled
     }

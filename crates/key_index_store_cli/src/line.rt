@@ -102,6 +102,10 @@ impl Word<'_> {
         let Word::Plain(word) = self else {
             return Err(Refusal::NoCommand);
         };
+        // Rust's parser takes a sign.
+        if !word.iter().all(|byte| byte.is_ascii_digit()) {
+            return Err(Refusal::NoCommand);
+        }
         let number = str::from_utf8(word).ok().and_then(|word| word.parse().ok());
         number.ok_or(Refusal::NoCommand)
     }

@@ -119,7 +119,7 @@ impl<I: Ordered<Value = u64> + Factory<Translator = T> + Drop, T: Copy> Session<
             Ok(mut store) => store
                 .sync()
                 .map(|()| store)
-                .map_err(|_| Refusal::For("sync")),
+                .map_err(|_| Refusal::For("write")),
             Err(refused) => Err(Refusal::from(refused.fault)),
         };
         fresh.settle(rt, synced)

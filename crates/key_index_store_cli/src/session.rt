@@ -76,7 +76,10 @@ impl<I: Factory<Translator = T, Value = u64> + Drop, T: Copy> Session<'_, I> {
 
     /// Tells what stands behind the last whole record.
     pub fn tell_tail(&mut self) {
-        let (place, length) = self.tail().unwrap_or((0, 0));
+        let Ok((place, length)) = self.tail() else {
+            tell(self.rt, format_args!("refused read: {}", self.path));
+            return;
+        };
         match self.store.tail() {
             Tail::Nothing => {}
             Tail::Torn => tell(
@@ -166,7 +169,7 @@ impl<I: Factory<Translator = T, Value = u64> + Drop, T: Copy> Session<'_, I> {
         let (fresh, mut disk) = Fresh::new(rt, target, self.path.as_str(), false)?;
         let synced = match self.store.salvage(&mut disk) {
             Ok(salvaged) => {
-                let synced = disk.sync().map_err(|_| Refusal::For("sync"));
+                let synced = disk.sync().map_err(|_| Refusal::For("write"));
                 synced.map(|()| salvaged)
             }
             Err(fault) => Err(Refusal::from(fault)),
