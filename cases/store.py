@@ -3,6 +3,7 @@ import struct
 import subprocess
 import tempfile
 import zlib
+from functools import lru_cache
 from pathlib import Path
 
 from case import register
@@ -97,6 +98,12 @@ def reading(log, place):
 
 def opened(log):
     """The entries of a file's bytes, where its last whole record ends, and what stands behind it."""
+    entries, end, tail = replayed(bytes(log))
+    return dict(entries), end, tail
+
+
+@lru_cache(maxsize=8)
+def replayed(log):
     entries, end = {}, len(HEADER)
     if len(log) <= end:
         return entries, len(log), NOTHING
