@@ -14,8 +14,11 @@ pub enum Answer {
     Word(&'static str),
     /// A number, behind the word that says of what.
     Number(&'static str, u64),
+    /// The value of a key, if it has one.
     Value(Option<Vec<u8>>),
+    /// An entry, if there is one.
     Entry(Option<Entry>),
+    /// The neighbours of a key, if it has no value.
     Gap(Option<Gap>),
     /// How many records were copied, and how many bytes left out.
     Salvaged(u64, u64),

@@ -2,7 +2,7 @@
 
 use key_index_store::store::Fault;
 use std::alloc::AllocError;
-use std::io::Write;
+use std::io::{ErrorKind, Write};
 use std::{fmt, io};
 use thiserror::Error;
 
@@ -60,11 +60,16 @@ impl From<Fault> for Refusal {
 impl Failure<'_> {
     /// Why a command is refused that needed the file. What the system said is told.
     pub fn into_refusal(self, rt: &HostRuntime) -> Refusal {
-        if let Failure::Refused(refusal, _) = self {
-            return refusal;
+        match self {
+            Failure::Refused(refusal, _) => refusal,
+            Failure::CannotOpen(_, error) if error.kind() == ErrorKind::OutOfMemory => {
+                Refusal::For("memory")
+            }
+            failure => {
+                tell(rt, failure);
+                Refusal::For("open")
+            }
         }
-        tell(rt, self);
-        Refusal::For("open")
     }
 }
 

@@ -15,7 +15,7 @@ pub type Disk = Headed<FileDevice<Unknown>>;
 /// Where nothing is read or written.
 const NULL: &str = "/dev/null";
 
-/// Opens a file for reading.
+/// Opens a file for reading, and where that is asked for writing. One that isn't there is made where that is asked.
 pub fn open(rt: &HostRuntime, path: &str, writes: bool, creates: bool) -> io::Result<File> {
     let mut how = OpenOptions::new();
     how.read(true).write(writes).create(creates);
@@ -42,7 +42,7 @@ fn is_at(rt: &HostRuntime, file: &File, path: &str) -> bool {
         && own.created().ok() == there.created().ok()
 }
 
-/// Locks the file that was opened at a path.
+/// Locks the file that was opened at a path, for this process alone or for all that read it.
 pub fn lock<'a>(
     rt: &HostRuntime,
     file: &File,
@@ -75,6 +75,7 @@ pub fn headed<'a>(file: File, path: &'a str, no_store: &'static str) -> Result<D
 /// A file of a store.
 #[derive(Drop)]
 pub struct Opened {
+    /// What stands behind its header.
     pub disk: Disk,
     /// It was not there before.
     pub is_new: bool,

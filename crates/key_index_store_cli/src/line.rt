@@ -91,10 +91,11 @@ impl Word<'_> {
             Word::Plain(word) => Vec::from_slice(alloc, word)?,
             Word::Text(text) => text,
         };
-        match String::from_utf8(bytes) {
-            Ok(name) if !name.is_empty() => Ok(name),
-            _ => Err(Refusal::NoCommand),
+        let name = String::from_utf8(bytes).map_err(|_| Refusal::NoCommand)?;
+        if name.is_empty() {
+            return Err(Refusal::NoCommand);
         }
+        Ok(name)
     }
 
     fn number(self) -> Result<u64, Refusal> {

@@ -18,6 +18,7 @@ const FRAME: u64 = HEAD as u64 + 8;
 
 /// What runs the commands that ask for the order of the keys.
 pub trait Order<I: Factory<Translator = T, Value = u64> + Drop, T: Copy> {
+    /// Runs one. A scan writes its entries to the output.
     fn answer(session: &mut Session<'_, I>, command: InOrder, output: &mut Output) -> Answered
         requires { I.makes };
 }

@@ -42,11 +42,17 @@ pub struct Options {
 /// A store over the file of a name, and how the session went.
 #[derive(Drop)]
 pub struct Session<'a, I: Factory<Value = u64> + Drop> {
+    /// The system.
     pub rt: &'a HostRuntime,
+    /// What the flags ask.
     pub options: Options,
+    /// The store.
     pub store: Store<Disk, I>,
+    /// What makes an index of the store's kind.
     pub translator: I::Translator,
+    /// The name of the file.
     pub path: String,
+    /// The file may not be written.
     pub is_read_only: bool,
     /// The disk may not have the file's name.
     pub is_new: bool,
