@@ -269,6 +269,20 @@ def is_empty_by_no_failed_statx(file, kind):
 
 
 @case_of_store(*KINDS)
+def tells_a_place_that_it_knows(file, kind):
+    """Of a torn end its place and length, or nothing, if these can't be read as it is told."""
+    for number in count(1):
+        file.write_bytes(THREE + b"torn")
+        mark = file.with_name("mark")
+        mark.unlink(missing_ok=True)
+        given, told, _ = run([file, kind], ["count"], FAIL="statx", FAIL_AT=number, FAIL_MARK=mark)
+        if given and told not in ("", told_of(THREE + b"torn")):
+            compare("what is told", told, told_of(THREE + b"torn"))
+        if not mark.exists():
+            return
+
+
+@case_of_store(*KINDS)
 def is_full(file, kind):
     """A file that is full refuses, keeps what was there, and cuts off what was begun when there is room. With the
     header not made, it has no keys."""
@@ -302,7 +316,7 @@ def is_full(file, kind):
 
 @case_of_store(*KINDS)
 def goes_on_when_there_is_room(file, kind):
-    """In the session in which a write failed: a shorter record fits in front of the end, and the next session has it."""
+    """In the session in which a write failed: what was begun is cut off, and the next session has the rest."""
     sessions = Sessions(file, kind)
     sessions.put(b"same", b"1")
     sessions.ask("put 6d6f7265 " + "33" * 40, "refused write")

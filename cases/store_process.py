@@ -328,7 +328,7 @@ def without_rights():
     rights = "-dac_override,-dac_read_search"
     before = ["setpriv", f"--bounding-set={rights}", f"--inh-caps={rights}"]
     if shutil.which("setpriv") is None or subprocess.run([*before, "true"], check=False).returncode != 0:
-        print("skipped, since root may write everything and setpriv is not there: files without rights", file=sys.stderr)
+        print("skipped: files without rights, since root may write all and there is no setpriv", file=sys.stderr)
         return None
     return before
 
@@ -417,7 +417,7 @@ def is_killed_in_a_put(file, kind):
             calls.append((key, bytes([number & 0xFF]) * (numbers.next() % 90) if number % 5 else None))
         with Talk(file, kind) as talk:
             last = numbers.next() % 2500
-            lines = [f"delete {word(key)}" if value is None else f"put {word(key)} {word(value)}" for key, value in calls]
+            lines = [f"delete {word(one)}" if some is None else f"put {word(one)} {word(some)}" for one, some in calls]
             if os.fork() == 0:
                 try:
                     talk.say("\n".join(lines) + "\n")

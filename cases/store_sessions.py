@@ -17,9 +17,9 @@ def random_key(number):
 
 @case_of_store(*KINDS)
 def answers_as_a_dict(file, kind):
-    """Six files of five thousand random calls each, opened anew each thousand of them."""
+    """Four files of five thousand random calls each, opened anew each thousand of them."""
     keys = [random_key(number) for number in range(64)]
-    for seed in range(1, 7):
+    for seed in range(1, 5):
         sessions = Sessions(file.with_name(f"{seed}.log"), kind)
         numbers = Numbers(seed)
         for _ in range(5):
