@@ -69,16 +69,19 @@ def of_program(program):
 
 
 def of_store(program):
-    """Sessions of key_index_store over a file with five records."""
-    key = "73616d652066697273"
-    for kind in ("unordered", "ordered", "punordered", "pordered"):
-        lines = [f"put {key}20 12", f"put {key}60 16", f"get {key}20", f"delete {key}10", f"delete {key}99", "count"]
-        if "unordered" not in kind:
-            lines += [f"next {key}20", f"prev {key}20", "absent 73", "compact copy.log", "move moved.log"]
-        lines += [f"get {key}60", f"put {key}60 17", f"get {key}60", "cut", "count"]
-        task = Stored(f"store {kind}", [program, "run.log", kind], lines, most=80)
-        task.before = [f"put {key}{number}0 0{number}" for number in range(1, 6)]
-        yield task
+    """Sessions of key_index_store over a file with five records, of keys alike in their first 32 bytes, and a torn end;
+    and over one with damage."""
+    key = "616c696b6520696e207468656972206669727374207468697274792d74776f20" + "20" * 8
+    for kind in ("unordered", "ordered", "punordered", "pordered", "hashed"):
+        lines = [f"put {key}20 12", f"put {key}60 16", f"get {key}20", f"has {key}60", f"delete {key}10"]
+        lines += [f"delete {key}99", "count", "salvage saved.log", 'put "text" "value"', 'get "text"', "sync"]
+        if kind in ("ordered", "pordered"):
+            lines += [f"next {key}20", f"prev {key}20", "absent 73", "first", "last", "scan 61 3", "scan-prefix 61 2"]
+            lines += ["dead", "compact", f"put {key}60 18", "compact copy.log", "move moved.log"]
+        lines += [f"get {key}60", f"put {key}60 17", f"get {key}60", "cut", "put 61 31", "count"]
+        before = [f"put {key}{number}0 0{number}" for number in range(1, 6)]
+        for end, behind in (("torn", b"torn"), ("damaged", b"damage, and more")):
+            yield Stored(f"store_{end} {kind}", [program, "run.log", kind], lines, before, behind, most=60)
 
 
 def tasks(calls_program, program, store):

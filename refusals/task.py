@@ -1,5 +1,6 @@
 """A program that runs while its allocations fail."""
 import os
+import re
 import subprocess
 import tempfile
 from collections import Counter
@@ -8,6 +9,7 @@ from pathlib import Path
 import session
 from answers import REFUSED, Kept
 from positions import model_of
+from store import told_of
 
 # One allocation is refused alone, or with each behind it.
 ALONE = "REFUSE_NONE"
@@ -157,22 +159,63 @@ class Modelled(Calls):
 
 
 class Stored(Session):
-    """A session of key_index_store over the file run.log, in which some lines put records beforehand. It may make
-    copy.log and moved.log."""
+    """A session of key_index_store over the file run.log, in which some lines put records beforehand, and behind them
+    stand some bytes. It may make other files, whose names end in .log too."""
 
-    errors = (*Session.errors, REFUSED)
-    before = ()
-    content = None
+    # What may be told on standard error besides what stands behind the records.
+    tells = re.compile(
+        "failed: (out of memory|memory allocation failed)|refused memory: run.log|cannot sync run.log|cuts off .*|"
+    )
+
+    def __init__(self, name, command, lines, before, behind, most=None):
+        super().__init__(name, command, lines, most)
+        self.before = before
+        self.behind = behind
+        self.content = self.told = None
 
     def begin(self):
         super().start(self.command, self.before)
-        self.content = Path(self.folder, "run.log").read_bytes()
+        self.content = Path(self.folder, "run.log").read_bytes() + self.behind
+        self.told = told_of(self.content)
 
     def start(self, command, lines, **refused):
+        for made in Path(self.folder).glob("*.log*"):
+            made.unlink()
         Path(self.folder, "run.log").write_bytes(self.content)
-        for made in ("copy.log", "moved.log"):
-            Path(self.folder, made).unlink(missing_ok=True)
-        return super().start(command, lines, **refused)
+        status, answers, error = super().start(command, lines, **refused)
+        return status, list(self.joined(lines, answers)), error
+
+    @staticmethod
+    def joined(lines, answers):
+        """Answers, those to a scan as one, which is refused where its last line is."""
+        answers = iter(answers)
+        for line, answer in zip(lines, answers):
+            told = [answer]
+            while line.startswith("scan") and told[-1].startswith("entry"):
+                told.append(next(answers, REFUSED))
+            yield REFUSED if told[-1] == REFUSED else " ".join(told)
+        yield from answers
+
+    def ends(self, status, answers, error):
+        """A run answers each line, or ends early and says why. It tells what stands behind the records, if it came that
+        far, and its status is 1 where a line was refused."""
+        rest = error.removeprefix(self.told.strip()).strip().split("\n")
+        is_early = len(answers) < len(self.lines)
+        is_refused = any(answer.startswith("refused") for answer in answers) or "cannot sync" in error
+        is_told = self.told.strip() in error or not answers
+        if not all(map(self.tells.fullmatch, rest)) or not is_told or is_early and rest == [""]:
+            raise Wrong(f"status {status} with {len(answers)} answers to {len(self.lines)} lines, {error}")
+        if status != int(is_refused or is_early):
+            raise Wrong(f"status {status}, {'; '.join(answers)}, {error}")
+
+    def compare(self, kept):
+        """The same lines are answered so where nothing is refused."""
+        lines = tuple(kept.lines)
+        if lines not in self.runs:
+            self.runs[lines] = self.start(self.alone, lines)
+        for line, given, wanted in zip(lines, kept.answers, self.runs[lines][1], strict=True):
+            if given != wanted:
+                raise Wrong(f"{line}: {given} is not the answer without refusals, {wanted}")
 
     def check(self, status, answers, error):
         """A start that fails is a call that was refused."""
