@@ -105,7 +105,11 @@ pub fn open_store<'a>(rt: &HostRuntime, path: &'a str) -> Result<Opened, Failure
         },
         opened => opened,
     };
-    let file = opened.map_err(|error| Failure::CannotOpen(path, error))?;
+    let cannot_open = |error| Failure::CannotOpen(path, error);
+    let file = opened.map_err(cannot_open)?;
+    if !file.metadata().map_err(cannot_open)?.is_file() {
+        return Err(cannot_open(io::Error::other("not a regular file")));
+    }
     lock(rt, &file, path, is_read_only)?;
     Ok(Opened {
         disk: headed(rt, file, path, "no store")?,

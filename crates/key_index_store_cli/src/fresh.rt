@@ -16,29 +16,31 @@ const OWNER: u32 = 0o600;
 pub struct Fresh<'a> {
     part: String,
     target: &'a str,
-    place: Option<Place>,
+    place: Place,
 }
 
-/// An empty file at the path, locked, so that nobody puts anything into it meanwhile.
+/// What stands at the path that a file takes.
 #[derive(Drop)]
-struct Place {
-    _file: File,
-    /// It was not there before.
-    is_new: bool,
+enum Place {
+    /// No file. One that another session makes meanwhile is not replaced.
+    Nothing,
+    /// An empty file, locked, so that nobody opens it meanwhile.
+    Empty(File),
+    /// The session's own file.
+    Own,
 }
 
-/// The file at a path, which is made where there is none. It has to be empty, and is locked.
+/// What stands at a path. A file there has to be empty, and is locked.
 fn take_place<'a>(rt: &HostRuntime, path: &'a str) -> Result<Place, Failure<'a>> {
-    let is_new = !fs::exists(rt, path).unwrap_or(true);
-    let file = open(rt, path, true, true).map_err(|error| Failure::CannotOpen(path, error))?;
+    let file = match open(rt, path, true, false) {
+        Ok(file) => file,
+        Err(error) if error.kind() == ErrorKind::NotFound => return Ok(Place::Nothing),
+        Err(error) => return Err(Failure::CannotOpen(path, error)),
+    };
     let locked = lock(rt, &file, path, false);
     match file.metadata() {
         Ok(metadata) if metadata.is_file() && metadata.len() == 0 => {
-            locked?;
-            Ok(Place {
-                _file: file,
-                is_new,
-            })
+            locked.map(|()| Place::Empty(file))
         }
         Ok(_) => Err(Failure::Refused(Refusal::For("not empty"), path)),
         Err(error) => Err(Failure::CannotOpen(path, error)),
@@ -83,38 +85,35 @@ impl<'a> Fresh<'a> {
         from: &str,
         is_own: bool,
     ) -> Result<(Fresh<'a>, Disk), Refusal> {
-        let part = format!(in rt.alloc(); "{target}.part")?;
         let place = if is_own {
-            check_regular(rt, target).map(|()| None)
+            check_regular(rt, target).map(|()| Place::Own)
         } else {
-            take_place(rt, target).map(Some)
+            take_place(rt, target)
         };
         let place = place.map_err(|failure| failure.into_refusal(rt))?;
+        let part = format!(in rt.alloc(); "{target}.part")?;
+        let disk = open_part(rt, part.as_str(), from).map_err(|failure| failure.into_refusal(rt))?;
         let fresh = Fresh {
             part,
             target,
             place,
         };
-        match open_part(rt, fresh.part.as_str(), from) {
-            Ok(disk) => Ok((fresh, disk)),
-            Err(failure) => {
-                let refusal = failure.into_refusal(rt);
-                fresh.leave(rt);
-                Err(refusal)
-            }
-        }
+        Ok((fresh, disk))
     }
 
-    /// Removes the file at the path, where there was none before.
-    fn leave(&self, rt: &HostRuntime) {
-        if self.place.as_ref().is_some_and(|place| place.is_new) {
-            let _ = fs::remove_file(rt, self.target);
-        }
-    }
-
+    /// Gives the file its name. Where none was there, a second name is made, which fails if there is one now, and replaces nothing.
     fn rename(&self, rt: &HostRuntime) -> Result<(), Refusal> {
-        let renamed = fs::rename(rt, self.part.as_str(), self.target);
+        let part = self.part.as_str();
+        let renamed = match &self.place {
+            Place::Nothing => fs::hard_link(rt, part, self.target).and_then(|()| fs::remove_file(
+                rt, part,
+            )),
+            Place::Empty(_) | Place::Own => fs::rename(rt, part, self.target),
+        };
         renamed.map_err(|error| {
+            if error.kind() == ErrorKind::AlreadyExists {
+                return Refusal::For("not empty");
+            }
             tell(rt, Failure::CannotOpen(self.target, error));
             Refusal::For("write")
         })
@@ -132,7 +131,6 @@ impl<'a> Fresh<'a> {
         };
         if settled.is_err() {
             let _ = fs::remove_file(rt, self.part.as_str());
-            self.leave(rt);
         }
         settled
     }

@@ -74,10 +74,9 @@ impl<I: Factory<Translator = T, Value = u64> + Drop, T: Copy> Session<'_, I> {
         Ok((end.saturating_add(HEADER), len.saturating_sub(end)))
     }
 
-    /// Tells what stands behind the last whole record.
+    /// Tells what stands behind the last whole record, if its place can be read.
     pub fn tell_tail(&mut self) {
         let Ok((place, length)) = self.tail() else {
-            tell(self.rt, format_args!("refused read: {}", self.path));
             return;
         };
         match self.store.tail() {
