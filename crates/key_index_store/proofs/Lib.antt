@@ -12,3 +12,4 @@ pub mod RecordLemmas
 pub mod ReplayLemmas
 pub mod SalvageLemmas
 pub mod StoreLemmas
+pub mod TranslatorLemmas

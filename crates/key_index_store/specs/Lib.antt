@@ -9,3 +9,4 @@ pub mod Reads
 pub mod Record
 pub mod Salvage
 pub mod Stored
+pub mod Translators
