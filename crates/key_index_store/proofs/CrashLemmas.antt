@@ -1,9 +1,8 @@
 -- On what a crash leaves.
 --     same_bytes     bytes that are seen are those
 --     known_before   a log that a crash leaves after a call, where before it only one could be left
-use Rattle.std.proofs.Common.{◌≡◌, ◌⊎◌, ℕ, List, [], Option, Some, inl, inr, sym, ap, ◌∙◌}
+use Rattle.std.proofs.Common.{◌≡◌, ◌⊎◌, ℕ, List, Some, inl, inr, ap, ◌∙◌}
 use Rattle.std.specs.Option.{unwrap_or}
-use Rattle.key_index_store.specs.Device.{NoMore}
 use Rattle.key_index_store.specs.Record.{Entry}
 use Rattle.key_index_store.specs.Stored.{IsBeforeOrAfter, after_record, held_by}
 

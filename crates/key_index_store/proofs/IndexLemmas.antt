@@ -10,7 +10,7 @@ use Rattle.std.specs.Cmp.{IsTotalOrder, tied_itself}
 use Rattle.std.specs.Cmp.Lexicographic.{nat_list_cmp_total}
 use Rattle.std.specs.FinMap.{find, get, len, len-empty, get-empty, empty, get-insert, get-remove, len-insert, len-remove}
 use Rattle.std.specs.List.{IsDistinct}
-use Rattle.std.specs.Option.{option_map, IfSome, IsSome}
+use Rattle.std.specs.Option.{option_map, IsSome}
 use Rattle.std.specs.Ordering.{eq_by_cmp, is_eq}
 use Rattle.std.specs.Prelude.{remove}
 use Rattle.std.specs.declared.cmp.Ordering.{Ordering}
@@ -25,7 +25,7 @@ use Rattle.key_index_store.specs.Indexed.{Indexes, IsAt, IsLive, IsUnder, KeepsL
 use Rattle.key_index_store.specs.Record.{Entry, Fits, Complete, bytes_of, encoded}
 use Rattle.key_index_store.specs.Stored.{Values, held_by, with_value}
 use Rattle.std.proofs.lemmas.Map.Lookups.{exact_bytes}
-use Rattle.key_index_flat.proofs.entries.EntryLemmas.{is_some-look, look, none_distinct, out_all, out_distinct, out_look, All-put_value, put_distinct, put_look, same, set_keys, set_look, length-put_value}
+use Rattle.key_index_flat.proofs.entries.EntryLemmas.{is_some-look, none_distinct, out_all, out_distinct, out_look, All-put_value, put_distinct, put_look, same, set_keys, set_look, length-put_value}
 use Rattle.key_index_store.proofs.LogLemmas.{Spelled, entries_there, entry_there, held_more, live_more, nothing_held, read_last, spelled_more, spelled_none}
 
 -- ---- where a key stands in a list

@@ -3,8 +3,8 @@
 --     cut_keeps                                   after the tail was cut off
 --     HasRoom, at_end                             a record that is to stand behind the others: refused, written, or nothing to write
 --     written_keeps, begun_keeps                  after a record was written behind the others, or a part of it
-use Rattle.std.proofs.Common.{◌≡◌, ◌⊎◌, ◌<◌, ◌≤◌, ℕ, zero, suc, ◌+◌, ◌-◌, ◌^◌, ◌==◌, ◌||◌, if◌then◌else◌, Some, None, Bool, true, false, cond, List, [], ◌∷◌, ◌++◌, length, take, drop, Option, is_some, Result, Ok, Err, inl, inr, refl, sym, ap, subst, ◌∙◌, length-append, length-take, length-drop, take-append-drop, arith}
-use Rattle.std.proofs.lemmas.List.{append-nil, drop_at, drop-append-le, nil_from_length, take_all, take-append-le}
+use Rattle.std.proofs.Common.{◌≡◌, ◌⊎◌, ◌<◌, ℕ, ◌+◌, ◌-◌, ◌^◌, ◌==◌, ◌||◌, if◌then◌else◌, None, Bool, true, false, cond, List, [], ◌∷◌, ◌++◌, length, take, drop, Option, is_some, Result, Ok, Err, inl, inr, refl, sym, ap, subst, ◌∙◌, length-append, length-take, length-drop, take-append-drop, arith}
+use Rattle.std.proofs.lemmas.List.{append-nil, drop_at, nil_from_length, take_all, take-append-le}
 use Rattle.std.proofs.lemmas.Bool.{cases_lt, eqb-true}
 use Rattle.std.specs.Cmp.{IsTotalOrder}
 use Rattle.std.specs.FinMap.{empty, get, len}
@@ -17,7 +17,7 @@ use Rattle.key_index_flat.specs.FullKeys.{IsBytes}
 use Rattle.key_index_flat.specs.View.{View, growth_fault_in, items_in, run_of}
 use Rattle.key_index_flat.specs.declared.index.Fault.TheVariants as index_fault
 use Rattle.key_index_store.specs.Indexed.{Indexes, IsAt, Keeps, KeepsLists, Settles, entry_at}
-use Rattle.key_index_store.specs.Record.{Entry, Fits, Outcome, Complete, Torn, Damaged, Stops, encoded, reading}
+use Rattle.key_index_store.specs.Record.{Entry, Fits, Outcome, Torn, Stops, encoded, reading}
 use Rattle.key_index_store.specs.Stored.{HasChanged, HasRefused, HasRoom, IsBeforeOrAfter, IsTail, MayRead, MayRefuse, after_record, end_of, held_by, is_zeros, records_of, refusal_of, tail_by, tail_in, tail_of, with_record, with_value, without_tail}
 use Rattle.key_index_store.specs.declared.store.Fault.{Fault}
 use Rattle.key_index_store.specs.declared.store.Fault.TheVariants as fault

@@ -3,18 +3,17 @@
 --     whole_tells     the record, where all of it was asked for
 --     read-then       two calls that only read, one after the other
 --     match_same, match_other, match_readable  a candidate whose key is known, beside the one that is sought
-use Rattle.std.proofs.Common.{◌≡◌, ◌⊎◌, ℕ, zero, suc, ◌+◌, ◌-◌, ◌≤◌, ◌<◌, min, Bool, true, false, cond, List, [], ◌∷◌, ◌++◌, slice_get, get_or, length, take, drop, Option, Some, None, Result, Ok, Err, inl, inr, refl, sym, ap, subst, ◌∙◌, take-append-drop, length-take, length-drop, arith}
+use Rattle.std.proofs.Common.{◌≡◌, ◌⊎◌, ℕ, zero, suc, ◌+◌, ◌-◌, ◌≤◌, ◌<◌, min, Bool, true, false, cond, List, [], ◌∷◌, ◌++◌, slice_get, get_or, length, take, drop, Option, Some, Result, Ok, Err, inl, inr, refl, sym, ap, subst, ◌∙◌, take-append-drop, length-take, length-drop, arith}
 use Rattle.std.specs.Result.{OnOk, is_ok}
 use Rattle.std.proofs.lemmas.Bool.{cases_lt}
 use Rattle.std.proofs.lemmas.Bool.{false≢true}
 use Rattle.std.proofs.lemmas.List.{drop-take, nil_from_length, take_all}
 use Rattle.std.specs.Str.{bytes_eq}
-use Rattle.std.proofs.lemmas.Slice.Eq.{bytes_eq-Decides}
 use Rattle.key_index_store.specs.Device.{IsRead}
 use Rattle.key_index_store.specs.Indexed.{IsLive, key_at, match_of}
 use Rattle.key_index_store.specs.declared.store.find.Match.{Match}
 use Rattle.key_index_store.specs.declared.store.find.Match.TheVariants.{Same, Other, Unreadable}
-use Rattle.key_index_store.specs.Record.{Complete, Entry, key_in, is_summed, reading, record_length, value_place}
+use Rattle.key_index_store.specs.Record.{key_in, is_summed, reading, record_length, value_place}
 use Rattle.key_index_store.specs.Reads.{wanted}
 use Rattle.key_index_store.proofs.RecordLemmas.{key_front, key_in-whole, read_front, record_length_front, summed_front, value_place_front}
 

@@ -3,26 +3,21 @@
 --     remove_absent              a key without a value is taken out
 --     len-after_records          records leave no more keys than there are records
 --     refusal-Memory             so an index of the records of fewer bytes than `usize::MAX` is never full
-use Rattle.std.proofs.Common.{◌≡◌, ◌==◌, ◌↔◌, ℕ, zero, suc, slice_get, ◌+◌, ◌-◌, ◌^◌, ◌<◌, ◌≤◌, if◌then◌else◌, Bool, true, false, cond, List, [], ◌∷◌, ◌++◌, length, take, drop, Option, Some, None, is_some, All, refl, sym, ap, subst, ◌∙◌, length-append, length-take, take-append-drop, arith}
-use Rattle.std.proofs.lemmas.List.{append-nil, take_all, take-append-le}
+use Rattle.std.proofs.Common.{◌≡◌, ◌==◌, ◌↔◌, ℕ, zero, suc, slice_get, ◌+◌, ◌-◌, ◌^◌, ◌<◌, ◌≤◌, if◌then◌else◌, Bool, true, false, cond, List, [], ◌∷◌, length, Option, Some, None, is_some, All, refl, sym, ap, subst, ◌∙◌, length-append, arith}
 use Rattle.std.proofs.lemmas.List.Elements.{All-head, All-tail, All-weaker}
 use Rattle.std.proofs.lemmas.Bool.{eq-eqb, eqb-true, false≢true, ne_eqb}
-use Rattle.std.specs.Cmp.{IsTotalOrder}
 use Rattle.std.specs.Cmp.Lexicographic.{nat_list_cmp_total}
-use Rattle.std.specs.FinMap.{empty, empty_of_len, find, get, len, len-empty, len-insert, len-remove, remove, get-remove, same_map}
+use Rattle.std.specs.FinMap.{empty, empty_of_len, get, len, len-empty, len-insert, len-remove, remove, get-remove, same_map}
 use Rattle.std.specs.List.{flat_map, fold}
 use Rattle.std.specs.Option.{option_map, unwrap_or}
 use Rattle.std.specs.declared.cmp.Ordering.{Ordering}
-use Rattle.std.specs.declared.cmp.Ordering.TheVariants.{Equal}
-use Rattle.key_index_flat.specs.Content.{IsLawful}
-use Rattle.key_index_flat.specs.FullKeys.{IsBytes, byte_cmp}
+use Rattle.key_index_flat.specs.FullKeys.{byte_cmp}
 use Rattle.key_index_flat.specs.View.{View, growth_fault_in, items_in, run_of}
 use Rattle.key_index_flat.specs.declared.index.Fault.TheVariants as index_fault
 use Rattle.key_index_flat.proofs.content.ContentLemmas.{Equal-is_eq}
-use Rattle.key_index_store.specs.Indexed.{Indexes, IsLive, IsUnder, Settles, entry_at, value_in}
-use Rattle.key_index_store.specs.Record.{Entry, Fits, Stops, encoded, reading}
-use Rattle.key_index_store.specs.Stored.{Values, after_record, records_of, refusal_of, held_by, with_value}
-use Rattle.key_index_store.specs.declared.store.Fault.{Fault}
+use Rattle.key_index_store.specs.Indexed.{Indexes, IsLive, IsUnder}
+use Rattle.key_index_store.specs.Record.{Entry, encoded}
+use Rattle.key_index_store.specs.Stored.{Values, after_record, records_of, refusal_of, with_value}
 use Rattle.key_index_store.specs.declared.store.Fault.TheVariants as fault
 use Rattle.std.proofs.lemmas.Map.Lookups.{exact_bytes}
 use Rattle.key_index_flat.proofs.entries.EntryLemmas.{same}

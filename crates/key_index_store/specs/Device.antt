@@ -7,7 +7,7 @@
 --     AddsAtMost    or what it could leave before, or the bytes with some of the new ones behind them
 --     IsRead        no byte is changed, and a crash leaves nothing more
 --     IsBegun       some of the bytes, but not the whole of them, were appended
-use Rattle.std.specs.Prelude.{◌≡◌, ◌⊎◌, ◌<◌, ℕ, List, [], ◌++◌, length, take, Option, Some}
+use Rattle.std.specs.Prelude.{◌≡◌, ◌⊎◌, ◌<◌, ℕ, List, ◌++◌, length, take, Option, Some}
 
 abbrev pub Sees : Option (List ℕ) → (List ℕ → Type 0) → Type 0
 Sees seen P = (bytes : List ℕ) → seen ≡ Some bytes → P bytes

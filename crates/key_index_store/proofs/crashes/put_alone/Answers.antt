@@ -1,4 +1,4 @@
-use Rattle.std.proofs.Common.{Some, inl, inr, refl, sym, ◌∙◌}
+use Rattle.std.proofs.Common.{Some, inl, inr, refl, sym}
 use Rattle.std.proofs.lemmas.Result.{IfOk-weaker}
 use Rattle.key_index_store.specs.MemoryDevice.{MayLeave, held}
 use Rattle.key_index_store.proofs.CrashLemmas.{known_before, same_bytes}

@@ -1,4 +1,4 @@
-use Rattle.std.proofs.Common.{◌≡◌, ◌++◌, inl, inr, take, ap, ◌∙◌}
+use Rattle.std.proofs.Common.{◌++◌, inl, inr, take, ap, ◌∙◌}
 use Rattle.key_index_store.proofs.store.append.Goals as goal
 
 pub returns-in_err-write-clause-crash : goal.returns-in_err-write-clause-crash

@@ -1,5 +1,5 @@
 use Rattle.std.proofs.Common.{not, ap, ◌∙◌}
-use Rattle.key_index_store.proofs.IndexLemmas.{after_insert-Settles, one_there, some_none, KeepsLists-undone}
+use Rattle.key_index_store.proofs.IndexLemmas.{after_insert-Settles, one_there, KeepsLists-undone}
 use Rattle.key_index_store.proofs.store.write.Goals as goal
 
 pub withdraw-requires : goal.withdraw-requires

@@ -1,13 +1,10 @@
-use Rattle.std.proofs.Common.{rules, ◌≡◌, ◌⊎◌, ◌<◌, ◌+◌, ◌++◌, ◌||◌, List, Bor, Bool, true, false, Some, None, ℕ, All, length, take, not, is_some, inl, inr, refl, sym, ap, subst, ◌∙◌, arith}
-use Rattle.std.proofs.lemmas.Result.{IfErr-weaker}
+use Rattle.std.proofs.Common.{rules, ◌≡◌, ◌⊎◌, ◌<◌, ◌++◌, ◌||◌, List, Bor, true, ℕ, All, length, take, not, is_some, inl, inr, refl, sym, ap, subst, ◌∙◌}
 use Rattle.std.specs.FinMap.{get, len}
 use Rattle.std.specs.Option.{option_map}
-use Rattle.std.specs.Result.{IfErr}
 use Rattle.key_index_store.specs.Device.{Changes}
 use Rattle.key_index_store.specs.Indexed.{IsLive, Keeps, value_in}
 use Rattle.key_index_store.specs.Record.{Entry, encoded}
-use Rattle.key_index_store.specs.Stored.{HasChanged, HasRefused, IsBeforeOrAfter, MayRefuse, held_by}
-use Rattle.key_index_store.specs.declared.store.Fault.TheVariants as fault
+use Rattle.key_index_store.specs.Stored.{HasChanged, HasRefused, IsBeforeOrAfter, held_by}
 use Rattle.key_index_store.specs.declared.store.Tail.TheVariants as tail
 use Rattle.key_index_flat.proofs.content.ChainLemmas.{None-is_some}
 use Rattle.key_index_store.proofs.IndexLemmas.{some_mapped}

@@ -1,4 +1,4 @@
-use Rattle.std.proofs.Common.{◌≡◌, inl, inr, length, take, refl, sym, ap, subst, ◌∙◌}
+use Rattle.std.proofs.Common.{◌≡◌, inl, inr, length, refl, sym, ap, subst, ◌∙◌}
 use Rattle.key_index_store.specs.Indexed.{Keeps}
 use Rattle.key_index_store.specs.Stored.{end_of, held_by}
 use Rattle.key_index_store.specs.declared.store.Tail.TheVariants as tail

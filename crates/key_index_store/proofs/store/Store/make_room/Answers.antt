@@ -1,4 +1,4 @@
-use Rattle.std.proofs.Common.{◌≡◌, inl, inr, refl, sym, ap, ◌∙◌}
+use Rattle.std.proofs.Common.{inr, refl, ap, ◌∙◌}
 use Rattle.key_index_store.specs.Stored.{held_by}
 use Rattle.key_index_store.proofs.KeepLemmas.{cut_held, damaged_tail, kept_front, nothing_cut, on_ok_with, torn_undamaged}
 use Rattle.key_index_store.proofs.store.Store.make_room.Goals as goal

@@ -1,4 +1,4 @@
-use Rattle.std.proofs.Common.{◌≡◌, Some, ap, sym, ◌∙◌}
+use Rattle.std.proofs.Common.{ap, sym, ◌∙◌}
 use Rattle.std.specs.Option.{option_map, unwrap_or}
 use Rattle.key_index_store.proofs.RecordLemmas.{whole_of}
 use Rattle.key_index_store.proofs.store.find.copy_value.Goals as goal

@@ -1,10 +1,10 @@
-use Rattle.std.proofs.Common.{rules, ◌≡◌, ◌<◌, All, Bool, true, false, None, [], ◌∷◌, ◌++◌, length, map, take, drop, Some, refl, sym, ap, subst, slice_get, ◌∙◌, length-append, arith}
-use Rattle.std.proofs.lemmas.Iterator.Consumers.{YieldsList-turn, YieldsList-so_far, YieldsList-from_first, YieldsList-end}
+use Rattle.std.proofs.Common.{All, [], ◌∷◌, length, take, refl, sym, ap, subst, slice_get, ◌∙◌, length-append, arith}
+use Rattle.std.proofs.lemmas.Iterator.Consumers.{YieldsList-turn, YieldsList-so_far, YieldsList-from_first}
 use Rattle.std.specs.Option.{option_map}
 use Rattle.key_index_store.specs.Indexed.{IsLive, entry_at, key_at, value_in}
 use Rattle.key_index_store.specs.Record.{key_in}
-use Rattle.key_index_flat.proofs.entries.EntryLemmas.{key-slice_get, look-at_place, passed_by, within_all}
-use Rattle.key_index_store.proofs.ReadLemmas.{key_in-live, slice_get-here, match_other, match_readable, match_same, read-none, read-then}
+use Rattle.key_index_flat.proofs.entries.EntryLemmas.{key-slice_get, look-at_place, passed_by}
+use Rattle.key_index_store.proofs.ReadLemmas.{key_in-live, slice_get-here, match_other, match_readable, match_same, read-then}
 use Rattle.key_index_store.proofs.store.find.find.Goals.{in-Other, in-Unreadable}
 use Rattle.key_index_store.proofs.store.find.find.Goals as goal
 

@@ -1,4 +1,4 @@
-use Rattle.std.proofs.Common.{◌≡◌, ◌≤◌, Bool, true, false, All, None, length, map, take}
+use Rattle.std.proofs.Common.{◌≡◌, ◌≤◌, false, All, None, length, map, take}
 use Rattle.key_index_store.specs.Device.{IsRead, Sees}
 use Rattle.key_index_store.specs.Indexed.{IsLive, value_in}
 use Rattle.key_index_store.proofs.store.find.find.Given as goal

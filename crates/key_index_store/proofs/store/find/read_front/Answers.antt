@@ -1,4 +1,4 @@
-use Rattle.std.proofs.Common.{ℕ, ◌≡◌, ◌-◌, ◌<◌, length, min, ap, sym, subst, ◌∙◌, take, drop, arith}
+use Rattle.std.proofs.Common.{◌-◌, ◌<◌, length, min, ap, ◌∙◌, take, drop, arith}
 use Rattle.std.proofs.lemmas.Result.{IfOk-weaker}
 use Rattle.key_index_store.specs.Reads.{wanted}
 use Rattle.key_index_store.proofs.ReadLemmas.{first_suffices, front_tells, more_suffices, read-in_front, whole_tells}

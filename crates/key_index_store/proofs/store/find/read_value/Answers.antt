@@ -1,6 +1,5 @@
-use Rattle.std.proofs.Common.{rules, ◌≡◌, true, inr, refl, sym, ap, subst, ◌∙◌, take, drop, arith}
-use Rattle.std.proofs.lemmas.Result.{IfOk-weaker}
-use Rattle.key_index_store.specs.Record.{is_summed, reading}
+use Rattle.std.proofs.Common.{rules, true, refl, ap, ◌∙◌, take, drop}
+use Rattle.key_index_store.specs.Record.{reading}
 use Rattle.key_index_store.proofs.ReadLemmas.{whole_enough, whole_tells}
 use Rattle.key_index_store.proofs.store.find.read_value.Goals as goal
 

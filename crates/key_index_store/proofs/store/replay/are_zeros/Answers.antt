@@ -1,4 +1,4 @@
-use Rattle.std.proofs.Common.{◌≡◌, ◌&&◌, ◌+◌, length, take, drop, sym, ap, ◌∙◌, arith}
+use Rattle.std.proofs.Common.{◌≡◌, ◌&&◌, ◌+◌, drop, sym, ap, ◌∙◌, arith}
 use Rattle.key_index_store.specs.Stored.{is_zeros}
 use Rattle.key_index_store.proofs.ReadLemmas.{read-then}
 use Rattle.key_index_store.proofs.ReplayLemmas.{zeros_split}

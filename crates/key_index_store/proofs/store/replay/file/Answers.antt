@@ -1,7 +1,6 @@
-use Rattle.std.proofs.Common.{rules, ◌≡◌, ◌<◌, ◌-◌, ◌^◌, All, [], length, take, refl, sym, subst, ◌∙◌, length-take, arith}
+use Rattle.std.proofs.Common.{rules, ◌<◌, ◌-◌, ◌^◌, All, [], length, take, refl, sym, subst, length-take, arith}
 use Rattle.std.proofs.lemmas.List.{append-nil}
 use Rattle.std.proofs.lemmas.Result.{IfErr-weaker, on_ok_weaker}
-use Rattle.key_index_flat.specs.FullKeys.{IsBytes}
 use Rattle.key_index_store.specs.Indexed.{IsLive}
 use Rattle.key_index_store.specs.Stored.{MayRead}
 use Rattle.key_index_store.proofs.IndexLemmas.{Indexes-filed}

@@ -1,8 +1,7 @@
-use Rattle.std.proofs.Common.{rules, ◌≡◌, cond, ◌+◌, ◌≤◌, length, take, drop, refl, sym, ap, subst, ◌∙◌, arith}
+use Rattle.std.proofs.Common.{◌≡◌, cond, ◌+◌, ◌≤◌, length, take, drop, refl, sym, ap, subst, ◌∙◌, arith}
 use Rattle.std.proofs.lemmas.List.{take_all}
-use Rattle.std.proofs.lemmas.Result.{IfOk-weaker}
 use Rattle.key_index_store.specs.Indexed.{Indexes}
-use Rattle.key_index_store.specs.Record.{Complete, Damaged, Torn, Fits, IsFound, IsWithin, Stops, encoded, entry_of, outcome_of, reading}
+use Rattle.key_index_store.specs.Record.{Complete, Damaged, Torn, IsFound, Stops, encoded, entry_of, outcome_of, reading}
 use Rattle.key_index_store.proofs.IndexLemmas.{some_mapped}
 use Rattle.key_index_store.proofs.ReadLemmas.{read-then}
 use Rattle.key_index_store.proofs.RecordLemmas.{within_found}

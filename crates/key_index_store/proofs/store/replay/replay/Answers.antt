@@ -1,11 +1,11 @@
-use Rattle.std.proofs.Common.{rules, ◌≡◌, ◌+◌, ◌≤◌, ◌<◌, length, take, drop, refl, sym, ap, subst, ◌∙◌, length-drop, arith}
-use Rattle.std.proofs.lemmas.List.{nil_from_length, take_all}
+use Rattle.std.proofs.Common.{rules, ◌≡◌, ◌+◌, ◌≤◌, ◌<◌, length, take, drop, sym, subst, length-drop, arith}
+use Rattle.std.proofs.lemmas.List.{nil_from_length}
 use Rattle.std.specs.Result.{IfErr, IfOk, OnErr}
 use Rattle.key_index_store.specs.Indexed.{Indexes}
 use Rattle.key_index_store.specs.Record.{Stops, reading}
 use Rattle.key_index_store.specs.Stored.{tail_of}
 use Rattle.key_index_store.proofs.IndexLemmas.{indexes_none}
-use Rattle.key_index_store.proofs.ReadLemmas.{read-none, read-then}
+use Rattle.key_index_store.proofs.ReadLemmas.{read-then}
 use Rattle.key_index_store.proofs.ReplayLemmas.{block-is, told-IsTail}
 use Rattle.key_index_store.proofs.store.replay.replay.Goals as goal
 
