@@ -218,7 +218,7 @@ def is_killed_at_each_call(file, kind):
         sessions.append(([f"compact {target}"], [SEVEN], [None, whole]))
         sessions.append(([f"move {target}", "put 61 707574"], [SEVEN], [None, whole, whole + put]))
     for lines, files, targets in sessions:
-        for flags in ([], ["--durable"]):
+        for flags in ([], ["--durable"]) if lines[0].startswith("put") else ([],):
             for name in ("open", "statx", "flock", "pread", "pwrite", "ftruncate", "fsync", "rename", "fchmod"):
                 for how in ("kill", "killed"):
                     killed_at_each(file, target, [*flags, file, kind], lines, files, targets, FAIL=name, FAIL_HOW=how)
