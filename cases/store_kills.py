@@ -99,8 +99,9 @@ def is_made_while_it_is_copied(file, kind):
             first.ask("count", "count 3000")
             first.say(f"{line} {target}\n")
             part = file.with_name("copy.log.part")
-            while not part.exists() and not target.exists():
-                pass
+            for _ in range(1_000_000):
+                if part.exists() or target.exists():
+                    break
             first.process.send_signal(signal.SIGSTOP)
             is_early = not target.exists()
             given, _, _ = run([target, kind], ["put 61 31"])
