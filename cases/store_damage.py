@@ -26,9 +26,9 @@ from store import (
 )
 from xorshift import Numbers
 
-# Keys alike in their first 32 bytes, one that is these, and shorter ones.
+# Two keys alike in their first 32 bytes, and shorter ones.
 FRONT = b"thirty-two bytes that are alike:"
-ALIKE = [FRONT + b", and more", FRONT + b"!", FRONT, b"thirty", b"thir", b""]
+ALIKE = [FRONT + b"+", FRONT + b"!", b"thirty", b"thir", b"t", b""]
 
 
 def thirty():
@@ -36,7 +36,7 @@ def thirty():
     entries, log = {}, HEADER
     ends = {len(log): {}}
     for number in range(30):
-        key = ALIKE[(number * 7 + 3) % len(ALIKE)]
+        key = ALIKE[(0, 2, 3, 1, 4, 5, 3)[number % 7]]
         if number % 4 == 3:
             entries.pop(key, None)
             log += record(key, None)
@@ -123,17 +123,18 @@ def has_each_bit_turned(file, kind):
 
 @case_of_store(*KINDS)
 def ends_in_zeros(file, kind):
-    """From each place to the end, to some place behind it, or over a short span; each kind at each fifth place."""
+    """From each place to the end, and from some to a place behind it, or over a short span; each kind at each fifth."""
     log, ends = thirty()
     for number, place in enumerate(shared_out(kind, range(len(HEADER), len(log) + 1))):
         left = len(log) - place
-        for size in (left, left + 100 if number % 3 == 0 else number % 40 + 1):
+        sizes = {0: [left + 100], 3: [number % 40 + 1]}.get(number % 6, [])
+        for size in [left, *sizes]:
             changed = log[:place] + bytes(size) + log[place + size :]
             entries, end, _ = opened(changed)
             compare("the records in front", entries, ends.get(end))
             if end < max(other for other in ends if other <= place):
                 raise Wrong(f"zeros from {place} reach back to {end}")
-            is_read(file, kind, changed, number % 6 == 0)
+            is_read(file, kind, changed, number % 9 == 0)
 
 
 def mixed(numbers, log):

@@ -1,10 +1,8 @@
-"""The program key_index_store as a process: closed streams, two sessions at once, pipes, limits, permissions, kills."""
+"""The program key_index_store as a process: closed streams, pipes, devices, limits, permissions."""
 import os
 import shutil
-import signal
 import subprocess
 import sys
-import time
 from pathlib import Path
 
 from session import Wrong
@@ -19,19 +17,13 @@ from store import (
     answers,
     case_of_store,
     compare,
-    file_of,
     opened,
     record,
-    run,
     told_of,
     unchanged,
     word,
 )
 from store_damage import ALIKE, thirty
-from xorshift import Numbers
-
-# How often programs are killed in all cases together: KILLS=500 cases/run .. kill.
-KILLS = int(os.environ.get("KILLS", "60"))
 
 STATUS = "the answers, standard error, and the status"
 
@@ -152,100 +144,19 @@ def writes_to_a_full_device(file, kind):
 
 
 @case_of_store(*KINDS)
-def is_a_device(file, kind):
-    """A directory, a name in no folder, a device: what the system says, or a put that is refused."""
+def is_not_opened(file, kind):
+    """A directory, a name in no folder, no name: what the system says."""
     answers([file.parent, kind], ["count"], [], f"cannot open {file.parent}: Is a directory (os error 21)\n", 1)
     nowhere = file.parent / "none" / "run.log"
     answers([nowhere, kind], ["count"], [], f"cannot open {nowhere}: No such file or directory (os error 2)\n", 1)
     answers(["", kind], ["count"], [], "cannot open : No such file or directory (os error 2)\n", 1)
+
+
+@case_of_store("ordered")
+def is_a_device(_file, kind):
+    """A put is refused, and not there. Cases that run at once share a device and its lock, so this is one case."""
     lines, wanted = ["put 61 31", "get 61", "count"], ["refused write", "none", "count 0"]
-    for device in ("/dev/full", "/dev/null"):
-        if os.path.exists(device):
-            answers([device, kind], lines, wanted, "", 1)
-
-
-@case_of_store(*KINDS)
-def is_busy(file, kind):
-    """While a session has the file, also behind a compaction; behind a move the other file is busy and the first one
-    free. Where the session ended, or was killed, the file opens."""
-    log, _ = thirty()
-    file.write_bytes(log)
-    moved = file.with_name("moved.log")
-
-    def is_refused(path):
-        before = path.read_bytes()
-        for other in ("ordered", kind):
-            answers([path, other], ["put 61 31", "count"], [], f"refused busy: {path}\n", 1)
-        unchanged(path, before)
-
-    count = f"count {len(opened(log)[0])}"
-    with Talk(file, kind) as first:
-        first.ask("count", count)
-        is_refused(file)
-        first.ask("put 78 31", "ok")
-        first.ask("delete 78", "ok")
-        is_refused(file)
-        if kind in IN_ORDER:
-            first.ask("compact", "ok")
-            is_refused(file)
-            first.ask("put 78 31", "ok")
-            first.ask("delete 78", "ok")
-            first.ask(f"move {moved}", "ok")
-            is_refused(moved)
-            answers([file, kind], ["count"], [count])
-        first.end()
-    answers([file, kind], ["count"], [count])
-    with Talk(file, kind) as killed:
-        killed.ask("count", count)
-        is_refused(file)
-    answers([file, kind], ["count"], [count])
-
-
-@case_of_store(*KINDS)
-def is_busy_as_a_place(file, kind):
-    """A file that another session has, empty or not, is no place for a copy, and neither is its part."""
-    log, _ = thirty()
-    file.write_bytes(log)
-    other = file.with_name("other.log")
-    part = file.with_name("whole.log.part")
-    lines = ["salvage", *["compact", "move"] * (kind in IN_ORDER)]
-    for place, target, wanted in [(other, other, "refused busy"), (part, file.with_name("whole.log"), "refused busy")]:
-        with Talk(place, "ordered") as second:
-            second.ask("count", "count 0")
-            for line in lines:
-                answers([file, kind], [f"{line} {target}", "count"], [wanted, f"count {len(opened(log)[0])}"], "", 1)
-            second.ask("put 61 31", "ok")
-            for line in lines:
-                now = "refused not empty" if place == target else wanted
-                answers([file, kind], [f"{line} {target}", "count"], [now, f"count {len(opened(log)[0])}"], "", 1)
-            second.end()
-        answers([place], ["get 61", "count"], ["value 31", "count 1"])
-        unchanged(file, log)
-
-
-@case_of_store(*IN_ORDER)
-def is_made_while_it_is_copied(file, kind):
-    """Another session makes the file to which a copy is on its way: what it was told is there stays there."""
-    log = file_of(*(record(b"%05d" % number, b"v") for number in range(3000)))
-    target = file.with_name("copy.log")
-    for line in ("compact", "move", "salvage"):
-        file.write_bytes(log)
-        target.unlink(missing_ok=True)
-        with Talk(file, kind) as first:
-            first.ask("count", "count 3000")
-            first.say(f"{line} {target}\n")
-            part = file.with_name("copy.log.part")
-            while not part.exists() and not target.exists():
-                pass
-            first.process.send_signal(signal.SIGSTOP)
-            is_early = not target.exists()
-            given, _, _ = run([target, kind], ["put 61 31"])
-            first.process.send_signal(signal.SIGCONT)
-            answer = first.hear()
-            first.say("count\n")
-            compare("count", first.hear(), "count 3000")
-        if is_early and given == ["ok"]:
-            compare(f"{line}: {answer}; what was put meanwhile", opened(target.read_bytes())[0].get(b"a"), b"1")
+    answers(["/dev/null", kind], lines, wanted, "", 1)
 
 
 @case_of_store(*KINDS)
@@ -403,87 +314,3 @@ def may_only_be_read(file, kind):
         compare("the reason", told, f"cannot open {inner}.part: Permission denied (os error 13)\n")
     closed.chmod(0o755)
     unchanged(inner, log)
-
-
-@case_of_store(*KINDS)
-def is_killed_in_a_put(file, kind):
-    """At some time: all that was answered is there, and of the rest the first ones."""
-    numbers = Numbers(KINDS.index(kind) + 1)
-    for _ in range(max(1, KILLS // 10)):
-        file.unlink(missing_ok=True)
-        calls = []
-        for number in range(3000):
-            key = b"%03d" % (numbers.next() % 300)
-            calls.append((key, bytes([number & 0xFF]) * (numbers.next() % 90) if number % 5 else None))
-        with Talk(file, kind) as talk:
-            last = numbers.next() % 2500
-            lines = [f"delete {word(one)}" if some is None else f"put {word(one)} {word(some)}" for one, some in calls]
-            if os.fork() == 0:
-                try:
-                    talk.say("\n".join(lines) + "\n")
-                finally:
-                    os._exit(0)
-            talk.process.stdin.close()
-            heard = 0
-            while heard < last and talk.hear() in ("ok", "none"):
-                heard += 1
-            talk.process.kill()
-            while talk.hear() in ("ok", "none"):
-                heard += 1
-            talk.process.wait()
-            os.wait()
-            talk.process.stdin = open(os.devnull, "w", encoding="ascii")
-        is_at_a_call(file, kind, calls, heard)
-
-
-def is_at_a_call(file, kind, calls, heard):
-    """The file has what so many calls leave, or more of them."""
-    log = file.read_bytes() if file.exists() else b""
-    found, _, tail = opened(log)
-    entries = {}
-    for number, (key, value) in enumerate(calls):
-        if number >= heard and entries == found:
-            break
-        if value is None:
-            entries.pop(key, None)
-        else:
-            entries[key] = value
-    compare(f"what is there behind {heard} answers, {tail}", (found, tail in ("nothing", TORN)), (entries, True))
-    sessions = Sessions(file, kind, log=log)
-    sessions.hold(sorted({key for key, _ in calls})[:20])
-    sessions.put(b"more", b"1")
-    sessions.check()
-
-
-@case_of_store(*IN_ORDER)
-def is_killed_in_a_compaction(file, kind):
-    """At some time, in place or on the way to another file: the file is as it was, or whole, and the other one is whole
-    or not there. A part of one is never taken for it, and the next compaction does away with it."""
-    numbers = Numbers(3)
-    records = [record(b"%05d" % (number % 2000), b"%d" % number * 9) for number in range(4000)]
-    log = file_of(*records)
-    entries = opened(log)[0]
-    whole = file_of(*(record(*entry) for entry in sorted(entries.items())))
-    parts = 0
-    for number in range(max(4, KILLS // 4)):
-        for left in file.parent.iterdir():
-            left.unlink()
-        file.write_bytes(log)
-        target = file if number % 2 else file.with_name("copy.log")
-        part = target.with_name(target.name + ".part")
-        with Talk(file, kind) as talk:
-            talk.ask("count", "count 2000")
-            talk.say("compact\n" if number % 2 else f"compact {target}\n")
-            time.sleep(numbers.next() % 1000 / 40_000)
-        parts += part.exists()
-        if target.exists() and target.read_bytes() not in ((log, whole) if target == file else (whole,)):
-            raise Wrong(f"{target.name} has {target.stat().st_size} bytes where {len(whole)} are whole")
-        if target != file:
-            unchanged(file, log)
-        answers([file, kind], ["count", "get 3030303030"], ["count 2000", f"value {word(entries[b'00000'])}"])
-        again = "refused not empty" if target != file and target.exists() else "ok"
-        line = "compact" if target == file else f"compact {target}"
-        answers([file, kind], [line, "count"], [again, "count 2000"], "", int(again != "ok"))
-        unchanged(target, whole)
-        if again == "ok":
-            compare("whether a part remains", part.exists(), False)

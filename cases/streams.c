@@ -3,12 +3,13 @@
 // READ_ROOM, WRITE_ROOM: standard input gives, and standard output takes, so many bytes in all, and then fails.
 // FILE_ROOM: files take so many bytes in all at places, and then fail. UNREADABLE: a read at this place of a file fails.
 // FAIL, FAIL_AT: the call of this name fails that is the one of this number, counted from 1; with FAIL_ALL each from there on. It does
-// nothing then, or what FAIL_HOW says: `whole` does all and then fails, `half` does half and fails, `short` does half and says so. FAIL_MARK
-// is the name of a file that is made where a call failed.
+// nothing then, or what FAIL_HOW says: `whole` does all and then fails, `half` does half and fails, `short` does half and says so; `kill` has
+// the process killed in front of the call, and `killed` behind it. FAIL_MARK is the name of a file that is made where a call failed.
 #define _GNU_SOURCE
 #include <dlfcn.h>
 #include <errno.h>
 #include <fcntl.h>
+#include <signal.h>
 #include <stdarg.h>
 #include <stdint.h>
 #include <stdlib.h>
@@ -46,16 +47,23 @@ static ssize_t fail(int error) {
     return -1;
 }
 
+static int is_how(const char *how) { return fail_how != NULL && strcmp(fail_how, how) == 0; }
+
 // Whether this call of a name is one that fails.
 static int fails(const char *name) {
     if (fail_name == NULL || strcmp(name, fail_name) != 0) return 0;
     fail_count++;
     if (fail_count < fail_at || (fail_count > fail_at && !fail_all)) return 0;
     if (fail_mark != NULL) close(creat(fail_mark, 0600));
+    if (is_how("kill")) kill(getpid(), SIGKILL);
     return 1;
 }
 
-static int is_how(const char *how) { return fail_how != NULL && strcmp(fail_how, how) == 0; }
+// Behind a call that was done and fails.
+static int killed_or_failed(void) {
+    if (is_how("killed")) kill(getpid(), SIGKILL);
+    return fail(EIO);
+}
 
 static size_t least(size_t one, size_t other) { return one < other ? one : other; }
 
@@ -91,9 +99,9 @@ ssize_t pwrite(int file, const void *bytes, size_t count, off_t place) {
     if (count == 0) return real(file, bytes, count, place);
     if (fails("pwrite")) {
         if (is_how("short") && count > 1) return real(file, bytes, count / 2, place);
-        if (is_how("whole")) real(file, bytes, count, place);
+        if (is_how("whole") || is_how("killed")) real(file, bytes, count, place);
         if (is_how("half")) real(file, bytes, count / 2, place);
-        return fail(is_how("interrupted") ? EINTR : EIO);
+        return is_how("interrupted") ? fail(EINTR) : killed_or_failed();
     }
     if (file_room == 0) return fail(ENOSPC);
     ssize_t done = real(file, bytes, least(count, file_room), place);
@@ -106,8 +114,8 @@ ssize_t pwrite(int file, const void *bytes, size_t count, off_t place) {
     int name parameters {                                        \
         int(*real) parameters = dlsym(RTLD_NEXT, #name);         \
         if (!fails(#name)) return real arguments;                \
-        if (is_how("whole")) real arguments;                     \
-        return fail(EIO);                                        \
+        if (is_how("whole") || is_how("killed")) real arguments; \
+        return killed_or_failed();                               \
     }
 
 MAY_FAIL(statx, (int folder, const char *restrict path, int flags, unsigned mask, struct statx *restrict told),
