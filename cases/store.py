@@ -236,12 +236,14 @@ class Sessions:
         self.ask(f"put {word(key)} {word(value)}", "ok")
 
     def delete(self, key):
-        if self.tail == DAMAGED and key in self.entries:
+        if self.tail == DAMAGED:
             self.ask(f"delete {word(key)}", "refused damaged")
             return
         had = self.entries.pop(key, None) is not None
         if had:
             self.log(record(key, None))
+        else:
+            self.cut_off()
         self.ask(f"delete {word(key)}", "ok" if had else "none")
 
     def get(self, key):

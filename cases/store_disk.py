@@ -65,7 +65,7 @@ def goes_on_when_there_is_room(file, kind):
     sessions.put(b"same", b"2")
     sessions.delete(b"same")
     sessions.hold([b"same", b"more"])
-    given, _, status = run([file, kind], sessions.lines, FAIL="pwrite", FAIL_AT=3, FAIL_HOW="half")
+    given, _, status = run([file, kind], sessions.lines, FAIL="pwrite", FAIL_AT=2, FAIL_HOW="half")
     compare("the answers, the status", (given, status), (sessions.wanted, 1))
     unchanged(file, bytes(sessions.logs[file]))
 

@@ -154,9 +154,9 @@ def is_not_opened(file, kind):
 
 @case_of_store("ordered")
 def is_a_device(_file, kind):
-    """A put is refused, and not there. Cases that run at once share a device and its lock, so this is one case."""
-    lines, wanted = ["put 61 31", "get 61", "count"], ["refused write", "none", "count 0"]
-    answers(["/dev/null", kind], lines, wanted, "", 1)
+    """It is no store, and nothing is written to it."""
+    for place in ("/dev/null", "/dev/full"):
+        answers([place, kind], ["put 61 31"], [], f"cannot open {place}: not a regular file\n", 1)
 
 
 @case_of_store(*KINDS)
