@@ -1,5 +1,5 @@
 //! A store on a device in memory that crashes, at each number of lost bytes.
-use super::checks::{holds, made};
+use super::checks::holds;
 use key_index_flat::index::Factory;
 use key_index_flat::index::unordered::Index;
 use key_index_flat::translator::OneCap;
@@ -16,13 +16,13 @@ const ALL: usize = 80;
 fn what_is_synced_stays(rt: HostRuntime) -> Result<(), Fail> {
     let alloc = rt.alloc();
     for lost in 0..ALL {
-        let fresh = made(&rt, Index::<OneCap, u64>::new(alloc, OneCap));
+        let fresh = Index::<OneCap, u64>::new(alloc, OneCap)?;
         let store = Store::open(alloc, MemoryDevice::new(alloc), fresh)?;
-        let fresh = made(&rt, Index::<OneCap, u64>::new(alloc, OneCap));
+        let fresh = Index::<OneCap, u64>::new(alloc, OneCap)?;
         let mut store = put_and_sync(alloc, store, b"apple", b"red", lost, fresh)?;
         holds(&rt, store.contains_key(b"apple")?, "a synced key");
         store.sync()?;
-        let fresh = made(&rt, Index::<OneCap, u64>::new(alloc, OneCap));
+        let fresh = Index::<OneCap, u64>::new(alloc, OneCap)?;
         let mut store = put_alone(alloc, store, b"pear", b"green", lost, fresh)?;
         holds(&rt, store.contains_key(b"apple")?, "the key before it");
         holds(
