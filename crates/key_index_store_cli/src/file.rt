@@ -22,6 +22,13 @@ pub fn open(rt: &HostRuntime, path: &str, writes: bool, creates: bool) -> io::Re
     how.open(rt, path)
 }
 
+/// Makes a file for reading and writing where there is none.
+pub fn create(rt: &HostRuntime, path: &str) -> io::Result<File> {
+    let mut how = OpenOptions::new();
+    how.read(true).write(true).create_new(true);
+    how.open(rt, path)
+}
+
 /// Files for the standard streams that are closed. Without them, the file of a store could get the number of one.
 pub fn fill_streams<'a>(rt: &HostRuntime) -> Result<[File; 3], Failure<'a>> {
     let null = || open(rt, NULL, true, false).map_err(|error| Failure::CannotOpen(NULL, error));

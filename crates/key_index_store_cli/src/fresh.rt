@@ -1,8 +1,7 @@
 //! A fresh file of a store, which is written beside the place that it takes once it is whole.
 
 use crate::failure::{Failure, Refusal, tell};
-use crate::file::{Disk, headed, lock, open};
-use key_index_store::device::Device;
+use crate::file::{Disk, create, headed, lock, open};
 use std::fs;
 use std::fs::{File, OpenFile, Permissions};
 use std::io::{Error, ErrorKind};
@@ -56,11 +55,24 @@ fn check_regular<'a>(rt: &HostRuntime, path: &'a str) -> Result<(), Failure<'a>>
     }
 }
 
-/// The file at a path, made where there is none, with the permissions of another one, which its owner may write. What it
-/// holds has to be a store, and is dropped.
-fn open_part<'a>(rt: &HostRuntime, path: &'a str, from: &str) -> Result<Disk, Failure<'a>> {
+/// Removes the name of a part that a command left which was interrupted. It has to be a store, and of no session. Its bytes may
+/// have another name by then, so none of them is changed.
+fn remove_part<'a>(rt: &HostRuntime, path: &'a str) -> Result<(), Failure<'a>> {
     let cannot_open = |error| Failure::CannotOpen(path, error);
-    let file = open(rt, path, true, true).map_err(cannot_open)?;
+    let file = match open(rt, path, true, false) {
+        Err(error) if error.kind() == ErrorKind::NotFound => return Ok(()),
+        opened => opened.map_err(cannot_open)?,
+    };
+    lock(rt, &file, path, false)?;
+    let _locked = headed(rt, file, path, "not empty")?;
+    fs::remove_file(rt, path).map_err(cannot_open)
+}
+
+/// A new file at a path, with the permissions of another one, which its owner may write.
+fn make_part<'a>(rt: &HostRuntime, path: &'a str, from: &str) -> Result<Disk, Failure<'a>> {
+    let cannot_open = |error| Failure::CannotOpen(path, error);
+    remove_part(rt, path)?;
+    let file = create(rt, path).map_err(cannot_open)?;
     lock(rt, &file, path, false)?;
     let mode = fs::metadata(rt, from)
         .map_err(cannot_open)?
@@ -70,10 +82,7 @@ fn open_part<'a>(rt: &HostRuntime, path: &'a str, from: &str) -> Result<Disk, Fa
     if permissions != file.metadata().map_err(cannot_open)?.permissions() {
         OpenFile::set_permissions(&file, permissions).map_err(cannot_open)?;
     }
-    let mut disk = headed(rt, file, path, "not empty")?;
-    let emptied = disk.set_len(0);
-    emptied.map_err(|_| Failure::Refused(Refusal::For("write"), path))?;
-    Ok(disk)
+    headed(rt, file, path, "not empty")
 }
 
 impl<'a> Fresh<'a> {
@@ -92,7 +101,7 @@ impl<'a> Fresh<'a> {
         };
         let place = place.map_err(|failure| failure.into_refusal(rt))?;
         let part = format!(in rt.alloc(); "{target}.part")?;
-        let disk = open_part(rt, part.as_str(), from).map_err(|failure| failure.into_refusal(rt))?;
+        let disk = make_part(rt, part.as_str(), from).map_err(|failure| failure.into_refusal(rt))?;
         let fresh = Fresh {
             part,
             target,
@@ -105,17 +114,18 @@ impl<'a> Fresh<'a> {
     fn rename(&self, rt: &HostRuntime) -> Result<(), Refusal> {
         let part = self.part.as_str();
         let renamed = match &self.place {
-            Place::Nothing => fs::hard_link(rt, part, self.target).and_then(|()| fs::remove_file(
-                rt, part,
-            )),
+            Place::Nothing => fs::hard_link(rt, part, self.target).map(|()| {
+                let _ = fs::remove_file(rt, part);
+            }),
             Place::Empty(_) | Place::Own => fs::rename(rt, part, self.target),
         };
-        renamed.map_err(|error| {
-            if error.kind() == ErrorKind::AlreadyExists {
-                return Refusal::For("not empty");
+        renamed.map_err(|error| match error.kind() {
+            ErrorKind::AlreadyExists => Refusal::For("not empty"),
+            ErrorKind::OutOfMemory => Refusal::For("memory"),
+            _ => {
+                tell(rt, Failure::CannotOpen(self.target, error));
+                Refusal::For("write")
             }
-            tell(rt, Failure::CannotOpen(self.target, error));
-            Refusal::For("write")
         })
     }
 
