@@ -32,6 +32,7 @@ CALLS = {
     "ftruncate": ["whole"],
     "fsync": ["whole"],
     "rename": [],
+    "link": [],
     "realpath": [],
     "fchmod": ["whole"],
     "unlink": [],

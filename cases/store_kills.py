@@ -220,9 +220,31 @@ def is_killed_at_each_call(file, kind):
         sessions.append(([f"move {target}", "put 61 707574"], [SEVEN], [None, whole, whole + put]))
     for lines, files, targets in sessions:
         for flags in ([], ["--durable"]) if lines[0].startswith("put") else ([],):
-            for name in ("open", "statx", "flock", "pread", "pwrite", "ftruncate", "fsync", "rename", "fchmod"):
+            for name in ("open", "statx", "flock", "pread", "pwrite", "ftruncate", "fsync", "rename", "link", "unlink", "fchmod"):
                 for how in ("kill", "killed"):
                     killed_at_each(file, target, [*flags, file, kind], lines, files, targets, FAIL=name, FAIL_HOW=how)
+
+
+@case_of_store(*IN_ORDER)
+def is_killed_with_two_names(file, kind):
+    """The process is killed as a copy has its name and the part's too: no later command changes the bytes of that copy."""
+    target, part, kept = (file.with_name(name) for name in ("copy.log", "copy.log.part", "kept.log"))
+    for line in ("compact", "move", "salvage"):
+        file.write_bytes(SEVEN)
+        target.unlink(missing_ok=True)
+        run([file, kind], [f"{line} {target}"], FAIL="unlink", FAIL_AT=1, FAIL_HOW="kill")
+        copy = target.read_bytes()
+        compare("two names of one file", part.samefile(target), True)
+        target.rename(kept)
+        given, told, status = run([file, kind], [f"{line} {target}"])
+        compare("status, standard error", (status, told), (0, ""))
+        unchanged(kept, copy)
+        unchanged(target, copy)
+        compare("whether the part is there", part.exists(), False)
+        os.link(target, part)
+        answers([target, kind], ["compact"], ["refused busy"], "", 1)
+        unchanged(target, copy)
+        part.unlink()
 
 
 def killed_at_each(file, target, words, lines, files, targets, **fault):

@@ -193,7 +193,9 @@ class Stored(Session):
             told = [answer]
             while line.startswith("scan") and told[-1].startswith("entry"):
                 told.append(next(answers, REFUSED))
-            yield REFUSED if told[-1] == REFUSED else " ".join(told)
+            # a file's header stands in front of its first record by an allocation, and what fails there is the write
+            is_first_write = line.startswith(("salvage", "compact", "move")) and answer == "refused write"
+            yield REFUSED if told[-1] == REFUSED or is_first_write else " ".join(told)
         yield from answers
 
     def ends(self, status, answers, error):
