@@ -4,7 +4,7 @@
 --     spelled, spelled_front  the same as bytes
 --     Scan              a place of a log that is looked at, in a block of it
 --     Copied            what was copied so far
-use Rattle.std.proofs.Common.{◌≡◌, ◌⊎◌, ℕ, zero, suc, ◌+◌, ◌-◌, ◌≤◌, true, cond, List, [], ◌∷◌, ◌++◌, length, take, drop, inl, inr, refl, sym, ap, subst, ◌∙◌, append_assoc, take-append-drop, take_all, length-append, length-drop, arith}
+use Rattle.std.proofs.Common.{◌≡◌, ◌⊎◌, ℕ, zero, suc, ◌+◌, ◌-◌, ◌<◌, ◌≤◌, true, cond, List, [], ◌∷◌, ◌++◌, length, take, drop, inl, inr, refl, sym, ap, subst, ◌∙◌, append_assoc, take-append-drop, take_all, length-append, length-drop, arith}
 use Rattle.std.proofs.lemmas.Bool.{cases_lt, le-ltb, lt-ltb}
 use Rattle.std.proofs.lemmas.List.{append-nil, take_at, drop-append-le, drop-drop, take-append-le, nil_from_length}
 use Rattle.std.proofs.lemmas.List.Concat.{flat_map-cons}
@@ -266,3 +266,7 @@ module _ {log : List ℕ} {position end : ℕ} {old new : List ℕ} (c : Copied 
 -- the record at the front of some bytes
 pub front_of : (rest front : List ℕ) (r : Entry) (n : ℕ) → front ≡ take n rest → n ≡ length (encoded r) → rest ≡ encoded r ++ drop (length (encoded r)) rest → front ≡ encoded r
 front_of rest front r n is size found = is ∙ ap (take n) found ∙ take_at (encoded r) (drop (length (encoded r)) rest) n (sym size)
+
+-- where there were no bytes, none are changed
+pub kept_none : (old new : List ℕ) → old ≡ [] → 0 < length old → new ≡ old
+kept_none old new none some = absurd (omega (arith, some, ap (λ l. length l) none))

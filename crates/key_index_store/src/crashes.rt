@@ -1,8 +1,8 @@
 //! What a crash leaves of a store: the laws of durability, as proved callers over a device in memory.
-ghost use Rattle.std.specs.Prelude.{◌≡◌, ◌⊎◌, [], IfOk};
+ghost use Rattle.std.specs.Prelude.{◌≡◌, ◌⊎◌, ◌-◌, [], length, max, take, IfOk};
 ghost use Rattle.std.specs.FinMap as map;
 ghost use Rattle.key_index_store.specs.Device.{NoMore};
-ghost use Rattle.key_index_store.specs.MemoryDevice.{MayLeave, held};
+ghost use Rattle.key_index_store.specs.MemoryDevice.{MayLeave, held, kept};
 ghost use Rattle.key_index_store.specs.Stored.{held_by};
 
 use crate::memory_device::MemoryDevice;
@@ -18,7 +18,9 @@ pub fn after_crash<I: Unordered<Value = u64> + Drop>(
     index: I,
 ) -> Result<Store<MemoryDevice, I>, Fault>
     requires { (I.view index).content ≡ [] }
-    ensures { IfOk result (λ opened. MayLeave store (held opened)) }
+    ensures left { IfOk result (λ opened.
+        held opened ≡ take (max (kept store) (length (held store) - lost)) (held store)) }
+    ensures allowed { IfOk result (λ opened. MayLeave store (held opened)) }
 {
     let left = store.into_device().crash(lost);
     let opened = Store::open(alloc, left, index)?;

@@ -1,5 +1,5 @@
 //! The records of a damaged log, copied to a fresh one.
-ghost use Rattle.std.specs.Prelude.{◌≡◌, ◌-◌, ℕ, List, ◌++◌, length, take, drop, IfOk, IfErr, OnOk};
+ghost use Rattle.std.specs.Prelude.{◌≡◌, ◌<◌, ◌-◌, ℕ, List, [], ◌++◌, length, take, drop, IfOk, IfErr, OnOk};
 ghost use Rattle.std.specs.List.{flat_map};
 ghost use Rattle.key_index_store.specs.Device.{Changes, IsRead, Sees};
 ghost use Rattle.key_index_store.specs.Record.{encoded};
@@ -38,17 +38,18 @@ pub fn salvage<D: Device, C: Device>(
     from: &mut D,
     into: &mut C,
 ) -> Result<Salvaged, Fault>
-    ensures copied { OnOk result (Sees (D.seen from.new) (λ log. Sees (C.seen into.new) (λ bytes.
-        bytes ≡ flat_map encoded (salvaged log)))) }
+    ensures copied { OnOk result (Sees (D.seen from.new) (λ log. Changes (C.seen into.old) (C.seen into.new)
+        (λ old new. (old ≡ []) × (new ≡ flat_map encoded (salvaged log))))) }
     // The records in front of any damage come first.
     ensures front { OnOk result (Sees (D.seen from.new) (λ log. Sees (C.seen into.new) (λ bytes.
         (more : List ℕ) × (bytes ≡ flat_map encoded (records_of log) ++ more)))) }
     ensures records { IfOk result (λ s. Sees (D.seen from.new) (λ log. s.records ≡ length (salvaged log))) }
     ensures left_out { IfOk result (λ s. Sees (D.seen from.new) (λ log. Sees (C.seen into.new) (λ bytes.
         s.left_out ≡ length log - length bytes))) }
-    // Where it fails, it has appended a front of that.
+    // Where it fails, it has appended a front of that, and nothing to a log that had bytes.
     ensures begun { Sees (D.seen from.new) (λ log. Changes (C.seen into.old) (C.seen into.new) (λ old new.
         (n : ℕ) × (new ≡ old ++ take n (flat_map encoded (salvaged log))))) }
+    ensures kept { Changes (C.seen into.old) (C.seen into.new) (λ old new. 0 < length old → new ≡ old) }
     ensures read { IsRead D.seen D.may_leave from.old from.new }
     ensures fault { IfErr result (MaySalvage (C.seen into.new)) }
 {

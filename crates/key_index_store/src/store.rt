@@ -104,14 +104,17 @@ fn settle<I: Unordered<Value = u64>>(
     ensures sure { OnErr result (place ≡ None) }
     ensures fault { IfErr result (λ f. f ≡ refusal_of (growth_fault_in (I.view index.old))) }
 {
-    let slot = index.slot_of(key);
-    match place {
-        Some(place) if has_value => index.set_at(slot, place, position),
-        Some(place) => {
-            index.remove_at(slot, place);
+    let Some(place) = place else {
+        if has_value {
+            index.insert(key, position).map_err(fault_of)?;
         }
-        None if has_value => index.insert(key, position).map_err(fault_of)?,
-        None => {}
+        return Ok(());
+    };
+    let slot = index.slot_of(key);
+    if has_value {
+        index.set_at(slot, place, position);
+    } else {
+        index.remove_at(slot, place);
     }
     Ok(())
 }
@@ -242,8 +245,8 @@ impl<D: Drop> From<NotOpened<D>> for Fault {
 }
 
 impl<D: Device, I: Unordered<Value = u64>> Store<D, I> {
-    /// A store on a log, over an empty index. It reads the log once, from its front, and nothing behind the first place where no whole
-    /// record stands, but to tell zeros. No byte of the log is changed.
+    /// A store on a log, over an empty index. It reads the log block by block, as far as whole records stand, and behind them to tell
+    /// what stands there. Of records that share an index key it reads the heads and keys again. No byte of the log is changed.
     pub fn open(alloc: Global, mut device: D, mut index: I) -> Result<Store<D, I>, NotOpened<D>>
     where
         D: Drop,
@@ -466,11 +469,15 @@ impl<D: Device, I: Unordered<Value = u64>> Store<D, I> {
 
     /// Copies each whole record of the log to a fresh one, in their order, behind damage too.
     pub fn salvage<C: Device>(&mut self, into: &mut C) -> Result<Salvaged, Fault>
-        ensures copied { OnOk result (Sees (D.seen self.new) (λ log. Sees (C.seen into.new) (λ bytes.
-            bytes ≡ flat_map encoded (salvaged log)))) }
+        ensures copied { OnOk result (Sees (D.seen self.new) (λ log. Changes (C.seen into.old) (C.seen into.new)
+            (λ old new. (old ≡ []) × (new ≡ flat_map encoded (salvaged log))))) }
         ensures records { IfOk result (λ s. Sees (D.seen self.new) (λ log. s.records ≡ length (salvaged log))) }
         ensures left_out { IfOk result (λ s. Sees (D.seen self.new) (λ log. Sees (C.seen into.new) (λ bytes.
             s.left_out ≡ length log - length bytes))) }
+        // Where it fails, it has appended a front of that, and nothing to a log that had bytes.
+        ensures begun { Sees (D.seen self.new) (λ log. Changes (C.seen into.old) (C.seen into.new) (λ old new.
+            (n : ℕ) × (new ≡ old ++ take n (flat_map encoded (salvaged log))))) }
+        ensures kept { Changes (C.seen into.old) (C.seen into.new) (λ old new. 0 < length old → new ≡ old) }
         ensures read { IsRead D.seen D.may_leave self.old self.new }
         ensures fault { IfErr result (MaySalvage (C.seen into.new)) }
     {

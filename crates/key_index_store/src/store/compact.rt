@@ -52,6 +52,8 @@ impl<D: Device, I: Ordered<Value = u64>> Store<D, I> {
         ensures fault { Sees (D.seen self.new) (λ log. EntriesFit (held_by log)
             → Changes (C.seen copy.old) (C.seen copy.new) (λ old new. old ≡ []
             → IfErr result (λ f. MayRead f ⊎ (f ≡ Fault.WriteFailed)))) }
+        // Bytes that are seen at the return were seen at the call.
+        ensures known { Changes (C.seen copy.old) (C.seen copy.new) (λ old new. Unit {0}) }
     {
         let mut last: Option<Vec<u8>> = None;
         for copied in 0..self.len() {
@@ -74,14 +76,16 @@ impl<D: Device, I: Ordered<Value = u64>> Store<D, I> {
     where
         I: Drop,
         requires { (I.view index).content ≡ [] }
-        ensures compacted { IfOk result (λ copy. Sees (D.seen self.new) (λ log. Sees (C.seen copy) (λ bytes.
-            bytes ≡ compacted (held_by log)))) }
+        ensures compacted { IfOk result (λ copy. Sees (D.seen self.new) (λ log. Changes (C.seen into) (C.seen copy)
+            (λ old new. (old ≡ []) × (new ≡ compacted (held_by log))))) }
         ensures held { IfOk result (λ copy. Sees (D.seen self.new) (λ log. Sees (C.seen copy) (λ bytes.
             held_by bytes ≡ held_by log))) }
         ensures read { IsRead D.seen D.may_leave self.old self.new }
         ensures fault { IfErr result (λ e. Sees (D.seen self.new) (λ log. Sees (C.seen e.device) (λ bytes.
             MayRead e.fault ⊎ (e.fault ≡ Fault.WriteFailed)
             ⊎ ((e.fault ≡ Fault.NotEmpty) × (C.seen into ≡ Some bytes) × (0 < length bytes))))) }
+        ensures kept { IfErr result (λ e. Changes (C.seen into) (C.seen e.device) (λ old new.
+            0 < length old → new ≡ old)) }
     {
         match length_of(&mut into) {
             Ok(0) => {}

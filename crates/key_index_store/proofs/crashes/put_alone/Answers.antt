@@ -13,4 +13,4 @@ returns g c =
     (elim (crash.2 (held opened) left) [
       | inl before ↦ inl (c.requires.synced (held opened) before)
       | inr either ↦ inr either
-    ])) c.after_crash.ensures
+    ])) c.after_crash.ensures.allowed

@@ -13,4 +13,4 @@ returns g c =
     let same = same_bytes _ _ (c.in_ok-sync.ensures.read.stays _ refl) in
     let old = same_bytes _ _ set.1 in
     IfOk-weaker c.after_crash.result (λ opened. MayLeave c.sync.new.self (held opened)) _ (λ opened left.
-    ap held_by (durable (held opened) left ∙ sym same) ∙ set.2 ∙ ap (λ l. insert (held_by l) c.args.key.now c.args.value.now) (sym old)) c.after_crash.ensures
+    ap held_by (durable (held opened) left ∙ sym same) ∙ set.2 ∙ ap (λ l. insert (held_by l) c.args.key.now c.args.value.now) (sym old)) c.after_crash.ensures.allowed

@@ -1,10 +1,11 @@
 use Rattle.std.proofs.Common.{◌≡◌, ◌+◌, ◌-◌, ◌≤◌, false, true, length, length-append, drop, refl, sym, ap, ◌∙◌, arith}
+use Rattle.std.proofs.lemmas.List.{nil_from_length}
 use Rattle.std.specs.Result.{is_ok}
 use Rattle.key_index_store.specs.Device.{Sees}
 use Rattle.key_index_store.specs.Record.{Entry, Stops, encoded, entry_of, reading}
 use Rattle.key_index_store.proofs.HeaderLemmas.{on_err_told}
 use Rattle.key_index_store.proofs.ReadLemmas.{on_ok_told, read-then}
-use Rattle.key_index_store.proofs.SalvageLemmas.{copied_all, copied_begun, copied_more, copied_none, copied_on, copied_part, counted_all, front_of, scan_at, scan_more, scan_on, some_bytes, spelled_front, told_damaged, told_torn, told_whole, within_rest}
+use Rattle.key_index_store.proofs.SalvageLemmas.{copied_all, copied_begun, copied_more, copied_none, copied_on, copied_part, counted_all, front_of, kept_none, scan_at, scan_more, scan_on, some_bytes, spelled_front, told_damaged, told_torn, told_whole, within_rest}
 use Rattle.key_index_store.proofs.salvage.salvage.Goals as goal
 
 pub overflow_sub-position : goal.overflow_sub-position
@@ -16,6 +17,9 @@ loop-position-init g c = record {
   few = omega arith;
   behind = omega arith;
   read = read-then _ _ _ c.length_of-2.ensures.read c.in_ok-block.ensures.read;
+  fresh = λ new seen_new.
+      let told : c.in_ok-length_of.field-0 ≡ length new = c.in_ok-length_of.ensures.told new seen_new in
+      (new, c.length_of.ensures.read.stays new seen_new, nil_from_length new (omega (arith, told, c.if-branch-ne0.false)));
   scan = λ log seen.
       let told : c.in_ok-len.len ≡ length log = c.in_ok-len.ensures.told log (c.in_ok-block.ensures.read.stays log seen) in
       let le : c.in_ok-len.len ≤ length log = omega (arith, told) in
@@ -50,6 +54,7 @@ loop-position-preserved g c = record {
   few = c.loop-position.invariant.few;
   behind = c.loop-position.invariant.behind;
   read = read-then _ _ _ c.loop-position.invariant.read c.in_ok-block-in-Torn-2.ensures.read;
+  fresh = c.loop-position.invariant.fresh;
   scan = λ log seen.
       let was = c.loop-position.invariant.scan log (c.in_ok-block-in-Torn-2.ensures.read.stays log seen) in
       let le : c.in_ok-len.len ≤ length log = omega (arith, was.told) in
@@ -75,6 +80,10 @@ loop-position-preserved-in-Complete g c =
       few = omega (arith, inv.few, size, some, c.saturating_add-position.ensures);
       behind = omega (arith, inv.behind, c.saturating_add-position.ensures, c.saturating_add-end.ensures);
       read = inv.read;
+      fresh = λ new seen_new.
+          let ok : is_ok c.write_at.result ≡ true = sym c.map_err.ensures.variant ∙ ap is_ok c.in_ok-map_err-in-Complete.was in
+          let wrote = on_ok_told c.write_at.result ok c.write_at.ensures.written new seen_new in
+          inv.fresh wrote.0 wrote.1;
       scan = λ log seen. scan_more (inv.scan log seen) inv.order r (told_whole (inv.scan log seen) inv.order r read) c.saturating_add-position.result (next log seen);
       copied = λ log seen new seen_new.
           let ok : is_ok c.write_at.result ≡ true = sym c.map_err.ensures.variant ∙ ap is_ok c.in_ok-map_err-in-Complete.was in
@@ -100,6 +109,7 @@ loop-position-preserved-in-Damaged g c =
       few = omega (arith, inv.few);
       behind = omega (arith, inv.behind);
       read = inv.read;
+      fresh = inv.fresh;
       scan = λ log seen. scan_on (inv.scan log seen) inv.order (stops log seen);
       copied = λ log seen new seen_new. (let was = inv.copied log seen new seen_new in (was.0, was.1, copied_on was.2 (stops log seen)));
     }
@@ -115,6 +125,7 @@ loop-position-preserved-then-start-position g c =
       few = omega (arith, inv.few);
       behind = omega (arith, inv.behind);
       read = inv.read;
+      fresh = inv.fresh;
       scan = λ log seen. scan_on (inv.scan log seen) inv.order (stops log seen);
       copied = λ log seen new seen_new. (let was = inv.copied log seen new seen_new in (was.0, was.1, copied_on was.2 (stops log seen)));
     }
@@ -123,7 +134,8 @@ pub returns-clause-copied : goal.returns-clause-copied
 returns-clause-copied g c = λ log seen new seen_new.
     let was = c.loop-position.invariant.copied log seen new seen_new in
     let told = (c.loop-position.invariant.scan log seen).told in
-    copied_all log c.loop-position.position c.loop-position.end was.0 new was.2 (omega (arith, told, c.loop-position-test.false))
+    let all = copied_all log c.loop-position.position c.loop-position.end was.0 new was.2 (omega (arith, told, c.loop-position-test.false)) in
+    (was.0, was.1, (was.2.none, all))
 
 pub returns-clause-front : goal.returns-clause-front
 returns-clause-front g c = λ log seen new seen_new.
@@ -145,3 +157,17 @@ pub returns-clause-begun : goal.returns-clause-begun
 returns-clause-begun g c = λ log seen new seen_new.
     let was = c.loop-position.invariant.copied log seen new seen_new in
     (was.0, was.1, copied_part log c.loop-position.position c.loop-position.end was.0 new was.2)
+
+pub returns-clause-kept : goal.returns-clause-kept
+returns-clause-kept g c = λ new seen_new. (let was = c.loop-position.invariant.fresh new seen_new in (was.0, was.1, kept_none was.0 new was.2))
+
+pub returns-in_err-block-in-Torn-2-clause-kept : goal.returns-in_err-block-in-Torn-2-clause-kept
+returns-in_err-block-in-Torn-2-clause-kept g c =
+    λ new seen_new. (let was = c.loop-position.invariant.fresh new seen_new in (was.0, was.1, kept_none was.0 new was.2))
+
+pub returns-in_err-map_err-in-Complete-clause-kept : goal.returns-in_err-map_err-in-Complete-clause-kept
+returns-in_err-map_err-in-Complete-clause-kept g c = λ new seen_new.
+    let err : is_ok c.write_at.result ≡ false = sym c.map_err.ensures.variant ∙ ap is_ok c.in_err-map_err-in-Complete.was in
+    let failed = on_err_told c.write_at.result err c.write_at.ensures.failed new seen_new in
+    let was = c.loop-position.invariant.fresh failed.0 failed.1 in
+    (was.0, was.1, kept_none was.0 new was.2)

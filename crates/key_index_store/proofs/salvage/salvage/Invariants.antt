@@ -1,4 +1,4 @@
-use Rattle.std.proofs.Common.{◌+◌, ◌-◌, ◌*◌, ◌≤◌, min}
+use Rattle.std.proofs.Common.{◌≡◌, [], ◌+◌, ◌-◌, ◌*◌, ◌≤◌, min}
 use Rattle.key_index_store.specs.Device.{Changes, IsRead, Sees}
 use Rattle.key_index_store.proofs.SalvageLemmas.{Copied, Scan}
 use Rattle.key_index_store.proofs.salvage.salvage.Given as goal
@@ -9,6 +9,7 @@ invariant-loop-position g l = record {
   few : l.records ≤ l.position;
   behind : l.end ≤ l.position;
   read : IsRead g.D.Device.seen g.D.Device.may_leave l.fn.from l.from;
+  fresh : Changes (g.C.Device.seen l.fn.into) (g.C.Device.seen l.into) (λ old new. old ≡ []);
   scan : Sees (g.D.Device.seen l.from) (λ log. Scan log l.block.items l.len l.start l.position l.records);
   copied : Sees (g.D.Device.seen l.from) (λ log. Changes (g.C.Device.seen l.fn.into) (g.C.Device.seen l.into) (Copied log l.position l.end));
 }

@@ -12,6 +12,7 @@ pub loop-copied-init : goal.loop-copied-init
 loop-copied-init g c = record {
   read = read-none _;
   counted = c.len-copied-end.ensures;
+  known = λ new now. (new, now, tt);
   copied = λ log seen fit new now. (new, now, copied_none (held_by log) new);
 }
 
@@ -71,6 +72,7 @@ pub loop-copied-preserved : goal.loop-copied-preserved
 loop-copied-preserved g c = record {
   read = read-then _ _ _ c.loop-copied.invariant.read c.in_ok-key.ensures.read;
   counted = λ log seen. c.loop-copied.invariant.counted log (c.in_ok-key.ensures.read.stays log seen);
+  known = λ new now. (let put = c.in_ok-put.ensures.logged new now in c.loop-copied.invariant.known put.0 put.1);
   copied = λ log seen fit new now.
       let m = held_by log in
       let last = option_map (λ k. k.items) c.loop-copied.last in
@@ -106,3 +108,6 @@ pub returns-clause-fault : goal.returns-clause-fault
 returns-clause-fault g c = λ log seen fit new now.
     let before = c.loop-copied.invariant.copied log seen fit new now in
     (before.0, before.1, λ fresh. tt)
+
+pub returns-in_err-put-clause-known : goal.returns-in_err-put-clause-known
+returns-in_err-put-clause-known g c = λ new now. (let put = c.in_err-put.ensures.fault new now in c.loop-copied.invariant.known put.0 put.1)
