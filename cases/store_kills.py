@@ -227,8 +227,10 @@ def is_killed_at_each_call(file, kind):
 
 @case_of_store(*IN_ORDER)
 def is_killed_with_two_names(file, kind):
-    """The process is killed as a copy has its name and the part's too: no later command changes the bytes of that copy."""
-    target, part, kept = (file.with_name(name) for name in ("copy.log", "copy.log.part", "kept.log"))
+    """The process is killed as a copy has its name and the part's too: no later command changes the bytes of that copy, nor
+    one in place those of its other names."""
+    names = ("copy.log", "copy.log.part", "kept.log", "third.log")
+    target, part, kept, third = (file.with_name(name) for name in names)
     for line in ("compact", "move", "salvage"):
         file.write_bytes(SEVEN)
         target.unlink(missing_ok=True)
@@ -242,9 +244,11 @@ def is_killed_with_two_names(file, kind):
         unchanged(target, copy)
         compare("whether the part is there", part.exists(), False)
         os.link(target, part)
-        answers([target, kind], ["compact"], ["refused busy"], "", 1)
-        unchanged(target, copy)
-        part.unlink()
+        os.link(target, third)
+        answers([target, kind], ["compact", "count"], ["ok", "count 3"])
+        unchanged(third, copy)
+        compare("whether the part is there", part.exists(), False)
+        third.unlink()
 
 
 def killed_at_each(file, target, words, lines, files, targets, **fault):

@@ -6,6 +6,7 @@ use key_index_store::headed::{Headed, OpenError};
 use std::fs::{File, OpenFile, OpenOptions, TryLockError};
 use std::io::ErrorKind;
 use std::os::fd::AsRawFd;
+use std::os::unix::fs::MetadataExt;
 use std::path::Path;
 use std::{fs, io};
 
@@ -39,17 +40,13 @@ pub fn fill_streams<'a>(rt: &HostRuntime) -> Result<[File; 3], Failure<'a>> {
     Ok(files)
 }
 
-/// Whether a file is the one that is at a path now. Another one may be there by the time that it is locked.
-fn is_at(rt: &HostRuntime, file: &File, path: &str) -> bool {
-    let (Ok(own), Ok(there)) = (file.metadata(), fs::metadata(rt, path)) else {
-        return false;
-    };
-    own.len() == there.len()
-        && own.modified().ok() == there.modified().ok()
-        && own.created().ok() == there.created().ok()
+/// Whether a file is the one that is at a path now.
+pub fn is_at(rt: &HostRuntime, file: &File, path: &str) -> io::Result<bool> {
+    let (own, there) = (file.metadata()?, fs::metadata(rt, path)?);
+    Ok(own.dev() == there.dev() && own.ino() == there.ino())
 }
 
-/// Locks the file that was opened at a path, for this process alone or for all that read it.
+/// Locks the file that was opened at a path, for this process alone or for all that read it. Another file may be there by then.
 pub fn lock<'a>(
     rt: &HostRuntime,
     file: &File,
@@ -61,10 +58,15 @@ pub fn lock<'a>(
     } else {
         file.try_lock()
     };
-    match locked {
-        Ok(()) if is_at(rt, file, path) => Ok(()),
-        Ok(()) | Err(TryLockError::WouldBlock) => Err(Failure::Refused(Refusal::For("busy"), path)),
-        Err(TryLockError::Error(error)) => Err(Failure::CannotOpen(path, error)),
+    let is_held = match locked {
+        Ok(()) => is_at(rt, file, path),
+        Err(TryLockError::WouldBlock) => Ok(false),
+        Err(TryLockError::Error(error)) => Err(error),
+    };
+    match is_held {
+        Ok(true) => Ok(()),
+        Ok(false) => Err(Failure::Refused(Refusal::For("busy"), path)),
+        Err(error) => Err(Failure::CannotOpen(path, error)),
     }
 }
 

@@ -1,7 +1,7 @@
 //! A fresh file of a store, which is written beside the place that it takes once it is whole.
 
 use crate::failure::{Failure, Refusal, tell};
-use crate::file::{Disk, create, headed, lock, open};
+use crate::file::{Disk, create, headed, is_at, lock, open};
 use std::fs;
 use std::fs::{File, OpenFile, Permissions};
 use std::io::{Error, ErrorKind};
@@ -55,15 +55,17 @@ fn check_regular<'a>(rt: &HostRuntime, path: &'a str) -> Result<(), Failure<'a>>
     }
 }
 
-/// Removes the name of a part that a command left which was interrupted. It has to be a store, and of no session. Its bytes may
-/// have another name by then, so none of them is changed.
-fn remove_part<'a>(rt: &HostRuntime, path: &'a str) -> Result<(), Failure<'a>> {
+/// Removes the name of a part that a command left which was interrupted. It has to be a store, and of no other session. Its bytes may
+/// have another name by then, also that of the session's own file, so none of them is changed.
+fn remove_part<'a>(rt: &HostRuntime, path: &'a str, own: &str) -> Result<(), Failure<'a>> {
     let cannot_open = |error| Failure::CannotOpen(path, error);
     let file = match open(rt, path, true, false) {
         Err(error) if error.kind() == ErrorKind::NotFound => return Ok(()),
         opened => opened.map_err(cannot_open)?,
     };
-    lock(rt, &file, path, false)?;
+    if !is_at(rt, &file, own).map_err(cannot_open)? {
+        lock(rt, &file, path, false)?;
+    }
     let _locked = headed(rt, file, path, "not empty")?;
     fs::remove_file(rt, path).map_err(cannot_open)
 }
@@ -71,7 +73,7 @@ fn remove_part<'a>(rt: &HostRuntime, path: &'a str) -> Result<(), Failure<'a>> {
 /// A new file at a path, with the permissions of another one, which its owner may write.
 fn make_part<'a>(rt: &HostRuntime, path: &'a str, from: &str) -> Result<Disk, Failure<'a>> {
     let cannot_open = |error| Failure::CannotOpen(path, error);
-    remove_part(rt, path)?;
+    remove_part(rt, path, from)?;
     let file = create(rt, path).map_err(cannot_open)?;
     lock(rt, &file, path, false)?;
     let mode = fs::metadata(rt, from)
