@@ -1,9 +1,9 @@
 //! One partition: its keys in order, and beside each key a value.
-ghost use Rattle.std.specs.Prelude.{◌≡◌, ◌+◌, ◌-◌, ◌<◌, ◌≤◌, List, [], ◌++◌, ◌∷◌, All, true, false, replicate, length, min, slice_get, insert, remove, Some, IsOk, IfOk, IfErr, OnOk, OnErr, map, take, drop, vec_len};
+ghost use Rattle.std.specs.Prelude.{◌≡◌, ◌+◌, ◌-◌, ◌<◌, ◌≤◌, List, [], ◌++◌, ◌∷◌, All, Bool, true, false, replicate, length, min, slice_get, insert, remove, Some, IsOk, IfOk, IfErr, OnOk, OnErr, map, take, drop, vec_len};
 ghost use Rattle.std.specs.Bool.{◌==◌, Decides};
-ghost use Rattle.std.specs.Fn.{CalledAt};
+ghost use Rattle.std.specs.Fn.{CalledAt, ComputesKey};
 ghost use Rattle.std.specs.List.{flat_map, zip, slice_range, remove_range};
-ghost use Rattle.std.specs.List.Sorted.{IsSorted};
+ghost use Rattle.std.specs.List.Sorted.{IsSorted, IsPartitionedBy, IsPartitionPoint};
 ghost use Rattle.std.specs.Map.{keys_of, values_of};
 ghost use Rattle.std.specs.Option.{option_copied};
 ghost use Rattle.std.specs.Ordering.{is_lt};
@@ -26,22 +26,65 @@ use std::ops::Range;
 use std::slice;
 use std::vec::IntoIter;
 
+/// Up to how many keys a search is std's, which makes a branch of each step, so that the next key is read before the step's outcome is known.
+const FEW: usize = 32;
+
+/// How often a search of more keys halves them without a branch. It leaves one of 511.
+const HALVES: usize = 9;
+
+/// `front_len` of many keys. The compiler writes all the halvings out, which it needs to make no branch of one.
+#[inline(never)]
+fn long_front_len<K, P: FnMut(&K) -> bool>(keys: &[K], mut test: P) -> usize
+    requires callable { P.IsAlwaysCallable test }
+    requires some { 0 < length keys.now }
+    ensures bound { result ≤ length keys.now }
+    ensures partitioned { (p : K → Bool) → ComputesKey P.FnMut p test → IsPartitionedBy p keys.now
+        → IsPartitionPoint (λ k. p k ≡ true) (λ k. p k ≡ false) keys.now result }
+{
+    let mut from = 0;
+    let mut left = keys.len();
+    'halves: for _ in 0..HALVES {
+        let half = left / 2;
+        if test(&keys[from + half]) {
+            from += half;
+        }
+        left -= half;
+    }
+    from + part(keys, from..from + left).partition_point(test)
+}
+
+/// How many keys in front meet a test that no others meet.
+#[inline(always)]
+fn front_len<K, P: FnMut(&K) -> bool>(keys: &[K], test: P) -> usize
+    requires { P.IsAlwaysCallable test }
+    ensures bound { result ≤ length keys.now }
+    ensures partitioned { (p : K → Bool) → ComputesKey P.FnMut p test → IsPartitionedBy p keys.now
+        → IsPartitionPoint (λ k. p k ≡ true) (λ k. p k ≡ false) keys.now result }
+{
+    if keys.len() > FEW {
+        return long_front_len(keys, test);
+    }
+    keys.partition_point(test)
+}
+
 /// How many of some sorted keys are below a key.
+#[inline(always)]
 fn lower_bound<K: Ord>(keys: &[K], key: &K) -> usize
     requires { IsSorted K.cmp keys.now }
     ensures within { result ≤ length keys.now }
     ensures count { result ≡ count_below K.cmp keys.now key.now }
 {
-    keys.partition_point(|k| k.cmp(key).is_lt())
+    front_len(keys, |k| k.cmp(key).is_lt())
 }
 
 /// How many of some sorted keys are not above a key.
+#[inline(always)]
 fn upper_bound<K: Ord>(keys: &[K], key: &K) -> usize
     requires { IsSorted K.cmp keys.now }
     ensures within { result ≤ length keys.now }
     ensures count { result ≡ count_upto K.cmp keys.now key.now }
 {
-    keys.partition_point(|k| k.cmp(key).is_le())
+    front_len(keys, |k| k.cmp(key).is_le())
 }
 
 /// The items in a range of places.
@@ -403,6 +446,7 @@ impl<K: Ord + Copy, V: Drop> Partition<K, V> {
     }
 
     /// The places of the pairs of a key. Where it has none, they begin and end where a pair of it belongs.
+    #[inline(always)]
     pub fn run_range(&self, key: &K) -> Range<usize>
         ensures { IsFound K.cmp self.now.pairs key.now result.start result.end }
     {
