@@ -29,12 +29,15 @@ use std::vec::IntoIter;
 /// Up to how many keys a search is std's, which makes a branch of each step, so that the next key is read before the step's outcome is known.
 const FEW: usize = 32;
 
-/// How often a search of more keys halves them without a branch. It leaves one of 511.
+/// How many halvings leave one of so few keys.
+const FEW_HALVES: usize = 5;
+
+/// How often a search of more keys halves them. It leaves one of 511.
 const HALVES: usize = 9;
 
-/// `front_len` of many keys. The compiler writes all the halvings out, which it needs to make no branch of one.
-#[inline(never)]
-fn long_front_len<K, P: FnMut(&K) -> bool>(keys: &[K], mut test: P) -> usize
+/// `front_len` of some keys, by so many halvings. The compiler writes all of them out, which it needs to make no branch of one.
+#[inline(always)]
+fn by_halves<K, P: FnMut(&K) -> bool, const TIMES: usize>(keys: &[K], mut test: P) -> usize
     requires callable { P.IsAlwaysCallable test }
     requires some { 0 < length keys.now }
     ensures bound { result ≤ length keys.now }
@@ -43,7 +46,7 @@ fn long_front_len<K, P: FnMut(&K) -> bool>(keys: &[K], mut test: P) -> usize
 {
     let mut from = 0;
     let mut left = keys.len();
-    'halves: for _ in 0..HALVES {
+    'halves: for _ in 0..TIMES {
         let half = left / 2;
         if test(&keys[from + half]) {
             from += half;
@@ -51,6 +54,18 @@ fn long_front_len<K, P: FnMut(&K) -> bool>(keys: &[K], mut test: P) -> usize
         left -= half;
     }
     from + part(keys, from..from + left).partition_point(test)
+}
+
+/// `front_len` of many keys.
+#[inline(never)]
+fn long_front_len<K, P: FnMut(&K) -> bool>(keys: &[K], test: P) -> usize
+    requires callable { P.IsAlwaysCallable test }
+    requires some { 0 < length keys.now }
+    ensures bound { result ≤ length keys.now }
+    ensures partitioned { (p : K → Bool) → ComputesKey P.FnMut p test → IsPartitionedBy p keys.now
+        → IsPartitionPoint (λ k. p k ≡ true) (λ k. p k ≡ false) keys.now result }
+{
+    by_halves::<K, P, HALVES>(keys, test)
 }
 
 /// How many keys in front meet a test that no others meet.
@@ -94,6 +109,26 @@ fn part<T>(items: &[T], range: Range<usize>) -> &[T]
     ensures { result.now ≡ slice_range items.now range.start range.end }
 {
     &items[range]
+}
+
+/// Whether a place of some sorted keys has one, and it is below a key.
+fn is_below<K: Ord>(keys: &[K], place: usize, key: &K) -> bool
+    requires { IsSorted K.cmp keys.now }
+    ensures { Decides result (place < count_below K.cmp keys.now key.now) }
+{
+    place < keys.len() && keys[place].cmp(key).is_lt()
+}
+
+/// How many of some sorted keys are below a key: two compares where it is as many as guessed.
+fn bound_near<K: Ord>(keys: &[K], guess: usize, key: &K) -> usize
+    requires { IsSorted K.cmp keys.now }
+    ensures within { result ≤ length keys.now }
+    ensures count { result ≡ count_below K.cmp keys.now key.now }
+{
+    if !is_below(keys, guess, key) && (guess == 0 || is_below(keys, guess - 1, key)) {
+        return guess;
+    }
+    lower_bound(keys, key)
 }
 
 /// Whether a place of some sorted keys has one, and it isn't above a key.
@@ -460,6 +495,33 @@ impl<K: Ord + Copy, V: Drop> Partition<K, V> {
         ensures { result.now ≡ run_of K.cmp self.now.pairs key.now }
     {
         part(self.values.as_slice(), self.run_range(key))
+    }
+
+    /// How many of so many keys in front are below a key, which `values_near` takes for a guess. No step is a branch, so that searches of
+    /// several partitions overlap.
+    #[inline(always)]
+    pub(crate) fn guess(&self, key: &K, seen: usize) -> usize
+        ensures { result ≤ seen }
+    {
+        let keys = self.keys.as_slice();
+        let front = part(keys, 0..seen.min(keys.len()));
+        if front.is_empty() {
+            return 0;
+        }
+        if front.len() > FEW {
+            return long_front_len(front, |k| k.cmp(key).is_lt());
+        }
+        by_halves::<K, _, FEW_HALVES>(front, |k| k.cmp(key).is_lt())
+    }
+
+    /// `values`, where so many keys are guessed to be below the key.
+    #[inline]
+    pub(crate) fn values_near(&self, guess: usize, key: &K) -> &[V]
+        ensures { result.now ≡ run_of K.cmp self.now.pairs key.now }
+    {
+        let keys = self.keys.as_slice();
+        let start = bound_near(keys, guess, key);
+        part(self.values.as_slice(), start..run_end(keys, start, key))
     }
 
     /// All values, in the order of their keys.

@@ -2,8 +2,8 @@ use Rattle.std.proofs.Common.{◌≡◌, ◌+◌, ◌/◌, List, length, true, f
 use Rattle.std.specs.List.Sorted.{IsPartitionedBy, IsPartitionPoint}
 use borrow.Author.Rules.{of_calls}
 use Rattle.key_index_parts.proofs.pairs.SearchLemmas.{answers_next, count_within, length-filter_above, length-filter_at_most, point_in_part}
-use Rattle.key_index_parts.proofs.index.partitioned.ordered.partition.long_front_len.Goals as goal
-use Rattle.key_index_parts.proofs.index.partitioned.ordered.partition.long_front_len.Goals.{then-test, else-test}
+use Rattle.key_index_parts.proofs.index.partitioned.ordered.partition.by_halves.Goals as goal
+use Rattle.key_index_parts.proofs.index.partitioned.ordered.partition.by_halves.Goals.{then-test, else-test}
 
 pub halves-init : goal.halves-init
 halves-init g c = record {

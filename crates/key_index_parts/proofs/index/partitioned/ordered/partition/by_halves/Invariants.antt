@@ -3,7 +3,7 @@ use denote.Param.Always.{always_mut}
 use Rattle.std.specs.Fn.{ComputesKey}
 use Rattle.std.specs.List.{filter}
 use Rattle.std.specs.List.Sorted.{IsPartitionedBy}
-use Rattle.key_index_parts.proofs.index.partitioned.ordered.partition.long_front_len.Given as goal
+use Rattle.key_index_parts.proofs.index.partitioned.ordered.partition.by_halves.Given as goal
 
 -- those in front that are counted, and among how many behind them the last of all that are stands
 abbrev pub invariant-halves : goal.invariant-halves
