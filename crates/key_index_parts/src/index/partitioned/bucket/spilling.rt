@@ -200,7 +200,7 @@ impl<T: Translator, V: Drop> ReadBucket<T, V> for Spilling<T, V> {
         }
     }
 
-    #[inline]
+    #[inline(always)]
     fn get(&self, key: T::Key) -> Values<'_, V> {
         match self.tree() {
             Some(tree) => tree.get(key),

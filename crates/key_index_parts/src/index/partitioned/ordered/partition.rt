@@ -56,18 +56,6 @@ fn by_halves<K, P: FnMut(&K) -> bool, const TIMES: usize>(keys: &[K], mut test: 
     from + part(keys, from..from + left).partition_point(test)
 }
 
-/// `front_len` of many keys.
-#[inline(never)]
-fn long_front_len<K, P: FnMut(&K) -> bool>(keys: &[K], test: P) -> usize
-    requires callable { P.IsAlwaysCallable test }
-    requires some { 0 < length keys.now }
-    ensures bound { result ≤ length keys.now }
-    ensures partitioned { (p : K → Bool) → ComputesKey P.FnMut p test → IsPartitionedBy p keys.now
-        → IsPartitionPoint (λ k. p k ≡ true) (λ k. p k ≡ false) keys.now result }
-{
-    by_halves::<K, P, HALVES>(keys, test)
-}
-
 /// How many keys in front meet a test that no others meet.
 #[inline(always)]
 fn front_len<K, P: FnMut(&K) -> bool>(keys: &[K], test: P) -> usize
@@ -77,7 +65,7 @@ fn front_len<K, P: FnMut(&K) -> bool>(keys: &[K], test: P) -> usize
         → IsPartitionPoint (λ k. p k ≡ true) (λ k. p k ≡ false) keys.now result }
 {
     if keys.len() > FEW {
-        return long_front_len(keys, test);
+        return by_halves::<K, P, HALVES>(keys, test);
     }
     keys.partition_point(test)
 }
@@ -481,7 +469,6 @@ impl<K: Ord + Copy, V: Drop> Partition<K, V> {
     }
 
     /// The places of the pairs of a key. Where it has none, they begin and end where a pair of it belongs.
-    #[inline(always)]
     pub fn run_range(&self, key: &K) -> Range<usize>
         ensures { IsFound K.cmp self.now.pairs key.now result.start result.end }
     {
@@ -509,7 +496,7 @@ impl<K: Ord + Copy, V: Drop> Partition<K, V> {
             return 0;
         }
         if front.len() > FEW {
-            return long_front_len(front, |k| k.cmp(key).is_lt());
+            return by_halves::<K, _, HALVES>(front, |k| k.cmp(key).is_lt());
         }
         by_halves::<K, _, FEW_HALVES>(front, |k| k.cmp(key).is_lt())
     }
