@@ -8,14 +8,19 @@
 --     length-filter_above, length-filter_at_most  whether a place is below the count of those that pass
 --     count_behind, count_before                  that count by those from a place on, and by those up to one
 --     count_within                                it is no more than all
+--     point_in_part                               the partition point of a part that has that of all
+--     answers_next                                what a closure answers that always answers so
 --     below_upto, last_uncounted                  the counts of a key, and of the last
 use Rattle.std.proofs.Common.{◌≡◌, ℕ, suc, ◌+◌, ◌<◌, ◌≤◌, Bool, true, false, cond, T, List, [], ◌∷◌, length, ◌⊎◌, All, take, drop, inl, inr, refl, sym, ap, subst, ◌∙◌, arith, zero, get_or, ◌-◌, slice_get, Some}
 use Rattle.std.specs.declared.cmp.Ordering.{Ordering}
 use Rattle.std.specs.declared.cmp.Ordering.TheVariants.{Less, Equal, Greater}
 use Rattle.std.specs.Ordering.{is_lt, is_le, ordering_reverse}
 use Rattle.std.specs.Cmp.{IsTotalOrder, alike_right, tied_itself}
-use Rattle.std.specs.List.{filter, remove_range}
+use denote.Param.Members.{Mut}
+use Rattle.std.specs.Fn.{Called, AlwaysReturns}
+use Rattle.std.specs.List.{filter, remove_range, slice_range}
 use Rattle.std.specs.List.Sorted.{IsSorted, IsPartitionedBy, IsPartitionPoint}
+use Rattle.std.proofs.lemmas.List.{get_or-take, get_or-drop, length-take, length-drop}
 use Rattle.std.proofs.lemmas.List.Sorted.{ranks_by, sorted_far}
 use Rattle.std.proofs.lemmas.Option.{get_or_from_slice_get, slice_get_within}
 use Rattle.key_index_parts.specs.Pairs.{count_below, count_upto}
@@ -218,6 +223,47 @@ module _ {X : Type 0} (p : X → Bool) where
         | true ↦ omega (arith, rest)
         | false ↦ omega (arith, rest)
       ]
+
+  -- a search that goes on in a part of what it searches
+  Parted-take : (n : ℕ) (xs : List X) → Parted xs → Parted (take n xs)
+  Parted-take n xs h i j d le l e =
+      let most = length-take n xs in
+      ap p (get_or-take n xs i d (omega (arith, most, l, le))) ∙ h i j d le (omega (arith, most, l)) (ap p (sym (get_or-take n xs j d (omega (arith, most, l)))) ∙ e)
+
+  Parted-drop : (n : ℕ) (xs : List X) → Parted xs → Parted (drop n xs)
+  Parted-drop n xs h i j d le l e =
+      let left = length-drop n xs in
+      ap p (get_or-drop n xs i d) ∙ h (n + i) (n + j) d (omega (arith, le)) (omega (arith, left, l)) (ap p (sym (get_or-drop n xs j d)) ∙ e)
+
+  filter-point : (xs : List X) (i : ℕ) → Parted xs → i ≡ length (filter p xs) → IsPartitionPoint (λ x. p x ≡ true) (λ x. p x ≡ false) xs i
+  filter-point xs i h e =
+      let most = count_within xs in (
+        λ k d _ l. elim (p (get_or xs k d)) as (λ b. p (get_or xs k d) ≡ b → b ≡ true) [
+          | true ↦ λ _. refl
+          | false ↦ λ q. let few = length-filter_at_most xs k d h (omega (arith, most, l, e)) q in absurd (omega (arith, few, l, e))
+        ] refl,
+        λ k d l m. elim (p (get_or xs k d)) as (λ b. p (get_or xs k d) ≡ b → b ≡ false) [
+          | true ↦ λ q. let more = length-filter_above xs k d h m q in absurd (omega (arith, more, l, e))
+          | false ↦ λ _. refl
+        ] refl,
+      )
+
+  -- the partition point of a part is that of all where the part has it
+  pub point_in_part : (xs : List X) (from left i : ℕ) → Parted xs → from ≤ length (filter p xs) → length (filter p xs) ≤ from + left
+      → i ≤ length (slice_range xs from (from + left))
+      → (Parted (slice_range xs from (from + left)) → IsPartitionPoint (λ x. p x ≡ true) (λ x. p x ≡ false) (slice_range xs from (from + left)) i)
+      → IsPartitionPoint (λ x. p x ≡ true) (λ x. p x ≡ false) xs (from + i)
+  point_in_part xs from left i h low high bound at =
+      let behind = Parted-drop from xs h in
+      let all = count_behind xs from h low in
+      let front = count_before (drop from xs) (from + left - from) behind (omega (arith, all, high)) in
+      let point = length-filter-point p _ i bound (at (Parted-take (from + left - from) (drop from xs) behind)) in
+      filter-point xs (from + i) h (omega (arith, all, front, point))
+
+module _ {F X R : Type 0} (g : Mut F X R) (P : X → R → Type 0) where
+  -- what a closure answers, and that it goes on so
+  pub answers_next : (f : F) (a : X) (r : R) (f' : F) → Called g f a r f' → AlwaysReturns g P f → P a r × AlwaysReturns g P f'
+  answers_next f a r f' c h = ((h.at (a ∷ []) r f' c).0, record { at = λ xs. (h.at (a ∷ xs) r f' c).1 })
 
 module _ {K : Type 0} {cmp : K → K → Ordering} (o : IsTotalOrder cmp) where
   pub below_upto : (ks : List K) (k : K) → count_below cmp ks k ≤ count_upto cmp ks k

@@ -13,6 +13,7 @@ ghost use Rattle.key_index_parts.specs.Prefix.{partition_count};
 ghost use Rattle.key_index_parts.specs.Standing.{GrowsIn, LeavesIn, SpillsIn, is_reached_by, is_small_by, spilled_in, standing_in, with_inline};
 
 use super::bitmap::Bitmap;
+use super::bucket::spilling::Spilling;
 use super::bucket::{Bucket, EditBucket, Held, OrderedBucket, ReadBucket};
 use key_index_flat::index::implement::Retained;
 use key_index_flat::index::{Fault, Values};
@@ -438,6 +439,30 @@ impl<T: Translator, V: Drop, X: Bucket<T, V> + Drop> Directory<T, V, X> {
         let holds = !bucket.is_empty();
         self.filled.set(slot.0, holds);
         Ok(told)
+    }
+}
+
+impl<T: Translator, V: Drop> Directory<T, V, Spilling<T, V>> {
+    /// A guess where the slot's values stand in their bucket, which has so many in arrays.
+    #[inline(always)]
+    pub(super) fn guess(&self, slot: (usize, T::Key), seen: usize) -> usize
+        ensures { result ≤ seen }
+    {
+        match self.buckets.get(slot.0) {
+            Some(bucket) => bucket.guess(slot.1, seen),
+            None => 0,
+        }
+    }
+
+    /// `list_at`, by a guess.
+    #[inline(always)]
+    pub(super) fn list_near(&self, slot: (usize, T::Key), guess: usize) -> Values<'_, V>
+        ensures { result ≡ list_in T.Key.cmp self.now.contents slot }
+    {
+        match self.buckets.get(slot.0) {
+            Some(bucket) => bucket.get_near(slot.1, guess),
+            None => Values::of_slice(&[]),
+        }
     }
 }
 

@@ -8,18 +8,20 @@ ghost use Rattle.key_index_parts.specs.Standing.{LeavesSome, Refuses, Resettles,
 
 mod ahead;
 pub mod partition;
+mod together;
 
 use super::bucket::spilling::Spilling;
 use super::storage::Storage;
 use super::{PartitionRange, Partitioned, partition_index_and_sub_key, range};
 pub use ahead::{Ahead, same_visits, show_ahead, visit_ahead};
-use key_index_flat::index::implement::{Lists, show_by_key, visit_by_key};
+use key_index_flat::index::implement::{Lists, probes_by_key, visit_by_key};
 use key_index_flat::index::{
     Factory, Fault, IndexCursor, Ordered, Refused, Runs, Search, Unordered, Values,
 };
 use key_index_flat::translator::{OrderedTranslator, Translator};
 use std::alloc::Global;
 use std::convert::AsSlice;
+use together::show_together;
 
 /// At how many values a partition of an index made by `new` spills.
 const THRESHOLD: usize = 512;
@@ -370,7 +372,9 @@ impl<T: Translator, V: Drop, const P: usize> Unordered for Index<T, V, P> {
             (pair_cmp T.Key.cmp) (view self.now) F.FnMut visit) }
         ensures fault { IfErr result (λ f. f ≡ Fault.Memory) }
     {
-        show_by_key(self.storage.alloc(), self, keys, visit)
+        let probes = probes_by_key(self.storage.alloc(), self, keys)?;
+        show_together(self, &probes, visit);
+        Ok(())
     }
 
     #[inline]

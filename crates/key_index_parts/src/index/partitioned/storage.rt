@@ -14,6 +14,7 @@ ghost use Rattle.key_index_parts.specs.Moves.{IsRangeWithin, IsWithin, entries_i
 ghost use Rattle.key_index_parts.specs.Prefix.{partition_count, slot_by};
 ghost use Rattle.key_index_parts.specs.Standing.{Leaves, MovesBack, Resettles, Settles, entries_at, inline_len, is_reached, joined_standings, new_standings, spilled_in, standing_at, standings_of};
 
+use super::bucket::spilling::Spilling;
 use super::bucket::{Bucket, EditBucket, Held, OrderedBucket, ReadBucket};
 use super::counts::{Counts, Moves};
 use super::directory::Directory;
@@ -637,6 +638,24 @@ impl<T: Translator, V: Drop, X: Bucket<T, V> + Drop, const P: usize> Storage<T, 
             }
             Err(fault) => Err(fault),
         }
+    }
+}
+
+impl<T: Translator, V: Drop, const P: usize> Storage<T, V, Spilling<T, V>, P> {
+    /// A guess where the slot's values stand in their bucket, which has so many in arrays.
+    #[inline(always)]
+    pub(super) fn guess(&self, slot: (usize, T::Key), seen: usize) -> usize
+        ensures { result ≤ seen }
+    {
+        self.buckets.guess(slot, seen)
+    }
+
+    /// `list_at`, by a guess.
+    #[inline(always)]
+    pub(super) fn list_near(&self, slot: (usize, T::Key), guess: usize) -> Values<'_, V>
+        ensures { result ≡ held_at T.Key.cmp self.now.buckets slot }
+    {
+        self.buckets.list_near(slot, guess)
     }
 }
 

@@ -1,6 +1,6 @@
 //! A bucket as sorted arrays.
 ghost use Rattle.std.specs.Prelude.{◌≡◌, [], false};
-ghost use Rattle.key_index_flat.specs.Content.{item_count};
+ghost use Rattle.key_index_flat.specs.Content.{item_count, list_at};
 ghost use Rattle.key_index_parts.specs.Pairs.{grouped};
 
 use super::{EditBucket, Form, Held, OrderedBucket, ReadBucket};
@@ -32,6 +32,14 @@ impl<T: Translator, V: Drop> Arrays<T, V> {
     #[inline]
     pub(super) fn alloc(&self) -> Global {
         self.pairs.alloc()
+    }
+
+    /// `get`, by a guess how many keys are below.
+    #[inline]
+    pub(super) fn get_near(&self, key: T::Key, guess: usize) -> Values<'_, V>
+        ensures { result ≡ list_at T.Key.cmp (grouped T.Key.cmp self.now.pairs.pairs) key }
+    {
+        Values::of_slice(self.pairs.values_near(guess, &key))
     }
 
     /// How many values stand in the arrays.

@@ -1,7 +1,7 @@
 //! A bucket as sorted arrays or, spilled, as a tree.
 ghost use Rattle.std.specs.Prelude.{◌≡◌, ◌≤◌, ◌<◌, ◌++◌, ◌&&◌, true, false, not, is_some, None, MatchOption, [], IfOk, OnOk, OnErr};
 ghost use Rattle.std.specs.Bool.{OnTrue};
-ghost use Rattle.key_index_flat.specs.Content.{IsLawful, is_filled, item_count};
+ghost use Rattle.key_index_flat.specs.Content.{IsLawful, is_filled, item_count, list_at};
 ghost use Rattle.key_index_parts.specs.Family.{stays_spilled};
 ghost use Rattle.key_index_parts.specs.Pairs.{grouped};
 ghost use Rattle.key_index_parts.specs.Spread.{AreBelow, spread};
@@ -169,6 +169,28 @@ impl<T: Translator, V: Drop> Spilling<T, V> {
     }
 }
 
+impl<T: Translator, V: Drop> Spilling<T, V> {
+    /// A guess how many keys of the arrays are below a key, where they have so many.
+    #[inline(always)]
+    pub(crate) fn guess(&self, key: T::Key, seen: usize) -> usize
+        ensures { result ≤ seen }
+    {
+        self.arrays.pairs.guess(&key, seen)
+    }
+
+    /// `get`, by a guess where the values begin.
+    #[inline(always)]
+    pub(crate) fn get_near(&self, key: T::Key, guess: usize) -> Values<'_, V>
+        ensures { result ≡ list_at T.Key.cmp (held_by (λ t. t.lists) self.now.tree
+            (grouped T.Key.cmp self.now.arrays.pairs.pairs)) key }
+    {
+        match self.tree() {
+            Some(tree) => tree.get(key),
+            None => self.arrays.get_near(key, guess),
+        }
+    }
+}
+
 impl<T: Translator, V: Drop> ReadBucket<T, V> for Spilling<T, V> {
     #[inline]
     fn is_empty(&self) -> bool {
@@ -178,7 +200,7 @@ impl<T: Translator, V: Drop> ReadBucket<T, V> for Spilling<T, V> {
         }
     }
 
-    #[inline]
+    #[inline(always)]
     fn get(&self, key: T::Key) -> Values<'_, V> {
         match self.tree() {
             Some(tree) => tree.get(key),

@@ -1,9 +1,9 @@
 //! One partition: its keys in order, and beside each key a value.
-ghost use Rattle.std.specs.Prelude.{◌≡◌, ◌+◌, ◌-◌, ◌<◌, ◌≤◌, List, [], ◌++◌, ◌∷◌, All, true, false, replicate, length, min, slice_get, insert, remove, Some, IsOk, IfOk, IfErr, OnOk, OnErr, map, take, drop, vec_len};
+ghost use Rattle.std.specs.Prelude.{◌≡◌, ◌+◌, ◌-◌, ◌<◌, ◌≤◌, List, [], ◌++◌, ◌∷◌, All, Bool, true, false, replicate, length, min, slice_get, insert, remove, Some, IsOk, IfOk, IfErr, OnOk, OnErr, map, take, drop, vec_len};
 ghost use Rattle.std.specs.Bool.{◌==◌, Decides};
-ghost use Rattle.std.specs.Fn.{CalledAt};
+ghost use Rattle.std.specs.Fn.{CalledAt, ComputesKey};
 ghost use Rattle.std.specs.List.{flat_map, zip, slice_range, remove_range};
-ghost use Rattle.std.specs.List.Sorted.{IsSorted};
+ghost use Rattle.std.specs.List.Sorted.{IsSorted, IsPartitionedBy, IsPartitionPoint};
 ghost use Rattle.std.specs.Map.{keys_of, values_of};
 ghost use Rattle.std.specs.Option.{option_copied};
 ghost use Rattle.std.specs.Ordering.{is_lt};
@@ -26,22 +26,68 @@ use std::ops::Range;
 use std::slice;
 use std::vec::IntoIter;
 
+/// Up to how many keys a search is std's, which makes a branch of each step, so that the next key is read before the step's outcome is known.
+const FEW: usize = 32;
+
+/// How many halvings leave one of so few keys.
+const FEW_HALVES: usize = 5;
+
+/// How often a search of more keys halves them. It leaves one of 511.
+const HALVES: usize = 9;
+
+/// `front_len` of some keys, by so many halvings. The compiler writes all of them out, which it needs to make no branch of one.
+#[inline(always)]
+fn by_halves<K, P: FnMut(&K) -> bool, const TIMES: usize>(keys: &[K], mut test: P) -> usize
+    requires callable { P.IsAlwaysCallable test }
+    requires some { 0 < length keys.now }
+    ensures bound { result ≤ length keys.now }
+    ensures partitioned { (p : K → Bool) → ComputesKey P.FnMut p test → IsPartitionedBy p keys.now
+        → IsPartitionPoint (λ k. p k ≡ true) (λ k. p k ≡ false) keys.now result }
+{
+    let mut from = 0;
+    let mut left = keys.len();
+    'halves: for _ in 0..TIMES {
+        let half = left / 2;
+        if test(&keys[from + half]) {
+            from += half;
+        }
+        left -= half;
+    }
+    from + part(keys, from..from + left).partition_point(test)
+}
+
+/// How many keys in front meet a test that no others meet.
+#[inline(always)]
+fn front_len<K, P: FnMut(&K) -> bool>(keys: &[K], test: P) -> usize
+    requires { P.IsAlwaysCallable test }
+    ensures bound { result ≤ length keys.now }
+    ensures partitioned { (p : K → Bool) → ComputesKey P.FnMut p test → IsPartitionedBy p keys.now
+        → IsPartitionPoint (λ k. p k ≡ true) (λ k. p k ≡ false) keys.now result }
+{
+    if keys.len() > FEW {
+        return by_halves::<K, P, HALVES>(keys, test);
+    }
+    keys.partition_point(test)
+}
+
 /// How many of some sorted keys are below a key.
+#[inline(always)]
 fn lower_bound<K: Ord>(keys: &[K], key: &K) -> usize
     requires { IsSorted K.cmp keys.now }
     ensures within { result ≤ length keys.now }
     ensures count { result ≡ count_below K.cmp keys.now key.now }
 {
-    keys.partition_point(|k| k.cmp(key).is_lt())
+    front_len(keys, |k| k.cmp(key).is_lt())
 }
 
 /// How many of some sorted keys are not above a key.
+#[inline(always)]
 fn upper_bound<K: Ord>(keys: &[K], key: &K) -> usize
     requires { IsSorted K.cmp keys.now }
     ensures within { result ≤ length keys.now }
     ensures count { result ≡ count_upto K.cmp keys.now key.now }
 {
-    keys.partition_point(|k| k.cmp(key).is_le())
+    front_len(keys, |k| k.cmp(key).is_le())
 }
 
 /// The items in a range of places.
@@ -51,6 +97,26 @@ fn part<T>(items: &[T], range: Range<usize>) -> &[T]
     ensures { result.now ≡ slice_range items.now range.start range.end }
 {
     &items[range]
+}
+
+/// Whether a place of some sorted keys has one, and it is below a key.
+fn is_below<K: Ord>(keys: &[K], place: usize, key: &K) -> bool
+    requires { IsSorted K.cmp keys.now }
+    ensures { Decides result (place < count_below K.cmp keys.now key.now) }
+{
+    place < keys.len() && keys[place].cmp(key).is_lt()
+}
+
+/// How many of some sorted keys are below a key: two compares where it is as many as guessed.
+fn bound_near<K: Ord>(keys: &[K], guess: usize, key: &K) -> usize
+    requires { IsSorted K.cmp keys.now }
+    ensures within { result ≤ length keys.now }
+    ensures count { result ≡ count_below K.cmp keys.now key.now }
+{
+    if !is_below(keys, guess, key) && (guess == 0 || is_below(keys, guess - 1, key)) {
+        return guess;
+    }
+    lower_bound(keys, key)
 }
 
 /// Whether a place of some sorted keys has one, and it isn't above a key.
@@ -416,6 +482,33 @@ impl<K: Ord + Copy, V: Drop> Partition<K, V> {
         ensures { result.now ≡ run_of K.cmp self.now.pairs key.now }
     {
         part(self.values.as_slice(), self.run_range(key))
+    }
+
+    /// How many of so many keys in front are below a key, which `values_near` takes for a guess. No step is a branch, so that searches of
+    /// several partitions overlap.
+    #[inline(always)]
+    pub(crate) fn guess(&self, key: &K, seen: usize) -> usize
+        ensures { result ≤ seen }
+    {
+        let keys = self.keys.as_slice();
+        let front = part(keys, 0..seen.min(keys.len()));
+        if front.is_empty() {
+            return 0;
+        }
+        if front.len() > FEW {
+            return by_halves::<K, _, HALVES>(front, |k| k.cmp(key).is_lt());
+        }
+        by_halves::<K, _, FEW_HALVES>(front, |k| k.cmp(key).is_lt())
+    }
+
+    /// `values`, where so many keys are guessed to be below the key.
+    #[inline]
+    pub(crate) fn values_near(&self, guess: usize, key: &K) -> &[V]
+        ensures { result.now ≡ run_of K.cmp self.now.pairs key.now }
+    {
+        let keys = self.keys.as_slice();
+        let start = bound_near(keys, guess, key);
+        part(self.values.as_slice(), start..run_end(keys, start, key))
     }
 
     /// All values, in the order of their keys.

@@ -7,5 +7,5 @@ use Rattle.key_index_parts.proofs.index.partitioned.ordered.partition.lower_boun
 pub returns-clause-count : goal.returns-clause-count
 returns-clause-count g c =
     let sorted = lower_partitions g.met.K.Ord.total c.args.keys.now c.args.key.now c.requires in
-    length-filter-point (λ k. is_lt (g.K.Ord.cmp k c.args.key.now)) _ _ c.partition_point.ensures.bound
-    (IsPartitionPoint-from_clause (λ k. is_lt (g.K.Ord.cmp k c.args.key.now)) _ _ c.partition_point.ensures.partitioned sorted (λ a r f' k. search rules))
+    length-filter-point (λ k. is_lt (g.K.Ord.cmp k c.args.key.now)) _ _ c.front_len.ensures.bound
+    (IsPartitionPoint-from_clause (λ k. is_lt (g.K.Ord.cmp k c.args.key.now)) _ _ c.front_len.ensures.partitioned sorted (λ a r f' k. search rules))
