@@ -1,5 +1,6 @@
 //! Batches of keys: one by one, at once, and looking ahead.
 use crate::flat::{self, Failure};
+use crate::keys::Sample;
 use crate::report::Meter;
 use key_index_flat::index::Fault;
 use key_index_flat::translator::EightCap;
@@ -40,15 +41,18 @@ fn both<M: Meter>(
 }
 
 /// Measures the batches of an index of all keys.
-pub(crate) fn run<M: Meter>(
-    alloc: Global,
-    keys: &[[u8; 32]],
-    report: &mut M,
-) -> Result<(), Failure> {
+pub(crate) fn run<M: Meter>(alloc: Global, keys: &Sample, report: &mut M) -> Result<(), Failure> {
     let mut index = flat::make::<Index, M>(alloc, EightCap, report)?;
-    flat::insert(&mut index, keys, report)?;
-    flat::get(&index, "get", keys, report)?;
-    both(&index, ("many10", "ahead10"), 10, keys, report)?;
-    both(&index, ("many1000", "ahead1000"), 1000, keys, report)?;
-    both(&index, ("many100000", "ahead100000"), 100_000, keys, report)
+    flat::insert(&mut index, &keys.present, report)?;
+    let later = &keys.later;
+    flat::get(&index, "get", later, report)?;
+    both(&index, ("many10", "ahead10"), 10, later, report)?;
+    both(&index, ("many1000", "ahead1000"), 1000, later, report)?;
+    both(
+        &index,
+        ("many100000", "ahead100000"),
+        100_000,
+        later,
+        report,
+    )
 }

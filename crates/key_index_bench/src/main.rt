@@ -19,7 +19,7 @@ use key_index::snapshot::Record;
 use key_index_flat::index::{Factory, Fault, Ordered, ordered, unordered};
 use key_index_flat::translator::{EightCap, Hashed, SeededSha256};
 use key_index_parts::index::partitioned::{self, Partitioned};
-use keys::{ABSENT, PRESENT, keys};
+use keys::{Order, Sample};
 use report::{Meter, Report};
 use std::alloc::Global;
 use std::collections::{BTreeMap, HashMap};
@@ -83,17 +83,29 @@ enum Measured {
     Batches,
 }
 
-/// The kind, the number of keys and the operations that the arguments name.
-fn arguments(words: &[String]) -> Option<(Kind, usize, Measured)> {
-    let (kind, count, measured) = match words {
-        [kind, count] => (kind, count, Measured::Calls),
-        [kind, count, last] => match last.as_str() {
-            "build" => (kind, count, Measured::Build),
-            "snapshot" => (kind, count, Measured::Snapshot),
-            "spills" => (kind, count, Measured::Spills),
-            "batches" => (kind, count, Measured::Batches),
-            _ => return None,
-        },
+/// What the arguments ask for.
+#[derive(Clone, Copy)]
+struct Run {
+    kind: Kind,
+    count: usize,
+    order: Order,
+    measured: Measured,
+}
+
+/// The run that the arguments ask for.
+fn arguments(words: &[String]) -> Option<Run> {
+    let (kind, count, last) = match words {
+        [kind, count] => (kind, count, "shuffled"),
+        [kind, count, last] => (kind, count, last.as_str()),
+        _ => return None,
+    };
+    let (order, measured) = match last {
+        "shuffled" => (Order::Shuffled, Measured::Calls),
+        "inserted" => (Order::Inserted, Measured::Calls),
+        "build" => (Order::Shuffled, Measured::Build),
+        "snapshot" => (Order::Shuffled, Measured::Snapshot),
+        "spills" => (Order::Shuffled, Measured::Spills),
+        "batches" => (Order::Shuffled, Measured::Batches),
         _ => return None,
     };
     let kind = match kind.as_str() {
@@ -112,7 +124,12 @@ fn arguments(words: &[String]) -> Option<(Kind, usize, Measured)> {
         _ => return None,
     };
     match count.as_str().parse::<usize>() {
-        Ok(count) => Some((kind, count, measured)),
+        Ok(count) => Some(Run {
+            kind,
+            count,
+            order,
+            measured,
+        }),
         Err(_) => None,
     }
 }
@@ -121,22 +138,21 @@ fn arguments(words: &[String]) -> Option<(Kind, usize, Measured)> {
 fn run_unordered<I: Factory<Value = u64> + Drop, M: Meter>(
     alloc: Global,
     translator: I::Translator,
-    present: &[[u8; 32]],
-    absent: &[[u8; 32]],
+    keys: &Sample,
     report: &mut M,
 ) -> Result<(), Failure>
 where
     I::Translator: Copy,
     requires { I.makes }
 {
-    let few = &present[..present.len() / 10];
-    let half = &present[..present.len() / 2];
+    let few = &keys.later[..keys.later.len() / 10];
+    let half = &keys.later[..keys.later.len() / 2];
     let mut index = flat::make::<I, M>(alloc, translator, report)?;
-    flat::insert(&mut index, present, report)?;
-    flat::get(&index, "get", present, report)?;
-    flat::many(&index, "many", flat::BATCH, present, report)?;
-    flat::get(&index, "miss", absent, report)?;
-    flat::update(&mut index, present, report)?;
+    flat::insert(&mut index, &keys.present, report)?;
+    flat::get(&index, "get", &keys.later, report)?;
+    flat::many(&index, "many", flat::BATCH, &keys.later, report)?;
+    flat::get(&index, "miss", &keys.absent, report)?;
+    flat::update(&mut index, &keys.later, report)?;
     flat::collide(&mut index, few, report)?;
     flat::retain(&mut index, few, report)?;
     flat::remove(&mut index, half, report)
@@ -160,20 +176,19 @@ fn run_gap<I: Factory<Translator = EightCap, Value = u64> + Ordered + Drop, M: M
 /// Measures an index of all keys, which are in order.
 fn run_all_keys<I: Factory<Translator = EightCap, Value = u64> + Ordered + Drop, M: Meter>(
     alloc: Global,
-    present: &[[u8; 32]],
-    absent: &[[u8; 32]],
+    keys: &Sample,
     report: &mut M,
 ) -> Result<(), Failure>
     requires { I.makes }
 {
-    let few = &present[..present.len() / 10];
-    let half = &present[..present.len() / 2];
+    let few = &keys.later[..keys.later.len() / 10];
+    let half = &keys.later[..keys.later.len() / 2];
     let mut index = flat::make::<I, M>(alloc, EightCap, report)?;
-    flat::insert(&mut index, present, report)?;
-    flat::get(&index, "get", present, report)?;
-    flat::many(&index, "many", flat::BATCH, present, report)?;
-    flat::get(&index, "miss", absent, report)?;
-    flat::update(&mut index, present, report)?;
+    flat::insert(&mut index, &keys.present, report)?;
+    flat::get(&index, "get", &keys.later, report)?;
+    flat::many(&index, "many", flat::BATCH, &keys.later, report)?;
+    flat::get(&index, "miss", &keys.absent, report)?;
+    flat::update(&mut index, &keys.later, report)?;
     flat::next(&index, few, report)?;
     flat::collide(&mut index, few, report)?;
     flat::retain(&mut index, few, report)?;
@@ -184,65 +199,49 @@ fn run_all_keys<I: Factory<Translator = EightCap, Value = u64> + Ordered + Drop,
 /// programs do.
 fn run_ordered<I: Factory<Translator = EightCap, Value = u64> + Ordered + Drop, M: Meter>(
     alloc: Global,
-    present: &[[u8; 32]],
-    absent: &[[u8; 32]],
+    keys: &Sample,
     report: &mut M,
 ) -> Result<(), Failure>
     requires { I.makes }
 {
-    run_all_keys::<I, M>(alloc, present, absent, report)?;
-    run_gap::<I, M>(alloc, present, report)
+    run_all_keys::<I, M>(alloc, keys, report)?;
+    run_gap::<I, M>(alloc, &keys.present, report)
 }
 
 /// Measures the immutable index.
-fn run_immutable<M: Meter>(
-    alloc: Global,
-    present: &[[u8; 32]],
-    absent: &[[u8; 32]],
-    report: &mut M,
-) -> Result<(), Failure> {
+fn run_immutable<M: Meter>(alloc: Global, keys: &Sample, report: &mut M) -> Result<(), Failure> {
     let start = report.start()?;
     let mut index = match immutable::Index::new(alloc, EightCap, 0, 0) {
         Ok(index) => index,
         Err(fault) => return Err(Failure::Refused(fault)),
     };
     report.line("new", 1, start, 0)?;
-    positions::insert(&mut index, present, report)?;
-    positions::get(&index, "get", present, report)?;
-    positions::get(&index, "miss", absent, report)?;
-    positions::prune(&mut index, present.len() / 2, report)
+    positions::insert(&mut index, &keys.present, report)?;
+    positions::get(&index, "get", &keys.later, report)?;
+    positions::get(&index, "miss", &keys.absent, report)?;
+    positions::prune(&mut index, keys.present.len() / 2, report)
 }
 
 /// Measures the hashed map.
-fn run_std_hash<M: Meter>(
-    alloc: Global,
-    present: &[[u8; 32]],
-    absent: &[[u8; 32]],
-    report: &mut M,
-) -> Result<(), Failure> {
-    let half = &present[..present.len() / 2];
+fn run_std_hash<M: Meter>(alloc: Global, keys: &Sample, report: &mut M) -> Result<(), Failure> {
+    let half = &keys.later[..keys.later.len() / 2];
     let mut map: HashMap<u64, u64> = HashMap::new(alloc);
-    maps::insert(&mut map, present, report)?;
-    maps::get(&map, "get", present, report)?;
-    maps::get(&map, "miss", absent, report)?;
-    maps::update(&mut map, present, report)?;
+    maps::insert(&mut map, &keys.present, report)?;
+    maps::get(&map, "get", &keys.later, report)?;
+    maps::get(&map, "miss", &keys.absent, report)?;
+    maps::update(&mut map, &keys.later, report)?;
     maps::remove(&mut map, half, report)
 }
 
 /// Measures the ordered map.
-fn run_std_tree<M: Meter>(
-    alloc: Global,
-    present: &[[u8; 32]],
-    absent: &[[u8; 32]],
-    report: &mut M,
-) -> Result<(), Failure> {
-    let few = &present[..present.len() / 10];
-    let half = &present[..present.len() / 2];
+fn run_std_tree<M: Meter>(alloc: Global, keys: &Sample, report: &mut M) -> Result<(), Failure> {
+    let few = &keys.later[..keys.later.len() / 10];
+    let half = &keys.later[..keys.later.len() / 2];
     let mut map: BTreeMap<u64, u64> = BTreeMap::new(alloc);
-    maps::insert(&mut map, present, report)?;
-    maps::get(&map, "get", present, report)?;
-    maps::get(&map, "miss", absent, report)?;
-    maps::update(&mut map, present, report)?;
+    maps::insert(&mut map, &keys.present, report)?;
+    maps::get(&map, "get", &keys.later, report)?;
+    maps::get(&map, "miss", &keys.absent, report)?;
+    maps::update(&mut map, &keys.later, report)?;
     maps::next(&map, few, report)?;
     maps::remove(&mut map, half, report)
 }
@@ -264,68 +263,56 @@ fn run_build<I: Factory<Translator = EightCap, Value = u64> + Partitioned + Drop
 /// Measures the calls of the partitioned unordered index.
 fn measure_punordered<const P: usize, M: Meter>(
     alloc: Global,
-    present: &[[u8; 32]],
-    absent: &[[u8; 32]],
+    keys: &Sample,
     report: &mut M,
 ) -> Result<(), Failure>
     requires least { 1 ≤ P }
     requires most { P ≤ 3 }
 {
     run_unordered::<partitioned::unordered::Index<EightCap, u64, P>, M>(
-        alloc, EightCap, present, absent, report,
+        alloc, EightCap, keys, report,
     )
 }
 
 /// Measures the calls of the partitioned ordered index.
 fn measure_pordered<const P: usize, M: Meter>(
     alloc: Global,
-    present: &[[u8; 32]],
-    absent: &[[u8; 32]],
+    keys: &Sample,
     report: &mut M,
 ) -> Result<(), Failure>
     requires least { 1 ≤ P }
     requires most { P ≤ 3 }
 {
-    run_ordered::<partitioned::ordered::Index<EightCap, u64, P>, M>(alloc, present, absent, report)
+    run_ordered::<partitioned::ordered::Index<EightCap, u64, P>, M>(alloc, keys, report)
 }
 
 /// Measures the calls of a kind.
 fn measure_calls<M: Meter>(
     alloc: Global,
     kind: Kind,
-    present: &[[u8; 32]],
-    absent: &[[u8; 32]],
+    keys: &Sample,
     report: &mut M,
 ) -> Result<(), Failure> {
     match kind {
         Kind::Unordered => run_unordered::<unordered::Index<EightCap, u64>, M>(
-            alloc, EightCap, present, absent, report,
+            alloc, EightCap, keys, report,
         ),
         Kind::Hashed => run_unordered::<HashedIndex, M>(
             alloc,
             Hashed::from_seed(SEED, EightCap),
-            present,
-            absent,
+            keys,
             report,
         ),
-        Kind::Ordered => run_ordered::<ordered::Index<EightCap, u64>, M>(
-            alloc, present, absent, report,
-        ),
-        Kind::PartitionedUnordered1 => {
-            measure_punordered::<1, M>(alloc, present, absent, report)
-        }
-        Kind::PartitionedUnordered2 => {
-            measure_punordered::<2, M>(alloc, present, absent, report)
-        }
-        Kind::PartitionedUnordered3 => {
-            measure_punordered::<3, M>(alloc, present, absent, report)
-        }
-        Kind::PartitionedOrdered1 => { measure_pordered::<1, M>(alloc, present, absent, report) }
-        Kind::PartitionedOrdered2 => { measure_pordered::<2, M>(alloc, present, absent, report) }
-        Kind::PartitionedOrdered3 => { measure_pordered::<3, M>(alloc, present, absent, report) }
-        Kind::Immutable => run_immutable(alloc, present, absent, report),
-        Kind::StdHash => run_std_hash(alloc, present, absent, report),
-        Kind::StdTree => run_std_tree(alloc, present, absent, report),
+        Kind::Ordered => run_ordered::<ordered::Index<EightCap, u64>, M>(alloc, keys, report),
+        Kind::PartitionedUnordered1 => { measure_punordered::<1, M>(alloc, keys, report) }
+        Kind::PartitionedUnordered2 => { measure_punordered::<2, M>(alloc, keys, report) }
+        Kind::PartitionedUnordered3 => { measure_punordered::<3, M>(alloc, keys, report) }
+        Kind::PartitionedOrdered1 => { measure_pordered::<1, M>(alloc, keys, report) }
+        Kind::PartitionedOrdered2 => { measure_pordered::<2, M>(alloc, keys, report) }
+        Kind::PartitionedOrdered3 => { measure_pordered::<3, M>(alloc, keys, report) }
+        Kind::Immutable => run_immutable(alloc, keys, report),
+        Kind::StdHash => run_std_hash(alloc, keys, report),
+        Kind::StdTree => run_std_tree(alloc, keys, report),
     }
 }
 
@@ -375,18 +362,15 @@ fn measure_build<M: Meter>(
 fn measure_snapshot<M: Meter>(
     alloc: Global,
     kind: Kind,
-    present: &[[u8; 32]],
-    absent: &[[u8; 32]],
+    keys: &Sample,
     report: &mut M,
 ) -> Result<(), Failure> {
     match kind {
         Kind::Ordered => snapshots::run_snapshot::<ordered::Index<EightCap, Record>, M>(
-            alloc, present, absent, report,
+            alloc, keys, report,
         ),
-        Kind::PartitionedOrdered2 => snapshots::run_both::<RecordIndex, M>(
-            alloc, present, absent, report,
-        ),
-        Kind::StdTree => snapshots::run_map(alloc, present, absent, report),
+        Kind::PartitionedOrdered2 => snapshots::run_both::<RecordIndex, M>(alloc, keys, report),
+        Kind::StdTree => snapshots::run_map(alloc, keys, report),
         _ => Ok(()),
     }
 }
@@ -408,33 +392,26 @@ fn measure_spills<M: Meter>(
 fn measure_batches<M: Meter>(
     alloc: Global,
     kind: Kind,
-    present: &[[u8; 32]],
+    keys: &Sample,
     report: &mut M,
 ) -> Result<(), Failure> {
     match kind {
-        Kind::PartitionedOrdered2 => batches::run(alloc, present, report),
+        Kind::PartitionedOrdered2 => batches::run(alloc, keys, report),
         _ => Ok(()),
     }
 }
 
-/// Measures a kind over so many keys.
-fn measure<M: Meter>(
-    alloc: Global,
-    kind: Kind,
-    count: usize,
-    measured: Measured,
-    report: &mut M,
-) -> Result<(), Failure> {
-    let (Some(present), Some(absent)) = (keys(alloc, count, PRESENT), keys(alloc, count, ABSENT))
-    else {
+/// Measures what the arguments ask for.
+fn measure<M: Meter>(alloc: Global, run: Run, report: &mut M) -> Result<(), Failure> {
+    let Some(keys) = Sample::new(alloc, run.count, run.order) else {
         return Err(Failure::Refused(Fault::Memory));
     };
-    match measured {
-        Measured::Calls => measure_calls(alloc, kind, &present, &absent, report),
-        Measured::Build => measure_build(alloc, kind, &present, report),
-        Measured::Snapshot => measure_snapshot(alloc, kind, &present, &absent, report),
-        Measured::Spills => measure_spills(alloc, kind, &present, report),
-        Measured::Batches => measure_batches(alloc, kind, &present, report),
+    match run.measured {
+        Measured::Calls => measure_calls(alloc, run.kind, &keys, report),
+        Measured::Build => measure_build(alloc, run.kind, &keys.present, report),
+        Measured::Snapshot => measure_snapshot(alloc, run.kind, &keys, report),
+        Measured::Spills => measure_spills(alloc, run.kind, &keys.present, report),
+        Measured::Batches => measure_batches(alloc, run.kind, &keys, report),
     }
 }
 
@@ -448,20 +425,20 @@ fn main(rt: HostRuntime) -> ExitCode {
         Some(words) => arguments(&words),
         None => None,
     };
-    let Some((kind, count, measured)) = named else {
+    let Some(run) = named else {
         let _ = writeln!(
             rt.stderr(),
-            "usage: key_index_bench unordered|hashed|ordered|punordered1|punordered2|punordered3|pordered1|pordered2|pordered3|immutable|std_hash|std_tree COUNT [build|snapshot|spills|batches]"
+            "usage: key_index_bench unordered|hashed|ordered|punordered1|punordered2|punordered3|pordered1|pordered2|pordered3|immutable|std_hash|std_tree COUNT [shuffled|inserted|build|snapshot|spills|batches]"
         );
         return ExitCode::from(2);
     };
     let mut report = Report {
         clock: &rt,
         output: &mut rt.stdout(),
-        kind: kind.name(),
-        count,
+        kind: run.kind.name(),
+        count: run.count,
     };
-    match measure(rt.alloc(), kind, count, measured, &mut report) {
+    match measure(rt.alloc(), run, &mut report) {
         Ok(()) => ExitCode::from(0),
         Err(_) => {
             let _ = writeln!(rt.stderr(), "failed");

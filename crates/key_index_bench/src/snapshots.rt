@@ -2,6 +2,7 @@
 
 use crate::build::equal_cuts;
 use crate::flat::Failure;
+use crate::keys::Sample;
 use crate::report::Meter;
 use key_index::snapshot::{Record, Snapshot};
 use key_index_flat::index::{Factory, Fault, Ordered};
@@ -133,32 +134,30 @@ fn next<P: Positions, M: Meter>(
 fn calls<P: Positions, M: Meter>(
     alloc: Global,
     positions: &mut P,
-    present: &[[u8; 32]],
-    absent: &[[u8; 32]],
+    keys: &Sample,
     report: &mut M,
 ) -> Result<(), Failure> {
-    set(alloc, positions, "snapshot_set", present, report)?;
-    set(alloc, positions, "snapshot_set_again", present, report)?;
-    get(positions, "snapshot_get", present, report)?;
-    get(positions, "snapshot_miss", absent, report)?;
-    next(alloc, positions, &present[..present.len() / 10], report)
+    set(alloc, positions, "snapshot_set", &keys.present, report)?;
+    set(alloc, positions, "snapshot_set_again", &keys.later, report)?;
+    get(positions, "snapshot_get", &keys.later, report)?;
+    get(positions, "snapshot_miss", &keys.absent, report)?;
+    next(
+        alloc,
+        positions,
+        &keys.later[..keys.later.len() / 10],
+        report,
+    )
 }
 
 /// Measures a snapshot over an index.
 pub(crate) fn run_snapshot<
     I: Factory<Translator = EightCap, Value = Record> + Ordered + Drop,
     M: Meter,
->(alloc: Global, present: &[[u8; 32]], absent: &[[u8; 32]], report: &mut M) -> Result<(), Failure>
+>(alloc: Global, keys: &Sample, report: &mut M) -> Result<(), Failure>
     requires { I.makes }
 {
     match I::new(alloc, EightCap) {
-        Ok(index) => calls(
-            alloc,
-            &mut Snapshot::new(alloc, index),
-            present,
-            absent,
-            report,
-        ),
+        Ok(index) => calls(alloc, &mut Snapshot::new(alloc, index), keys, report),
         Err(fault) => Err(Failure::Refused(fault)),
     }
 }
@@ -166,12 +165,11 @@ pub(crate) fn run_snapshot<
 /// Measures the ordered map of full keys.
 pub(crate) fn run_map<M: Meter>(
     alloc: Global,
-    present: &[[u8; 32]],
-    absent: &[[u8; 32]],
+    keys: &Sample,
     report: &mut M,
 ) -> Result<(), Failure> {
     let mut map: BTreeMap<Vec<u8>, u64> = BTreeMap::new(alloc);
-    calls(alloc, &mut map, present, absent, report)
+    calls(alloc, &mut map, keys, report)
 }
 
 /// Record i is key i at position i. `None` where there is no memory for them.
@@ -220,9 +218,9 @@ fn run_build<
 pub(crate) fn run_both<
     I: Factory<Translator = EightCap, Value = Record> + Ordered + Partitioned + Drop,
     M: Meter,
->(alloc: Global, present: &[[u8; 32]], absent: &[[u8; 32]], report: &mut M) -> Result<(), Failure>
+>(alloc: Global, keys: &Sample, report: &mut M) -> Result<(), Failure>
     requires { I.makes }
 {
-    run_snapshot::<I, M>(alloc, present, absent, report)?;
-    run_build::<I, M>(alloc, present, report)
+    run_snapshot::<I, M>(alloc, keys, report)?;
+    run_build::<I, M>(alloc, &keys.present, report)
 }
