@@ -1,0 +1,9 @@
+pub mod Held
+pub mod Between
+pub mod Groups
+pub mod Cells
+pub mod Free
+pub mod Steps
+pub mod New
+pub mod Moving
+pub mod Deeds

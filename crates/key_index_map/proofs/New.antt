@@ -1,0 +1,56 @@
+-- On a table without pairs.
+use Rattle.std.proofs.Common.{◌≡◌, ℕ, suc, ◌*◌, ◌/◌, ◌<◌, ◌≤◌, Bool, true, false, cond, nat_le, get_or, List, [], ◌∷◌, length, slice_index, refl, sym, ap, subst, ◌∙◌, arith}
+use Rattle.std.specs.List.{IsDistinct}
+use Rattle.std.specs.Map.{keys_of}
+use Rattle.std.proofs.lemmas.Bool.{lt-leb}
+use Rattle.std.proofs.lemmas.Option.{slice_get_within, slice_get_read, get_or_from_slice_get}
+use Rattle.key_index_map.specs.Table.{AreCells, held, limit}
+
+pub none_are_held : {X : Type 0} (ts : List ℕ) (xs : List X) → ((i : ℕ) → i < length xs → slice_index ts i < 3) → held ts xs ≡ []
+none_are_held [] xs low = refl
+none_are_held (t ∷ ts) [] low = refl
+none_are_held (t ∷ ts) (x ∷ xs) low =
+    ap (λ b. cond b (x ∷ held ts xs) (held ts xs)) (lt-leb 3 t (low 0 (omega arith))) ∙ none_are_held ts xs (λ i below. low (suc i) (omega (arith, below)))
+
+no_keys : {K V : Type 0} (eq : K → K → Bool) (pairs : List (K × V)) → pairs ≡ [] → IsDistinct eq (keys_of pairs)
+unfolding IsDistinct
+no_keys {K} {V} eq pairs none = subst (λ (l : List (K × V)). IsDistinct eq (keys_of l)) (sym none) tt
+
+pub record New {K V : Type 0} (eq : K → K → Bool) (input : K → List (List ℕ)) (tags : List ℕ) (items : List (K × V)) (filled : List Bool) (groups left : ℕ) : Type 0 where
+  pub cells : AreCells eq input tags items filled groups 0 left 0
+  pub empty : held tags items ≡ []
+
+module _ {K V : Type 0} (eq : K → K → Bool) (input : K → List (List ℕ)) (tags : List ℕ) (items : List (K × V)) (filled : List Bool) (groups cells left : ℕ)
+    (some : 0 < cells) (long : length items ≡ cells) (sized : length tags ≡ 16 * groups) (enough : cells ≤ 16 * groups)
+    (empty : (i : ℕ) → i < cells → slice_index tags i ≡ 0) (beyond : (i : ℕ) → cells ≤ i → i < length tags → slice_index tags i ≡ 2) (room : left ≤ cells) where
+  low : (i : ℕ) → i < length items → slice_index tags i < 3
+  low i below = let is = empty i (omega (arith, below, long)) in omega (arith, is)
+
+  no_pairs : held tags items ≡ []
+  no_pairs = none_are_held tags items low
+
+  new_cells : AreCells eq input tags items filled groups 0 left 0
+  new_cells = record {
+    some = omega (arith, some, enough);
+    sized = sized;
+    within = omega (arith, long, enough);
+    any = omega (arith, some, long);
+    beyond = λ i past to. beyond i (omega (arith, past, long)) (omega (arith, to, sized));
+    cells = λ i below two. let is = empty i (omega (arith, below, long)) in omega (arith, is, two);
+    taken = λ i below had. let is = low i below in absurd (omega (arith, is, had));
+    tagged = λ i e at had. let is = low i (slice_get_within items i e at) in absurd (omega (arith, is, had));
+    reached = λ i e at had group from to. let is = low i (slice_get_within items i e at) in absurd (omega (arith, is, had));
+    distinct = no_keys eq (held tags items) no_pairs;
+    counted = sym (ap length no_pairs);
+    room = omega (arith, room, long);
+  }
+
+  pub new : New eq input tags items filled groups left
+  new = record { cells = new_cells; empty = no_pairs }
+
+pub limit_le : (cells : ℕ) → limit cells ≤ cells
+limit_le cells = elim (nat_le cells 16) as (λ b. cond b cells (cells / 8 * 7) ≤ cells) [ true ↦ omega arith | false ↦ omega arith ]
+
+-- an element that was read
+pub read_index : (ts : List ℕ) (i x : ℕ) → i < length ts → x ≡ get_or ts i x → slice_index ts i ≡ x
+read_index ts i x below read = get_or_from_slice_get ts i x 0 (slice_get_read ts (length ts) i x refl below read)

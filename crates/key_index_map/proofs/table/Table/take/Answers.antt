@@ -1,0 +1,30 @@
+use Rattle.std.proofs.Common.{sym, ◌∙◌}
+use Rattle.core.specs.Mem.Slots.{slots_items, slots_filled}
+use Rattle.key_index_map.proofs.Steps.{Taking, taking, some_pair}
+use Rattle.key_index_map.proofs.table.Table.take.Given.{Over}
+use Rattle.key_index_map.proofs.table.Table.take.Goals as goal
+use Rattle.key_index_map.proofs.table.Table.take.Goals.{After-take-value}
+
+pub overflow_sub-self : goal.overflow_sub-self
+overflow_sub-self g c = some_pair g.met.K.Eq.laws c.self.invariant.0 c.args.self.now c.self.view_is c.args.cell c.args.key c.requires
+
+take_out : (g : Over) (c : After-take-value g) → Taking g.met.K.Eq.laws c.self.invariant.0 c.args.self.now c.self.view_is c.args.cell c.tag_without-tag.result c.counts_without-left.result.0 c.counts_without-left.result.1
+    (slots_items c.take-value.new.self) (slots_filled c.take-value.new.self) c.args.key c.take-value.result.1
+take_out g c =
+    taking g.met.K.Eq.laws c.self.invariant.0 c.args.self.now c.self.view_is c.args.cell c.tag_without-tag.result c.counts_without-left.result.0 c.counts_without-left.result.1
+    (slots_items c.take-value.new.self) (slots_filled c.take-value.new.self) c.args.key c.requires c.take-value.result c.take-value.ensures.value c.tag_without-tag.ensures
+    (some_pair g.met.K.Eq.laws c.self.invariant.0 c.args.self.now c.self.view_is c.args.cell c.args.key c.requires)
+    c.counts_without-left.ensures.sum c.take-value.ensures.items c.take-value.ensures.filled
+
+pub invariant_of-self : goal.invariant_of-self
+invariant_of-self g c =
+    ((take_out g (goal.at.invariant_of-self g c).After-take-value).still, c.self.invariant.1 ∙ sym c.take-value.ensures.places.start, c.self.invariant.2 ∙ sym c.take-value.ensures.places.count)
+
+pub returns-clause-value : goal.returns-clause-value
+returns-clause-value g c = (take_out g (goal.at.returns-clause-value g c).After-take-value).value
+
+pub returns-clause-updates : goal.returns-clause-updates
+returns-clause-updates g c = (take_out g (goal.at.returns-clause-updates g c).After-take-value).updates
+
+pub returns-clause-len : goal.returns-clause-len
+returns-clause-len g c = (take_out g (goal.at.returns-clause-len g c).After-take-value).shorter

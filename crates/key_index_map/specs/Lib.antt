@@ -1,0 +1,3 @@
+pub mod Table
+pub mod TableLent
+pub mod MapLent

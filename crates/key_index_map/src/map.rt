@@ -1,0 +1,181 @@
+//! A map from keys to values, found by their hashes.
+ghost use Rattle.std.specs.Prelude.{◌≡◌, ◌+◌, ◌<◌, ◌≤◌, List, [], Option, Some, None, IfOk, IfErr, IsOk, OnOk, OnErr, length, is_some, unwrap_or, if◌then◌else◌};
+ghost use Rattle.std.specs.Borrow.{sem};
+ghost use Rattle.std.specs.Map.{lookup};
+ghost use Rattle.std.specs.Option.{IsSome, option_copied, option_copied_mut};
+ghost use Rattle.key_index_map.specs.Table.{Updates};
+
+use crate::table::{Iter, Table, hash_of};
+use std::alloc::{AllocError, Global};
+use std::hash::Hash;
+use std::marker::Model;
+
+/// A map from keys to values. It takes no memory before the first pair comes, and gives none back before it ends. Contracts see its
+/// pairs, in no order that they tell of.
+#[derive(Drop)]
+pub struct Map<K: Ord + Hash + Copy, V> {
+    table: Option<Table<K, V>>,
+    alloc: Global,
+}
+
+impl<K: Ord + Hash + Copy, V> Model for Map<K, V> {
+    ghost use Rattle.key_index_map.specs.Table.{Entries, entries_of};
+
+    ghost Value = { Entries K V };
+
+    ghost view = { λ m. entries_of m.table };
+}
+
+impl<K: Ord + Hash + Copy, V> Map<K, V> {
+    ghost use Rattle.key_index_map.specs.MapLent.{lends_get};
+
+    /// No pairs.
+    pub fn new(alloc: Global) -> Map<K, V>
+        ensures { result.entries ≡ [] }
+    {
+        Map { table: None, alloc }
+    }
+
+    /// No pairs, and memory for so many. The pair only shows that its type has a value.
+    pub fn with_capacity(
+        alloc: Global,
+        capacity: usize,
+        like: &(K, V),
+    ) -> Result<Map<K, V>, AllocError>
+        ensures empty { IfOk result (λ m. m.entries ≡ []) }
+        ensures room { IfOk result (λ m. capacity ≤ m.spare) }
+    {
+        let table = Table::with_capacity(alloc, capacity, like)?;
+        Ok(Map {
+            table: Some(table),
+            alloc,
+        })
+    }
+
+    /// How many pairs there are.
+    #[inline(always)]
+    pub fn len(&self) -> usize
+        ensures { result ≡ length self.now.entries }
+    {
+        match &self.table {
+            Some(table) => table.len(),
+            None => 0,
+        }
+    }
+
+    /// The value of a key.
+    #[inline(always)]
+    pub fn get(&self, key: &K) -> Option<&V>
+        ensures { option_copied result ≡ lookup (K.eq key.now) self.now.entries }
+    {
+        match &self.table {
+            Some(table) => table.get(key),
+            None => None,
+        }
+    }
+
+    /// The value of a key, to be changed.
+    #[inline(always)]
+    pub fn get_mut(&mut self, key: &K) -> Option<&mut V>
+        ensures* lends { sem 𝓛 (lends_get K.row V.row K.Ord K.Hash self.entry key.now result) }
+        ensures value { option_copied_mut result ≡ lookup (K.eq key.now) self.old.entries }
+    {
+        match &mut self.table {
+            Some(table) => table.get_mut(key),
+            None => None,
+        }
+    }
+
+    /// Puts a value at a key, and answers the one that stood there. A refusal, which comes at an absent key alone, hands the value
+    /// back and changes nothing.
+    #[inline(always)]
+    pub fn insert(&mut self, key: K, value: V) -> Result<Option<V>, V>
+    where
+        V: Drop,
+        ensures old { IfOk result (λ old. old ≡ lookup (K.eq key) self.old.entries) }
+        ensures updates { OnOk result (Updates K.eq self.old.entries self.new.entries key (Some value)) }
+        ensures len { IfOk result (λ old. length self.new.entries ≡ length self.old.entries + (if is_some old then 0 else 1)) }
+        ensures absent { OnErr result (lookup (K.eq key) self.old.entries ≡ None) }
+        ensures refused { OnErr result (self.new ≡ self.old) }
+        ensures returned { IfErr result (λ back. back ≡ value) }
+        ensures room { self.old.spare ≤ self.new.spare + 1 }
+        ensures succeeds { 0 < self.old.spare → IsOk result }
+    {
+        if let Some(table) = &mut self.table {
+            return table.insert(key, value);
+        }
+        self.table = Some(Table::with_one(self.alloc, hash_of(key), key, value)?);
+        Ok(None)
+    }
+
+    /// Puts a value at a key that has none. The value of a key that has one stays, and the other comes back, as it does with a refusal,
+    /// which comes at an absent key alone and changes nothing.
+    #[inline(always)]
+    pub fn insert_absent(&mut self, key: K, value: V) -> Result<Option<V>, V>
+    where
+        V: Drop,
+        ensures back { IfOk result (λ back.
+            back ≡ (if is_some (lookup (K.eq key) self.old.entries) then Some value else None)) }
+        ensures updates { OnOk result (Updates K.eq self.old.entries self.new.entries key
+            (Some (unwrap_or (lookup (K.eq key) self.old.entries) value))) }
+        ensures len { OnOk result (length self.new.entries
+            ≡ length self.old.entries + (if is_some (lookup (K.eq key) self.old.entries) then 0 else 1)) }
+        ensures absent { OnErr result (lookup (K.eq key) self.old.entries ≡ None) }
+        ensures refused { OnErr result (self.new ≡ self.old) }
+        ensures returned { IfErr result (λ back. back ≡ value) }
+        ensures room { self.old.spare ≤ self.new.spare + 1 }
+        ensures succeeds { 0 < self.old.spare → IsOk result }
+    {
+        if let Some(table) = &mut self.table {
+            return table.insert_absent(key, value);
+        }
+        self.table = Some(Table::with_one(self.alloc, hash_of(key), key, value)?);
+        Ok(None)
+    }
+
+    /// Puts in the value of a key that has none. A refusal hands the value back and changes nothing.
+    #[inline(always)]
+    pub fn add(&mut self, key: K, value: V) -> Result<(), V>
+    where
+        V: Drop,
+        requires { lookup (K.eq key) self.old.entries ≡ None }
+        ensures updates { OnOk result (Updates K.eq self.old.entries self.new.entries key (Some value)) }
+        ensures len { OnOk result (length self.new.entries ≡ length self.old.entries + 1) }
+        ensures refused { OnErr result (self.new ≡ self.old) }
+        ensures returned { IfErr result (λ back. back ≡ value) }
+        ensures room { self.old.spare ≤ self.new.spare + 1 }
+        ensures succeeds { 0 < self.old.spare → IsOk result }
+    {
+        let hash = hash_of(key);
+        if let Some(table) = &mut self.table {
+            return table.add(hash, key, value);
+        }
+        self.table = Some(Table::with_one(self.alloc, hash, key, value)?);
+        Ok(())
+    }
+
+    /// Removes a key, and answers its value. Takes no memory.
+    #[inline(always)]
+    pub fn remove(&mut self, key: &K) -> Option<V>
+        ensures value { result ≡ lookup (K.eq key.now) self.old.entries }
+        ensures updates { Updates K.eq self.old.entries self.new.entries key.now None }
+        ensures len { length self.new.entries + (if is_some result then 1 else 0) ≡ length self.old.entries }
+        ensures room { self.old.spare ≤ self.new.spare }
+    {
+        match &mut self.table {
+            Some(table) => table.remove(key),
+            None => None,
+        }
+    }
+
+    /// The pairs, in no order that contracts tell of, if memory was ever taken for some.
+    #[inline]
+    pub fn iter(&self) -> Option<Iter<'_, K, V>>
+        ensures { unwrap_or result [] ≡ self.now.entries }
+    {
+        match &self.table {
+            Some(table) => Some(table.iter()),
+            None => None,
+        }
+    }
+}

@@ -1,0 +1,675 @@
+//! Pairs in cells, each with a tag, sixteen to a group, which are compared at once.
+ghost use Rattle.std.specs.Prelude.{◌≡◌, ◌≢◌, ℕ, ◌+◌, ◌*◌, ◌<◌, ◌≤◌, List, [], Option, Some, None, IfOk, IfErr, IfSome, IfNone, IsOk, OnOk, OnErr, length, slice_get, slice_index, slice_index_or, unwrap_or, is_some, if◌then◌else◌, false, true};
+ghost use Rattle.std.specs.Borrow.{sem};
+ghost use Rattle.std.specs.Iterator.{YieldsFirstRef, item_count};
+ghost use Rattle.std.specs.Map.{lookup};
+ghost use Rattle.std.specs.Option.{IsSome, option_copied, option_copied_mut};
+ghost use Rattle.key_index_map.specs.Table.{Cells, IsAt, IsFreeIn, IsFirstFree, IsTagWithout, NoneIn, Found, Stopped, Updates, hash_of, tag_of, home, held, is_held, limit, pairs, with_value};
+
+use crate::room::{Deed, release, try_reserve};
+use core::slots::Slots;
+use std::alloc::{AllocError, Global};
+use std::hash::{BuildHasher, BuildHasherDefault, FoldHasher, Hash};
+use std::marker::Model;
+use std::mem::{replace, swap};
+use std::simd::prelude::*;
+
+/// How many places a group has.
+const GROUP: usize = 16;
+
+/// The tag of an empty cell.
+const EMPTY: u8 = 0;
+/// The tag of a cell whose pair was removed while its group had no empty one.
+const REMOVED: u8 = 1;
+/// The tag of a place of the one group that has no cell.
+const NO_CELL: u8 = 2;
+/// The least tag of a cell with a pair.
+const LEAST: u8 = 3;
+
+/// How many cells a table has at the least.
+const FEWEST: usize = 4;
+
+#[inline(always)]
+pub(crate) fn hash_of<K: Hash + Copy>(key: K) -> u64
+    ensures { result ≡ hash_of (K.hash_input key) }
+{
+    BuildHasherDefault::<FoldHasher>::new().hash_one(key)
+}
+
+/// The tag of a cell with a pair, by the hash of its key.
+#[inline(always)]
+fn tag_of(hash: u64) -> u8
+    ensures { result ≡ tag_of hash }
+{
+    ((hash >> 56) as u8).max(LEAST)
+}
+
+/// The group at which a search for a hash begins.
+#[inline(always)]
+fn home_of(hash: u64, groups: usize) -> usize
+    requires { 0 < groups }
+    ensures home { result ≡ home groups hash }
+    ensures within { result < groups }
+{
+    hash as usize & (groups - 1)
+}
+
+/// A place of the group that has a tag, if there is one. All are compared at once.
+#[inline(always)]
+fn place_with(tags: &[u8], start: usize, tag: u8) -> Option<usize>
+    requires { start + 16 ≤ length tags.now }
+    ensures found { IfSome result (λ place.
+        (start ≤ place) × (place < start + 16) × (slice_index tags.now place ≡ tag)) }
+    ensures none { IfNone result ((place : ℕ) → start ≤ place → place < start + 16
+        → slice_index tags.now place ≢ tag) }
+{
+    let same = u8x16::from_slice(&tags[start..])
+        .simd_eq(u8x16::splat(tag))
+        .to_bitmask();
+    if same == 0 {
+        return None;
+    }
+    Some(start + same.trailing_zeros() as usize)
+}
+
+/// How many pairs so many cells may have, so that a search meets an empty cell soon.
+#[inline]
+fn limit(cells: usize) -> usize
+    ensures { result ≡ limit cells }
+{
+    if cells <= GROUP { cells } else { cells / 8 * 7 }
+}
+
+/// Gives all places from one on a tag.
+fn fill(tags: &mut Vec<u8>, from: usize, tag: u8)
+    ensures long { length tags.new.items ≡ length tags.old.items }
+    ensures before { (i : ℕ) → i < from → slice_index tags.new.items i ≡ slice_index tags.old.items i }
+    ensures behind { (i : ℕ) → from ≤ i → i < length tags.old.items → slice_index tags.new.items i ≡ tag }
+{
+    let mut place = from;
+    while place < tags.len() {
+        tags[place] = tag;
+        place += 1;
+    }
+}
+
+/// The fewest cells that may have so many pairs, of so many and their doubles.
+fn cells_for(len: usize, least: usize) -> Option<usize>
+    requires { 0 < least }
+    ensures { IfSome result (λ cells. (0 < cells) × (len ≤ limit cells)) }
+{
+    let mut cells = least;
+    while limit(cells) < len {
+        cells = cells.checked_mul(2)?;
+    }
+    Some(cells)
+}
+
+/// How many more pairs there is room for, and how many cells have the tag of a removed one, once a cell with this tag has a pair.
+#[inline(always)]
+fn counts_with(tag: u8, left: usize, removed: usize) -> (usize, usize)
+    requires { 0 < left }
+    ensures sum { result.0 + result.1 + 1 ≡ left + removed }
+    ensures room { left ≤ result.0 + 1 }
+{
+    if tag == REMOVED && 0 < removed {
+        (left, removed - 1)
+    } else {
+        (left - 1, removed)
+    }
+}
+
+/// The same, once a cell without its pair has this tag.
+#[inline(always)]
+fn counts_without(tag: u8, left: usize, removed: usize) -> (usize, usize)
+    requires { left + removed < usize.MAX }
+    ensures sum { result.0 + result.1 ≡ left + removed + 1 }
+    ensures room { left ≤ result.0 }
+{
+    if tag == EMPTY {
+        (left + 1, removed)
+    } else {
+        (left, removed + 1)
+    }
+}
+
+/// Where a search through some groups ended.
+#[derive(Drop)]
+enum Search {
+    /// At the cell with the key.
+    Found(usize),
+    /// At a group with an empty cell: no further one has the key.
+    Absent,
+    /// Behind the last of them.
+    Onward,
+}
+
+/// Pairs in cells, each with a tag. `left` is how many more there is room for, `removed` how many cells were marked as removed since the
+/// cells were made and had no pair again.
+pub struct Table<K: Ord + Hash + Copy, V> {
+    tags: Vec<u8>,
+    row: Slots<(K, V)>,
+    deed: Deed<(K, V), Global>,
+    groups: usize,
+    len: usize,
+    left: usize,
+    removed: usize,
+}
+
+impl<K: Ord + Hash + Copy, V> Model for Table<K, V> {
+    ghost use Rattle.std.specs.Prelude.{◌≡◌};
+    ghost use Rattle.core.specs.Mem.Slots.{slots_items, slots_filled, slots_len, slots_ptr};
+    ghost use Rattle.key_index_map.specs.Table.{Cells, AreCells};
+
+    ghost Value = { Cells K V };
+
+    ghost view = { λ t. record { tags = t.tags.items; items = slots_items t.row; spare = t.left } };
+
+    ghost invariant = { λ t. AreCells K.eq K.hash_input t.tags.items (slots_items t.row) (slots_filled t.row)
+        t.groups t.len t.left t.removed × (t.deed.at ≡ slots_ptr t.row) × (t.deed.len ≡ slots_len t.row) };
+}
+
+impl<K: Ord + Hash + Copy, V> Table<K, V> {
+    ghost use Rattle.key_index_map.specs.TableLent.{lends_cell, lends_get};
+
+    #[inline(always)]
+    pub fn len(&self) -> usize
+        ensures { result ≡ length (pairs self.now) }
+    {
+        self.len
+    }
+
+    /// The cell of the group that has the key, by one tag after another.
+    #[inline(never)]
+    fn scan(&self, start: usize, tag: u8, key: &K) -> Option<usize>
+        requires group { start + 16 ≤ length self.now.tags }
+        requires tag { tag ≡ tag_of (hash_of (K.hash_input key.now)) }
+        ensures found { IfSome result (λ cell. IsAt K.eq self.now cell key.now) }
+        ensures none { IfNone result (NoneIn K.eq self.now start (start + 16) key.now) }
+    {
+        let mut cell = start;
+        while cell < start + GROUP {
+            if self.tags[cell] == tag && *key == self.row.get(cell).0 {
+                return Some(cell);
+            }
+            cell += 1;
+        }
+        None
+    }
+
+    /// The cell of the group that has the key.
+    #[inline(always)]
+    fn cell_in(&self, start: usize, tag: u8, key: &K) -> Option<usize>
+        requires group { start + 16 ≤ length self.now.tags }
+        requires tag { tag ≡ tag_of (hash_of (K.hash_input key.now)) }
+        ensures found { IfSome result (λ cell. IsAt K.eq self.now cell key.now) }
+        ensures none { IfNone result (NoneIn K.eq self.now start (start + 16) key.now) }
+    {
+        let cell = place_with(&self.tags, start, tag)?;
+        if *key == self.row.get(cell).0 {
+            return Some(cell);
+        }
+        self.scan(start, tag, key)
+    }
+
+    /// Searches some groups in a row for a key.
+    #[inline(always)]
+    fn search(&self, from: usize, to: usize, tag: u8, key: &K) -> Search
+        requires groups { 16 * to ≤ length self.now.tags }
+        requires tag { tag ≡ tag_of (hash_of (K.hash_input key.now)) }
+        ensures { Found K.eq self.now from to key.now result }
+    {
+        let mut group = from;
+        while group < to {
+            if let Some(cell) = self.cell_in(GROUP * group, tag, key) {
+                return Search::Found(cell);
+            }
+            if place_with(&self.tags, GROUP * group, EMPTY).is_some() {
+                return Search::Absent;
+            }
+            group += 1;
+        }
+        Search::Onward
+    }
+
+    /// The cell of a key. Each group is looked at once at the most.
+    #[inline(always)]
+    pub(crate) fn find(&self, hash: u64, key: &K) -> Option<usize>
+        requires { hash ≡ hash_of (K.hash_input key.now) }
+        ensures found { IfSome result (λ cell. IsAt K.eq self.now cell key.now) }
+        ensures present { IfSome result (λ _. IsSome (lookup (K.eq key.now) (pairs self.now))) }
+        ensures none { IfNone result (lookup (K.eq key.now) (pairs self.now) ≡ None) }
+    {
+        let tag = tag_of(hash);
+        let home = home_of(hash, self.groups);
+        match self.search(home, self.groups, tag, key) {
+            Search::Found(cell) => Some(cell),
+            Search::Absent => None,
+            Search::Onward => match self.search(0, home, tag, key) {
+                Search::Found(cell) => Some(cell),
+                _ => None,
+            },
+        }
+    }
+
+    #[inline(always)]
+    pub fn get(&self, key: &K) -> Option<&V>
+        ensures { option_copied result ≡ lookup (K.eq key.now) (pairs self.now) }
+    {
+        match self.find(hash_of(*key), key) {
+            Some(cell) => Some(&self.row.get(cell).1),
+            None => None,
+        }
+    }
+
+    /// The value in a cell.
+    #[inline(always)]
+    pub(crate) fn value_mut(&mut self, cell: usize, key: K) -> &mut V
+        requires { IsAt K.eq self.old cell key }
+        ensures* lends { sem 𝓛 (lends_cell K.row V.row K.Ord K.Hash self.entry cell result) }
+        ensures value { Some result.now ≡ lookup (K.eq key) (pairs self.old) }
+        ensures written { (w : V) → Updates K.eq (pairs self.old) (pairs (with_value self.old cell w)) key (Some w) }
+        ensures len { (w : V) → length (pairs (with_value self.old cell w)) ≡ length (pairs self.old) }
+    {
+        &mut self.row.get_mut(cell).1
+    }
+
+    /// A free cell in some groups in a row.
+    #[inline(always)]
+    fn free_in(&self, from: usize, to: usize) -> Option<usize>
+        requires groups { 16 * to ≤ length self.now.tags }
+        ensures { IsFreeIn self.now from to result }
+    {
+        let mut group = from;
+        while group < to {
+            if let Some(cell) = place_with(&self.tags, GROUP * group, EMPTY) {
+                return Some(cell);
+            }
+            if let Some(cell) = place_with(&self.tags, GROUP * group, REMOVED) {
+                return Some(cell);
+            }
+            group += 1;
+        }
+        None
+    }
+
+    /// The first free cell that a search from a group meets.
+    #[inline(always)]
+    fn free_from(&self, home: usize) -> usize
+        requires home { 16 * home < length self.now.tags }
+        requires room { length (pairs self.now) < length self.now.items }
+        ensures { IsFirstFree self.now home result }
+    {
+        if let Some(cell) = self.free_in(home, self.groups) {
+            return cell;
+        }
+        let Some(cell) = self.free_in(0, home) else {
+            unreachable!()
+        };
+        cell
+    }
+
+    /// Puts in the pair of a key that has none.
+    #[inline(always)]
+    pub(crate) fn put(&mut self, hash: u64, pair: (K, V))
+        requires hash { hash ≡ hash_of (K.hash_input pair.0) }
+        requires absent { lookup (K.eq pair.0) (pairs self.old) ≡ None }
+        requires room { 0 < self.old.spare }
+        ensures updates { Updates K.eq (pairs self.old) (pairs self.new) pair.0 (Some pair.1) }
+        ensures len { length (pairs self.new) ≡ length (pairs self.old) + 1 }
+        ensures room { self.old.spare ≤ self.new.spare + 1 }
+    {
+        let cell = self.free_from(home_of(hash, self.groups));
+        let (left, removed) = counts_with(self.tags[cell], self.left, self.removed);
+        self.left = left;
+        self.removed = removed;
+        self.tags[cell] = tag_of(hash);
+        self.row.put(cell, pair);
+        self.len += 1;
+    }
+
+    /// The tag of a cell whose pair goes. No search comes to further groups than before.
+    #[inline(always)]
+    fn tag_without(&self, cell: usize) -> u8
+        requires { cell < length self.now.items }
+        ensures { IsTagWithout self.now cell result }
+    {
+        match place_with(&self.tags, cell / GROUP * GROUP, EMPTY) {
+            Some(_) => EMPTY,
+            None => REMOVED,
+        }
+    }
+
+    /// Takes the pair out of the cell of a key.
+    #[inline(always)]
+    pub(crate) fn take(&mut self, cell: usize, key: K) -> V
+        requires { IsAt K.eq self.old cell key }
+        ensures value { Some result ≡ lookup (K.eq key) (pairs self.old) }
+        ensures updates { Updates K.eq (pairs self.old) (pairs self.new) key None }
+        ensures len { length (pairs self.new) + 1 ≡ length (pairs self.old) }
+        ensures room { self.old.spare ≤ self.new.spare }
+    {
+        let tag = self.tag_without(cell);
+        let (left, removed) = counts_without(tag, self.left, self.removed);
+        self.left = left;
+        self.removed = removed;
+        self.len -= 1;
+        self.tags[cell] = tag;
+        let (_, value) = self.row.take(cell);
+        value
+    }
+
+    /// No pairs, in so many empty cells. The pair only shows that its type has a value.
+    fn with_cells(alloc: Global, cells: usize, like: &(K, V)) -> Result<Table<K, V>, AllocError>
+        requires { 0 < cells }
+        ensures empty { IfOk result (λ t. pairs t ≡ []) }
+        ensures room { IfOk result (λ t. t.spare ≡ limit cells) }
+    {
+        let groups = (cells - 1) / GROUP + 1;
+        let Some(places) = groups.checked_mul(GROUP) else {
+            return Err(AllocError);
+        };
+        let mut tags = vec![in alloc; EMPTY; places]?;
+        fill(&mut tags, cells, NO_CELL);
+        let (row, deed) = try_reserve(&alloc, cells, like)?;
+        Ok(Table {
+            tags,
+            row,
+            deed,
+            groups,
+            len: 0,
+            left: limit(cells),
+            removed: 0,
+        })
+    }
+
+    /// Moves the pairs into a table that has none and has room for them.
+    fn move_into(self, new: &mut Table<K, V>)
+        requires empty { pairs new.old ≡ [] }
+        requires room { length (pairs self) ≤ new.old.spare }
+        ensures values { (q : K) → lookup (K.eq q) (pairs new.new) ≡ lookup (K.eq q) (pairs self) }
+        ensures len { length (pairs new.new) ≡ length (pairs self) }
+        ensures room { new.old.spare ≤ new.new.spare + length (pairs self) }
+    {
+        let Table {
+            tags,
+            mut row,
+            deed,
+            groups: _,
+            len: _,
+            left: _,
+            removed: _,
+        } = self;
+        let mut cell = 0;
+        while cell < row.len() {
+            if tags[cell] < LEAST {
+                cell += 1;
+                continue;
+            }
+            let pair = row.take(cell);
+            new.put(hash_of(pair.0), pair);
+            cell += 1;
+        }
+        release(tags.allocator(), row, deed);
+    }
+
+    /// Makes room for more pairs, in more cells or in as many without marks of removed pairs. A refusal changes nothing.
+    #[inline(never)]
+    fn grow(&mut self, additional: usize, like: &(K, V)) -> Result<(), AllocError>
+        ensures values { OnOk result ((q : K) → lookup (K.eq q) (pairs self.new) ≡ lookup (K.eq q) (pairs self.old)) }
+        ensures len { OnOk result (length (pairs self.new) ≡ length (pairs self.old)) }
+        ensures room { OnOk result (additional ≤ self.new.spare) }
+        ensures refused { OnErr result (self.new ≡ self.old) }
+    {
+        let Some(len) = self.len.checked_add(additional) else {
+            return Err(AllocError);
+        };
+        let Some(cells) = cells_for(len, self.row.len()) else {
+            return Err(AllocError);
+        };
+        let mut new = Table::with_cells(*self.tags.allocator(), cells, like)?;
+        swap(self, &mut new);
+        new.move_into(self);
+        Ok(())
+    }
+
+    /// Makes room for one more pair. A refusal changes nothing.
+    #[inline(always)]
+    fn make_room(&mut self, like: &(K, V)) -> Result<(), AllocError>
+        ensures values { OnOk result ((q : K) → lookup (K.eq q) (pairs self.new) ≡ lookup (K.eq q) (pairs self.old)) }
+        ensures len { OnOk result (length (pairs self.new) ≡ length (pairs self.old)) }
+        ensures room { OnOk result (0 < self.new.spare) }
+        ensures spare { self.old.spare ≤ self.new.spare }
+        ensures refused { OnErr result (self.new ≡ self.old) }
+        ensures succeeds { 0 < self.old.spare → IsOk result }
+    {
+        if 0 < self.left {
+            return Ok(());
+        }
+        self.grow(self.len / 8 + 1, like)
+    }
+
+    /// Puts in the value of a key that has none.
+    #[inline(always)]
+    pub(crate) fn add(&mut self, hash: u64, key: K, value: V) -> Result<(), V>
+        requires hash { hash ≡ hash_of (K.hash_input key) }
+        requires absent { lookup (K.eq key) (pairs self.old) ≡ None }
+        ensures updates { OnOk result (Updates K.eq (pairs self.old) (pairs self.new) key (Some value)) }
+        ensures len { OnOk result (length (pairs self.new) ≡ length (pairs self.old) + 1) }
+        ensures refused { OnErr result (self.new ≡ self.old) }
+        ensures returned { IfErr result (λ back. back ≡ value) }
+        ensures room { self.old.spare ≤ self.new.spare + 1 }
+        ensures succeeds { 0 < self.old.spare → IsOk result }
+    {
+        let pair = (key, value);
+        if self.make_room(&pair).is_err() {
+            let (_, value) = pair;
+            return Err(value);
+        }
+        self.put(hash, pair);
+        Ok(())
+    }
+
+    /// No pairs, and cells for so many.
+    pub(crate) fn with_capacity(
+        alloc: Global,
+        capacity: usize,
+        like: &(K, V),
+    ) -> Result<Table<K, V>, AllocError>
+        ensures empty { IfOk result (λ t. pairs t ≡ []) }
+        ensures room { IfOk result (λ t. capacity ≤ t.spare) }
+    {
+        let Some(cells) = cells_for(capacity, FEWEST) else {
+            return Err(AllocError);
+        };
+        Table::with_cells(alloc, cells, like)
+    }
+
+    /// A table of one pair.
+    pub(crate) fn with_one(alloc: Global, hash: u64, key: K, value: V) -> Result<Table<K, V>, V>
+        requires hash { hash ≡ hash_of (K.hash_input key) }
+        ensures updates { IfOk result (λ t. Updates K.eq [] (pairs t) key (Some value)) }
+        ensures len { IfOk result (λ t. length (pairs t) ≡ 1) }
+        ensures returned { IfErr result (λ back. back ≡ value) }
+    {
+        let pair = (key, value);
+        let Ok(mut table) = Table::with_cells(alloc, FEWEST, &pair) else {
+            let (_, value) = pair;
+            return Err(value);
+        };
+        table.put(hash, pair);
+        Ok(table)
+    }
+
+    /// Puts another value in the cell of a key.
+    #[inline(always)]
+    pub(crate) fn set(&mut self, cell: usize, key: K, value: V) -> V
+        requires { IsAt K.eq self.old cell key }
+        ensures old { Some result ≡ lookup (K.eq key) (pairs self.old) }
+        ensures updates { Updates K.eq (pairs self.old) (pairs self.new) key (Some value) }
+        ensures len { length (pairs self.new) ≡ length (pairs self.old) }
+        ensures room { self.new.spare ≡ self.old.spare }
+    {
+        replace(self.value_mut(cell, key), value)
+    }
+
+    /// Puts a value at a key, and answers the one that stood there. A refusal, which comes at an absent key alone, hands the value
+    /// back.
+    #[inline(always)]
+    pub(crate) fn insert(&mut self, key: K, value: V) -> Result<Option<V>, V>
+        ensures old { IfOk result (λ old. old ≡ lookup (K.eq key) (pairs self.old)) }
+        ensures updates { OnOk result (Updates K.eq (pairs self.old) (pairs self.new) key (Some value)) }
+        ensures len { IfOk result (λ old.
+            length (pairs self.new) ≡ length (pairs self.old) + (if is_some old then 0 else 1)) }
+        ensures absent { OnErr result (lookup (K.eq key) (pairs self.old) ≡ None) }
+        ensures refused { OnErr result (self.new ≡ self.old) }
+        ensures returned { IfErr result (λ back. back ≡ value) }
+        ensures room { self.old.spare ≤ self.new.spare + 1 }
+        ensures succeeds { 0 < self.old.spare → IsOk result }
+    {
+        let hash = hash_of(key);
+        if let Some(cell) = self.find(hash, &key) {
+            return Ok(Some(self.set(cell, key, value)));
+        }
+        match self.add(hash, key, value) {
+            Ok(()) => Ok(None),
+            Err(value) => Err(value),
+        }
+    }
+
+    /// Puts a value at a key that has none. The value of a key that has one stays, and the other comes back, as it does with a refusal,
+    /// which comes at an absent key alone.
+    #[inline(always)]
+    pub(crate) fn insert_absent(&mut self, key: K, value: V) -> Result<Option<V>, V>
+        ensures back { IfOk result (λ back.
+            back ≡ (if is_some (lookup (K.eq key) (pairs self.old)) then Some value else None)) }
+        ensures updates { OnOk result (Updates K.eq (pairs self.old) (pairs self.new) key
+            (Some (unwrap_or (lookup (K.eq key) (pairs self.old)) value))) }
+        ensures len { OnOk result (length (pairs self.new)
+            ≡ length (pairs self.old) + (if is_some (lookup (K.eq key) (pairs self.old)) then 0 else 1)) }
+        ensures absent { OnErr result (lookup (K.eq key) (pairs self.old) ≡ None) }
+        ensures refused { OnErr result (self.new ≡ self.old) }
+        ensures returned { IfErr result (λ back. back ≡ value) }
+        ensures room { self.old.spare ≤ self.new.spare + 1 }
+        ensures succeeds { 0 < self.old.spare → IsOk result }
+    {
+        let hash = hash_of(key);
+        if self.find(hash, &key).is_some() {
+            return Ok(Some(value));
+        }
+        match self.add(hash, key, value) {
+            Ok(()) => Ok(None),
+            Err(value) => Err(value),
+        }
+    }
+
+    /// Removes a key.
+    #[inline(always)]
+    pub(crate) fn remove(&mut self, key: &K) -> Option<V>
+        ensures value { result ≡ lookup (K.eq key.now) (pairs self.old) }
+        ensures updates { Updates K.eq (pairs self.old) (pairs self.new) key.now None }
+        ensures len { length (pairs self.new) + (if is_some result then 1 else 0) ≡ length (pairs self.old) }
+        ensures room { self.old.spare ≤ self.new.spare }
+    {
+        let cell = self.find(hash_of(*key), key)?;
+        Some(self.take(cell, *key))
+    }
+
+    /// The value of a key.
+    #[inline(always)]
+    pub(crate) fn get_mut(&mut self, key: &K) -> Option<&mut V>
+        ensures* lends { sem 𝓛 (lends_get K.row V.row K.Ord K.Hash self.entry key.now result) }
+        ensures value { option_copied_mut result ≡ lookup (K.eq key.now) (pairs self.old) }
+    {
+        match self.find(hash_of(*key), key) {
+            Some(cell) => Some(self.value_mut(cell, *key)),
+            None => None,
+        }
+    }
+
+    /// The pairs, in the order of their cells.
+    pub(crate) fn iter(&self) -> Iter<'_, K, V>
+        ensures { result ≡ pairs self.now }
+    {
+        Iter {
+            tags: self.tags.as_slice(),
+            row: &self.row,
+            next: 0,
+        }
+    }
+}
+
+/// The first cell from one on that has a pair, or the end.
+fn next_held(tags: &[u8], from: usize, end: usize) -> usize
+    requires { end ≤ length tags.now }
+    ensures after { from ≤ result }
+    ensures within { from ≤ end → result ≤ end }
+    ensures held { result < end → 3 ≤ slice_index tags.now result }
+    ensures none { (i : ℕ) → from ≤ i → i < result → slice_index tags.now i < 3 }
+{
+    let mut cell = from;
+    while cell < end && tags[cell] < LEAST {
+        cell += 1;
+    }
+    cell
+}
+
+/// The pairs of a table, in the order of their cells.
+#[derive(Drop)]
+pub struct Iter<'a, K, V> {
+    tags: &'a [u8],
+    row: &'a Slots<(K, V)>,
+    next: usize,
+}
+
+impl<'a, K, V> Model for Iter<'a, K, V> {
+    ghost use Rattle.std.specs.Prelude.{List, drop};
+    ghost use Rattle.core.specs.Mem.Slots.{slots_items, slots_filled};
+    ghost use Rattle.key_index_map.specs.Table.{AreTaken, held};
+
+    ghost Value = { List (K × V) };
+
+    ghost view = { λ i. held (drop i.next i.tags.now) (drop i.next (slots_items i.row.now)) };
+
+    ghost invariant = { λ i. AreTaken i.tags.now (slots_items i.row.now) (slots_filled i.row.now) i.next };
+}
+
+impl<'a, K, V> Iterator for Iter<'a, K, V> {
+    type Item = &'a (K, V);
+
+    ghost next_gives = { YieldsFirstRef (λ pairs. pairs) };
+
+    ghost remaining = { item_count (λ pairs. pairs) };
+
+    fn next(&mut self) -> Option<&'a (K, V)> {
+        let cell = next_held(self.tags, self.next, self.row.len());
+        if self.row.len() <= cell {
+            self.next = cell;
+            return None;
+        }
+        self.next = cell + 1;
+        Some(self.row.get(cell))
+    }
+}
+
+impl<K: Ord + Hash + Copy, V: Drop> Drop for Table<K, V> {
+    fn drop(self) {
+        let Table {
+            tags,
+            mut row,
+            deed,
+            groups: _,
+            len: _,
+            left: _,
+            removed: _,
+        } = self;
+        let mut cell = 0;
+        while cell < row.len() {
+            if LEAST <= tags[cell] {
+                drop(row.take(cell));
+            }
+            cell += 1;
+        }
+        release(tags.allocator(), row, deed);
+    }
+}
