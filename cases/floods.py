@@ -146,3 +146,49 @@ def punordered_keys_come_and_go():
         come_and_go("punordered", lambda number: word([0x10, number]), count)
         come_and_go("punordered_by_two", key_of, count)
         come_and_go("punordered_wide", key_of, count)
+
+
+# About the sizes at which a hashed map doubles: 4, 8 and 16 pairs, and then seven eighths of 32, 64 and 128 cells.
+MAP_SIZES = (3, 4, 5, 8, 9, 14, 15, 16, 17, 28, 29, 31, 32, 33, 56, 57, 112, 113)
+
+
+def lists_come_and_go(kind, count):
+    """So many keys get two values each, so that as many lists have a tail, and lose them, the first key first."""
+    session = Session(kind)
+    for number in range(count):
+        session.ask(f"insert {word([number])} {number}", "ok")
+    for number in range(count):
+        session.ask(f"insert {word([number])} {number + 1000}", "ok")
+        for held in range(count):
+            session.ask(f"get {word([held])}", f"{held + 1000} {held}" if held <= number else held)
+    session.ask("counts", f"{count} {2 * count} 0")
+    for number in range(count):
+        session.ask(f"remove {word([number])}", "ok")
+        for held in range(count):
+            session.ask(f"get {word([held])}", "none" if held <= number else f"{held + 1000} {held}")
+    session.ask("counts", f"0 0 {2 * count}")
+    session.check()
+
+
+@case
+def unordered_maps_double():
+    """Keys, and lists of two values, about the sizes at which a map doubles."""
+    for count in MAP_SIZES:
+        come_and_go("unordered", lambda number: word([number]), count)
+        lists_come_and_go("unordered", count)
+
+
+@case
+def unordered_keys_come_round():
+    """Keys that come and go in turn while as many stay, so that a map is full of marks of removed pairs again and again."""
+    for count in (4, 16, 28, 56):
+        session = Session("unordered")
+        for number in range(200):
+            session.ask(f"insert {word([number])} {number}", "ok")
+            if count <= number:
+                session.ask(f"remove {word([number - count])}", "ok")
+            for held in (number - count, number - count + 1, number - count // 2, number):
+                if 0 <= held:
+                    session.ask(f"get {word([held])}", held if number - count < held else "none")
+        session.ask("counts", f"{count} {count} {200 - count}")
+        session.check()

@@ -8,7 +8,7 @@
 --     Writes          new has w at the key k, and what old has at each other one
 use Rattle.std.specs.Prelude.{Box, ◌≡◌, ◌≢◌, ℕ, ◌/◌, ◌^◌, ◌<◌, Bool, true, false, List, Option, Some, None, slice_get, slice_index, length}
 use Rattle.std.specs.List.{fold}
-use Rattle.std.specs.HashMap.{HashMap}
+use Rattle.key_index_map.specs.Table.{Entries}
 use Rattle.std.specs.Map.{lookup}
 use Rattle.std.specs.Hash.FoldHasher as hasher
 
@@ -30,7 +30,7 @@ abbrev pub AreTaggedBut : {K V : Type 0} → (K → List (List ℕ)) → List �
 AreTaggedBut {K} {V} input tags pairs place =
     (i : ℕ) (e : K × V) → i < 16 → i ≢ place → slice_get pairs i ≡ Some e → slice_index tags i ≡ tag_of (input e.0)
 
-abbrev pub entries_in : {K V S B : Type 0} → List (K × V) → Option (Box (HashMap K V S) B) → List (K × V)
+abbrev pub entries_in : {K V B : Type 0} → List (K × V) → Option (Box (Entries K V) B) → List (K × V)
 entries_in pairs None = pairs
 entries_in pairs (Some map) = map.value.entries
 

@@ -1,13 +1,10 @@
 -- What a `&mut` to a value of the pairs in an array leaves behind.
 --     lends_value    the first key that passes the test has the last value written through r
---     lends_get      the key k has it, and at `None` the pairs stay as they are
-use Rattle.std.specs.Prelude.{◌≡◌, Bool, List, Option}
-use Rattle.std.specs.Borrow.{Fml, RattleType, MutBor, Lends, LendsSo}
+use Rattle.std.specs.Prelude.{Bool, List}
+use Rattle.std.specs.Borrow.{Fml, RattleType, MutBor, Lends}
 use Rattle.std.specs.BTreeMap.Lent.{OrdMembers}
 use Rattle.std.specs.HashMap.Lent.{HashMembers}
 use Rattle.std.specs.Map.{set_value}
-use Rattle.std.specs.Option.{OnSome}
-use Rattle.key_index_flat.specs.SmallMap.{Writes}
 use Rattle.key_index_flat.specs.contracts.index.storage.small_map.Pairs.{the_row}
 
 module _ (K V : RattleType) (ord : OrdMembers K.Denot) (hash : HashMembers K.Denot) (s : MutBor (List (K.Denot × V.Denot))) where
@@ -17,6 +14,3 @@ module _ (K V : RattleType) (ord : OrdMembers K.Denot) (hash : HashMembers K.Den
 
   abbrev pub lends_value : (K.Denot → Bool) → MutBor V.Denot → Fml
   lends_value test r = Lends pairs_row V s r (set_value test s.now)
-
-  abbrev pub lends_get : K.Denot → Option (MutBor V.Denot) → Fml
-  lends_get k r = LendsSo pairs_row V s r (λ n w. OnSome r (Writes ord.eq s.now n k w)) (λ n. n ≡ s.now)

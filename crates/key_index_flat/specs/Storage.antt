@@ -3,7 +3,7 @@
 --     list_left             what a retention leaves of a list: its first value if that stays, else the next one, if there is one, and the tail
 --     RetainsTail           a closure is asked on a list's first value and then on its tail, of which `new` stays: what that found and left
 --     index_in              where the value at a place stands in a vector, reversed or not, by the index of the last
---     vector_at, at_key     the vector that entries, or a map of few or of many, have at a key
+--     vector_at, at_key     the vector that entries, or a map, have at a key
 --     tail_at               the tail there, if there is a map
 --     value_of              the value that entries have at a key
 --     SameBut, Sets         at each key but k new has what old has; so it is, and it has w at k (None: nothing)
@@ -20,8 +20,7 @@ use Rattle.std.specs.Map.{lookup}
 use Rattle.std.specs.declared.vec.Vec.{Vec}
 use Rattle.key_index_flat.specs.Content.{Content, IsLawful, with_list, key_count, item_count}
 use Rattle.key_index_flat.specs.Retention.{AsksInTurn}
-use Rattle.key_index_flat.specs.SmallMap.{entries_in}
-use Rattle.key_index_flat.specs.declared.index.storage.small_map.SmallMap.{SmallMap}
+use Rattle.key_index_map.specs.Table.{Entries}
 use Rattle.key_index_flat.specs.declared.index.storage.tails.TailRetained.{TailRetained}
 use Rattle.key_index_flat.specs.Values.{in_order}
 use Rattle.key_index_flat.specs.View.{View}
@@ -49,10 +48,10 @@ index_in reversed last place = if reversed then last - place else place
 abbrev pub vector_at : {K V A : Type 0} → (K → K → Bool) → List (K × Vec V A) → K → List V
 vector_at eq entries k = unwrap_or (option_map (λ v. v.items) (lookup (eq k) entries)) []
 
-abbrev pub at_key : {K V A : Type 0} → (K → K → Bool) → SmallMap K (Vec V A) → K → List V
-at_key eq map k = vector_at eq (entries_in map.few map.many) k
+abbrev pub at_key : {K V A : Type 0} → (K → K → Bool) → Entries K (Vec V A) → K → List V
+at_key eq map k = vector_at eq map.entries k
 
-abbrev pub tail_at : {K V A B : Type 0} → Bool → (K → K → Bool) → Option (Box (SmallMap K (Vec V A)) B) → K → List V
+abbrev pub tail_at : {K V A B : Type 0} → Bool → (K → K → Bool) → Option (Box (Entries K (Vec V A)) B) → K → List V
 tail_at reversed eq None k = []
 tail_at reversed eq (Some m) k = in_order reversed (at_key eq m.value k)
 

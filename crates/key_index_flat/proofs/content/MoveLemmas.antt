@@ -8,6 +8,7 @@ use Rattle.std.specs.declared.cmp.Ordering.{Ordering}
 use Rattle.std.specs.Ordering.{eq_by_cmp}
 use Rattle.std.specs.Cmp.{IsEquivalence, IsTotalOrder}
 use Rattle.std.specs.List.{IsDistinct}
+use Rattle.key_index_map.specs.Table.{Updates}
 use Rattle.std.specs.Map.{lookup, keys_of}
 use Rattle.std.specs.Option.{option_or}
 use Rattle.std.proofs.lemmas.List.{length-append}
@@ -80,3 +81,10 @@ set_new {eq = eq} {cmp = cmp} ties o laws now moved new k v same puts =
     Sets_by_eq eq cmp ties o now new k (Some v)
     (puts k ∙ ap (λ b. cond b (Some v) (lookup (eq k) moved)) (laws.refl k))
     (λ q not. puts q ∙ ap (λ b. cond b (Some v) (lookup (eq q) moved)) not ∙ same q)
+
+-- an update, at each key
+pub puts : {K V : Type 0} {eq : K → K → Bool} → IsEquivalence eq → (old new : List (K × V)) (k : K) (v : V) → Updates eq old new k (Some v) → (q : K) → lookup (eq q) new ≡ cond (eq k q) (Some v) (lookup (eq q) old)
+puts {eq = eq} laws old new k v u q = elim (eq k q) as (λ b. eq k q ≡ b → lookup (eq q) new ≡ cond b (Some v) (lookup (eq q) old)) [
+  | true ↦ λ same. sym (same_lookup laws k q same new) ∙ u.at
+  | false ↦ λ other. u.others q other
+] refl

@@ -19,8 +19,8 @@ use super::{Refused, Values};
 use crate::translator::Translator;
 use chains::Chains;
 use heads::{Heads, OrderedHeads};
+use key_index_map::map::Map;
 use std::alloc::Global;
-use std::collections::HashMap;
 use std::marker::Model;
 use tails::Front;
 
@@ -323,7 +323,7 @@ impl<T: Translator, V: Drop, M: OrderedHeads<T::Key, V>> Storage<T, V, M> {
     }
 }
 
-impl<T: Translator, V: Drop> Storage<T, V, HashMap<T::Key, V>> {
+impl<T: Translator, V: Drop> Storage<T, V, Map<T::Key, V>> {
     /// Calls a closure once on each value.
     #[inline]
     pub(crate) fn for_each_value<F: FnMut(&V)>(&self, visit: &mut F)

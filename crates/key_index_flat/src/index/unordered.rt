@@ -7,8 +7,8 @@ use super::implement::{Lists, show_by_place, visit_by_place};
 use super::storage::Storage;
 use super::{Factory, Fault, IndexCursor, Refused, Runs, Search, Unordered, Values};
 use crate::translator::Translator;
+use key_index_map::map::Map;
 use std::alloc::Global;
-use std::collections::HashMap;
 use std::convert::AsSlice;
 
 /// An index over a hashed map from translated key to newest value, and another from translated key to the older values of the keys
@@ -17,7 +17,7 @@ use std::convert::AsSlice;
 /// `insert` puts a value in front of those of its key. `remove` takes no memory and never refuses.
 #[derive(Drop)]
 pub struct Index<T: Translator, V> {
-    storage: Storage<T, V, HashMap<T::Key, V>>,
+    storage: Storage<T, V, Map<T::Key, V>>,
     ghost lawful: { IsLawful T.Key.cmp storage.content },
 }
 
@@ -250,7 +250,7 @@ impl<T: Translator, V: Drop> Factory for Index<T, V> {
         ensures fault { IfErr result (λ f. f ≡ Fault.Memory) }
     {
         Ok(Index {
-            storage: Storage::new(alloc, translator, HashMap::new(alloc)),
+            storage: Storage::new(alloc, translator, Map::new(alloc)),
         })
     }
 }

@@ -20,8 +20,8 @@ use crate::index::Values;
 use crate::index::retain::Retained;
 use crate::index::values::visit_in_turn;
 use crate::translator::Translator;
+use key_index_map::map::Map;
 use std::alloc::Global;
-use std::collections::HashMap;
 use std::hash::Hash;
 use std::marker::Model;
 
@@ -386,7 +386,7 @@ impl<T: Translator, V: Drop, M: OrderedHeads<T::Key, V>, E: End> Chains<T, V, M,
 
 /// Calls a closure once on each value, those of an index key one after another.
 fn visit_all<K: Ord + Hash + Copy, V, F: FnMut(&V), E: End>(
-    heads: &HashMap<K, V>,
+    heads: &Map<K, V>,
     tails: &Tails<K, V, E>,
     visit: &mut F,
 )
@@ -396,8 +396,11 @@ fn visit_all<K: Ord + Hash + Copy, V, F: FnMut(&V), E: End>(
         (values_of (content_of K.cmp heads.now.entries (tail_at E.FIRST K.eq tails.now.map))) visit.new }
     ensures callable { F.IsAlwaysCallable visit.new }
 {
-    for (key, head) in heads.iter() {
-        visit_in_turn(tails.list(*key, head), visit);
+    let Some(pairs) = heads.iter() else {
+        return;
+    };
+    for pair in pairs {
+        visit_in_turn(tails.list(pair.0, &pair.1), visit);
     }
 }
 
@@ -474,7 +477,7 @@ impl<T: Translator, V: Drop> Chains<T, V, TreeMap<T::Key, V>, Back> {
     }
 }
 
-impl<T: Translator, V: Drop, E: End> Chains<T, V, HashMap<T::Key, V>, E> {
+impl<T: Translator, V: Drop, E: End> Chains<T, V, Map<T::Key, V>, E> {
     /// Calls a closure once on each value.
     #[inline]
     pub fn for_each_value<F: FnMut(&V)>(&self, visit: &mut F)

@@ -4,13 +4,12 @@ ghost use Rattle.std.specs.List.Sorted.{IsStrictlySortedBy};
 ghost use Rattle.std.specs.Map.{keys_of};
 ghost use Rattle.std.specs.Map.Iter.{deref_pair};
 ghost use Rattle.std.specs.Option.{option_copied, option_map};
-ghost use Rattle.std.specs.HashMap.{get, hash_map_len};
 ghost use Rattle.key_index_flat.specs.Neighbours.{first_entry, last_entry, entries_above, entries_below};
 ghost use Rattle.key_index_flat.specs.Storage.{value_of, SameBut, Sets};
 
 use super::tree_key::{TreeKey, TreeMap};
-use std::collections::hash_map::Entry;
-use std::collections::{BTreeMap, HashMap, btree_map};
+use key_index_map::map::Map;
+use std::collections::{BTreeMap, btree_map};
 use std::hash::Hash;
 use std::mem::replace;
 
@@ -66,78 +65,43 @@ pub trait Heads<K: Ord + Hash + Copy, V> {
         ensures len { length (entries self.new) + (if is_some result then 1 else 0) ≡ length (entries self.old) };
 }
 
-impl<K: Ord + Hash + Copy, V> Heads<K, V> for HashMap<K, V> {
+impl<K: Ord + Hash + Copy, V> Heads<K, V> for Map<K, V> {
     ghost entries = { λ map. map.entries };
 
-    #[inline]
+    #[inline(always)]
     fn len(&self) -> usize {
-        HashMap::len(self)
+        Map::len(self)
     }
 
     #[inline(always)]
     fn get(&self, key: &K) -> Option<&V> {
-        HashMap::get(self, key)
+        Map::get(self, key)
     }
 
-    #[inline]
+    #[inline(always)]
     fn insert(&mut self, key: K, value: V) -> Result<Option<V>, V>
     where
         V: Drop,
     {
-        match HashMap::insert(self, key, value) {
-            Ok(old) => Ok(old),
-            Err(failed) => {
-                let (_, value) = failed.value;
-                Err(value)
-            }
-        }
+        Map::insert(self, key, value)
     }
 
-    #[inline]
+    #[inline(always)]
     fn insert_absent(&mut self, key: K, value: V) -> Result<Option<V>, V>
     where
         V: Drop,
     {
-        put_absent(self, key, value)
+        Map::insert_absent(self, key, value)
     }
 
-    #[inline]
+    #[inline(always)]
     fn replace(&mut self, key: &K, value: V) -> V {
         replace(self.get_mut(key).unwrap(), value)
     }
 
-    #[inline]
+    #[inline(always)]
     fn remove(&mut self, key: &K) -> Option<V> {
-        HashMap::remove(self, key)
-    }
-}
-
-/// Puts a value at a key that has none. The value of a key that has one stays, and the other comes back.
-#[inline]
-fn put_absent<K: Ord + Hash + Copy, V: Drop>(
-    map: &mut HashMap<K, V>,
-    key: K,
-    value: V,
-) -> Result<Option<V>, V>
-    ensures back { IfOk result (λ back. back ≡ (if is_some (get K.eq map.old key) then Some value else None)) }
-    ensures at { OnOk result (get K.eq map.new key ≡ Some (unwrap_or (get K.eq map.old key) value)) }
-    ensures others { SameBut K.cmp (get K.eq map.old) (get K.eq map.new) key }
-    ensures len { OnOk result (hash_map_len map.new
-        ≡ hash_map_len map.old + (if is_some (get K.eq map.old key) then 0 else 1)) }
-    ensures absent { OnErr result (get K.eq map.old key ≡ None) }
-    ensures refused { OnErr result (map.new.entries ≡ map.old.entries) }
-    ensures returned { IfErr result (λ back. back ≡ value) }
-{
-    match map.entry(key) {
-        Err(_) => Err(value),
-        Ok(Entry::Occupied(held)) => {
-            held.into_mut();
-            Ok(Some(value))
-        }
-        Ok(Entry::Vacant(entry)) => {
-            entry.insert(value);
-            Ok(None)
-        }
+        Map::remove(self, key)
     }
 }
 

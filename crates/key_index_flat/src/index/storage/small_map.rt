@@ -1,16 +1,15 @@
 //! A map that has its keys in one array while they are few, and in a hashed map once they are many.
 ghost use Rattle.std.specs.Prelude.{◌≡◌, ◌+◌, ◌<◌, ◌≤◌, ◌≢◌, ℕ, [], None, Some, IfOk, IfErr, IfSome, IfNone, OnOk, OnErr, List, length, slice_index, is_some, IsSome, if◌then◌else◌};
 ghost use Rattle.std.specs.Borrow.{sem};
-ghost use Rattle.std.specs.HashMap.{get, hash_map_len, spare};
 ghost use Rattle.std.specs.List.{IsDistinct};
-ghost use Rattle.std.specs.Map.{keys_of, lookup, update};
+ghost use Rattle.std.specs.Map.{keys_of, lookup};
 ghost use Rattle.std.specs.Option.{option_copied, option_copied_mut};
 ghost use Rattle.key_index_flat.specs.SmallMap.{tag_of, IsAt, AreTagged, AreTaggedBut, NoneBefore, entries_in};
 ghost use Rattle.key_index_flat.specs.Storage.{value_of, Sets};
 
 use super::heads::Heads;
+use key_index_map::map::Map;
 use std::alloc::Global;
-use std::collections::HashMap;
 use std::hash::{BuildHasher, BuildHasherDefault, FoldHasher, Hash};
 use std::marker::Model;
 use std::mem::replace;
@@ -74,33 +73,31 @@ fn retag<K: Hash + Copy, V>(tags: &mut [u8; 16], pairs: &[(K, V)], place: usize)
     }
 }
 
-/// Puts the value of a key that has none into a hashed map that has room for it.
-fn put_new<K: Ord + Hash + Copy, V: Drop>(map: &mut HashMap<K, V>, key: K, value: V)
-    requires room { 0 < spare map.old }
-    requires absent { get K.eq map.old key ≡ None }
-    ensures values { (q : K) → get K.eq map.new q ≡ update K.eq (get K.eq map.old) key (Some value) q }
-    ensures len { hash_map_len map.new ≡ hash_map_len map.old + 1 }
-    ensures room { spare map.old ≤ spare map.new + 1 }
-{
-    let Ok(None) = map.insert(key, value) else {
-        unreachable!()
-    };
-}
-
-/// Moves pairs of keys that differ into a hashed map that has room for them.
-fn move_into<K: Ord + Hash + Copy, V: Drop>(pairs: &mut Vec<(K, V)>, map: &mut HashMap<K, V>)
+/// Moves pairs of keys that differ into a map that has room for them.
+fn move_into<K: Ord + Hash + Copy, V: Drop>(pairs: &mut Vec<(K, V)>, map: &mut Map<K, V>)
     requires distinct { IsDistinct K.eq (keys_of pairs.old.items) }
     requires empty { map.old.entries ≡ [] }
-    requires room { length pairs.old.items ≤ spare map.old }
-    ensures values { (q : K) → get K.eq map.new q ≡ lookup (K.eq q) pairs.old.items }
-    ensures len { hash_map_len map.new ≡ length pairs.old.items }
-    ensures room { spare map.old ≤ spare map.new + length pairs.old.items }
+    requires room { length pairs.old.items ≤ map.old.spare }
+    ensures values { (q : K) → lookup (K.eq q) map.new.entries ≡ lookup (K.eq q) pairs.old.items }
+    ensures len { length map.new.entries ≡ length pairs.old.items }
+    ensures room { map.old.spare ≤ map.new.spare + length pairs.old.items }
     ensures moved { pairs.new.items ≡ [] }
 {
     while let Some(pair) = pairs.pop() {
         let (key, value) = pair;
-        put_new(map, key, value);
+        let Ok(()) = map.add(key, value) else {
+            unreachable!()
+        };
     }
+}
+
+/// The value of a pair.
+#[inline(always)]
+fn second<K: Copy, V>(pair: (K, V)) -> V
+    ensures { result ≡ pair.1 }
+{
+    let (_, value) = pair;
+    value
 }
 
 /// Up to 32 pairs of keys that differ, in no order, with a tag of each of the first sixteen keys. Contracts see the pairs.
@@ -125,7 +122,7 @@ impl<K: Ord + Hash + Copy, V> Model for Pairs<K, V> {
 }
 
 impl<K: Ord + Hash + Copy, V> Pairs<K, V> {
-    ghost use Rattle.key_index_flat.specs.SmallMapLent.{lends_get, lends_value};
+    ghost use Rattle.key_index_flat.specs.SmallMapLent.{lends_value};
 
     fn new(alloc: Global) -> Pairs<K, V>
         ensures { result ≡ [] }
@@ -189,18 +186,6 @@ impl<K: Ord + Hash + Copy, V> Pairs<K, V> {
         &mut self.pairs[place].1
     }
 
-    /// The value at a key.
-    #[inline(always)]
-    pub(super) fn get_mut(&mut self, key: &K) -> Option<&mut V>
-        ensures* lends { sem 𝓛 (lends_get K.row V.row K.Ord K.Hash self.entry key.now result) }
-        ensures value { option_copied_mut result ≡ lookup (K.eq key.now) self.old }
-    {
-        match self.place_of(key) {
-            Some(place) => Some(self.value_mut(place, *key)),
-            None => None,
-        }
-    }
-
     /// Puts another value at a key that has one.
     fn replace(&mut self, key: &K, value: V) -> V
         requires { IsSome (value_of K.cmp self.old key.now) }
@@ -250,24 +235,27 @@ impl<K: Ord + Hash + Copy, V> Pairs<K, V> {
 
     /// The pairs, and the value of a key that has none, in a hashed map. All its memory is taken before the first pair moves.
     #[inline(never)]
-    fn spill(&mut self, key: K, value: V) -> Result<Box<HashMap<K, V>>, V>
+    fn spill(&mut self, key: K, value: V) -> Result<Box<Map<K, V>>, V>
     where
         V: Drop,
         requires { value_of K.cmp self.old key ≡ None }
         ensures sets { IfOk result (λ map. Sets K.cmp self.old map.value.entries key (Some value)) }
-        ensures len { IfOk result (λ map. hash_map_len map.value ≡ length self.old + 1) }
+        ensures len { IfOk result (λ map. length map.value.entries ≡ length self.old + 1) }
         ensures refused { OnErr result (self.new ≡ self.old) }
         ensures returned { IfErr result (λ back. back ≡ value) }
     {
         let alloc = *self.pairs.allocator();
-        let Ok(map) = HashMap::with_capacity(alloc, 2 * MOST) else {
-            return Err(value);
+        let pair = (key, value);
+        let Ok(map) = Map::with_capacity(alloc, 2 * MOST, &pair) else {
+            return Err(second(pair));
         };
         let Ok(mut map) = Box::new(alloc, map) else {
-            return Err(value);
+            return Err(second(pair));
         };
         move_into(&mut self.pairs, &mut map);
-        put_new(&mut map, key, value);
+        let Ok(()) = map.add(key, second(pair)) else {
+            unreachable!()
+        };
         Ok(map)
     }
 }
@@ -276,7 +264,7 @@ impl<K: Ord + Hash + Copy, V> Pairs<K, V> {
 #[derive(Drop)]
 pub struct SmallMap<K: Ord + Hash + Copy, V> {
     pub(super) few: Pairs<K, V>,
-    pub(super) many: Option<Box<HashMap<K, V>>>,
+    pub(super) many: Option<Box<Map<K, V>>>,
 }
 
 impl<K: Ord + Hash + Copy, V> SmallMap<K, V> {

@@ -2,17 +2,14 @@
 ghost use Rattle.std.specs.Prelude.{◌≡◌, ◌+◌, ◌∷◌, ◌++◌, IfOk, Bool, true, false, ◌-◌, ◌<◌, ◌≤◌, List, length, slice_get, slice_set, insert, remove, unwrap_or, [], IfErr, IfNone, IfSome, None, OnErr, OnOk};
 ghost use Rattle.std.specs.Fn.{CalledAt};
 ghost use Rattle.std.specs.Option.{option_map};
-ghost use Rattle.key_index_flat.specs.SmallMap.{entries_in};
 ghost use Rattle.key_index_flat.specs.Storage.{at_key, index_in, list_of, tail_at, value_of, vector_at, RetainsTail, SameBut};
 ghost use Rattle.key_index_flat.specs.Values.{in_order};
 
 use super::heads::Heads;
-use super::small_map::SmallMap;
 use crate::index::Values;
 use crate::index::implement::retain_in_turn;
+use key_index_map::map::Map;
 use std::alloc::Global;
-use std::collections::HashMap;
-use std::collections::hash_map::Entry;
 use std::hash::Hash;
 use std::marker::PhantomData;
 
@@ -53,7 +50,7 @@ impl End for Back {
 /// allocated with the first tail, and stays.
 #[derive(Drop)]
 pub(super) struct Tails<K: Ord + Hash + Copy, V, E: End> {
-    map: Option<Box<SmallMap<K, Vec<V>>>>,
+    map: Option<Box<Map<K, Vec<V>>>>,
     end: PhantomData<E>,
 }
 
@@ -78,7 +75,7 @@ fn turn<V, E: End>(values: &mut Vec<V>)
 
 /// The vector at a key.
 #[inline(never)]
-fn values_in<K: Ord + Hash + Copy, V>(map: &SmallMap<K, Vec<V>>, key: K) -> &[V]
+fn values_in<K: Ord + Hash + Copy, V>(map: &Map<K, Vec<V>>, key: K) -> &[V]
     ensures values { result.now ≡ at_key K.eq map.now key }
     ensures small { length result.now < usize.MAX }
 {
@@ -91,7 +88,7 @@ fn values_in<K: Ord + Hash + Copy, V>(map: &SmallMap<K, Vec<V>>, key: K) -> &[V]
 /// Puts a vector at a key.
 #[tactic(auto, using(crate::proofs::content::VectorLemmas::others_set))]
 fn put_in<K: Ord + Hash + Copy, V: Drop>(
-    map: &mut SmallMap<K, Vec<V>>,
+    map: &mut Map<K, Vec<V>>,
     key: K,
     values: Vec<V>,
 ) -> Result<(), Vec<V>>
@@ -109,7 +106,7 @@ fn put_in<K: Ord + Hash + Copy, V: Drop>(
 /// Removes the vector at a key, if there is one.
 #[inline(always)]
 #[tactic(auto, using(crate::proofs::content::VectorLemmas::others_set))]
-fn remove_in<K: Ord + Hash + Copy, V: Drop>(map: &mut SmallMap<K, Vec<V>>, key: K) -> Option<Vec<V>>
+fn remove_in<K: Ord + Hash + Copy, V: Drop>(map: &mut Map<K, Vec<V>>, key: K) -> Option<Vec<V>>
     ensures removed { unwrap_or (option_map (λ values. values.items) result) [] ≡ at_key K.eq map.old key }
     ensures at { at_key K.eq map.new key ≡ [] }
     ensures others { SameBut K.cmp (at_key K.eq map.old) (at_key K.eq map.new) key }
@@ -190,67 +187,9 @@ fn vector_of<V: Drop>(alloc: Global, value: V) -> Result<Vec<V>, V>
 }
 
 /// Inserts a value at a place of the list at a key, or behind its last value where there is no place.
-fn insert_many<K: Ord + Hash + Copy, V: Drop, E: End>(
-    alloc: Global,
-    map: &mut HashMap<K, Vec<V>>,
-    key: K,
-    place: Option<usize>,
-    value: V,
-) -> Result<(), V>
-    requires { IfSome place (λ at. at ≤ length (vector_at K.eq map.old.entries key)) }
-    ensures at { OnOk result (let old = vector_at K.eq map.old.entries key in
-        in_order E.FIRST (vector_at K.eq map.new.entries key)
-        ≡ insert (in_order E.FIRST old) (unwrap_or place (length old)) value) }
-    ensures others { SameBut K.cmp (vector_at K.eq map.old.entries) (vector_at K.eq map.new.entries) key }
-    ensures refused { OnErr result (vector_at K.eq map.new.entries key ≡ vector_at K.eq map.old.entries key) }
-    ensures returned { IfErr result (λ back. back ≡ value) }
-{
-    match map.entry(key) {
-        Err(_) => Err(value),
-        Ok(Entry::Occupied(entry)) => insert_value::<V, E>(entry.into_mut(), place, value),
-        Ok(Entry::Vacant(entry)) => match vector_of(alloc, value) {
-            Ok(values) => {
-                entry.insert(values);
-                Ok(())
-            }
-            Err(value) => {
-                entry.into_key();
-                Err(value)
-            }
-        },
-    }
-}
-
-/// `insert_many`, while the vectors stand in the array.
-fn insert_few<K: Ord + Hash + Copy, V: Drop, E: End>(
-    alloc: Global,
-    map: &mut SmallMap<K, Vec<V>>,
-    key: K,
-    place: Option<usize>,
-    value: V,
-) -> Result<(), V>
-    requires few { map.old.many ≡ None }
-    requires place { IfSome place (λ at. at ≤ length (at_key K.eq map.old key)) }
-    ensures at { OnOk result (let old = at_key K.eq map.old key in in_order E.FIRST (at_key K.eq map.new key)
-        ≡ insert (in_order E.FIRST old) (unwrap_or place (length old)) value) }
-    ensures others { SameBut K.cmp (at_key K.eq map.old) (at_key K.eq map.new) key }
-    ensures refused { OnErr result (at_key K.eq map.new key ≡ at_key K.eq map.old key) }
-    ensures returned { IfErr result (λ back. back ≡ value) }
-{
-    if let Some(values) = map.few.get_mut(&key) {
-        return insert_value::<V, E>(values, place, value);
-    }
-    let values = vector_of(alloc, value)?;
-    match map.put(key, values) {
-        Ok(()) => Ok(()),
-        Err(mut values) => Err(values.pop().unwrap()),
-    }
-}
-
-/// `insert_many`, of few or of many.
 fn insert_in<K: Ord + Hash + Copy, V: Drop, E: End>(
     alloc: Global,
-    map: &mut SmallMap<K, Vec<V>>,
+    map: &mut Map<K, Vec<V>>,
     key: K,
     place: Option<usize>,
     value: V,
@@ -262,15 +201,19 @@ fn insert_in<K: Ord + Hash + Copy, V: Drop, E: End>(
     ensures refused { OnErr result (at_key K.eq map.new key ≡ at_key K.eq map.old key) }
     ensures returned { IfErr result (λ back. back ≡ value) }
 {
-    if let Some(many) = &mut map.many {
-        return insert_many::<K, V, E>(alloc, many, key, place, value);
+    if let Some(values) = map.get_mut(&key) {
+        return insert_value::<V, E>(values, place, value);
     }
-    insert_few::<K, V, E>(alloc, map, key, place, value)
+    let values = vector_of(alloc, value)?;
+    match map.add(key, values) {
+        Ok(()) => Ok(()),
+        Err(mut values) => Err(values.pop().unwrap()),
+    }
 }
 
 /// `set_value`, of the list at a key.
 fn set_value_in<K: Ord + Hash + Copy, V: Drop, E: End>(
-    map: &mut SmallMap<K, Vec<V>>,
+    map: &mut Map<K, Vec<V>>,
     key: K,
     place: usize,
     value: V,
@@ -280,16 +223,12 @@ fn set_value_in<K: Ord + Hash + Copy, V: Drop, E: End>(
         ≡ slice_set (in_order E.FIRST (at_key K.eq map.old key)) place value }
     ensures others { SameBut K.cmp (at_key K.eq map.old) (at_key K.eq map.new) key }
 {
-    if let Some(many) = &mut map.many {
-        set_value::<V, E>(many.get_mut(&key).unwrap(), place, value);
-        return;
-    }
-    set_value::<V, E>(map.few.get_mut(&key).unwrap(), place, value);
+    set_value::<V, E>(map.get_mut(&key).unwrap(), place, value);
 }
 
 /// `remove_value`, of the list at a key.
 fn remove_value_in<K: Ord + Hash + Copy, V: Drop, E: End>(
-    map: &mut SmallMap<K, Vec<V>>,
+    map: &mut Map<K, Vec<V>>,
     key: K,
     place: usize,
 ) -> Option<(V, usize)>
@@ -301,10 +240,7 @@ fn remove_value_in<K: Ord + Hash + Copy, V: Drop, E: End>(
     ensures fits { IfSome result (λ removed. removed.1 < usize.MAX) }
     ensures others { SameBut K.cmp (at_key K.eq map.old) (at_key K.eq map.new) key }
 {
-    if let Some(many) = &mut map.many {
-        return remove_value::<V, E>(many.get_mut(&key)?, place);
-    }
-    remove_value::<V, E>(map.few.get_mut(&key)?, place)
+    remove_value::<V, E>(map.get_mut(&key)?, place)
 }
 
 /// What a retention found and left of a list: whether the first value stays, the one that has come out of the tail in its place where it
@@ -385,7 +321,7 @@ fn retain_alone<V, F: FnMut(&V) -> bool>(head: &V, mut should_retain: F) -> Tail
 
 /// `retain_behind`, of the tail of a key.
 fn retain_in<K: Ord + Hash + Copy, V: Drop, F: FnMut(&V) -> bool, E: End>(
-    map: &mut SmallMap<K, Vec<V>>,
+    map: &mut Map<K, Vec<V>>,
     key: K,
     head: &V,
     should_retain: F,
@@ -396,16 +332,7 @@ fn retain_in<K: Ord + Hash + Copy, V: Drop, F: FnMut(&V) -> bool, E: End>(
     ensures fits { result.had < usize.MAX }
     ensures others { SameBut K.cmp (at_key K.eq map.old) (at_key K.eq map.new) key }
 {
-    if let Some(many) = &mut map.many {
-        let Some(values) = many.get_mut(&key) else {
-            return retain_alone(head, should_retain);
-        };
-        let retained = retain_behind::<V, F, E>(head, values, should_retain);
-        let left = values.len();
-        remove_empty(&mut **many, key, left);
-        return retained;
-    }
-    let Some(values) = map.few.get_mut(&key) else {
+    let Some(values) = map.get_mut(&key) else {
         return retain_alone(head, should_retain);
     };
     let retained = retain_behind::<V, F, E>(head, values, should_retain);
@@ -414,11 +341,10 @@ fn retain_in<K: Ord + Hash + Copy, V: Drop, F: FnMut(&V) -> bool, E: End>(
     retained
 }
 
-/// Inserts a value behind the last one of a tail in a hashed map, which allocates all the memory that the call may need, and then
-/// `retain_behind`.
-fn insert_and_retain_many<K: Ord + Hash + Copy, V: Drop, F: FnMut(&V) -> bool, E: End>(
+/// Inserts a value behind the last one of a tail, which allocates all the memory that the call may need, and then `retain_behind`.
+fn insert_and_retain_in<K: Ord + Hash + Copy, V: Drop, F: FnMut(&V) -> bool, E: End>(
     alloc: Global,
-    map: &mut HashMap<K, Vec<V>>,
+    map: &mut Map<K, Vec<V>>,
     key: K,
     head: &V,
     value: V,
@@ -426,60 +352,13 @@ fn insert_and_retain_many<K: Ord + Hash + Copy, V: Drop, F: FnMut(&V) -> bool, E
 ) -> Result<TailRetained<V>, V>
     requires { F.IsAlwaysCallable should_retain }
     ensures retained { IfOk result (λ r. RetainsTail (CalledAt F.FnMut) should_retain head.now
-        (in_order E.FIRST (vector_at K.eq map.old.entries key) ++ value ∷ [])
-        (in_order E.FIRST (vector_at K.eq map.new.entries key)) r) }
-    ensures fits { IfOk result (λ r. r.had < usize.MAX) }
-    ensures others { SameBut K.cmp (vector_at K.eq map.old.entries) (vector_at K.eq map.new.entries) key }
-    ensures refused { OnErr result (vector_at K.eq map.new.entries key ≡ vector_at K.eq map.old.entries key) }
-    ensures returned { IfErr result (λ back. back ≡ value) }
-{
-    match map.entry(key) {
-        Err(_) => Err(value),
-        Ok(Entry::Occupied(entry)) => {
-            let values = entry.into_mut();
-            insert_value::<V, E>(values, None, value)?;
-            let retained = retain_behind::<V, F, E>(head, values, should_retain);
-            let left = values.len();
-            remove_empty(map, key, left);
-            Ok(retained)
-        }
-        Ok(Entry::Vacant(entry)) => match vector_of(alloc, value) {
-            Ok(mut values) => {
-                let retained = retain_behind::<V, F, E>(head, &mut values, should_retain);
-                if values.is_empty() {
-                    entry.into_key();
-                    return Ok(retained);
-                }
-                entry.insert(values);
-                Ok(retained)
-            }
-            Err(value) => {
-                entry.into_key();
-                Err(value)
-            }
-        },
-    }
-}
-
-/// `insert_and_retain_many`, while the vectors stand in the array.
-fn insert_and_retain_few<K: Ord + Hash + Copy, V: Drop, F: FnMut(&V) -> bool, E: End>(
-    alloc: Global,
-    map: &mut SmallMap<K, Vec<V>>,
-    key: K,
-    head: &V,
-    value: V,
-    should_retain: F,
-) -> Result<TailRetained<V>, V>
-    requires few { map.old.many ≡ None }
-    requires callable { F.IsAlwaysCallable should_retain }
-    ensures retained { IfOk result (λ r. RetainsTail (CalledAt F.FnMut) should_retain head.now
         (in_order E.FIRST (at_key K.eq map.old key) ++ value ∷ []) (in_order E.FIRST (at_key K.eq map.new key)) r) }
     ensures fits { IfOk result (λ r. r.had < usize.MAX) }
     ensures others { SameBut K.cmp (at_key K.eq map.old) (at_key K.eq map.new) key }
     ensures refused { OnErr result (at_key K.eq map.new key ≡ at_key K.eq map.old key) }
     ensures returned { IfErr result (λ back. back ≡ value) }
 {
-    if let Some(tail) = map.few.get_mut(&key) {
+    if let Some(tail) = map.get_mut(&key) {
         insert_value::<V, E>(tail, None, value)?;
         let retained = retain_behind::<V, F, E>(head, tail, should_retain);
         let left = tail.len();
@@ -487,33 +366,10 @@ fn insert_and_retain_few<K: Ord + Hash + Copy, V: Drop, F: FnMut(&V) -> bool, E:
         return Ok(retained);
     }
     let values = vector_of(alloc, value)?;
-    match map.put(key, values) {
+    match map.add(key, values) {
         Ok(()) => Ok(retain_in::<K, V, F, E>(map, key, head, should_retain)),
         Err(mut values) => Err(values.pop().unwrap()),
     }
-}
-
-/// `insert_and_retain_many`, of few or of many.
-fn insert_and_retain_in<K: Ord + Hash + Copy, V: Drop, F: FnMut(&V) -> bool, E: End>(
-    alloc: Global,
-    map: &mut SmallMap<K, Vec<V>>,
-    key: K,
-    head: &V,
-    value: V,
-    should_retain: F,
-) -> Result<TailRetained<V>, V>
-    requires { F.IsAlwaysCallable should_retain }
-    ensures retained { IfOk result (λ r. RetainsTail (CalledAt F.FnMut) should_retain head.now
-        (in_order E.FIRST (at_key K.eq map.old key) ++ value ∷ []) (in_order E.FIRST (at_key K.eq map.new key)) r) }
-    ensures fits { IfOk result (λ r. r.had < usize.MAX) }
-    ensures others { SameBut K.cmp (at_key K.eq map.old) (at_key K.eq map.new) key }
-    ensures refused { OnErr result (at_key K.eq map.new key ≡ at_key K.eq map.old key) }
-    ensures returned { IfErr result (λ back. back ≡ value) }
-{
-    if let Some(many) = &mut map.many {
-        return insert_and_retain_many::<K, V, F, E>(alloc, many, key, head, value, should_retain);
-    }
-    insert_and_retain_few::<K, V, F, E>(alloc, map, key, head, value, should_retain)
 }
 
 impl<K: Ord + Hash + Copy, V, E: End> Tails<K, V, E> {
@@ -604,7 +460,7 @@ impl<K: Ord + Hash + Copy, V, E: End> Tails<K, V, E> {
         if let Some(map) = &mut self.map {
             return insert_in::<K, V, E>(alloc, map, key, place, value);
         }
-        let Ok(mut map) = Box::new(alloc, SmallMap::new(alloc)) else {
+        let Ok(mut map) = Box::new(alloc, Map::new(alloc)) else {
             return Err(value);
         };
         insert_in::<K, V, E>(alloc, &mut map, key, place, value)?;
@@ -628,7 +484,7 @@ impl<K: Ord + Hash + Copy, V, E: End> Tails<K, V, E> {
         if let Some(map) = &mut self.map {
             return put_in(map, key, values);
         }
-        let Ok(mut map) = Box::new(alloc, SmallMap::new(alloc)) else {
+        let Ok(mut map) = Box::new(alloc, Map::new(alloc)) else {
             return Err(values);
         };
         put_in(&mut map, key, values)?;
@@ -725,7 +581,7 @@ impl<K: Ord + Hash + Copy, V, E: End> Tails<K, V, E> {
         if let Some(map) = &mut self.map {
             return insert_and_retain_in::<K, V, F, E>(alloc, map, key, head, value, should_retain);
         }
-        let Ok(mut map) = Box::new(alloc, SmallMap::new(alloc)) else {
+        let Ok(mut map) = Box::new(alloc, Map::new(alloc)) else {
             return Err(value);
         };
         let retained = insert_and_retain_in::<K, V, F, E>(

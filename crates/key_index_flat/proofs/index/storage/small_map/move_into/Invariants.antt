@@ -1,5 +1,4 @@
 use Rattle.std.proofs.Common.{◌+◌, ◌≤◌, length}
-use Rattle.std.specs.HashMap.{spare}
 use Rattle.key_index_flat.proofs.content.MoveLemmas.{Moving}
 use Rattle.key_index_flat.proofs.index.storage.small_map.move_into.Given as goal
 
@@ -8,8 +7,8 @@ abbrev pub invariant-loop-pair : goal.invariant-loop-pair
 invariant-loop-pair g l =
     record {
       moving : Moving g.met.K.Eq.laws l.fn.pairs.items l.pairs.items l.map.entries;
-      fits : length l.pairs.items ≤ spare l.map;
-      room : spare l.fn.map + length l.pairs.items ≤ spare l.map + length l.fn.pairs.items;
+      fits : length l.pairs.items ≤ l.map.spare;
+      room : l.fn.map.spare + length l.pairs.items ≤ l.map.spare + length l.fn.pairs.items;
     }
 
 abbrev pub decreases-loop-pair : goal.decreases-loop-pair

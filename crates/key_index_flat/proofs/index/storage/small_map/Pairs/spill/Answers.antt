@@ -1,23 +1,27 @@
-use Rattle.std.proofs.Common.{◌+◌, length, ap, ◌∙◌}
-use Rattle.std.specs.HashMap.{get, hash_map_len}
+use Rattle.std.proofs.Common.{◌+◌, Some, length, ap, subst, ◌∙◌}
 use Rattle.std.specs.Map.{lookup}
-use Rattle.key_index_flat.proofs.content.MoveLemmas.{set_new}
+use Rattle.key_index_flat.specs.Storage.{Sets}
+use Rattle.key_index_flat.proofs.content.MoveLemmas.{set_new, puts}
 use Rattle.key_index_flat.proofs.content.PairLemmas.{lookup-value_of}
 use Rattle.key_index_flat.proofs.index.storage.small_map.Pairs.spill.Goals as goal
 
-pub put_new-requires-clause-absent : goal.put_new-requires-clause-absent
-put_new-requires-clause-absent g c =
+pub add-requires : goal.add-requires
+add-requires g c =
     let eq = g.K.PartialEq.eq in
     let key = c.args.key in
-    ap (λ m. get eq m key) c.deref_mut-2.ensures.value ∙ c.move_into.ensures.values key ∙ ap (λ l. lookup (eq key) l) c.self.view_is
+    ap (λ m. lookup (eq key) m.entries) c.deref_mut-2.ensures.value ∙ c.move_into.ensures.values key ∙ ap (λ l. lookup (eq key) l) c.self.view_is
     ∙ lookup-value_of eq g.K.Ord.cmp g.met.K.Ord.matches_eq c.args.self.now key ∙ c.requires
 
 pub returns-clause-sets : goal.returns-clause-sets
 returns-clause-sets g c =
     let eq = g.K.PartialEq.eq in
-    set_new g.met.K.Ord.matches_eq g.met.K.Ord.total g.met.K.Eq.laws c.args.self.now c.deref_mut-2.result.now.entries c.put_new.new.map.entries c.args.key c.args.value
-    (λ q. ap (λ m. get eq m q) c.deref_mut-2.ensures.value ∙ c.move_into.ensures.values q ∙ ap (λ l. lookup (eq q) l) c.self.view_is) c.put_new.ensures.values
+    let moved = c.deref_mut-2.result.now.entries in
+    let v = c.second-2.result in
+    subst (λ w. Sets g.K.Ord.cmp c.args.self.now c.add.new.self.entries c.args.key (Some w)) c.second-2.ensures
+    (set_new g.met.K.Ord.matches_eq g.met.K.Ord.total g.met.K.Eq.laws c.args.self.now moved c.add.new.self.entries c.args.key v
+    (λ q. ap (λ m. lookup (eq q) m.entries) c.deref_mut-2.ensures.value ∙ c.move_into.ensures.values q ∙ ap (λ l. lookup (eq q) l) c.self.view_is)
+    (puts g.met.K.Eq.laws moved c.add.new.self.entries c.args.key v c.in-Ok-add.ensures.updates))
 
 pub returns-clause-len : goal.returns-clause-len
 returns-clause-len g c =
-    c.put_new.ensures.len ∙ ap (λ m. hash_map_len m + 1) c.deref_mut-2.ensures.value ∙ ap (λ n. n + 1) (c.move_into.ensures.len ∙ ap length c.self.view_is)
+    c.in-Ok-add.ensures.len ∙ ap (λ m. length m.entries + 1) c.deref_mut-2.ensures.value ∙ ap (λ n. n + 1) (c.move_into.ensures.len ∙ ap length c.self.view_is)
