@@ -3,15 +3,17 @@
 --     Turned, turned   another value in a cell
 --     Put, put         a pair in a free cell
 --     Taken, taken     no pair in a cell any more
-use Rattle.std.proofs.Common.{◌≡◌, ◌≢◌, ℕ, zero, suc, ◌+◌, ◌*◌, ◌<◌, ◌≤◌, Bool, true, false, cond, eqb, List, [], ◌∷◌, ◌++◌, length, get_or, Some, None, slice_get, slice_set, slice_index, slice_index_or, refl, sym, ap, subst, ◌∙◌, arith}
+use Rattle.std.proofs.Common.{◌≡◌, ◌≢◌, ℕ, zero, suc, ◌+◌, ◌*◌, ◌<◌, ◌≤◌, Bool, true, false, cond, eqb, nat_eq, List, [], ◌∷◌, ◌++◌, length, get_or, Some, None, slice_get, slice_set, slice_index, slice_index_or, refl, sym, ap, subst, ◌∙◌, arith}
 use Rattle.std.specs.Cmp.{IsEquivalence}
 use Rattle.std.specs.List.{IsDistinct}
 use Rattle.std.specs.Map.{lookup, keys_of}
 use Rattle.std.proofs.lemmas.Bool.{le-leb, lt-leb, eqb-true, eqb-false}
+use Rattle.std.proofs.lemmas.List.Sums.{sum_by-set}
 use Rattle.std.proofs.lemmas.List.{get_or-set_same, get_or-set_other, length-set, length-append}
 use Rattle.std.proofs.lemmas.Option.{slice_get_within, slice_get-get_or}
-use Rattle.key_index_map.specs.Table.{AreCells, IsFull, Reaches, Updates, hash_of, tag_of, home, held, set_value_at}
+use Rattle.key_index_map.specs.Table.{AreCells, IsFull, Reaches, Updates, hash_of, tag_of, home, held, removed, set_value_at}
 use Rattle.key_index_map.proofs.Between.{Changed, come, go, turn, found}
+use Rattle.key_index_map.proofs.Groups.{refuted}
 use Rattle.key_index_map.proofs.Held.{Cut, cut, now, retagged, reitemed}
 
 -- at a place, or at another one
@@ -30,13 +32,29 @@ set_other (z ∷ zs) zero (suc j) y other = refl
 set_other (z ∷ zs) (suc i) zero y other = refl
 set_other (z ∷ zs) (suc i) (suc j) y other = set_other zs i j y (λ same. other (ap suc same))
 
+-- the marks of removed pairs, once a cell has another tag
+removed_set : (ts : List ℕ) (i t : ℕ) → i < length ts → removed (slice_set ts i t) + cond (nat_eq (slice_index ts i) 1) 1 0 ≡ removed ts + cond (nat_eq t 1) 1 0
+removed_set ts i t below = sum_by-set (λ x. cond (nat_eq x 1) 1 0) ts i t 0 below
+
+pub no_mark : (t : ℕ) → t ≢ 1 → ◌≡◌ {A = ℕ} (cond (nat_eq t 1) 1 0) 0
+no_mark t other = ap (λ b. cond {A = ℕ} b 1 0) (refuted (nat_eq t 1) (λ same. other (eqb-true t 1 same)))
+
+-- a free cell is empty or has such a mark, one with a pair is neither
+free_mark : (t : ℕ) → t < 2 → ◌≡◌ {A = ℕ} (cond (nat_eq t 0) 1 0 + cond (nat_eq t 1) 1 0) 1
+free_mark zero low = refl
+free_mark (suc zero) low = refl
+free_mark (suc (suc t)) low = absurd (omega (arith, low))
+
+held_mark : (t : ℕ) → 3 ≤ t → ◌≡◌ {A = ℕ} (cond (nat_eq t 1) 1 0) 0
+held_mark t least = no_mark t (λ one. omega (arith, least, one))
+
 pub set_value_at-set : {K V : Type 0} (xs : List (K × V)) (i : ℕ) (e : K × V) (w : V) → slice_get xs i ≡ Some e → slice_set xs i (e.0, w) ≡ set_value_at xs i w
 set_value_at-set [] i e w at = refl
 set_value_at-set (x ∷ xs) zero e w at = let same : x ≡ e = cc in ap (λ d. (d.0, w) ∷ xs) (sym same)
 set_value_at-set (x ∷ xs) (suc i) e w at = ap (λ l. x ∷ l) (set_value_at-set xs i e w at)
 
-module _ {K V : Type 0} {eq : K → K → Bool} (laws : IsEquivalence eq) {input : K → List (List ℕ)} {tags : List ℕ} {items : List (K × V)} {filled : List Bool} {groups len left removed : ℕ}
-    (are : AreCells eq input tags items filled groups len left removed) (cell : ℕ) where
+module _ {K V : Type 0} {eq : K → K → Bool} (laws : IsEquivalence eq) {input : K → List (List ℕ)} {tags : List ℕ} {items : List (K × V)} {filled : List Bool} {groups len left : ℕ}
+    (are : AreCells eq input tags items filled groups len left) (cell : ℕ) where
   at_cell : cell < length items → Cut tags items cell
   at_cell below = cut tags items cell below (omega (arith, are.sized, are.within))
 
@@ -62,7 +80,7 @@ module _ {K V : Type 0} {eq : K → K → Bool} (laws : IsEquivalence eq) {input
       looked_at = ap (lookup (eq k)) (with_pair is) ∙ found laws here.before here.behind k e same differ
 
       pub record Turned (w : V) : Type 0 where
-        pub cells : AreCells eq input tags (slice_set items cell (e.0, w)) filled groups len left removed
+        pub cells : AreCells eq input tags (slice_set items cell (e.0, w)) filled groups len left
         pub updates : Updates eq (held tags items) (held tags (slice_set items cell (e.0, w))) k (Some w)
         pub as_long : length (held tags (slice_set items cell (e.0, w))) ≡ length (held tags items)
 
@@ -126,11 +144,11 @@ module _ {K V : Type 0} {eq : K → K → Bool} (laws : IsEquivalence eq) {input
     sized_still : length (slice_set tags cell t) ≡ 16 * groups
     sized_still = length-set tags cell t ∙ are.sized
 
-    module _ (left' removed' : ℕ) where
+    module _ (left' : ℕ) where
       -- a pair comes into a free cell
       module _ (k : K) (v : V) (free : slice_index tags cell < 2) (is : t ≡ tag_of (hash_of (input k))) (least : 3 ≤ t)
           (reach : (group : ℕ) → 16 * group ≤ cell → cell < 16 * group + 16 → Reaches tags groups (home groups (hash_of (input k))) group)
-          (none : lookup (eq k) (held tags items) ≡ None) (place : cell < length filled) (fewer : left' + removed' + 1 ≤ left + removed) where
+          (none : lookup (eq k) (held tags items) ≡ None) (place : cell < length filled) (fewer : left' + cond (nat_eq (slice_index tags cell) 0) 1 0 ≡ left) where
         abbrev tags' : List ℕ
         tags' = slice_set tags cell t
 
@@ -138,7 +156,7 @@ module _ {K V : Type 0} {eq : K → K → Bool} (laws : IsEquivalence eq) {input
         items' = slice_set items cell (k, v)
 
         pub record Put : Type 0 where
-          pub cells : AreCells eq input (slice_set tags cell t) (slice_set items cell (k, v)) (slice_set filled cell true) groups (len + 1) left' removed'
+          pub cells : AreCells eq input (slice_set tags cell t) (slice_set items cell (k, v)) (slice_set filled cell true) groups (len + 1) left'
           pub updates : Updates eq (held tags items) (held (slice_set tags cell t) (slice_set items cell (k, v))) k (Some v)
           pub longer : length (held (slice_set tags cell t) (slice_set items cell (k, v))) ≡ length (held tags items) + 1
 
@@ -189,7 +207,12 @@ module _ {K V : Type 0} {eq : K → K → Bool} (laws : IsEquivalence eq) {input
                 (λ other. are.reached i f (sym (set_other items cell i (k, v) other) ∙ there_f) (subst (λ n. 3 ≤ n) (same_tag i other) held_at) group from to));
             distinct = subst (λ l. IsDistinct eq (keys_of l)) (sym after_it) change.distinct;
             counted = omega (arith, one_more, are.counted);
-            room = let long = length-set items cell (k, v) in omega (arith, long, are.room, fewer);
+            room =
+                let long = length-set items cell (k, v) in
+                let marks = removed_set tags cell t in_tags in
+                let was = free_mark (slice_index tags cell) free in
+                let is_none = held_mark t least in
+                omega (arith, long, are.room, fewer, marks, was, is_none);
           };
           updates = subst (λ l. Updates eq l (held tags' items') k (Some v)) (sym before_it) (subst (λ l. Updates eq (there.before ++ there.behind) l k (Some v)) (sym after_it) change.updates);
           longer = one_more;
@@ -197,9 +220,9 @@ module _ {K V : Type 0} {eq : K → K → Bool} (laws : IsEquivalence eq) {input
 
       -- a pair goes
       module _ (e : K × V) (at : slice_get items cell ≡ Some e) (had : 3 ≤ slice_index tags cell) (k : K) (same : eq k e.0 ≡ true) (low : t < 2)
-          (keeps : (g : ℕ) → 16 * g ≤ cell → cell < 16 * g + 16 → IsFull tags g → t ≢ 0) (len' : ℕ) (one_less : len ≡ len' + 1) (more : left' + removed' ≤ left + removed + 1) where
+          (keeps : (g : ℕ) → 16 * g ≤ cell → cell < 16 * g + 16 → IsFull tags g → t ≢ 0) (len' : ℕ) (one_less : len ≡ len' + 1) (more : left' ≡ left + cond (nat_eq t 0) 1 0) where
         pub record Taken : Type 0 where
-          pub cells : AreCells eq input (slice_set tags cell t) items (slice_set filled cell false) groups len' left' removed'
+          pub cells : AreCells eq input (slice_set tags cell t) items (slice_set filled cell false) groups len' left'
           pub updates : Updates eq (held tags items) (held (slice_set tags cell t) items) k None
           pub shorter : length (held (slice_set tags cell t) items) + 1 ≡ length (held tags items)
 
@@ -237,7 +260,11 @@ module _ {K V : Type 0} {eq : K → K → Bool} (laws : IsEquivalence eq) {input
                 still_reached t keeps in_tags _ group (are.reached i f there_f (subst (λ n. 3 ≤ n) (same_tag i other) held_at) group from to);
             distinct = subst (λ l. IsDistinct eq (keys_of l)) (sym after_it_goes) gone.distinct;
             counted = omega (arith, one_fewer, are.counted, one_less);
-            room = omega (arith, are.room, more, one_less);
+            room =
+                let marks = removed_set tags cell t in_tags in
+                let was = held_mark (slice_index tags cell) had in
+                let is_free = free_mark t low in
+                omega (arith, are.room, more, one_less, marks, was, is_free);
           };
           updates = subst (λ l. Updates eq l (held (slice_set tags cell t) items) k None) (sym (with_pair e at had)) (subst (λ l. Updates eq ((here e at).before ++ e ∷ (here e at).behind) l k None) (sym after_it_goes) gone.updates);
           shorter = one_fewer;

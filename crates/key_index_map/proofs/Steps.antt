@@ -1,12 +1,13 @@
 -- On a table as its functions see it, when a pair comes or goes.
 --     Putting, putting     a pair in the first free cell
 --     Taking, taking       no pair in the cell of a key any more
-use Rattle.std.proofs.Common.{◌≡◌, ℕ, zero, suc, ◌+◌, ◌-◌, ◌<◌, ◌≤◌, Bool, true, false, List, [], ◌∷◌, length, get_or, Some, None, slice_get, slice_set, refl, sym, ap, subst, ◌∙◌, arith}
+use Rattle.std.proofs.Common.{◌≡◌, ℕ, zero, suc, ◌+◌, ◌-◌, ◌*◌, ◌<◌, ◌≤◌, Bool, true, false, cond, nat_eq, slice_index, List, [], ◌∷◌, length, get_or, Some, None, slice_get, slice_set, refl, sym, ap, subst, ◌∙◌, arith}
 use Rattle.std.specs.Cmp.{IsEquivalence}
 use Rattle.std.specs.Map.{lookup}
 use Rattle.std.specs.Option.{IsSome}
 use Rattle.std.proofs.lemmas.Option.{slice_get_read}
 use Rattle.key_index_map.specs.Table.{Cells, AreCells, IsAt, IsFirstFree, IsTagWithout, Updates, hash_of, tag_of, home, held, pairs, with_value}
+use Rattle.key_index_map.proofs.Groups.{apart}
 use Rattle.key_index_map.proofs.Cells.{put, taken, Turned, turned, looked_at, counted_at, set_value_at-set}
 
 pub element : {X : Type 0} (xs : List X) (i : ℕ) → i < length xs → (x : X) × (slice_get xs i ≡ Some x)
@@ -14,32 +15,32 @@ element [] i below = absurd (omega (arith, below))
 element (x ∷ xs) zero below = (x, refl)
 element (x ∷ xs) (suc i) below = element xs i (omega (arith, below))
 
-module _ {K V : Type 0} {eq : K → K → Bool} (laws : IsEquivalence eq) {input : K → List (List ℕ)} {tags : List ℕ} {items : List (K × V)} {filled : List Bool} {groups len left removed : ℕ}
-    (are : AreCells eq input tags items filled groups len left removed) (cells : Cells K V) (view : record { tags = tags; items = items; spare = left } ≡ cells) (cell t left' removed' : ℕ)
+module _ {K V : Type 0} {eq : K → K → Bool} (laws : IsEquivalence eq) {input : K → List (List ℕ)} {tags : List ℕ} {items : List (K × V)} {filled : List Bool} {groups len left : ℕ}
+    (are : AreCells eq input tags items filled groups len left) (cells : Cells K V) (view : record { tags = tags; items = items; spare = left } ≡ cells) (cell t left' : ℕ)
     (items' : List (K × V)) (filled' : List Bool) where
   pub record Putting (k : K) (v : V) : Type 0 where
-    pub still : AreCells eq input (slice_set tags cell t) items' filled' groups (len + 1) left' removed'
+    pub still : AreCells eq input (slice_set tags cell t) items' filled' groups (len + 1) left'
     pub updates : Updates eq (pairs cells) (held (slice_set tags cell t) items') k (Some v)
     pub longer : length (held (slice_set tags cell t) items') ≡ length (pairs cells) + 1
 
   module _ (k : K) (v : V) (start : ℕ) (at_home : start ≡ home groups (hash_of (input k))) (first : IsFirstFree cells start cell) (is : t ≡ tag_of (hash_of (input k)))
-      (none : lookup (eq k) (pairs cells) ≡ None) (as_many : length items ≡ length filled) (sum : left' + removed' + 1 ≡ left + removed)
+      (none : lookup (eq k) (pairs cells) ≡ None) (as_many : length items ≡ length filled) (fewer : left' + cond (nat_eq (slice_index cells.tags cell) 0) 1 0 ≡ left)
       (items_are : items' ≡ slice_set items cell (k, v)) (filled_are : filled' ≡ slice_set filled cell true) where
     pub putting : Putting k v
     putting =
         let now : Cells K V = record { tags = tags; items = items; spare = left } in
         let f : IsFirstFree now (home groups (hash_of (input k))) cell = subst (λ c. IsFirstFree c (home groups (hash_of (input k))) cell) (sym view) (subst (λ n. IsFirstFree cells n cell) at_home first) in
-        let p = put laws are cell f.within t left' removed' k v f.free is (omega (arith, is)) (f.reached groups are.sized) (ap (λ c. lookup (eq k) (pairs c)) view ∙ none) (omega (arith, f.within, as_many)) (omega (arith, sum)) in
+        let p = put laws are cell f.within t left' k v f.free is (omega (arith, is)) (f.reached groups are.sized) (ap (λ c. lookup (eq k) (pairs c)) view ∙ none) (omega (arith, f.within, as_many)) (subst (λ (c : Cells K V). left' + cond (nat_eq (slice_index c.tags cell) 0) 1 0 ≡ left) (sym view) fewer) in
         record {
-          still = subst (λ l. AreCells eq input (slice_set tags cell t) l filled' groups (len + 1) left' removed') (sym items_are)
-              (subst (λ l. AreCells eq input (slice_set tags cell t) (slice_set items cell (k, v)) l groups (len + 1) left' removed') (sym filled_are) p.cells);
+          still = subst (λ l. AreCells eq input (slice_set tags cell t) l filled' groups (len + 1) left') (sym items_are)
+              (subst (λ l. AreCells eq input (slice_set tags cell t) (slice_set items cell (k, v)) l groups (len + 1) left') (sym filled_are) p.cells);
           updates = subst (λ c. Updates eq (pairs c) (held (slice_set tags cell t) items') k (Some v)) view
               (subst (λ l. Updates eq (held tags items) (held (slice_set tags cell t) l) k (Some v)) (sym items_are) p.updates);
           longer = ap (λ l. length (held (slice_set tags cell t) l)) items_are ∙ p.longer ∙ ap (λ c. length (pairs c) + 1) view;
         }
 
   pub record Taking (k : K) (v : V) : Type 0 where
-    pub still : AreCells eq input (slice_set tags cell t) items' filled' groups (len - 1) left' removed'
+    pub still : AreCells eq input (slice_set tags cell t) items' filled' groups (len - 1) left'
     pub value : Some v ≡ lookup (eq k) (pairs cells)
     pub updates : Updates eq (pairs cells) (held (slice_set tags cell t) items') k None
     pub shorter : length (held (slice_set tags cell t) items') + 1 ≡ length (pairs cells)
@@ -52,22 +53,22 @@ module _ {K V : Type 0} {eq : K → K → Bool} (laws : IsEquivalence eq) {input
       at_it : slice_get items cell ≡ Some e
       at_it = slice_get_read items (length items) cell e refl in_cell.within read
 
-      module _ (without : IsTagWithout cells cell t) (some : 1 ≤ len) (sum : left' + removed' ≡ left + removed + 1) (items_are : items' ≡ items) (filled_are : filled' ≡ slice_set filled cell false) where
+      module _ (without : IsTagWithout cells cell t) (some : 1 ≤ len) (more : left' ≡ left + cond (nat_eq t 0) 1 0) (items_are : items' ≡ items) (filled_are : filled' ≡ slice_set filled cell false) where
         pub taking : Taking k e.1
         taking =
             let keeps = subst (λ (c : Cells K V). IsTagWithout c cell t) (sym view) without in
-            let p = taken laws are cell in_cell.within t left' removed' e at_it in_cell.holds k (in_cell.pair e at_it) keeps.0 (λ g from to full zero_tag. keeps.1 zero_tag g from to full) (len - 1) (omega (arith, some)) (omega (arith, sum)) in
+            let p = taken laws are cell in_cell.within t left' e at_it in_cell.holds k (in_cell.pair e at_it) keeps.0 (λ g from to full zero_tag. keeps.1 zero_tag g from to full) (len - 1) (omega (arith, some)) more in
             record {
-              still = subst (λ l. AreCells eq input (slice_set tags cell t) l filled' groups (len - 1) left' removed') (sym items_are)
-                  (subst (λ l. AreCells eq input (slice_set tags cell t) items l groups (len - 1) left' removed') (sym filled_are) p.cells);
+              still = subst (λ l. AreCells eq input (slice_set tags cell t) l filled' groups (len - 1) left') (sym items_are)
+                  (subst (λ l. AreCells eq input (slice_set tags cell t) items l groups (len - 1) left') (sym filled_are) p.cells);
               value = sym (looked_at laws are cell e at_it in_cell.holds k (in_cell.pair e at_it)) ∙ ap (λ c. lookup (eq k) (pairs c)) view;
               updates = subst (λ c. Updates eq (pairs c) (held (slice_set tags cell t) items') k None) view
                   (subst (λ l. Updates eq (held tags items) (held (slice_set tags cell t) l) k None) (sym items_are) p.updates);
               shorter = ap (λ l. length (held (slice_set tags cell t) l) + 1) items_are ∙ p.shorter ∙ ap (λ c. length (pairs c)) view;
             }
 
-module _ {K V : Type 0} {eq : K → K → Bool} (laws : IsEquivalence eq) {input : K → List (List ℕ)} {tags : List ℕ} {items : List (K × V)} {filled : List Bool} {groups len left removed : ℕ}
-    (are : AreCells eq input tags items filled groups len left removed) (cells : Cells K V) (view : record { tags = tags; items = items; spare = left } ≡ cells) (cell : ℕ) (k : K) (stands : IsAt eq cells cell k) where
+module _ {K V : Type 0} {eq : K → K → Bool} (laws : IsEquivalence eq) {input : K → List (List ℕ)} {tags : List ℕ} {items : List (K × V)} {filled : List Bool} {groups len left : ℕ}
+    (are : AreCells eq input tags items filled groups len left) (cells : Cells K V) (view : record { tags = tags; items = items; spare = left } ≡ cells) (cell : ℕ) (k : K) (stands : IsAt eq cells cell k) where
   in_its_cell : IsAt eq (record { tags = tags; items = items; spare = left }) cell k
   in_its_cell = subst (λ c. IsAt eq c cell k) (sym view) stands
 
@@ -83,15 +84,15 @@ module _ {K V : Type 0} {eq : K → K → Bool} (laws : IsEquivalence eq) {input
       let it = element items cell in_its_cell.within in
       let most = counted_at laws are cell it.0 it.1 in_its_cell.holds in omega (arith, most, are.counted)
 
-module _ {K V : Type 0} {eq : K → K → Bool} (laws : IsEquivalence eq) {input : K → List (List ℕ)} {tags : List ℕ} {items : List (K × V)} {filled : List Bool} {groups len left removed : ℕ}
-    (are : AreCells eq input tags items filled groups len left removed) (cells : Cells K V) (view : record { tags = tags; items = items; spare = left } ≡ cells) (cell : ℕ) (k : K) (stands : IsAt eq cells cell k)
+module _ {K V : Type 0} {eq : K → K → Bool} (laws : IsEquivalence eq) {input : K → List (List ℕ)} {tags : List ℕ} {items : List (K × V)} {filled : List Bool} {groups len left : ℕ}
+    (are : AreCells eq input tags items filled groups len left) (cells : Cells K V) (view : record { tags = tags; items = items; spare = left } ≡ cells) (cell : ℕ) (k : K) (stands : IsAt eq cells cell k)
     (e : K × V) (read : e ≡ get_or items cell e) where
   -- the cell of a key, whose value may be written
   pub record Lending : Type 0 where
     pub value : Some e.1 ≡ lookup (eq k) (pairs cells)
     pub written : (w : V) → Updates eq (pairs cells) (pairs (with_value cells cell w)) k (Some w)
     pub as_long : (w : V) → length (pairs (with_value cells cell w)) ≡ length (pairs cells)
-    pub still : (w : V) → AreCells eq input tags (slice_set items cell (e.0, w)) filled groups len left removed
+    pub still : (w : V) → AreCells eq input tags (slice_set items cell (e.0, w)) filled groups len left
     pub shown : (w : V) → record { tags = tags; items = slice_set items cell (e.0, w); spare = left } ≡ with_value cells cell w
 
   it_stands : IsAt eq (record { tags = tags; items = items; spare = left }) cell k
@@ -113,3 +114,16 @@ module _ {K V : Type 0} {eq : K → K → Bool} (laws : IsEquivalence eq) {input
         still = λ w. (on w).cells;
         shown = is_set;
       }
+
+module _ {K V : Type 0} {eq : K → K → Bool} {input : K → List (List ℕ)} {tags : List ℕ} {items : List (K × V)} {filled : List Bool} {groups len left : ℕ}
+    (are : AreCells eq input tags items filled groups len left) (cells : Cells K V) (view : record { tags = tags; items = items; spare = left } ≡ cells) (cell : ℕ) (k : K) where
+  -- the pair that was read has the key
+  pub stands_at : (e : K × V) → e ≡ get_or items cell e → eq k e.0 ≡ true → cell < 16 * groups → 3 ≤ slice_index tags cell → IsAt eq cells cell k
+  stands_at e read same inside had =
+      let below : cell < length items = apart cell (length items) (λ is. is) (λ past. let two = are.beyond cell past inside in omega (arith, two, had)) in
+      let at = slice_get_read items (length items) cell e refl below read in
+      subst (λ c. IsAt eq c cell k) view (record {
+        within = below;
+        holds = had;
+        pair = λ f there. let is : e ≡ f = cc in subst (λ x. eq k x.0 ≡ true) is same;
+      })

@@ -8,14 +8,17 @@
 --                     and how many more pairs there is room for
 --     pairs           the pairs that it holds
 --     Entries         what a map holds
---     home            the group at which a search for a hash begins
+--     home, home_in   the group at which a search for a hash begins
+--     removed         how many cells are marked as those of removed pairs
 --     AreCells        what stands where: each pair's tag is that of its key, and a search for its key comes to its group; keys differ
 --     IsAt, NoneIn    the pair with a key stands in a cell; in none of a range
---     Found, IsFirstFree, IsTagWithout    what a search through groups answers, which cell is taken, which tag is left behind
+--     Found, Seen     what a search through groups answers, and a look at the first of them alone
+--     IsFirstFree, IsTagWithout    which cell is taken, which tag is left behind
 --     Updates, Writes    what a call does to the pairs
-use Rattle.std.specs.Prelude.{◌≡◌, ◌≢◌, ℕ, zero, suc, ◌+◌, ◌*◌, ◌-◌, ◌/◌, ◌^◌, ◌<◌, ◌≤◌, Bool, true, false, nat_le, if◌then◌else◌, max, List, [], ◌∷◌, length, Option, Some, None, slice_get, slice_index, slice_index_or, bit_and}
-use Rattle.std.specs.List.{fold, IsDistinct}
+use Rattle.std.specs.Prelude.{◌≡◌, ◌≢◌, ℕ, zero, suc, ◌+◌, ◌*◌, ◌-◌, ◌/◌, ◌^◌, ◌<◌, ◌≤◌, Bool, true, false, nat_le, if◌then◌else◌, max, List, [], ◌∷◌, length, Option, Some, None, slice_get, slice_index, slice_index_or, bit_and, nat_eq, ⊤}
+use Rattle.std.specs.List.{fold, count_by, IsDistinct}
 use Rattle.std.specs.Map.{keys_of, lookup}
+use Rattle.std.specs.Option.{IsSome}
 use Rattle.std.specs.Hash.FoldHasher as hasher
 use Rattle.key_index_map.specs.declared.table.Search.{Search}
 use Rattle.key_index_map.specs.declared.table.Search.TheVariants.{Found as Here, Absent, Onward}
@@ -67,6 +70,14 @@ limit cells = if nat_le cells 16 then cells else cells / 8 * 7
 abbrev pub home : ℕ → ℕ → ℕ
 home groups hash = bit_and hash (groups - 1)
 
+-- the same of a table
+abbrev pub home_in : {K V : Type 0} → Cells K V → ℕ → ℕ
+home_in c hash = home (length c.tags / 16) hash
+
+-- how many cells are marked as those of removed pairs
+abbrev pub removed : List ℕ → ℕ
+removed tags = count_by (λ t. nat_eq t 1) tags
+
 -- no place of the group is empty
 abbrev pub IsFull : List ℕ → ℕ → Type 0
 IsFull tags group = (place : ℕ) → 16 * group ≤ place → place < 16 * group + 16 → slice_index tags place ≢ 0
@@ -78,7 +89,7 @@ pub record Reaches (tags : List ℕ) (groups start group : ℕ) : Type 0 where
   pub past : group < start → (g : ℕ) → g < group → IsFull tags g
 
 pub record AreCells {K V : Type 0} (eq : K → K → Bool) (input : K → List (List ℕ)) (tags : List ℕ) (items : List (K × V)) (filled : List Bool)
-    (groups len left removed : ℕ) : Type 0 where
+    (groups len left : ℕ) : Type 0 where
   pub some : 0 < groups
   pub sized : length tags ≡ 16 * groups
   pub within : length items ≤ 16 * groups
@@ -91,7 +102,7 @@ pub record AreCells {K V : Type 0} (eq : K → K → Bool) (input : K → List (
       → Reaches tags groups (home groups (hash_of (input e.0))) group
   pub distinct : IsDistinct eq (keys_of (held tags items))
   pub counted : len ≡ length (held tags items)
-  pub room : left + len + removed ≤ length items
+  pub room : left + len + removed tags ≤ length items
 
 -- the places of the cells from one on hold the pairs that their tags tell of
 pub record AreTaken {X : Type 0} (tags : List ℕ) (items : List X) (filled : List Bool) (from : ℕ) : Type 0 where
@@ -108,12 +119,11 @@ pub record IsAt {K V : Type 0} (eq : K → K → Bool) (c : Cells K V) (cell : �
 abbrev pub NoneIn : {K V : Type 0} → (K → K → Bool) → Cells K V → ℕ → ℕ → K → Type 0
 NoneIn {K} {V} eq c from to k = (i : ℕ) (e : K × V) → from ≤ i → i < to → slice_get c.items i ≡ Some e → 3 ≤ slice_index c.tags i → eq k e.0 ≡ false
 
--- a search through some groups ended at one with an empty cell, and found no pair with the key so far
-pub record Stopped {K V : Type 0} (eq : K → K → Bool) (c : Cells K V) (from to : ℕ) (k : K) : Type 0 where
+-- a search through some groups ended at one with an empty cell, the place, and found no pair with the key so far
+pub record Stopped {K V : Type 0} (eq : K → K → Bool) (c : Cells K V) (from to : ℕ) (k : K) (place : ℕ) : Type 0 where
   pub group : ℕ
   pub after : from ≤ group
   pub before : group < to
-  pub place : ℕ
   pub in_group : (16 * group ≤ place) × (place < 16 * group + 16)
   pub empty : slice_index c.tags place ≡ 0
   pub none : NoneIn eq c (16 * from) (16 * group + 16) k
@@ -121,7 +131,7 @@ pub record Stopped {K V : Type 0} (eq : K → K → Bool) (c : Cells K V) (from 
 -- what a search through some groups answers
 abbrev pub Found : {K V : Type 0} → (K → K → Bool) → Cells K V → ℕ → ℕ → K → Search → Type 0
 Found eq c from to k (Here cell) = IsAt eq c cell k
-Found eq c from to k Absent = Stopped eq c from to k
+Found eq c from to k (Absent cell) = Stopped eq c from to k cell
 Found eq c from to k Onward = NoneIn eq c (16 * from) (16 * to) k
 
 -- a cell with no pair, at which a search from a group ends
@@ -146,6 +156,12 @@ pub record IsFirstFree {K V : Type 0} (c : Cells K V) (home cell : ℕ) : Type 0
   pub within : cell < length c.items
   pub free : slice_index c.tags cell < 2
   pub reached : (groups : ℕ) → length c.tags ≡ 16 * groups → (group : ℕ) → 16 * group ≤ cell → cell < 16 * group + 16 → Reaches c.tags groups home group
+
+-- what a look at the first group of a search tells
+abbrev pub Seen : {K V : Type 0} → (K → K → Bool) → Cells K V → ℕ → K → Search → Type 0
+Seen eq c hash k (Here cell) = IsAt eq c cell k × IsSome (lookup (eq k) (pairs c))
+Seen eq c hash k (Absent cell) = (lookup (eq k) (pairs c) ≡ None) × IsFirstFree c (home_in c hash) cell
+Seen eq c hash k Onward = ⊤
 
 -- the tag that a cell without its pair has: 0 only where its group has another empty cell
 abbrev pub IsTagWithout : {K V : Type 0} → Cells K V → ℕ → ℕ → Type 0

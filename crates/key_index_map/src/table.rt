@@ -1,10 +1,10 @@
 //! Pairs in cells, each with a tag, sixteen to a group, which are compared at once.
-ghost use Rattle.std.specs.Prelude.{◌≡◌, ◌≢◌, ℕ, ◌+◌, ◌*◌, ◌<◌, ◌≤◌, List, [], Option, Some, None, IfOk, IfErr, IfSome, IfNone, IsOk, OnOk, OnErr, length, slice_get, slice_index, slice_index_or, unwrap_or, is_some, if◌then◌else◌, false, true};
+ghost use Rattle.std.specs.Prelude.{◌≡◌, ◌≢◌, ℕ, ◌+◌, ◌*◌, ◌<◌, ◌≤◌, List, [], Option, Some, None, IfOk, IfErr, IfSome, IfNone, IsOk, OnOk, OnErr, length, slice_get, slice_index, slice_index_or, unwrap_or, is_some, nat_eq, if◌then◌else◌, false, true};
 ghost use Rattle.std.specs.Borrow.{sem};
 ghost use Rattle.std.specs.Iterator.{YieldsFirstRef, item_count};
 ghost use Rattle.std.specs.Map.{lookup};
 ghost use Rattle.std.specs.Option.{IsSome, option_copied, option_copied_mut};
-ghost use Rattle.key_index_map.specs.Table.{Cells, IsAt, IsFreeIn, IsFirstFree, IsTagWithout, NoneIn, Found, Stopped, Updates, hash_of, tag_of, home, held, is_held, limit, pairs, with_value};
+ghost use Rattle.key_index_map.specs.Table.{Cells, IsAt, IsFreeIn, IsFirstFree, IsTagWithout, NoneIn, Found, Seen, Stopped, Updates, hash_of, tag_of, home, home_in, held, is_held, limit, pairs, with_value};
 
 use crate::room::{Deed, release, try_reserve};
 use core::slots::Slots;
@@ -105,32 +105,23 @@ fn cells_for(len: usize, least: usize) -> Option<usize>
     Some(cells)
 }
 
-/// How many more pairs there is room for, and how many cells have the tag of a removed one, once a cell with this tag has a pair.
+/// How many empty cells may have a pair yet, once the cell with this tag has one.
 #[inline(always)]
-fn counts_with(tag: u8, left: usize, removed: usize) -> (usize, usize)
+fn left_with(tag: u8, left: usize) -> usize
     requires { 0 < left }
-    ensures sum { result.0 + result.1 + 1 ≡ left + removed }
-    ensures room { left ≤ result.0 + 1 }
+    ensures sum { result + (if nat_eq tag 0 then 1 else 0) ≡ left }
+    ensures room { left ≤ result + 1 }
 {
-    if tag == REMOVED && 0 < removed {
-        (left, removed - 1)
-    } else {
-        (left - 1, removed)
-    }
+    if tag == EMPTY { left - 1 } else { left }
 }
 
 /// The same, once a cell without its pair has this tag.
 #[inline(always)]
-fn counts_without(tag: u8, left: usize, removed: usize) -> (usize, usize)
-    requires { left + removed < usize.MAX }
-    ensures sum { result.0 + result.1 ≡ left + removed + 1 }
-    ensures room { left ≤ result.0 }
+fn left_without(tag: u8, left: usize) -> usize
+    requires { left < usize.MAX }
+    ensures { result ≡ left + (if nat_eq tag 0 then 1 else 0) }
 {
-    if tag == EMPTY {
-        (left + 1, removed)
-    } else {
-        (left, removed + 1)
-    }
+    if tag == EMPTY { left + 1 } else { left }
 }
 
 /// Where a search through some groups ended.
@@ -138,14 +129,13 @@ fn counts_without(tag: u8, left: usize, removed: usize) -> (usize, usize)
 enum Search {
     /// At the cell with the key.
     Found(usize),
-    /// At a group with an empty cell: no further one has the key.
-    Absent,
+    /// At a group with an empty cell, this one: no further group has the key.
+    Absent(usize),
     /// Behind the last of them.
     Onward,
 }
 
-/// Pairs in cells, each with a tag. `left` is how many more there is room for, `removed` how many cells were marked as removed since the
-/// cells were made and had no pair again.
+/// Pairs in cells, each with a tag. `left` is how many empty cells may have one yet.
 pub struct Table<K: Ord + Hash + Copy, V> {
     tags: Vec<u8>,
     row: Slots<(K, V)>,
@@ -153,7 +143,6 @@ pub struct Table<K: Ord + Hash + Copy, V> {
     groups: usize,
     len: usize,
     left: usize,
-    removed: usize,
 }
 
 impl<K: Ord + Hash + Copy, V> Model for Table<K, V> {
@@ -166,7 +155,7 @@ impl<K: Ord + Hash + Copy, V> Model for Table<K, V> {
     ghost view = { λ t. record { tags = t.tags.items; items = slots_items t.row; spare = t.left } };
 
     ghost invariant = { λ t. AreCells K.eq K.hash_input t.tags.items (slots_items t.row) (slots_filled t.row)
-        t.groups t.len t.left t.removed × (t.deed.at ≡ slots_ptr t.row) × (t.deed.len ≡ slots_len t.row) };
+        t.groups t.len t.left × (t.deed.at ≡ slots_ptr t.row) × (t.deed.len ≡ slots_len t.row) };
 }
 
 impl<K: Ord + Hash + Copy, V> Table<K, V> {
@@ -224,8 +213,8 @@ impl<K: Ord + Hash + Copy, V> Table<K, V> {
             if let Some(cell) = self.cell_in(GROUP * group, tag, key) {
                 return Search::Found(cell);
             }
-            if place_with(&self.tags, GROUP * group, EMPTY).is_some() {
-                return Search::Absent;
+            if let Some(cell) = place_with(&self.tags, GROUP * group, EMPTY) {
+                return Search::Absent(cell);
             }
             group += 1;
         }
@@ -233,6 +222,47 @@ impl<K: Ord + Hash + Copy, V> Table<K, V> {
     }
 
     /// The cell of a key. Each group is looked at once at the most.
+    #[inline(never)]
+    fn find_in_all(&self, hash: u64, key: K) -> Option<usize>
+        requires { hash ≡ hash_of (K.hash_input key) }
+        ensures found { IfSome result (λ cell. IsAt K.eq self.now cell key) }
+        ensures present { IfSome result (λ _. IsSome (lookup (K.eq key) (pairs self.now))) }
+        ensures none { IfNone result (lookup (K.eq key) (pairs self.now) ≡ None) }
+    {
+        let tag = tag_of(hash);
+        let home = home_of(hash, self.groups);
+        match self.search(home, self.groups, tag, &key) {
+            Search::Found(cell) => Some(cell),
+            Search::Absent(_) => None,
+            Search::Onward => match self.search(0, home, tag, &key) {
+                Search::Found(cell) => Some(cell),
+                _ => None,
+            },
+        }
+    }
+
+    /// A look at the first group of a search alone, where most of them end. `Onward` tells nothing.
+    #[inline(always)]
+    fn look(&self, hash: u64, key: &K) -> Search
+        requires { hash ≡ hash_of (K.hash_input key.now) }
+        ensures { Seen K.eq self.now hash key.now result }
+    {
+        let start = GROUP * home_of(hash, self.groups);
+        match place_with(&self.tags, start, tag_of(hash)) {
+            Some(cell) => {
+                if *key == self.row.get(cell).0 {
+                    return Search::Found(cell);
+                }
+                Search::Onward
+            }
+            None => match place_with(&self.tags, start, EMPTY) {
+                Some(cell) => Search::Absent(cell),
+                None => Search::Onward,
+            },
+        }
+    }
+
+    /// The cell of a key.
     #[inline(always)]
     pub(crate) fn find(&self, hash: u64, key: &K) -> Option<usize>
         requires { hash ≡ hash_of (K.hash_input key.now) }
@@ -240,15 +270,10 @@ impl<K: Ord + Hash + Copy, V> Table<K, V> {
         ensures present { IfSome result (λ _. IsSome (lookup (K.eq key.now) (pairs self.now))) }
         ensures none { IfNone result (lookup (K.eq key.now) (pairs self.now) ≡ None) }
     {
-        let tag = tag_of(hash);
-        let home = home_of(hash, self.groups);
-        match self.search(home, self.groups, tag, key) {
+        match self.look(hash, key) {
             Search::Found(cell) => Some(cell),
-            Search::Absent => None,
-            Search::Onward => match self.search(0, home, tag, key) {
-                Search::Found(cell) => Some(cell),
-                _ => None,
-            },
+            Search::Absent(_) => None,
+            Search::Onward => self.find_in_all(hash, *key),
         }
     }
 
@@ -294,7 +319,7 @@ impl<K: Ord + Hash + Copy, V> Table<K, V> {
     }
 
     /// The first free cell that a search from a group meets.
-    #[inline(always)]
+    #[inline(never)]
     fn free_from(&self, home: usize) -> usize
         requires home { 16 * home < length self.now.tags }
         requires room { length (pairs self.now) < length self.now.items }
@@ -309,6 +334,37 @@ impl<K: Ord + Hash + Copy, V> Table<K, V> {
         cell
     }
 
+    /// The first free cell that a search for a hash meets.
+    #[inline(always)]
+    fn free_for(&self, hash: u64) -> usize
+        requires { 0 < self.now.spare }
+        ensures { IsFirstFree self.now (home_in self.now hash) result }
+    {
+        let home = home_of(hash, self.groups);
+        if let Some(cell) = place_with(&self.tags, GROUP * home, EMPTY) {
+            return cell;
+        }
+        self.free_from(home)
+    }
+
+    /// Puts the pair of a key that has none in the first free cell of a search for it.
+    #[inline(always)]
+    fn put_at(&mut self, cell: usize, hash: u64, pair: (K, V))
+        requires free { IsFirstFree self.old (home_in self.old hash) cell }
+        requires hash { hash ≡ hash_of (K.hash_input pair.0) }
+        requires absent { lookup (K.eq pair.0) (pairs self.old) ≡ None }
+        requires room { 0 < self.old.spare }
+        ensures updates { Updates K.eq (pairs self.old) (pairs self.new) pair.0 (Some pair.1) }
+        ensures len { length (pairs self.new) ≡ length (pairs self.old) + 1 }
+        ensures room { self.old.spare ≤ self.new.spare + 1 }
+    {
+        let left = left_with(self.tags[cell], self.left);
+        self.left = left;
+        self.tags[cell] = tag_of(hash);
+        self.row.put(cell, pair);
+        self.len += 1;
+    }
+
     /// Puts in the pair of a key that has none.
     #[inline(always)]
     pub(crate) fn put(&mut self, hash: u64, pair: (K, V))
@@ -319,13 +375,8 @@ impl<K: Ord + Hash + Copy, V> Table<K, V> {
         ensures len { length (pairs self.new) ≡ length (pairs self.old) + 1 }
         ensures room { self.old.spare ≤ self.new.spare + 1 }
     {
-        let cell = self.free_from(home_of(hash, self.groups));
-        let (left, removed) = counts_with(self.tags[cell], self.left, self.removed);
-        self.left = left;
-        self.removed = removed;
-        self.tags[cell] = tag_of(hash);
-        self.row.put(cell, pair);
-        self.len += 1;
+        let cell = self.free_for(hash);
+        self.put_at(cell, hash, pair);
     }
 
     /// The tag of a cell whose pair goes. No search comes to further groups than before.
@@ -350,9 +401,8 @@ impl<K: Ord + Hash + Copy, V> Table<K, V> {
         ensures room { self.old.spare ≤ self.new.spare }
     {
         let tag = self.tag_without(cell);
-        let (left, removed) = counts_without(tag, self.left, self.removed);
+        let left = left_without(tag, self.left);
         self.left = left;
-        self.removed = removed;
         self.len -= 1;
         self.tags[cell] = tag;
         let (_, value) = self.row.take(cell);
@@ -379,7 +429,6 @@ impl<K: Ord + Hash + Copy, V> Table<K, V> {
             groups,
             len: 0,
             left: limit(cells),
-            removed: 0,
         })
     }
 
@@ -398,7 +447,6 @@ impl<K: Ord + Hash + Copy, V> Table<K, V> {
             groups: _,
             len: _,
             left: _,
-            removed: _,
         } = self;
         let mut cell = 0;
         while cell < row.len() {
@@ -513,6 +561,54 @@ impl<K: Ord + Hash + Copy, V> Table<K, V> {
         replace(self.value_mut(cell, key), value)
     }
 
+    /// `insert`, by a search through all groups.
+    #[inline(never)]
+    fn insert_by_search(&mut self, hash: u64, key: K, value: V) -> Result<Option<V>, V>
+        requires { hash ≡ hash_of (K.hash_input key) }
+        ensures old { IfOk result (λ old. old ≡ lookup (K.eq key) (pairs self.old)) }
+        ensures updates { OnOk result (Updates K.eq (pairs self.old) (pairs self.new) key (Some value)) }
+        ensures len { IfOk result (λ old.
+            length (pairs self.new) ≡ length (pairs self.old) + (if is_some old then 0 else 1)) }
+        ensures absent { OnErr result (lookup (K.eq key) (pairs self.old) ≡ None) }
+        ensures refused { OnErr result (self.new ≡ self.old) }
+        ensures returned { IfErr result (λ back. back ≡ value) }
+        ensures room { self.old.spare ≤ self.new.spare + 1 }
+        ensures succeeds { 0 < self.old.spare → IsOk result }
+    {
+        if let Some(cell) = self.find_in_all(hash, key) {
+            return Ok(Some(self.set(cell, key, value)));
+        }
+        match self.add(hash, key, value) {
+            Ok(()) => Ok(None),
+            Err(value) => Err(value),
+        }
+    }
+
+    /// `insert_absent`, by a search through all groups.
+    #[inline(never)]
+    fn insert_absent_by_search(&mut self, hash: u64, key: K, value: V) -> Result<Option<V>, V>
+        requires { hash ≡ hash_of (K.hash_input key) }
+        ensures back { IfOk result (λ back.
+            back ≡ (if is_some (lookup (K.eq key) (pairs self.old)) then Some value else None)) }
+        ensures updates { OnOk result (Updates K.eq (pairs self.old) (pairs self.new) key
+            (Some (unwrap_or (lookup (K.eq key) (pairs self.old)) value))) }
+        ensures len { OnOk result (length (pairs self.new)
+            ≡ length (pairs self.old) + (if is_some (lookup (K.eq key) (pairs self.old)) then 0 else 1)) }
+        ensures absent { OnErr result (lookup (K.eq key) (pairs self.old) ≡ None) }
+        ensures refused { OnErr result (self.new ≡ self.old) }
+        ensures returned { IfErr result (λ back. back ≡ value) }
+        ensures room { self.old.spare ≤ self.new.spare + 1 }
+        ensures succeeds { 0 < self.old.spare → IsOk result }
+    {
+        if self.find_in_all(hash, key).is_some() {
+            return Ok(Some(value));
+        }
+        match self.add(hash, key, value) {
+            Ok(()) => Ok(None),
+            Err(value) => Err(value),
+        }
+    }
+
     /// Puts a value at a key, and answers the one that stood there. A refusal, which comes at an absent key alone, hands the value
     /// back.
     #[inline(always)]
@@ -528,12 +624,13 @@ impl<K: Ord + Hash + Copy, V> Table<K, V> {
         ensures succeeds { 0 < self.old.spare → IsOk result }
     {
         let hash = hash_of(key);
-        if let Some(cell) = self.find(hash, &key) {
-            return Ok(Some(self.set(cell, key, value)));
-        }
-        match self.add(hash, key, value) {
-            Ok(()) => Ok(None),
-            Err(value) => Err(value),
+        match self.look(hash, &key) {
+            Search::Found(cell) => Ok(Some(self.set(cell, key, value))),
+            Search::Absent(cell) if 0 < self.left => {
+                self.put_at(cell, hash, (key, value));
+                Ok(None)
+            }
+            _ => self.insert_by_search(hash, key, value),
         }
     }
 
@@ -554,12 +651,13 @@ impl<K: Ord + Hash + Copy, V> Table<K, V> {
         ensures succeeds { 0 < self.old.spare → IsOk result }
     {
         let hash = hash_of(key);
-        if self.find(hash, &key).is_some() {
-            return Ok(Some(value));
-        }
-        match self.add(hash, key, value) {
-            Ok(()) => Ok(None),
-            Err(value) => Err(value),
+        match self.look(hash, &key) {
+            Search::Found(_) => Ok(Some(value)),
+            Search::Absent(cell) if 0 < self.left => {
+                self.put_at(cell, hash, (key, value));
+                Ok(None)
+            }
+            _ => self.insert_absent_by_search(hash, key, value),
         }
     }
 
@@ -661,7 +759,6 @@ impl<K: Ord + Hash + Copy, V: Drop> Drop for Table<K, V> {
             groups: _,
             len: _,
             left: _,
-            removed: _,
         } = self;
         let mut cell = 0;
         while cell < row.len() {

@@ -8,13 +8,13 @@ use Rattle.key_index_map.proofs.table.Table.take.Goals.{After-take-value}
 pub overflow_sub-self : goal.overflow_sub-self
 overflow_sub-self g c = some_pair g.met.K.Eq.laws c.self.invariant.0 c.args.self.now c.self.view_is c.args.cell c.args.key c.requires
 
-take_out : (g : Over) (c : After-take-value g) → Taking g.met.K.Eq.laws c.self.invariant.0 c.args.self.now c.self.view_is c.args.cell c.tag_without-tag.result c.counts_without-left.result.0 c.counts_without-left.result.1
+take_out : (g : Over) (c : After-take-value g) → Taking g.met.K.Eq.laws c.self.invariant.0 c.args.self.now c.self.view_is c.args.cell c.tag_without-tag.result c.left_without-left.result
     (slots_items c.take-value.new.self) (slots_filled c.take-value.new.self) c.args.key c.take-value.result.1
 take_out g c =
-    taking g.met.K.Eq.laws c.self.invariant.0 c.args.self.now c.self.view_is c.args.cell c.tag_without-tag.result c.counts_without-left.result.0 c.counts_without-left.result.1
+    taking g.met.K.Eq.laws c.self.invariant.0 c.args.self.now c.self.view_is c.args.cell c.tag_without-tag.result c.left_without-left.result
     (slots_items c.take-value.new.self) (slots_filled c.take-value.new.self) c.args.key c.requires c.take-value.result c.take-value.ensures.value c.tag_without-tag.ensures
     (some_pair g.met.K.Eq.laws c.self.invariant.0 c.args.self.now c.self.view_is c.args.cell c.args.key c.requires)
-    c.counts_without-left.ensures.sum c.take-value.ensures.items c.take-value.ensures.filled
+    c.left_without-left.ensures c.take-value.ensures.items c.take-value.ensures.filled
 
 pub invariant_of-self : goal.invariant_of-self
 invariant_of-self g c =
