@@ -137,10 +137,11 @@ enum Search {
 
 /// Pairs in cells, each with a tag. `left` is how many empty cells may have one yet.
 pub struct Table<K: Ord + Hash + Copy, V> {
-    tags: Vec<u8>,
+    // What a look-up reads stands together.
     row: Slots<(K, V)>,
-    deed: Deed<(K, V), Global>,
     groups: usize,
+    tags: Vec<u8>,
+    deed: Deed<(K, V), Global>,
     len: usize,
     left: usize,
 }

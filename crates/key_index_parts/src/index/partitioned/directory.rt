@@ -76,7 +76,7 @@ impl<T: Translator, V: Drop, X: ReadBucket<T, V> + Drop> Directory<T, V, X> {
     }
 
     /// The list at a slot, empty where there is no such bucket.
-    #[inline]
+    #[inline(always)]
     pub(super) fn list_at(&self, slot: (usize, T::Key)) -> Values<'_, V>
         ensures { result ≡ list_in T.Key.cmp self.now.contents slot }
     {
