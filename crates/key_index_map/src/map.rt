@@ -10,12 +10,12 @@ use std::alloc::{AllocError, Global};
 use std::hash::Hash;
 use std::marker::Model;
 
-/// A map from keys to values. It takes no memory before the first pair comes, and gives none back before it ends. Contracts see its
-/// pairs, in no order that they tell of.
+/// A map from keys to values. It takes no memory before the first pair comes or room is reserved, and gives none back before it ends.
+/// Contracts see its pairs, in no order that they tell of, and how many more keys there is room for.
 #[derive(Drop)]
 pub struct Map<K: Ord + Hash + Copy, V> {
     table: Option<Table<K, V>>,
-    // Of a map without a table: what it reserved.
+    // What was reserved before the first pair came.
     room: Option<Room<K, V>>,
     alloc: Global,
 }
@@ -193,7 +193,7 @@ impl<K: Ord + Hash + Copy, V> Map<K, V> {
         }
     }
 
-    /// The pairs, in no order that contracts tell of, if memory was ever taken for some.
+    /// The pairs, in no order that contracts tell of, if there ever was one.
     #[inline]
     pub fn iter(&self) -> Option<Iter<'_, K, V>>
         ensures { unwrap_or result [] ≡ self.now.entries }

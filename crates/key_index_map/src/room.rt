@@ -1,4 +1,4 @@
-//! Memory for values that stand in places of a row, before there is a row, as one, and its way back.
+//! Memory for a row of places, as a block before there is a value and as a row from then on.
 ghost use Rattle.std.specs.Prelude.{◌≡◌, ℕ, ◌*◌, ◌^◌, false, replicate, IfOk};
 ghost use Rattle.std.specs.Vec.Ownership.{FitsInBlock};
 ghost use Rattle.core.specs.Mem.Slots.{slots_ptr, slots_len, slots_filled};
@@ -13,7 +13,7 @@ use std::marker::{Model, PhantomData};
 use std::mem::{align_of, size_of};
 use std_alloc::room::may_hold;
 
-/// Memory for `len` values, none of which stands there. Like a deed it holds no allocator: `free` gives it back.
+/// Memory for `len` values, of which none stands there. It holds no allocator: `free` gives it back to one.
 pub(crate) struct Block<T, A: Allocator> {
     at: *mut T,
     len: usize,
@@ -22,7 +22,8 @@ pub(crate) struct Block<T, A: Allocator> {
 }
 
 impl<T, A: Allocator> Model for Block<T, A> {
-    ghost also_owns = { λ b. fsep (flt (b.len * bytes_of T.row) (2 ^ 63)) (owned_block (A.dealloc_token b.alloc) (array_of T.row b.len) b.at) };
+    ghost also_owns = { λ b. fsep (flt (b.len * bytes_of T.row) (2 ^ 63))
+        (owned_block (A.dealloc_token b.alloc) (array_of T.row b.len) b.at) };
 }
 
 /// The right to give the room of `len` places at `at` back to `alloc`. It takes no space.

@@ -1,6 +1,5 @@
-use Rattle.std.proofs.Common.{◌+◌, Some, length, ap, subst, ◌∙◌}
+use Rattle.std.proofs.Common.{◌+◌, length, ap, ◌∙◌}
 use Rattle.std.specs.Map.{lookup}
-use Rattle.key_index_flat.specs.Storage.{Sets}
 use Rattle.key_index_flat.proofs.content.MoveLemmas.{set_new, puts}
 use Rattle.key_index_flat.proofs.content.PairLemmas.{lookup-value_of}
 use Rattle.key_index_flat.proofs.index.storage.small_map.Pairs.spill.Goals as goal
@@ -16,11 +15,10 @@ pub returns-clause-sets : goal.returns-clause-sets
 returns-clause-sets g c =
     let eq = g.K.PartialEq.eq in
     let moved = c.deref_mut-2.result.now.entries in
-    let v = c.second-2.result in
-    subst (λ w. Sets g.K.Ord.cmp c.args.self.now c.add.new.self.entries c.args.key (Some w)) c.second-2.ensures
-    (set_new g.met.K.Ord.matches_eq g.met.K.Ord.total g.met.K.Eq.laws c.args.self.now moved c.add.new.self.entries c.args.key v
+    let v = c.args.value in
+    set_new g.met.K.Ord.matches_eq g.met.K.Ord.total g.met.K.Eq.laws c.args.self.now moved c.add.new.self.entries c.args.key v
     (λ q. ap (λ m. lookup (eq q) m.entries) c.deref_mut-2.ensures.value ∙ c.move_into.ensures.values q ∙ ap (λ l. lookup (eq q) l) c.self.view_is)
-    (puts g.met.K.Eq.laws moved c.add.new.self.entries c.args.key v c.in-Ok-add.ensures.updates))
+    (puts g.met.K.Eq.laws moved c.add.new.self.entries c.args.key v c.in-Ok-add.ensures.updates)
 
 pub returns-clause-len : goal.returns-clause-len
 returns-clause-len g c =
