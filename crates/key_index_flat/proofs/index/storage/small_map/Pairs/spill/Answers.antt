@@ -1,7 +1,7 @@
-use Rattle.std.proofs.Common.{◌+◌, length, ap, ◌∙◌}
+use Rattle.std.proofs.Common.{◌≡◌, ◌+◌, None, Some, length, slice_get, ap, sym, ◌∙◌, arith}
 use Rattle.std.specs.Map.{lookup}
 use Rattle.key_index_flat.proofs.content.MoveLemmas.{set_new, puts}
-use Rattle.key_index_flat.proofs.content.PairLemmas.{lookup-value_of}
+use Rattle.key_index_flat.proofs.content.PairLemmas.{lookup-value_of, none_differ}
 use Rattle.key_index_flat.proofs.index.storage.small_map.Pairs.spill.Goals as goal
 
 pub add-requires : goal.add-requires
@@ -23,3 +23,8 @@ returns-clause-sets g c =
 pub returns-clause-len : goal.returns-clause-len
 returns-clause-len g c =
     c.in-Ok-add.ensures.len ∙ ap (λ m. length m.entries + 1) c.deref_mut-2.ensures.value ∙ ap (λ n. n + 1) (c.move_into.ensures.len ∙ ap length c.self.view_is)
+
+pub invariant_of-self : goal.invariant_of-self
+invariant_of-self g c =
+    let none = c.move_into.ensures.moved in
+    (omega (arith, ap length none), none_differ g.K.PartialEq.eq c.move_into.new.pairs.items none, λ i e below at. let past : Some e ≡ None = sym at ∙ ap (λ l. slice_get l i) none in cc)
