@@ -1,9 +1,9 @@
 -- On free cells.
 --     first, second     the one that a search through the groups ahead found, and through those behind
 --     never             it finds one where there are fewer pairs than cells
-use Rattle.std.proofs.Common.{◌≡◌, ℕ, ◌*◌, ◌<◌, ◌≤◌, Bool, List, length, slice_index, sym, ap, subst, ◌∙◌, arith}
+use Rattle.std.proofs.Common.{◌≡◌, ℕ, ◌*◌, ◌<◌, ◌≤◌, Bool, List, length, slice_index, sym, ap, subst, ◌∙◌, ⊎_elim, arith}
+use Rattle.std.proofs.lemmas.Bool.{cases_lt}
 use Rattle.key_index_map.specs.Table.{Cells, AreCells, IsFree, IsFirstFree, NoneFree, held, pairs}
-use Rattle.key_index_map.proofs.Groups.{apart}
 use Rattle.key_index_map.proofs.Held.{all_held}
 
 module _ {K V : Type 0} (cells : Cells K V) (home : ℕ) where
@@ -39,7 +39,7 @@ module _ {K V : Type 0} {eq : K → K → Bool} {input : K → List (List ℕ)} 
   tags_long = ap (λ (c : Cells K V). length c.tags) (sym view) ∙ are.sized
 
   each : (home : ℕ) → NoneFree cells (16 * home) (16 * groups) → NoneFree cells 0 (16 * home) → (i : ℕ) → i < 16 * groups → 2 ≤ slice_index cells.tags i
-  each home ahead behind i within = apart i (16 * home) (λ before. behind i (omega arith) before) (λ past. ahead i past within)
+  each home ahead behind i within = ⊎_elim (λ before. behind i (omega arith) before) (λ past. ahead i past within) (cases_lt i (16 * home))
 
   pub never : (home : ℕ) → NoneFree cells (16 * home) (16 * groups) → NoneFree cells 0 (16 * home) → length (pairs cells) < length cells.items → ⊥
   never home ahead behind fewer =

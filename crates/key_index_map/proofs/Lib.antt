@@ -1,3 +1,4 @@
+pub mod Places
 pub mod Held
 pub mod Between
 pub mod Groups
@@ -5,5 +6,6 @@ pub mod Cells
 pub mod Free
 pub mod Steps
 pub mod New
+pub mod Transfer
 pub mod Moving
 pub mod Deeds
