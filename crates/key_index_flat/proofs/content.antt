@@ -4,7 +4,6 @@ pub mod EditLemmas
 pub mod FaultLemmas
 pub mod InOrderLemmas
 pub mod KeyLemmas
-pub mod MoveLemmas
 pub mod PairLemmas
 pub mod TagLemmas
 pub mod ValueLemmas

@@ -5,11 +5,9 @@
 --     AreTagged       the first sixteen pairs have their keys' tags
 --     AreTaggedBut    the first sixteen have, but for the pair at a place
 --     entries_in      the pairs, or those of the hashed map where there is one
---     Writes          new has w at the key k, and what old has at each other one
 use Rattle.std.specs.Prelude.{Box, ◌≡◌, ◌≢◌, ℕ, ◌/◌, ◌^◌, ◌<◌, Bool, true, false, List, Option, Some, None, slice_get, slice_index, length}
 use Rattle.std.specs.List.{fold}
 use Rattle.key_index_map.specs.Table.{Entries}
-use Rattle.std.specs.Map.{lookup}
 use Rattle.std.specs.Hash.FoldHasher as hasher
 
 unfoldable pub tag_of : List (List ℕ) → ℕ
@@ -33,7 +31,3 @@ AreTaggedBut {K} {V} input tags pairs place =
 abbrev pub entries_in : {K V B : Type 0} → List (K × V) → Option (Box (Entries K V) B) → List (K × V)
 entries_in pairs None = pairs
 entries_in pairs (Some map) = map.value.entries
-
-abbrev pub Writes : {K V : Type 0} → (K → K → Bool) → List (K × V) → List (K × V) → K → V → Type 0
-Writes {K} eq old new k w =
-    (lookup (eq k) new ≡ Some w) × ((q : K) → eq k q ≡ false → lookup (eq q) new ≡ lookup (eq q) old)

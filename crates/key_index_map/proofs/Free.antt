@@ -2,9 +2,9 @@
 --     empty_home        an empty one of the first group
 --     first, second     the one that a search through the groups ahead found, and through those behind
 --     never             it finds one where there are fewer pairs than cells
-use Rattle.std.proofs.Common.{◌≡◌, ℕ, ◌+◌, ◌*◌, ◌<◌, ◌≤◌, Bool, List, length, slice_index, sym, ap, subst, ◌∙◌, arith}
+use Rattle.std.proofs.Common.{◌≡◌, ℕ, ◌+◌, ◌*◌, ◌<◌, ◌≤◌, Bool, List, length, slice_index, sym, ap, subst, ◌∙◌, ⊎_elim, arith}
+use Rattle.std.proofs.lemmas.Bool.{cases_lt}
 use Rattle.key_index_map.specs.Table.{Cells, AreCells, IsFree, IsFirstFree, NoneFree, held, pairs}
-use Rattle.key_index_map.proofs.Groups.{apart}
 use Rattle.key_index_map.proofs.Held.{all_held}
 
 module _ {K V : Type 0} (cells : Cells K V) (home : ℕ) where
@@ -43,9 +43,8 @@ module _ {K V : Type 0} {eq : K → K → Bool} {input : K → List (List ℕ)} 
   pub empty_home : (home place : ℕ) → home < groups → 16 * home ≤ place → place < 16 * home + 16 → slice_index cells.tags place ≡ 0 → IsFirstFree cells home place
   empty_home home place within low high empty =
       let shown : slice_index tags place ≡ 0 = subst (λ (c : Cells K V). slice_index c.tags place ≡ 0) (sym view) empty in
-      let inside : place < length items = apart place (length items)
-      (λ below. below)
-      (λ past. let two = are.beyond place past (omega (arith, high, within)) in omega (arith, two, shown)) in
+      let inside : place < length items =
+      ⊎_elim (λ below. below) (λ past. let two = are.beyond place past (omega (arith, high, within)) in omega (arith, two, shown)) (cases_lt place (length items)) in
       first cells home place (record {
         within = subst (λ (c : Cells K V). place < length c.items) view inside;
         free = omega (arith, empty);
@@ -56,7 +55,7 @@ module _ {K V : Type 0} {eq : K → K → Bool} {input : K → List (List ℕ)} 
       })
 
   each : (home : ℕ) → NoneFree cells (16 * home) (16 * groups) → NoneFree cells 0 (16 * home) → (i : ℕ) → i < 16 * groups → 2 ≤ slice_index cells.tags i
-  each home ahead behind i within = apart i (16 * home) (λ before. behind i (omega arith) before) (λ past. ahead i past within)
+  each home ahead behind i within = ⊎_elim (λ before. behind i (omega arith) before) (λ past. ahead i past within) (cases_lt i (16 * home))
 
   pub never : (home : ℕ) → NoneFree cells (16 * home) (16 * groups) → NoneFree cells 0 (16 * home) → length (pairs cells) < length cells.items → ⊥
   never home ahead behind fewer =

@@ -1,21 +1,12 @@
 -- On groups of places, and on the cells that a search passes.
-use Rattle.std.proofs.Common.{◌≡◌, ◌≢◌, ℕ, ◌+◌, ◌*◌, ◌/◌, ◌<◌, ◌≤◌, Bool, true, false, List, length, Some, slice_get, slice_index, None, refl, sym, ap, subst, ◌∙◌, arith}
-use Rattle.std.proofs.Math.Dec.{leb}
-use Rattle.std.proofs.lemmas.Bool.{leb-true, leb-false}
+use Rattle.std.proofs.Common.{◌≡◌, ◌≢◌, ℕ, ◌+◌, ◌*◌, ◌/◌, ◌<◌, ◌≤◌, Bool, true, false, List, length, Some, slice_get, slice_index, None, refl, sym, ap, subst, ◌∙◌, ⊎_elim, arith}
+use Rattle.std.proofs.lemmas.Bool.{cases_lt, false_from_ne_true}
 use Rattle.std.proofs.lemmas.Option.{slice_get_within}
 use Rattle.key_index_map.specs.declared.table.Search.{Search}
 use Rattle.key_index_map.specs.declared.table.Search.TheVariants.{Found as Here, Absent, Onward}
 use Rattle.key_index_map.specs.Table.{Cells, AreCells, NoneIn, Reaches, Stopped, Found, hash_of, tag_of, home, home_in, pairs}
 use Rattle.std.specs.Map.{lookup}
 use Rattle.key_index_map.proofs.Held.{none_held}
-
--- a number is below another one, or not
-pub apart : (a b : ℕ) {X : Type 0} → (a < b → X) → (b ≤ a → X) → X
-apart a b {X} below past = elim (leb b a) as (λ l. leb b a ≡ l → X) [ true ↦ λ is. past (leb-true b a is) | false ↦ λ is. below (leb-false b a is) ] refl
-
-pub refuted : (b : Bool) → (b ≡ true → ⊥) → b ≡ false
-refuted true h = absurd (h refl)
-refuted false h = refl
 
 module _ {K V : Type 0} {eq : K → K → Bool} {input : K → List (List ℕ)} {tags : List ℕ} {items : List (K × V)} {filled : List Bool} {groups len left : ℕ}
     (are : AreCells eq input tags items filled groups len left) where
@@ -43,29 +34,31 @@ module _ {K V : Type 0} {eq : K → K → Bool} {input : K → List (List ℕ)} 
 
     none_ahead : (p : ℕ) → Stopped eq now (home groups (hash_of (input k))) groups k p → (i : ℕ) (e : K × V) → slice_get items i ≡ Some e → 3 ≤ slice_index tags i → eq k e.0 ≡ false
     none_ahead p s i e at is =
-        refuted (eq k e.0) (λ same.
+        false_from_ne_true (eq k e.0) (λ same.
         let r = reach i e at is same in
-        apart i (16 * start)
+        ⊎_elim
         (λ before. r.round (omega (arith, before)) s.group s.after s.before p s.in_group.0 s.in_group.1 s.empty)
-        (λ behind. apart i (16 * s.group + 16)
+        (λ behind. ⊎_elim
         (λ seen. let other = s.none i e behind seen at is in let both : true ≡ false = sym same ∙ other in cc)
-        (λ past. r.ahead (omega (arith, behind)) s.group s.after (omega (arith, past)) p s.in_group.0 s.in_group.1 s.empty)))
+        (λ past. r.ahead (omega (arith, behind)) s.group s.after (omega (arith, past)) p s.in_group.0 s.in_group.1 s.empty)
+        (cases_lt i (16 * s.group + 16)))
+        (cases_lt i (16 * start)))
 
     none_round : NoneIn eq now (16 * home groups (hash_of (input k))) (16 * groups) k → (p : ℕ) → Stopped eq now 0 (home groups (hash_of (input k))) k p → (i : ℕ) (e : K × V) → slice_get items i ≡ Some e → 3 ≤ slice_index tags i → eq k e.0 ≡ false
     none_round ahead p s i e at is =
-        refuted (eq k e.0) (λ same.
+        false_from_ne_true (eq k e.0) (λ same.
         let r = reach i e at is same in
-        apart i (16 * start)
-        (λ before. apart i (16 * s.group + 16)
+        ⊎_elim
+        (λ before. ⊎_elim
         (λ seen. let other = s.none i e (omega arith) seen at is in let both : true ≡ false = sym same ∙ other in cc)
-        (λ past. r.past (omega (arith, before)) s.group (omega (arith, past)) p s.in_group.0 s.in_group.1 s.empty))
-        (λ behind. let other = ahead i e behind (in_groups i e at) at is in let both : true ≡ false = sym same ∙ other in cc))
+        (λ past. r.past (omega (arith, before)) s.group (omega (arith, past)) p s.in_group.0 s.in_group.1 s.empty)
+        (cases_lt i (16 * s.group + 16)))
+        (λ behind. let other = ahead i e behind (in_groups i e at) at is in let both : true ≡ false = sym same ∙ other in cc)
+        (cases_lt i (16 * start)))
 
     none_at_all : NoneIn eq now (16 * home groups (hash_of (input k))) (16 * groups) k → NoneIn eq now 0 (16 * home groups (hash_of (input k))) k → (i : ℕ) (e : K × V) → slice_get items i ≡ Some e → 3 ≤ slice_index tags i → eq k e.0 ≡ false
     none_at_all ahead round i e at is =
-        apart i (16 * start)
-        (λ before. round i e (omega arith) before at is)
-        (λ behind. ahead i e behind (in_groups i e at) at is)
+        ⊎_elim (λ before. round i e (omega arith) before at is) (λ behind. ahead i e behind (in_groups i e at) at is) (cases_lt i (16 * start))
 
     -- where the second search found nothing either
     none_elsewhere : NoneIn eq now (16 * home groups (hash_of (input k))) (16 * groups) k → (r : Search) → ((x : ℕ) → r ≡ Here x → ⊥) → Found eq now 0 (home groups (hash_of (input k))) k r
@@ -98,5 +91,5 @@ module _ {K V : Type 0} {eq : K → K → Bool} {input : K → List (List ℕ)} 
             before = within;
             in_group = (low, high);
             empty = empty;
-            none = λ i e from to there had. refuted (eq k e.0) (λ same. nowhere i from to (are.tagged i e there had ∙ ap (λ x. tag_of (hash_of x)) (sym (respects k e.0 same)) ∙ sym is));
+            none = λ i e from to there had. false_from_ne_true (eq k e.0) (λ same. nowhere i from to (are.tagged i e there had ∙ ap (λ x. tag_of (hash_of x)) (sym (respects k e.0 same)) ∙ sym is));
           })))

@@ -1,9 +1,12 @@
+pub mod Places
 pub mod Held
 pub mod Between
+pub mod Marks
 pub mod Groups
 pub mod Cells
 pub mod Free
 pub mod Steps
 pub mod New
+pub mod Transfer
 pub mod Moving
 pub mod Deeds

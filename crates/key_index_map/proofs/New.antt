@@ -1,30 +1,17 @@
 -- On a table without pairs.
-use Rattle.std.proofs.Common.{◌≡◌, ◌≢◌, ℕ, suc, ◌*◌, ◌/◌, ◌<◌, ◌≤◌, Bool, true, false, cond, nat_eq, nat_le, get_or, List, [], ◌∷◌, length, slice_index, refl, sym, ap, subst, ◌∙◌, arith}
-use Rattle.std.specs.List.{IsDistinct}
-use Rattle.std.specs.Map.{keys_of}
-use Rattle.std.proofs.lemmas.Bool.{lt-leb}
-use Rattle.std.proofs.lemmas.List.Sums.{sum_by-cons}
+use Rattle.std.proofs.Common.{◌≡◌, ℕ, suc, ◌*◌, ◌/◌, ◌<◌, ◌≤◌, Bool, true, false, cond, nat_le, get_or, List, [], ◌∷◌, length, slice_index, refl, sym, ap, ◌∙◌, ⊎_elim, arith}
+use Rattle.std.proofs.lemmas.Bool.{cases_lt}
 use Rattle.std.proofs.lemmas.Option.{slice_get_within, slice_get_read, get_or_from_slice_get}
-use Rattle.key_index_map.specs.Table.{AreCells, AreEmpty, held, limit, removed}
-use Rattle.key_index_map.proofs.Cells.{no_mark}
-use Rattle.key_index_map.proofs.Groups.{apart}
+use Rattle.key_index_map.specs.Table.{AreCells, AreEmpty, held, limit}
+use Rattle.key_index_map.proofs.Between.{none_differ}
+use Rattle.key_index_map.proofs.Held.{none_first}
+use Rattle.key_index_map.proofs.Marks.{no_marks}
 
 pub none_are_held : {X : Type 0} (ts : List ℕ) (xs : List X) → ((i : ℕ) → i < length xs → slice_index ts i < 3) → held ts xs ≡ []
 none_are_held [] xs low = refl
 none_are_held (t ∷ ts) [] low = refl
 none_are_held (t ∷ ts) (x ∷ xs) low =
-    ap (λ b. cond b (x ∷ held ts xs) (held ts xs)) (lt-leb 3 t (low 0 (omega arith))) ∙ none_are_held ts xs (λ i below. low (suc i) (omega (arith, below)))
-
-no_marks : (ts : List ℕ) → ((i : ℕ) → i < length ts → slice_index ts i ≢ 1) → removed ts ≡ 0
-no_marks [] none = refl
-no_marks (t ∷ ts) none =
-    let first = no_mark t (none 0 (omega arith)) in
-    let others = no_marks ts (λ i below. none (suc i) (omega (arith, below))) in
-    sum_by-cons (λ x. cond (nat_eq x 1) 1 0) t ts ∙ omega (arith, first, others)
-
-no_keys : {K V : Type 0} (eq : K → K → Bool) (pairs : List (K × V)) → pairs ≡ [] → IsDistinct eq (keys_of pairs)
-unfolding IsDistinct
-no_keys {K} {V} eq pairs none = subst (λ (l : List (K × V)). IsDistinct eq (keys_of l)) (sym none) tt
+    none_first t x (held ts xs) (low 0 (omega arith)) ∙ none_are_held ts xs (λ i below. low (suc i) (omega (arith, below)))
 
 pub record New {K V : Type 0} (eq : K → K → Bool) (input : K → List (List ℕ)) (tags : List ℕ) (items : List (K × V)) (filled : List Bool) (groups left : ℕ) : Type 0 where
   pub cells : AreCells eq input tags items filled groups 0 left
@@ -49,12 +36,13 @@ module _ {K V : Type 0} (eq : K → K → Bool) (input : K → List (List ℕ)) 
     taken = λ i below had. let is = low i below in absurd (omega (arith, is, had));
     tagged = λ i e at had. let is = low i (slice_get_within items i e at) in absurd (omega (arith, is, had));
     reached = λ i e at had group from to. let is = low i (slice_get_within items i e at) in absurd (omega (arith, is, had));
-    distinct = no_keys eq (held tags items) no_pairs;
+    distinct = none_differ eq (held tags items) no_pairs;
     counted = sym (ap length no_pairs);
     room =
-        let marks = no_marks tags (λ i below one. apart i cells
+        let marks = no_marks tags (λ i below one. ⊎_elim
         (λ before. let is = are.empty i before in omega (arith, is, one))
-        (λ past. let is = are.beyond i past below in omega (arith, is, one))) in
+        (λ past. let is = are.beyond i past below in omega (arith, is, one))
+        (cases_lt i cells)) in
         omega (arith, room, long, marks);
   }
 

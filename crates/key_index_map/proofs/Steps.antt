@@ -1,19 +1,15 @@
 -- On a table as its functions see it, when a pair comes or goes.
 --     Putting, putting     a pair in the first free cell
 --     Taking, taking       no pair in the cell of a key any more
-use Rattle.std.proofs.Common.{◌≡◌, ℕ, zero, suc, ◌+◌, ◌-◌, ◌*◌, ◌<◌, ◌≤◌, Bool, true, false, cond, nat_eq, slice_index, List, [], ◌∷◌, length, get_or, Some, None, slice_get, slice_set, refl, sym, ap, subst, ◌∙◌, arith}
+use Rattle.std.proofs.Common.{◌≡◌, ℕ, ◌+◌, ◌-◌, ◌*◌, ◌<◌, ◌≤◌, Bool, true, false, cond, nat_eq, slice_index, List, length, get_or, Some, None, slice_get, slice_set, refl, sym, ap, subst, ◌∙◌, ⊎_elim, arith}
 use Rattle.std.specs.Cmp.{IsEquivalence}
 use Rattle.std.specs.Map.{lookup}
 use Rattle.std.specs.Option.{IsSome}
+use Rattle.std.proofs.lemmas.Bool.{cases_lt}
 use Rattle.std.proofs.lemmas.Option.{slice_get_read}
 use Rattle.key_index_map.specs.Table.{Cells, AreCells, IsAt, IsFirstFree, IsTagWithout, Updates, hash_of, tag_of, home, held, pairs, with_value}
-use Rattle.key_index_map.proofs.Groups.{apart}
-use Rattle.key_index_map.proofs.Cells.{put, taken, Turned, turned, looked_at, counted_at, set_value_at-set}
-
-pub element : {X : Type 0} (xs : List X) (i : ℕ) → i < length xs → (x : X) × (slice_get xs i ≡ Some x)
-element [] i below = absurd (omega (arith, below))
-element (x ∷ xs) zero below = (x, refl)
-element (x ∷ xs) (suc i) below = element xs i (omega (arith, below))
+use Rattle.key_index_map.proofs.Cells.{Edited, put, taken, turned, looked_at, counted_at}
+use Rattle.key_index_map.proofs.Places.{element, set_value_at-set}
 
 module _ {K V : Type 0} {eq : K → K → Bool} (laws : IsEquivalence eq) {input : K → List (List ℕ)} {tags : List ℕ} {items : List (K × V)} {filled : List Bool} {groups len left : ℕ}
     (are : AreCells eq input tags items filled groups len left) (cells : Cells K V) (view : record { tags = tags; items = items; spare = left } ≡ cells) (cell t left' : ℕ)
@@ -36,7 +32,7 @@ module _ {K V : Type 0} {eq : K → K → Bool} (laws : IsEquivalence eq) {input
               (subst (λ l. AreCells eq input (slice_set tags cell t) (slice_set items cell (k, v)) l groups (len + 1) left') (sym filled_are) p.cells);
           updates = subst (λ c. Updates eq (pairs c) (held (slice_set tags cell t) items') k (Some v)) view
               (subst (λ l. Updates eq (held tags items) (held (slice_set tags cell t) l) k (Some v)) (sym items_are) p.updates);
-          longer = ap (λ l. length (held (slice_set tags cell t) l)) items_are ∙ p.longer ∙ ap (λ c. length (pairs c) + 1) view;
+          longer = ap (λ l. length (held (slice_set tags cell t) l)) items_are ∙ sym p.cells.counted ∙ ap (λ n. n + 1) are.counted ∙ ap (λ c. length (pairs c) + 1) view;
         }
 
   pub record Taking (k : K) (v : V) : Type 0 where
@@ -64,7 +60,7 @@ module _ {K V : Type 0} {eq : K → K → Bool} (laws : IsEquivalence eq) {input
               value = sym (looked_at laws are cell e at_it in_cell.holds k (in_cell.pair e at_it)) ∙ ap (λ c. lookup (eq k) (pairs c)) view;
               updates = subst (λ c. Updates eq (pairs c) (held (slice_set tags cell t) items') k None) view
                   (subst (λ l. Updates eq (held tags items) (held (slice_set tags cell t) l) k None) (sym items_are) p.updates);
-              shorter = ap (λ l. length (held (slice_set tags cell t) l) + 1) items_are ∙ p.shorter ∙ ap (λ c. length (pairs c)) view;
+              shorter = ap (λ l. length (held (slice_set tags cell t) l) + 1) items_are ∙ (let less : length (held (slice_set tags cell t) items) + 1 ≡ length (held tags items) = omega (arith, some, p.cells.counted, are.counted) in less) ∙ ap (λ c. length (pairs c)) view;
             }
 
 module _ {K V : Type 0} {eq : K → K → Bool} (laws : IsEquivalence eq) {input : K → List (List ℕ)} {tags : List ℕ} {items : List (K × V)} {filled : List Bool} {groups len left : ℕ}
@@ -104,13 +100,13 @@ module _ {K V : Type 0} {eq : K → K → Bool} (laws : IsEquivalence eq) {input
   pub lending : Lending
   lending =
       let same = it_stands.pair e it_is_at in
-      let on : (w : V) → Turned laws are cell e it_is_at it_stands.holds k same w = turned laws are cell e it_is_at it_stands.holds k same in
+      let on : (w : V) → Edited eq input (held tags items) tags (slice_set items cell (e.0, w)) filled groups len left k (Some w) = turned laws are cell e it_is_at it_stands.holds k same in
       let is_set : (w : V) → record { tags = tags; items = slice_set items cell (e.0, w); spare = left } ≡ with_value cells cell w =
       λ w. ap (λ (l : List (K × V)). record { tags = tags; items = l; spare = left }) (set_value_at-set items cell e w it_is_at) ∙ ap (λ (x : Cells K V). with_value x cell w) view in
       record {
         value = sym (looked_at laws are cell e it_is_at it_stands.holds k same) ∙ ap (λ c. lookup (eq k) (pairs c)) view;
         written = λ w. subst (λ c. Updates eq (pairs cells) (pairs c) k (Some w)) (is_set w) (subst (λ c. Updates eq (pairs c) (held tags (slice_set items cell (e.0, w))) k (Some w)) view (on w).updates);
-        as_long = λ w. sym (ap (λ c. length (pairs c)) (is_set w)) ∙ (on w).as_long ∙ ap (λ c. length (pairs c)) view;
+        as_long = λ w. sym (ap (λ c. length (pairs c)) (is_set w)) ∙ sym (on w).cells.counted ∙ are.counted ∙ ap (λ c. length (pairs c)) view;
         still = λ w. (on w).cells;
         shown = is_set;
       }
@@ -120,7 +116,7 @@ module _ {K V : Type 0} {eq : K → K → Bool} {input : K → List (List ℕ)} 
   -- the pair that was read has the key
   pub stands_at : (e : K × V) → e ≡ get_or items cell e → eq k e.0 ≡ true → cell < 16 * groups → 3 ≤ slice_index tags cell → IsAt eq cells cell k
   stands_at e read same inside had =
-      let below : cell < length items = apart cell (length items) (λ is. is) (λ past. let two = are.beyond cell past inside in omega (arith, two, had)) in
+      let below : cell < length items = ⊎_elim (λ is. is) (λ past. let two = are.beyond cell past inside in omega (arith, two, had)) (cases_lt cell (length items)) in
       let at = slice_get_read items (length items) cell e refl below read in
       subst (λ c. IsAt eq c cell k) view (record {
         within = below;

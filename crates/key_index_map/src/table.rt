@@ -285,8 +285,8 @@ impl<K: Ord + Hash + Copy, V> Table<K, V> {
             if let Some(cell) = self.cell_in(GROUP * group, tag, key) {
                 return Search::Found(cell);
             }
-            if let Some(cell) = place_with(&self.tags, GROUP * group, EMPTY) {
-                return Search::Absent(cell);
+            if let Some(empty) = place_with(&self.tags, GROUP * group, EMPTY) {
+                return Search::Absent(empty);
             }
             group += 1;
         }
@@ -321,9 +321,9 @@ impl<K: Ord + Hash + Copy, V> Table<K, V> {
     {
         let start = GROUP * home_of(hash, self.groups);
         match place_with(&self.tags, start, tag_of(hash)) {
-            Some(cell) => {
-                if *key == self.row.get(cell).0 {
-                    return Search::Found(cell);
+            Some(first) => {
+                if *key == self.row.get(first).0 {
+                    return Search::Found(first);
                 }
                 Search::Onward
             }

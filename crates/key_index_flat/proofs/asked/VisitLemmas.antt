@@ -1,8 +1,10 @@
 -- A batch whose keys are visited one after another.
 --     folds_append                two lists of visits, one after the other
+--     folds_shown                 one visit more, of an item that a closure is shown
 --     probes_push, visits_push    one probe more
 --     probes_key, folds_key       one key more, of an iterator's items
 use Rattle.std.proofs.Common.{◌≡◌, ℕ, ◌+◌, List, [], ◌∷◌, ◌++◌, length, map, sym, ap, subst, ◌∙◌, arith, append-nil, append_assoc}
+use Rattle.std.proofs.lemmas.Fn.{FoldsTo-push}
 use Rattle.std.proofs.lemmas.List.{map-append, length-map}
 use Rattle.std.specs.List.{FoldsTo}
 use Rattle.key_index_flat.specs.Visits.{probes_from, visits_of}
@@ -10,6 +12,12 @@ use Rattle.key_index_flat.specs.Visits.{probes_from, visits_of}
 pub folds_append : {P A : Type 0} (R : P → A → P → Type 0) (p q u : P) (xs ys : List A) → FoldsTo R p xs q → FoldsTo R q ys u → FoldsTo R p (xs ++ ys) u
 folds_append {P = P} R p q u [] ys h k = subst (λ (j : P). FoldsTo R j ys u) (sym h) k
 folds_append R p q u (x ∷ xs) ys h k = (h.0, h.1, folds_append R h.0 q u xs ys h.2 k)
+
+pub folds_shown : {P A B V : Type 0} (R : P → A → P → Type 0) (tell : V → A) (now : B → V) (p q u : P) (seen : List B) (x : B) → FoldsTo R p (map tell (map now seen)) q → R q (tell (now x)) u
+    → FoldsTo R p (map tell (map now (seen ++ x ∷ []))) u
+folds_shown {A = A} R tell now p q u seen x h k =
+    subst (λ (l : List A). FoldsTo R p l u) (sym (ap (map tell) (map-append now seen (x ∷ [])) ∙ map-append tell (map now seen) (now x ∷ [])))
+    (FoldsTo-push R p (map tell (map now seen)) q (tell (now x)) u h k)
 
 pub probes_push : {K : Type 0} (slot : List ℕ → K) (n : ℕ) (bs : List (List ℕ)) (b : List ℕ) → probes_from slot n (bs ++ b ∷ []) ≡ probes_from slot n bs ++ (slot b, n + length bs) ∷ []
 probes_push slot n [] b = let same : n ≡ n + 0 = omega arith in ap (λ m. (slot b, m) ∷ []) same

@@ -1,5 +1,5 @@
 -- On the content that first values and tails stand for.
-use Rattle.std.proofs.Common.{◌≡◌, ℕ, zero, suc, ◌+◌, ◌-◌, ◌<◌, Bool, true, false, cond, T, List, [], ◌∷◌, ◌++◌, length, insert, slice_get, Option, Some, None, unwrap_or, Result, Ok, Err, is_some, IfOk, OnOk, OnErr, refl, sym, ap, subst, ◌∙◌, arith, add-zero}
+use Rattle.std.proofs.Common.{◌≡◌, ℕ, zero, suc, ◌+◌, ◌-◌, ◌<◌, Bool, true, false, cond, T, List, [], ◌∷◌, ◌++◌, length, insert, slice_get, Option, Some, None, unwrap_or, Result, Ok, Err, is_some, OnOk, OnErr, refl, sym, ap, subst, ◌∙◌, arith, add-zero}
 use Rattle.std.proofs.lemmas.List.{nil_from_length}
 use Rattle.std.specs.declared.cmp.Ordering.{Ordering}
 use Rattle.std.specs.declared.cmp.Ordering.TheVariants.{Equal}
@@ -243,11 +243,3 @@ module _ {K V : Type 0} {cmp : K → K → Ordering} (o : IsTotalOrder cmp) wher
               → OnErr r (content_of cmp news later ≡ content_of cmp heads tail)
           behind_refused (Ok u) refused others_tail = tt
           behind_refused (Err e) refused others_tail = (nothing_behind refused others_tail).content
-
--- a key that has a value takes another one
-pub taken_in : {K V : Type 0} (cmp : K → K → Ordering) (old new : List (K × V)) (k : K) (v w : V) (r : Result (Option V) V)
-    → value_of cmp old k ≡ Some v
-    → IfOk r (λ was. was ≡ value_of cmp old k) → OnOk r (Sets cmp old new k (Some w)) → IfOk r (λ was. length new ≡ length old + cond (is_some was) 0 1) → OnErr r (value_of cmp old k ≡ None)
-    → Sets cmp old new k (Some w) × (length new ≡ length old)
-taken_in cmp old new k v w (Ok was) held had sets len absent = (sets, len ∙ ap (λ o. length old + cond (is_some o) 0 1) (had ∙ held) ∙ add-zero _)
-taken_in cmp old new k v w (Err e) held had sets len absent = absurd (subst T (ap is_some (sym held ∙ absent)) tt)

@@ -1,27 +1,11 @@
 -- On the tags of pairs in an array.
 --     before_tag                      no pair before the first place with a key's tag has the key
 --     tags_set, tags_push, tags_take  after another value at a place, one more pair, and one that the last replaces
-use Rattle.std.proofs.Common.{◌≡◌, ◌≢◌, ℕ, zero, suc, ◌+◌, ◌<◌, ◌≤◌, Bool, true, false, IsTrue, List, [], ◌∷◌, ◌++◌, length, get_or, Some, slice_get, slice_set, slice_index, refl, sym, ap, ◌∙◌, arith}
+use Rattle.std.proofs.Common.{◌≡◌, ◌≢◌, ℕ, zero, suc, ◌+◌, ◌<◌, ◌≤◌, Bool, IsTrue, List, [], ◌∷◌, ◌++◌, length, get_or, Some, slice_get, slice_set, slice_index, refl, sym, ap, ◌∙◌, arith}
+use Rattle.std.proofs.lemmas.Bool.{false_from_ne_true}
 use Rattle.std.proofs.lemmas.Option.{get_or_from_slice_get, slice_get_within, slice_get-get_or}
+use Rattle.key_index_map.proofs.Places.{key_stays}
 use Rattle.key_index_flat.specs.SmallMap.{tag_of, AreTagged, AreTaggedBut, NoneBefore}
-
-not_true : (b : Bool) → (b ≡ true → ⊥) → b ≡ false
-not_true true h = absurd (h refl)
-not_true false h = refl
-
--- a pair beside another value, which takes the place of its own
-pub record HasKey {K V : Type 0} (pairs : List (K × V)) (i : ℕ) (k : K) : Type 0 where
-  pub pair : K × V
-  pub at : slice_get pairs i ≡ Some pair
-  pub key : pair.0 ≡ k
-
-key_stays : {K V : Type 0} (pairs : List (K × V)) (place : ℕ) (e : K × V) (w : V) (i : ℕ) (f : K × V) → slice_get pairs place ≡ Some e → slice_get (slice_set pairs place (e.0, w)) i ≡ Some f → HasKey pairs i f.0
-key_stays [] place e w i f at there = cc
-key_stays (d ∷ ds) zero e w zero f at there = let same : d ≡ e = cc in let now : (e.0, w) ≡ f = cc in record { pair = d; at = refl; key = ap (λ x. x.0) same ∙ ap (λ x. x.0) now }
-key_stays (d ∷ ds) zero e w (suc i) f at there = record { pair = f; at = there; key = refl }
-key_stays (d ∷ ds) (suc place) e w zero f at there = let same : d ≡ f = cc in record { pair = d; at = refl; key = ap (λ x. x.0) same }
-key_stays (d ∷ ds) (suc place) e w (suc i) f at there =
-    let rest = key_stays ds place e w i f at there in record { pair = rest.pair; at = rest.at; key = rest.key }
 
 before_push : {X : Type 0} (xs : List X) (x : X) (i : ℕ) (y : X) → i ≢ length xs → slice_get (xs ++ x ∷ []) i ≡ Some y → slice_get xs i ≡ Some y
 before_push [] x zero y other there = absurd (other refl)
@@ -32,7 +16,7 @@ before_push (z ∷ zs) x (suc i) y other there = before_push zs x i y (λ e. oth
 module _ {K V : Type 0} (input : K → List (List ℕ)) (tags : List ℕ) (pairs : List (K × V)) (tagged : AreTagged input tags pairs) where
   pub before_tag : (eq : K → K → Bool) → ((x y : K) → IsTrue (eq x y) → input x ≡ input y) → (k : K) (place : ℕ) → place ≤ 16 → ((i : ℕ) → i < place → slice_index tags i ≢ tag_of (input k)) → NoneBefore eq pairs place k
   before_tag eq respects k place within before i e below at =
-      not_true (eq k e.0) (λ is. before i below (tagged i e (omega arith) at ∙ ap (λ x. tag_of x) (sym (respects k e.0 is))))
+      false_from_ne_true (eq k e.0) (λ is. before i below (tagged i e (omega arith) at ∙ ap (λ x. tag_of x) (sym (respects k e.0 is))))
 
   pub tags_set : (place : ℕ) (e : K × V) (w : V) → slice_get pairs place ≡ Some e → AreTagged input tags (slice_set pairs place (e.0, w))
   tags_set place e w at i f below there =

@@ -2,7 +2,7 @@
 --     run_absent, run_front, ..              a run from behind the pairs: it has no list there, goes in front of all, ..
 --     list_front, apart_behind, not_below    a list from the front of the content: what is left, and where it goes
 --     lifted, lowered                        all moved, one way and the other
-use Rattle.std.proofs.Common.{◌≡◌, Bool, true, false, ◌&&◌, T, List, [], ◌∷◌, ◌++◌, All, append_assoc, sym, ap, subst, ◌∙◌}
+use Rattle.std.proofs.Common.{◌≡◌, false, T, List, [], ◌∷◌, ◌++◌, All, append_assoc, sym, ap, subst, ◌∙◌}
 use Rattle.std.proofs.lemmas.List.{map-append}
 use Rattle.std.proofs.lemmas.List.Elements.{All-nil, All-cons, All-head, All-tail, All-append}
 use Rattle.std.specs.Cmp.{IsTotalOrder}
@@ -13,15 +13,11 @@ use Rattle.std.specs.declared.cmp.Ordering.{Ordering}
 use Rattle.std.specs.declared.cmp.Ordering.TheVariants.{Less}
 use Rattle.std.specs.Ordering.{is_lt, ordering_reverse}
 use Rattle.key_index_flat.specs.Content.{Content, IsLawful, is_filled, list_at, with_list}
-use Rattle.key_index_flat.specs.laws.Laws.{T-and_first, T-and_second}
+use Rattle.key_index_flat.specs.laws.Laws.{T-and, T-and_first, T-and_second}
 use Rattle.key_index_flat.proofs.content.ContentLemmas.{list_at-below_all, Less-is_lt}
 use Rattle.key_index_parts.specs.Pairs.{grouped}
 use Rattle.key_index_parts.specs.Spread.{AreBelow, pairs_with, spread}
 use Rattle.key_index_parts.proofs.family.SpreadLemmas.{grouped-spread, put-front}
-
-T-and : (a b : Bool) → T a → T b → T (a && b)
-T-and true b x y = y
-T-and false b x y = absurd x
 
 module _ {K : Type 0} {cmp : K → K → Ordering} (o : IsTotalOrder cmp) where
   Less-turned : (x k : K) → cmp x k ≡ Less → is_lt (cmp k x) ≡ false

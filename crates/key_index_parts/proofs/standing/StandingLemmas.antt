@@ -73,19 +73,15 @@ both_true : (a b : Bool) → (a && b) ≡ true → b ≡ true
 both_true true b e = e
 both_true false b e = absurd (subst T (sym e) tt)
 
+spilled_left : (t m : ℕ) → 1 ≤ t → (not (true && nat_lt 0 m) && nat_le t m) ≡ false
+spilled_left t zero least = lt-leb t 0 (omega (arith, least))
+spilled_left t (suc m) least = ap (λ b. not b && nat_le t (suc m)) (lt-ltb 0 (suc m) (omega arith))
+
 -- a partition that was spilled if it had reached the threshold doesn't reach it by having no more values
 is_reached_by-left_with : (t e m : ℕ) (b u : Bool) → 1 ≤ t → m ≤ e → nat_le t e ≡ u
     → is_reached_by t (left_with (if not b && u then record { entries = e; spilled = true } else record { entries = e; spilled = b }) m) ≡ false
 is_reached_by-left_with t e m true u least few told = spilled_left t m least
-  where
-    spilled_left : (t m : ℕ) → 1 ≤ t → (not (true && nat_lt 0 m) && nat_le t m) ≡ false
-    spilled_left t zero least = lt-leb t 0 (omega (arith, least))
-    spilled_left t (suc m) least = ap (λ b. not b && nat_le t (suc m)) (lt-ltb 0 (suc m) (omega arith))
 is_reached_by-left_with t e m false true least few told = spilled_left t m least
-  where
-    spilled_left : (t m : ℕ) → 1 ≤ t → (not (true && nat_lt 0 m) && nat_le t m) ≡ false
-    spilled_left t zero least = lt-leb t 0 (omega (arith, least))
-    spilled_left t (suc m) least = ap (λ b. not b && nat_le t (suc m)) (lt-ltb 0 (suc m) (omega arith))
 is_reached_by-left_with t e m false false least few told = let below = leb-false t e told in lt-leb t m (omega (arith, below, few))
 
 module _ (s : Standings) (n : ℕ) (inside : n < length s.buckets) (least : 1 ≤ s.threshold) where

@@ -107,10 +107,7 @@ impl<T: Translator, V: Drop, M: Heads<T::Key, V>, E: End> Chains<T, V, M, E> {
         match self.tails.insert_at(self.alloc, slot, Some(0), displaced) {
             Ok(()) => Ok(()),
             Err(displaced) => {
-                let Ok(Some(value)) = self.heads.insert(slot, displaced) else {
-                    unreachable!()
-                };
-                Err(value)
+                Err(self.heads.replace(&slot, displaced))
             }
         }
     }

@@ -1,7 +1,7 @@
 use Rattle.std.proofs.Common.{length, ap, ◌∙◌, arith}
 use Rattle.core.specs.Mem.Slots.{slots_items}
 use Rattle.key_index_map.specs.Table.{pairs}
-use Rattle.key_index_map.proofs.Steps.{element}
+use Rattle.key_index_map.proofs.Places.{element}
 use Rattle.key_index_map.proofs.table.Table.grow.Goals as goal
 
 -- an empty cell has a pair too

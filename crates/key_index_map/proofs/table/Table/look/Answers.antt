@@ -7,14 +7,14 @@ use Rattle.key_index_map.proofs.table.Table.look.Goals as goal
 
 pub returns-then-eq : goal.returns-then-eq
 returns-then-eq g c =
-    let cell = c.in-Some.cell in
+    let cell = c.in-Some.first in
     let found = c.in-Some.ensures.found in
     let is = ap (λ l. slice_index l cell) (sym c.deref.ensures.value) ∙ found.2 in
     let within = c.home_of-start.ensures.within in
     let stands =
     stands_at c.self.invariant.0 c.args.self.now c.self.view_is cell c.args.key.now c.get.result.now c.get.ensures (sym c.eq.ensures ∙ c.if-eq.true)
     (omega (arith, found.1, within)) (omega (arith, is, c.tag_of.ensures)) in
-    (stands, some_value g.met.K.Eq.laws c.self.invariant.0 c.args.self.now c.self.view_is c.in-Some.cell c.args.key.now stands)
+    (stands, some_value g.met.K.Eq.laws c.self.invariant.0 c.args.self.now c.self.view_is c.in-Some.first c.args.key.now stands)
 
 pub returns-in-Some-place_with : goal.returns-in-Some-place_with
 returns-in-Some-place_with g c =

@@ -1,5 +1,5 @@
 use Rattle.std.proofs.Common.{◌+◌, ◌≤◌, length}
-use Rattle.key_index_flat.proofs.content.MoveLemmas.{Moving}
+use Rattle.key_index_map.proofs.Transfer.{Moving}
 use Rattle.key_index_flat.proofs.index.storage.small_map.move_into.Given as goal
 
 -- the pairs that are left fit into the map, which has the others

@@ -48,7 +48,7 @@ returns-in-Ok-clause-retained g c =
     let first = g.E.End.FIRST in
     let missed : c.get_mut.result ≡ None = search rules in
     let before = absent g.K.Ord.cmp g.met.K.Ord.matches_eq c.args.map.now.entries c.args.key c.get_mut.result missed c.get_mut.ensures.value in
-    let sets = Sets_by_eq g.K.PartialEq.eq g.K.Ord.cmp g.met.K.Ord.matches_eq g.met.K.Ord.total c.get_mut.follows.lender-at-none.entries c.add.new.self.entries c.args.key (Some c.in_ok-values.values) c.in-Ok.ensures.updates.at c.in-Ok.ensures.updates.others in
+    let sets = Sets_by_eq g.K.PartialEq.eq g.K.Ord.cmp g.met.K.Ord.matches_eq g.met.K.Ord.total c.get_mut.follows.lender-at-none.entries c.add.new.self.entries c.args.key (Some c.in_ok-values.values) c.in-Ok.ensures.updates in
     let after = at_set g.K.Ord.cmp g.met.K.Ord.matches_eq c.add.new.self.entries c.args.key (Some c.in_ok-values.values) sets.0 ∙ c.in_ok-values.ensures.value in
     subst (λ l. RetainsTail (CalledAt g.F.FnMut) c.args.should_retain c.args.head.now l (in_order first (at_key g.K.PartialEq.eq c.retain_in.new.map c.args.key)) c.retain_in.result)
     (ap (in_order first) after ∙ only_behind first c.args.value ∙ sym (ap (λ l. in_order first l ++ c.args.value ∷ []) before))
@@ -58,5 +58,5 @@ pub returns-in-Ok-clause-others : goal.returns-in-Ok-clause-others
 returns-in-Ok-clause-others g c = λ q apart.
     c.retain_in.ensures.others q apart
     ∙ others_set g.K.Ord.cmp g.met.K.Ord.matches_eq c.get_mut.follows.lender-at-none.entries c.add.new.self.entries c.args.key
-    (Sets_by_eq g.K.PartialEq.eq g.K.Ord.cmp g.met.K.Ord.matches_eq g.met.K.Ord.total c.get_mut.follows.lender-at-none.entries c.add.new.self.entries c.args.key (Some c.in_ok-values.values) c.in-Ok.ensures.updates.at c.in-Ok.ensures.updates.others).1 q apart
+    (Sets_by_eq g.K.PartialEq.eq g.K.Ord.cmp g.met.K.Ord.matches_eq g.met.K.Ord.total c.get_mut.follows.lender-at-none.entries c.add.new.self.entries c.args.key (Some c.in_ok-values.values) c.in-Ok.ensures.updates).1 q apart
     ∙ ap (λ m. vector_at g.K.PartialEq.eq m.entries q) c.get_mut.follows.holds-at-none

@@ -28,7 +28,7 @@ returns-in-Ok-clause-at g c =
     let place = c.args.place in
     let missed : c.get_mut.result ≡ None = search rules in
     let before = absent g.K.Ord.cmp g.met.K.Ord.matches_eq c.args.map.now.entries c.args.key c.get_mut.result missed c.get_mut.ensures.value in
-    let sets = Sets_by_eq g.K.PartialEq.eq g.K.Ord.cmp g.met.K.Ord.matches_eq g.met.K.Ord.total c.get_mut.follows.lender-at-none.entries c.add.new.self.entries c.args.key (Some c.in_ok-values.values) c.in-Ok.ensures.updates.at c.in-Ok.ensures.updates.others in
+    let sets = Sets_by_eq g.K.PartialEq.eq g.K.Ord.cmp g.met.K.Ord.matches_eq g.met.K.Ord.total c.get_mut.follows.lender-at-none.entries c.add.new.self.entries c.args.key (Some c.in_ok-values.values) c.in-Ok.ensures.updates in
     let after = at_set g.K.Ord.cmp g.met.K.Ord.matches_eq c.add.new.self.entries c.args.key (Some c.in_ok-values.values) sets.0 ∙ c.in_ok-values.ensures.value in
     ap (in_order first) after
     ∙ only_value first place c.args.value (subst (λ l. IfSome place (λ at. at ≤ length l)) before c.requires)
@@ -37,5 +37,5 @@ returns-in-Ok-clause-at g c =
 pub returns-in-Ok-clause-others : goal.returns-in-Ok-clause-others
 returns-in-Ok-clause-others g c = λ q apart.
     others_set g.K.Ord.cmp g.met.K.Ord.matches_eq c.get_mut.follows.lender-at-none.entries c.add.new.self.entries c.args.key
-    (Sets_by_eq g.K.PartialEq.eq g.K.Ord.cmp g.met.K.Ord.matches_eq g.met.K.Ord.total c.get_mut.follows.lender-at-none.entries c.add.new.self.entries c.args.key (Some c.in_ok-values.values) c.in-Ok.ensures.updates.at c.in-Ok.ensures.updates.others).1 q apart
+    (Sets_by_eq g.K.PartialEq.eq g.K.Ord.cmp g.met.K.Ord.matches_eq g.met.K.Ord.total c.get_mut.follows.lender-at-none.entries c.add.new.self.entries c.args.key (Some c.in_ok-values.values) c.in-Ok.ensures.updates).1 q apart
     ∙ ap (λ m. vector_at g.K.PartialEq.eq m.entries q) c.get_mut.follows.holds-at-none

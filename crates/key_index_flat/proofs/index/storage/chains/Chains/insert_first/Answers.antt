@@ -1,6 +1,6 @@
 use Rattle.std.proofs.Common.{◌+◌, length, cond, is_some, Some, refl, ap, sym, ◌∙◌}
 use Rattle.key_index_flat.specs.Storage.{tail_at}
-use Rattle.key_index_flat.proofs.content.ChainLemmas.{first_value, newer_value, StandsFor-put_back, taken_in}
+use Rattle.key_index_flat.proofs.content.ChainLemmas.{first_value, newer_value, StandsFor-put_back}
 use Rattle.key_index_flat.proofs.index.storage.chains.Chains.insert_first.Goals as goal
 
 pub invariant_of-self-in_default : goal.invariant_of-self-in_default
@@ -19,8 +19,7 @@ invariant_of-self-in-Ok g c =
 
 pub invariant_of-self-in-Err : goal.invariant_of-self-in-Err
 invariant_of-self-in-Err g c =
-    let back = taken_in g.T.Key.Ord.cmp (g.M.Heads.entries c.insert.new.self) (g.M.Heads.entries c.insert-in-Err.new.self) c.args.slot c.args.value c.in-Err.displaced c.insert-in-Err.result c.in_ok-displaced.ensures.sets.0 c.insert-in-Err.ensures.old c.insert-in-Err.ensures.sets c.insert-in-Err.ensures.len c.insert-in-Err.ensures.absent in
-    (StandsFor-put_back g.met.T.Key.Ord.total g.met.T.Translator.exact (g.M.Heads.entries c.self.inside.heads) (g.M.Heads.entries c.insert-in-Err.new.self) (tail_at g.E.End.FIRST g.T.Key.PartialEq.eq c.self.inside.tails.map) (tail_at g.E.End.FIRST g.T.Key.PartialEq.eq c.insert_at.new.self.map) c.args.slot c.self.invariant c.args.value c.in-Err.displaced (g.M.Heads.entries c.insert.new.self) (sym c.in_ok-displaced.ensures.old ∙ c.in-Some.is ∙ ap (λ v. Some v) (sym c.in-Err.ensures.returned)) c.in_ok-displaced.ensures.sets (c.in_ok-displaced.ensures.len ∙ ap (λ o. length (g.M.Heads.entries c.self.inside.heads) + cond (is_some o) 0 1) c.in-Some.is) back.0 back.1 c.in-Err.ensures.refused c.insert_at.ensures.others).linked
+    (StandsFor-put_back g.met.T.Key.Ord.total g.met.T.Translator.exact (g.M.Heads.entries c.self.inside.heads) (g.M.Heads.entries c.replace.new.self) (tail_at g.E.End.FIRST g.T.Key.PartialEq.eq c.self.inside.tails.map) (tail_at g.E.End.FIRST g.T.Key.PartialEq.eq c.insert_at.new.self.map) c.args.slot c.self.invariant c.args.value c.in-Err.displaced (g.M.Heads.entries c.insert.new.self) (sym c.in_ok-displaced.ensures.old ∙ c.in-Some.is ∙ ap (λ v. Some v) (sym c.in-Err.ensures.returned)) c.in_ok-displaced.ensures.sets (c.in_ok-displaced.ensures.len ∙ ap (λ o. length (g.M.Heads.entries c.self.inside.heads) + cond (is_some o) 0 1) c.in-Some.is) c.replace.ensures.sets c.replace.ensures.len c.in-Err.ensures.refused c.insert_at.ensures.others).linked
 
 pub returns-in-Ok-clause-accepted : goal.returns-in-Ok-clause-accepted
 returns-in-Ok-clause-accepted g c =
@@ -28,9 +27,8 @@ returns-in-Ok-clause-accepted g c =
     (newer_value g.met.T.Key.Ord.total g.met.T.Translator.exact (g.M.Heads.entries c.self.inside.heads) (g.M.Heads.entries c.insert.new.self) (tail_at g.E.End.FIRST g.T.Key.PartialEq.eq c.self.inside.tails.map) (tail_at g.E.End.FIRST g.T.Key.PartialEq.eq c.insert_at.new.self.map) c.args.slot c.self.invariant c.args.value c.in-Some.displaced (sym c.in_ok-displaced.ensures.old ∙ c.in-Some.is) c.in_ok-displaced.ensures.sets (c.in_ok-displaced.ensures.len ∙ ap (λ o. length (g.M.Heads.entries c.self.inside.heads) + cond (is_some o) 0 1) c.in-Some.is) c.in-Ok.ensures.at c.in-Ok.ensures.others).content
     )
 
-pub returns-in-Ok-Some-clause-refused : goal.returns-in-Ok-Some-clause-refused
-returns-in-Ok-Some-clause-refused g c =
+pub returns-in-Err-clause-refused : goal.returns-in-Err-clause-refused
+returns-in-Err-clause-refused g c =
     rw (← c.self.view_is) (
-    let back = taken_in g.T.Key.Ord.cmp (g.M.Heads.entries c.insert.new.self) (g.M.Heads.entries c.insert-in-Err.new.self) c.args.slot c.args.value c.in-Err.displaced c.insert-in-Err.result c.in_ok-displaced.ensures.sets.0 c.insert-in-Err.ensures.old c.insert-in-Err.ensures.sets c.insert-in-Err.ensures.len c.insert-in-Err.ensures.absent in
-    (StandsFor-put_back g.met.T.Key.Ord.total g.met.T.Translator.exact (g.M.Heads.entries c.self.inside.heads) (g.M.Heads.entries c.insert-in-Err.new.self) (tail_at g.E.End.FIRST g.T.Key.PartialEq.eq c.self.inside.tails.map) (tail_at g.E.End.FIRST g.T.Key.PartialEq.eq c.insert_at.new.self.map) c.args.slot c.self.invariant c.args.value c.in-Err.displaced (g.M.Heads.entries c.insert.new.self) (sym c.in_ok-displaced.ensures.old ∙ c.in-Some.is ∙ ap (λ v. Some v) (sym c.in-Err.ensures.returned)) c.in_ok-displaced.ensures.sets (c.in_ok-displaced.ensures.len ∙ ap (λ o. length (g.M.Heads.entries c.self.inside.heads) + cond (is_some o) 0 1) c.in-Some.is) back.0 back.1 c.in-Err.ensures.refused c.insert_at.ensures.others).content
+    (StandsFor-put_back g.met.T.Key.Ord.total g.met.T.Translator.exact (g.M.Heads.entries c.self.inside.heads) (g.M.Heads.entries c.replace.new.self) (tail_at g.E.End.FIRST g.T.Key.PartialEq.eq c.self.inside.tails.map) (tail_at g.E.End.FIRST g.T.Key.PartialEq.eq c.insert_at.new.self.map) c.args.slot c.self.invariant c.args.value c.in-Err.displaced (g.M.Heads.entries c.insert.new.self) (sym c.in_ok-displaced.ensures.old ∙ c.in-Some.is ∙ ap (λ v. Some v) (sym c.in-Err.ensures.returned)) c.in_ok-displaced.ensures.sets (c.in_ok-displaced.ensures.len ∙ ap (λ o. length (g.M.Heads.entries c.self.inside.heads) + cond (is_some o) 0 1) c.in-Some.is) c.replace.ensures.sets c.replace.ensures.len c.in-Err.ensures.refused c.insert_at.ensures.others).content
     )

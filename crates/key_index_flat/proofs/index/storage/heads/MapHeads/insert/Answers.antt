@@ -5,5 +5,5 @@ use Rattle.key_index_flat.proofs.index.storage.heads.MapHeads.insert.Goals as go
 pub returns-clause-sets : goal.returns-clause-sets
 returns-clause-sets g c =
     on_ok_weaker c.insert.result
-    (λ u. Sets_by_eq g.K.PartialEq.eq g.K.Ord.cmp g.met.K.Ord.matches_eq g.met.K.Ord.total _ _ _ _ u.at u.others)
+    (λ u. Sets_by_eq g.K.PartialEq.eq g.K.Ord.cmp g.met.K.Ord.matches_eq g.met.K.Ord.total _ _ _ _ u)
     c.insert.ensures.updates

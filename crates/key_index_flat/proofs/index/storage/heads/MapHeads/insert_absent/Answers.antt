@@ -21,6 +21,6 @@ returns-clause-at g c =
 pub returns-clause-others : goal.returns-clause-others
 returns-clause-others g c =
     in_both c.insert_absent.result
-    (λ u. (Sets_by_eq g.K.PartialEq.eq g.K.Ord.cmp g.met.K.Ord.matches_eq g.met.K.Ord.total _ _ _ _ u.at u.others).1)
+    (λ u. (Sets_by_eq g.K.PartialEq.eq g.K.Ord.cmp g.met.K.Ord.matches_eq g.met.K.Ord.total _ _ _ _ u).1)
     (λ same. λ q apart. ap (λ m. value_of g.K.Ord.cmp m.entries q) same)
     c.insert_absent.ensures.updates c.insert_absent.ensures.refused

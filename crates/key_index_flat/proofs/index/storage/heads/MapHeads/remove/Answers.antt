@@ -3,5 +3,4 @@ use Rattle.key_index_flat.proofs.index.storage.heads.MapHeads.remove.Goals as go
 
 pub returns-clause-sets : goal.returns-clause-sets
 returns-clause-sets g c =
-    let u = c.remove.ensures.updates in
-    Sets_by_eq g.K.PartialEq.eq g.K.Ord.cmp g.met.K.Ord.matches_eq g.met.K.Ord.total _ _ _ _ u.at u.others
+    Sets_by_eq g.K.PartialEq.eq g.K.Ord.cmp g.met.K.Ord.matches_eq g.met.K.Ord.total _ _ _ _ c.remove.ensures.updates

@@ -1,5 +1,5 @@
 use Rattle.std.proofs.Common.{◌≡◌, None, Some, ap, length, slice_get, sym, ◌∙◌, arith}
-use Rattle.key_index_flat.proofs.content.PairLemmas.{none_differ}
+use Rattle.key_index_map.proofs.Between.{none_differ}
 use Rattle.key_index_flat.proofs.index.storage.small_map.Pairs.new.Goals as goal
 
 pub invariant_of-result : goal.invariant_of-result

@@ -1,7 +1,8 @@
 use Rattle.std.proofs.Common.{◌≡◌, ◌+◌, None, Some, length, slice_get, ap, sym, ◌∙◌, arith}
 use Rattle.std.specs.Map.{lookup}
-use Rattle.key_index_flat.proofs.content.MoveLemmas.{set_new, puts}
-use Rattle.key_index_flat.proofs.content.PairLemmas.{lookup-value_of, none_differ}
+use Rattle.key_index_map.proofs.Between.{none_differ}
+use Rattle.key_index_flat.proofs.content.KeyLemmas.{Sets_by_eq}
+use Rattle.key_index_flat.proofs.content.PairLemmas.{lookup-value_of}
 use Rattle.key_index_flat.proofs.index.storage.small_map.Pairs.spill.Goals as goal
 
 pub add-requires : goal.add-requires
@@ -14,11 +15,9 @@ add-requires g c =
 pub returns-clause-sets : goal.returns-clause-sets
 returns-clause-sets g c =
     let eq = g.K.PartialEq.eq in
-    let moved = c.deref_mut-2.result.now.entries in
-    let v = c.args.value in
-    set_new g.met.K.Ord.matches_eq g.met.K.Ord.total g.met.K.Eq.laws c.args.self.now moved c.add.new.self.entries c.args.key v
-    (λ q. ap (λ m. lookup (eq q) m.entries) c.deref_mut-2.ensures.value ∙ c.move_into.ensures.values q ∙ ap (λ l. lookup (eq q) l) c.self.view_is)
-    (puts g.met.K.Eq.laws moved c.add.new.self.entries c.args.key v c.in-Ok-add.ensures.updates)
+    let u = c.in-Ok-add.ensures.updates in
+    Sets_by_eq eq g.K.Ord.cmp g.met.K.Ord.matches_eq g.met.K.Ord.total c.args.self.now c.add.new.self.entries c.args.key (Some c.args.value)
+    (record { at = u.at; others = λ q not. u.others q not ∙ ap (λ m. lookup (eq q) m.entries) c.deref_mut-2.ensures.value ∙ c.move_into.ensures.values q ∙ ap (λ l. lookup (eq q) l) c.self.view_is })
 
 pub returns-clause-len : goal.returns-clause-len
 returns-clause-len g c =
