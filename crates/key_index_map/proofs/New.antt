@@ -2,7 +2,7 @@
 use Rattle.std.proofs.Common.{◌≡◌, ℕ, suc, ◌*◌, ◌/◌, ◌<◌, ◌≤◌, Bool, true, false, cond, nat_le, get_or, List, [], ◌∷◌, length, slice_index, refl, sym, ap, ◌∙◌, ⊎_elim, arith}
 use Rattle.std.proofs.lemmas.Bool.{cases_lt}
 use Rattle.std.proofs.lemmas.Option.{slice_get_within, slice_get_read, get_or_from_slice_get}
-use Rattle.key_index_map.specs.Table.{AreCells, held, limit}
+use Rattle.key_index_map.specs.Table.{AreCells, AreEmpty, held, limit}
 use Rattle.key_index_map.proofs.Between.{none_differ}
 use Rattle.key_index_map.proofs.Held.{none_first}
 use Rattle.key_index_map.proofs.Marks.{no_marks}
@@ -18,22 +18,21 @@ pub record New {K V : Type 0} (eq : K → K → Bool) (input : K → List (List 
   pub empty : held tags items ≡ []
 
 module _ {K V : Type 0} (eq : K → K → Bool) (input : K → List (List ℕ)) (tags : List ℕ) (items : List (K × V)) (filled : List Bool) (groups cells left : ℕ)
-    (some : 0 < cells) (long : length items ≡ cells) (sized : length tags ≡ 16 * groups) (enough : cells ≤ 16 * groups)
-    (empty : (i : ℕ) → i < cells → slice_index tags i ≡ 0) (beyond : (i : ℕ) → cells ≤ i → i < length tags → slice_index tags i ≡ 2) (room : left ≤ cells) where
+    (are : AreEmpty tags groups cells) (long : length items ≡ cells) (room : left ≤ cells) where
   low : (i : ℕ) → i < length items → slice_index tags i < 3
-  low i below = let is = empty i (omega (arith, below, long)) in omega (arith, is)
+  low i below = let is = are.empty i (omega (arith, below, long)) in omega (arith, is)
 
   no_pairs : held tags items ≡ []
   no_pairs = none_are_held tags items low
 
   new_cells : AreCells eq input tags items filled groups 0 left
   new_cells = record {
-    some = omega (arith, some, enough);
-    sized = sized;
-    within = omega (arith, long, enough);
-    any = omega (arith, some, long);
-    beyond = λ i past to. beyond i (omega (arith, past, long)) (omega (arith, to, sized));
-    cells = λ i below two. let is = empty i (omega (arith, below, long)) in omega (arith, is, two);
+    some = omega (arith, are.some, are.enough);
+    sized = are.sized;
+    within = omega (arith, long, are.enough);
+    any = omega (arith, are.some, long);
+    beyond = λ i past to. are.beyond i (omega (arith, past, long)) (omega (arith, to, are.sized));
+    cells = λ i below two. let is = are.empty i (omega (arith, below, long)) in omega (arith, is, two);
     taken = λ i below had. let is = low i below in absurd (omega (arith, is, had));
     tagged = λ i e at had. let is = low i (slice_get_within items i e at) in absurd (omega (arith, is, had));
     reached = λ i e at had group from to. let is = low i (slice_get_within items i e at) in absurd (omega (arith, is, had));
@@ -41,8 +40,8 @@ module _ {K V : Type 0} (eq : K → K → Bool) (input : K → List (List ℕ)) 
     counted = sym (ap length no_pairs);
     room =
         let marks = no_marks tags (λ i below one. ⊎_elim
-        (λ before. let is = empty i before in omega (arith, is, one))
-        (λ past. let is = beyond i past below in omega (arith, is, one))
+        (λ before. let is = are.empty i before in omega (arith, is, one))
+        (λ past. let is = are.beyond i past below in omega (arith, is, one))
         (cases_lt i cells)) in
         omega (arith, room, long, marks);
   }

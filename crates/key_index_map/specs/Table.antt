@@ -10,12 +10,13 @@
 --     Entries         what a map holds
 --     home, home_in   the group at which a search for a hash begins
 --     removed         how many cells are marked as those of removed pairs
+--     AreEmpty        tags of cells without pairs
 --     AreCells        what stands where: each pair's tag is that of its key, and a search for its key comes to its group; keys differ
 --     IsAt, NoneIn    the pair with a key stands in a cell; in none of a range
 --     Found, Seen     what a search through groups answers, and a look at the first of them alone
 --     IsFirstFree, IsTagWithout    which cell is taken, which tag is left behind
 --     Updates, Writes    what a call does to the pairs
-use Rattle.std.specs.Prelude.{◌≡◌, ◌≢◌, ℕ, zero, suc, ◌+◌, ◌*◌, ◌-◌, ◌/◌, ◌^◌, ◌<◌, ◌≤◌, Bool, true, false, nat_le, if◌then◌else◌, max, List, [], ◌∷◌, length, Option, Some, None, slice_get, slice_index, slice_index_or, bit_and, nat_eq, ⊤}
+use Rattle.std.specs.Prelude.{◌≡◌, ◌≢◌, ℕ, zero, suc, ◌+◌, ◌*◌, ◌-◌, ◌/◌, ◌^◌, ◌<◌, ◌≤◌, Bool, true, false, nat_le, if◌then◌else◌, max, List, [], ◌∷◌, length, Option, Some, None, unwrap_or, slice_get, slice_index, slice_index_or, bit_and, nat_eq, ⊤}
 use Rattle.std.specs.List.{fold, count_by, IsDistinct}
 use Rattle.std.specs.Map.{keys_of, lookup}
 use Rattle.std.specs.Option.{IsSome}
@@ -56,9 +57,10 @@ pub record Entries (K V : Type 0) : Type 0 where
   pub entries : List (K × V)
   pub spare : ℕ
 
-abbrev pub entries_of : {K V : Type 0} → Option (Cells K V) → Entries K V
-entries_of None = record { entries = []; spare = 0 }
-entries_of (Some c) = record { entries = pairs c; spare = c.spare }
+-- by its table, or, without one, by the room that it reserved, if it did
+abbrev pub entries_of : {K V : Type 0} → Option (Cells K V) → Option ℕ → Entries K V
+entries_of None room = record { entries = []; spare = unwrap_or room 0 }
+entries_of (Some c) room = record { entries = pairs c; spare = c.spare }
 
 abbrev pub with_value : {K V : Type 0} → Cells K V → ℕ → V → Cells K V
 with_value c cell w = record { tags = c.tags; items = set_value_at c.items cell w; spare = c.spare }
@@ -87,6 +89,14 @@ pub record Reaches (tags : List ℕ) (groups start group : ℕ) : Type 0 where
   pub ahead : start ≤ group → (g : ℕ) → start ≤ g → g < group → IsFull tags g
   pub round : group < start → (g : ℕ) → start ≤ g → g < groups → IsFull tags g
   pub past : group < start → (g : ℕ) → g < group → IsFull tags g
+
+-- so many cells are empty, and the other places of their groups are none
+pub record AreEmpty (tags : List ℕ) (groups cells : ℕ) : Type 0 where
+  pub some : 0 < cells
+  pub sized : length tags ≡ 16 * groups
+  pub enough : cells ≤ 16 * groups
+  pub empty : (i : ℕ) → i < cells → slice_index tags i ≡ 0
+  pub beyond : (i : ℕ) → cells ≤ i → i < length tags → slice_index tags i ≡ 2
 
 pub record AreCells {K V : Type 0} (eq : K → K → Bool) (input : K → List (List ℕ)) (tags : List ℕ) (items : List (K × V)) (filled : List Bool)
     (groups len left : ℕ) : Type 0 where

@@ -5,16 +5,18 @@ ghost use Rattle.std.specs.Map.{lookup};
 ghost use Rattle.std.specs.Option.{IsSome, option_copied, option_copied_mut};
 ghost use Rattle.key_index_map.specs.Table.{Updates};
 
-use crate::table::{Iter, Table, hash_of};
+use crate::table::{Iter, Room, Table, hash_of};
 use std::alloc::{AllocError, Global};
 use std::hash::Hash;
 use std::marker::Model;
 
-/// A map from keys to values. It takes no memory before the first pair comes, and gives none back before it ends. Contracts see its
-/// pairs, in no order that they tell of.
+/// A map from keys to values. It takes no memory before the first pair comes or room is reserved, and gives none back before it ends.
+/// Contracts see its pairs, in no order that they tell of, and how many more keys there is room for.
 #[derive(Drop)]
 pub struct Map<K: Ord + Hash + Copy, V> {
     table: Option<Table<K, V>>,
+    // What was reserved before the first pair came.
+    room: Option<Room<K, V>>,
     alloc: Global,
 }
 
@@ -23,7 +25,7 @@ impl<K: Ord + Hash + Copy, V> Model for Map<K, V> {
 
     ghost Value = { Entries K V };
 
-    ghost view = { λ m. entries_of m.table };
+    ghost view = { λ m. entries_of m.table m.room };
 }
 
 impl<K: Ord + Hash + Copy, V> Map<K, V> {
@@ -33,23 +35,46 @@ impl<K: Ord + Hash + Copy, V> Map<K, V> {
     pub fn new(alloc: Global) -> Map<K, V>
         ensures { result.entries ≡ [] }
     {
-        Map { table: None, alloc }
+        Map {
+            table: None,
+            room: None,
+            alloc,
+        }
     }
 
-    /// No pairs, and memory for so many. The pair only shows that its type has a value.
-    pub fn with_capacity(
-        alloc: Global,
-        capacity: usize,
-        like: &(K, V),
-    ) -> Result<Map<K, V>, AllocError>
+    /// No pairs, and memory for so many.
+    pub fn with_capacity(alloc: Global, capacity: usize) -> Result<Map<K, V>, AllocError>
         ensures empty { IfOk result (λ m. m.entries ≡ []) }
         ensures room { IfOk result (λ m. capacity ≤ m.spare) }
     {
-        let table = Table::with_capacity(alloc, capacity, like)?;
+        let room = Room::with_capacity(alloc, capacity)?;
         Ok(Map {
-            table: Some(table),
+            table: None,
+            room: Some(room),
             alloc,
         })
+    }
+
+    /// Makes room for so many more pairs. A refusal changes nothing.
+    pub fn reserve(&mut self, additional: usize) -> Result<(), AllocError>
+        ensures values { (q : K) → lookup (K.eq q) self.new.entries ≡ lookup (K.eq q) self.old.entries }
+        ensures len { length self.new.entries ≡ length self.old.entries }
+        ensures room { OnOk result (additional ≤ self.new.spare) }
+        ensures spare { self.old.spare ≤ self.new.spare }
+        ensures refused { OnErr result (self.new ≡ self.old) }
+        ensures succeeds { additional ≤ self.old.spare → IsOk result }
+    {
+        if let Some(table) = &mut self.table {
+            return table.reserve(additional);
+        }
+        let spare = match &self.room {
+            Some(room) => room.spare(),
+            None => 0,
+        };
+        if spare < additional {
+            self.room = Some(Room::with_capacity(self.alloc, additional)?);
+        }
+        Ok(())
     }
 
     /// How many pairs there are.
@@ -104,7 +129,7 @@ impl<K: Ord + Hash + Copy, V> Map<K, V> {
         if let Some(table) = &mut self.table {
             return table.insert(key, value);
         }
-        self.table = Some(Table::with_one(self.alloc, hash_of(key), key, value)?);
+        self.table = Some(Table::with_one(self.alloc, &mut self.room, hash_of(key), key, value)?);
         Ok(None)
     }
 
@@ -129,7 +154,7 @@ impl<K: Ord + Hash + Copy, V> Map<K, V> {
         if let Some(table) = &mut self.table {
             return table.insert_absent(key, value);
         }
-        self.table = Some(Table::with_one(self.alloc, hash_of(key), key, value)?);
+        self.table = Some(Table::with_one(self.alloc, &mut self.room, hash_of(key), key, value)?);
         Ok(None)
     }
 
@@ -150,7 +175,7 @@ impl<K: Ord + Hash + Copy, V> Map<K, V> {
         if let Some(table) = &mut self.table {
             return table.add(hash, key, value);
         }
-        self.table = Some(Table::with_one(self.alloc, hash, key, value)?);
+        self.table = Some(Table::with_one(self.alloc, &mut self.room, hash, key, value)?);
         Ok(())
     }
 
@@ -168,7 +193,7 @@ impl<K: Ord + Hash + Copy, V> Map<K, V> {
         }
     }
 
-    /// The pairs, in no order that contracts tell of, if memory was ever taken for some.
+    /// The pairs, in no order that contracts tell of, if there ever was one.
     #[inline]
     pub fn iter(&self) -> Option<Iter<'_, K, V>>
         ensures { unwrap_or result [] ≡ self.now.entries }

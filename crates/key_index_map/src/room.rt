@@ -1,8 +1,10 @@
-//! Room for a row of places, and its way back.
-ghost use Rattle.std.specs.Prelude.{◌≡◌, ℕ, false, replicate, IfOk};
+//! Memory for a row of places, as a block before there is a value and as a row from then on.
+ghost use Rattle.std.specs.Prelude.{◌≡◌, ℕ, ◌*◌, ◌^◌, false, replicate, IfOk};
 ghost use Rattle.std.specs.Vec.Ownership.{FitsInBlock};
 ghost use Rattle.core.specs.Mem.Slots.{slots_ptr, slots_len, slots_filled};
-ghost use Rattle.core.specs.Mem.Slots.Ownership.{leased};
+ghost use Rattle.core.specs.Allocator.{owned_block, array_of};
+ghost use Rattle.core.specs.Mem.Slots.Ownership.{bytes_of, leased};
+ghost use base.Fml.{fsep, flt};
 ghost use denote.RawPtr.{Ptr};
 
 use core::slots::Slots;
@@ -10,6 +12,19 @@ use std::alloc::{AllocError, Allocator, Global};
 use std::marker::{Model, PhantomData};
 use std::mem::{align_of, size_of};
 use std_alloc::room::may_hold;
+
+/// Memory for `len` values, of which none stands there. It holds no allocator: `free` gives it back to one.
+pub(crate) struct Block<T, A: Allocator> {
+    at: *mut T,
+    len: usize,
+    mark: PhantomData<A>,
+    ghost alloc: { A },
+}
+
+impl<T, A: Allocator> Model for Block<T, A> {
+    ghost also_owns = { λ b. fsep (flt (b.len * bytes_of T.row) (2 ^ 63))
+        (owned_block (A.dealloc_token b.alloc) (array_of T.row b.len) b.at) };
+}
 
 /// The right to give the room of `len` places at `at` back to `alloc`. It takes no space.
 pub(crate) struct Deed<T, A: Allocator> {
@@ -23,47 +38,72 @@ impl<T, A: Allocator> Model for Deed<T, A> {
     ghost also_owns = { λ d. leased (A.dealloc_token d.alloc) T.row d.at d.len };
 }
 
-/// So many empty places. The other value only shows that the type has one.
-pub(crate) fn reserve<T, A: Allocator>(
-    alloc: &A,
-    len: usize,
-    _like: &T,
-) -> Result<(Slots<T>, Deed<T, A>), AllocError>
+/// Memory for so many values.
+fn allocate<T, A: Allocator>(alloc: &A, len: usize) -> Result<Block<T, A>, AllocError>
     requires { FitsInBlock T.row len }
-    ensures { IfOk result (λ r. (slots_len r.0 ≡ len) × (slots_filled r.0 ≡ replicate len false)
-        × (r.1.at ≡ slots_ptr r.0) × (r.1.len ≡ len) × (r.1.alloc ≡ alloc.now)) }
+    ensures { IfOk result (λ b. (b.len ≡ len) × (b.alloc ≡ alloc.now)) }
 {
     match alloc.allocate(len * size_of::<T>(), align_of::<T>()) {
-        Ok(block) => {
-            let row = unsafe { Slots::from_raw_parts(block as *mut T, len) };
-            Ok((row, Deed { mark: PhantomData }))
-        }
+        Ok(block) => Ok(Block {
+            at: block as *mut T,
+            len,
+            mark: PhantomData,
+        }),
         Err(refused) => Err(refused),
     }
 }
 
-/// `reserve` for any length: one that no block can hold has no memory either.
-pub(crate) fn try_reserve<T, A: Allocator>(
+/// `allocate` for any length: one that no block can hold has no memory either.
+pub(crate) fn try_allocate<T, A: Allocator>(
     alloc: &A,
     len: usize,
-    like: &T,
-) -> Result<(Slots<T>, Deed<T, A>), AllocError>
-    ensures { IfOk result (λ r. (slots_len r.0 ≡ len) × (slots_filled r.0 ≡ replicate len false)
-        × (r.1.at ≡ slots_ptr r.0) × (r.1.len ≡ len) × (r.1.alloc ≡ alloc.now)) }
+) -> Result<Block<T, A>, AllocError>
+    ensures { IfOk result (λ b. (b.len ≡ len) × (b.alloc ≡ alloc.now)) }
 {
     if !may_hold::<T>(len) {
         return Err(AllocError);
     }
-    reserve(alloc, len, like)
+    allocate(alloc, len)
 }
 
-/// Frees the room. Values that stand there are forgotten.
+/// Gives the memory back.
+pub(crate) fn free<T, A: Allocator>(alloc: &A, block: Block<T, A>)
+    requires { block.alloc ≡ alloc.now }
+{
+    let Block { at, len, mark: _ } = block;
+    unsafe {
+        alloc.deallocate(at as *mut u8, len * size_of::<T>(), align_of::<T>());
+    }
+}
+
+/// The memory as a row of empty places. An empty place has a value in the logic, so the type must have one.
+pub(crate) fn row_of<T, A: Allocator>(block: Block<T, A>) -> (Slots<T>, Deed<T, A>)
+    requires { T }
+    ensures { (slots_len result.0 ≡ block.len) × (slots_filled result.0 ≡ replicate block.len false)
+        × (result.1.at ≡ slots_ptr result.0) × (result.1.len ≡ block.len) × (result.1.alloc ≡ block.alloc) }
+{
+    let Block { at, len, mark: _ } = block;
+    let row = unsafe { Slots::from_raw_parts(at, len) };
+    (row, Deed { mark: PhantomData })
+}
+
+/// The memory of a row. Values that stand there are forgotten.
+fn block_of<T, A: Allocator>(row: Slots<T>, deed: Deed<T, A>) -> Block<T, A>
+    requires { (deed.at ≡ slots_ptr row) × (deed.len ≡ slots_len row) }
+    ensures { result.alloc ≡ deed.alloc }
+{
+    let Deed { mark: _ } = deed;
+    let (at, len) = unsafe { row.into_raw_parts() };
+    Block {
+        at,
+        len,
+        mark: PhantomData,
+    }
+}
+
+/// Frees a row. Values that stand there are forgotten.
 pub(crate) fn release<T, A: Allocator>(alloc: &A, row: Slots<T>, deed: Deed<T, A>)
     requires { (deed.at ≡ slots_ptr row) × (deed.len ≡ slots_len row) × (deed.alloc ≡ alloc.now) }
 {
-    let Deed { mark: _ } = deed;
-    unsafe {
-        let (ptr, len) = row.into_raw_parts();
-        alloc.deallocate(ptr as *mut u8, len * size_of::<T>(), align_of::<T>());
-    }
+    free(alloc, block_of(row, deed));
 }

@@ -6,7 +6,7 @@ ghost use Rattle.std.specs.Map.{lookup};
 ghost use Rattle.std.specs.Option.{IsSome, option_copied, option_copied_mut};
 ghost use Rattle.key_index_map.specs.Table.{Cells, IsAt, IsFreeIn, IsFirstFree, IsTagWithout, NoneIn, Found, Seen, Stopped, Updates, hash_of, tag_of, home, home_in, held, is_held, limit, pairs, with_value};
 
-use crate::room::{Deed, release, try_reserve};
+use crate::room::{Block, Deed, free, release, row_of, try_allocate};
 use core::slots::Slots;
 use std::alloc::{AllocError, Global};
 use std::hash::{BuildHasher, BuildHasherDefault, FoldHasher, Hash};
@@ -133,6 +133,77 @@ enum Search {
     Absent(usize),
     /// Behind the last of them.
     Onward,
+}
+
+/// Cells for pairs, before the first one comes.
+pub(crate) struct Room<K, V> {
+    tags: Vec<u8>,
+    block: Block<(K, V), Global>,
+    groups: usize,
+    cells: usize,
+}
+
+// How many pairs there is room for.
+impl<K, V> Model for Room<K, V> {
+    ghost use Rattle.std.specs.Prelude.{◌≡◌, ℕ};
+    ghost use Rattle.key_index_map.specs.Table.{AreEmpty, limit};
+
+    ghost Value = { ℕ };
+
+    ghost view = { λ r. limit r.cells };
+
+    ghost invariant = { λ r. AreEmpty r.tags.items r.groups r.cells × (r.block.len ≡ r.cells) };
+}
+
+impl<K, V> Room<K, V> {
+    /// So many empty cells.
+    fn with_cells(alloc: Global, cells: usize) -> Result<Room<K, V>, AllocError>
+        requires { 0 < cells }
+        ensures { IfOk result (λ room. room ≡ limit cells) }
+    {
+        let groups = (cells - 1) / GROUP + 1;
+        let Some(places) = groups.checked_mul(GROUP) else {
+            return Err(AllocError);
+        };
+        let mut tags = vec![in alloc; EMPTY; places]?;
+        fill(&mut tags, cells, NO_CELL);
+        let block = try_allocate(&alloc, cells)?;
+        Ok(Room {
+            tags,
+            block,
+            groups,
+            cells,
+        })
+    }
+
+    /// Cells for so many pairs.
+    pub(crate) fn with_capacity(alloc: Global, capacity: usize) -> Result<Room<K, V>, AllocError>
+        ensures { IfOk result (λ room. capacity ≤ room) }
+    {
+        let Some(cells) = cells_for(capacity, FEWEST) else {
+            return Err(AllocError);
+        };
+        Room::with_cells(alloc, cells)
+    }
+
+    /// How many pairs there is room for.
+    pub(crate) fn spare(&self) -> usize
+        ensures { result ≡ self.now }
+    {
+        limit(self.cells)
+    }
+}
+
+impl<K, V> Drop for Room<K, V> {
+    fn drop(self) {
+        let Room {
+            tags,
+            block,
+            groups: _,
+            cells: _,
+        } = self;
+        free(tags.allocator(), block);
+    }
 }
 
 /// Pairs in cells, each with a tag. `left` is how many empty cells may have one yet.
@@ -410,29 +481,6 @@ impl<K: Ord + Hash + Copy, V> Table<K, V> {
         value
     }
 
-    /// No pairs, in so many empty cells. The pair only shows that its type has a value.
-    fn with_cells(alloc: Global, cells: usize, like: &(K, V)) -> Result<Table<K, V>, AllocError>
-        requires { 0 < cells }
-        ensures empty { IfOk result (λ t. pairs t ≡ []) }
-        ensures room { IfOk result (λ t. t.spare ≡ limit cells) }
-    {
-        let groups = (cells - 1) / GROUP + 1;
-        let Some(places) = groups.checked_mul(GROUP) else {
-            return Err(AllocError);
-        };
-        let mut tags = vec![in alloc; EMPTY; places]?;
-        fill(&mut tags, cells, NO_CELL);
-        let (row, deed) = try_reserve(&alloc, cells, like)?;
-        Ok(Table {
-            tags,
-            row,
-            deed,
-            groups,
-            len: 0,
-            left: limit(cells),
-        })
-    }
-
     /// Moves the pairs into a table that has none and has room for them.
     fn move_into(self, new: &mut Table<K, V>)
         requires empty { pairs new.old ≡ [] }
@@ -464,7 +512,7 @@ impl<K: Ord + Hash + Copy, V> Table<K, V> {
 
     /// Makes room for more pairs, in more cells or in as many without marks of removed pairs. A refusal changes nothing.
     #[inline(never)]
-    fn grow(&mut self, additional: usize, like: &(K, V)) -> Result<(), AllocError>
+    fn grow(&mut self, additional: usize) -> Result<(), AllocError>
         ensures values { OnOk result ((q : K) → lookup (K.eq q) (pairs self.new) ≡ lookup (K.eq q) (pairs self.old)) }
         ensures len { OnOk result (length (pairs self.new) ≡ length (pairs self.old)) }
         ensures room { OnOk result (additional ≤ self.new.spare) }
@@ -476,15 +524,31 @@ impl<K: Ord + Hash + Copy, V> Table<K, V> {
         let Some(cells) = cells_for(len, self.row.len()) else {
             return Err(AllocError);
         };
-        let mut new = Table::with_cells(*self.tags.allocator(), cells, like)?;
+        let mut new = Room::with_cells(*self.tags.allocator(), cells)?.into_table();
         swap(self, &mut new);
         new.move_into(self);
         Ok(())
     }
 
+    /// Makes room for so many more pairs. A refusal changes nothing.
+    #[inline(always)]
+    pub(crate) fn reserve(&mut self, additional: usize) -> Result<(), AllocError>
+        ensures values { (q : K) → lookup (K.eq q) (pairs self.new) ≡ lookup (K.eq q) (pairs self.old) }
+        ensures len { length (pairs self.new) ≡ length (pairs self.old) }
+        ensures room { OnOk result (additional ≤ self.new.spare) }
+        ensures spare { self.old.spare ≤ self.new.spare }
+        ensures refused { OnErr result (self.new ≡ self.old) }
+        ensures succeeds { additional ≤ self.old.spare → IsOk result }
+    {
+        if additional <= self.left {
+            return Ok(());
+        }
+        self.grow(additional)
+    }
+
     /// Makes room for one more pair. A refusal changes nothing.
     #[inline(always)]
-    fn make_room(&mut self, like: &(K, V)) -> Result<(), AllocError>
+    fn make_room(&mut self) -> Result<(), AllocError>
         ensures values { OnOk result ((q : K) → lookup (K.eq q) (pairs self.new) ≡ lookup (K.eq q) (pairs self.old)) }
         ensures len { OnOk result (length (pairs self.new) ≡ length (pairs self.old)) }
         ensures room { OnOk result (0 < self.new.spare) }
@@ -495,7 +559,7 @@ impl<K: Ord + Hash + Copy, V> Table<K, V> {
         if 0 < self.left {
             return Ok(());
         }
-        self.grow(self.len / 8 + 1, like)
+        self.grow(self.len / 8 + 1)
     }
 
     /// Puts in the value of a key that has none.
@@ -510,43 +574,39 @@ impl<K: Ord + Hash + Copy, V> Table<K, V> {
         ensures room { self.old.spare ≤ self.new.spare + 1 }
         ensures succeeds { 0 < self.old.spare → IsOk result }
     {
-        let pair = (key, value);
-        if self.make_room(&pair).is_err() {
-            let (_, value) = pair;
+        if self.make_room().is_err() {
             return Err(value);
         }
-        self.put(hash, pair);
+        self.put(hash, (key, value));
         Ok(())
     }
 
-    /// No pairs, and cells for so many.
-    pub(crate) fn with_capacity(
+    /// A table of one pair, in the room if there is one, which is left then. A refusal hands the value back and changes nothing.
+    #[inline(never)]
+    pub(crate) fn with_one(
         alloc: Global,
-        capacity: usize,
-        like: &(K, V),
-    ) -> Result<Table<K, V>, AllocError>
-        ensures empty { IfOk result (λ t. pairs t ≡ []) }
-        ensures room { IfOk result (λ t. capacity ≤ t.spare) }
-    {
-        let Some(cells) = cells_for(capacity, FEWEST) else {
-            return Err(AllocError);
-        };
-        Table::with_cells(alloc, cells, like)
-    }
-
-    /// A table of one pair.
-    pub(crate) fn with_one(alloc: Global, hash: u64, key: K, value: V) -> Result<Table<K, V>, V>
+        room: &mut Option<Room<K, V>>,
+        hash: u64,
+        key: K,
+        value: V,
+    ) -> Result<Table<K, V>, V>
         requires hash { hash ≡ hash_of (K.hash_input key) }
         ensures updates { IfOk result (λ t. Updates K.eq [] (pairs t) key (Some value)) }
         ensures len { IfOk result (λ t. length (pairs t) ≡ 1) }
+        ensures refused { OnErr result (room.new ≡ room.old) }
         ensures returned { IfErr result (λ back. back ≡ value) }
+        ensures room { IfOk result (λ t. unwrap_or room.old 0 ≤ t.spare + 1) }
+        ensures succeeds { 0 < unwrap_or room.old 0 → IsOk result }
     {
-        let pair = (key, value);
-        let Ok(mut table) = Table::with_cells(alloc, FEWEST, &pair) else {
-            let (_, value) = pair;
-            return Err(value);
+        let room = match room.take() {
+            Some(room) => room,
+            None => match Room::with_cells(alloc, FEWEST) {
+                Ok(room) => room,
+                Err(_) => return Err(value),
+            },
         };
-        table.put(hash, pair);
+        let mut table = room.into_table();
+        table.put(hash, (key, value));
         Ok(table)
     }
 
@@ -694,6 +754,32 @@ impl<K: Ord + Hash + Copy, V> Table<K, V> {
             tags: self.tags.as_slice(),
             row: &self.row,
             next: 0,
+        }
+    }
+}
+
+impl<K: Ord + Hash + Copy, V> Room<K, V> {
+    /// A table without pairs. An empty cell has a pair in the logic, so there must be one.
+    fn into_table(self) -> Table<K, V>
+        requires { K × V }
+        ensures empty { pairs result ≡ [] }
+        ensures room { result.spare ≡ self }
+        ensures some { 0 < result.spare }
+    {
+        let Room {
+            tags,
+            block,
+            groups,
+            cells,
+        } = self;
+        let (row, deed) = row_of(block);
+        Table {
+            tags,
+            row,
+            deed,
+            groups,
+            len: 0,
+            left: limit(cells),
         }
     }
 }

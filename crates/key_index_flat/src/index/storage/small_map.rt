@@ -91,15 +91,6 @@ fn move_into<K: Ord + Hash + Copy, V: Drop>(pairs: &mut Vec<(K, V)>, map: &mut M
     }
 }
 
-/// The value of a pair.
-#[inline(always)]
-fn second<K: Copy, V>(pair: (K, V)) -> V
-    ensures { result ≡ pair.1 }
-{
-    let (_, value) = pair;
-    value
-}
-
 /// Up to 32 pairs of keys that differ, in no order, with a tag of each of the first sixteen keys. Contracts see the pairs.
 #[derive(Drop)]
 pub struct Pairs<K: Ord + Hash + Copy, V> {
@@ -245,15 +236,14 @@ impl<K: Ord + Hash + Copy, V> Pairs<K, V> {
         ensures returned { IfErr result (λ back. back ≡ value) }
     {
         let alloc = *self.pairs.allocator();
-        let pair = (key, value);
-        let Ok(map) = Map::with_capacity(alloc, 2 * MOST, &pair) else {
-            return Err(second(pair));
+        let Ok(map) = Map::with_capacity(alloc, 2 * MOST) else {
+            return Err(value);
         };
         let Ok(mut map) = Box::new(alloc, map) else {
-            return Err(second(pair));
+            return Err(value);
         };
         move_into(&mut self.pairs, &mut map);
-        let Ok(()) = map.add(key, second(pair)) else {
+        let Ok(()) = map.add(key, value) else {
             unreachable!()
         };
         Ok(map)

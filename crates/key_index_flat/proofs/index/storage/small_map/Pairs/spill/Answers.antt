@@ -1,6 +1,5 @@
-use Rattle.std.proofs.Common.{◌+◌, Some, length, ap, subst, ◌∙◌}
+use Rattle.std.proofs.Common.{◌+◌, Some, length, ap, ◌∙◌}
 use Rattle.std.specs.Map.{lookup}
-use Rattle.key_index_flat.specs.Storage.{Sets}
 use Rattle.key_index_flat.proofs.content.KeyLemmas.{Sets_by_eq}
 use Rattle.key_index_flat.proofs.content.PairLemmas.{lookup-value_of}
 use Rattle.key_index_flat.proofs.index.storage.small_map.Pairs.spill.Goals as goal
@@ -15,11 +14,9 @@ add-requires g c =
 pub returns-clause-sets : goal.returns-clause-sets
 returns-clause-sets g c =
     let eq = g.K.PartialEq.eq in
-    let v = c.second-2.result in
     let u = c.in-Ok-add.ensures.updates in
-    subst (λ w. Sets g.K.Ord.cmp c.args.self.now c.add.new.self.entries c.args.key (Some w)) c.second-2.ensures
-    (Sets_by_eq eq g.K.Ord.cmp g.met.K.Ord.matches_eq g.met.K.Ord.total c.args.self.now c.add.new.self.entries c.args.key (Some v)
-    (record { at = u.at; others = λ q not. u.others q not ∙ ap (λ m. lookup (eq q) m.entries) c.deref_mut-2.ensures.value ∙ c.move_into.ensures.values q ∙ ap (λ l. lookup (eq q) l) c.self.view_is }))
+    Sets_by_eq eq g.K.Ord.cmp g.met.K.Ord.matches_eq g.met.K.Ord.total c.args.self.now c.add.new.self.entries c.args.key (Some c.args.value)
+    (record { at = u.at; others = λ q not. u.others q not ∙ ap (λ m. lookup (eq q) m.entries) c.deref_mut-2.ensures.value ∙ c.move_into.ensures.values q ∙ ap (λ l. lookup (eq q) l) c.self.view_is })
 
 pub returns-clause-len : goal.returns-clause-len
 returns-clause-len g c =
