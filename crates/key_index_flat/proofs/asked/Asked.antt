@@ -8,23 +8,19 @@
 --     kept_first, ..                        at the start, after a value that stays, after one that goes, and at the end
 use Rattle.std.proofs.Common.{◌≡◌, ℕ, suc, ◌+◌, ◌-◌, ◌<◌, ◌≤◌, Bool, true, false, cond, List, [], ◌∷◌, ◌++◌, length, take, drop, replicate, slice_get, Some, nat_lt, refl, sym, ap, subst, ◌∙◌, arith, length-drop, append-nil, append_assoc}
 use Rattle.std.proofs.lemmas.Bool.{lt-ltb, le-ltb}
-use Rattle.std.proofs.lemmas.List.{replicate_more, take_at, length-take-le}
+use Rattle.std.proofs.lemmas.List.{replicate_more, take_at, take_more, drop_more, length-take-le}
 use Rattle.std.proofs.lemmas.Option.{slice_get_within, get_or_from_slice_get}
-use Rattle.std.proofs.Math.Seq.{drop-cons, take-suc, drop-append_seam}
+use Rattle.std.proofs.Math.Seq.{drop-append_seam}
 use Rattle.std.specs.Bool.{MatchBool}
 use Rattle.std.specs.List.{items_where_true, remove}
 use Rattle.std.specs.List.Retain.{ReturnsInTurn}
 use Rattle.key_index_flat.specs.Cursor.{Place, Active, Done, next_place, place_from, values_left, Retains, Finds, FindsNone}
 
 pub drop-value : {V : Type 0} (xs : List V) (i : ℕ) (x : V) → slice_get xs i ≡ Some x → drop i xs ≡ x ∷ drop (i + 1) xs
-drop-value xs i x e =
-    let next : suc i ≡ i + 1 = omega arith in
-    drop-cons xs i x (slice_get_within xs i x e) ∙ (λ t. get_or_from_slice_get xs i x x e t ∷ drop (next t) xs)
+drop-value xs i x e = drop_more xs i x (slice_get_within xs i x e) ∙ ap (λ y. y ∷ drop (i + 1) xs) (get_or_from_slice_get xs i x x e)
 
 pub take-value : {V : Type 0} (xs : List V) (i : ℕ) (x : V) → slice_get xs i ≡ Some x → take i xs ++ x ∷ [] ≡ take (i + 1) xs
-take-value xs i x e =
-    let next : suc i ≡ i + 1 = omega arith in
-    sym ((λ t. take (sym next t) xs) ∙ take-suc xs i x (slice_get_within xs i x e) ∙ ap (λ y. take i xs ++ y ∷ []) (get_or_from_slice_get xs i x x e))
+take-value xs i x e = sym (take_more xs i x (slice_get_within xs i x e) ∙ ap (λ y. take i xs ++ y ∷ []) (get_or_from_slice_get xs i x x e))
 
 pub take-remove : {V : Type 0} (xs : List V) (i : ℕ) → i < length xs → take i (remove xs i) ≡ take i xs
 take-remove xs i h = take_at (take i xs) (drop (suc i) xs) i (length-take-le i xs (omega (arith, h)))

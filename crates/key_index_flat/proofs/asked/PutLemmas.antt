@@ -20,12 +20,12 @@ use Rattle.key_index_flat.specs.declared.index.storage.tails.TailRetained.{TailR
 use Rattle.key_index_flat.proofs.asked.TurnLemmas.{asked_few, asked_same, asks_behind, kept_few, some_taken}
 use Rattle.key_index_flat.proofs.content.ContentLemmas.{with_list-twice}
 use Rattle.key_index_flat.proofs.runs.CursorLemmas.{list_at_edit}
-use Rattle.key_index_flat.proofs.content.InOrderLemmas.{behind_last}
+use Rattle.std.proofs.lemmas.List.Edits.{insert_end}
 
 module _ {K V : Type 0} {cmp : K → K → Ordering} (o : IsTotalOrder cmp) (c mid : Content K V) (k : K) (v : V) (at : ℕ)
     (end : at ≡ length (list_at cmp c k)) (put : mid ≡ with_list cmp c k (insert (list_at cmp c k) at v)) where
   list_put : list_at cmp mid k ≡ list_at cmp c k ++ v ∷ []
-  list_put = list_at_edit o _ _ _ _ put ∙ ap (λ n. insert (list_at cmp c k) n v) end ∙ behind_last (list_at cmp c k) v
+  list_put = list_at_edit o _ _ _ _ put ∙ ap (λ n. insert (list_at cmp c k) n v) end ∙ insert_end (list_at cmp c k) v
 
   pub taken_put : ((x y : K) → cmp x y ≡ Equal → x ≡ y) → IsLawful cmp c → (kept : List V) (new : Content K V) → new ≡ with_list cmp mid k kept → new ≡ with_list cmp c k kept
   taken_put exact lawful kept new is = is ∙ ap (λ d. with_list cmp d k kept) put ∙ with_list-twice o exact c k (insert (list_at cmp c k) at v) kept lawful

@@ -1,9 +1,10 @@
 -- A batch whose keys are visited one after another.
 --     folds_append                two lists of visits, one after the other
 --     folds_shown                 one visit more, of an item that a closure is shown
---     probes_push, visits_push    one probe more
+--     probes_push                 one probe more
+--     visits_append               the visits of some probes, and then of others
 --     probes_key, folds_key       one key more, of an iterator's items
-use Rattle.std.proofs.Common.{◌≡◌, ℕ, ◌+◌, List, [], ◌∷◌, ◌++◌, length, map, sym, ap, subst, ◌∙◌, arith, append-nil, append_assoc}
+use Rattle.std.proofs.Common.{◌≡◌, ℕ, ◌+◌, List, [], ◌∷◌, ◌++◌, length, map, refl, sym, ap, subst, ◌∙◌, arith, append-nil, append_assoc}
 use Rattle.std.proofs.lemmas.Fn.{FoldsTo-push}
 use Rattle.std.proofs.lemmas.List.{map-append, length-map}
 use Rattle.std.specs.List.{FoldsTo}
@@ -26,11 +27,14 @@ probes_push slot n (c ∷ bs) b =
     ap (λ l. (slot c, n) ∷ l) (probes_push slot (n + 1) bs b ∙ ap (λ m. probes_from slot (n + 1) bs ++ (slot b, m) ∷ []) same)
 
 module _ {K V : Type 0} (run : K → List V) where
-  pub visits_push : (ps : List (K × ℕ)) (p : K × ℕ) → visits_of run (ps ++ p ∷ []) ≡ visits_of run ps ++ map (λ v. (p.1, v)) (run p.0)
-  visits_push [] p = append-nil (map (λ v. (p.1, v)) (run p.0))
-  visits_push (q ∷ ps) p =
-      ap (λ l. map (λ v. (q.1, v)) (run q.0) ++ l) (visits_push ps p)
-      ∙ sym (append_assoc (map (λ v. (q.1, v)) (run q.0)) (visits_of run ps) (map (λ v. (p.1, v)) (run p.0)))
+  pub visits_append : (ps qs : List (K × ℕ)) → visits_of run (ps ++ qs) ≡ visits_of run ps ++ visits_of run qs
+  visits_append [] qs = refl
+  visits_append (p ∷ ps) qs =
+      ap (λ l. map (λ v. (p.1, v)) (run p.0) ++ l) (visits_append ps qs)
+      ∙ sym (append_assoc (map (λ v. (p.1, v)) (run p.0)) (visits_of run ps) (visits_of run qs))
+
+  visits_push : (ps : List (K × ℕ)) (p : K × ℕ) → visits_of run (ps ++ p ∷ []) ≡ visits_of run ps ++ map (λ v. (p.1, v)) (run p.0)
+  visits_push ps p = visits_append ps (p ∷ []) ∙ ap (λ l. visits_of run ps ++ l) (append-nil (map (λ v. (p.1, v)) (run p.0)))
 
   -- the visits of one probe more, of a list whose last visit left q
   pub folds_probe : {F : Type 0} (R : F → ℕ × V → F → Type 0) (f q u : F) (ps : List (K × ℕ)) (p : K × ℕ) (l : List V) → l ≡ run p.0

@@ -10,7 +10,8 @@ use Rattle.key_index_flat.specs.Content.{Content, key_count, list_at, with_list}
 use Rattle.key_index_flat.specs.Storage.{list_of, content_of}
 use Rattle.key_index_flat.specs.Storage.{value_of, Sets, IsLinked}
 use Rattle.key_index_flat.specs.laws.Laws.{IsLawful-with_list, IsLawful-content_of}
-use Rattle.key_index_flat.proofs.content.InOrderLemmas.{behind_last}
+use Rattle.std.proofs.lemmas.List.Edits.{insert_end}
+use Rattle.std.proofs.lemmas.Option.{cond_some}
 use Rattle.key_index_flat.proofs.content.ContentLemmas.{list_at-with_list, same_content, key_count-with_list, entries_for, Equal-is_eq}
 
 taken_entries : {V : Type 0} (head : Option V) (tail : List V) → entries_for (list_of head tail) ≡ cond (is_some head) 1 0
@@ -32,8 +33,7 @@ none_back true v o e none = absurd (subst T (ap is_some (sym e ∙ none)) tt)
 none_back false v o e none = refl
 
 pub some_back : {V : Type 0} (b : Bool) (v w : V) (o : Option V) → o ≡ cond b (Some v) None → o ≡ Some w → (b ≡ true) × (w ≡ v)
-some_back true v w o e some = (refl, ap (λ x. unwrap_or x v) (sym some ∙ e))
-some_back false v w o e some = absurd (subst T (ap is_some (sym some ∙ e)) tt)
+some_back b v w o e some = let p = cond_some b v w (sym e ∙ some) in (p.0, sym p.1)
 
 -- the length of a list with a first value
 pub length-list_of_some : {V : Type 0} (head : Option V) (tail : List V) → is_some head ≡ true → length (list_of head tail) ≡ 1 + length tail
@@ -227,7 +227,7 @@ module _ {K V : Type 0} {cmp : K → K → Ordering} (o : IsTotalOrder cmp) wher
           -- the value that came back goes behind its tail, or is refused
           module _ (w : V) (is : w ≡ v) where
             at_end : later k ≡ insert (tail k) (length (tail k)) w → later k ≡ tail k ++ v ∷ []
-            at_end put = put ∙ behind_last (tail k) w ∙ ap (λ x. tail k ++ x ∷ []) is
+            at_end put = put ∙ insert_end (tail k) w ∙ ap (λ x. tail k ++ x ∷ []) is
 
             pub behind_linked : (r : Result (Unit {0}) V) → OnOk r (later k ≡ insert (tail k) (length (tail k)) w) → OnErr r (later k ≡ tail k)
                 → ((q : K) → eq_by_cmp cmp q k ≡ false → later q ≡ tail q) → IsLinked cmp news later

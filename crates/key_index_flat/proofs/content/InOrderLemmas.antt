@@ -1,87 +1,68 @@
 -- On a vector that has a list in its order or, reversed, from its end on: what a change at a place of the list is there.
---     behind_last                                       an insertion at the end
 --     length-in_order, in_order-twice                   as long, and turned twice the same
 --     slice_set-in_order, ..                            changes at a place
 --     popped_first, removed_first                       the first value, taken out of a reversed vector and of another
 --     none_left                                         where there was no first value, and none is left
 --     end_within                                        a place, or the end where there is none
-use Rattle.std.proofs.Common.{◌≡◌, ℕ, zero, suc, ◌-◌, ◌<◌, ◌≤◌, Bool, true, false, List, [], ◌∷◌, ◌++◌, Option, Some, None, IfNone, IfSome, is_some, option_to_list, unwrap_or, length, slice_index_or, reverse, insert, remove, slice_set, T, refl, sym, ap, subst, ◌∙◌, arith, append_assoc, length-append}
-use Rattle.std.proofs.lemmas.List.{length-reverse, nil_from_length, reverse-append, reverse-reverse}
+use Rattle.std.proofs.Common.{◌≡◌, ℕ, suc, ◌-◌, ◌<◌, ◌≤◌, Bool, true, false, List, [], ◌∷◌, ◌++◌, Option, Some, None, IfNone, IfSome, is_some, option_to_list, unwrap_or, length, slice_index_or, reverse, insert, remove, slice_set, T, refl, sym, ap, subst, ◌∙◌, ⊎_elim, arith}
+use Rattle.std.proofs.lemmas.Bool.{cases_lt}
+use Rattle.std.proofs.lemmas.List.{length-reverse, nil_from_length, reverse-append, reverse-reverse, set-append_left}
+use Rattle.std.proofs.lemmas.List.Edits.{insert_end, insert-append_left, remove-append_left}
+use Rattle.std.proofs.Math.Seq.{set-append_seam}
 use Rattle.key_index_flat.specs.Storage.{index_in, list_of}
 use Rattle.key_index_flat.specs.Values.{in_order}
 
 module _ {V : Type 0} where
-  -- a list around one of its places
-  split-at_place : (xs : List V) (j : ℕ) → j < length xs → (a : List V) × (y : V) × (b : List V) × (xs ≡ a ++ y ∷ b) × (length a ≡ j)
-  split-at_place [] j h = absurd (omega arith)
-  split-at_place (x ∷ xs) zero h = ([], x, xs, refl, refl)
-  split-at_place (x ∷ xs) (suc j) h = let s = split-at_place xs j (omega (arith, h)) in (x ∷ s.0, s.1, s.2, ap (λ l. x ∷ l) s.3, ap suc s.4)
+  turned : (v : V) (vs : List V) → reverse (v ∷ vs) ≡ reverse vs ++ v ∷ []
+  turned v vs = reverse-append (v ∷ []) vs
 
-  -- and before one, or behind the last
-  cut_at : (xs : List V) (j : ℕ) → j ≤ length xs → (a : List V) × (b : List V) × (xs ≡ a ++ b) × (length a ≡ j)
-  cut_at xs zero h = ([], xs, refl, refl)
-  cut_at [] (suc j) h = absurd (omega arith)
-  cut_at (x ∷ xs) (suc j) h = let s = cut_at xs j (omega (arith, h)) in (x ∷ s.0, s.1, ap (λ l. x ∷ l) s.2, ap suc s.3)
+  -- an edit at a place that leaves what stands before it and behind it
+  module _ (edit : List V → ℕ → List V) (last : (vs : List V) (v : V) → reverse (edit (v ∷ vs) 0) ≡ edit (reverse vs ++ v ∷ []) (length (reverse vs)))
+      (behind : (v : V) (vs : List V) (n : ℕ) → edit (v ∷ vs) (suc n) ≡ v ∷ edit vs n) (before : (vs : List V) (v : V) (n : ℕ) → n < length vs → edit (vs ++ v ∷ []) n ≡ edit vs n ++ v ∷ []) where
+    edit_reversed : (vs : List V) (place : ℕ) → place < length vs → reverse (edit vs (length vs - 1 - place)) ≡ edit (reverse vs) place
+    edit_reversed [] place h = absurd (omega arith)
+    edit_reversed (v ∷ vs) place h =
+        let long = length-reverse vs in
+        let start = ap (λ l. edit l place) (turned v vs) in
+        ⊎_elim
+        (λ within.
+        let next : length (v ∷ vs) - 1 - place ≡ suc (length vs - 1 - place) = omega (arith, within) in
+        ap (λ n. reverse (edit (v ∷ vs) n)) next ∙ ap (λ l. reverse l) (behind v vs (length vs - 1 - place)) ∙ turned v (edit vs (length vs - 1 - place))
+        ∙ ap (λ l. l ++ v ∷ []) (edit_reversed vs place within) ∙ sym (start ∙ before (reverse vs) v place (omega (arith, within, long))))
+        (λ past.
+        let none : length (v ∷ vs) - 1 - place ≡ 0 = omega (arith, past) in
+        let at_end : place ≡ length (reverse vs) = omega (arith, past, h, long) in
+        ap (λ n. reverse (edit (v ∷ vs) n)) none ∙ last vs v ∙ sym (start ∙ ap (λ n. edit (reverse vs ++ v ∷ []) n) at_end))
+        (cases_lt place (length vs))
 
-  set_there : (a b : List V) (y x : V) (n : ℕ) → n ≡ length a → slice_set (a ++ y ∷ b) n x ≡ a ++ x ∷ b
-  set_there [] b y x zero e = refl
-  set_there [] b y x (suc n) e = absurd (omega arith)
-  set_there (z ∷ a) b y x zero e = absurd (omega arith)
-  set_there (z ∷ a) b y x (suc n) e = ap (λ l. z ∷ l) (set_there a b y x n (omega (arith, e)))
+  set_reversed : (vs : List V) (place : ℕ) (x : V) → place < length vs → reverse (slice_set vs (length vs - 1 - place) x) ≡ slice_set (reverse vs) place x
+  set_reversed vs place x =
+      edit_reversed (λ l n. slice_set l n x) (λ us v. turned x us ∙ sym (set-append_seam (reverse us) v [] x)) (λ v us n. refl) (λ us v n below. set-append_left us (v ∷ []) n x below) vs place
 
-  insert_there : (a b : List V) (x : V) (n : ℕ) → n ≡ length a → insert (a ++ b) n x ≡ a ++ x ∷ b
-  insert_there [] b x zero e = refl
-  insert_there [] b x (suc n) e = absurd (omega arith)
-  insert_there (z ∷ a) b x zero e = absurd (omega arith)
-  insert_there (z ∷ a) b x (suc n) e = ap (λ l. z ∷ l) (insert_there a b x n (omega (arith, e)))
+  remove_reversed : (vs : List V) (place : ℕ) → place < length vs → reverse (remove vs (length vs - 1 - place)) ≡ remove (reverse vs) place
+  remove_reversed = edit_reversed (λ l n. remove l n) (λ us v. sym (remove_end (reverse us) v)) (λ v us n. refl) (λ us v n below. remove-append_left us (v ∷ []) n below)
+    where
+      remove_end : (us : List V) (v : V) → remove (us ++ v ∷ []) (length us) ≡ us
+      remove_end [] v = refl
+      remove_end (u ∷ us) v = ap (λ l. u ∷ l) (remove_end us v)
 
-  remove_there : (a b : List V) (y : V) (n : ℕ) → n ≡ length a → remove (a ++ y ∷ b) n ≡ a ++ b
-  remove_there [] b y zero e = refl
-  remove_there [] b y (suc n) e = absurd (omega arith)
-  remove_there (z ∷ a) b y zero e = absurd (omega arith)
-  remove_there (z ∷ a) b y (suc n) e = ap (λ l. z ∷ l) (remove_there a b y n (omega (arith, e)))
+  inserted_last : (vs : List V) (place : ℕ) (x : V) → place ≡ length vs → reverse (insert vs (length vs - place) x) ≡ insert (reverse vs) place x
+  inserted_last vs place x all =
+      let none : length vs - place ≡ 0 = omega (arith, all) in
+      let at_end : place ≡ length (reverse vs) = omega (arith, all, length-reverse vs) in
+      ap (λ n. reverse (insert vs n x)) none ∙ turned x vs ∙ sym (ap (λ n. insert (reverse vs) n x) at_end ∙ insert_end (reverse vs) x)
 
-  reverse-append_around : (a b : List V) (y : V) → reverse (a ++ y ∷ b) ≡ reverse b ++ y ∷ reverse a
-  reverse-append_around a b y = reverse-append a (y ∷ b) ∙ ap (λ l. l ++ reverse a) (reverse-append (y ∷ []) b) ∙ append_assoc (reverse b) (y ∷ []) (reverse a)
-
-  -- a place of a reversed list, as the vector has it
-  module _ (vs : List V) (place : ℕ) where
-    module _ (within : place < length vs) where
-      around : (a : List V) × (y : V) × (b : List V) × (vs ≡ a ++ y ∷ b) × (length a ≡ length vs - 1 - place)
-      around = split-at_place vs (length vs - 1 - place) (omega (arith, within))
-
-      before : place ≡ length (reverse around.2)
-      before =
-          let sizes = ap (λ l. length l) around.3 ∙ length-append around.0 (around.1 ∷ around.2) in
-          let r = length-reverse around.2 in omega (arith, sizes, around.4, within, r)
-
-      turned : reverse vs ≡ reverse around.2 ++ around.1 ∷ reverse around.0
-      turned = ap (λ l. reverse l) around.3 ∙ reverse-append_around around.0 around.2 around.1
-
-      set_reversed : (x : V) → reverse (slice_set vs (length vs - 1 - place) x) ≡ slice_set (reverse vs) place x
-      set_reversed x =
-          ap (λ l. reverse l) (ap (λ l. slice_set l (length vs - 1 - place) x) around.3 ∙ set_there around.0 around.2 around.1 x _ (sym around.4))
-          ∙ reverse-append_around around.0 around.2 x
-          ∙ sym (ap (λ l. slice_set l place x) turned ∙ set_there (reverse around.2) (reverse around.0) around.1 x place before)
-
-      remove_reversed : reverse (remove vs (length vs - 1 - place)) ≡ remove (reverse vs) place
-      remove_reversed =
-          ap (λ l. reverse l) (ap (λ l. remove l (length vs - 1 - place)) around.3 ∙ remove_there around.0 around.2 around.1 _ (sym around.4))
-          ∙ reverse-append around.0 around.2
-          ∙ sym (ap (λ l. remove l place) turned ∙ remove_there (reverse around.2) (reverse around.0) around.1 place before)
-
-    insert_reversed : (x : V) → place ≤ length vs → reverse (insert vs (length vs - place) x) ≡ insert (reverse vs) place x
-    insert_reversed x within =
-        let s = cut_at vs (length vs - place) (omega (arith, within)) in
-        let sizes = ap (λ l. length l) s.2 ∙ length-append s.0 s.1 in
-        let before : place ≡ length (reverse s.1) = let r = length-reverse s.1 in omega (arith, sizes, s.3, within, r) in
-        ap (λ l. reverse l) (ap (λ l. insert l (length vs - place) x) s.2 ∙ insert_there s.0 s.1 x _ (sym s.3))
-        ∙ reverse-append_around s.0 s.1 x
-        ∙ sym (ap (λ l. insert l place x) (ap (λ l. reverse l) s.2 ∙ reverse-append s.0 s.1) ∙ insert_there (reverse s.1) (reverse s.0) x place before)
-
-  pub behind_last : (l : List V) (x : V) → insert l (length l) x ≡ l ++ x ∷ []
-  behind_last [] x = refl
-  behind_last (y ∷ l) x = ap (λ t. y ∷ t) (behind_last l x)
+  insert_reversed : (vs : List V) (place : ℕ) (x : V) → place ≤ length vs → reverse (insert vs (length vs - place) x) ≡ insert (reverse vs) place x
+  insert_reversed [] place x h = inserted_last [] place x (omega (arith, h))
+  insert_reversed (v ∷ vs) place x h =
+      ⊎_elim
+      (λ less.
+      let within : place ≤ length vs = omega (arith, less) in
+      let next : length (v ∷ vs) - place ≡ suc (length vs - place) = omega (arith, within) in
+      ap (λ n. reverse (insert (v ∷ vs) n x)) next ∙ turned v (insert vs (length vs - place) x) ∙ ap (λ l. l ++ v ∷ []) (insert_reversed vs place x within)
+      ∙ sym (ap (λ l. insert l place x) (turned v vs) ∙ insert-append_left (reverse vs) (v ∷ []) place x (omega (arith, within, length-reverse vs))))
+      (λ all. inserted_last (v ∷ vs) place x (omega (arith, all, h)))
+      (cases_lt place (length (v ∷ vs)))
 
   pub length-in_order : (r : Bool) (vs : List V) → length (in_order r vs) ≡ length vs
   length-in_order true vs = length-reverse vs
@@ -92,7 +73,7 @@ module _ {V : Type 0} where
   in_order-twice false vs = refl
 
   pub slice_set-in_order : (r : Bool) (vs : List V) (place : ℕ) (x : V) → place < length vs → in_order r (slice_set vs (index_in r (length vs - 1) place) x) ≡ slice_set (in_order r vs) place x
-  slice_set-in_order true vs place x h = set_reversed vs place h x
+  slice_set-in_order true vs place x h = set_reversed vs place x h
   slice_set-in_order false vs place x h = refl
 
   pub remove-in_order : (r : Bool) (vs : List V) (place : ℕ) → place < length vs → in_order r (remove vs (index_in r (length vs - 1) place)) ≡ remove (in_order r vs) place

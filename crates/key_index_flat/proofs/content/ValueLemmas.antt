@@ -15,12 +15,8 @@ use Rattle.key_index_flat.specs.Content.{Content, is_filled, all_filled, list_at
 use Rattle.key_index_flat.specs.laws.Laws.{IsLawful-content_of, T-and_first, T-and_second}
 use Rattle.key_index_flat.specs.Storage.{content_of}
 use Rattle.key_index_flat.specs.Values.{values_of, VisitsInTurn}
+use Rattle.key_index_flat.proofs.asked.VisitLemmas.{folds_append}
 use Rattle.key_index_flat.proofs.content.ContentLemmas.{key_count-with_list, entries_for}
-
-module _ {F V : Type 0} (visit : F → V → Unit {0} → F → Type 0) where
-  visits_append : (f g h : F) (xs ys : List V) → VisitsInTurn visit f xs g → VisitsInTurn visit g ys h → VisitsInTurn visit f (xs ++ ys) h
-  visits_append f g h [] ys e more = subst (λ x. VisitsInTurn visit x ys h) (sym e) more
-  visits_append f g h (x ∷ xs) ys said more = (said.0, said.1, visits_append said.0 g h xs ys said.2 more)
 
 module _ {K V : Type 0} (tail : K → List V) where
   abbrev pub in_turn : List (K × V) → List V
@@ -35,7 +31,7 @@ module _ {K V : Type 0} (tail : K → List V) where
   pub visits_more : {F : Type 0} (visit : F → V → Unit {0} → F → Type 0) (f g h : F) (es : List (K × V)) (e : K × V)
       → VisitsInTurn visit f (in_turn es) g → VisitsInTurn visit g (e.1 ∷ tail e.0) h → VisitsInTurn visit f (in_turn (es ++ e ∷ [])) h
   visits_more visit f g h es e before more =
-      subst (λ l. VisitsInTurn visit f l h) (sym (in_turn-more es e)) (visits_append visit f g h (in_turn es) (e.1 ∷ tail e.0) before more)
+      subst (λ l. VisitsInTurn visit f l h) (sym (in_turn-more es e)) (folds_append (λ p v q. visit p v tt q) f g h (in_turn es) (e.1 ∷ tail e.0) before more)
 
 entries_for-zero : {V : Type 0} (l : List V) → entries_for l ≡ 0 → l ≡ []
 entries_for-zero [] e = refl

@@ -213,6 +213,3 @@ module _ {V X : Type 0} (entry : V → List ℕ × X) where
         | true ↦ refl
         | false ↦ is_some-look k xs i at
       ]
-
-pub within_all : (place yielded all given : ℕ) → place ≡ yielded → yielded < all → all ≡ given → place < given
-within_all place yielded all given counted here long = omega (arith, counted, here, long)

@@ -3,7 +3,8 @@ use Rattle.std.specs.Fn.{CalledAt}
 use Rattle.key_index_flat.proofs.content.KeyLemmas.{Sets_by_eq}
 use Rattle.key_index_flat.specs.Storage.{at_key, vector_at, RetainsTail}
 use Rattle.key_index_flat.specs.Values.{in_order}
-use Rattle.key_index_flat.proofs.content.InOrderLemmas.{behind_last, length-in_order}
+use Rattle.std.proofs.lemmas.List.Edits.{insert_end}
+use Rattle.key_index_flat.proofs.content.InOrderLemmas.{length-in_order}
 use Rattle.key_index_flat.proofs.content.VectorLemmas.{absent, at_set, lent, only_behind, others_set}
 use Rattle.key_index_flat.proofs.index.storage.tails.insert_and_retain_in.Goals as goal
 
@@ -32,7 +33,7 @@ returns-in-Some-clause-retained g c =
     let inserted : in_order first c.insert_value.new.values.items ≡ in_order first (at_key g.K.PartialEq.eq c.args.map.now c.args.key) ++ c.args.value ∷ [] =
     c.in_ok-insert_value.ensures.at
     ∙ ap (λ n. insert (in_order first c.in-Some.tail.now.items) n c.args.value) (sym (length-in_order first c.in-Some.tail.now.items))
-    ∙ behind_last (in_order first c.in-Some.tail.now.items) c.args.value
+    ∙ insert_end (in_order first c.in-Some.tail.now.items) c.args.value
     ∙ sym (ap (λ l. in_order first l ++ c.args.value ∷ []) v.had) in
     subst (λ l. RetainsTail (CalledAt g.F.FnMut) c.args.should_retain c.args.head.now l (in_order first (at_key g.K.PartialEq.eq c.remove_empty.new.map c.args.key)) c.retain_behind-retained.result) inserted
     (subst (λ l. RetainsTail (CalledAt g.F.FnMut) c.args.should_retain c.args.head.now (in_order first c.insert_value.new.values.items) (in_order first l) c.retain_behind-retained.result) (sym (c.remove_empty.ensures.at ∙ v.has))
