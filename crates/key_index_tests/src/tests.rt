@@ -6,6 +6,7 @@ mod crashes;
 mod partitions;
 mod plain;
 mod program;
+mod room;
 mod slots;
 mod small;
 mod translators;

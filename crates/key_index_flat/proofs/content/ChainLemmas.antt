@@ -96,7 +96,7 @@ module _ {K V : Type 0} {cmp : K → K → Ordering} (o : IsTotalOrder cmp) wher
       pub content : content_of cmp heads tail ≡ c
       pub linked : IsLinked cmp heads tail
 
-    module _ (heads news : List (K × V)) (tail later : K → List V) (k : K) (linked : IsLinked cmp heads tail) where
+    module _ (heads news : List (K × V)) (tail later : K → List V) (linked : IsLinked cmp heads tail) where
       -- the same values everywhere
       pub StandsFor-unchanged : ((q : K) → value_of cmp news q ≡ value_of cmp heads q) → ((q : K) → later q ≡ tail q) → length news ≡ length heads → StandsFor news later (content_of cmp heads tail)
       StandsFor-unchanged heads_same tail_same count =
@@ -109,6 +109,7 @@ module _ {K V : Type 0} {cmp : K → K → Ordering} (o : IsTotalOrder cmp) wher
             };
           }
 
+    module _ (heads news : List (K × V)) (tail later : K → List V) (k : K) (linked : IsLinked cmp heads tail) where
       pub StandsFor-with_list : (l : List V)
           → ((q : K) → eq_by_cmp cmp q k ≡ false → value_of cmp news q ≡ value_of cmp heads q)
           → ((q : K) → eq_by_cmp cmp q k ≡ false → later q ≡ tail q)
@@ -183,7 +184,7 @@ module _ {K V : Type 0} {cmp : K → K → Ordering} (o : IsTotalOrder cmp) wher
           → later k ≡ tail k → ((q : K) → eq_by_cmp cmp q k ≡ false → later q ≡ tail q)
           → StandsFor news later (content_of cmp heads tail)
       StandsFor-put_back v d middle some there more back more_back at others =
-          StandsFor-unchanged (holds_at_every_key cmp exact (λ q. value_of cmp news q ≡ value_of cmp heads q) k (back.0 ∙ sym some) (λ q apart. back.1 q apart ∙ there.1 q apart))
+          StandsFor-unchanged heads news tail later linked (holds_at_every_key cmp exact (λ q. value_of cmp news q ≡ value_of cmp heads q) k (back.0 ∙ sym some) (λ q apart. back.1 q apart ∙ there.1 q apart))
           (holds_at_every_key cmp exact (λ q. later q ≡ tail q) k at others)
           (omega (arith, more, more_back))
 
@@ -208,7 +209,7 @@ module _ {K V : Type 0} {cmp : K → K → Ordering} (o : IsTotalOrder cmp) wher
           pub left_present : ((q : K) → later q ≡ tail q) → (length (list_at cmp (content_of cmp heads tail) k) ≡ 1 + length (tail k)) × StandsFor news later (content_of cmp heads tail)
           left_present same = (
             ap (λ l. length l) (list_at-content_of heads tail k) ∙ length-list_of_some (value_of cmp heads k) (tail k) held,
-            StandsFor-unchanged heads_left same count_left,
+            StandsFor-unchanged heads news tail later linked heads_left same count_left,
           )
 
           -- and then one behind it
@@ -222,7 +223,7 @@ module _ {K V : Type 0} {cmp : K → K → Ordering} (o : IsTotalOrder cmp) wher
               (StandsFor-replaced d d some (at, others) count_left others_tail)
 
           nothing_behind : later k ≡ tail k → ((q : K) → eq_by_cmp cmp q k ≡ false → later q ≡ tail q) → StandsFor news later (content_of cmp heads tail)
-          nothing_behind same others_tail = StandsFor-unchanged heads_left (holds_at_every_key cmp exact (λ q. later q ≡ tail q) k same others_tail) count_left
+          nothing_behind same others_tail = StandsFor-unchanged heads news tail later linked heads_left (holds_at_every_key cmp exact (λ q. later q ≡ tail q) k same others_tail) count_left
 
           -- the value that came back goes behind its tail, or is refused
           module _ (w : V) (is : w ≡ v) where

@@ -202,7 +202,7 @@ module _ {K V : Type 0} {cmp : K → K → Ordering} (o : IsTotalOrder cmp) (exa
           → StandsFor o exact last later (content_of cmp heads tail)
       list_refused last taken less at others =
           let one = ap (λ w. length last + cond (is_some w) 1 0) (sym sets.0) ∙ less in
-          StandsFor-unchanged o exact heads last tail later k linked
+          StandsFor-unchanged o exact heads last tail later linked
           (holds_at_every_key cmp exact (λ q. value_of cmp last q ≡ value_of cmp heads q) k (taken.0 ∙ sym (absent_at none).0) (λ q apart. taken.1 q apart ∙ sets.1 q apart))
           (holds_at_every_key cmp exact (λ q. later q ≡ tail q) k (at ∙ sym (absent_at none).1) others)
           (omega (arith, one, count_given))

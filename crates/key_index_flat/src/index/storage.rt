@@ -15,7 +15,7 @@ pub mod tails;
 pub mod tree_key;
 
 use super::implement::Retained;
-use super::{Refused, Values};
+use super::{Fault, Refused, Values};
 use crate::translator::Translator;
 use chains::Chains;
 use heads::{Heads, OrderedHeads};
@@ -324,6 +324,17 @@ impl<T: Translator, V: Drop, M: OrderedHeads<T::Key, V>> Storage<T, V, M> {
 }
 
 impl<T: Translator, V: Drop> Storage<T, V, Map<T::Key, V>> {
+    /// Makes room for so many more index keys.
+    pub(crate) fn reserve(&mut self, additional: usize) -> Result<(), Fault>
+        ensures same { self.new ≡ self.old }
+        ensures fault { IfErr result (λ f. f ≡ Fault.Memory) }
+    {
+        match self.chains.reserve(additional) {
+            Ok(()) => Ok(()),
+            Err(_) => Err(Fault::Memory),
+        }
+    }
+
     /// Calls a closure once on each value.
     #[inline]
     pub(crate) fn for_each_value<F: FnMut(&V)>(&self, visit: &mut F)

@@ -55,6 +55,14 @@ impl<T: Translator, V: Drop> Index<T, V> {
         self.storage.for_each_value(&mut visit);
     }
 
+    /// Makes room for so many more index keys, so that their first values take no more memory. It changes nothing that contracts see.
+    pub fn reserve(&mut self, additional: usize) -> Result<(), Fault>
+        ensures same { view self.new ≡ view self.old }
+        ensures fault { IfErr result (λ f. f ≡ Fault.Memory) }
+    {
+        self.storage.reserve(additional)
+    }
+
     /// Takes another translator, which the calls by key use from then on. The values that are held stay under their index keys.
     pub fn set_translator(&mut self, translator: T)
         ensures { view self.new ≡ with_slot (view self.old) (T.translated translator) }

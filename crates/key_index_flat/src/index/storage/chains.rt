@@ -21,7 +21,7 @@ use crate::index::retain::Retained;
 use crate::index::values::visit_in_turn;
 use crate::translator::Translator;
 use key_index_map::map::Map;
-use std::alloc::Global;
+use std::alloc::{AllocError, Global};
 use std::hash::Hash;
 use std::marker::Model;
 
@@ -106,9 +106,7 @@ impl<T: Translator, V: Drop, M: Heads<T::Key, V>, E: End> Chains<T, V, M, E> {
         };
         match self.tails.insert_at(self.alloc, slot, Some(0), displaced) {
             Ok(()) => Ok(()),
-            Err(displaced) => {
-                Err(self.heads.replace(&slot, displaced))
-            }
+            Err(displaced) => { Err(self.heads.replace(&slot, displaced)) }
         }
     }
 
@@ -475,6 +473,13 @@ impl<T: Translator, V: Drop> Chains<T, V, TreeMap<T::Key, V>, Back> {
 }
 
 impl<T: Translator, V: Drop, E: End> Chains<T, V, Map<T::Key, V>, E> {
+    /// Makes room for the first values of so many more index keys.
+    pub fn reserve(&mut self, additional: usize) -> Result<(), AllocError>
+        ensures { self.new ≡ self.old }
+    {
+        self.heads.reserve(additional)
+    }
+
     /// Calls a closure once on each value.
     #[inline]
     pub fn for_each_value<F: FnMut(&V)>(&self, visit: &mut F)

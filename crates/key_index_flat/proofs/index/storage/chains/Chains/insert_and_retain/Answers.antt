@@ -1,10 +1,10 @@
-use Rattle.std.proofs.Common.{length, sym, ap, subst, ◌∙◌, arith}
+use Rattle.std.proofs.Common.{◌≡◌, length, Result, Ok, Err, OnErr, refl, sym, ap, subst, ◌∙◌, arith}
 use Rattle.std.specs.Fn.{CalledAt}
 use Rattle.key_index_flat.specs.Content.{IsLawful}
 use Rattle.key_index_flat.specs.Storage.{list_left, list_of, tail_at}
 use Rattle.key_index_flat.specs.laws.Laws.{IsLawful-content_of}
 use Rattle.key_index_flat.proofs.asked.PutLemmas.{asks_alone, asks_put_behind, few_behind, held_behind, one_went_behind, taken_put}
-use Rattle.key_index_flat.proofs.content.ChainLemmas.{list_at-content_of}
+use Rattle.key_index_flat.proofs.content.ChainLemmas.{StandsFor-unchanged, holds_at_every_key, list_at-content_of}
 use Rattle.key_index_flat.proofs.content.EditLemmas.{alone_left, list-first_and_tail, list_later, list_left_of, rest_edited}
 use Rattle.key_index_flat.proofs.index.storage.chains.Chains.insert_and_retain.Goals as goal
 
@@ -82,3 +82,16 @@ returns-clause-had g c =
     let list = list-first_and_tail g.met.T.Key.Ord.total g.met.T.Translator.exact (g.M.Heads.entries c.self.inside.heads) tail tail c.args.slot c.self.invariant c.in-Some.head.now (sym c.in-Some.ensures) in
     let had = held_behind (CalledAt g.F.FnMut) c.args.should_retain _ c.in-Some.head.now _ _ c.args.value c.in_ok-tail.tail list c.in_ok-tail.ensures.retained in
     rw (← c.self.view_is) had
+
+refused : {A B P : Type 0} (r : Result A B) → P → OnErr r P
+refused (Ok a) p = tt
+refused (Err b) p = p
+
+pub returns-in_err-tail-clause-refused : goal.returns-in_err-tail-clause-refused
+returns-in_err-tail-clause-refused g c =
+    let heads = g.M.Heads.entries c.self.inside.heads in
+    let tail = tail_at g.E.End.FIRST g.T.Key.PartialEq.eq c.self.inside.tails.map in
+    let later = tail_at g.E.End.FIRST g.T.Key.PartialEq.eq c.insert_and_retain.new.self.map in
+    let stays = holds_at_every_key g.T.Key.Ord.cmp g.met.T.Translator.exact (λ q. later q ≡ tail q) c.args.slot c.in_err-tail.ensures.refused c.in_err-tail.ensures.others in
+    let same = (StandsFor-unchanged g.met.T.Key.Ord.total g.met.T.Translator.exact heads heads tail later c.self.invariant (λ q. refl) stays refl).content in
+    refused c.from_residual-in_err-tail.result (same ∙ c.self.view_is)
