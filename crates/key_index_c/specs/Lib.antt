@@ -1,0 +1,5 @@
+pub mod Any
+pub mod Buffer
+pub mod Handle
+pub mod Held
+pub mod Status
