@@ -1,14 +1,17 @@
 //! An index of any kind.
-ghost use Rattle.std.specs.Prelude.{◌≡◌, ◌≢◌, ◌⊎◌, [], true, length, IfOk, IfErr};
+ghost use Rattle.std.specs.Prelude.{◌≡◌, ◌≢◌, ◌<◌, ◌⊎◌, ◌↔◌, [], true, false, length, is_some, IfOk, IfErr, IfSome, IsTrue, nat_eq};
 ghost use Rattle.std.specs.Ordering.{nat_cmp};
+ghost use Rattle.key_index_flat.specs.Content.{key_count};
+ghost use Rattle.key_index_flat.specs.Neighbours.{first_list, last_list, next_list, prev_list};
 ghost use Rattle.key_index_flat.specs.Padding.{cap_number};
-ghost use Rattle.key_index_flat.specs.View.{after_insert, growth_fault_in, run_of};
-ghost use Rattle.key_index_c.specs.Any.{any_view};
+ghost use Rattle.key_index_flat.specs.View.{after_insert, after_remove, growth_fault_in, items_in, run_of};
+ghost use Rattle.key_index_c.specs.Any.{any_view, is_ordered};
 ghost use Rattle.key_index_c.specs.Buffer.{filled};
-ghost use Rattle.key_index_c.specs.Status.{status_of};
+ghost use Rattle.key_index_c.specs.Calls.{Shows, after_removed, after_replaced, not_cycled, place_of};
+ghost use Rattle.key_index_c.specs.Status.{kind_refusal, status_of};
 
 use crate::status::{self, BAD_ARGUMENT, MEMORY, OK};
-use key_index_flat::index::{Factory, Unordered, Values, unordered};
+use key_index_flat::index::{Factory, Ordered, Runs, Unordered, Values, ordered, unordered};
 use key_index_flat::translator::EightCap;
 use std::alloc::Global;
 
@@ -17,10 +20,36 @@ use std::alloc::Global;
 pub enum Any {
     /// Hashed, with no order.
     Unordered(unordered::Index<EightCap, u64>),
+    /// A tree, with neighbours.
+    Ordered(ordered::Index<EightCap, u64>),
 }
 
 /// The kind of an unordered index.
 pub const UNORDERED: u32 = 0;
+/// The kind of an ordered index.
+pub const ORDERED: u32 = 1;
+
+/// What a call for the values of a neighbour tells.
+#[repr(C)]
+#[derive(Drop)]
+pub struct Neighbour {
+    /// How many values the neighbour has, 0 where there is none.
+    pub count: usize,
+    /// `OK`, or `BAD_ARGUMENT` where the index has no order.
+    pub status: u32,
+    /// Whether it was found around the end.
+    pub cycled: bool,
+}
+
+// A call that is the same for an index of each kind.
+macro_rules! each {
+    ($any:expr, $index:ident => $call:expr) => {
+        match $any {
+            Any::Unordered($index) => $call,
+            Any::Ordered($index) => $call,
+        }
+    };
+}
 
 impl Any {
     /// An index of a kind, with no values.
@@ -28,11 +57,17 @@ impl Any {
         ensures empty { IfOk result (λ any. (any_view any.value).content ≡ []) }
         ensures pruned { IfOk result (λ any. (any_view any.value).pruned ≡ 0) }
         ensures slots { IfOk result (λ any. (any_view any.value).slot ≡ cap_number 8) }
-        ensures fault { IfErr result (λ status. status ≢ OK) }
+        ensures order { IfOk result (λ any. is_ordered any.value ≡ nat_eq kind ORDERED) }
+        ensures known { IfOk result (λ any. kind < 2) }
+        ensures fault { IfErr result (λ status. status ≡ kind_refusal kind) }
     {
         let any = match kind {
             UNORDERED => match unordered::Index::new(alloc, EightCap) {
                 Ok(index) => Any::Unordered(index),
+                Err(_) => return Err(MEMORY),
+            },
+            ORDERED => match ordered::Index::new(alloc, EightCap) {
+                Ok(index) => Any::Ordered(index),
                 Err(_) => return Err(MEMORY),
             },
             _ => return Err(BAD_ARGUMENT),
@@ -45,16 +80,15 @@ impl Any {
 
     /// Inserts a value under a key, and tells the status.
     pub(crate) fn insert(&mut self, key: &[u8], value: u64) -> u32
+        ensures order { is_ordered self.new ≡ is_ordered self.old }
         ensures accepted { result ≡ OK → any_view self.new ≡ after_insert nat_cmp true (any_view self.old) key.now value }
         ensures refused { result ≢ OK → any_view self.new ≡ any_view self.old }
         ensures status { (result ≡ OK) ⊎ (result ≡ status_of (growth_fault_in (any_view self.old))) }
     {
-        match self {
-            Any::Unordered(index) => match index.insert(key, value) {
-                Ok(()) => OK,
-                Err(refused) => status::of(refused.fault),
-            },
-        }
+        each!(self, index => match index.insert(key, value) {
+            Ok(()) => OK,
+            Err(refused) => status::of(refused.fault),
+        })
     }
 
     /// Writes the values of a key to a buffer, as many as it has room for, and tells how many the key has.
@@ -62,10 +96,164 @@ impl Any {
         ensures count { result ≡ length (run_of nat_cmp (any_view self.now) key.now) }
         ensures values { buffer.new ≡ filled (run_of nat_cmp (any_view self.now) key.now) buffer.old }
     {
+        each!(self, index => copy(index.get(key), buffer))
+    }
+
+    /// Whether a key has a value.
+    pub(crate) fn contains(&self, key: &[u8]) -> bool
+        ensures { IsTrue result ↔ (0 < length (run_of nat_cmp (any_view self.now) key.now)) }
+    {
+        each!(self, index => index.get(key).len() > 0)
+    }
+
+    /// Removes a key with all its values.
+    pub(crate) fn remove(&mut self, key: &[u8])
+        ensures order { is_ordered self.new ≡ is_ordered self.old }
+        ensures removed { any_view self.new ≡ after_remove nat_cmp (any_view self.old) key.now }
+    {
+        let _ = each!(self, index => index.remove(key));
+    }
+
+    /// Removes the first value of a key that equals a value, and tells whether there was one.
+    pub(crate) fn remove_value(&mut self, key: &[u8], value: u64) -> bool
+        ensures order { is_ordered self.new ≡ is_ordered self.old }
+        ensures found { result ≡ is_some (place_of value (run_of nat_cmp (any_view self.old) key.now)) }
+        ensures removed { any_view self.new ≡ after_removed (any_view self.old) key.now
+            (place_of value (run_of nat_cmp (any_view self.old) key.now)) }
+    {
+        each!(self, index => match place_of(index.get(key), value) {
+            None => false,
+            Some(place) => {
+                let slot = index.slot_of(key);
+                index.remove_at(slot, place);
+                true
+            }
+        })
+    }
+
+    /// Puts another value in the place of the first value of a key that equals a value, and tells whether there was one.
+    pub(crate) fn replace_value(&mut self, key: &[u8], value: u64, new: u64) -> bool
+        ensures order { is_ordered self.new ≡ is_ordered self.old }
+        ensures found { result ≡ is_some (place_of value (run_of nat_cmp (any_view self.old) key.now)) }
+        ensures replaced { any_view self.new ≡ after_replaced (any_view self.old) key.now
+            (place_of value (run_of nat_cmp (any_view self.old) key.now)) new }
+    {
+        each!(self, index => match place_of(index.get(key), value) {
+            None => false,
+            Some(place) => {
+                let slot = index.slot_of(key);
+                index.set_at(slot, place, new);
+                true
+            }
+        })
+    }
+
+    /// How many keys there are.
+    pub(crate) fn keys(&self) -> usize
+        ensures { result ≡ key_count (any_view self.now).content }
+    {
+        each!(self, index => index.keys())
+    }
+
+    /// How many values there are.
+    pub(crate) fn items(&self) -> usize
+        ensures { result ≡ items_in (any_view self.now) }
+    {
+        each!(self, index => index.items())
+    }
+
+    /// How many values were ever removed.
+    pub(crate) fn pruned(&self) -> u64
+        ensures { result ≡ (any_view self.now).pruned }
+    {
+        each!(self, index => index.pruned())
+    }
+
+    /// Writes the values of the next key.
+    pub(crate) fn next(&self, key: &[u8], buffer: &mut [u64]) -> Neighbour
+        ensures { Shows (is_ordered self.now) (next_list nat_cmp (any_view self.now).content ((any_view self.now).slot key.now))
+            result buffer.old buffer.new }
+    {
         match self {
-            Any::Unordered(index) => copy(index.get(key), buffer),
+            Any::Unordered(_) => no_order(),
+            Any::Ordered(index) => show(index.next_translated_key(key), buffer),
         }
     }
+
+    /// Writes the values of the previous key.
+    pub(crate) fn prev(&self, key: &[u8], buffer: &mut [u64]) -> Neighbour
+        ensures { Shows (is_ordered self.now) (prev_list nat_cmp (any_view self.now).content ((any_view self.now).slot key.now))
+            result buffer.old buffer.new }
+    {
+        match self {
+            Any::Unordered(_) => no_order(),
+            Any::Ordered(index) => show(index.prev_translated_key(key), buffer),
+        }
+    }
+
+    /// Writes the values of the first key.
+    pub(crate) fn first(&self, buffer: &mut [u64]) -> Neighbour
+        ensures { Shows (is_ordered self.now) (not_cycled (first_list (any_view self.now).content)) result buffer.old buffer.new }
+    {
+        match self {
+            Any::Unordered(_) => no_order(),
+            Any::Ordered(index) => show(end(index.first_translated_key()), buffer),
+        }
+    }
+
+    /// Writes the values of the last key.
+    pub(crate) fn last(&self, buffer: &mut [u64]) -> Neighbour
+        ensures { Shows (is_ordered self.now) (not_cycled (last_list (any_view self.now).content)) result buffer.old buffer.new }
+    {
+        match self {
+            Any::Unordered(_) => no_order(),
+            Any::Ordered(index) => show(end(index.last_translated_key()), buffer),
+        }
+    }
+}
+
+/// What an index with no order tells.
+fn no_order() -> Neighbour
+    ensures { result ≡ record { count = 0; status = BAD_ARGUMENT; cycled = false } }
+{
+    Neighbour {
+        count: 0,
+        status: BAD_ARGUMENT,
+        cycled: false,
+    }
+}
+
+/// The list at an end, which is not found around it.
+fn end<'a>(list: Option<Values<'a, u64>>) -> Option<(Values<'a, u64>, bool)>
+    ensures { result ≡ not_cycled list.entry }
+{
+    match list {
+        None => None,
+        Some(values) => Some((values, false)),
+    }
+}
+
+/// Writes the values of a neighbour to a buffer, as many as it has room for.
+fn show(neighbour: Option<(Values<'_, u64>, bool)>, buffer: &mut [u64]) -> Neighbour
+    ensures { Shows true neighbour.entry result buffer.old buffer.new }
+{
+    let (count, cycled) = match neighbour {
+        None => (0, false),
+        Some((values, cycled)) => (copy(values, buffer), cycled),
+    };
+    Neighbour {
+        count,
+        status: OK,
+        cycled,
+    }
+}
+
+/// The place of the first of some values that equals a value.
+fn place_of(mut values: Values<'_, u64>, value: u64) -> Option<usize>
+    ensures place { result ≡ place_of value values.entry }
+    ensures within { IfSome result (λ place. place < length values.entry) }
+{
+    values.position(|held| *held == value)
 }
 
 /// Writes values to a buffer, as many as it has room for, and tells how many there are.
