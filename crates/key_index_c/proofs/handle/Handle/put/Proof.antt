@@ -1,5 +1,5 @@
 -- `put` takes the box apart, and leaves its block with the handle.
-use Rattle.std.proofs.Common.{◌≡◌, ℕ, List, [], ◌∷◌, ◌++◌, refl, sym, ap, ◌∙◌, subst, Option, Some, None}
+use Rattle.std.proofs.Common.{◌≡◌, List, [], ◌∷◌, ◌++◌, refl, sym, ap, ◌∙◌, subst, Some, None}
 use Rattle.std.proofs.raw_atomic.Walks.{proved_at}
 use mir.Syntax.{named, impl, tcons, tnil, dnil, method}
 use mir.Raw.{raw as bare}
@@ -9,7 +9,7 @@ use base.Fml.{ftrue, flft}
 use base.Fraction.{full_share}
 use prog.Wp.{WpFn}
 use types.Logic.{sem}
-use types.Kit.{‵, raw, ◌⊛◌, some, later, ◌$◌, ◌∵◌, !, qed, done, move, keep, drop, use0, use1, split, split3, join, fsplit, fsplit3, fjoin, fpack, feq_i, feq_l, pick, await, rewrite, suffices, frame, group}
+use types.Kit.{‵, raw, ◌⊛◌, some, later, ◌$◌, ◌∵◌, !, qed, done, move, keep, drop, use0, use1, split, split3, join, fsplit3, fjoin, fpack, feq_i, feq_l, pick, await, rewrite, suffices, frame, group}
 use types.Run.{enter, of_opd, unit_lit, stop, fld, no_more, and_then, assigns, returns}
 use types.ByLocal.{alloc_all, pass_all, free_all, look_at, get, through, sets, lands_as}
 use types.Part.{whole, sub, store_in}
@@ -25,7 +25,7 @@ use denote.Builtin.{RawPtr}
 use denote.RawPtr.{Ptr, block_ptr, null_ptr, ptr_val, in_a_block}
 use denote.Ref.{MutRef, mut_at, mut_vals, mut_Tells}
 use denote.Signature.{plain}
-use denote.Steps.{nothing, only, opens, closes, heard, peeks}
+use denote.Steps.{nothing, only, opens, closes, peeks}
 use denote.Struct.Struct.{within}
 use denote.Struct.Owning.{shape}
 use denote.Param.{layout, layouts, arg}

@@ -4,7 +4,7 @@ use Rattle.std.proofs.raw_atomic.Walks.{proved}
 use mir.Syntax.{named, impl, tcons, tnil, dnil}
 use mir.Raw.{raw as bare}
 use mir.Val.{Val, vptr}
-use base.Logic.{SProp, emp, never, id⊢, fst∗}
+use base.Logic.{emp, never, id⊢, fst∗}
 use base.Fml.{ftrue, flft}
 use base.Fraction.{full_share}
 use types.Logic.{sem}
