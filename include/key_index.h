@@ -3,7 +3,8 @@
  *
  * A store that keeps its records in a log inserts the position of each record under the record's key. The index keeps the first
  * eight bytes of the key and the position. It returns the positions of the records that may match a key, and the store compares
- * the full keys. Keys that agree in their first eight bytes share one list; a shorter key counts as if zeros stood behind it.
+ * the full keys. Keys that agree in their first eight bytes share one list; a shorter key counts as if zeros stood behind it. An index
+ * of the kind KEY_INDEX_SEEDED keeps eight bytes of a hash of the whole key instead.
  *
  *     key_index index = KEY_INDEX_NONE;
  *     if (key_index_new(&index, KEY_INDEX_UNORDERED) != KEY_INDEX_OK) ..
@@ -62,7 +63,8 @@ typedef enum key_index_status {
 
 typedef enum key_index_kind {
     KEY_INDEX_UNORDERED = 0, /* a hashed map: the fastest calls by key */
-    KEY_INDEX_ORDERED = 1    /* a tree, with the next and the previous key */
+    KEY_INDEX_ORDERED = 1,   /* a tree, with the next and the previous key */
+    KEY_INDEX_SEEDED = 2     /* a hashed map by a SHA-256 of whole keys and a secret seed: for keys that an attacker picks */
 } key_index_kind;
 
 /* What the library exports. */
@@ -71,7 +73,7 @@ struct key_index_neighbour {
     uint32_t status;
     bool cycled;
 };
-uint32_t key_index_c_new(key_index *index, uint32_t kind);
+uint32_t key_index_c_new(key_index *index, uint32_t kind, uint64_t seed);
 void key_index_c_free(key_index *index);
 uint32_t key_index_c_insert(key_index *index, const uint8_t *key, size_t key_len, uint64_t value);
 size_t key_index_c_get(key_index *index, const uint8_t *key, size_t key_len, uint64_t *values, size_t room);
@@ -103,13 +105,18 @@ static inline uint64_t *key_index_room(uint64_t *values, uint64_t *other) {
     return values != NULL ? values : other;
 }
 
-/* Makes an index with no values. KEY_INDEX_MEMORY. */
-static inline key_index_status key_index_new(key_index *index, key_index_kind kind) {
+/* Makes an index of a kind with no values. KEY_INDEX_MEMORY. Only KEY_INDEX_SEEDED takes the seed: draw it at random at each start, and
+ * keep it secret. */
+static inline key_index_status key_index_new_seeded(key_index *index, key_index_kind kind, uint64_t seed) {
     uint32_t status;
     if (index == NULL || index->at != NULL) return KEY_INDEX_BAD_ARGUMENT;
-    status = key_index_c_new(index, (uint32_t)kind);
+    status = key_index_c_new(index, (uint32_t)kind, seed);
     if (status != KEY_INDEX_OK) index->at = NULL;
     return (key_index_status)status;
+}
+/* The same of a kind that takes no seed. */
+static inline key_index_status key_index_new(key_index *index, key_index_kind kind) {
+    return kind == KEY_INDEX_SEEDED ? KEY_INDEX_BAD_ARGUMENT : key_index_new_seeded(index, kind, 0);
 }
 
 /* Frees an index, which is KEY_INDEX_NONE then. Of null, or of none, it does nothing. */

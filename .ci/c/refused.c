@@ -48,7 +48,7 @@ static size_t lens[KEYS];
 static void holds(key_index *index, key_index_kind kind) {
     size_t keys = 0, items = 0, count, i;
     for (i = 0; i < KEYS; i++) {
-        uint8_t key[9] = {0, 0, 0, 0, 0, 0, 0, (uint8_t)i, 77};
+        uint8_t key[8] = {0, 0, 0, 0, 0, 0, 0, (uint8_t)i};
         uint64_t values[ROOM];
         size_t room = i % 2 ? ROOM : 2, shown = lens[i] < room ? lens[i] : room;
         CHECK(key_index_get(index, key, sizeof key, values, room, &count) == KEY_INDEX_OK && count == lens[i]);
@@ -62,7 +62,7 @@ static void holds(key_index *index, key_index_kind kind) {
 /* A session of calls. Returns whether an allocation was refused. */
 static bool session(key_index_kind kind) {
     key_index index = KEY_INDEX_NONE;
-    key_index_status status = key_index_new(&index, kind);
+    key_index_status status = key_index_new_seeded(&index, kind, 7);
     uint64_t random = 88172645463325252u;
     int i;
     memset(lens, 0, sizeof lens);
@@ -102,7 +102,7 @@ static bool session(key_index_kind kind) {
 
 int main(void) {
     int kind;
-    for (kind = KEY_INDEX_UNORDERED; kind <= KEY_INDEX_ORDERED; kind++) {
+    for (kind = KEY_INDEX_UNORDERED; kind <= KEY_INDEX_SEEDED; kind++) {
         for (refused = 1;; refused++) {
             allocations = 0;
             if (!session((key_index_kind)kind)) break;

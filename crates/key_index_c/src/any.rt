@@ -3,31 +3,34 @@ ghost use Rattle.std.specs.Prelude.{◌≡◌, ◌≢◌, ◌<◌, ◌⊎◌, �
 ghost use Rattle.std.specs.Ordering.{nat_cmp};
 ghost use Rattle.key_index_flat.specs.Content.{key_count};
 ghost use Rattle.key_index_flat.specs.Neighbours.{first_list, last_list, next_list, prev_list};
-ghost use Rattle.key_index_flat.specs.Padding.{cap_number};
 ghost use Rattle.key_index_flat.specs.View.{after_insert, after_remove, growth_fault_in, items_in, run_of};
-ghost use Rattle.key_index_c.specs.Any.{any_view, is_ordered};
+ghost use Rattle.key_index_c.specs.Any.{any_view, is_ordered, slot_of};
 ghost use Rattle.key_index_c.specs.Buffer.{filled};
 ghost use Rattle.key_index_c.specs.Calls.{Shows, after_removed, after_replaced, not_cycled, place_of};
 ghost use Rattle.key_index_c.specs.Status.{kind_refusal, status_of};
 
 use crate::status::{self, BAD_ARGUMENT, MEMORY, OK};
 use key_index_flat::index::{Factory, Ordered, Runs, Unordered, Values, ordered, unordered};
-use key_index_flat::translator::EightCap;
+use key_index_flat::translator::{EightCap, Hashed, SeededSha256};
 use std::alloc::Global;
 
-/// An index over the first eight bytes of keys.
+/// An index by eight bytes: the first ones of a key, or of its hash.
 #[derive(Drop)]
 pub enum Any {
     /// Hashed, with no order.
     Unordered(unordered::Index<EightCap, u64>),
     /// A tree, with neighbours.
     Ordered(ordered::Index<EightCap, u64>),
+    /// Hashed, by a hash of whole keys that a seed picks.
+    Seeded(unordered::Index<Hashed<EightCap, SeededSha256>, u64>),
 }
 
 /// The kind of an unordered index.
 pub const UNORDERED: u32 = 0;
 /// The kind of an ordered index.
 pub const ORDERED: u32 = 1;
+/// The kind of an unordered index over hashes by a seed.
+pub const SEEDED: u32 = 2;
 
 /// What a call for the values of a neighbour tells.
 #[repr(C)]
@@ -47,18 +50,19 @@ macro_rules! each {
         match $any {
             Any::Unordered($index) => $call,
             Any::Ordered($index) => $call,
+            Any::Seeded($index) => $call,
         }
     };
 }
 
 impl Any {
-    /// An index of a kind, with no values.
-    pub(crate) fn new(alloc: Global, kind: u32) -> Result<Box<Any>, u32>
+    /// An index of a kind, with no values. Only a seeded one takes the seed.
+    pub(crate) fn new(alloc: Global, kind: u32, seed: u64) -> Result<Box<Any>, u32>
         ensures empty { IfOk result (λ any. (any_view any.value).content ≡ []) }
         ensures pruned { IfOk result (λ any. (any_view any.value).pruned ≡ 0) }
-        ensures slots { IfOk result (λ any. (any_view any.value).slot ≡ cap_number 8) }
+        ensures slots { IfOk result (λ any. (any_view any.value).slot ≡ slot_of kind seed) }
         ensures order { IfOk result (λ any. is_ordered any.value ≡ nat_eq kind ORDERED) }
-        ensures known { IfOk result (λ any. kind < 2) }
+        ensures known { IfOk result (λ any. kind < 3) }
         ensures fault { IfErr result (λ status. status ≡ kind_refusal kind) }
     {
         let any = match kind {
@@ -68,6 +72,10 @@ impl Any {
             },
             ORDERED => match ordered::Index::new(alloc, EightCap) {
                 Ok(index) => Any::Ordered(index),
+                Err(_) => return Err(MEMORY),
+            },
+            SEEDED => match unordered::Index::new(alloc, Hashed::from_seed(seed, EightCap)) {
+                Ok(index) => Any::Seeded(index),
                 Err(_) => return Err(MEMORY),
             },
             _ => return Err(BAD_ARGUMENT),
@@ -175,7 +183,7 @@ impl Any {
             result buffer.old buffer.new }
     {
         match self {
-            Any::Unordered(_) => no_order(),
+            Any::Unordered(_) | Any::Seeded(_) => no_order(),
             Any::Ordered(index) => show(index.next_translated_key(key), buffer),
         }
     }
@@ -186,7 +194,7 @@ impl Any {
             result buffer.old buffer.new }
     {
         match self {
-            Any::Unordered(_) => no_order(),
+            Any::Unordered(_) | Any::Seeded(_) => no_order(),
             Any::Ordered(index) => show(index.prev_translated_key(key), buffer),
         }
     }
@@ -196,7 +204,7 @@ impl Any {
         ensures { Shows (is_ordered self.now) (not_cycled (first_list (any_view self.now).content)) result buffer.old buffer.new }
     {
         match self {
-            Any::Unordered(_) => no_order(),
+            Any::Unordered(_) | Any::Seeded(_) => no_order(),
             Any::Ordered(index) => show(end(index.first_translated_key()), buffer),
         }
     }
@@ -206,7 +214,7 @@ impl Any {
         ensures { Shows (is_ordered self.now) (not_cycled (last_list (any_view self.now).content)) result buffer.old buffer.new }
     {
         match self {
-            Any::Unordered(_) => no_order(),
+            Any::Unordered(_) | Any::Seeded(_) => no_order(),
             Any::Ordered(index) => show(end(index.last_translated_key()), buffer),
         }
     }

@@ -8,8 +8,8 @@ ghost use Rattle.std.specs.Prelude.{◌≡◌, ◌≢◌, ◌<◌, ◌⊎◌, �
 ghost use Rattle.std.specs.Ordering.{nat_cmp};
 ghost use Rattle.key_index_flat.specs.Content.{key_count};
 ghost use Rattle.key_index_flat.specs.Neighbours.{first_list, last_list, next_list, prev_list};
-ghost use Rattle.key_index_flat.specs.Padding.{cap_number};
 ghost use Rattle.key_index_flat.specs.View.{after_insert, after_remove, growth_fault_in, items_in, run_of};
+ghost use Rattle.key_index_c.specs.Any.{slot_of};
 ghost use Rattle.key_index_c.specs.Buffer.{filled};
 ghost use Rattle.key_index_c.specs.Calls.{Shows, after_removed, after_replaced, not_cycled, place_of};
 ghost use Rattle.key_index_c.specs.Held.{IsMade, Keeps, StaysMade, has_order, view_in};
@@ -21,24 +21,24 @@ mod any;
 mod handle;
 mod status;
 
-pub use any::{Any, Neighbour, ORDERED, UNORDERED};
+pub use any::{Any, Neighbour, ORDERED, SEEDED, UNORDERED};
 pub use handle::Handle;
 pub use status::{BAD_ARGUMENT, FULL, MEMORY, OK, TOO_FAR};
 
-/// Makes an index of a kind.
+/// Makes an index of a kind. Only a seeded one takes the seed.
 #[unsafe(no_mangle)]
-pub extern "C" fn key_index_c_new(alloc: Global, handle: &mut Handle, kind: u32) -> u32
+pub extern "C" fn key_index_c_new(alloc: Global, handle: &mut Handle, kind: u32, seed: u64) -> u32
     requires fresh { handle.old.held ≡ None }
     ensures made { result ≡ OK → IsMade handle.new }
     ensures empty { result ≡ OK → (view_in handle.new).content ≡ [] }
     ensures pruned { result ≡ OK → (view_in handle.new).pruned ≡ 0 }
-    ensures slots { result ≡ OK → (view_in handle.new).slot ≡ cap_number 8 }
+    ensures slots { result ≡ OK → (view_in handle.new).slot ≡ slot_of kind seed }
     ensures order { result ≡ OK → has_order handle.new ≡ nat_eq kind ORDERED }
-    ensures known { result ≡ OK → kind < 2 }
+    ensures known { result ≡ OK → kind < 3 }
     ensures refused { result ≢ OK → handle.new.held ≡ None }
     ensures status { (result ≡ OK) ⊎ (result ≡ kind_refusal kind) }
 {
-    match Any::new(alloc, kind) {
+    match Any::new(alloc, kind, seed) {
         Ok(made) => {
             handle.put(made);
             OK

@@ -22,9 +22,10 @@ pub const FULL: u32 = 2;
 
 pub const UNORDERED: u32 = 0;
 pub const ORDERED: u32 = 1;
+pub const SEEDED: u32 = 2;
 
 extern "C" {
-    pub fn key_index_c_new(handle: *mut Handle, kind: u32) -> u32;
+    pub fn key_index_c_new(handle: *mut Handle, kind: u32, seed: u64) -> u32;
     pub fn key_index_c_free(handle: *mut Handle);
     pub fn key_index_c_insert(handle: *mut Handle, key: *const u8, len: usize, value: u64) -> u32;
     pub fn key_index_c_get(

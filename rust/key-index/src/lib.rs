@@ -3,7 +3,7 @@
 //! A store that keeps its records in a log inserts the position of each record under the record's key. The index keeps the first
 //! eight bytes of the key and the position. It returns the positions of the records that may match a key, and the store compares the
 //! full keys. Keys that agree in their first eight bytes share one list, the newest value first; a shorter key counts as if zeros
-//! stood behind it.
+//! stood behind it. A [`Seeded`] index keeps eight bytes of a hash of the whole key instead.
 //!
 //! ```
 //! use key_index::{Index, Ordered};
@@ -71,7 +71,7 @@ mod sealed {
     }
 }
 
-/// A kind of index: [`Unordered`] or [`Ordered`].
+/// A kind of index: [`Unordered`], [`Ordered`] or [`Seeded`].
 pub trait Kind: sealed::Sealed {}
 
 /// A hashed map: the fastest calls by key.
@@ -82,6 +82,10 @@ pub enum Unordered {}
 #[derive(Clone, Copy, Debug)]
 pub enum Ordered {}
 
+/// A hashed map by a SHA-256 of whole keys and a secret seed, for keys that an attacker picks.
+#[derive(Clone, Copy, Debug)]
+pub enum Seeded {}
+
 impl sealed::Sealed for Unordered {
     const KIND: u32 = ffi::UNORDERED;
 }
@@ -90,11 +94,24 @@ impl sealed::Sealed for Ordered {
     const KIND: u32 = ffi::ORDERED;
 }
 
+impl sealed::Sealed for Seeded {
+    const KIND: u32 = ffi::SEEDED;
+}
+
 impl Kind for Unordered {}
 
 impl Kind for Ordered {}
 
-/// An index from the first eight bytes of keys to lists of values. It stays on the thread that made it.
+impl Kind for Seeded {}
+
+/// A kind that takes no seed.
+pub trait Unseeded: Kind {}
+
+impl Unseeded for Unordered {}
+
+impl Unseeded for Ordered {}
+
+/// An index from the first eight bytes of keys, or of their hashes, to lists of values. It stays on the thread that made it.
 ///
 /// ```compile_fail
 /// let index = key_index::Index::<key_index::Unordered>::new().unwrap();
@@ -107,18 +124,35 @@ pub struct Index<K: Kind> {
     kind: PhantomData<K>,
 }
 
-impl<K: Kind> Index<K> {
+impl<K: Unseeded> Index<K> {
     /// An index with no values.
     ///
     /// # Errors
     ///
     /// [`Error::Memory`].
     pub fn new() -> Result<Self, Error> {
+        Self::made(0)
+    }
+}
+
+impl Index<Seeded> {
+    /// An index with no values, by a random seed, which the caller draws at each start and keeps secret.
+    ///
+    /// # Errors
+    ///
+    /// [`Error::Memory`].
+    pub fn with_seed(seed: u64) -> Result<Self, Error> {
+        Self::made(seed)
+    }
+}
+
+impl<K: Kind> Index<K> {
+    fn made(seed: u64) -> Result<Self, Error> {
         let mut handle = Handle {
             at: std::ptr::null_mut(),
         };
         // SAFETY: the handle is fresh.
-        answer(unsafe { ffi::key_index_c_new(&mut handle, K::KIND) })?;
+        answer(unsafe { ffi::key_index_c_new(&mut handle, K::KIND, seed) })?;
         Ok(Index {
             handle: UnsafeCell::new(handle),
             kind: PhantomData,

@@ -1,6 +1,6 @@
 //! Each call beside a `BTreeMap` of lists.
 
-use key_index::{Error, Index, Kind, Ordered, Unordered, Values};
+use key_index::{Error, Index, Kind, Ordered, Seeded, Unordered, Values};
 use std::collections::BTreeMap;
 
 /// Marsaglia's xorshift.
@@ -16,14 +16,13 @@ impl Random {
 }
 
 /// The first eight bytes of a key, with zeros behind a shorter one.
-fn shortened(key: &[u8]) -> [u8; 8] {
-    let mut short = [0; 8];
-    let len = key.len().min(8);
-    short[..len].copy_from_slice(&key[..len]);
+fn shortened(key: &[u8]) -> Vec<u8> {
+    let mut short = key[..key.len().min(8)].to_vec();
+    short.resize(8, 0);
     short
 }
 
-type Lists = BTreeMap<[u8; 8], Vec<u64>>;
+type Lists = BTreeMap<Vec<u8>, Vec<u64>>;
 
 /// A key of up to ten bytes of few values.
 fn some_key(random: &mut Random) -> Vec<u8> {
@@ -33,19 +32,21 @@ fn some_key(random: &mut Random) -> Vec<u8> {
         .collect()
 }
 
-/// Makes random calls, each compared with the lists; `also` compares what the kind alone answers.
+/// Makes random calls, each compared with the lists, where `group` tells which keys share one; `also` compares what the kind alone
+/// answers.
 fn session<K: Kind>(
+    mut index: Index<K>,
     calls: u32,
     seed: u64,
+    group: fn(&[u8]) -> Vec<u8>,
     also: impl Fn(&Index<K>, &Lists, &[u8]),
 ) -> Result<(), Error> {
     let mut random = Random(seed);
-    let mut index = Index::<K>::new()?;
     let mut lists = Lists::new();
     let mut pruned = 0;
     for call in 0..calls {
         let key = some_key(&mut random);
-        let short = shortened(&key);
+        let short = group(&key);
         let value = random.below(50);
         match random.below(10) {
             0 if call % 7 == 0 => {
@@ -84,7 +85,7 @@ fn session<K: Kind>(
             }
         }
         let asked = some_key(&mut random);
-        let list = lists.get(&shortened(&asked)).map_or(&[][..], Vec::as_slice);
+        let list = lists.get(&group(&asked)).map_or(&[][..], Vec::as_slice);
         assert_eq!(index.get(&asked).as_slice(), list);
         assert_eq!(index.contains(&asked), !list.is_empty());
         if call % 100 == 0 {
@@ -100,43 +101,64 @@ fn session<K: Kind>(
 
 #[test]
 fn unordered_beside_lists() -> Result<(), Error> {
-    session::<Unordered>(150_000, 1, |_, _, _| ())
+    session(
+        Index::<Unordered>::new()?,
+        100_000,
+        1,
+        shortened,
+        |_, _, _| (),
+    )
+}
+
+// Whole keys differ in their hashes.
+#[test]
+fn seeded_beside_lists() -> Result<(), Error> {
+    let index = Index::<Seeded>::with_seed(0x5eed)?;
+    session(index, 100_000, 3, <[u8]>::to_vec, |_, _, _| ())
 }
 
 #[test]
 fn ordered_beside_lists() -> Result<(), Error> {
-    session::<Ordered>(150_000, 2, |index, lists, key| {
-        let short = shortened(key);
-        let above = lists.range(short..).find(|(held, _)| **held > short);
-        let next = above
-            .map(|at| (at, false))
-            .or(lists.iter().next().map(|at| (at, true)));
-        let below = lists.range(..short).next_back();
-        let prev = below
-            .map(|at| (at, false))
-            .or(lists.iter().next_back().map(|at| (at, true)));
-        for (found, wanted) in [
-            (index.next_translated_key(key), next),
-            (index.prev_translated_key(key), prev),
-        ] {
-            assert_eq!(
-                found
-                    .as_ref()
-                    .map(|(values, cycled)| (values.as_slice(), *cycled)),
-                wanted.map(|((_, list), cycled)| (list.as_slice(), cycled))
-            );
-        }
-        let ends = [
-            (index.first_translated_key(), lists.values().next()),
-            (index.last_translated_key(), lists.values().next_back()),
-        ];
-        for (found, wanted) in ends {
-            assert_eq!(
-                found.as_ref().map(Values::as_slice),
-                wanted.map(Vec::as_slice)
-            );
-        }
-    })
+    session(
+        Index::<Ordered>::new()?,
+        100_000,
+        2,
+        shortened,
+        |index, lists, key| {
+            let short = shortened(key);
+            let above = lists
+                .range(short.clone()..)
+                .find(|(held, _)| **held > short);
+            let next = above
+                .map(|at| (at, false))
+                .or(lists.iter().next().map(|at| (at, true)));
+            let below = lists.range(..short).next_back();
+            let prev = below
+                .map(|at| (at, false))
+                .or(lists.iter().next_back().map(|at| (at, true)));
+            for (found, wanted) in [
+                (index.next_translated_key(key), next),
+                (index.prev_translated_key(key), prev),
+            ] {
+                assert_eq!(
+                    found
+                        .as_ref()
+                        .map(|(values, cycled)| (values.as_slice(), *cycled)),
+                    wanted.map(|((_, list), cycled)| (list.as_slice(), cycled))
+                );
+            }
+            let ends = [
+                (index.first_translated_key(), lists.values().next()),
+                (index.last_translated_key(), lists.values().next_back()),
+            ];
+            for (found, wanted) in ends {
+                assert_eq!(
+                    found.as_ref().map(Values::as_slice),
+                    wanted.map(Vec::as_slice)
+                );
+            }
+        },
+    )
 }
 
 #[test]
