@@ -42,7 +42,6 @@ use borrow.Fn.Impl.{via_longer, method_Known}
 use borrow.Fn.Kinds.{ended_of, stays, r_unit}
 use borrow.Fn.Run.{Over}
 use borrow.Fn.World.{World}
-use Rattle.libc.specs.Heap.{chunk}
 use Rattle.std.specs.Box.Ownership.{box_owns}
 use Rattle.std_alloc.proofs.BoxSteps.Form as box
 use Rattle.std_alloc.proofs.BoxSteps.Steps.{box_out, box_in}
@@ -57,6 +56,7 @@ use Rattle.key_index_c.proofs.key_index_c++any++Any+Destruct.drop.Kinds.{ps}
 use Rattle.key_index_c.proofs.key_index_c++any++Any+Destruct.drop.Reads as dropped
 use Rattle.key_index_c.proofs.key_index_c++any++Any+Destruct.drop.Symbol as drop_symbol
 use Rattle.key_index_c.proofs.key_index_c++any++Any+Destruct.drop.Met as drop_met
+use Rattle.key_index_c.specs.Handle.{token}
 use Rattle.key_index_c.specs.contracts.handle.Handle.{the_row as R, the_type}
 use Rattle.key_index_c.proofs.handle.Handle.TheLaws.{lowers}
 use Rattle.std_alloc.specs.contracts.boxed.Box.into_raw as callee
@@ -119,9 +119,9 @@ put_spec {M} 𝓤 𝓛 𝓜 𝓡 wired =
     nothing ! $ move ! (4 ∷ 0 ∷ []) $ fjoin ! $ nothing ! $ move ! (3 ∷ 0 ∷ []) $ join ! $ move ! (3 ∷ 0 ∷ []) $ join ! $ join ! $ join ! $ use1 𝓛 (raw (k.pre y)) (id⊢ 𝓤 _) $
     calls_at ! (framed 𝓤 𝓛.H 𝓜 𝓣) k (met 𝓤 𝓛 𝓜 𝓡 (code.calls-std_alloc::boxed::Box::into_raw 𝓡.env wired) I A I_laws A_laws ghosts dict dd dx allocator lets_go drops) y (and_then ! (get ! refl) (no_more !)) (λ u.
     use1 𝓛 (later (some (λ (r : Ptr). ((‵ (flft (α ∷ []) full_share) ⊛ ‵ (flft (β ∷ []) full_share) ⊛ ‵ ftrue) ⊛ ‵ (RawPtr.own_val r (u ∷ [])))
-    ⊛ some (λ (ls : Lasts (callee.ended I A ghosts dict dd dx) y.0.0 y.0.3). ‵ (lasts (callee.ended I A ghosts dict dd dx) y.0.0 y.0.3 ls) ⊛ ‵ (box_owns chunk X r x))))) (id⊢ 𝓤 _) $
+    ⊛ some (λ (ls : Lasts (callee.ended I A ghosts dict dd dx) y.0.0 y.0.3). ‵ (lasts (callee.ended I A ghosts dict dd dx) y.0.0 y.0.3 ls) ⊛ ‵ (box_owns token X r x))))) (id⊢ 𝓤 _) $
     await ! tt $ pick ! (λ r. split ! $ move ! (1 ∷ []) $ pick ! (λ _. split ! $ drop ! $ move ! (1 ∷ []) $ split ! $ drop ! $ feq_l ! (λ eu.
-    in_a_block ! r (λ p. box_owns chunk X p x) (fst∗ 𝓤 (never 𝓤) (sem 𝓛 (chunk (bare (layout X)) null_ptr))) (λ b' o' e'.
+    in_a_block ! r (λ p. box_owns token X p x) (fst∗ 𝓤 (never 𝓤) (sem 𝓛 (token (bare (layout X)) null_ptr))) (λ b' o' e'.
     lands_as ! (ap only (eu ∙ ap (λ (p : Ptr). ptr_val p ∷ []) e')) refl (tt, tt) $ sets ! (of_opd ! (get ! refl)) refl (tt, tt) $
     -- [the block; self; the token]
     move ! (1 ∷ []) $ fsplit3 ! $ move ! (1 ∷ 2 ∷ 4 ∷ []) $ opens ! tt R b o (λ us. move ! (1 ∷ []) $ peeks ! R _ (shows 𝓛 R) h us (λ is. drop ! $

@@ -35,7 +35,6 @@ use denote.Triple.Walked.{Stays, stay_ref, stay_dropped, walk_of, Goes-ref, Goes
 use Rattle.std.proofs.VecSteps.Shapes.{after}
 use Rattle.core.proofs.mem.Facts.{says_two}
 use Rattle.core.proofs.cell.Inside.{Good}
-use Rattle.libc.specs.Heap.{chunk}
 use Rattle.std.specs.Box.Ownership.{box_owns}
 use Rattle.std_alloc.proofs.BoxSteps.Form as box
 use Rattle.std_alloc.proofs.BoxSteps.Steps.{box_out, box_in}
@@ -47,7 +46,7 @@ use Rattle.key_index_c.specs.contracts.any.Any.{the_row as X}
 use Rattle.key_index_c.proofs.any.Any.TheLaws as any
 use Rattle.key_index_c.specs.contracts.handle.Handle.{the_row as R}
 use Rattle.key_index_c.proofs.handle.Handle.TheLaws.{lowers}
-use Rattle.key_index_c.specs.Handle.{handle_owns}
+use Rattle.key_index_c.specs.Handle.{handle_owns, token}
 use Rattle.std_alloc.specs.contracts.boxed.Box.from_raw as callee
 use Rattle.std_alloc.proofs.boxed.Box.from_raw.Met.{met}
 use Rattle.key_index_c.specs.contracts.handle.Handle.take as f
@@ -96,7 +95,7 @@ take_spec {M} 𝓤 𝓛 𝓜 𝓡 wired =
     -- [self; the token; the allocator]
     fsplit3 ! $ move ! (1 ∷ 2 ∷ 3 ∷ []) $ opens ! tt R b o (λ us. move ! (1 ∷ []) $ peeks ! R _ (shows 𝓛 R) h us (λ is. fsplit ! $ move ! (1 ∷ []) $
     rewrite ! 0 (λ (v : Option X.Denot). ‵ (handle_owns h.at v)) found.1 refl $
-    in_a_block ! h.at (λ p. box_owns chunk X p x) (fst∗ 𝓤 (never 𝓤) (sem 𝓛 (chunk (bare (layout X)) null_ptr))) (λ b' o' e.
+    in_a_block ! h.at (λ p. box_owns token X p x) (fst∗ 𝓤 (never 𝓤) (sem 𝓛 (token (bare (layout X)) null_ptr))) (λ b' o' e.
     let word = lowers.val_is h us is ∙ ap (λ (p : Ptr). lowers.lowered (record h { at = p }) ∷ []) e in
     let Cell = λ (ws : List Val). ‵ (cell_at full_share R.mir ws b o) in
     rewrite ! 2 Cell word refl $
