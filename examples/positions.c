@@ -15,6 +15,8 @@
 int main(void) {
     key_index index = KEY_INDEX_NONE;
     uint64_t values[2] = {0, 0};
+    const uint64_t many[2] = {6, 7};
+    const size_t ends[2] = {4, 10}, falling[2] = {4, 3};
     size_t count = 0;
     bool told = false;
 
@@ -34,6 +36,9 @@ int main(void) {
     CHECK(key_index_get(&index, "cherry stone", 12, values, 2, &count) == KEY_INDEX_OK && count == 2 && values[1] == 5);
     CHECK(key_index_remove(&index, "cherry stone", 12) == KEY_INDEX_OK);
     CHECK(key_index_contains(&index, "cherry stone", 12, &told) == KEY_INDEX_OK && !told);
+    CHECK(key_index_insert_many(&index, "figsgrapes", ends, many, 2, &count) == KEY_INDEX_OK);
+    CHECK(count == 2 && key_index_get(&index, "grapes", 6, values, 2, &count) == KEY_INDEX_OK && count == 1 && values[0] == 7);
+    CHECK(key_index_insert_many(&index, "figs", falling, many, 2, &count) == KEY_INDEX_BAD_ARGUMENT && count == 0);
     CHECK(key_index_get(&index, NULL, 1, values, 2, &count) == KEY_INDEX_BAD_ARGUMENT);
     printf("keys %zu items %zu pruned %llu\n", key_index_keys(&index), key_index_items(&index),
            (unsigned long long)key_index_pruned(&index));

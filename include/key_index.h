@@ -27,8 +27,8 @@
  *   1. A key_index was set to KEY_INDEX_NONE, and since then only these functions wrote to it. It may be moved, as by an assignment,
  *      if the old place is not used any more. A copy of one is not another index.
  *   2. One call at a time gets an index, those that only read it too, and all calls of an index come from one thread.
- *   3. A pointer to a key leads to as many bytes as its length says, one to a buffer to room for as many numbers, aligned as
- *      uint64_t is and set before (to anything). Neither overlaps the other, the key_index or a place for an answer, and no other
+ *   3. A pointer to a key leads to as many bytes as its length says, one to numbers to as many, aligned as their type is; a buffer for
+ *      answers was set before (to anything). Neither overlaps the other, the key_index or a place for an answer, and no other
  *      thread writes there while the call runs.
  *   4. malloc, realloc and free come from one allocator, and align a block to each power of two up to 16 that divides its size.
  *   5. No call is made from a signal handler, nor in the child of a fork of a process with threads.
@@ -52,7 +52,8 @@ typedef struct key_index {
 
 #define KEY_INDEX_NONE { NULL }
 
-/* What a call answers. After any but KEY_INDEX_OK the index holds what it held, and nothing was written but `count` and `cycled`. */
+/* What a call answers. After any but KEY_INDEX_OK the index holds what it held, but for key_index_insert_many, and nothing was written
+ * but `count` and `cycled`. */
 typedef enum key_index_status {
     KEY_INDEX_OK = 0,
     KEY_INDEX_MEMORY = 1,      /* an allocation failed */
@@ -73,9 +74,15 @@ struct key_index_neighbour {
     uint32_t status;
     bool cycled;
 };
+struct key_index_many {
+    size_t count;
+    uint32_t status;
+};
 uint32_t key_index_c_new(key_index *index, uint32_t kind, uint64_t seed);
 void key_index_c_free(key_index *index);
 uint32_t key_index_c_insert(key_index *index, const uint8_t *key, size_t key_len, uint64_t value);
+struct key_index_many key_index_c_insert_many(key_index *index, const uint8_t *keys, size_t keys_len, const size_t *ends,
+                                              size_t ends_len, const uint64_t *values, size_t values_len);
 size_t key_index_c_get(key_index *index, const uint8_t *key, size_t key_len, uint64_t *values, size_t room);
 bool key_index_c_contains(key_index *index, const uint8_t *key, size_t key_len);
 void key_index_c_remove(key_index *index, const uint8_t *key, size_t key_len);
@@ -130,6 +137,22 @@ static inline void key_index_free(key_index *index) {
 static inline key_index_status key_index_insert(key_index *index, const void *key, size_t key_len, uint64_t value) {
     if (!key_index_takes(index, key, key_len, NULL, 0)) return KEY_INDEX_BAD_ARGUMENT;
     return (key_index_status)key_index_c_insert(index, key_index_bytes(key), key_len, value);
+}
+
+/* Inserts `n` values in turn, each in front of those of its key. The keys stand behind one another from `keys` on, and the one of the
+ * number i ends in front of keys[ends[i]], so the ends must not fall. `count` is how many were inserted. KEY_INDEX_MEMORY and
+ * KEY_INDEX_FULL: as many as `count` says were, and the next one was refused. KEY_INDEX_BAD_ARGUMENT: none. */
+static inline key_index_status key_index_insert_many(key_index *index, const void *keys, const size_t *ends, const uint64_t *values,
+                                                     size_t n, size_t *count) {
+    struct key_index_many told;
+    if (count == NULL || !key_index_is_made(index)) return KEY_INDEX_BAD_ARGUMENT;
+    *count = 0;
+    if (n == 0) return KEY_INDEX_OK;
+    if (ends == NULL || values == NULL || n > PTRDIFF_MAX / sizeof *values ||
+        !key_index_takes(index, keys, ends[n - 1], NULL, 0)) return KEY_INDEX_BAD_ARGUMENT;
+    told = key_index_c_insert_many(index, key_index_bytes(keys), ends[n - 1], ends, n, values, n);
+    *count = told.count;
+    return (key_index_status)told.status;
 }
 
 /* Writes the values of a key to `values`, the newest first, as many as there is room for, and to `count` how many the key has. If

@@ -41,7 +41,7 @@ void __wrap_free(void *block) {
     } while (0)
 
 enum { KEYS = 40, CALLS = 400, ROOM = 64 };
-static uint64_t lists[KEYS][CALLS];
+static uint64_t lists[KEYS][2 * CALLS];
 static size_t lens[KEYS];
 
 /* The index holds the lists. */
@@ -84,6 +84,19 @@ static bool session(key_index_kind kind) {
             CHECK(key_index_remove_value(&index, key, sizeof key, value, &found) == KEY_INDEX_OK && found == (lens[at] != 0));
             if (found) memmove(&lists[at][lens[at] / 2], &lists[at][lens[at] / 2 + 1], (lens[at] - lens[at] / 2 - 1) * sizeof value);
             lens[at] -= found;
+        } else if (random % 8 == 2) {
+            /* two values of one key: one of them, none or both */
+            uint8_t keys[16] = {0};
+            size_t ends[2] = {8, 16}, count = 0, taken;
+            uint64_t values[2] = {(uint64_t)i, (uint64_t)i + 500};
+            keys[7] = keys[15] = (uint8_t)at;
+            status = key_index_insert_many(&index, keys, ends, values, 2, &count);
+            CHECK(status == (before < refused && refused <= allocations ? KEY_INDEX_MEMORY : KEY_INDEX_OK));
+            CHECK(status == KEY_INDEX_OK ? count == 2 : count < 2);
+            for (taken = 0; taken < count; taken++) {
+                memmove(&lists[at][1], lists[at], lens[at]++ * sizeof **lists);
+                lists[at][0] = values[taken];
+            }
         } else {
             status = key_index_insert(&index, key, sizeof key, (uint64_t)i + 1000);
             CHECK(status == (before < refused && refused <= allocations ? KEY_INDEX_MEMORY : KEY_INDEX_OK));

@@ -6,7 +6,7 @@ ghost use Rattle.key_index_flat.specs.Neighbours.{first_list, last_list, next_li
 ghost use Rattle.key_index_flat.specs.View.{after_insert, after_remove, growth_fault_in, items_in, run_of};
 ghost use Rattle.key_index_c.specs.Any.{any_view, is_ordered, slot_of};
 ghost use Rattle.key_index_c.specs.Buffer.{filled};
-ghost use Rattle.key_index_c.specs.Calls.{Shows, after_removed, after_replaced, not_cycled, place_of};
+ghost use Rattle.key_index_c.specs.Calls.{AreKeys, Shows, after_inserts, after_removed, after_replaced, not_cycled, place_of};
 ghost use Rattle.key_index_c.specs.Status.{kind_refusal, status_of};
 
 use crate::status::{self, BAD_ARGUMENT, MEMORY, OK};
@@ -42,6 +42,16 @@ pub struct Neighbour {
     pub status: u32,
     /// Whether it was found around the end.
     pub cycled: bool,
+}
+
+/// What a call with many keys tells.
+#[repr(C)]
+#[derive(Drop)]
+pub struct Many {
+    /// How many keys were taken, from the first one on.
+    pub count: usize,
+    /// `OK` if all were; `BAD_ARGUMENT` if the ends are none of as many keys as there are values.
+    pub status: u32,
 }
 
 // A call that is the same for an index of each kind.
@@ -97,6 +107,37 @@ impl Any {
             Ok(()) => OK,
             Err(refused) => status::of(refused.fault),
         })
+    }
+
+    /// Inserts values under keys that stand behind one another, each up to its end, until one is refused.
+    pub(crate) fn insert_many(&mut self, keys: &[u8], ends: &[usize], values: &[u64]) -> Many
+        ensures order { is_ordered self.new ≡ is_ordered self.old }
+        ensures inserted { any_view self.new ≡ after_inserts (any_view self.old) keys.now ends.now values.now result.count }
+        ensures keys { AreKeys keys.now ends.now values.now → result.status ≢ BAD_ARGUMENT }
+        ensures taken { result.status ≢ BAD_ARGUMENT → AreKeys keys.now ends.now values.now }
+        ensures unkeyed { result.status ≡ BAD_ARGUMENT → result.count ≡ 0 }
+        ensures whole { result.status ≡ OK → result.count ≡ length values.now }
+        ensures status { (result.status ≡ OK) ⊎ (result.status ≡ BAD_ARGUMENT)
+            ⊎ (result.status ≡ status_of (growth_fault_in (any_view self.new))) }
+    {
+        if !are_keys(keys, ends, values) {
+            return Many {
+                count: 0,
+                status: BAD_ARGUMENT,
+            };
+        }
+        let mut start = 0;
+        for (count, end) in ends.iter().enumerate() {
+            let status = self.insert(&keys[start..*end], values[count]);
+            if status != OK {
+                return Many { count, status };
+            }
+            start = *end;
+        }
+        Many {
+            count: ends.len(),
+            status: OK,
+        }
     }
 
     /// Writes the values of a key to a buffer, as many as it has room for, and tells how many the key has.
@@ -218,6 +259,23 @@ impl Any {
             Any::Ordered(index) => show(end(index.last_translated_key()), buffer),
         }
     }
+}
+
+/// Whether these are the ends of as many keys as there are values.
+fn are_keys(keys: &[u8], ends: &[usize], values: &[u64]) -> bool
+    ensures { IsTrue result ↔ AreKeys keys.now ends.now values.now }
+{
+    if ends.len() != values.len() {
+        return false;
+    }
+    let mut start = 0;
+    for end in ends {
+        if *end < start || keys.len() < *end {
+            return false;
+        }
+        start = *end;
+    }
+    true
 }
 
 /// What an index with no order tells.

@@ -11,7 +11,7 @@ ghost use Rattle.key_index_flat.specs.Neighbours.{first_list, last_list, next_li
 ghost use Rattle.key_index_flat.specs.View.{after_insert, after_remove, growth_fault_in, items_in, run_of};
 ghost use Rattle.key_index_c.specs.Any.{slot_of};
 ghost use Rattle.key_index_c.specs.Buffer.{filled};
-ghost use Rattle.key_index_c.specs.Calls.{Shows, after_removed, after_replaced, not_cycled, place_of};
+ghost use Rattle.key_index_c.specs.Calls.{AreKeys, Shows, after_inserts, after_removed, after_replaced, not_cycled, place_of};
 ghost use Rattle.key_index_c.specs.Held.{IsMade, Keeps, StaysMade, has_order, view_in};
 ghost use Rattle.key_index_c.specs.Status.{kind_refusal, status_of};
 
@@ -21,7 +21,7 @@ mod any;
 mod handle;
 mod status;
 
-pub use any::{Any, Neighbour, ORDERED, SEEDED, UNORDERED};
+pub use any::{Any, Many, Neighbour, ORDERED, SEEDED, UNORDERED};
 pub use handle::Handle;
 pub use status::{BAD_ARGUMENT, FULL, MEMORY, OK, TOO_FAR};
 
@@ -74,6 +74,32 @@ pub extern "C" fn key_index_c_insert(
     let status = any.insert(key, value);
     handle.put(any);
     status
+}
+
+/// Inserts values under keys that stand behind one another, each up to its end, until one is refused.
+#[unsafe(no_mangle)]
+pub extern "C" fn key_index_c_insert_many(
+    alloc: Global,
+    handle: &mut Handle,
+    keys: &[u8],
+    ends: &[usize],
+    values: &[u64],
+) -> Many
+    requires made { IsMade handle.old }
+    ensures made { StaysMade handle.old handle.new }
+    ensures inserted { view_in handle.new
+        ≡ after_inserts (view_in handle.old) keys.now ends.now values.now result.count }
+    ensures keys { AreKeys keys.now ends.now values.now → result.status ≢ BAD_ARGUMENT }
+    ensures taken { result.status ≢ BAD_ARGUMENT → AreKeys keys.now ends.now values.now }
+    ensures unkeyed { result.status ≡ BAD_ARGUMENT → result.count ≡ 0 }
+    ensures whole { result.status ≡ OK → result.count ≡ length values.now }
+    ensures status { (result.status ≡ OK) ⊎ (result.status ≡ BAD_ARGUMENT)
+        ⊎ (result.status ≡ status_of (growth_fault_in (view_in handle.new))) }
+{
+    let mut any = handle.take(alloc);
+    let told = any.insert_many(keys, ends, values);
+    handle.put(any);
+    told
 }
 
 /// Writes the values of a key to a buffer, as many as it has room for, and tells how many the key has.

@@ -17,8 +17,17 @@ pub struct Neighbour {
     pub cycled: bool,
 }
 
+/// What a call with many keys tells.
+#[repr(C)]
+#[derive(Clone, Copy, Debug, PartialEq, Eq)]
+pub struct Many {
+    pub count: usize,
+    pub status: u32,
+}
+
 pub const OK: u32 = 0;
 pub const FULL: u32 = 2;
+pub const BAD_ARGUMENT: u32 = 4;
 
 pub const UNORDERED: u32 = 0;
 pub const ORDERED: u32 = 1;
@@ -28,6 +37,15 @@ extern "C" {
     pub fn key_index_c_new(handle: *mut Handle, kind: u32, seed: u64) -> u32;
     pub fn key_index_c_free(handle: *mut Handle);
     pub fn key_index_c_insert(handle: *mut Handle, key: *const u8, len: usize, value: u64) -> u32;
+    pub fn key_index_c_insert_many(
+        handle: *mut Handle,
+        keys: *const u8,
+        keys_len: usize,
+        ends: *const usize,
+        ends_len: usize,
+        values: *const u64,
+        values_len: usize,
+    ) -> Many;
     pub fn key_index_c_get(
         handle: *mut Handle,
         key: *const u8,

@@ -43,6 +43,8 @@ pub enum Error {
     Memory,
     /// The index holds `usize::MAX` values.
     Full,
+    /// The ends are none of as many keys as there are values.
+    Ends,
 }
 
 impl fmt::Display for Error {
@@ -50,17 +52,19 @@ impl fmt::Display for Error {
         f.write_str(match self {
             Error::Memory => "refused memory",
             Error::Full => "refused full",
+            Error::Ends => "the ends are none of as many keys as there are values",
         })
     }
 }
 
 impl std::error::Error for Error {}
 
-/// The error of a status. A call of this crate gets no other than these.
+/// The error of a status. A call of this crate gets no other than these, and a bad argument only for ends.
 fn answer(status: u32) -> Result<(), Error> {
     match status {
         ffi::OK => Ok(()),
         ffi::FULL => Err(Error::Full),
+        ffi::BAD_ARGUMENT => Err(Error::Ends),
         _ => Err(Error::Memory),
     }
 }
@@ -169,6 +173,33 @@ impl<K: Kind> Index<K> {
         answer(unsafe {
             ffi::key_index_c_insert(self.handle.get(), key.as_ptr(), key.len(), value)
         })
+    }
+
+    /// Inserts values in turn, each in front of those of its key. The keys stand behind one another in `keys`, each up to its end.
+    ///
+    /// # Errors
+    ///
+    /// How many were inserted before one was refused, and why; [`Error::Ends`] with 0 if `ends` falls somewhere, goes past `keys`, or
+    /// is not as long as `values`.
+    pub fn insert_many(
+        &mut self,
+        keys: &[u8],
+        ends: &[usize],
+        values: &[u64],
+    ) -> Result<(), (usize, Error)> {
+        // SAFETY: keys, ends and values go with their lengths.
+        let told = unsafe {
+            ffi::key_index_c_insert_many(
+                self.handle.get(),
+                keys.as_ptr(),
+                keys.len(),
+                ends.as_ptr(),
+                ends.len(),
+                values.as_ptr(),
+                values.len(),
+            )
+        };
+        answer(told.status).map_err(|error| (told.count, error))
     }
 
     /// The values of a key, the newest first.
@@ -310,7 +341,7 @@ impl<K: Kind> fmt::Debug for Index<K> {
 
 #[cfg(test)]
 mod tests {
-    use super::ffi::{Handle, Neighbour};
+    use super::ffi::{Handle, Many, Neighbour};
     use std::mem::{align_of, offset_of, size_of};
 
     // As the header declares them for C, which the compiler of the library takes too.
@@ -326,5 +357,7 @@ mod tests {
             ),
             (0, 8, 12)
         );
+        assert_eq!((size_of::<Many>(), align_of::<Many>()), (16, 8));
+        assert_eq!((offset_of!(Many, count), offset_of!(Many, status)), (0, 8));
     }
 }

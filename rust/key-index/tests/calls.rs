@@ -79,6 +79,24 @@ fn session<K: Kind>(
                     lists.get_mut(&short).unwrap()[place] = value + 100;
                 }
             }
+            4 => {
+                // The key, its front, and the key once more.
+                let keys = [&key[..], &key[..key.len() / 2], &key].concat();
+                let ends = [key.len(), key.len() + key.len() / 2, keys.len()];
+                index
+                    .insert_many(&keys, &ends, &[value, value + 1, value + 2])
+                    .map_err(|(_, error)| error)?;
+                for (end, value) in [
+                    (key.len(), value),
+                    (key.len() / 2, value + 1),
+                    (key.len(), value + 2),
+                ] {
+                    lists
+                        .entry(group(&key[..end]))
+                        .or_default()
+                        .insert(0, value);
+                }
+            }
             _ => {
                 index.insert(&key, value)?;
                 lists.entry(short).or_default().insert(0, value);
@@ -169,6 +187,25 @@ fn lists_longer_than_a_buffer() -> Result<(), Error> {
         assert!(index.get(b"\0").eq((0..=value).rev()));
     }
     assert_eq!(index.get(b"").len(), 1000);
+    Ok(())
+}
+
+#[test]
+fn ends_of_no_keys() -> Result<(), Error> {
+    let mut index = Index::<Unordered>::new()?;
+    for (ends, values) in [
+        (&[2, 1][..], &[1, 2][..]),
+        (&[5], &[1]),
+        (&[1], &[]),
+        (&[], &[1]),
+    ] {
+        assert_eq!(
+            index.insert_many(b"figs", ends, values),
+            Err((0, Error::Ends))
+        );
+    }
+    assert_eq!(index.insert_many(b"", &[], &[]), Ok(()));
+    assert!(index.is_empty());
     Ok(())
 }
 
