@@ -100,6 +100,7 @@ impl Any {
     pub(crate) fn insert(&mut self, key: &[u8], value: u64) -> u32
         ensures order { is_ordered self.new ≡ is_ordered self.old }
         ensures accepted { result ≡ OK → any_view self.new ≡ after_insert nat_cmp true (any_view self.old) key.now value }
+        ensures room { result ≡ OK → items_in (any_view self.old) < usize.MAX }
         ensures refused { result ≢ OK → any_view self.new ≡ any_view self.old }
         ensures status { (result ≡ OK) ⊎ (result ≡ status_of (growth_fault_in (any_view self.old))) }
     {

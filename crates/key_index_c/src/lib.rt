@@ -67,6 +67,7 @@ pub extern "C" fn key_index_c_insert(
     requires made { IsMade handle.old }
     ensures made { StaysMade handle.old handle.new }
     ensures accepted { result ≡ OK → view_in handle.new ≡ after_insert nat_cmp true (view_in handle.old) key.now value }
+    ensures room { result ≡ OK → items_in (view_in handle.old) < usize.MAX }
     ensures refused { result ≢ OK → view_in handle.new ≡ view_in handle.old }
     ensures status { (result ≡ OK) ⊎ (result ≡ status_of (growth_fault_in (view_in handle.old))) }
 {
