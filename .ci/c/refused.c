@@ -1,0 +1,126 @@
+/* Refuses each allocation in turn, linked with --wrap for malloc, realloc and free. Behind each call the index has to hold what a list
+ * beside it does: a refused insertion answers KEY_INDEX_MEMORY and changes nothing. At the end no block may be left, and a free has to
+ * free at least one. */
+#include "key_index.h"
+
+#include <stdio.h>
+#include <stdlib.h>
+#include <string.h>
+
+void *__real_malloc(size_t size);
+void *__real_realloc(void *old, size_t size);
+void __real_free(void *block);
+
+static long blocks, allocations, refused;
+
+static bool refuses(void) { return ++allocations == refused; }
+
+void *__wrap_malloc(size_t size) {
+    void *block = refuses() ? NULL : __real_malloc(size);
+    blocks += block != NULL;
+    return block;
+}
+
+void *__wrap_realloc(void *old, size_t size) {
+    void *block = refuses() ? NULL : __real_realloc(old, size);
+    blocks += block != NULL && old == NULL;
+    return block;
+}
+
+void __wrap_free(void *block) {
+    blocks -= block != NULL;
+    __real_free(block);
+}
+
+#define CHECK(what) \
+    do { \
+        if (!(what)) { \
+            printf("%s:%d: kind %d, allocation %ld refused: %s\n", __FILE__, __LINE__, (int)kind, refused, #what); \
+            exit(1); \
+        } \
+    } while (0)
+
+enum { KEYS = 40, CALLS = 400, ROOM = 64 };
+static uint64_t lists[KEYS][2 * CALLS];
+static size_t lens[KEYS];
+
+/* The index holds the lists. */
+static void holds(key_index *index, key_index_kind kind) {
+    size_t keys = 0, items = 0, count, i;
+    for (i = 0; i < KEYS; i++) {
+        uint8_t key[8] = {0, 0, 0, 0, 0, 0, 0, (uint8_t)i};
+        uint64_t values[ROOM];
+        size_t room = i % 2 ? ROOM : 2, shown = lens[i] < room ? lens[i] : room;
+        CHECK(key_index_get(index, key, sizeof key, values, room, &count) == KEY_INDEX_OK && count == lens[i]);
+        CHECK(memcmp(values, lists[i], shown * sizeof *values) == 0);
+        keys += lens[i] != 0;
+        items += lens[i];
+    }
+    CHECK(key_index_keys(index) == keys && key_index_items(index) == items);
+}
+
+/* A session of calls. Returns whether an allocation was refused. */
+static bool session(key_index_kind kind) {
+    key_index index = KEY_INDEX_NONE;
+    key_index_status status = key_index_new_seeded(&index, kind, 7);
+    uint64_t random = 88172645463325252u;
+    int i;
+    memset(lens, 0, sizeof lens);
+    if (status != KEY_INDEX_OK) CHECK(status == KEY_INDEX_MEMORY && index.at == NULL && allocations >= refused && blocks == 0);
+    if (status != KEY_INDEX_OK) return true;
+    for (i = 0; i < CALLS; i++) {
+        uint8_t key[8] = {0};
+        size_t at;
+        long before = allocations;
+        bool found;
+        random ^= random << 13, random ^= random >> 7, random ^= random << 17;
+        at = (size_t)(random >> 20) % KEYS;
+        key[7] = (uint8_t)at;
+        if (random % 8 == 0) {
+            CHECK(key_index_remove(&index, key, sizeof key) == KEY_INDEX_OK);
+            lens[at] = 0;
+        } else if (random % 8 == 1) {
+            uint64_t value = lens[at] != 0 ? lists[at][lens[at] / 2] : 7;
+            CHECK(key_index_remove_value(&index, key, sizeof key, value, &found) == KEY_INDEX_OK && found == (lens[at] != 0));
+            if (found) memmove(&lists[at][lens[at] / 2], &lists[at][lens[at] / 2 + 1], (lens[at] - lens[at] / 2 - 1) * sizeof value);
+            lens[at] -= found;
+        } else if (random % 8 == 2) {
+            /* two values of one key: one of them, none or both */
+            uint8_t keys[16] = {0};
+            size_t ends[2] = {8, 16}, count = 0, taken;
+            uint64_t values[2] = {(uint64_t)i, (uint64_t)i + 500};
+            keys[7] = keys[15] = (uint8_t)at;
+            status = key_index_insert_many(&index, keys, ends, values, 2, &count);
+            CHECK(status == (before < refused && refused <= allocations ? KEY_INDEX_MEMORY : KEY_INDEX_OK));
+            CHECK(status == KEY_INDEX_OK ? count == 2 : count < 2);
+            for (taken = 0; taken < count; taken++) {
+                memmove(&lists[at][1], lists[at], lens[at]++ * sizeof **lists);
+                lists[at][0] = values[taken];
+            }
+        } else {
+            status = key_index_insert(&index, key, sizeof key, (uint64_t)i + 1000);
+            CHECK(status == (before < refused && refused <= allocations ? KEY_INDEX_MEMORY : KEY_INDEX_OK));
+            if (status == KEY_INDEX_OK) {
+                memmove(&lists[at][1], lists[at], lens[at]++ * sizeof **lists);
+                lists[at][0] = (uint64_t)i + 1000;
+            }
+        }
+        holds(&index, kind);
+    }
+    CHECK(blocks > 0);
+    key_index_free(&index);
+    CHECK(blocks == 0 && index.at == NULL);
+    return allocations >= refused;
+}
+
+int main(void) {
+    int kind;
+    for (kind = KEY_INDEX_UNORDERED; kind <= KEY_INDEX_SEEDED; kind++) {
+        for (refused = 1;; refused++) {
+            allocations = 0;
+            if (!session((key_index_kind)kind)) break;
+        }
+        if (refused < 10) return 1;
+    }
+    return 0;
+}

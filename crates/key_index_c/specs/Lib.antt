@@ -1,0 +1,6 @@
+pub mod Any
+pub mod Buffer
+pub mod Calls
+pub mod Handle
+pub mod Held
+pub mod Status

@@ -1,0 +1,47 @@
+/* Positions of records under their keys: what each call answers is tested. */
+#include "key_index.h"
+
+#include <stdio.h>
+#include <stdlib.h>
+
+#define CHECK(what) \
+    do { \
+        if (!(what)) { \
+            fprintf(stderr, "%s:%d: %s\n", __FILE__, __LINE__, #what); \
+            exit(1); \
+        } \
+    } while (0)
+
+int main(void) {
+    key_index index = KEY_INDEX_NONE;
+    uint64_t values[2] = {0, 0};
+    const uint64_t many[2] = {6, 7};
+    const size_t ends[2] = {4, 10}, falling[2] = {4, 3};
+    size_t count = 0;
+    bool told = false;
+
+    CHECK(key_index_new(&index, KEY_INDEX_ORDERED) == KEY_INDEX_OK);
+    CHECK(key_index_insert(&index, "apple", 5, 1) == KEY_INDEX_OK);
+    CHECK(key_index_insert(&index, "cherry stone", 12, 2) == KEY_INDEX_OK);
+    /* the same first eight bytes, so the same list */
+    CHECK(key_index_insert(&index, "cherry syrup", 12, 3) == KEY_INDEX_OK);
+    CHECK(key_index_insert(&index, "cherry s", 8, 4) == KEY_INDEX_OK);
+    CHECK(key_index_get(&index, "cherry stem", 11, values, 2, &count) == KEY_INDEX_OK);
+    CHECK(count == 3 && values[0] == 4 && values[1] == 3);
+    CHECK(key_index_next(&index, "banana", 6, values, 2, &count, &told) == KEY_INDEX_OK);
+    CHECK(count == 3 && values[0] == 4 && !told);
+    CHECK(key_index_next(&index, "plum", 4, values, 2, &count, &told) == KEY_INDEX_OK && count == 1 && values[0] == 1 && told);
+    CHECK(key_index_remove_value(&index, "cherry stone", 12, 3, &told) == KEY_INDEX_OK && told);
+    CHECK(key_index_replace_value(&index, "cherry stone", 12, 2, 5, &told) == KEY_INDEX_OK && told);
+    CHECK(key_index_get(&index, "cherry stone", 12, values, 2, &count) == KEY_INDEX_OK && count == 2 && values[1] == 5);
+    CHECK(key_index_remove(&index, "cherry stone", 12) == KEY_INDEX_OK);
+    CHECK(key_index_contains(&index, "cherry stone", 12, &told) == KEY_INDEX_OK && !told);
+    CHECK(key_index_insert_many(&index, "figsgrapes", ends, many, 2, &count) == KEY_INDEX_OK);
+    CHECK(count == 2 && key_index_get(&index, "grapes", 6, values, 2, &count) == KEY_INDEX_OK && count == 1 && values[0] == 7);
+    CHECK(key_index_insert_many(&index, "figs", falling, many, 2, &count) == KEY_INDEX_BAD_ARGUMENT && count == 0);
+    CHECK(key_index_get(&index, NULL, 1, values, 2, &count) == KEY_INDEX_BAD_ARGUMENT);
+    printf("keys %zu items %zu pruned %llu\n", key_index_keys(&index), key_index_items(&index),
+           (unsigned long long)key_index_pruned(&index));
+    key_index_free(&index);
+    return 0;
+}

@@ -1,0 +1,256 @@
+/*
+ * key_index: in-memory indices that map shortened keys to lists of values.
+ *
+ * A store that keeps its records in a log inserts the position of each record under the record's key. The index keeps the first
+ * eight bytes of the key and the position. It returns the positions of the records that may match a key, and the store compares
+ * the full keys. Keys that agree in their first eight bytes share one list; a shorter key counts as if zeros stood behind it. An index
+ * of the kind KEY_INDEX_SEEDED keeps eight bytes of a hash of the whole key instead.
+ *
+ *     key_index index = KEY_INDEX_NONE;
+ *     if (key_index_new(&index, KEY_INDEX_UNORDERED) != KEY_INDEX_OK) ..
+ *     key_index_insert(&index, "apple", 5, 17);
+ *     uint64_t positions[4];
+ *     size_t count;
+ *     key_index_get(&index, "apple", 5, positions, 4, &count);      count is 1, positions[0] is 17
+ *     key_index_free(&index);
+ *
+ * Link libkey_index.a, which ./build makes. It uses the program's malloc, realloc and free, and no other library.
+ *
+ * WHAT A CALLER OWES
+ *
+ * The functions below test each argument that they can, and answer KEY_INDEX_BAD_ARGUMENT, with nothing done, for:
+ *   - a null pointer to an index, to a key or a buffer whose length is not 0, or to a place for an answer;
+ *   - an index that was not made (`at` is null), or to key_index_new one that was;
+ *   - a kind that is none of those below, or a call for a neighbour of an index without an order;
+ *   - a length that no block of memory has.
+ * They cannot test the following. Where it does not hold, what happens is undefined:
+ *   1. A key_index was set to KEY_INDEX_NONE, and since then only these functions wrote to it. It may be moved, as by an assignment,
+ *      if the old place is not used any more. A copy of one is not another index.
+ *   2. One call at a time gets an index, those that only read it too, and all calls of an index come from one thread.
+ *   3. A pointer to a key leads to as many bytes as its length says, one to numbers to as many, aligned as their type is; a buffer for
+ *      answers was set before (to anything). Neither overlaps the other, the key_index or a place for an answer, and no other
+ *      thread writes there while the call runs.
+ *   4. malloc, realloc and free come from one allocator, and align a block to each power of two up to 16 that divides its size.
+ *   5. No call is made from a signal handler, nor in the child of a fork of a process with threads.
+ * The functions whose names begin with key_index_c_ test nothing: they are for this header and for declarations in other languages.
+ */
+#ifndef KEY_INDEX_H
+#define KEY_INDEX_H
+
+#include <stdbool.h>
+#include <stddef.h>
+#include <stdint.h>
+
+#ifdef __cplusplus
+extern "C" {
+#endif
+
+/* An index, or none. */
+typedef struct key_index {
+    void *at;
+} key_index;
+
+#define KEY_INDEX_NONE { NULL }
+
+/* What a call answers. After any but KEY_INDEX_OK the index holds what it held, but for key_index_insert_many, and nothing was written
+ * but `count` and `cycled`. */
+typedef enum key_index_status {
+    KEY_INDEX_OK = 0,
+    KEY_INDEX_MEMORY = 1,      /* an allocation failed */
+    KEY_INDEX_FULL = 2,        /* the index holds SIZE_MAX values */
+    KEY_INDEX_TOO_FAR = 3,     /* no index of the kinds below answers this */
+    KEY_INDEX_BAD_ARGUMENT = 4 /* see above */
+} key_index_status;
+
+typedef enum key_index_kind {
+    KEY_INDEX_UNORDERED = 0, /* a hashed map: the fastest calls by key */
+    KEY_INDEX_ORDERED = 1,   /* a tree, with the next and the previous key */
+    KEY_INDEX_SEEDED = 2     /* a hashed map by a SHA-256 of whole keys and a secret seed: for keys that an attacker picks */
+} key_index_kind;
+
+/* What the library exports. */
+struct key_index_neighbour {
+    size_t count;
+    uint32_t status;
+    bool cycled;
+};
+struct key_index_many {
+    size_t count;
+    uint32_t status;
+};
+uint32_t key_index_c_new(key_index *index, uint32_t kind, uint64_t seed);
+void key_index_c_free(key_index *index);
+uint32_t key_index_c_insert(key_index *index, const uint8_t *key, size_t key_len, uint64_t value);
+struct key_index_many key_index_c_insert_many(key_index *index, const uint8_t *keys, size_t keys_len, const size_t *ends,
+                                              size_t ends_len, const uint64_t *values, size_t values_len);
+size_t key_index_c_get(key_index *index, const uint8_t *key, size_t key_len, uint64_t *values, size_t room);
+bool key_index_c_contains(key_index *index, const uint8_t *key, size_t key_len);
+void key_index_c_remove(key_index *index, const uint8_t *key, size_t key_len);
+bool key_index_c_remove_value(key_index *index, const uint8_t *key, size_t key_len, uint64_t value);
+bool key_index_c_replace_value(key_index *index, const uint8_t *key, size_t key_len, uint64_t value, uint64_t with);
+size_t key_index_c_keys(key_index *index);
+size_t key_index_c_items(key_index *index);
+uint64_t key_index_c_pruned(key_index *index);
+struct key_index_neighbour key_index_c_next(key_index *index, const uint8_t *key, size_t key_len, uint64_t *values, size_t room);
+struct key_index_neighbour key_index_c_prev(key_index *index, const uint8_t *key, size_t key_len, uint64_t *values, size_t room);
+struct key_index_neighbour key_index_c_first(key_index *index, uint64_t *values, size_t room);
+struct key_index_neighbour key_index_c_last(key_index *index, uint64_t *values, size_t room);
+
+/* Whether an index was made, and a key and a buffer can be passed. A pointer that is null has to have the length 0. */
+static inline bool key_index_is_made(const key_index *index) {
+    return index != NULL && index->at != NULL;
+}
+static inline bool key_index_takes(const key_index *index, const void *key, size_t key_len, const uint64_t *values, size_t room) {
+    return key_index_is_made(index) && (key != NULL || key_len == 0) && key_len <= PTRDIFF_MAX &&
+           (values != NULL || room == 0) && room <= PTRDIFF_MAX / sizeof *values;
+}
+/* No bytes are read or written there. */
+static inline const uint8_t *key_index_bytes(const void *key) {
+    return key != NULL ? (const uint8_t *)key : (const uint8_t *)"";
+}
+static inline uint64_t *key_index_room(uint64_t *values, uint64_t *other) {
+    return values != NULL ? values : other;
+}
+
+/* Makes an index of a kind with no values. KEY_INDEX_MEMORY. Only KEY_INDEX_SEEDED takes the seed: draw it at random at each start, and
+ * keep it secret. */
+static inline key_index_status key_index_new_seeded(key_index *index, key_index_kind kind, uint64_t seed) {
+    uint32_t status;
+    if (index == NULL || index->at != NULL) return KEY_INDEX_BAD_ARGUMENT;
+    status = key_index_c_new(index, (uint32_t)kind, seed);
+    if (status != KEY_INDEX_OK) index->at = NULL;
+    return (key_index_status)status;
+}
+/* The same of a kind that takes no seed. */
+static inline key_index_status key_index_new(key_index *index, key_index_kind kind) {
+    return kind == KEY_INDEX_SEEDED ? KEY_INDEX_BAD_ARGUMENT : key_index_new_seeded(index, kind, 0);
+}
+
+/* Frees an index, which is KEY_INDEX_NONE then. Of null, or of none, it does nothing. */
+static inline void key_index_free(key_index *index) {
+    if (!key_index_is_made(index)) return;
+    key_index_c_free(index);
+    index->at = NULL;
+}
+
+/* Inserts a value in front of those of its key. KEY_INDEX_MEMORY, KEY_INDEX_FULL. */
+static inline key_index_status key_index_insert(key_index *index, const void *key, size_t key_len, uint64_t value) {
+    if (!key_index_takes(index, key, key_len, NULL, 0)) return KEY_INDEX_BAD_ARGUMENT;
+    return (key_index_status)key_index_c_insert(index, key_index_bytes(key), key_len, value);
+}
+
+/* Inserts `n` values in turn, each in front of those of its key. The keys stand behind one another from `keys` on, and the one of the
+ * number i ends in front of keys[ends[i]], so the ends must not fall. `count` is how many were inserted. KEY_INDEX_MEMORY and
+ * KEY_INDEX_FULL: as many as `count` says were, and the next one was refused. KEY_INDEX_BAD_ARGUMENT: none. */
+static inline key_index_status key_index_insert_many(key_index *index, const void *keys, const size_t *ends, const uint64_t *values,
+                                                     size_t n, size_t *count) {
+    struct key_index_many told;
+    if (count == NULL || !key_index_is_made(index)) return KEY_INDEX_BAD_ARGUMENT;
+    *count = 0;
+    if (n == 0) return KEY_INDEX_OK;
+    if (ends == NULL || values == NULL || n > PTRDIFF_MAX / sizeof *values ||
+        !key_index_takes(index, keys, ends[n - 1], NULL, 0)) return KEY_INDEX_BAD_ARGUMENT;
+    told = key_index_c_insert_many(index, key_index_bytes(keys), ends[n - 1], ends, n, values, n);
+    *count = told.count;
+    return (key_index_status)told.status;
+}
+
+/* Writes the values of a key to `values`, the newest first, as many as there is room for, and to `count` how many the key has. If
+ * that is more than `room`, ask again with more room. */
+static inline key_index_status key_index_get(key_index *index, const void *key, size_t key_len, uint64_t *values, size_t room,
+                                             size_t *count) {
+    uint64_t none = 0;
+    if (count == NULL || !key_index_takes(index, key, key_len, values, room)) return KEY_INDEX_BAD_ARGUMENT;
+    *count = key_index_c_get(index, key_index_bytes(key), key_len, key_index_room(values, &none), room);
+    return KEY_INDEX_OK;
+}
+
+/* Tells whether a key has a value. */
+static inline key_index_status key_index_contains(key_index *index, const void *key, size_t key_len, bool *held) {
+    if (held == NULL || !key_index_takes(index, key, key_len, NULL, 0)) return KEY_INDEX_BAD_ARGUMENT;
+    *held = key_index_c_contains(index, key_index_bytes(key), key_len);
+    return KEY_INDEX_OK;
+}
+
+/* Removes a key with all its values. It takes no memory. */
+static inline key_index_status key_index_remove(key_index *index, const void *key, size_t key_len) {
+    if (!key_index_takes(index, key, key_len, NULL, 0)) return KEY_INDEX_BAD_ARGUMENT;
+    key_index_c_remove(index, key_index_bytes(key), key_len);
+    return KEY_INDEX_OK;
+}
+
+/* Removes the first value of a key that equals `value`, and tells whether there was one. It takes no memory. */
+static inline key_index_status key_index_remove_value(key_index *index, const void *key, size_t key_len, uint64_t value,
+                                                      bool *found) {
+    if (found == NULL || !key_index_takes(index, key, key_len, NULL, 0)) return KEY_INDEX_BAD_ARGUMENT;
+    *found = key_index_c_remove_value(index, key_index_bytes(key), key_len, value);
+    return KEY_INDEX_OK;
+}
+
+/* Puts `with` in the place of the first value of a key that equals `value`, and tells whether there was one. It takes no memory. */
+static inline key_index_status key_index_replace_value(key_index *index, const void *key, size_t key_len, uint64_t value,
+                                                       uint64_t with, bool *found) {
+    if (found == NULL || !key_index_takes(index, key, key_len, NULL, 0)) return KEY_INDEX_BAD_ARGUMENT;
+    *found = key_index_c_replace_value(index, key_index_bytes(key), key_len, value, with);
+    return KEY_INDEX_OK;
+}
+
+/* How many keys there are, how many values, and how many were ever removed (that count stops at UINT64_MAX). 0 of none. */
+static inline size_t key_index_keys(key_index *index) {
+    return key_index_is_made(index) ? key_index_c_keys(index) : 0;
+}
+static inline size_t key_index_items(key_index *index) {
+    return key_index_is_made(index) ? key_index_c_items(index) : 0;
+}
+static inline uint64_t key_index_pruned(key_index *index) {
+    return key_index_is_made(index) ? key_index_c_pruned(index) : 0;
+}
+
+/* The values of the least shortened key that is greater than that of the key; of the first one, with `cycled` true, if there is none.
+ * They are written as key_index_get writes them. `count` is 0 only if the index holds no value. */
+static inline key_index_status key_index_next(key_index *index, const void *key, size_t key_len, uint64_t *values, size_t room,
+                                              size_t *count, bool *cycled) {
+    uint64_t none = 0;
+    struct key_index_neighbour told;
+    if (count == NULL || cycled == NULL || !key_index_takes(index, key, key_len, values, room)) return KEY_INDEX_BAD_ARGUMENT;
+    told = key_index_c_next(index, key_index_bytes(key), key_len, key_index_room(values, &none), room);
+    *count = told.count;
+    *cycled = told.cycled;
+    return (key_index_status)told.status;
+}
+
+/* The same below the key: the greatest shortened key that is less, or the last one with `cycled` true. */
+static inline key_index_status key_index_prev(key_index *index, const void *key, size_t key_len, uint64_t *values, size_t room,
+                                              size_t *count, bool *cycled) {
+    uint64_t none = 0;
+    struct key_index_neighbour told;
+    if (count == NULL || cycled == NULL || !key_index_takes(index, key, key_len, values, room)) return KEY_INDEX_BAD_ARGUMENT;
+    told = key_index_c_prev(index, key_index_bytes(key), key_len, key_index_room(values, &none), room);
+    *count = told.count;
+    *cycled = told.cycled;
+    return (key_index_status)told.status;
+}
+
+/* The values of the least shortened key, and of the greatest. */
+static inline key_index_status key_index_first(key_index *index, uint64_t *values, size_t room, size_t *count) {
+    uint64_t none = 0;
+    struct key_index_neighbour told;
+    if (count == NULL || !key_index_takes(index, NULL, 0, values, room)) return KEY_INDEX_BAD_ARGUMENT;
+    told = key_index_c_first(index, key_index_room(values, &none), room);
+    *count = told.count;
+    return (key_index_status)told.status;
+}
+static inline key_index_status key_index_last(key_index *index, uint64_t *values, size_t room, size_t *count) {
+    uint64_t none = 0;
+    struct key_index_neighbour told;
+    if (count == NULL || !key_index_takes(index, NULL, 0, values, room)) return KEY_INDEX_BAD_ARGUMENT;
+    told = key_index_c_last(index, key_index_room(values, &none), room);
+    *count = told.count;
+    return (key_index_status)told.status;
+}
+
+#ifdef __cplusplus
+}
+#endif
+
+#endif

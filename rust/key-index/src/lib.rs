@@ -1,0 +1,363 @@
+//! In-memory indices that map shortened keys to lists of values, by a static library each call of which is proved.
+//!
+//! A store that keeps its records in a log inserts the position of each record under the record's key. The index keeps the first
+//! eight bytes of the key and the position. It returns the positions of the records that may match a key, and the store compares the
+//! full keys. Keys that agree in their first eight bytes share one list, the newest value first; a shorter key counts as if zeros
+//! stood behind it. A [`Seeded`] index keeps eight bytes of a hash of the whole key instead.
+//!
+//! ```
+//! use key_index::{Index, Ordered};
+//!
+//! # fn main() -> Result<(), key_index::Error> {
+//! let mut index = Index::<Ordered>::new()?;
+//! index.insert(b"apple", 1)?;
+//! index.insert(b"cherry stone", 2)?;
+//! index.insert(b"cherry syrup", 3)?;
+//! assert!(index.get(b"cherry stem").eq([3, 2]));
+//! let (values, cycled) = index.next_translated_key(b"banana").unwrap();
+//! assert!(values.eq([3, 2]) && !cycled);
+//! # Ok(())
+//! # }
+//! ```
+//!
+//! What is proved is the contract of each function that this crate calls, for callers that keep its conditions. This crate keeps them:
+//! an index is made by [`Index::new`] and freed once, a call has it alone, and a pointer goes with its own length. Nobody checks that
+//! the declarations in `ffi.rs` agree with the library's; a test compares sizes, and makes each call.
+
+#![warn(clippy::pedantic)]
+
+mod ffi;
+mod values;
+
+use ffi::{Handle, Neighbour};
+use std::cell::UnsafeCell;
+use std::fmt;
+use std::marker::PhantomData;
+pub use values::Values;
+
+/// Why a call was refused. The index holds what it held.
+#[derive(Clone, Copy, Debug, PartialEq, Eq, Hash)]
+#[non_exhaustive]
+pub enum Error {
+    /// An allocation failed.
+    Memory,
+    /// The index holds `usize::MAX` values.
+    Full,
+    /// The ends are none of as many keys as there are values.
+    Ends,
+}
+
+impl fmt::Display for Error {
+    fn fmt(&self, f: &mut fmt::Formatter<'_>) -> fmt::Result {
+        f.write_str(match self {
+            Error::Memory => "refused memory",
+            Error::Full => "refused full",
+            Error::Ends => "the ends are none of as many keys as there are values",
+        })
+    }
+}
+
+impl std::error::Error for Error {}
+
+/// The error of a status. A call of this crate gets no other than these, and a bad argument only for ends.
+fn answer(status: u32) -> Result<(), Error> {
+    match status {
+        ffi::OK => Ok(()),
+        ffi::FULL => Err(Error::Full),
+        ffi::BAD_ARGUMENT => Err(Error::Ends),
+        _ => Err(Error::Memory),
+    }
+}
+
+mod sealed {
+    pub trait Sealed {
+        const KIND: u32;
+    }
+}
+
+/// A kind of index: [`Unordered`], [`Ordered`] or [`Seeded`].
+pub trait Kind: sealed::Sealed {}
+
+/// A hashed map: the fastest calls by key.
+#[derive(Clone, Copy, Debug)]
+pub enum Unordered {}
+
+/// A tree, with the next and the previous key.
+#[derive(Clone, Copy, Debug)]
+pub enum Ordered {}
+
+/// A hashed map by a SHA-256 of whole keys and a secret seed, for keys that an attacker picks.
+#[derive(Clone, Copy, Debug)]
+pub enum Seeded {}
+
+impl sealed::Sealed for Unordered {
+    const KIND: u32 = ffi::UNORDERED;
+}
+
+impl sealed::Sealed for Ordered {
+    const KIND: u32 = ffi::ORDERED;
+}
+
+impl sealed::Sealed for Seeded {
+    const KIND: u32 = ffi::SEEDED;
+}
+
+impl Kind for Unordered {}
+
+impl Kind for Ordered {}
+
+impl Kind for Seeded {}
+
+/// A kind that takes no seed.
+pub trait Unseeded: Kind {}
+
+impl Unseeded for Unordered {}
+
+impl Unseeded for Ordered {}
+
+/// An index from the first eight bytes of keys, or of their hashes, to lists of values. It stays on the thread that made it.
+///
+/// ```compile_fail
+/// let index = key_index::Index::<key_index::Unordered>::new().unwrap();
+/// std::thread::spawn(move || index.keys());
+/// ```
+pub struct Index<K: Kind> {
+    // The library takes the index out of the handle for a call, and puts it back. So a call by `&self` writes to the handle, which no other
+    // call sees: no call comes back to this crate, and the index goes to no other thread.
+    handle: UnsafeCell<Handle>,
+    kind: PhantomData<K>,
+}
+
+impl<K: Unseeded> Index<K> {
+    /// An index with no values.
+    ///
+    /// # Errors
+    ///
+    /// [`Error::Memory`].
+    pub fn new() -> Result<Self, Error> {
+        Self::made(0)
+    }
+}
+
+impl Index<Seeded> {
+    /// An index with no values, by a random seed, which the caller draws at each start and keeps secret.
+    ///
+    /// # Errors
+    ///
+    /// [`Error::Memory`].
+    pub fn with_seed(seed: u64) -> Result<Self, Error> {
+        Self::made(seed)
+    }
+}
+
+impl<K: Kind> Index<K> {
+    fn made(seed: u64) -> Result<Self, Error> {
+        let mut handle = Handle {
+            at: std::ptr::null_mut(),
+        };
+        // SAFETY: the handle is fresh.
+        answer(unsafe { ffi::key_index_c_new(&mut handle, K::KIND, seed) })?;
+        Ok(Index {
+            handle: UnsafeCell::new(handle),
+            kind: PhantomData,
+        })
+    }
+
+    /// Inserts a value in front of those of its key.
+    ///
+    /// # Errors
+    ///
+    /// [`Error::Memory`], or [`Error::Full`] exactly if there are `usize::MAX` values.
+    pub fn insert(&mut self, key: &[u8], value: u64) -> Result<(), Error> {
+        // SAFETY: the index was made and is not freed, as in each call below, and the key goes with its length.
+        answer(unsafe {
+            ffi::key_index_c_insert(self.handle.get(), key.as_ptr(), key.len(), value)
+        })
+    }
+
+    /// Inserts values in turn, each in front of those of its key. The keys stand behind one another in `keys`, each up to its end.
+    ///
+    /// # Errors
+    ///
+    /// How many were inserted before one was refused, and why; [`Error::Ends`] with 0 if `ends` falls somewhere, goes past `keys`, or
+    /// is not as long as `values`.
+    pub fn insert_many(
+        &mut self,
+        keys: &[u8],
+        ends: &[usize],
+        values: &[u64],
+    ) -> Result<(), (usize, Error)> {
+        // SAFETY: keys, ends and values go with their lengths.
+        let told = unsafe {
+            ffi::key_index_c_insert_many(
+                self.handle.get(),
+                keys.as_ptr(),
+                keys.len(),
+                ends.as_ptr(),
+                ends.len(),
+                values.as_ptr(),
+                values.len(),
+            )
+        };
+        answer(told.status).map_err(|error| (told.count, error))
+    }
+
+    /// The values of a key, the newest first.
+    #[must_use]
+    pub fn get(&self, key: &[u8]) -> Values {
+        Values::by(|values, room| {
+            // SAFETY: the key and the room for values go with their lengths.
+            unsafe {
+                ffi::key_index_c_get(self.handle.get(), key.as_ptr(), key.len(), values, room)
+            }
+        })
+    }
+
+    /// Whether a key has a value.
+    #[must_use]
+    pub fn contains(&self, key: &[u8]) -> bool {
+        // SAFETY: the key goes with its length.
+        unsafe { ffi::key_index_c_contains(self.handle.get(), key.as_ptr(), key.len()) }
+    }
+
+    /// Removes a key with all its values. It takes no memory.
+    pub fn remove(&mut self, key: &[u8]) {
+        // SAFETY: the key goes with its length.
+        unsafe { ffi::key_index_c_remove(self.handle.get(), key.as_ptr(), key.len()) }
+    }
+
+    /// Removes the first value of a key that equals `value`, and tells whether there was one. It takes no memory.
+    pub fn remove_value(&mut self, key: &[u8], value: u64) -> bool {
+        // SAFETY: the key goes with its length.
+        unsafe { ffi::key_index_c_remove_value(self.handle.get(), key.as_ptr(), key.len(), value) }
+    }
+
+    /// Puts `with` in the place of the first value of a key that equals `value`, and tells whether there was one. It takes no memory.
+    pub fn replace_value(&mut self, key: &[u8], value: u64, with: u64) -> bool {
+        // SAFETY: the key goes with its length.
+        unsafe {
+            ffi::key_index_c_replace_value(self.handle.get(), key.as_ptr(), key.len(), value, with)
+        }
+    }
+
+    /// How many shortened keys there are.
+    #[must_use]
+    pub fn keys(&self) -> usize {
+        // SAFETY: as above.
+        unsafe { ffi::key_index_c_keys(self.handle.get()) }
+    }
+
+    /// How many values there are.
+    #[must_use]
+    pub fn items(&self) -> usize {
+        // SAFETY: as above.
+        unsafe { ffi::key_index_c_items(self.handle.get()) }
+    }
+
+    /// How many values were ever removed. The count stops at `u64::MAX`.
+    #[must_use]
+    pub fn pruned(&self) -> u64 {
+        // SAFETY: as above.
+        unsafe { ffi::key_index_c_pruned(self.handle.get()) }
+    }
+
+    /// Whether there is no value.
+    #[must_use]
+    pub fn is_empty(&self) -> bool {
+        self.keys() == 0
+    }
+}
+
+impl Index<Ordered> {
+    /// The values of the least shortened key that is greater than that of the key, and false; if there is none, those of the first one, and
+    /// true. `None` exactly if the index is empty.
+    #[must_use]
+    pub fn next_translated_key(&self, key: &[u8]) -> Option<(Values, bool)> {
+        neighbour(|values, room| {
+            // SAFETY: the key and the room for values go with their lengths.
+            unsafe {
+                ffi::key_index_c_next(self.handle.get(), key.as_ptr(), key.len(), values, room)
+            }
+        })
+    }
+
+    /// The values of the greatest shortened key that is less than that of the key, and false; if there is none, those of the last one, and
+    /// true. `None` exactly if the index is empty.
+    #[must_use]
+    pub fn prev_translated_key(&self, key: &[u8]) -> Option<(Values, bool)> {
+        neighbour(|values, room| {
+            // SAFETY: the key and the room for values go with their lengths.
+            unsafe {
+                ffi::key_index_c_prev(self.handle.get(), key.as_ptr(), key.len(), values, room)
+            }
+        })
+    }
+
+    /// The values of the least shortened key. `None` exactly if the index is empty.
+    #[must_use]
+    pub fn first_translated_key(&self) -> Option<Values> {
+        // SAFETY: the room for values goes with its length.
+        let first =
+            |values, room| unsafe { ffi::key_index_c_first(self.handle.get(), values, room) };
+        neighbour(first).map(|(values, _)| values)
+    }
+
+    /// The values of the greatest shortened key. `None` exactly if the index is empty.
+    #[must_use]
+    pub fn last_translated_key(&self) -> Option<Values> {
+        // SAFETY: the room for values goes with its length.
+        let last = |values, room| unsafe { ffi::key_index_c_last(self.handle.get(), values, room) };
+        neighbour(last).map(|(values, _)| values)
+    }
+}
+
+/// The values of a neighbour, and whether it was found around the end. No list is empty.
+fn neighbour(mut call: impl FnMut(*mut u64, usize) -> Neighbour) -> Option<(Values, bool)> {
+    let mut cycled = false;
+    let values = Values::by(|values, room| {
+        let told = call(values, room);
+        cycled = told.cycled;
+        told.count
+    });
+    (values.len() > 0).then_some((values, cycled))
+}
+
+impl<K: Kind> Drop for Index<K> {
+    fn drop(&mut self) {
+        // SAFETY: it was made and is freed here alone.
+        unsafe { ffi::key_index_c_free(self.handle.get()) }
+    }
+}
+
+impl<K: Kind> fmt::Debug for Index<K> {
+    fn fmt(&self, f: &mut fmt::Formatter<'_>) -> fmt::Result {
+        f.debug_struct("Index")
+            .field("keys", &self.keys())
+            .field("items", &self.items())
+            .field("pruned", &self.pruned())
+            .finish_non_exhaustive()
+    }
+}
+
+#[cfg(test)]
+mod tests {
+    use super::ffi::{Handle, Many, Neighbour};
+    use std::mem::{align_of, offset_of, size_of};
+
+    // As the header declares them for C, which the compiler of the library takes too.
+    #[test]
+    fn the_declared_types_have_the_sizes_of_c() {
+        assert_eq!((size_of::<Handle>(), align_of::<Handle>()), (8, 8));
+        assert_eq!((size_of::<Neighbour>(), align_of::<Neighbour>()), (16, 8));
+        assert_eq!(
+            (
+                offset_of!(Neighbour, count),
+                offset_of!(Neighbour, status),
+                offset_of!(Neighbour, cycled)
+            ),
+            (0, 8, 12)
+        );
+        assert_eq!((size_of::<Many>(), align_of::<Many>()), (16, 8));
+        assert_eq!((offset_of!(Many, count), offset_of!(Many, status)), (0, 8));
+    }
+}

@@ -1,0 +1,224 @@
+//! Each call beside a `BTreeMap` of lists.
+
+use key_index::{Error, Index, Kind, Ordered, Seeded, Unordered, Values};
+use std::collections::BTreeMap;
+
+/// Marsaglia's xorshift.
+struct Random(u64);
+
+impl Random {
+    fn below(&mut self, bound: u64) -> u64 {
+        self.0 ^= self.0 << 13;
+        self.0 ^= self.0 >> 7;
+        self.0 ^= self.0 << 17;
+        (self.0 >> 8) % bound
+    }
+}
+
+/// The first eight bytes of a key, with zeros behind a shorter one.
+fn shortened(key: &[u8]) -> Vec<u8> {
+    let mut short = key[..key.len().min(8)].to_vec();
+    short.resize(8, 0);
+    short
+}
+
+type Lists = BTreeMap<Vec<u8>, Vec<u64>>;
+
+/// A key of up to ten bytes of few values.
+fn some_key(random: &mut Random) -> Vec<u8> {
+    let len = random.below(11);
+    (0..len)
+        .map(|place| if place < 5 { 7 } else { random.below(4) as u8 })
+        .collect()
+}
+
+/// Makes random calls, each compared with the lists, where `group` tells which keys share one; `also` compares what the kind alone
+/// answers.
+fn session<K: Kind>(
+    mut index: Index<K>,
+    calls: u32,
+    seed: u64,
+    group: fn(&[u8]) -> Vec<u8>,
+    also: impl Fn(&Index<K>, &Lists, &[u8]),
+) -> Result<(), Error> {
+    let mut random = Random(seed);
+    let mut lists = Lists::new();
+    let mut pruned = 0;
+    for call in 0..calls {
+        let key = some_key(&mut random);
+        let short = group(&key);
+        let value = random.below(50);
+        match random.below(10) {
+            0 if call % 7 == 0 => {
+                index.remove(&key);
+                pruned += lists.remove(&short).map_or(0, |list| list.len() as u64);
+            }
+            1 | 2 => {
+                let place = lists
+                    .get(&short)
+                    .and_then(|list| list.iter().position(|held| *held == value));
+                assert_eq!(index.remove_value(&key, value), place.is_some());
+                if let Some(place) = place {
+                    let list = lists.get_mut(&short).unwrap();
+                    list.remove(place);
+                    pruned += 1;
+                    if list.is_empty() {
+                        lists.remove(&short);
+                    }
+                }
+            }
+            3 => {
+                let place = lists
+                    .get(&short)
+                    .and_then(|list| list.iter().position(|held| *held == value));
+                assert_eq!(
+                    index.replace_value(&key, value, value + 100),
+                    place.is_some()
+                );
+                if let Some(place) = place {
+                    lists.get_mut(&short).unwrap()[place] = value + 100;
+                }
+            }
+            4 => {
+                // The key, its front, and the key once more.
+                let keys = [&key[..], &key[..key.len() / 2], &key].concat();
+                let ends = [key.len(), key.len() + key.len() / 2, keys.len()];
+                index
+                    .insert_many(&keys, &ends, &[value, value + 1, value + 2])
+                    .map_err(|(_, error)| error)?;
+                for (end, value) in [
+                    (key.len(), value),
+                    (key.len() / 2, value + 1),
+                    (key.len(), value + 2),
+                ] {
+                    lists
+                        .entry(group(&key[..end]))
+                        .or_default()
+                        .insert(0, value);
+                }
+            }
+            _ => {
+                index.insert(&key, value)?;
+                lists.entry(short).or_default().insert(0, value);
+            }
+        }
+        let asked = some_key(&mut random);
+        let list = lists.get(&group(&asked)).map_or(&[][..], Vec::as_slice);
+        assert_eq!(index.get(&asked).as_slice(), list);
+        assert_eq!(index.contains(&asked), !list.is_empty());
+        if call % 100 == 0 {
+            assert_eq!(index.keys(), lists.len());
+            assert_eq!(index.items(), lists.values().map(Vec::len).sum());
+            assert_eq!(index.is_empty(), lists.is_empty());
+            assert_eq!(index.pruned(), pruned);
+        }
+        also(&index, &lists, &asked);
+    }
+    Ok(())
+}
+
+#[test]
+fn unordered_beside_lists() -> Result<(), Error> {
+    session(
+        Index::<Unordered>::new()?,
+        100_000,
+        1,
+        shortened,
+        |_, _, _| (),
+    )
+}
+
+// Whole keys differ in their hashes.
+#[test]
+fn seeded_beside_lists() -> Result<(), Error> {
+    let index = Index::<Seeded>::with_seed(0x5eed)?;
+    session(index, 100_000, 3, <[u8]>::to_vec, |_, _, _| ())
+}
+
+#[test]
+fn ordered_beside_lists() -> Result<(), Error> {
+    session(
+        Index::<Ordered>::new()?,
+        100_000,
+        2,
+        shortened,
+        |index, lists, key| {
+            let short = shortened(key);
+            let above = lists
+                .range(short.clone()..)
+                .find(|(held, _)| **held > short);
+            let next = above
+                .map(|at| (at, false))
+                .or(lists.iter().next().map(|at| (at, true)));
+            let below = lists.range(..short).next_back();
+            let prev = below
+                .map(|at| (at, false))
+                .or(lists.iter().next_back().map(|at| (at, true)));
+            for (found, wanted) in [
+                (index.next_translated_key(key), next),
+                (index.prev_translated_key(key), prev),
+            ] {
+                assert_eq!(
+                    found
+                        .as_ref()
+                        .map(|(values, cycled)| (values.as_slice(), *cycled)),
+                    wanted.map(|((_, list), cycled)| (list.as_slice(), cycled))
+                );
+            }
+            let ends = [
+                (index.first_translated_key(), lists.values().next()),
+                (index.last_translated_key(), lists.values().next_back()),
+            ];
+            for (found, wanted) in ends {
+                assert_eq!(
+                    found.as_ref().map(Values::as_slice),
+                    wanted.map(Vec::as_slice)
+                );
+            }
+        },
+    )
+}
+
+#[test]
+fn lists_longer_than_a_buffer() -> Result<(), Error> {
+    let mut index = Index::<Unordered>::new()?;
+    for value in 0..1000 {
+        index.insert(b"", value)?;
+        assert!(index.get(b"\0").eq((0..=value).rev()));
+    }
+    assert_eq!(index.get(b"").len(), 1000);
+    Ok(())
+}
+
+#[test]
+fn ends_of_no_keys() -> Result<(), Error> {
+    let mut index = Index::<Unordered>::new()?;
+    for (ends, values) in [
+        (&[2, 1][..], &[1, 2][..]),
+        (&[5], &[1]),
+        (&[1], &[]),
+        (&[], &[1]),
+    ] {
+        assert_eq!(
+            index.insert_many(b"figs", ends, values),
+            Err((0, Error::Ends))
+        );
+    }
+    assert_eq!(index.insert_many(b"", &[], &[]), Ok(()));
+    assert!(index.is_empty());
+    Ok(())
+}
+
+#[test]
+fn texts() -> Result<(), Error> {
+    let mut index = Index::<Unordered>::new()?;
+    index.insert(b"k", 1)?;
+    assert_eq!(
+        format!("{index:?}"),
+        "Index { keys: 1, items: 1, pruned: 0, .. }"
+    );
+    assert_eq!(Error::Memory.to_string(), "refused memory");
+    let error: Box<dyn std::error::Error> = Error::Full.into();
+    assert_eq!(error.to_string(), "refused full");
+    Ok(())
+}
