@@ -2,9 +2,11 @@
 --     IsMade       it has one: it was made, and not freed since
 --     view_in      what it holds; of a handle that has none, nothing
 --     has_order    whether it has an order
+--     values_in    the values that it holds under a key
 --     Keeps        a call left the index as it was; StaysMade: it left the handle one, with an order as before
-use Rattle.std.specs.Prelude.{◌≡◌, ℕ, Bool, true, false, Option, Some, None, [], IsSome}
-use Rattle.key_index_flat.specs.View.{View}
+use Rattle.std.specs.Prelude.{◌≡◌, ℕ, Bool, true, false, List, Option, Some, None, [], IsSome}
+use Rattle.std.specs.Ordering.{nat_cmp}
+use Rattle.key_index_flat.specs.View.{View, run_of}
 use Rattle.key_index_c.specs.Any.{any_view, is_ordered}
 use Rattle.key_index_c.specs.declared.any.Any.{Any}
 use Rattle.key_index_c.specs.declared.handle.Handle.{Handle}
@@ -18,6 +20,9 @@ view_of_held (Some index) = any_view index
 
 abbrev pub view_in : Handle → View ℕ ℕ
 view_in handle = view_of_held handle.held
+
+abbrev pub values_in : Handle → List ℕ → List ℕ
+values_in handle key = run_of nat_cmp (view_in handle) key
 
 abbrev pub order_of_held : Option Any → Bool
 order_of_held None = false

@@ -3,13 +3,14 @@ ghost use Rattle.std.specs.Prelude.{◌≡◌, ◌≢◌, ◌<◌, ◌⊎◌, �
 ghost use Rattle.std.specs.Ordering.{nat_cmp};
 ghost use Rattle.key_index_flat.specs.Content.{key_count};
 ghost use Rattle.key_index_flat.specs.Neighbours.{first_list, last_list, next_list, prev_list};
-ghost use Rattle.key_index_flat.specs.View.{after_insert, after_remove, growth_fault_in, items_in, run_of};
-ghost use Rattle.key_index_c.specs.Any.{any_view, is_ordered, slot_of};
+ghost use Rattle.key_index_flat.specs.View.{after_insert, after_remove, growth_fault_in, items_in};
+ghost use Rattle.key_index_c.specs.Any.{any_view, held_under, is_ordered, slot_of};
 ghost use Rattle.key_index_c.specs.Buffer.{filled};
 ghost use Rattle.key_index_c.specs.Calls.{AreKeys, Shows, after_inserts, after_removed, after_replaced, not_cycled, place_of};
 ghost use Rattle.key_index_c.specs.Status.{kind_refusal, status_of};
 
 use crate::status::{self, BAD_ARGUMENT, MEMORY, OK};
+use key_index_flat::index::implement::Lists;
 use key_index_flat::index::{Factory, Ordered, Runs, Unordered, Values, ordered, unordered};
 use key_index_flat::translator::{EightCap, Hashed, SeededSha256};
 use std::alloc::Global;
@@ -99,7 +100,8 @@ impl Any {
     /// Inserts a value under a key, and tells the status.
     pub(crate) fn insert(&mut self, key: &[u8], value: u64) -> u32
         ensures order { is_ordered self.new ≡ is_ordered self.old }
-        ensures accepted { result ≡ OK → any_view self.new ≡ after_insert nat_cmp true (any_view self.old) key.now value }
+        ensures accepted { result ≡ OK
+            → any_view self.new ≡ after_insert nat_cmp true (any_view self.old) key.now value }
         ensures room { result ≡ OK → items_in (any_view self.old) < usize.MAX }
         ensures refused { result ≢ OK → any_view self.new ≡ any_view self.old }
         ensures status { (result ≡ OK) ⊎ (result ≡ status_of (growth_fault_in (any_view self.old))) }
@@ -113,7 +115,8 @@ impl Any {
     /// Inserts values under keys that stand behind one another, each up to its end, until one is refused.
     pub(crate) fn insert_many(&mut self, keys: &[u8], ends: &[usize], values: &[u64]) -> Many
         ensures order { is_ordered self.new ≡ is_ordered self.old }
-        ensures inserted { any_view self.new ≡ after_inserts (any_view self.old) keys.now ends.now values.now result.count }
+        ensures inserted { any_view self.new
+            ≡ after_inserts (any_view self.old) keys.now ends.now values.now result.count }
         ensures keys { AreKeys keys.now ends.now values.now → result.status ≢ BAD_ARGUMENT }
         ensures taken { result.status ≢ BAD_ARGUMENT → AreKeys keys.now ends.now values.now }
         ensures unkeyed { result.status ≡ BAD_ARGUMENT → result.count ≡ 0 }
@@ -143,15 +146,15 @@ impl Any {
 
     /// Writes the values of a key to a buffer, as many as it has room for, and tells how many the key has.
     pub(crate) fn get(&self, key: &[u8], buffer: &mut [u64]) -> usize
-        ensures count { result ≡ length (run_of nat_cmp (any_view self.now) key.now) }
-        ensures values { buffer.new ≡ filled (run_of nat_cmp (any_view self.now) key.now) buffer.old }
+        ensures count { result ≡ length (held_under self.now key.now) }
+        ensures values { buffer.new ≡ filled (held_under self.now key.now) buffer.old }
     {
         each!(self, index => copy(index.get(key), buffer))
     }
 
     /// Whether a key has a value.
     pub(crate) fn contains(&self, key: &[u8]) -> bool
-        ensures { IsTrue result ↔ (0 < length (run_of nat_cmp (any_view self.now) key.now)) }
+        ensures { IsTrue result ↔ (0 < length (held_under self.now key.now)) }
     {
         each!(self, index => index.get(key).len() > 0)
     }
@@ -167,16 +170,18 @@ impl Any {
     /// Removes the first value of a key that equals a value, and tells whether there was one.
     pub(crate) fn remove_value(&mut self, key: &[u8], value: u64) -> bool
         ensures order { is_ordered self.new ≡ is_ordered self.old }
-        ensures found { result ≡ is_some (place_of value (run_of nat_cmp (any_view self.old) key.now)) }
+        ensures found { result ≡ is_some (place_of value (held_under self.old key.now)) }
         ensures removed { any_view self.new ≡ after_removed (any_view self.old) key.now
-            (place_of value (run_of nat_cmp (any_view self.old) key.now)) }
+            (place_of value (held_under self.old key.now)) }
     {
-        each!(self, index => match place_of(index.get(key), value) {
-            None => false,
-            Some(place) => {
-                let slot = index.slot_of(key);
-                index.remove_at(slot, place);
-                true
+        each!(self, index => {
+            let slot = index.slot_of(key);
+            match place_of(index.list_at(slot), value) {
+                None => false,
+                Some(place) => {
+                    index.remove_at(slot, place);
+                    true
+                }
             }
         })
     }
@@ -184,16 +189,18 @@ impl Any {
     /// Puts another value in the place of the first value of a key that equals a value, and tells whether there was one.
     pub(crate) fn replace_value(&mut self, key: &[u8], value: u64, new: u64) -> bool
         ensures order { is_ordered self.new ≡ is_ordered self.old }
-        ensures found { result ≡ is_some (place_of value (run_of nat_cmp (any_view self.old) key.now)) }
+        ensures found { result ≡ is_some (place_of value (held_under self.old key.now)) }
         ensures replaced { any_view self.new ≡ after_replaced (any_view self.old) key.now
-            (place_of value (run_of nat_cmp (any_view self.old) key.now)) new }
+            (place_of value (held_under self.old key.now)) new }
     {
-        each!(self, index => match place_of(index.get(key), value) {
-            None => false,
-            Some(place) => {
-                let slot = index.slot_of(key);
-                index.set_at(slot, place, new);
-                true
+        each!(self, index => {
+            let slot = index.slot_of(key);
+            match place_of(index.list_at(slot), value) {
+                None => false,
+                Some(place) => {
+                    index.set_at(slot, place, new);
+                    true
+                }
             }
         })
     }
@@ -221,8 +228,8 @@ impl Any {
 
     /// Writes the values of the next key.
     pub(crate) fn next(&self, key: &[u8], buffer: &mut [u64]) -> Neighbour
-        ensures { Shows (is_ordered self.now) (next_list nat_cmp (any_view self.now).content ((any_view self.now).slot key.now))
-            result buffer.old buffer.new }
+        ensures { Shows (is_ordered self.now)
+            (next_list nat_cmp (any_view self.now).content ((any_view self.now).slot key.now)) result buffer.old buffer.new }
     {
         match self {
             Any::Unordered(_) | Any::Seeded(_) => no_order(),
@@ -232,8 +239,8 @@ impl Any {
 
     /// Writes the values of the previous key.
     pub(crate) fn prev(&self, key: &[u8], buffer: &mut [u64]) -> Neighbour
-        ensures { Shows (is_ordered self.now) (prev_list nat_cmp (any_view self.now).content ((any_view self.now).slot key.now))
-            result buffer.old buffer.new }
+        ensures { Shows (is_ordered self.now)
+            (prev_list nat_cmp (any_view self.now).content ((any_view self.now).slot key.now)) result buffer.old buffer.new }
     {
         match self {
             Any::Unordered(_) | Any::Seeded(_) => no_order(),
@@ -243,7 +250,8 @@ impl Any {
 
     /// Writes the values of the first key.
     pub(crate) fn first(&self, buffer: &mut [u64]) -> Neighbour
-        ensures { Shows (is_ordered self.now) (not_cycled (first_list (any_view self.now).content)) result buffer.old buffer.new }
+        ensures { Shows (is_ordered self.now)
+            (not_cycled (first_list (any_view self.now).content)) result buffer.old buffer.new }
     {
         match self {
             Any::Unordered(_) | Any::Seeded(_) => no_order(),
@@ -253,7 +261,8 @@ impl Any {
 
     /// Writes the values of the last key.
     pub(crate) fn last(&self, buffer: &mut [u64]) -> Neighbour
-        ensures { Shows (is_ordered self.now) (not_cycled (last_list (any_view self.now).content)) result buffer.old buffer.new }
+        ensures { Shows (is_ordered self.now)
+            (not_cycled (last_list (any_view self.now).content)) result buffer.old buffer.new }
     {
         match self {
             Any::Unordered(_) | Any::Seeded(_) => no_order(),

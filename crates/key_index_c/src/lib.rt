@@ -8,11 +8,11 @@ ghost use Rattle.std.specs.Prelude.{◌≡◌, ◌≢◌, ◌<◌, ◌⊎◌, �
 ghost use Rattle.std.specs.Ordering.{nat_cmp};
 ghost use Rattle.key_index_flat.specs.Content.{key_count};
 ghost use Rattle.key_index_flat.specs.Neighbours.{first_list, last_list, next_list, prev_list};
-ghost use Rattle.key_index_flat.specs.View.{after_insert, after_remove, growth_fault_in, items_in, run_of};
+ghost use Rattle.key_index_flat.specs.View.{after_insert, after_remove, growth_fault_in, items_in};
 ghost use Rattle.key_index_c.specs.Any.{slot_of};
 ghost use Rattle.key_index_c.specs.Buffer.{filled};
 ghost use Rattle.key_index_c.specs.Calls.{AreKeys, Shows, after_inserts, after_removed, after_replaced, not_cycled, place_of};
-ghost use Rattle.key_index_c.specs.Held.{IsMade, Keeps, StaysMade, has_order, view_in};
+ghost use Rattle.key_index_c.specs.Held.{IsMade, Keeps, StaysMade, has_order, values_in, view_in};
 ghost use Rattle.key_index_c.specs.Status.{kind_refusal, status_of};
 
 use std::alloc::Global;
@@ -66,7 +66,8 @@ pub extern "C" fn key_index_c_insert(
 ) -> u32
     requires made { IsMade handle.old }
     ensures made { StaysMade handle.old handle.new }
-    ensures accepted { result ≡ OK → view_in handle.new ≡ after_insert nat_cmp true (view_in handle.old) key.now value }
+    ensures accepted { result ≡ OK
+        → view_in handle.new ≡ after_insert nat_cmp true (view_in handle.old) key.now value }
     ensures room { result ≡ OK → items_in (view_in handle.old) < usize.MAX }
     ensures refused { result ≢ OK → view_in handle.new ≡ view_in handle.old }
     ensures status { (result ≡ OK) ⊎ (result ≡ status_of (growth_fault_in (view_in handle.old))) }
@@ -113,8 +114,8 @@ pub extern "C" fn key_index_c_get(
 ) -> usize
     requires made { IsMade handle.old }
     ensures same { Keeps handle.old handle.new }
-    ensures count { result ≡ length (run_of nat_cmp (view_in handle.old) key.now) }
-    ensures values { buffer.new ≡ filled (run_of nat_cmp (view_in handle.old) key.now) buffer.old }
+    ensures count { result ≡ length (values_in handle.old key.now) }
+    ensures values { buffer.new ≡ filled (values_in handle.old key.now) buffer.old }
 {
     let any = handle.take(alloc);
     let told = any.get(key, buffer);
@@ -127,7 +128,7 @@ pub extern "C" fn key_index_c_get(
 pub extern "C" fn key_index_c_contains(alloc: Global, handle: &mut Handle, key: &[u8]) -> bool
     requires made { IsMade handle.old }
     ensures same { Keeps handle.old handle.new }
-    ensures held { IsTrue result ↔ (0 < length (run_of nat_cmp (view_in handle.old) key.now)) }
+    ensures held { IsTrue result ↔ (0 < length (values_in handle.old key.now)) }
 {
     let any = handle.take(alloc);
     let told = any.contains(key);
@@ -157,8 +158,9 @@ pub extern "C" fn key_index_c_remove_value(
 ) -> bool
     requires made { IsMade handle.old }
     ensures made { StaysMade handle.old handle.new }
-    ensures found { result ≡ is_some (place_of value (run_of nat_cmp (view_in handle.old) key.now)) }
-    ensures removed { view_in handle.new ≡ after_removed (view_in handle.old) key.now (place_of value (run_of nat_cmp (view_in handle.old) key.now)) }
+    ensures found { result ≡ is_some (place_of value (values_in handle.old key.now)) }
+    ensures removed { view_in handle.new
+        ≡ after_removed (view_in handle.old) key.now (place_of value (values_in handle.old key.now)) }
 {
     let mut any = handle.take(alloc);
     let told = any.remove_value(key, value);
@@ -177,8 +179,9 @@ pub extern "C" fn key_index_c_replace_value(
 ) -> bool
     requires made { IsMade handle.old }
     ensures made { StaysMade handle.old handle.new }
-    ensures found { result ≡ is_some (place_of value (run_of nat_cmp (view_in handle.old) key.now)) }
-    ensures replaced { view_in handle.new ≡ after_replaced (view_in handle.old) key.now (place_of value (run_of nat_cmp (view_in handle.old) key.now)) new }
+    ensures found { result ≡ is_some (place_of value (values_in handle.old key.now)) }
+    ensures replaced { view_in handle.new
+        ≡ after_replaced (view_in handle.old) key.now (place_of value (values_in handle.old key.now)) new }
 {
     let mut any = handle.take(alloc);
     let told = any.replace_value(key, value, new);
@@ -272,7 +275,8 @@ pub extern "C" fn key_index_c_first(
 ) -> Neighbour
     requires made { IsMade handle.old }
     ensures same { Keeps handle.old handle.new }
-    ensures shown { Shows (has_order handle.old) (not_cycled (first_list (view_in handle.old).content)) result buffer.old buffer.new }
+    ensures shown { Shows (has_order handle.old)
+        (not_cycled (first_list (view_in handle.old).content)) result buffer.old buffer.new }
 {
     let any = handle.take(alloc);
     let told = any.first(buffer);
@@ -289,7 +293,8 @@ pub extern "C" fn key_index_c_last(
 ) -> Neighbour
     requires made { IsMade handle.old }
     ensures same { Keeps handle.old handle.new }
-    ensures shown { Shows (has_order handle.old) (not_cycled (last_list (view_in handle.old).content)) result buffer.old buffer.new }
+    ensures shown { Shows (has_order handle.old)
+        (not_cycled (last_list (view_in handle.old).content)) result buffer.old buffer.new }
 {
     let any = handle.take(alloc);
     let told = any.last(buffer);
