@@ -14,13 +14,18 @@
 --     AreCells        what stands where: each pair's tag is that of its key, and a search for its key comes to its group; keys differ
 --     IsAt, NoneIn    the pair with a key stands in a cell; in none of a range
 --     Found, Seen     what a search through groups answers, and a look at the first of them alone
+--     IsPlace         the cell of a key's pair, or a free one for it
 --     IsFirstFree, IsTagWithout    which cell is taken, which tag is left behind
 --     Updates, Writes    what a call does to the pairs
-use Rattle.std.specs.Prelude.{◌≡◌, ◌≢◌, ℕ, zero, suc, ◌+◌, ◌*◌, ◌-◌, ◌/◌, ◌^◌, ◌<◌, ◌≤◌, Bool, true, false, nat_le, if◌then◌else◌, max, List, [], ◌∷◌, length, Option, Some, None, unwrap_or, slice_get, slice_index, slice_index_or, bit_and, nat_eq, ⊤}
+use Rattle.std.specs.Prelude.{◌≡◌, ◌≢◌, ℕ, zero, suc, ◌+◌, ◌*◌, ◌-◌, ◌/◌, ◌^◌, ◌<◌, ◌≤◌, Bool, true, false, nat_le, if◌then◌else◌, max, List, [], ◌∷◌, length, Option, Some, None, slice_get, slice_index, slice_index_or, bit_and, nat_eq, ⊤}
 use Rattle.std.specs.List.{fold, count_by, IsDistinct}
 use Rattle.std.specs.Map.{keys_of, lookup}
 use Rattle.std.specs.Option.{IsSome}
 use Rattle.std.specs.Hash.FoldHasher as hasher
+use Rattle.key_index_map.specs.declared.map.Contents.{Contents}
+use Rattle.key_index_map.specs.declared.map.Contents.TheVariants.{Nothing, Reserved, Filled}
+use Rattle.key_index_map.specs.declared.table.Place.{Place}
+use Rattle.key_index_map.specs.declared.table.Place.TheVariants.{Held, Free}
 use Rattle.key_index_map.specs.declared.table.Search.{Search}
 use Rattle.key_index_map.specs.declared.table.Search.TheVariants.{Found as Here, Absent, Onward}
 
@@ -58,9 +63,16 @@ pub record Entries (K V : Type 0) : Type 0 where
   pub spare : ℕ
 
 -- by its table, or, without one, by the room that it reserved, if it did
-abbrev pub entries_of : {K V : Type 0} → Option (Cells K V) → Option ℕ → Entries K V
-entries_of None room = record { entries = []; spare = unwrap_or room 0 }
-entries_of (Some c) room = record { entries = pairs c; spare = c.spare }
+abbrev pub entries_of : {K V : Type 0} → Contents ℕ (Cells K V) → Entries K V
+entries_of Nothing = record { entries = []; spare = 0 }
+entries_of (Reserved room) = record { entries = []; spare = room }
+entries_of (Filled c) = record { entries = pairs c; spare = c.spare }
+
+-- there is no table yet
+abbrev pub IsUnfilled : {K V : Type 0} → Contents ℕ (Cells K V) → Type 0
+IsUnfilled Nothing = ⊤
+IsUnfilled (Reserved room) = ⊤
+IsUnfilled (Filled c) = ⊥
 
 abbrev pub with_value : {K V : Type 0} → Cells K V → ℕ → V → Cells K V
 with_value c cell w = record { tags = c.tags; items = set_value_at c.items cell w; spare = c.spare }
@@ -172,6 +184,11 @@ abbrev pub Seen : {K V : Type 0} → (K → K → Bool) → Cells K V → ℕ �
 Seen eq c hash k (Here cell) = IsAt eq c cell k × IsSome (lookup (eq k) (pairs c))
 Seen eq c hash k (Absent cell) = (lookup (eq k) (pairs c) ≡ None) × IsFirstFree c (home_in c hash) cell
 Seen eq c hash k Onward = ⊤
+
+-- where the pair of a key stands, or a free cell for it, for which there is room
+abbrev pub IsPlace : {K V : Type 0} → (K → K → Bool) → Cells K V → ℕ → K → Place → Type 0
+IsPlace eq c hash k (Held cell) = IsAt eq c cell k × IsSome (lookup (eq k) (pairs c))
+IsPlace eq c hash k (Free cell) = (lookup (eq k) (pairs c) ≡ None) × IsFirstFree c (home_in c hash) cell × (0 < c.spare)
 
 -- the tag that a cell without its pair has: 0 only where its group has another empty cell
 abbrev pub IsTagWithout : {K V : Type 0} → Cells K V → ℕ → ℕ → Type 0

@@ -18,4 +18,4 @@ module _ (K V : RattleType) (ord : OrdMembers K.Denot) (hash : HashMembers K.Den
   lends_cell cell r = Lends table_row V s r (λ w. with_value s.now cell w)
 
   abbrev pub lends_get : K.Denot → Option (MutBor V.Denot) → Fml
-  lends_get k r = LendsSo table_row V s r (λ n w. OnSome r (Writes ord.eq (pairs s.now) (pairs n) k w)) (λ n. n ≡ s.now)
+  lends_get k r = LendsSo table_row V s r (λ n w. OnSome r (Writes ord.eq (pairs s.now) (pairs n) k w) × (n.spare ≡ s.now.spare)) (λ n. n ≡ s.now)

@@ -3,21 +3,57 @@ ghost use Rattle.std.specs.Prelude.{◌≡◌, ◌+◌, ◌<◌, ◌≤◌, List
 ghost use Rattle.std.specs.Borrow.{sem};
 ghost use Rattle.std.specs.Map.{lookup};
 ghost use Rattle.std.specs.Option.{IsSome, option_copied, option_copied_mut};
-ghost use Rattle.key_index_map.specs.Table.{Updates};
+ghost use Rattle.key_index_map.specs.Table.{IsUnfilled, Updates, entries_of, hash_of};
 
 use crate::table::{Iter, Room, Table, hash_of};
 use std::alloc::{AllocError, Global};
 use std::hash::Hash;
 use std::marker::Model;
+use std::mem::replace;
 
 /// A map from keys to values. It takes no memory before the first pair comes or room is reserved, and gives none back before it ends.
 /// Contracts see its pairs, in no order that they tell of, and how many more keys there is room for.
 #[derive(Drop)]
 pub struct Map<K: Ord + Hash + Copy, V> {
-    table: Option<Table<K, V>>,
-    // What was reserved before the first pair came.
-    room: Option<Room<K, V>>,
+    contents: Contents<Room<K, V>, Table<K, V>>,
     alloc: Global,
+}
+
+/// What a map has: no memory; room that was reserved before the first pair came; or a table, from then on.
+#[derive(Drop)]
+enum Contents<R, T> {
+    Nothing,
+    Reserved(R),
+    Filled(T),
+}
+
+/// Puts the first pair in, where room is reserved, if it is. A refusal hands the value back and changes nothing.
+#[inline(never)]
+fn fill<K: Ord + Hash + Copy, V: Drop>(
+    contents: &mut Contents<Room<K, V>, Table<K, V>>,
+    alloc: Global,
+    hash: u64,
+    key: K,
+    value: V,
+) -> Result<(), V>
+    requires unfilled { IsUnfilled contents.old }
+    requires hash { hash ≡ hash_of (K.hash_input key) }
+    ensures updates { OnOk result (Updates K.eq [] (entries_of contents.new).entries key (Some value)) }
+    ensures len { OnOk result (length (entries_of contents.new).entries ≡ 1) }
+    ensures refused { OnErr result (contents.new ≡ contents.old) }
+    ensures returned { IfErr result (λ back. back ≡ value) }
+    ensures room { OnOk result ((entries_of contents.old).spare ≤ (entries_of contents.new).spare + 1) }
+    ensures succeeds { 0 < (entries_of contents.old).spare → IsOk result }
+{
+    let room = match replace(contents, Contents::Nothing) {
+        Contents::Reserved(room) => room,
+        _ => match Room::fewest(alloc) {
+            Ok(room) => room,
+            Err(_) => return Err(value),
+        },
+    };
+    *contents = Contents::Filled(Table::with_one(room, hash, key, value));
+    Ok(())
 }
 
 impl<K: Ord + Hash + Copy, V> Model for Map<K, V> {
@@ -25,7 +61,7 @@ impl<K: Ord + Hash + Copy, V> Model for Map<K, V> {
 
     ghost Value = { Entries K V };
 
-    ghost view = { λ m. entries_of m.table m.room };
+    ghost view = { λ m. entries_of m.contents };
 }
 
 impl<K: Ord + Hash + Copy, V> Map<K, V> {
@@ -36,8 +72,7 @@ impl<K: Ord + Hash + Copy, V> Map<K, V> {
         ensures { result.entries ≡ [] }
     {
         Map {
-            table: None,
-            room: None,
+            contents: Contents::Nothing,
             alloc,
         }
     }
@@ -49,14 +84,15 @@ impl<K: Ord + Hash + Copy, V> Map<K, V> {
     {
         let room = Room::with_capacity(alloc, capacity)?;
         Ok(Map {
-            table: None,
-            room: Some(room),
+            contents: Contents::Reserved(room),
             alloc,
         })
     }
 
     /// Makes room for so many more pairs. A refusal changes nothing.
     pub fn reserve(&mut self, additional: usize) -> Result<(), AllocError>
+    where
+        V: Drop,
         ensures values { (q : K) → lookup (K.eq q) self.new.entries ≡ lookup (K.eq q) self.old.entries }
         ensures len { length self.new.entries ≡ length self.old.entries }
         ensures room { OnOk result (additional ≤ self.new.spare) }
@@ -64,15 +100,13 @@ impl<K: Ord + Hash + Copy, V> Map<K, V> {
         ensures refused { OnErr result (self.new ≡ self.old) }
         ensures succeeds { additional ≤ self.old.spare → IsOk result }
     {
-        if let Some(table) = &mut self.table {
-            return table.reserve(additional);
-        }
-        let spare = match &self.room {
-            Some(room) => room.spare(),
-            None => 0,
+        let spare = match &mut self.contents {
+            Contents::Filled(table) => return table.reserve(additional),
+            Contents::Reserved(room) => room.spare(),
+            Contents::Nothing => 0,
         };
         if spare < additional {
-            self.room = Some(Room::with_capacity(self.alloc, additional)?);
+            self.contents = Contents::Reserved(Room::with_capacity(self.alloc, additional)?);
         }
         Ok(())
     }
@@ -82,9 +116,9 @@ impl<K: Ord + Hash + Copy, V> Map<K, V> {
     pub fn len(&self) -> usize
         ensures { result ≡ length self.now.entries }
     {
-        match &self.table {
-            Some(table) => table.len(),
-            None => 0,
+        match &self.contents {
+            Contents::Filled(table) => table.len(),
+            _ => 0,
         }
     }
 
@@ -93,9 +127,9 @@ impl<K: Ord + Hash + Copy, V> Map<K, V> {
     pub fn get(&self, key: &K) -> Option<&V>
         ensures { option_copied result ≡ lookup (K.eq key.now) self.now.entries }
     {
-        match &self.table {
-            Some(table) => table.get(key),
-            None => None,
+        match &self.contents {
+            Contents::Filled(table) => table.get(key),
+            _ => None,
         }
     }
 
@@ -105,9 +139,9 @@ impl<K: Ord + Hash + Copy, V> Map<K, V> {
         ensures* lends { sem 𝓛 (lends_get K.row V.row K.Ord K.Hash self.entry key.now result) }
         ensures value { option_copied_mut result ≡ lookup (K.eq key.now) self.old.entries }
     {
-        match &mut self.table {
-            Some(table) => table.get_mut(key),
-            None => None,
+        match &mut self.contents {
+            Contents::Filled(table) => table.get_mut(key),
+            _ => None,
         }
     }
 
@@ -119,17 +153,18 @@ impl<K: Ord + Hash + Copy, V> Map<K, V> {
         V: Drop,
         ensures old { IfOk result (λ old. old ≡ lookup (K.eq key) self.old.entries) }
         ensures updates { OnOk result (Updates K.eq self.old.entries self.new.entries key (Some value)) }
-        ensures len { IfOk result (λ old. length self.new.entries ≡ length self.old.entries + (if is_some old then 0 else 1)) }
+        ensures len { IfOk result (λ old.
+            length self.new.entries ≡ length self.old.entries + (if is_some old then 0 else 1)) }
         ensures absent { OnErr result (lookup (K.eq key) self.old.entries ≡ None) }
         ensures refused { OnErr result (self.new ≡ self.old) }
         ensures returned { IfErr result (λ back. back ≡ value) }
-        ensures room { self.old.spare ≤ self.new.spare + 1 }
+        ensures room { IfOk result (λ old. self.old.spare ≤ self.new.spare + (if is_some old then 0 else 1)) }
         ensures succeeds { 0 < self.old.spare → IsOk result }
     {
-        if let Some(table) = &mut self.table {
+        if let Contents::Filled(table) = &mut self.contents {
             return table.insert(key, value);
         }
-        self.table = Some(Table::with_one(self.alloc, &mut self.room, hash_of(key), key, value)?);
+        fill(&mut self.contents, self.alloc, hash_of(key), key, value)?;
         Ok(None)
     }
 
@@ -148,13 +183,13 @@ impl<K: Ord + Hash + Copy, V> Map<K, V> {
         ensures absent { OnErr result (lookup (K.eq key) self.old.entries ≡ None) }
         ensures refused { OnErr result (self.new ≡ self.old) }
         ensures returned { IfErr result (λ back. back ≡ value) }
-        ensures room { self.old.spare ≤ self.new.spare + 1 }
+        ensures room { IfOk result (λ back. self.old.spare ≤ self.new.spare + (if is_some back then 0 else 1)) }
         ensures succeeds { 0 < self.old.spare → IsOk result }
     {
-        if let Some(table) = &mut self.table {
+        if let Contents::Filled(table) = &mut self.contents {
             return table.insert_absent(key, value);
         }
-        self.table = Some(Table::with_one(self.alloc, &mut self.room, hash_of(key), key, value)?);
+        fill(&mut self.contents, self.alloc, hash_of(key), key, value)?;
         Ok(None)
     }
 
@@ -168,15 +203,14 @@ impl<K: Ord + Hash + Copy, V> Map<K, V> {
         ensures len { OnOk result (length self.new.entries ≡ length self.old.entries + 1) }
         ensures refused { OnErr result (self.new ≡ self.old) }
         ensures returned { IfErr result (λ back. back ≡ value) }
-        ensures room { self.old.spare ≤ self.new.spare + 1 }
+        ensures room { OnOk result (self.old.spare ≤ self.new.spare + 1) }
         ensures succeeds { 0 < self.old.spare → IsOk result }
     {
         let hash = hash_of(key);
-        if let Some(table) = &mut self.table {
+        if let Contents::Filled(table) = &mut self.contents {
             return table.add(hash, key, value);
         }
-        self.table = Some(Table::with_one(self.alloc, &mut self.room, hash, key, value)?);
-        Ok(())
+        fill(&mut self.contents, self.alloc, hash, key, value)
     }
 
     /// Removes a key, and answers its value. Takes no memory.
@@ -187,9 +221,9 @@ impl<K: Ord + Hash + Copy, V> Map<K, V> {
         ensures len { length self.new.entries + (if is_some result then 1 else 0) ≡ length self.old.entries }
         ensures room { self.old.spare ≤ self.new.spare }
     {
-        match &mut self.table {
-            Some(table) => table.remove(key),
-            None => None,
+        match &mut self.contents {
+            Contents::Filled(table) => table.remove(key),
+            _ => None,
         }
     }
 
@@ -198,9 +232,9 @@ impl<K: Ord + Hash + Copy, V> Map<K, V> {
     pub fn iter(&self) -> Option<Iter<'_, K, V>>
         ensures { unwrap_or result [] ≡ self.now.entries }
     {
-        match &self.table {
-            Some(table) => Some(table.iter()),
-            None => None,
+        match &self.contents {
+            Contents::Filled(table) => Some(table.iter()),
+            _ => None,
         }
     }
 }

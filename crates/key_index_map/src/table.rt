@@ -4,7 +4,7 @@ ghost use Rattle.std.specs.Borrow.{sem};
 ghost use Rattle.std.specs.Iterator.{YieldsFirstRef, item_count};
 ghost use Rattle.std.specs.Map.{lookup};
 ghost use Rattle.std.specs.Option.{IsSome, option_copied, option_copied_mut};
-ghost use Rattle.key_index_map.specs.Table.{Cells, IsAt, IsFreeIn, IsFirstFree, IsTagWithout, NoneIn, Found, Seen, Stopped, Updates, hash_of, tag_of, home, home_in, held, is_held, limit, pairs, with_value};
+ghost use Rattle.key_index_map.specs.Table.{Cells, IsAt, IsFreeIn, IsFirstFree, IsTagWithout, IsPlace, NoneIn, Found, Seen, Stopped, Updates, hash_of, tag_of, home, home_in, held, is_held, limit, pairs, with_value};
 
 use crate::room::{Block, Deed, free, release, row_of, try_allocate};
 use core::slots::Slots;
@@ -135,6 +135,15 @@ enum Search {
     Onward,
 }
 
+/// Where the pair of a key stands or may stand.
+#[derive(Drop)]
+enum Place {
+    /// In this cell.
+    Held(usize),
+    /// No cell has it. This one is free.
+    Free(usize),
+}
+
 /// Cells for pairs, before the first one comes.
 pub(crate) struct Room<K, V> {
     tags: Vec<u8>,
@@ -174,6 +183,11 @@ impl<K, V> Room<K, V> {
             groups,
             cells,
         })
+    }
+
+    /// The fewest cells.
+    pub(crate) fn fewest(alloc: Global) -> Result<Room<K, V>, AllocError> {
+        Room::with_cells(alloc, FEWEST)
     }
 
     /// Cells for so many pairs.
@@ -581,33 +595,17 @@ impl<K: Ord + Hash + Copy, V> Table<K, V> {
         Ok(())
     }
 
-    /// A table of one pair, in the room if there is one, which is left then. A refusal hands the value back and changes nothing.
+    /// A table of one pair, in so much room, which must be for one at least.
     #[inline(never)]
-    pub(crate) fn with_one(
-        alloc: Global,
-        room: &mut Option<Room<K, V>>,
-        hash: u64,
-        key: K,
-        value: V,
-    ) -> Result<Table<K, V>, V>
+    pub(crate) fn with_one(room: Room<K, V>, hash: u64, key: K, value: V) -> Table<K, V>
         requires hash { hash ≡ hash_of (K.hash_input key) }
-        ensures updates { IfOk result (λ t. Updates K.eq [] (pairs t) key (Some value)) }
-        ensures len { IfOk result (λ t. length (pairs t) ≡ 1) }
-        ensures refused { OnErr result (room.new ≡ room.old) }
-        ensures returned { IfErr result (λ back. back ≡ value) }
-        ensures room { IfOk result (λ t. unwrap_or room.old 0 ≤ t.spare + 1) }
-        ensures succeeds { 0 < unwrap_or room.old 0 → IsOk result }
+        ensures updates { Updates K.eq [] (pairs result) key (Some value) }
+        ensures len { length (pairs result) ≡ 1 }
+        ensures room { room ≤ result.spare + 1 }
     {
-        let room = match room.take() {
-            Some(room) => room,
-            None => match Room::with_cells(alloc, FEWEST) {
-                Ok(room) => room,
-                Err(_) => return Err(value),
-            },
-        };
         let mut table = room.into_table();
         table.put(hash, (key, value));
-        Ok(table)
+        table
     }
 
     /// Puts another value in the cell of a key.
@@ -622,51 +620,42 @@ impl<K: Ord + Hash + Copy, V> Table<K, V> {
         replace(self.value_mut(cell, key), value)
     }
 
-    /// `insert`, by a search through all groups.
+    /// `place_for`, by a search through all groups.
     #[inline(never)]
-    fn insert_by_search(&mut self, hash: u64, key: K, value: V) -> Result<Option<V>, V>
+    fn place_by_search(&mut self, hash: u64, key: K) -> Result<Place, AllocError>
         requires { hash ≡ hash_of (K.hash_input key) }
-        ensures old { IfOk result (λ old. old ≡ lookup (K.eq key) (pairs self.old)) }
-        ensures updates { OnOk result (Updates K.eq (pairs self.old) (pairs self.new) key (Some value)) }
-        ensures len { IfOk result (λ old.
-            length (pairs self.new) ≡ length (pairs self.old) + (if is_some old then 0 else 1)) }
+        ensures values { (q : K) → lookup (K.eq q) (pairs self.new) ≡ lookup (K.eq q) (pairs self.old) }
+        ensures len { length (pairs self.new) ≡ length (pairs self.old) }
+        ensures place { IfOk result (λ place. IsPlace K.eq self.new hash key place) }
+        ensures room { self.old.spare ≤ self.new.spare }
         ensures absent { OnErr result (lookup (K.eq key) (pairs self.old) ≡ None) }
         ensures refused { OnErr result (self.new ≡ self.old) }
-        ensures returned { IfErr result (λ back. back ≡ value) }
-        ensures room { self.old.spare ≤ self.new.spare + 1 }
         ensures succeeds { 0 < self.old.spare → IsOk result }
     {
         if let Some(cell) = self.find_in_all(hash, key) {
-            return Ok(Some(self.set(cell, key, value)));
+            return Ok(Place::Held(cell));
         }
-        match self.add(hash, key, value) {
-            Ok(()) => Ok(None),
-            Err(value) => Err(value),
-        }
+        self.make_room()?;
+        Ok(Place::Free(self.free_for(hash)))
     }
 
-    /// `insert_absent`, by a search through all groups.
-    #[inline(never)]
-    fn insert_absent_by_search(&mut self, hash: u64, key: K, value: V) -> Result<Option<V>, V>
-        requires { hash ≡ hash_of (K.hash_input key) }
-        ensures back { IfOk result (λ back.
-            back ≡ (if is_some (lookup (K.eq key) (pairs self.old)) then Some value else None)) }
-        ensures updates { OnOk result (Updates K.eq (pairs self.old) (pairs self.new) key
-            (Some (unwrap_or (lookup (K.eq key) (pairs self.old)) value))) }
-        ensures len { OnOk result (length (pairs self.new)
-            ≡ length (pairs self.old) + (if is_some (lookup (K.eq key) (pairs self.old)) then 0 else 1)) }
-        ensures absent { OnErr result (lookup (K.eq key) (pairs self.old) ≡ None) }
+    /// Where the pair of a key stands, or else a free cell for it, for which there is room then. A refusal, which comes at an absent key
+    /// alone, changes nothing.
+    #[inline(always)]
+    fn place_for(&mut self, hash: u64, key: &K) -> Result<Place, AllocError>
+        requires { hash ≡ hash_of (K.hash_input key.now) }
+        ensures values { (q : K) → lookup (K.eq q) (pairs self.new) ≡ lookup (K.eq q) (pairs self.old) }
+        ensures len { length (pairs self.new) ≡ length (pairs self.old) }
+        ensures place { IfOk result (λ place. IsPlace K.eq self.new hash key.now place) }
+        ensures room { self.old.spare ≤ self.new.spare }
+        ensures absent { OnErr result (lookup (K.eq key.now) (pairs self.old) ≡ None) }
         ensures refused { OnErr result (self.new ≡ self.old) }
-        ensures returned { IfErr result (λ back. back ≡ value) }
-        ensures room { self.old.spare ≤ self.new.spare + 1 }
         ensures succeeds { 0 < self.old.spare → IsOk result }
     {
-        if self.find_in_all(hash, key).is_some() {
-            return Ok(Some(value));
-        }
-        match self.add(hash, key, value) {
-            Ok(()) => Ok(None),
-            Err(value) => Err(value),
+        match self.look(hash, key) {
+            Search::Found(cell) => Ok(Place::Held(cell)),
+            Search::Absent(cell) if 0 < self.left => Ok(Place::Free(cell)),
+            _ => self.place_by_search(hash, *key),
         }
     }
 
@@ -681,17 +670,17 @@ impl<K: Ord + Hash + Copy, V> Table<K, V> {
         ensures absent { OnErr result (lookup (K.eq key) (pairs self.old) ≡ None) }
         ensures refused { OnErr result (self.new ≡ self.old) }
         ensures returned { IfErr result (λ back. back ≡ value) }
-        ensures room { self.old.spare ≤ self.new.spare + 1 }
+        ensures room { IfOk result (λ old. self.old.spare ≤ self.new.spare + (if is_some old then 0 else 1)) }
         ensures succeeds { 0 < self.old.spare → IsOk result }
     {
         let hash = hash_of(key);
-        match self.look(hash, &key) {
-            Search::Found(cell) => Ok(Some(self.set(cell, key, value))),
-            Search::Absent(cell) if 0 < self.left => {
+        match self.place_for(hash, &key) {
+            Ok(Place::Held(cell)) => Ok(Some(self.set(cell, key, value))),
+            Ok(Place::Free(cell)) => {
                 self.put_at(cell, hash, (key, value));
                 Ok(None)
             }
-            _ => self.insert_by_search(hash, key, value),
+            Err(_) => Err(value),
         }
     }
 
@@ -708,17 +697,17 @@ impl<K: Ord + Hash + Copy, V> Table<K, V> {
         ensures absent { OnErr result (lookup (K.eq key) (pairs self.old) ≡ None) }
         ensures refused { OnErr result (self.new ≡ self.old) }
         ensures returned { IfErr result (λ back. back ≡ value) }
-        ensures room { self.old.spare ≤ self.new.spare + 1 }
+        ensures room { IfOk result (λ back. self.old.spare ≤ self.new.spare + (if is_some back then 0 else 1)) }
         ensures succeeds { 0 < self.old.spare → IsOk result }
     {
         let hash = hash_of(key);
-        match self.look(hash, &key) {
-            Search::Found(_) => Ok(Some(value)),
-            Search::Absent(cell) if 0 < self.left => {
+        match self.place_for(hash, &key) {
+            Ok(Place::Held(_)) => Ok(Some(value)),
+            Ok(Place::Free(cell)) => {
                 self.put_at(cell, hash, (key, value));
                 Ok(None)
             }
-            _ => self.insert_absent_by_search(hash, key, value),
+            Err(_) => Err(value),
         }
     }
 
