@@ -8,17 +8,18 @@
 --     value_of              the value that entries have at a key
 --     SameBut, Sets         at each key but k new has what old has; so it is, and it has w at k (None: nothing)
 --     IsLinked              each key with a tail has a first value, and there are as many first values as keys in the content
+--     KeptLists             lists by key, and how many more keys there is room for; added: how many keys more a value at a key makes
 --     Kept                  a flat index as its storage's contracts see it: its translator, what it holds, and how many held values were
---                           ever taken out
+--                           ever taken out, and the room
 --     view_of               the view of it, by what its translator makes of a key
 --     IsCounted             the content is a map of lists that are not empty, and `items` is how many values it has
-use Rattle.std.specs.Prelude.{Box, ◌≡◌, ℕ, ◌-◌, Bool, true, false, if◌then◌else◌, List, [], ◌∷◌, length, Option, Some, None, is_some, unwrap_or}
+use Rattle.std.specs.Prelude.{Box, ◌≡◌, ℕ, ◌-◌, Bool, true, false, nat_eq, if◌then◌else◌, List, [], ◌∷◌, length, Option, Some, None, is_some, unwrap_or}
 use Rattle.std.specs.Option.{option_map}
 use Rattle.std.specs.declared.cmp.Ordering.{Ordering}
 use Rattle.std.specs.Ordering.{eq_by_cmp}
 use Rattle.std.specs.Map.{lookup}
 use Rattle.std.specs.declared.vec.Vec.{Vec}
-use Rattle.key_index_flat.specs.Content.{Content, IsLawful, with_list, key_count, item_count}
+use Rattle.key_index_flat.specs.Content.{Content, IsLawful, list_at, with_list, key_count, item_count}
 use Rattle.key_index_flat.specs.Retention.{AsksInTurn}
 use Rattle.key_index_map.specs.Table.{Entries}
 use Rattle.key_index_flat.specs.declared.index.storage.tails.TailRetained.{TailRetained}
@@ -68,10 +69,18 @@ pub record IsLinked {K V : Type 0} (cmp : K → K → Ordering) (heads : List (K
   pub sized : length heads ≡ key_count (content_of cmp heads tail)
   pub headed : (q : K) → is_some (value_of cmp heads q) ≡ false → length (tail q) ≡ 0
 
+pub record KeptLists (K V : Type 0) : Type 0 where
+  pub content : Content K V
+  pub spare : ℕ
+
+abbrev pub added : {K V : Type 0} → (K → K → Ordering) → Content K V → K → ℕ
+added cmp content k = if nat_eq (length (list_at cmp content k)) 0 then 1 else 0
+
 pub record Kept (T K V : Type 0) : Type 0 where
   pub translator : T
   pub content : Content K V
   pub pruned : ℕ
+  pub spare : ℕ
 
 abbrev pub view_of : {T K V : Type 0} → (T → List ℕ → K) → Kept T K V → View K V
 view_of translated s = record {

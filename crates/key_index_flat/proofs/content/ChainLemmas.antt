@@ -1,5 +1,5 @@
 -- On the content that first values and tails stand for.
-use Rattle.std.proofs.Common.{◌≡◌, ℕ, zero, suc, ◌+◌, ◌-◌, ◌<◌, Bool, true, false, cond, T, List, [], ◌∷◌, ◌++◌, length, insert, slice_get, Option, Some, None, unwrap_or, Result, Ok, Err, is_some, OnOk, OnErr, refl, sym, ap, subst, ◌∙◌, arith, add-zero}
+use Rattle.std.proofs.Common.{◌≡◌, ℕ, zero, suc, ◌+◌, ◌-◌, ◌<◌, nat_eq, Bool, true, false, cond, T, List, [], ◌∷◌, ◌++◌, length, insert, slice_get, Option, Some, None, unwrap_or, Result, Ok, Err, is_some, OnOk, OnErr, refl, sym, ap, subst, ◌∙◌, arith, add-zero}
 use Rattle.std.proofs.lemmas.List.{nil_from_length}
 use Rattle.std.specs.declared.cmp.Ordering.{Ordering}
 use Rattle.std.specs.declared.cmp.Ordering.TheVariants.{Equal}
@@ -7,7 +7,7 @@ use Rattle.std.specs.Ordering.{eq_by_cmp}
 use Rattle.std.specs.Cmp.{IsTotalOrder}
 use Rattle.std.specs.Map.{lookup}
 use Rattle.key_index_flat.specs.Content.{Content, key_count, list_at, with_list}
-use Rattle.key_index_flat.specs.Storage.{list_of, content_of}
+use Rattle.key_index_flat.specs.Storage.{added, list_of, content_of}
 use Rattle.key_index_flat.specs.Storage.{value_of, Sets, IsLinked}
 use Rattle.key_index_flat.specs.laws.Laws.{IsLawful-with_list, IsLawful-content_of}
 use Rattle.std.proofs.lemmas.List.Edits.{insert_end}
@@ -75,6 +75,16 @@ module _ {K V : Type 0} {cmp : K → K → Ordering} (o : IsTotalOrder cmp) wher
           | true ↦ λ p. ap (λ x. e.1 ∷ tail x) (sym (exact q e.0 (Equal-is_eq _ p)))
           | false ↦ λ p. list_at-content_of es tail q
         ] refl
+
+    -- a value at a key without a first one makes a key more
+    pub added-none : (heads : List (K × V)) (tail : K → List V) (k : K) → value_of cmp heads k ≡ None → added cmp (content_of cmp heads tail) k ≡ 1
+    added-none heads tail k none = ap (λ l. cond (nat_eq (length l) 0) 1 0) (list_at-content_of heads tail k ∙ ap (λ w. list_of w (tail k)) none)
+
+    -- a key with a first value has a list
+    pub list_at-some : (heads : List (K × V)) (tail : K → List V) (k : K) → is_some (value_of cmp heads k) ≡ true → list_at cmp (content_of cmp heads tail) k ≡ [] → ⊥
+    list_at-some heads tail k held empty =
+        let longer : 0 ≡ 1 + length (tail k) = sym (ap (λ l. length l) empty) ∙ ap (λ l. length l) (list_at-content_of heads tail k) ∙ length-list_of_some (value_of cmp heads k) (tail k) held in
+        omega (arith, longer)
 
     -- where the first value and the tail of one key change, the content changes there
     pub content_of-changed : (heads news : List (K × V)) (tail later : K → List V) (k : K) (l : List V)

@@ -1,10 +1,10 @@
 //! What a flat index keeps, over any map of first values.
-ghost use Rattle.std.specs.Prelude.{◌≡◌, ◌+◌, ◌<◌, ◌≤◌, [], ◌∷◌, length, slice_get, slice_set, insert, remove, Some, IfOk, IfErr, OnOk, OnErr};
+ghost use Rattle.std.specs.Prelude.{◌≡◌, ◌+◌, ◌<◌, ◌≤◌, [], ◌∷◌, length, slice_get, slice_set, insert, remove, Some, IfOk, IfErr, IsOk, OnOk, OnErr};
 ghost use Rattle.std.specs.Fn.{CalledAt};
 ghost use Rattle.key_index_flat.specs.Content.{item_count, key_count, list_at, IsLawful};
 ghost use Rattle.key_index_flat.specs.Fault.{growth_fault};
 ghost use Rattle.key_index_flat.specs.Neighbours.{first_list, last_list, next_list, prev_list};
-ghost use Rattle.key_index_flat.specs.Storage.{Kept, IsCounted, view_of};
+ghost use Rattle.key_index_flat.specs.Storage.{Kept, IsCounted, added, view_of};
 ghost use Rattle.key_index_flat.specs.View.{run_at, with_run, with_edit, with_pruned, with_slot, InsertsAndRetains, Retains};
 ghost use Rattle.key_index_flat.specs.Values.{values_of, VisitsEach};
 
@@ -37,9 +37,14 @@ pub(crate) struct Storage<T: Translator, V, M: Heads<T::Key, V>> {
 impl<T: Translator, V, M: Heads<T::Key, V>> Model for Storage<T, V, M> {
     ghost Value = { Kept T T.Key V };
 
-    ghost view = { λ s. record { translator = s.translator; content = s.chains; pruned = s.pruned } };
+    ghost view = { λ s. record {
+      translator = s.translator;
+      content = s.chains.content;
+      pruned = s.pruned;
+      spare = s.chains.spare;
+    } };
 
-    ghost invariant = { λ s. IsCounted T.Key.cmp s.chains s.items };
+    ghost invariant = { λ s. IsCounted T.Key.cmp s.chains.content s.items };
 }
 
 impl<T: Translator, V: Drop, M: Heads<T::Key, V>> Storage<T, V, M> {
@@ -99,7 +104,10 @@ impl<T: Translator, V: Drop, M: Heads<T::Key, V>> Storage<T, V, M> {
         ensures accepted { OnOk result (view_of T.translated self.new
             ≡ with_edit T.Key.cmp (view_of T.translated self.old) slot (λ l. value ∷ l)) }
         ensures room { OnOk result (item_count self.old.content < usize.MAX) }
-        ensures refused { OnErr result (self.new ≡ self.old) }
+        ensures refused { OnErr result (view_of T.translated self.new ≡ view_of T.translated self.old) }
+        ensures spare { self.old.spare ≤ self.new.spare + added T.Key.cmp self.old.content slot }
+        ensures succeeds { 0 < self.old.spare → list_at T.Key.cmp self.old.content slot ≡ []
+            → item_count self.old.content < usize.MAX → IsOk result }
         ensures lawful { IsLawful T.Key.cmp self.new.content }
         ensures returned { IfErr result (λ r. r.value ≡ value) }
         ensures fault { IfErr result (λ r. r.fault ≡ growth_fault (item_count self.old.content)) }
@@ -136,7 +144,7 @@ impl<T: Translator, V: Drop, M: Heads<T::Key, V>> Storage<T, V, M> {
         ensures accepted { OnOk result (view_of T.translated self.new
             ≡ with_edit T.Key.cmp (view_of T.translated self.old) slot (λ l. insert l place value)) }
         ensures room { OnOk result (item_count self.old.content < usize.MAX) }
-        ensures refused { OnErr result (self.new ≡ self.old) }
+        ensures refused { OnErr result (view_of T.translated self.new ≡ view_of T.translated self.old) }
         ensures lawful { IsLawful T.Key.cmp self.new.content }
         ensures returned { IfErr result (λ r. r.value ≡ value) }
         ensures fault { IfErr result (λ r. r.fault ≡ growth_fault (item_count self.old.content)) }
@@ -155,12 +163,13 @@ impl<T: Translator, V: Drop, M: Heads<T::Key, V>> Storage<T, V, M> {
 
     /// Puts a value under an index key that has none, and tells how many values the index key had.
     pub(crate) fn insert_absent(&mut self, slot: T::Key, value: V) -> Result<usize, Refused<V>>
-        ensures found { IfOk result (λ n. 0 < n → self.new ≡ self.old) }
+        ensures found { IfOk result (λ n.
+            0 < n → view_of T.translated self.new ≡ view_of T.translated self.old) }
         ensures inserted { IfOk result (λ n. n ≡ 0 → view_of T.translated self.new
             ≡ with_run T.Key.cmp (view_of T.translated self.old) slot (value ∷ [])) }
         ensures len { IfOk result (λ n. n ≡ length (list_at T.Key.cmp self.old.content slot)) }
         ensures room { OnOk result (item_count self.old.content < usize.MAX) }
-        ensures refused { OnErr result (self.new ≡ self.old) }
+        ensures refused { OnErr result (view_of T.translated self.new ≡ view_of T.translated self.old) }
         ensures lawful { IsLawful T.Key.cmp self.new.content }
         ensures returned { IfErr result (λ r. r.value ≡ value) }
         ensures fault { IfErr result (λ r. r.fault ≡ growth_fault (item_count self.old.content)) }
@@ -230,7 +239,7 @@ impl<T: Translator, V: Drop, M: Heads<T::Key, V>> Storage<T, V, M> {
         ensures left { IfOk result (λ told. told.left
             ≡ length (run_at T.Key.cmp (view_of T.translated self.new) slot)) }
         ensures room { OnOk result (item_count self.old.content < usize.MAX) }
-        ensures refused { OnErr result (self.new ≡ self.old) }
+        ensures refused { OnErr result (view_of T.translated self.new ≡ view_of T.translated self.old) }
         ensures lawful { IsLawful T.Key.cmp self.new.content }
         ensures returned { IfErr result (λ r. r.value ≡ value) }
         ensures fault { IfErr result (λ r. r.fault ≡ growth_fault (item_count self.old.content)) }
@@ -326,7 +335,10 @@ impl<T: Translator, V: Drop, M: OrderedHeads<T::Key, V>> Storage<T, V, M> {
 impl<T: Translator, V: Drop> Storage<T, V, Map<T::Key, V>> {
     /// Makes room for so many more index keys.
     pub(crate) fn reserve(&mut self, additional: usize) -> Result<(), Fault>
-        ensures same { self.new ≡ self.old }
+        ensures same { view_of T.translated self.new ≡ view_of T.translated self.old }
+        ensures room { OnOk result (additional ≤ self.new.spare) }
+        ensures spare { self.old.spare ≤ self.new.spare }
+        ensures succeeds { additional ≤ self.old.spare → IsOk result }
         ensures fault { IfErr result (λ f. f ≡ Fault.Memory) }
     {
         match self.chains.reserve(additional) {

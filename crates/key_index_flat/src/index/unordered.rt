@@ -22,8 +22,8 @@ pub struct Index<T: Translator, V> {
 }
 
 impl<T: Translator, V: Drop> Index<T, V> {
-    ghost use Rattle.key_index_flat.specs.Unordered.{view};
-    ghost use Rattle.std.specs.Prelude.{◌≡◌, IsOk};
+    ghost use Rattle.key_index_flat.specs.Unordered.{spare, view};
+    ghost use Rattle.std.specs.Prelude.{◌≡◌, ◌≤◌, IsOk, OnOk};
     ghost use Rattle.key_index_flat.specs.View.{with_slot};
     ghost use Rattle.key_index_flat.specs.Values.{values_of, VisitsEach};
     ghost use Rattle.key_index_flat.specs.Visits.{ByPlace, IsBatch, Visits};
@@ -55,9 +55,13 @@ impl<T: Translator, V: Drop> Index<T, V> {
         self.storage.for_each_value(&mut visit);
     }
 
-    /// Makes room for so many more index keys, so that their first values take no more memory. It changes nothing that contracts see.
+    /// Makes room for the first values of so many more index keys. While there is room, `insert` succeeds at a key without values. Other
+    /// calls may use the room up.
     pub fn reserve(&mut self, additional: usize) -> Result<(), Fault>
         ensures same { view self.new ≡ view self.old }
+        ensures room { OnOk result (additional ≤ spare self.new) }
+        ensures spare { spare self.old ≤ spare self.new }
+        ensures succeeds { additional ≤ spare self.old → IsOk result }
         ensures fault { IfErr result (λ f. f ≡ Fault.Memory) }
     {
         self.storage.reserve(additional)
@@ -159,8 +163,11 @@ impl<T: Translator, V: Drop> Search for Index<T, V> {
 }
 
 impl<T: Translator, V: Drop> Unordered for Index<T, V> {
-    ghost use Rattle.key_index_flat.specs.Unordered.{view};
+    ghost use Rattle.key_index_flat.specs.Unordered.{spare, view};
+    ghost use Rattle.key_index_flat.specs.View.{after_insert, growth_fault_in, items_in, run_of};
     ghost use Rattle.key_index_flat.specs.Visits.{ByPlace, IsBatch, Visits};
+    ghost use Rattle.key_index_flat.specs.Storage.{added};
+    ghost use Rattle.std.specs.Prelude.{◌≡◌, ◌+◌, ◌<◌, ◌≤◌, OnOk, OnErr};
 
     ghost INSERT_FIRST = { true };
 
@@ -193,8 +200,19 @@ impl<T: Translator, V: Drop> Unordered for Index<T, V> {
         Ok(())
     }
 
+    /// It succeeds at a key without values where there is room, and fewer than `usize::MAX` values are held.
     #[inline]
-    fn insert(&mut self, key: &[u8], value: V) -> Result<(), Refused<V>> {
+    fn insert(&mut self, key: &[u8], value: V) -> Result<(), Refused<V>>
+        ensures accepted { OnOk result (view self.new ≡ after_insert T.Key.cmp true (view self.old) key.now value) }
+        ensures room { OnOk result (items_in (view self.old) < usize.MAX) }
+        ensures refused { OnErr result (view self.new ≡ view self.old) }
+        ensures returned { IfErr result (λ r. r.value ≡ value) }
+        ensures fault { IfErr result (λ r. r.fault ≡ growth_fault_in (view self.old)) }
+        ensures spare { spare self.old
+            ≤ spare self.new + added T.Key.cmp (view self.old).content ((view self.old).slot key.now) }
+        ensures succeeds { 0 < spare self.old → run_of T.Key.cmp (view self.old) key.now ≡ []
+            → items_in (view self.old) < usize.MAX → IsOk result }
+    {
         let slot = self.slot_of(key);
         self.storage.insert(slot, value)
     }

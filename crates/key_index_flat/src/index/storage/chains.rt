@@ -1,14 +1,14 @@
 //! The lists of an index: the first value of each index key in one map, and in another the tails of the lists that have more. An entry
 //! whose key has one value then costs that key and that value alone.
-ghost use Rattle.std.specs.Prelude.{◌≡◌, ◌+◌, ◌<◌, ◌≤◌, true, false, if◌then◌else◌, List, [], ◌∷◌, ◌++◌, length, slice_get, slice_set, insert, remove, Some, IfOk, IfErr, IfSome, IfNone, OnOk, OnErr};
+ghost use Rattle.std.specs.Prelude.{◌≡◌, ◌+◌, ◌<◌, ◌≤◌, true, false, if◌then◌else◌, List, [], ◌∷◌, ◌++◌, length, slice_get, slice_set, insert, remove, Some, IfOk, IfErr, IfSome, IfNone, IsOk, OnOk, OnErr};
 ghost use Rattle.std.specs.Fn.{CalledAt};
 ghost use Rattle.std.specs.List.Retain.{IsFiltered};
 ghost use Rattle.std.specs.Map.Iter.{deref_pair};
 ghost use Rattle.std.specs.Option.{option_map};
-ghost use Rattle.key_index_flat.specs.Content.{Content, key_count, list_at, with_list, with_list_by, IsLawful};
+ghost use Rattle.key_index_flat.specs.Content.{key_count, list_at, with_list, with_list_by, IsLawful};
 ghost use Rattle.key_index_flat.specs.Neighbours.{entries_above, entries_below, first_list, last_list, next_list, prev_list};
 ghost use Rattle.key_index_flat.specs.Retention.{AsksBehind};
-ghost use Rattle.key_index_flat.specs.Storage.{content_of, list_of, tail_at, IsLinked};
+ghost use Rattle.key_index_flat.specs.Storage.{KeptLists, added, content_of, list_of, tail_at, IsLinked};
 ghost use Rattle.key_index_flat.specs.Values.{values_of, VisitsEach};
 ghost use Rattle.key_index_flat.specs.View.{put_value};
 
@@ -35,9 +35,12 @@ pub struct Chains<T: Translator, V, M: Heads<T::Key, V>, E: End> {
 }
 
 impl<T: Translator, V, M: Heads<T::Key, V>, E: End> Model for Chains<T, V, M, E> {
-    ghost Value = { Content T.Key V };
+    ghost Value = { KeptLists T.Key V };
 
-    ghost view = { λ c. content_of T.Key.cmp (M.entries c.heads) (tail_at E.FIRST T.Key.eq c.tails.map) };
+    ghost view = { λ c. record {
+      content = content_of T.Key.cmp (M.entries c.heads) (tail_at E.FIRST T.Key.eq c.tails.map);
+      spare = M.spare c.heads;
+    } };
 
     ghost invariant = { λ c. IsLinked T.Key.cmp (M.entries c.heads) (tail_at E.FIRST T.Key.eq c.tails.map) };
 }
@@ -46,7 +49,7 @@ impl<T: Translator, V: Drop, M: Heads<T::Key, V>, E: End> Chains<T, V, M, E> {
     /// No values, over an empty map of first values.
     pub fn new(alloc: Global, heads: M) -> Chains<T, V, M, E>
         requires { M.entries heads ≡ [] }
-        ensures content { result ≡ [] }
+        ensures content { result.content ≡ [] }
     {
         Chains {
             heads,
@@ -63,7 +66,7 @@ impl<T: Translator, V: Drop, M: Heads<T::Key, V>, E: End> Chains<T, V, M, E> {
 
     #[inline(always)]
     pub fn get(&self, slot: T::Key) -> Values<'_, V>
-        ensures { result ≡ list_at T.Key.cmp self.now slot }
+        ensures { result ≡ list_at T.Key.cmp self.now.content slot }
     {
         match self.heads.get(&slot) {
             Some(head) => self.tails.list(slot, head),
@@ -73,8 +76,8 @@ impl<T: Translator, V: Drop, M: Heads<T::Key, V>, E: End> Chains<T, V, M, E> {
 
     #[inline(always)]
     pub fn run_len(&self, slot: T::Key) -> usize
-        ensures len { result ≡ length (list_at T.Key.cmp self.now slot) }
-        ensures lawful { IsLawful T.Key.cmp self.now }
+        ensures len { result ≡ length (list_at T.Key.cmp self.now.content slot) }
+        ensures lawful { IsLawful T.Key.cmp self.now.content }
     {
         match self.heads.get(&slot) {
             Some(_) => 1 + self.tails.len(slot),
@@ -84,8 +87,8 @@ impl<T: Translator, V: Drop, M: Heads<T::Key, V>, E: End> Chains<T, V, M, E> {
 
     #[inline(always)]
     pub fn value_at(&self, slot: T::Key, place: usize) -> &V
-        requires { place < length (list_at T.Key.cmp self.now slot) }
-        ensures { slice_get (list_at T.Key.cmp self.now slot) place ≡ Some result.now }
+        requires { place < length (list_at T.Key.cmp self.now.content slot) }
+        ensures { slice_get (list_at T.Key.cmp self.now.content slot) place ≡ Some result.now }
     {
         if place == 0 {
             return self.heads.get(&slot).unwrap();
@@ -97,8 +100,11 @@ impl<T: Translator, V: Drop, M: Heads<T::Key, V>, E: End> Chains<T, V, M, E> {
     /// that finds no room in the tail then goes back to its place, which takes no memory.
     #[inline]
     fn insert_first(&mut self, slot: T::Key, value: V) -> Result<(), V>
-        ensures accepted { OnOk result (self.new ≡ with_list_by T.Key.cmp self.old slot (λ l. value ∷ l)) }
-        ensures refused { OnErr result (self.new ≡ self.old) }
+        ensures accepted { OnOk result (self.new.content
+            ≡ with_list_by T.Key.cmp self.old.content slot (λ l. value ∷ l)) }
+        ensures refused { OnErr result (self.new.content ≡ self.old.content) }
+        ensures room { self.old.spare ≤ self.new.spare + added T.Key.cmp self.old.content slot }
+        ensures succeeds { 0 < self.old.spare → list_at T.Key.cmp self.old.content slot ≡ [] → IsOk result }
         ensures returned { IfErr result (λ back. back ≡ value) }
     {
         let Some(displaced) = self.heads.insert(slot, value)? else {
@@ -106,15 +112,18 @@ impl<T: Translator, V: Drop, M: Heads<T::Key, V>, E: End> Chains<T, V, M, E> {
         };
         match self.tails.insert_at(self.alloc, slot, Some(0), displaced) {
             Ok(()) => Ok(()),
-            Err(displaced) => { Err(self.heads.replace(&slot, displaced)) }
+            Err(displaced) => Err(self.heads.replace(&slot, displaced)),
         }
     }
 
     /// Puts a value behind the list at an index key.
     #[inline]
     fn insert_last(&mut self, slot: T::Key, value: V) -> Result<(), V>
-        ensures accepted { OnOk result (self.new ≡ with_list_by T.Key.cmp self.old slot (λ l. l ++ value ∷ [])) }
-        ensures refused { OnErr result (self.new ≡ self.old) }
+        ensures accepted { OnOk result (self.new.content
+            ≡ with_list_by T.Key.cmp self.old.content slot (λ l. l ++ value ∷ [])) }
+        ensures refused { OnErr result (self.new.content ≡ self.old.content) }
+        ensures room { self.old.spare ≤ self.new.spare + added T.Key.cmp self.old.content slot }
+        ensures succeeds { 0 < self.old.spare → list_at T.Key.cmp self.old.content slot ≡ [] → IsOk result }
         ensures returned { IfErr result (λ back. back ≡ value) }
     {
         let Some(value) = self.heads.insert_absent(slot, value)? else {
@@ -126,8 +135,11 @@ impl<T: Translator, V: Drop, M: Heads<T::Key, V>, E: End> Chains<T, V, M, E> {
     /// Puts a value in at its end of the list at an index key.
     #[inline]
     pub fn insert(&mut self, slot: T::Key, value: V) -> Result<(), V>
-        ensures accepted { OnOk result (self.new ≡ with_list_by T.Key.cmp self.old slot (put_value E.FIRST value)) }
-        ensures refused { OnErr result (self.new ≡ self.old) }
+        ensures accepted { OnOk result (self.new.content
+            ≡ with_list_by T.Key.cmp self.old.content slot (put_value E.FIRST value)) }
+        ensures refused { OnErr result (self.new.content ≡ self.old.content) }
+        ensures room { self.old.spare ≤ self.new.spare + added T.Key.cmp self.old.content slot }
+        ensures succeeds { 0 < self.old.spare → list_at T.Key.cmp self.old.content slot ≡ [] → IsOk result }
         ensures returned { IfErr result (λ back. back ≡ value) }
     {
         if E::is_first() {
@@ -141,10 +153,11 @@ impl<T: Translator, V: Drop, M: Heads<T::Key, V>, E: End> Chains<T, V, M, E> {
     /// also makes its place.
     #[inline]
     pub fn insert_absent(&mut self, slot: T::Key, value: V) -> Result<usize, V>
-        ensures found { IfOk result (λ n. 0 < n → self.new ≡ self.old) }
-        ensures inserted { IfOk result (λ n. n ≡ 0 → self.new ≡ with_list T.Key.cmp self.old slot (value ∷ [])) }
-        ensures len { IfOk result (λ n. n ≡ length (list_at T.Key.cmp self.old slot)) }
-        ensures refused { OnErr result (self.new ≡ self.old) }
+        ensures found { IfOk result (λ n. 0 < n → self.new.content ≡ self.old.content) }
+        ensures inserted { IfOk result (λ n. n ≡ 0
+            → self.new.content ≡ with_list T.Key.cmp self.old.content slot (value ∷ [])) }
+        ensures len { IfOk result (λ n. n ≡ length (list_at T.Key.cmp self.old.content slot)) }
+        ensures refused { OnErr result (self.new.content ≡ self.old.content) }
         ensures returned { IfErr result (λ back. back ≡ value) }
     {
         let Some(_) = self.heads.insert_absent(slot, value)? else {
@@ -156,8 +169,8 @@ impl<T: Translator, V: Drop, M: Heads<T::Key, V>, E: End> Chains<T, V, M, E> {
     /// Removes an index key, and tells how many values it had.
     #[inline]
     pub fn remove(&mut self, slot: T::Key) -> usize
-        ensures content { self.new ≡ with_list T.Key.cmp self.old slot [] }
-        ensures taken { result ≡ length (list_at T.Key.cmp self.old slot) }
+        ensures content { self.new.content ≡ with_list T.Key.cmp self.old.content slot [] }
+        ensures taken { result ≡ length (list_at T.Key.cmp self.old.content slot) }
     {
         if self.heads.remove(&slot).is_none() {
             return 0;
@@ -171,8 +184,9 @@ impl<T: Translator, V: Drop, M: Heads<T::Key, V>, E: End> Chains<T, V, M, E> {
     /// Puts another value at a place of the index key's list.
     #[inline]
     pub fn set_at(&mut self, slot: T::Key, place: usize, value: V)
-        requires place { place < length (list_at T.Key.cmp self.old slot) }
-        ensures content { self.new ≡ with_list_by T.Key.cmp self.old slot (λ l. slice_set l place value) }
+        requires place { place < length (list_at T.Key.cmp self.old.content slot) }
+        ensures content { self.new.content
+            ≡ with_list_by T.Key.cmp self.old.content slot (λ l. slice_set l place value) }
     {
         if place != 0 {
             self.tails.set_at(slot, place - 1, value);
@@ -184,9 +198,10 @@ impl<T: Translator, V: Drop, M: Heads<T::Key, V>, E: End> Chains<T, V, M, E> {
     /// Puts a value in at a place of the index key's list, or behind its last one.
     #[inline]
     pub fn insert_at(&mut self, slot: T::Key, place: usize, value: V) -> Result<(), V>
-        requires place { place ≤ length (list_at T.Key.cmp self.old slot) }
-        ensures accepted { OnOk result (self.new ≡ with_list_by T.Key.cmp self.old slot (λ l. insert l place value)) }
-        ensures refused { OnErr result (self.new ≡ self.old) }
+        requires place { place ≤ length (list_at T.Key.cmp self.old.content slot) }
+        ensures accepted { OnOk result (self.new.content
+            ≡ with_list_by T.Key.cmp self.old.content slot (λ l. insert l place value)) }
+        ensures refused { OnErr result (self.new.content ≡ self.old.content) }
         ensures returned { IfErr result (λ back. back ≡ value) }
     {
         if place == 0 {
@@ -199,10 +214,10 @@ impl<T: Translator, V: Drop, M: Heads<T::Key, V>, E: End> Chains<T, V, M, E> {
     /// Removes the value at a place of the index key's list, and tells how many are left.
     #[inline]
     pub fn remove_at(&mut self, slot: T::Key, place: usize) -> (V, usize)
-        requires place { place < length (list_at T.Key.cmp self.old slot) }
-        ensures value { slice_get (list_at T.Key.cmp self.old slot) place ≡ Some result.0 }
-        ensures content { self.new ≡ with_list_by T.Key.cmp self.old slot (λ l. remove l place) }
-        ensures left { result.1 + 1 ≡ length (list_at T.Key.cmp self.old slot) }
+        requires place { place < length (list_at T.Key.cmp self.old.content slot) }
+        ensures value { slice_get (list_at T.Key.cmp self.old.content slot) place ≡ Some result.0 }
+        ensures content { self.new.content ≡ with_list_by T.Key.cmp self.old.content slot (λ l. remove l place) }
+        ensures left { result.1 + 1 ≡ length (list_at T.Key.cmp self.old.content slot) }
     {
         if place != 0 {
             let (value, left) = self.tails.remove_at(slot, place - 1).unwrap();
@@ -217,10 +232,10 @@ impl<T: Translator, V: Drop, M: Heads<T::Key, V>, E: End> Chains<T, V, M, E> {
     /// Unless the first value of an index key stays, puts the next one in its place, or removes the index key where there is none.
     #[inline]
     fn set_first(&mut self, slot: T::Key, stays: bool, next: Option<V>)
-        requires held { 0 < length (list_at T.Key.cmp self.old slot) }
-        requires alone { stays ≡ false → IfNone next (length (list_at T.Key.cmp self.old slot) ≡ 1) }
-        ensures { self.new
-            ≡ (if stays then self.old else with_list_by T.Key.cmp self.old slot (λ l. list_of next (remove l 0))) }
+        requires held { 0 < length (list_at T.Key.cmp self.old.content slot) }
+        requires alone { stays ≡ false → IfNone next (length (list_at T.Key.cmp self.old.content slot) ≡ 1) }
+        ensures { self.new.content ≡ (if stays then self.old.content
+            else with_list_by T.Key.cmp self.old.content slot (λ l. list_of next (remove l 0))) }
     {
         if stays {
             return;
@@ -237,10 +252,10 @@ impl<T: Translator, V: Drop, M: Heads<T::Key, V>, E: End> Chains<T, V, M, E> {
     pub fn retain<F: FnMut(&V) -> bool>(&mut self, slot: T::Key, should_retain: F) -> (usize, usize)
         requires callable { F.IsAlwaysCallable should_retain }
         ensures kept { (kept : List V)
-            × IsFiltered (CalledAt F.FnMut) should_retain (list_at T.Key.cmp self.old slot) kept
-            × (self.new ≡ with_list T.Key.cmp self.old slot kept)
+            × IsFiltered (CalledAt F.FnMut) should_retain (list_at T.Key.cmp self.old.content slot) kept
+            × (self.new.content ≡ with_list T.Key.cmp self.old.content slot kept)
             × (result.1 ≡ length kept)
-            × (result.0 ≡ length (list_at T.Key.cmp self.old slot)) × (result.1 ≤ result.0) }
+            × (result.0 ≡ length (list_at T.Key.cmp self.old.content slot)) × (result.1 ≤ result.0) }
     {
         let Some(head) = self.heads.get(&slot) else {
             return (0, 0);
@@ -260,10 +275,11 @@ impl<T: Translator, V: Drop, M: Heads<T::Key, V>, E: End> Chains<T, V, M, E> {
     ) -> Result<Retained, V>
         requires { F.IsAlwaysCallable should_retain }
         ensures accepted { IfOk result (λ told. (kept : List V)
-            × AsksBehind (CalledAt F.FnMut) should_retain (list_at T.Key.cmp self.old slot) value kept told.taken
-            × (self.new ≡ with_list T.Key.cmp self.old slot kept) × (told.left ≡ length kept)) }
-        ensures had { IfOk result (λ told. told.had ≡ length (list_at T.Key.cmp self.old slot)) }
-        ensures refused { OnErr result (self.new ≡ self.old) }
+            × AsksBehind (CalledAt F.FnMut) should_retain (list_at T.Key.cmp self.old.content slot)
+            value kept told.taken
+            × (self.new.content ≡ with_list T.Key.cmp self.old.content slot kept) × (told.left ≡ length kept)) }
+        ensures had { IfOk result (λ told. told.had ≡ length (list_at T.Key.cmp self.old.content slot)) }
+        ensures refused { OnErr result (self.new.content ≡ self.old.content) }
         ensures returned { IfErr result (λ back. back ≡ value) }
     {
         let Some(head) = self.heads.get(&slot) else {
@@ -289,7 +305,7 @@ impl<T: Translator, V: Drop, M: Heads<T::Key, V>, E: End> Chains<T, V, M, E> {
     /// How many index keys have values.
     #[inline]
     pub fn keys(&self) -> usize
-        ensures { result ≡ key_count self.now }
+        ensures { result ≡ key_count self.now.content }
     {
         self.heads.len()
     }
@@ -323,7 +339,7 @@ impl<T: Translator, V: Drop, M: OrderedHeads<T::Key, V>, E: End> Chains<T, V, M,
     /// The list of the least key.
     #[inline]
     pub fn first(&self) -> Option<Values<'_, V>>
-        ensures { result ≡ first_list self.now }
+        ensures { result ≡ first_list self.now.content }
     {
         values_of(&self.tails, self.heads.first())
     }
@@ -331,7 +347,7 @@ impl<T: Translator, V: Drop, M: OrderedHeads<T::Key, V>, E: End> Chains<T, V, M,
     /// The list of the greatest key.
     #[inline]
     pub fn last(&self) -> Option<Values<'_, V>>
-        ensures { result ≡ last_list self.now }
+        ensures { result ≡ last_list self.now.content }
     {
         values_of(&self.tails, self.heads.last())
     }
@@ -339,7 +355,7 @@ impl<T: Translator, V: Drop, M: OrderedHeads<T::Key, V>, E: End> Chains<T, V, M,
     /// The list of the least key above a key.
     #[inline]
     pub fn above(&self, slot: T::Key) -> Option<Values<'_, V>>
-        ensures { result ≡ first_list (entries_above T.Key.cmp self.now slot) }
+        ensures { result ≡ first_list (entries_above T.Key.cmp self.now.content slot) }
     {
         values_of(&self.tails, self.heads.above(&slot))
     }
@@ -347,14 +363,14 @@ impl<T: Translator, V: Drop, M: OrderedHeads<T::Key, V>, E: End> Chains<T, V, M,
     /// The list of the greatest key below a key.
     #[inline]
     pub fn below(&self, slot: T::Key) -> Option<Values<'_, V>>
-        ensures { result ≡ last_list (entries_below T.Key.cmp self.now slot) }
+        ensures { result ≡ last_list (entries_below T.Key.cmp self.now.content slot) }
     {
         values_of(&self.tails, self.heads.below(&slot))
     }
 
     #[inline]
     pub fn next(&self, slot: T::Key) -> Option<(Values<'_, V>, bool)>
-        ensures { result ≡ next_list T.Key.cmp self.now slot }
+        ensures { result ≡ next_list T.Key.cmp self.now.content slot }
     {
         match self.above(slot) {
             Some(above) => Some((above, false)),
@@ -367,7 +383,7 @@ impl<T: Translator, V: Drop, M: OrderedHeads<T::Key, V>, E: End> Chains<T, V, M,
 
     #[inline]
     pub fn prev(&self, slot: T::Key) -> Option<(Values<'_, V>, bool)>
-        ensures { result ≡ prev_list T.Key.cmp self.now slot }
+        ensures { result ≡ prev_list T.Key.cmp self.now.content slot }
     {
         match self.below(slot) {
             Some(below) => Some((below, false)),
@@ -437,7 +453,7 @@ impl<T: Translator, V: Drop> Chains<T, V, TreeMap<T::Key, V>, Back> {
     /// Calls a closure once on each value.
     pub fn visit_in_order<F: FnMut(&V)>(&self, visit: &mut F)
         requires { F.IsAlwaysCallable visit.old }
-        ensures visits { VisitsEach (CalledAt F.FnMut) visit.old (values_of self.now) visit.new }
+        ensures visits { VisitsEach (CalledAt F.FnMut) visit.old (values_of self.now.content) visit.new }
         ensures callable { F.IsAlwaysCallable visit.new }
     {
         visit_in_order(&self.heads, &self.tails, visit);
@@ -445,9 +461,10 @@ impl<T: Translator, V: Drop> Chains<T, V, TreeMap<T::Key, V>, Back> {
 
     /// Gives an index key without values a list: its first value and its tail. A refusal hands both back.
     pub fn insert_list(&mut self, slot: T::Key, head: V, tail: Vec<V>) -> Result<(), (V, Vec<V>)>
-        requires { list_at T.Key.cmp self.old slot ≡ [] }
-        ensures accepted { OnOk result (self.new ≡ with_list T.Key.cmp self.old slot (head ∷ tail.items)) }
-        ensures refused { OnErr result (self.new ≡ self.old) }
+        requires { list_at T.Key.cmp self.old.content slot ≡ [] }
+        ensures accepted { OnOk result (self.new.content
+            ≡ with_list T.Key.cmp self.old.content slot (head ∷ tail.items)) }
+        ensures refused { OnErr result (self.new.content ≡ self.old.content) }
         ensures returned { IfErr result (λ back. (back.0 ≡ head) × (back.1 ≡ tail)) }
     {
         if let Err(head) = Heads::insert(&mut self.heads, slot, head) {
@@ -461,8 +478,8 @@ impl<T: Translator, V: Drop> Chains<T, V, TreeMap<T::Key, V>, Back> {
 
     /// Removes the list of the least index key, and returns that key, the list's first value and its tail.
     pub fn pop_first(&mut self) -> Option<(T::Key, V, Vec<V>)>
-        ensures some { IfSome result (λ list. self.old ≡ (list.0, list.1 ∷ list.2.items) ∷ self.new) }
-        ensures none { IfNone result (self.old ≡ []) }
+        ensures some { IfSome result (λ list. self.old.content ≡ (list.0, list.1 ∷ list.2.items) ∷ self.new.content) }
+        ensures none { IfNone result (self.old.content ≡ []) }
     {
         let (slot, head) = pop_least(&mut self.heads)?;
         let Some(tail) = self.tails.take(slot) else {
@@ -475,7 +492,10 @@ impl<T: Translator, V: Drop> Chains<T, V, TreeMap<T::Key, V>, Back> {
 impl<T: Translator, V: Drop, E: End> Chains<T, V, Map<T::Key, V>, E> {
     /// Makes room for the first values of so many more index keys.
     pub fn reserve(&mut self, additional: usize) -> Result<(), AllocError>
-        ensures { self.new ≡ self.old }
+        ensures same { self.new.content ≡ self.old.content }
+        ensures room { OnOk result (additional ≤ self.new.spare) }
+        ensures spare { self.old.spare ≤ self.new.spare }
+        ensures succeeds { additional ≤ self.old.spare → IsOk result }
     {
         self.heads.reserve(additional)
     }
@@ -484,7 +504,7 @@ impl<T: Translator, V: Drop, E: End> Chains<T, V, Map<T::Key, V>, E> {
     #[inline]
     pub fn for_each_value<F: FnMut(&V)>(&self, visit: &mut F)
         requires { F.IsAlwaysCallable visit.old }
-        ensures visits { VisitsEach (CalledAt F.FnMut) visit.old (values_of self.now) visit.new }
+        ensures visits { VisitsEach (CalledAt F.FnMut) visit.old (values_of self.now.content) visit.new }
         ensures callable { F.IsAlwaysCallable visit.new }
     {
         visit_all(&self.heads, &self.tails, visit);
@@ -495,7 +515,7 @@ impl<T: Translator, V: Drop, E: End> Chains<T, V, SmallMap<T::Key, V>, E> {
     /// Calls a closure once on each value.
     pub fn visit_values<F: FnMut(&V)>(&self, visit: &mut F)
         requires { F.IsAlwaysCallable visit.old }
-        ensures visits { VisitsEach (CalledAt F.FnMut) visit.old (values_of self.now) visit.new }
+        ensures visits { VisitsEach (CalledAt F.FnMut) visit.old (values_of self.now.content) visit.new }
         ensures callable { F.IsAlwaysCallable visit.new }
     {
         match &self.heads.many {

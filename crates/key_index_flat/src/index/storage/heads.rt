@@ -1,5 +1,5 @@
 //! A map from keys to the first value of each list, hashed or in the order of its keys.
-ghost use Rattle.std.specs.Prelude.{◌≡◌, ◌+◌, ◌∷◌, [], List, Option, Some, None, IfSome, IfNone, IfOk, IfErr, OnOk, OnErr, is_some, IsSome, unwrap_or, not, if◌then◌else◌, length};
+ghost use Rattle.std.specs.Prelude.{◌≡◌, ℕ, ◌+◌, ◌<◌, ◌≤◌, ◌∷◌, [], List, Option, Some, None, IfSome, IfNone, IfOk, IfErr, IsOk, OnOk, OnErr, is_some, IsSome, unwrap_or, not, if◌then◌else◌, length};
 ghost use Rattle.std.specs.List.Sorted.{IsStrictlySortedBy};
 ghost use Rattle.std.specs.Map.{keys_of};
 ghost use Rattle.std.specs.Map.Iter.{deref_pair};
@@ -16,6 +16,8 @@ use std::mem::replace;
 /// A map from keys to the first value of each.
 pub trait Heads<K: Ord + Hash + Copy, V> {
     ghost entries: { Self → List (K × V) };
+
+    ghost spare: { Self → ℕ };
 
     fn len(&self) -> usize
         ensures { result ≡ length (entries self.now) };
@@ -34,6 +36,9 @@ pub trait Heads<K: Ord + Hash + Copy, V> {
             length (entries self.new) ≡ length (entries self.old) + (if is_some old then 0 else 1)) }
         ensures absent { OnErr result (value_of K.cmp (entries self.old) key ≡ None) }
         ensures refused { OnErr result (entries self.new ≡ entries self.old) }
+        ensures room { spare self.old
+            ≤ spare self.new + (if is_some (value_of K.cmp (entries self.old) key) then 0 else 1) }
+        ensures succeeds { 0 < spare self.old → IsOk result }
         ensures returned { IfErr result (λ back. back ≡ value) };
 
     /// Puts a value at a key that has none. The value of a key that has one stays, and the other comes back, as it does with a refusal,
@@ -50,6 +55,9 @@ pub trait Heads<K: Ord + Hash + Copy, V> {
             ≡ length (entries self.old) + (if is_some (value_of K.cmp (entries self.old) key) then 0 else 1)) }
         ensures absent { OnErr result (value_of K.cmp (entries self.old) key ≡ None) }
         ensures refused { OnErr result (entries self.new ≡ entries self.old) }
+        ensures room { spare self.old
+            ≤ spare self.new + (if is_some (value_of K.cmp (entries self.old) key) then 0 else 1) }
+        ensures succeeds { 0 < spare self.old → IsOk result }
         ensures returned { IfErr result (λ back. back ≡ value) };
 
     /// Puts another value at a key that has one, and returns the one that stood there.
@@ -57,7 +65,8 @@ pub trait Heads<K: Ord + Hash + Copy, V> {
         requires { IsSome (value_of K.cmp (entries self.old) key.now) }
         ensures old { value_of K.cmp (entries self.old) key.now ≡ Some result }
         ensures sets { Sets K.cmp (entries self.old) (entries self.new) key.now (Some value) }
-        ensures len { length (entries self.new) ≡ length (entries self.old) };
+        ensures len { length (entries self.new) ≡ length (entries self.old) }
+        ensures room { spare self.old ≤ spare self.new };
 
     fn remove(&mut self, key: &K) -> Option<V>
         ensures value { result ≡ value_of K.cmp (entries self.old) key.now }
@@ -67,6 +76,8 @@ pub trait Heads<K: Ord + Hash + Copy, V> {
 
 impl<K: Ord + Hash + Copy, V> Heads<K, V> for Map<K, V> {
     ghost entries = { λ map. map.entries };
+
+    ghost spare = { λ map. map.spare };
 
     #[inline(always)]
     fn len(&self) -> usize {
@@ -107,6 +118,8 @@ impl<K: Ord + Hash + Copy, V> Heads<K, V> for Map<K, V> {
 
 impl<K: Ord + Hash + Copy, V> Heads<K, V> for TreeMap<K, V> {
     ghost entries = { λ map. map.entries };
+
+    ghost spare = { λ _. 0 };
 
     #[inline]
     fn len(&self) -> usize {

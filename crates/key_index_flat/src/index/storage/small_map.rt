@@ -313,6 +313,8 @@ impl<K: Ord + Hash + Copy, V> SmallMap<K, V> {
 impl<K: Ord + Hash + Copy, V> Heads<K, V> for SmallMap<K, V> {
     ghost entries = { λ map. entries_in map.few map.many };
 
+    ghost spare = { λ _. 0 };
+
     #[inline(always)]
     fn len(&self) -> usize {
         match &self.many {

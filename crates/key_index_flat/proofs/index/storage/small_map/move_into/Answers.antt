@@ -22,6 +22,6 @@ loop-pair-preserved g c =
     let len = ap length c.in-Some.ensures.items ∙ length-append left (pair ∷ []) in
     record {
       moving = one_less g.met.K.Eq.laws c.args.pairs.now.items left c.loop-pair.map.entries pair.0 pair.1 (so_far g (goal.at.loop-pair-preserved g c).In-Some) c.add.new.self.entries c.in-Ok.ensures.updates c.in-Ok.ensures.len;
-      fits = omega (arith, len, c.add.ensures.room, c.loop-pair.invariant.fits);
-      room = omega (arith, len, c.add.ensures.room, c.loop-pair.invariant.room);
+      fits = omega (arith, len, c.in-Ok.ensures.room, c.loop-pair.invariant.fits);
+      room = omega (arith, len, c.in-Ok.ensures.room, c.loop-pair.invariant.room);
     }

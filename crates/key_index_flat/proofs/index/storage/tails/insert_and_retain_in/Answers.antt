@@ -9,11 +9,11 @@ use Rattle.key_index_flat.proofs.content.VectorLemmas.{absent, at_set, lent, onl
 use Rattle.key_index_flat.proofs.index.storage.tails.insert_and_retain_in.Goals as goal
 
 pub returns-in_err-insert_value-clause-others : goal.returns-in_err-insert_value-clause-others
-returns-in_err-insert_value-clause-others g c = (lent g.met.K.Ord.matches_eq g.met.K.Ord.total c.args.map.now.entries c.args.key c.in-Some.is c.get_mut.ensures.value _ c.insert_value.new.values (c.get_mut.follows.holds c.insert_value.new.values)).others
+returns-in_err-insert_value-clause-others g c = (lent g.met.K.Ord.matches_eq g.met.K.Ord.total c.args.map.now.entries c.args.key c.in-Some.is c.get_mut.ensures.value _ c.insert_value.new.values (c.get_mut.follows.holds c.insert_value.new.values).0).others
 
 pub returns-in_err-insert_value-clause-refused : goal.returns-in_err-insert_value-clause-refused
 returns-in_err-insert_value-clause-refused g c =
-    let v = lent g.met.K.Ord.matches_eq g.met.K.Ord.total c.args.map.now.entries c.args.key c.in-Some.is c.get_mut.ensures.value _ c.insert_value.new.values (c.get_mut.follows.holds c.insert_value.new.values) in
+    let v = lent g.met.K.Ord.matches_eq g.met.K.Ord.total c.args.map.now.entries c.args.key c.in-Some.is c.get_mut.ensures.value _ c.insert_value.new.values (c.get_mut.follows.holds c.insert_value.new.values).0 in
     let same : at_key g.K.PartialEq.eq (c.get_mut.follows.lender c.insert_value.new.values) c.args.key ≡ at_key g.K.PartialEq.eq c.args.map.now c.args.key =
     v.has ∙ c.in_err-insert_value.ensures.refused ∙ sym v.had in
     search rules
@@ -22,14 +22,14 @@ pub remove_empty-requires : goal.remove_empty-requires
 remove_empty-requires g c =
     let values = c.retain_behind-retained.new.values in
     let long : c.len-left.result ≡ length values.items = search rules in
-    let v = lent g.met.K.Ord.matches_eq g.met.K.Ord.total c.args.map.now.entries c.args.key c.in-Some.is c.get_mut.ensures.value _ values (c.get_mut.follows.holds values) in
+    let v = lent g.met.K.Ord.matches_eq g.met.K.Ord.total c.args.map.now.entries c.args.key c.in-Some.is c.get_mut.ensures.value _ values (c.get_mut.follows.holds values).0 in
     long ∙ sym (ap (λ l. length l) v.has)
 
 pub returns-in-Some-clause-retained : goal.returns-in-Some-clause-retained
 returns-in-Some-clause-retained g c =
     let first = g.E.End.FIRST in
     let values = c.retain_behind-retained.new.values in
-    let v = lent g.met.K.Ord.matches_eq g.met.K.Ord.total c.args.map.now.entries c.args.key c.in-Some.is c.get_mut.ensures.value _ values (c.get_mut.follows.holds values) in
+    let v = lent g.met.K.Ord.matches_eq g.met.K.Ord.total c.args.map.now.entries c.args.key c.in-Some.is c.get_mut.ensures.value _ values (c.get_mut.follows.holds values).0 in
     let inserted : in_order first c.insert_value.new.values.items ≡ in_order first (at_key g.K.PartialEq.eq c.args.map.now c.args.key) ++ c.args.value ∷ [] =
     c.in_ok-insert_value.ensures.at
     ∙ ap (λ n. insert (in_order first c.in-Some.tail.now.items) n c.args.value) (sym (length-in_order first c.in-Some.tail.now.items))
@@ -42,7 +42,7 @@ returns-in-Some-clause-retained g c =
 pub returns-in-Some-clause-others : goal.returns-in-Some-clause-others
 returns-in-Some-clause-others g c = λ q apart.
     let values = c.retain_behind-retained.new.values in
-    c.remove_empty.ensures.others q apart ∙ (lent g.met.K.Ord.matches_eq g.met.K.Ord.total c.args.map.now.entries c.args.key c.in-Some.is c.get_mut.ensures.value _ values (c.get_mut.follows.holds values)).others q apart
+    c.remove_empty.ensures.others q apart ∙ (lent g.met.K.Ord.matches_eq g.met.K.Ord.total c.args.map.now.entries c.args.key c.in-Some.is c.get_mut.ensures.value _ values (c.get_mut.follows.holds values).0).others q apart
 
 pub returns-in-Ok-clause-retained : goal.returns-in-Ok-clause-retained
 returns-in-Ok-clause-retained g c =

@@ -9,18 +9,18 @@ use Rattle.key_index_flat.proofs.index.storage.tails.insert_in.Goals as goal
 pub returns-in-Some-clause-at : goal.returns-in-Some-clause-at
 returns-in-Some-clause-at g c =
     let first = g.E.End.FIRST in
-    let v = lent g.met.K.Ord.matches_eq g.met.K.Ord.total c.args.map.now.entries c.args.key c.in-Some.is c.get_mut.ensures.value _ c.insert_value.new.values (c.get_mut.follows.holds c.insert_value.new.values) in
+    let v = lent g.met.K.Ord.matches_eq g.met.K.Ord.total c.args.map.now.entries c.args.key c.in-Some.is c.get_mut.ensures.value _ c.insert_value.new.values (c.get_mut.follows.holds c.insert_value.new.values).0 in
     on_ok_weaker c.insert_value.result
     (λ at. ap (in_order first) v.has ∙ at ∙ sym (ap (λ l. insert (in_order first l) (unwrap_or c.args.place (length l)) c.args.value) v.had))
     c.insert_value.ensures.at
 
 pub returns-in-Some-clause-refused : goal.returns-in-Some-clause-refused
 returns-in-Some-clause-refused g c =
-    let v = lent g.met.K.Ord.matches_eq g.met.K.Ord.total c.args.map.now.entries c.args.key c.in-Some.is c.get_mut.ensures.value _ c.insert_value.new.values (c.get_mut.follows.holds c.insert_value.new.values) in
+    let v = lent g.met.K.Ord.matches_eq g.met.K.Ord.total c.args.map.now.entries c.args.key c.in-Some.is c.get_mut.ensures.value _ c.insert_value.new.values (c.get_mut.follows.holds c.insert_value.new.values).0 in
     on_err_weaker c.insert_value.result (λ same. v.has ∙ same ∙ sym v.had) c.insert_value.ensures.refused
 
 pub returns-in-Some-clause-others : goal.returns-in-Some-clause-others
-returns-in-Some-clause-others g c = (lent g.met.K.Ord.matches_eq g.met.K.Ord.total c.args.map.now.entries c.args.key c.in-Some.is c.get_mut.ensures.value _ c.insert_value.new.values (c.get_mut.follows.holds c.insert_value.new.values)).others
+returns-in-Some-clause-others g c = (lent g.met.K.Ord.matches_eq g.met.K.Ord.total c.args.map.now.entries c.args.key c.in-Some.is c.get_mut.ensures.value _ c.insert_value.new.values (c.get_mut.follows.holds c.insert_value.new.values).0).others
 
 pub returns-in-Ok-clause-at : goal.returns-in-Ok-clause-at
 returns-in-Ok-clause-at g c =

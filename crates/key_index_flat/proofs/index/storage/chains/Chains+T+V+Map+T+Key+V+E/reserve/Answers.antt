@@ -1,4 +1,4 @@
-use Rattle.std.proofs.Common.{refl, sym, ◌∙◌}
+use Rattle.std.proofs.Common.{refl, sym, ap, ◌∙◌}
 use Rattle.key_index_flat.specs.Storage.{content_of, tail_at}
 use Rattle.key_index_flat.proofs.content.ChainLemmas.{StandsFor, StandsFor-unchanged}
 use Rattle.key_index_flat.proofs.content.PairLemmas.{lookup-value_of}
@@ -18,5 +18,5 @@ stands g c =
 pub invariant_of-self : goal.invariant_of-self
 invariant_of-self g c = (stands g (goal.at.invariant_of-self g c).After-reserve).linked
 
-pub returns : goal.returns
-returns g c = (stands g (goal.at.returns g c).After-reserve).content ∙ c.self.view_is
+pub returns-clause-same : goal.returns-clause-same
+returns-clause-same g c = (stands g (goal.at.returns-clause-same g c).After-reserve).content ∙ ap (λ v. v.content) c.self.view_is

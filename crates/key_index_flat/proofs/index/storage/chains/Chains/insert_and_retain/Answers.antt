@@ -16,13 +16,13 @@ returns-in_default-clause-had g c =
 
 pub returns-in_default-clause-accepted : goal.returns-in_default-clause-accepted
 returns-in_default-clause-accepted g c =
-    let old = c.args.self.now in
-    let mid = c.insert_first.new.self in
+    let old = c.args.self.now.content in
+    let mid = c.insert_first.new.self.content in
     let put = c.in_ok-insert_first.ensures.accepted in
     let none = returns-in_default-clause-had g c in
     let told = c.retain-left.ensures.kept in
     let asks = asks_alone g.met.T.Key.Ord.total old mid c.args.slot c.args.value 0 none put (CalledAt g.F.FnMut) c.args.should_retain told.0 none told.1 in
-    let lawful = subst (λ d. IsLawful g.T.Key.Ord.cmp d) c.self.view_is (IsLawful-content_of g.met.T.Key.Ord.total (g.M.Heads.entries c.self.inside.heads) (tail_at g.E.End.FIRST g.T.Key.PartialEq.eq c.self.inside.tails.map)) in
+    let lawful = subst (λ d. IsLawful g.T.Key.Ord.cmp d) (ap (λ v. v.content) c.self.view_is) (IsLawful-content_of g.met.T.Key.Ord.total (g.M.Heads.entries c.self.inside.heads) (tail_at g.E.End.FIRST g.T.Key.PartialEq.eq c.self.inside.tails.map)) in
     (told.0, asks, taken_put g.met.T.Key.Ord.total old mid c.args.slot c.args.value 0 none put g.met.T.Translator.exact lawful told.0 _ told.2, told.3)
 
 pub invariant_of-self : goal.invariant_of-self
@@ -94,4 +94,4 @@ returns-in_err-tail-clause-refused g c =
     let later = tail_at g.E.End.FIRST g.T.Key.PartialEq.eq c.insert_and_retain.new.self.map in
     let stays = holds_at_every_key g.T.Key.Ord.cmp g.met.T.Translator.exact (λ q. later q ≡ tail q) c.args.slot c.in_err-tail.ensures.refused c.in_err-tail.ensures.others in
     let same = (StandsFor-unchanged g.met.T.Key.Ord.total g.met.T.Translator.exact heads heads tail later c.self.invariant (λ q. refl) stays refl).content in
-    refused c.from_residual-in_err-tail.result (same ∙ c.self.view_is)
+    refused c.from_residual-in_err-tail.result (same ∙ ap (λ v. v.content) c.self.view_is)

@@ -1,6 +1,6 @@
-use Rattle.std.proofs.Common.{◌+◌, length, cond, is_some, Some, refl, ap, sym, ◌∙◌}
+use Rattle.std.proofs.Common.{ℕ, ◌+◌, length, cond, is_some, Some, arith, refl, ap, sym, ◌∙◌}
 use Rattle.key_index_flat.specs.Storage.{tail_at}
-use Rattle.key_index_flat.proofs.content.ChainLemmas.{first_value, newer_value, StandsFor-put_back}
+use Rattle.key_index_flat.proofs.content.ChainLemmas.{added-none, list_at-some, first_value, newer_value, StandsFor-put_back}
 use Rattle.key_index_flat.proofs.index.storage.chains.Chains.insert_first.Goals as goal
 
 pub invariant_of-self-in_default : goal.invariant_of-self-in_default
@@ -32,3 +32,15 @@ returns-in-Err-clause-refused g c =
     rw (← c.self.view_is) (
     (StandsFor-put_back g.met.T.Key.Ord.total g.met.T.Translator.exact (g.M.Heads.entries c.self.inside.heads) (g.M.Heads.entries c.replace.new.self) (tail_at g.E.End.FIRST g.T.Key.PartialEq.eq c.self.inside.tails.map) (tail_at g.E.End.FIRST g.T.Key.PartialEq.eq c.insert_at.new.self.map) c.args.slot c.self.invariant c.args.value c.in-Err.displaced (g.M.Heads.entries c.insert.new.self) (sym c.in_ok-displaced.ensures.old ∙ c.in-Some.is ∙ ap (λ v. Some v) (sym c.in-Err.ensures.returned)) c.in_ok-displaced.ensures.sets (c.in_ok-displaced.ensures.len ∙ ap (λ o. length (g.M.Heads.entries c.self.inside.heads) + cond (is_some o) 0 1) c.in-Some.is) c.replace.ensures.sets c.replace.ensures.len c.in-Err.ensures.refused c.insert_at.ensures.others).content
     )
+
+pub returns-in_default-clause-room : goal.returns-in_default-clause-room
+returns-in_default-clause-room g c =
+    let none = sym c.in_ok-displaced.ensures.old ∙ c.in_default.is in
+    let adds = added-none g.met.T.Key.Ord.total g.met.T.Translator.exact (g.M.Heads.entries c.self.inside.heads) (tail_at g.E.End.FIRST g.T.Key.PartialEq.eq c.self.inside.tails.map) c.args.slot none in
+    let takes = ap {B = ℕ} (λ o. cond (is_some o) 0 1) none in
+    rw (← c.self.view_is) (omega (arith, c.insert.ensures.room, takes, adds))
+
+pub returns-in-Err-clause-succeeds : goal.returns-in-Err-clause-succeeds
+returns-in-Err-clause-succeeds g c =
+    let some = sym c.in_ok-displaced.ensures.old ∙ c.in-Some.is in
+    rw (← c.self.view_is) (λ _ empty. absurd (list_at-some g.met.T.Key.Ord.total g.met.T.Translator.exact (g.M.Heads.entries c.self.inside.heads) (tail_at g.E.End.FIRST g.T.Key.PartialEq.eq c.self.inside.tails.map) c.args.slot (ap is_some some) empty))

@@ -1,7 +1,7 @@
-use Rattle.std.proofs.Common.{◌≡◌, ◌++◌, IfErr, ◌∷◌, [], refl, sym, ap, ◌∙◌, subst}
+use Rattle.std.proofs.Common.{◌≡◌, ℕ, ◌+◌, ◌++◌, IfErr, ◌∷◌, [], cond, is_some, arith, refl, sym, ap, ◌∙◌, subst}
 use Rattle.key_index_flat.specs.Content.{with_list}
 use Rattle.key_index_flat.specs.Storage.{content_of, tail_at}
-use Rattle.key_index_flat.proofs.content.ChainLemmas.{put_absent, behind_linked, behind_content, behind_refused, none_back, some_back}
+use Rattle.key_index_flat.proofs.content.ChainLemmas.{None-is_some, added-none, list_at-some, put_absent, behind_linked, behind_content, behind_refused, none_back, some_back}
 use Rattle.key_index_flat.proofs.index.storage.chains.Chains.insert_last.Goals as goal
 
 pub invariant_of-self-in_default : goal.invariant_of-self-in_default
@@ -47,3 +47,15 @@ pub returns-clause-returned : goal.returns-clause-returned
 returns-clause-returned g c =
     let held = some_back _ c.args.value _ c.in_ok-value.field-0 c.in_ok-value.ensures.back c.in-Some.is in
     subst (λ v. IfErr c.insert_at.result (λ back. back ≡ v)) held.1 c.insert_at.ensures.returned
+
+pub returns-in_default-clause-room : goal.returns-in_default-clause-room
+returns-in_default-clause-room g c =
+    let none = None-is_some _ (none_back _ c.args.value c.in_ok-value.field-0 c.in_ok-value.ensures.back c.in_default.is) in
+    let adds = added-none g.met.T.Key.Ord.total g.met.T.Translator.exact (g.M.Heads.entries c.self.inside.heads) (tail_at g.E.End.FIRST g.T.Key.PartialEq.eq c.self.inside.tails.map) c.args.slot none in
+    let takes = ap {B = ℕ} (λ o. cond (is_some o) 0 1) none in
+    rw (← c.self.view_is) (omega (arith, c.insert_absent.ensures.room, takes, adds))
+
+pub returns-clause-succeeds : goal.returns-clause-succeeds
+returns-clause-succeeds g c =
+    let held = some_back _ c.args.value _ c.in_ok-value.field-0 c.in_ok-value.ensures.back c.in-Some.is in
+    rw (← c.self.view_is) (λ _ empty. absurd (list_at-some g.met.T.Key.Ord.total g.met.T.Translator.exact (g.M.Heads.entries c.self.inside.heads) (tail_at g.E.End.FIRST g.T.Key.PartialEq.eq c.self.inside.tails.map) c.args.slot held.0 empty))

@@ -10,7 +10,7 @@ use Rattle.key_index_flat.proofs.index.storage.chains.Chains.remove_at.Goals.{Af
 use Rattle.key_index_flat.proofs.index.storage.chains.Chains.remove_at.Goals as goal
 
 place_in_chain : (g : Over) (c : After-self g) → c.args.place < length (list_at g.T.Key.Ord.cmp (content_of g.T.Key.Ord.cmp (g.M.Heads.entries c.self.inside.heads) (tail_at g.E.End.FIRST g.T.Key.PartialEq.eq c.self.inside.tails.map)) c.args.slot)
-place_in_chain g c = subst (λ now. c.args.place < length (list_at g.T.Key.Ord.cmp now c.args.slot)) (sym c.self.view_is) c.requires.place
+place_in_chain g c = subst (λ now. c.args.place < length (list_at g.T.Key.Ord.cmp now.content c.args.slot)) (sym c.self.view_is) c.requires.place
 
 place_behind_first : (g : Over) (c : After-self g) → ¬ (c.args.place ≡ 0) → c.args.place - 1 < length (tail_at g.E.End.FIRST g.T.Key.PartialEq.eq c.self.inside.tails.map c.args.slot)
 place_behind_first g c behind = place_within_tail g.met.T.Key.Ord.total g.met.T.Translator.exact (g.M.Heads.entries c.self.inside.heads) (tail_at g.E.End.FIRST g.T.Key.PartialEq.eq c.self.inside.tails.map) (tail_at g.E.End.FIRST g.T.Key.PartialEq.eq c.self.inside.tails.map) c.args.slot c.self.invariant c.args.place behind (place_in_chain g c)

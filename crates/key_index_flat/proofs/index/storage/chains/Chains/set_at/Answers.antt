@@ -8,7 +8,7 @@ use Rattle.key_index_flat.proofs.index.storage.chains.Chains.set_at.Goals.{After
 use Rattle.key_index_flat.proofs.index.storage.chains.Chains.set_at.Goals as goal
 
 place_in_chain : (g : Over) (c : After-self g) → c.args.place < length (list_at g.T.Key.Ord.cmp (content_of g.T.Key.Ord.cmp (g.M.Heads.entries c.self.inside.heads) (tail_at g.E.End.FIRST g.T.Key.PartialEq.eq c.self.inside.tails.map)) c.args.slot)
-place_in_chain g c = subst (λ now. c.args.place < length (list_at g.T.Key.Ord.cmp now c.args.slot)) (sym c.self.view_is) c.requires.place
+place_in_chain g c = subst (λ now. c.args.place < length (list_at g.T.Key.Ord.cmp now.content c.args.slot)) (sym c.self.view_is) c.requires.place
 
 chain_first : (g : Over) (c : After-self g) → (v : _) × (value_of g.T.Key.Ord.cmp (g.M.Heads.entries c.self.inside.heads) c.args.slot ≡ Some v)
 chain_first g c =

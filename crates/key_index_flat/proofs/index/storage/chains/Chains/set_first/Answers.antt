@@ -11,7 +11,7 @@ chain_first : (g : Over) (c : After-self g) → (v : _) × (value_of g.T.Key.Ord
 chain_first g c =
     let tail = tail_at g.E.End.FIRST g.T.Key.PartialEq.eq c.self.inside.tails.map in
     value_of-list_filled g.met.T.Key.Ord.total g.met.T.Translator.exact (g.M.Heads.entries c.self.inside.heads) tail tail c.args.slot c.self.invariant
-    (subst (λ now. 0 < length (list_at g.T.Key.Ord.cmp now c.args.slot)) (sym c.self.view_is) c.requires.held)
+    (subst (λ now. 0 < length (list_at g.T.Key.Ord.cmp now.content c.args.slot)) (sym c.self.view_is) c.requires.held)
 
 pub replace-requires : goal.replace-requires
 replace-requires g c = subst (λ o. IsSome o) (sym (chain_first g (goal.at.replace-requires g c).After-self).1) refl
@@ -42,8 +42,8 @@ chain_removed : (g : Over) (c : Joined-remove g) →
 chain_removed g c =
     let tail = tail_at g.E.End.FIRST g.T.Key.PartialEq.eq c.self.inside.tails.map in
     let n = chain_first g (goal.at.invariant_of-self-2 g c).After-self in
-    let alone = subst (λ now. length (list_at g.T.Key.Ord.cmp now c.args.slot) ≡ 1) (sym c.self.view_is)
-    (subst (λ next. IfNone next (length (list_at g.T.Key.Ord.cmp c.args.self.now c.args.slot) ≡ 1)) c.in_default.is (c.requires.alone c.if-stays.false)) in
+    let alone = subst (λ now. length (list_at g.T.Key.Ord.cmp now.content c.args.slot) ≡ 1) (sym c.self.view_is)
+    (subst (λ next. IfNone next (length (list_at g.T.Key.Ord.cmp c.args.self.now.content c.args.slot) ≡ 1)) c.in_default.is (c.requires.alone c.if-stays.false)) in
     no_first g.met.T.Key.Ord.total g.met.T.Translator.exact (g.M.Heads.entries c.self.inside.heads) tail tail c.args.slot c.self.invariant (g.M.Heads.entries c.remove.new.self)
     n.0 n.1 alone c.remove.ensures.sets
     (ap (λ o. length (g.M.Heads.entries c.remove.new.self) + cond (is_some o) 1 0) (sym c.remove.ensures.value) ∙ c.remove.ensures.len) (λ q. refl)

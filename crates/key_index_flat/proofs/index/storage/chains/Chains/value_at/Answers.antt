@@ -8,7 +8,7 @@ use Rattle.key_index_flat.proofs.index.storage.chains.Chains.value_at.Goals as g
 pub unwrap-requires : goal.unwrap-requires
 unwrap-requires g c =
     let tail = tail_at g.E.End.FIRST g.T.Key.PartialEq.eq c.self.inside.tails.map in
-    let place = subst (λ now. c.args.place < length (list_at g.T.Key.Ord.cmp now c.args.slot)) (sym c.self.view_is) c.requires in
+    let place = subst (λ now. c.args.place < length (list_at g.T.Key.Ord.cmp now.content c.args.slot)) (sym c.self.view_is) c.requires in
     let n = value_of-list_filled g.met.T.Key.Ord.total g.met.T.Translator.exact (g.M.Heads.entries c.self.inside.heads) tail tail c.args.slot c.self.invariant (omega (arith, place)) in
     let some = ap (λ o. is_some o) (c.get.ensures ∙ n.1) in search rules
 
@@ -24,14 +24,14 @@ returns-then-place-eq0 g c =
 pub value_at-requires : goal.value_at-requires
 value_at-requires g c =
     let tail = tail_at g.E.End.FIRST g.T.Key.PartialEq.eq c.self.inside.tails.map in
-    let place = subst (λ now. c.args.place < length (list_at g.T.Key.Ord.cmp now c.args.slot)) (sym c.self.view_is) c.requires in
+    let place = subst (λ now. c.args.place < length (list_at g.T.Key.Ord.cmp now.content c.args.slot)) (sym c.self.view_is) c.requires in
     let within = place_within_tail g.met.T.Key.Ord.total g.met.T.Translator.exact (g.M.Heads.entries c.self.inside.heads) tail tail c.args.slot c.self.invariant c.args.place c.if-place-eq0.false place in
     omega (arith, within)
 
 pub returns : goal.returns
 returns g c =
     let tail = tail_at g.E.End.FIRST g.T.Key.PartialEq.eq c.self.inside.tails.map in
-    let place = subst (λ now. c.args.place < length (list_at g.T.Key.Ord.cmp now c.args.slot)) (sym c.self.view_is) c.requires in
+    let place = subst (λ now. c.args.place < length (list_at g.T.Key.Ord.cmp now.content c.args.slot)) (sym c.self.view_is) c.requires in
     rw (← c.self.view_is) (
     value_in_tail g.met.T.Key.Ord.total g.met.T.Translator.exact (g.M.Heads.entries c.self.inside.heads) tail tail c.args.slot c.self.invariant c.args.place c.if-place-eq0.false place
     ∙ c.value_at.ensures
