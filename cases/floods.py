@@ -192,3 +192,32 @@ def unordered_keys_come_round():
                     session.ask(f"get {word([held])}", held if number - count < held else "none")
         session.ask("counts", f"{count} {count} {200 - count}")
         session.check()
+
+
+def hash_of(number):
+    """The hash of an index key of two bytes, as the standard library's hasher makes it: the key's bytes, the last one twice,
+    in a folded multiplication."""
+    low, high = number & 0xFF, number >> 8
+    product = (0x243F6A8885A308D3 ^ (low | high << 8 | high << 16)) * (0x9E3779B97F4A7C15 ^ 4)
+    return (product ^ product >> 64) & 2**64 - 1
+
+
+def agreeing(count, groups):
+    """So many index keys of two bytes whose hashes agree in the top byte, which is a pair's tag in a map, and in the one of so many
+    groups at which a search begins."""
+    alike = {}
+    for number in range(2**16):
+        keys = alike.setdefault((hash_of(number) >> 56, hash_of(number) % groups), [])
+        keys.append(number)
+        if len(keys) == count:
+            return keys
+    raise ValueError(f"no {count} keys agree")
+
+
+@case
+def punordered_hashes_agree():
+    """Keys of one partition that a map tells apart by comparing them alone: their searches all begin at one of its groups, fill it, and
+    go on to the next ones. They come and go, from the first one on."""
+    for count in (33, 40, 56):
+        keys = agreeing(count + 1, 4)
+        come_and_go("punordered_wide", lambda number, keys=keys: key_of(keys[number]), count)

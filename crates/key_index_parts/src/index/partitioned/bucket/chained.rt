@@ -12,19 +12,19 @@ use std::alloc::{AllocError, Global};
 #[derive(Drop)]
 pub struct Chained<T: Translator, V> {
     chains: Chains<T, V, SmallMap<T::Key, V>, Front>,
-    ghost lawful: { IsLawful T.Key.cmp chains },
+    ghost lawful: { IsLawful T.Key.cmp chains.content },
 }
 
 impl<T: Translator, V> Held<T, V> for Chained<T, V> {
     ghost use Rattle.key_index_parts.specs.laws.StandingLaws.{inline_filled};
 
-    ghost content = { λ bucket. bucket.chains };
+    ghost content = { λ bucket. bucket.chains.content };
 
     ghost spilled = { λ _. false };
 
     ghost lawful = { λ bucket. bucket.lawful };
 
-    ghost filled = { λ bucket h. inline_filled (item_count bucket.chains) h };
+    ghost filled = { λ bucket h. inline_filled (item_count bucket.chains.content) h };
 }
 
 impl<T: Translator, V: Drop> ReadBucket<T, V> for Chained<T, V> {

@@ -22,7 +22,7 @@ use std::alloc::{AllocError, Global};
 pub struct Spilling<T: Translator, V> {
     arrays: Arrays<T, V>,
     tree: Option<Box<Tree<T, V>>>,
-    ghost filled: { HoldsSome (λ t. t.lists) tree } by { HoldsSome-prop _ tree },
+    ghost filled: { HoldsSome (λ t. t.lists.content) tree } by { HoldsSome-prop _ tree },
     ghost alone: { (is_some tree && is_filled (grouped T.Key.cmp arrays.pairs.pairs)) ≡ false },
 }
 
@@ -31,12 +31,12 @@ fn lift_runs<T: Translator, V: Drop>(
     arrays: &mut Partition<T::Key, V>,
     lists: &mut Chains<T, V, TreeMap<T::Key, V>, Back>,
 ) -> Result<(), AllocError>
-    requires empty { lists.old ≡ [] }
-    ensures whole { arrays.new.pairs ++ spread lists.new ≡ arrays.old.pairs }
+    requires empty { lists.old.content ≡ [] }
+    ensures whole { arrays.new.pairs ++ spread lists.new.content ≡ arrays.old.pairs }
     ensures emptied { OnOk result (arrays.new.pairs ≡ []) }
-    ensures room { item_count lists.new ≤ arrays.new.room }
-    ensures apart { AreBelow T.Key.cmp arrays.new.pairs lists.new }
-    ensures lawful { IsLawful T.Key.cmp lists.new }
+    ensures room { item_count lists.new.content ≤ arrays.new.room }
+    ensures apart { AreBelow T.Key.cmp arrays.new.pairs lists.new.content }
+    ensures lawful { IsLawful T.Key.cmp lists.new.content }
 {
     'runs: while !arrays.is_empty() {
         let (key, head, tail) = arrays.pop_run()?;
@@ -53,10 +53,10 @@ fn lower_lists<T: Translator, V: Drop>(
     lists: &mut Chains<T, V, TreeMap<T::Key, V>, Back>,
     arrays: &mut Partition<T::Key, V>,
 )
-    requires room { item_count lists.old ≤ arrays.old.room }
-    requires apart { AreBelow T.Key.cmp arrays.old.pairs lists.old }
-    requires lawful { IsLawful T.Key.cmp lists.old }
-    ensures { arrays.new.pairs ≡ arrays.old.pairs ++ spread lists.old }
+    requires room { item_count lists.old.content ≤ arrays.old.room }
+    requires apart { AreBelow T.Key.cmp arrays.old.pairs lists.old.content }
+    requires lawful { IsLawful T.Key.cmp lists.old.content }
+    ensures { arrays.new.pairs ≡ arrays.old.pairs ++ spread lists.old.content }
 {
     'lists: while let Some((key, head, tail)) = lists.pop_first() {
         arrays.push_run(key, head, tail);
@@ -69,11 +69,11 @@ fn drop_emptied<T: Translator, V: Drop>(
     tree: &mut Option<Box<Tree<T, V>>>,
 )
     requires { (is_some tree.old && is_filled (grouped T.Key.cmp arrays.old.pairs.pairs)) ≡ false }
-    ensures content { held_by (λ t. t.lists) tree.new (grouped T.Key.cmp arrays.new.pairs.pairs)
-        ≡ held_by (λ t. t.lists) tree.old (grouped T.Key.cmp arrays.old.pairs.pairs) }
+    ensures content { held_by (λ t. t.lists.content) tree.new (grouped T.Key.cmp arrays.new.pairs.pairs)
+        ≡ held_by (λ t. t.lists.content) tree.old (grouped T.Key.cmp arrays.old.pairs.pairs) }
     ensures standing { is_some tree.new ≡ stays_spilled (is_some tree.old)
-        (held_by (λ t. t.lists) tree.new (grouped T.Key.cmp arrays.new.pairs.pairs)) }
-    ensures filled { HoldsSome (λ t. t.lists) tree.new }
+        (held_by (λ t. t.lists.content) tree.new (grouped T.Key.cmp arrays.new.pairs.pairs)) }
+    ensures filled { HoldsSome (λ t. t.lists.content) tree.new }
     ensures alone { (is_some tree.new && is_filled (grouped T.Key.cmp arrays.new.pairs.pairs)) ≡ false }
 {
     let emptied = match &*tree {
@@ -88,7 +88,7 @@ fn drop_emptied<T: Translator, V: Drop>(
 
 /// Moves the values of arrays to a tree, all or none. The arrays keep their memory, so that the values can move back.
 fn lift<T: Translator, V: Drop>(arrays: &mut Arrays<T, V>) -> Result<Box<Tree<T, V>>, AllocError>
-    ensures tree { IfOk result (λ tree. tree.value.lists ≡ grouped T.Key.cmp arrays.old.pairs.pairs) }
+    ensures tree { IfOk result (λ tree. tree.value.lists.content ≡ grouped T.Key.cmp arrays.old.pairs.pairs) }
     ensures emptied { OnOk result (arrays.new.pairs.pairs ≡ []) }
     ensures room { OnOk result (item_count (grouped T.Key.cmp arrays.old.pairs.pairs) ≤ arrays.new.pairs.room) }
     ensures refused { OnErr result (arrays.new.pairs.pairs ≡ arrays.old.pairs.pairs) }
@@ -114,8 +114,8 @@ fn lift<T: Translator, V: Drop>(arrays: &mut Arrays<T, V>) -> Result<Box<Tree<T,
 /// Moves the values of a tree to arrays that hold nothing and have room for them, without growth.
 fn lower<T: Translator, V: Drop>(tree: Box<Tree<T, V>>, arrays: &mut Arrays<T, V>)
     requires empty { arrays.old.pairs.pairs ≡ [] }
-    requires room { item_count tree.value.lists ≤ arrays.old.pairs.room }
-    ensures { grouped T.Key.cmp arrays.new.pairs.pairs ≡ tree.value.lists }
+    requires room { item_count tree.value.lists.content ≤ arrays.old.pairs.room }
+    ensures { grouped T.Key.cmp arrays.new.pairs.pairs ≡ tree.value.lists.content }
 {
     let mut lists = Box::into_inner(tree).into_lists();
     lower_lists(&mut lists, &mut arrays.pairs);
@@ -126,16 +126,16 @@ impl<T: Translator, V> Held<T, V> for Spilling<T, V> {
     ghost use Rattle.key_index_parts.specs.Spread.{AreBelow, spread};
     ghost use Rattle.key_index_parts.specs.Spilled.{IsLawful-held_by, filled-held_by};
 
-    ghost content = { λ bucket. held_by (λ t. t.lists) bucket.tree
+    ghost content = { λ bucket. held_by (λ t. t.lists.content) bucket.tree
         (grouped T.Key.cmp bucket.arrays.pairs.pairs) };
 
     ghost spilled = { λ bucket. is_some bucket.tree };
 
-    ghost lawful = { λ bucket. IsLawful-held_by (λ t. t.lists) T.Key.cmp
+    ghost lawful = { λ bucket. IsLawful-held_by (λ t. t.lists.content) T.Key.cmp
         (λ t. t.counted.lawful) bucket.tree (grouped T.Key.cmp bucket.arrays.pairs.pairs)
         (IsLawful-grouped T.Key.total bucket.arrays.pairs.pairs) };
 
-    ghost filled = { λ bucket h. filled-held_by (λ t. t.lists) bucket.tree
+    ghost filled = { λ bucket h. filled-held_by (λ t. t.lists.content) bucket.tree
         (grouped T.Key.cmp bucket.arrays.pairs.pairs) bucket.filled h };
 }
 
@@ -153,10 +153,10 @@ impl<T: Translator, V: Drop> Spilling<T, V> {
     #[inline(always)]
     fn tree(&self) -> Option<&Tree<T, V>>
         ensures held { MatchOption result
-            (held_by (λ t. t.lists) self.now.tree (grouped T.Key.cmp self.now.arrays.pairs.pairs)
+            (held_by (λ t. t.lists.content) self.now.tree (grouped T.Key.cmp self.now.arrays.pairs.pairs)
             ≡ grouped T.Key.cmp self.now.arrays.pairs.pairs)
-            (λ tree. held_by (λ t. t.lists) self.now.tree (grouped T.Key.cmp self.now.arrays.pairs.pairs)
-            ≡ tree.now.lists) }
+            (λ tree. held_by (λ t. t.lists.content) self.now.tree (grouped T.Key.cmp self.now.arrays.pairs.pairs)
+            ≡ tree.now.lists.content) }
         ensures standing { is_some result ≡ is_some self.now.tree }
     {
         if self.is_inline() {
@@ -181,7 +181,7 @@ impl<T: Translator, V: Drop> Spilling<T, V> {
     /// `get`, by a guess where the values begin.
     #[inline(always)]
     pub(crate) fn get_near(&self, key: T::Key, guess: usize) -> Values<'_, V>
-        ensures { result ≡ list_at T.Key.cmp (held_by (λ t. t.lists) self.now.tree
+        ensures { result ≡ list_at T.Key.cmp (held_by (λ t. t.lists.content) self.now.tree
             (grouped T.Key.cmp self.now.arrays.pairs.pairs)) key }
     {
         match self.tree() {

@@ -14,20 +14,20 @@ use std::alloc::Global;
 pub struct Tree<T: Translator, V> {
     lists: Chains<T, V, TreeMap<T::Key, V>, Back>,
     len: usize,
-    ghost counted: { IsCounted T.Key.cmp lists len },
+    ghost counted: { IsCounted T.Key.cmp lists.content len },
 }
 
 impl<T: Translator, V: Drop> Tree<T, V> {
     /// No values. Takes no memory.
     pub(super) fn new(alloc: Global) -> Tree<T, V>
-        ensures { result.lists ≡ [] }
+        ensures { result.lists.content ≡ [] }
     {
         Tree::of_lists(Chains::new(alloc, TreeMap::new(alloc)), 0)
     }
 
     /// The bucket that some lists are, with so many values in them.
     pub(super) fn of_lists(lists: Chains<T, V, TreeMap<T::Key, V>, Back>, len: usize) -> Tree<T, V>
-        requires { IsCounted T.Key.cmp lists len }
+        requires { IsCounted T.Key.cmp lists.content len }
         ensures { result.lists ≡ lists }
     {
         Tree { lists, len }
@@ -43,7 +43,7 @@ impl<T: Translator, V: Drop> Tree<T, V> {
     /// How many values the bucket has.
     #[inline]
     pub(super) fn len(&self) -> usize
-        ensures { result ≡ item_count self.now.lists }
+        ensures { result ≡ item_count self.now.lists.content }
     {
         self.len
     }
@@ -52,11 +52,11 @@ impl<T: Translator, V: Drop> Tree<T, V> {
 impl<T: Translator, V> Held<T, V> for Tree<T, V> {
     ghost use Rattle.key_index_parts.specs.laws.StandingLaws.{inline_filled};
 
-    ghost content = { λ bucket. bucket.lists };
+    ghost content = { λ bucket. bucket.lists.content };
 
     ghost spilled = { λ _. false };
 
-    ghost filled = { λ bucket h. inline_filled (item_count bucket.lists) h };
+    ghost filled = { λ bucket h. inline_filled (item_count bucket.lists.content) h };
 
     ghost lawful = { λ bucket. bucket.counted.lawful };
 }

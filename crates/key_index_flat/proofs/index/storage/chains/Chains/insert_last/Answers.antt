@@ -1,4 +1,4 @@
-use Rattle.std.proofs.Common.{◌≡◌, ℕ, ◌+◌, ◌++◌, IfErr, ◌∷◌, [], cond, is_some, arith, refl, sym, ap, ◌∙◌, subst}
+use Rattle.std.proofs.Common.{◌≡◌, ℕ, ◌++◌, IfErr, ◌∷◌, [], cond, is_some, arith, refl, sym, ap, ◌∙◌, subst}
 use Rattle.key_index_flat.specs.Content.{with_list}
 use Rattle.key_index_flat.specs.Storage.{content_of, tail_at}
 use Rattle.key_index_flat.proofs.content.ChainLemmas.{None-is_some, added-none, list_at-some, put_absent, behind_linked, behind_content, behind_refused, none_back, some_back}

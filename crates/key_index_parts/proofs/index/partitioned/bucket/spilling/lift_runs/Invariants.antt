@@ -5,10 +5,10 @@ use Rattle.key_index_parts.proofs.index.partitioned.bucket.spilling.lift_runs.Gi
 
 abbrev pub invariant-runs : goal.invariant-runs
 invariant-runs g l = record {
-  whole : l.arrays.pairs ++ spread l.lists ≡ l.initial.arrays.pairs;
-  apart : AreBelow g.T.Key.Ord.cmp l.arrays.pairs l.lists;
-  lawful : IsLawful g.T.Key.Ord.cmp l.lists;
-  room : item_count l.lists ≤ l.arrays.room;
+  whole : l.arrays.pairs ++ spread l.lists.content ≡ l.initial.arrays.pairs;
+  apart : AreBelow g.T.Key.Ord.cmp l.arrays.pairs l.lists.content;
+  lawful : IsLawful g.T.Key.Ord.cmp l.lists.content;
+  room : item_count l.lists.content ≤ l.arrays.room;
 }
 
 abbrev pub decreases-runs : goal.decreases-runs

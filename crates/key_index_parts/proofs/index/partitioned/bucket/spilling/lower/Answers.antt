@@ -5,7 +5,7 @@ use Rattle.key_index_parts.proofs.index.partitioned.bucket.spilling.lower.Goals 
 
 pub lower_lists-requires : goal.lower_lists-requires
 lower_lists-requires g c =
-    let is = c.into_lists-lists.ensures ∙ ap (λ t. t.lists) c.into_inner.ensures in
+    let is = ap (λ l. l.content) c.into_lists-lists.ensures ∙ ap (λ t. t.lists.content) c.into_inner.ensures in
     let same = ap item_count is in
     record {
       room = omega (arith, same, c.requires.room);
@@ -15,5 +15,5 @@ lower_lists-requires g c =
 
 pub returns : goal.returns
 returns g c =
-    let is = c.into_lists-lists.ensures ∙ ap (λ t. t.lists) c.into_inner.ensures in
+    let is = ap (λ l. l.content) c.into_lists-lists.ensures ∙ ap (λ t. t.lists.content) c.into_inner.ensures in
     lowered g.met.T.Key.Ord.total _ _ _ c.requires.empty c.lower_lists.ensures (subst (λ l. IsLawful g.T.Key.Ord.cmp l) (sym is) c.args.tree.value.counted.lawful) ∙ is

@@ -5,14 +5,14 @@ use Rattle.key_index_parts.proofs.standing.LiftLemmas.{list_above, list_apart, l
 use Rattle.key_index_parts.proofs.index.partitioned.bucket.spilling.lower_lists.Goals as goal
 
 pub push_run-requires-clause-last : goal.push_run-requires-clause-last
-push_run-requires-clause-last g c = list_above g.met.T.Key.Ord.total _ _ c.pop_first.new.self c.lists.arrays.pairs c.lists.lists c.in-Some.ensures.some c.lists.invariant.apart c.lists.invariant.lawful
+push_run-requires-clause-last g c = list_above g.met.T.Key.Ord.total _ _ c.pop_first.new.self.content c.lists.arrays.pairs c.lists.lists.content c.in-Some.ensures.some c.lists.invariant.apart c.lists.invariant.lawful
 
 pub lists-preserved : goal.lists-preserved
 lists-preserved g c =
     let less = ap item_count c.in-Some.ensures.some in
     record {
-      whole = ap (λ ps. ps ++ spread c.pop_first.new.self) c.push_run.ensures.pairs ∙ list_whole g.met.T.Key.Ord.total _ _ c.pop_first.new.self c.lists.arrays.pairs c.lists.lists c.in-Some.ensures.some c.lists.invariant.apart c.lists.invariant.lawful _ c.lists.invariant.whole;
-      apart = subst (λ ps. AreBelow g.T.Key.Ord.cmp ps c.pop_first.new.self) (sym c.push_run.ensures.pairs) (list_apart g.met.T.Key.Ord.total _ _ c.pop_first.new.self c.lists.arrays.pairs c.lists.lists c.in-Some.ensures.some c.lists.invariant.apart c.lists.invariant.lawful);
-      lawful = list_lawful g.met.T.Key.Ord.total _ _ c.pop_first.new.self c.lists.arrays.pairs c.lists.lists c.in-Some.ensures.some c.lists.invariant.apart c.lists.invariant.lawful;
+      whole = ap (λ ps. ps ++ spread c.pop_first.new.self.content) c.push_run.ensures.pairs ∙ list_whole g.met.T.Key.Ord.total _ _ c.pop_first.new.self.content c.lists.arrays.pairs c.lists.lists.content c.in-Some.ensures.some c.lists.invariant.apart c.lists.invariant.lawful _ c.lists.invariant.whole;
+      apart = subst (λ ps. AreBelow g.T.Key.Ord.cmp ps c.pop_first.new.self.content) (sym c.push_run.ensures.pairs) (list_apart g.met.T.Key.Ord.total _ _ c.pop_first.new.self.content c.lists.arrays.pairs c.lists.lists.content c.in-Some.ensures.some c.lists.invariant.apart c.lists.invariant.lawful);
+      lawful = list_lawful g.met.T.Key.Ord.total _ _ c.pop_first.new.self.content c.lists.arrays.pairs c.lists.lists.content c.in-Some.ensures.some c.lists.invariant.apart c.lists.invariant.lawful;
       room = omega (arith, less, c.lists.invariant.room, c.push_run.ensures.room);
     }

@@ -5,11 +5,11 @@ use Rattle.key_index_parts.proofs.index.partitioned.bucket.spilling.lower_lists.
 
 abbrev pub invariant-lists : goal.invariant-lists
 invariant-lists g l = record {
-  whole : l.arrays.pairs ++ spread l.lists ≡ l.initial.arrays.pairs ++ spread l.initial.lists;
-  apart : AreBelow g.T.Key.Ord.cmp l.arrays.pairs l.lists;
-  lawful : IsLawful g.T.Key.Ord.cmp l.lists;
-  room : item_count l.lists ≤ l.arrays.room;
+  whole : l.arrays.pairs ++ spread l.lists.content ≡ l.initial.arrays.pairs ++ spread l.initial.lists.content;
+  apart : AreBelow g.T.Key.Ord.cmp l.arrays.pairs l.lists.content;
+  lawful : IsLawful g.T.Key.Ord.cmp l.lists.content;
+  room : item_count l.lists.content ≤ l.arrays.room;
 }
 
 abbrev pub decreases-lists : goal.decreases-lists
-decreases-lists g l = length l.lists
+decreases-lists g l = length l.lists.content

@@ -6,7 +6,7 @@ pub invariant_of-self : goal.invariant_of-self
 invariant_of-self g c =
     let told = c.insert_and_retain.ensures in
     record {
-      lawful = lawful_kept g.met.T.Key.Ord.total c.args.self.now.chains c.insert_and_retain.new.self c.args.key c.insert_and_retain.result c.args.self.now.lawful
+      lawful = lawful_kept g.met.T.Key.Ord.total c.args.self.now.chains.content c.insert_and_retain.new.self.content c.args.key c.insert_and_retain.result c.args.self.now.lawful
           (IfOk-weaker c.insert_and_retain.result _ _ (λ told h. (h.0, h.2)) told.accepted) told.refused;
     }
 

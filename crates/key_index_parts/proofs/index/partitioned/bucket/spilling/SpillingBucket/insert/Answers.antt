@@ -10,13 +10,13 @@ use Rattle.key_index_parts.proofs.index.partitioned.bucket.spilling.SpillingBuck
 pub invariant_of-self : goal.invariant_of-self
 invariant_of-self g c =
     let tree = c.deref_mut.result.now in
-    let held = tree.lists in
+    let held = tree.lists.content in
     let l = list_at g.T.Key.Ord.cmp held c.args.key in
-    let some = held_now c.args.self.now.tree (λ t. t.lists) c.in-Some.tree tree c.in-Some.is c.deref_mut.ensures.value c.args.self.now.filled in
+    let some = held_now c.args.self.now.tree (λ t. t.lists.content) c.in-Some.tree tree c.in-Some.is c.deref_mut.ensures.value c.args.self.now.filled in
     let long = length-append l (c.args.value ∷ []) in
     record {
       alone = none_beside c.args.self.now.tree c.in-Some.tree _ c.in-Some.is c.args.self.now.alone;
-      filled = item_count-stays_positive g.met.T.Key.Ord.total c.insert.result held c.insert.new.self.lists c.args.key (put_value false c.args.value)
+      filled = item_count-stays_positive g.met.T.Key.Ord.total c.insert.result held c.insert.new.self.lists.content c.args.key (put_value false c.args.value)
           (not (is_filled l)) tree.counted.lawful some (omega (arith, long)) c.insert.ensures.accepted c.insert.ensures.refused;
     }
 
@@ -32,25 +32,25 @@ returns-then-len-limit-clause-standing g c =
 pub invariant_of-self-in-Ok-insert : goal.invariant_of-self-in-Ok-insert
 invariant_of-self-in-Ok-insert g c =
     let tree = c.deref_mut-2.result.now in
-    let held = tree.lists in
+    let held = tree.lists.content in
     let l = list_at g.T.Key.Ord.cmp held c.args.key in
-    let more = item_count-one_more g.met.T.Key.Ord.total held c.insert-2.new.self.lists c.args.key _ tree.counted.lawful (length-append l (c.args.value ∷ []))
+    let more = item_count-one_more g.met.T.Key.Ord.total held c.insert-2.new.self.lists.content c.args.key _ tree.counted.lawful (length-append l (c.args.value ∷ []))
     c.in-Ok-insert.ensures.accepted.0 in
     record { filled = omega (arith, more); alone = ap (λ ps. is_filled (grouped g.T.Key.Ord.cmp ps)) c.new.ensures.pairs }
 
 pub returns-in-Ok-insert-clause-standing : goal.returns-in-Ok-insert-clause-standing
 returns-in-Ok-insert-clause-standing g c =
     let tree = c.deref_mut-2.result.now in
-    let held = tree.lists in
+    let held = tree.lists.content in
     let l = list_at g.T.Key.Ord.cmp held c.args.key in
-    let more = item_count-one_more g.met.T.Key.Ord.total held c.insert-2.new.self.lists c.args.key _ tree.counted.lawful (length-append l (c.args.value ∷ []))
+    let more = item_count-one_more g.met.T.Key.Ord.total held c.insert-2.new.self.lists.content c.args.key _ tree.counted.lawful (length-append l (c.args.value ∷ []))
     c.in-Ok-insert.ensures.accepted.0 in
-    let same = ap (λ t. item_count (t.lists)) c.deref_mut-2.ensures.value ∙ ap item_count c.in-Ok.ensures.tree in
-    let told = c.len-moved.ensures ∙ ap (λ t. item_count (t.lists)) c.deref.ensures in
-    rw (OnTrue_at c.if-not-is_inline.false c.is_inline.ensures.inline) (Grows-limit_reached c.args.limit _ c.insert-2.new.self.lists c.requires
+    let same = ap (λ t. item_count (t.lists.content)) c.deref_mut-2.ensures.value ∙ ap item_count c.in-Ok.ensures.tree in
+    let told = c.len-moved.ensures ∙ ap (λ t. item_count (t.lists.content)) c.deref.ensures in
+    rw (OnTrue_at c.if-not-is_inline.false c.is_inline.ensures.inline) (Grows-limit_reached c.args.limit _ c.insert-2.new.self.lists.content c.requires
     (omega (arith, told, more, same, c.len.ensures, c.if-len-limit.false, c.requires)) told)
 
 pub lower-requires-clause-room : goal.lower-requires-clause-room
 lower-requires-clause-room g c =
-    let same = ap item_count c.in-Err.ensures.refused ∙ ap (λ t. item_count t.lists) c.deref_mut-2.ensures.value ∙ ap item_count c.in-Ok.ensures.tree in
+    let same = ap item_count c.in-Err.ensures.refused ∙ ap (λ t. item_count t.lists.content) c.deref_mut-2.ensures.value ∙ ap item_count c.in-Ok.ensures.tree in
     omega (arith, same, c.in-Ok.ensures.room)

@@ -20,28 +20,28 @@ returns-then-len-limit-clause-standing g c =
 
 pub lower-requires-clause-room : goal.lower-requires-clause-room
 lower-requires-clause-room g c =
-    let told = c.len-left.ensures ∙ ap (λ t. item_count (t.lists)) c.deref.ensures in
+    let told = c.len-left.ensures ∙ ap (λ t. item_count (t.lists.content)) c.deref.ensures in
     omega (arith, told, c.len-len.ensures, c.if-len-limit.false, c.if-left-limit.true, c.in-Ok.ensures.room)
 
 pub returns-then-left-limit-clause-standing : goal.returns-then-left-limit-clause-standing
 returns-then-left-limit-clause-standing g c =
-    let told = c.len-left.ensures ∙ ap (λ t. item_count (t.lists)) c.deref.ensures in
+    let told = c.len-left.ensures ∙ ap (λ t. item_count (t.lists.content)) c.deref.ensures in
     let same = ap item_count c.lower.ensures in
     rw (OnTrue_at c.if-not-is_inline.false c.is_inline.ensures.inline) (Grows-below_limit c.args.limit _ (omega (arith, told, same, c.if-left-limit.true)))
 
 pub invariant_of-self-in-Ok-insert_and_retain : goal.invariant_of-self-in-Ok-insert_and_retain
 invariant_of-self-in-Ok-insert_and_retain g c =
-    let told = c.len-left.ensures ∙ ap (λ t. item_count (t.lists)) c.deref.ensures in
+    let told = c.len-left.ensures ∙ ap (λ t. item_count (t.lists.content)) c.deref.ensures in
     record { filled = omega (arith, told, c.requires.limit, c.if-left-limit.false); alone = ap (λ ps. is_filled (grouped g.T.Key.Ord.cmp ps)) c.new.ensures.pairs }
 
 pub returns-else-left-limit-clause-standing : goal.returns-else-left-limit-clause-standing
 returns-else-left-limit-clause-standing g c =
-    let told = c.len-left.ensures ∙ ap (λ t. item_count (t.lists)) c.deref.ensures in
-    rw (OnTrue_at c.if-not-is_inline.false c.is_inline.ensures.inline) (Grows-limit_reached c.args.limit _ c.insert_and_retain-2.new.self.lists c.requires.limit (omega (arith, c.if-left-limit.false)) told)
+    let told = c.len-left.ensures ∙ ap (λ t. item_count (t.lists.content)) c.deref.ensures in
+    rw (OnTrue_at c.if-not-is_inline.false c.is_inline.ensures.inline) (Grows-limit_reached c.args.limit _ c.insert_and_retain-2.new.self.lists.content c.requires.limit (omega (arith, c.if-left-limit.false)) told)
 
 pub lower-requires-in-Err-clause-room : goal.lower-requires-in-Err-clause-room
 lower-requires-in-Err-clause-room g c =
-    let same = ap item_count c.in-Err.ensures.refused ∙ ap (λ t. item_count t.lists) c.deref_mut-2.ensures.value ∙ ap item_count c.in-Ok.ensures.tree in
+    let same = ap item_count c.in-Err.ensures.refused ∙ ap (λ t. item_count t.lists.content) c.deref_mut-2.ensures.value ∙ ap item_count c.in-Ok.ensures.tree in
     omega (arith, same, c.in-Ok.ensures.room)
 
 pub drop_emptied-requires : goal.drop_emptied-requires

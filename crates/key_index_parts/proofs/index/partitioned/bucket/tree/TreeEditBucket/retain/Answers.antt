@@ -4,12 +4,12 @@ use Rattle.key_index_parts.proofs.index.partitioned.bucket.tree.TreeEditBucket.r
 
 pub overflow_sub-self-2 : goal.overflow_sub-self-2
 overflow_sub-self-2 g c =
-    let within = within_count g.met.T.Key.Ord.total c.args.self.now.lists c.args.key _ c.args.self.now.counted in
+    let within = within_count g.met.T.Key.Ord.total c.args.self.now.lists.content c.args.key _ c.args.self.now.counted in
     let kept = c.retain-had.ensures.kept in
     omega (arith, within, kept.4)
 
 pub invariant_of-self : goal.invariant_of-self
 invariant_of-self g c =
-    let within = within_count g.met.T.Key.Ord.total c.args.self.now.lists c.args.key _ c.args.self.now.counted in
+    let within = within_count g.met.T.Key.Ord.total c.args.self.now.lists.content c.args.key _ c.args.self.now.counted in
     let kept = c.retain-had.ensures.kept in
     record { counted = IsCounted-with_list g.met.T.Key.Ord.total _ _ _ _ _ _ c.args.self.now.counted kept.2 (omega (arith, within, kept.3, kept.4, kept.5)) }

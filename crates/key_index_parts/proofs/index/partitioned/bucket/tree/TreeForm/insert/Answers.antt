@@ -7,12 +7,12 @@ use Rattle.key_index_parts.proofs.index.partitioned.bucket.tree.TreeForm.insert.
 
 pub invariant_of-self-2 : goal.invariant_of-self-2
 invariant_of-self-2 g c =
-    let more = length-append (list_at g.T.Key.Ord.cmp c.args.self.now.lists c.args.key) (c.args.value ∷ []) in
+    let more = length-append (list_at g.T.Key.Ord.cmp c.args.self.now.lists.content c.args.key) (c.args.value ∷ []) in
     record { counted = IsCounted-with_list g.met.T.Key.Ord.total _ _ _ _ _ _ c.args.self.now.counted c.in_ok-insert.ensures.accepted (omega (arith, more)) }
 
 pub returns-clause-accepted : goal.returns-clause-accepted
 returns-clause-accepted g c =
-    let lists = c.args.self.now.lists in
+    let lists = c.args.self.now.lists.content in
     let list = list_at g.T.Key.Ord.cmp lists c.args.key in
     let more = length-append list (c.args.value ∷ []) in
     let content = c.in_ok-insert.ensures.accepted in
