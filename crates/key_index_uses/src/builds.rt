@@ -1,4 +1,5 @@
-//! Where the newest record of each key of a log stands, over any index in partitions.
+//! Where the newest record of each index key of a log stands, over any index in partitions. Of two keys that share an index key the one
+//! with the older record is lost: `Snapshot::build` keeps both.
 ghost use Rattle.std.specs.Prelude.{◌≡◌, ◌⊎◌, List, ℕ, [], map, IfOk, IfErr};
 ghost use Rattle.key_index_parts.specs.Ops.{IsCuts};
 ghost use Rattle.key_index_flat.specs.View.{run_of};
@@ -26,7 +27,8 @@ fn ops_of(alloc: Global, records: Vec<(Vec<u8>, u64)>) -> Result<Vec<Op<u64>>, F
 }
 
 /// Reads the records of a log, each with its key and its position and the newest first, into an empty index, range by range. Each key
-/// then answers with the position of its newest record, as if the records were read one by one. A refusal leaves no index.
+/// then answers with the position of the newest record of a key that shares its index key, as if the records were read one by one. A
+/// refusal leaves no index.
 pub fn newest_positions<I: Partitioned<Value = u64> + Drop>(
     alloc: Global,
     mut index: I,

@@ -6,6 +6,7 @@ pub mod builds;
 pub mod callers;
 pub mod named;
 pub mod records;
+pub mod reserved;
 pub mod segments;
 pub mod snapshots;
 pub mod standing;
