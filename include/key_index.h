@@ -69,6 +69,10 @@ typedef enum key_index_kind {
 } key_index_kind;
 
 /* What the library exports. */
+struct key_index_found {
+    size_t count;
+    uint64_t first;
+};
 struct key_index_neighbour {
     size_t count;
     uint32_t status;
@@ -84,7 +88,7 @@ uint32_t key_index_c_insert(key_index *index, const uint8_t *key, size_t key_len
 struct key_index_many key_index_c_insert_many(key_index *index, const uint8_t *keys, size_t keys_len, const size_t *ends,
                                               size_t ends_len, const uint64_t *values, size_t values_len);
 size_t key_index_c_get(key_index *index, const uint8_t *key, size_t key_len, uint64_t *values, size_t room);
-bool key_index_c_contains(key_index *index, const uint8_t *key, size_t key_len);
+struct key_index_found key_index_c_find(key_index *index, const uint8_t *key, size_t key_len);
 void key_index_c_remove(key_index *index, const uint8_t *key, size_t key_len);
 bool key_index_c_remove_value(key_index *index, const uint8_t *key, size_t key_len, uint64_t value);
 bool key_index_c_replace_value(key_index *index, const uint8_t *key, size_t key_len, uint64_t value, uint64_t with);
@@ -159,16 +163,19 @@ static inline key_index_status key_index_insert_many(key_index *index, const voi
  * that is more than `room`, ask again with more room. */
 static inline key_index_status key_index_get(key_index *index, const void *key, size_t key_len, uint64_t *values, size_t room,
                                              size_t *count) {
-    uint64_t none = 0;
+    struct key_index_found found;
     if (count == NULL || !key_index_takes(index, key, key_len, values, room)) return KEY_INDEX_BAD_ARGUMENT;
-    *count = key_index_c_get(index, key_index_bytes(key), key_len, key_index_room(values, &none), room);
+    found = key_index_c_find(index, key_index_bytes(key), key_len);
+    if (found.count > 0 && room > 0) values[0] = found.first;
+    if (found.count > 1 && room > 1) key_index_c_get(index, key_index_bytes(key), key_len, values, room);
+    *count = found.count;
     return KEY_INDEX_OK;
 }
 
 /* Tells whether a key has a value. */
 static inline key_index_status key_index_contains(key_index *index, const void *key, size_t key_len, bool *held) {
     if (held == NULL || !key_index_takes(index, key, key_len, NULL, 0)) return KEY_INDEX_BAD_ARGUMENT;
-    *held = key_index_c_contains(index, key_index_bytes(key), key_len);
+    *held = key_index_c_find(index, key_index_bytes(key), key_len).count > 0;
     return KEY_INDEX_OK;
 }
 

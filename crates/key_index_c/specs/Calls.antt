@@ -1,5 +1,6 @@
 -- What the calls leave and tell.
 --     place_of         where the first of some values stands that equals a value
+--     found_in         how many values there are, and the first one, 0 where there is none
 --     after_removed    a key without the value at a place of its list; after_replaced: with another one there. None: nothing changed
 --     start_of         where the key of a number begins, among keys that stand behind one another, by where each ends; key_of: that key
 --     AreKeys          these are the ends of as many keys as there are values
@@ -7,16 +8,24 @@
 --     not_cycled       the list at an end, as a neighbour that was not found around the end
 --     if_ordered       a neighbour of an index that has an order, and else none
 --     Shows            what is told of a neighbour, and the buffer then. ordered: whether the index has an order
-use Rattle.std.specs.Prelude.{◌≡◌, ℕ, zero, suc, ◌<◌, ◌≤◌, Bool, true, false, nat_eq, if◌then◌else◌, List, [], length, slice_index, slice_range, slice_set, remove, Option, Some, None}
+use Rattle.std.specs.Prelude.{◌≡◌, ℕ, zero, suc, ◌<◌, ◌≤◌, Bool, true, false, nat_eq, if◌then◌else◌, List, [], ◌∷◌, length, slice_index, slice_range, slice_set, remove, Option, Some, None}
 use Rattle.std.specs.List.{position}
 use Rattle.std.specs.Option.{option_map}
 use Rattle.std.specs.Ordering.{nat_cmp}
 use Rattle.key_index_flat.specs.View.{View, after_insert, with_edit, with_pruned}
 use Rattle.key_index_c.specs.Buffer.{filled}
+use Rattle.key_index_c.specs.declared.any.Found.{Found}
 use Rattle.key_index_c.specs.declared.any.Neighbour.{Neighbour}
 
 abbrev pub place_of : ℕ → List ℕ → Option ℕ
 place_of value values = position (λ held. nat_eq held value) values
+
+abbrev pub first_in : List ℕ → ℕ
+first_in [] = 0
+first_in (value ∷ values) = value
+
+abbrev pub found_in : List ℕ → Found
+found_in values = record { count = length values; first = first_in values }
 
 abbrev pub after_removed : View ℕ ℕ → List ℕ → Option ℕ → View ℕ ℕ
 after_removed s key None = s

@@ -3,10 +3,10 @@ ghost use Rattle.std.specs.Prelude.{◌≡◌, ◌≢◌, ◌<◌, ◌⊎◌, �
 ghost use Rattle.std.specs.Ordering.{nat_cmp};
 ghost use Rattle.key_index_flat.specs.Content.{key_count};
 ghost use Rattle.key_index_flat.specs.Neighbours.{first_list, last_list, next_list, prev_list};
-ghost use Rattle.key_index_flat.specs.View.{after_insert, after_remove, growth_fault_in, items_in};
+ghost use Rattle.key_index_flat.specs.View.{after_insert, after_remove, growth_fault_in, items_in, run_of};
 ghost use Rattle.key_index_c.specs.Any.{any_view, held_under, is_ordered, slot_of};
 ghost use Rattle.key_index_c.specs.Buffer.{filled};
-ghost use Rattle.key_index_c.specs.Calls.{AreKeys, Shows, after_inserts, after_removed, after_replaced, not_cycled, place_of};
+ghost use Rattle.key_index_c.specs.Calls.{AreKeys, Shows, after_inserts, after_removed, after_replaced, found_in, not_cycled, place_of};
 ghost use Rattle.key_index_c.specs.Status.{kind_refusal, status_of};
 
 use crate::status::{self, BAD_ARGUMENT, MEMORY, OK};
@@ -32,6 +32,16 @@ pub const UNORDERED: u32 = 0;
 pub const ORDERED: u32 = 1;
 /// The kind of an unordered index over hashes by a seed.
 pub const SEEDED: u32 = 2;
+
+/// How many values a key has, and the first one.
+#[repr(C)]
+#[derive(Drop)]
+pub struct Found {
+    /// How many.
+    pub count: usize,
+    /// The first one, 0 where there is none.
+    pub first: u64,
+}
 
 /// What a call for the values of a neighbour tells.
 #[repr(C)]
@@ -152,11 +162,11 @@ impl Any {
         each!(self, index => copy(index.get(key), buffer))
     }
 
-    /// Whether a key has a value.
-    pub(crate) fn contains(&self, key: &[u8]) -> bool
-        ensures { IsTrue result ↔ (0 < length (held_under self.now key.now)) }
+    /// How many values a key has, and the first one.
+    pub(crate) fn find(&self, key: &[u8]) -> Found
+        ensures { result ≡ found_in (held_under self.now key.now) }
     {
-        each!(self, index => index.get(key).len() > 0)
+        each!(self, index => front(index, key))
     }
 
     /// Removes a key with all its values.
@@ -321,6 +331,21 @@ fn show(neighbour: Option<(Values<'_, u64>, bool)>, buffer: &mut [u64]) -> Neigh
         count,
         status: OK,
         cycled,
+    }
+}
+
+/// How many values a key has, and the first one.
+#[inline]
+fn front<I: Unordered<Value = u64>>(index: &I, key: &[u8]) -> Found
+    ensures { result ≡ found_in (run_of I.Key.cmp (I.view index.now) key.now) }
+{
+    let mut values = index.get(key);
+    Found {
+        count: values.len(),
+        first: match values.next() {
+            None => 0,
+            Some(value) => *value,
+        },
     }
 }
 

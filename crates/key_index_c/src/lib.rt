@@ -4,14 +4,14 @@
 //! caller owes (`requires`) and what the call leaves (`ensures`).
 #![tactic(auto)]
 
-ghost use Rattle.std.specs.Prelude.{◌≡◌, ◌≢◌, ◌<◌, ◌⊎◌, ◌↔◌, [], true, None, length, is_some, IsTrue, nat_eq};
+ghost use Rattle.std.specs.Prelude.{◌≡◌, ◌≢◌, ◌<◌, ◌⊎◌, [], true, None, length, is_some, nat_eq};
 ghost use Rattle.std.specs.Ordering.{nat_cmp};
 ghost use Rattle.key_index_flat.specs.Content.{key_count};
 ghost use Rattle.key_index_flat.specs.Neighbours.{first_list, last_list, next_list, prev_list};
 ghost use Rattle.key_index_flat.specs.View.{after_insert, after_remove, growth_fault_in, items_in};
 ghost use Rattle.key_index_c.specs.Any.{slot_of};
 ghost use Rattle.key_index_c.specs.Buffer.{filled};
-ghost use Rattle.key_index_c.specs.Calls.{AreKeys, Shows, after_inserts, after_removed, after_replaced, not_cycled, place_of};
+ghost use Rattle.key_index_c.specs.Calls.{AreKeys, Shows, after_inserts, after_removed, after_replaced, found_in, not_cycled, place_of};
 ghost use Rattle.key_index_c.specs.Held.{IsMade, Keeps, StaysMade, has_order, values_in, view_in};
 ghost use Rattle.key_index_c.specs.Status.{kind_refusal, status_of};
 
@@ -21,7 +21,7 @@ mod any;
 mod handle;
 mod status;
 
-pub use any::{Any, Many, Neighbour, ORDERED, SEEDED, UNORDERED};
+pub use any::{Any, Found, Many, Neighbour, ORDERED, SEEDED, UNORDERED};
 pub use handle::Handle;
 pub use status::{BAD_ARGUMENT, FULL, MEMORY, OK, TOO_FAR};
 
@@ -123,15 +123,15 @@ pub extern "C" fn key_index_c_get(
     told
 }
 
-/// Whether a key has a value.
+/// How many values a key has, and the first one.
 #[unsafe(no_mangle)]
-pub extern "C" fn key_index_c_contains(alloc: Global, handle: &mut Handle, key: &[u8]) -> bool
+pub extern "C" fn key_index_c_find(alloc: Global, handle: &mut Handle, key: &[u8]) -> Found
     requires made { IsMade handle.old }
     ensures same { Keeps handle.old handle.new }
-    ensures held { IsTrue result ↔ (0 < length (values_in handle.old key.now)) }
+    ensures found { result ≡ found_in (values_in handle.old key.now) }
 {
     let any = handle.take(alloc);
-    let told = any.contains(key);
+    let told = any.find(key);
     handle.put(any);
     told
 }

@@ -8,6 +8,14 @@ pub struct Handle {
     pub at: *mut c_void,
 }
 
+/// How many values a key has, and the first one.
+#[repr(C)]
+#[derive(Clone, Copy, Debug, PartialEq, Eq)]
+pub struct Found {
+    pub count: usize,
+    pub first: u64,
+}
+
 /// What is told of a neighbour.
 #[repr(C)]
 #[derive(Clone, Copy, Debug, PartialEq, Eq)]
@@ -53,7 +61,7 @@ extern "C" {
         values: *mut u64,
         room: usize,
     ) -> usize;
-    pub fn key_index_c_contains(handle: *mut Handle, key: *const u8, len: usize) -> bool;
+    pub fn key_index_c_find(handle: *mut Handle, key: *const u8, len: usize) -> Found;
     pub fn key_index_c_remove(handle: *mut Handle, key: *const u8, len: usize);
     pub fn key_index_c_remove_value(
         handle: *mut Handle,

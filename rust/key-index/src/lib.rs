@@ -29,10 +29,11 @@
 mod ffi;
 mod values;
 
-use ffi::{Handle, Neighbour};
+use ffi::{Found, Handle, Neighbour};
 use std::cell::UnsafeCell;
 use std::fmt;
 use std::marker::PhantomData;
+use values::written;
 pub use values::Values;
 
 /// Why a call was refused. The index holds what it held.
@@ -202,10 +203,26 @@ impl<K: Kind> Index<K> {
         answer(told.status).map_err(|error| (told.count, error))
     }
 
+    #[inline]
+    fn find(&self, key: &[u8]) -> Found {
+        // SAFETY: the key goes with its length.
+        unsafe { ffi::key_index_c_find(self.handle.get(), key.as_ptr(), key.len()) }
+    }
+
     /// The values of a key, the newest first.
+    #[inline]
     #[must_use]
     pub fn get(&self, key: &[u8]) -> Values {
-        Values::by(|values, room| {
+        let found = self.find(key);
+        if found.count < 2 {
+            return Values::at_most_one(found.first, found.count);
+        }
+        Values::of(self.several(key))
+    }
+
+    #[cold]
+    fn several(&self, key: &[u8]) -> Box<[u64]> {
+        written(|values, room| {
             // SAFETY: the key and the room for values go with their lengths.
             unsafe {
                 ffi::key_index_c_get(self.handle.get(), key.as_ptr(), key.len(), values, room)
@@ -214,10 +231,10 @@ impl<K: Kind> Index<K> {
     }
 
     /// Whether a key has a value.
+    #[inline]
     #[must_use]
     pub fn contains(&self, key: &[u8]) -> bool {
-        // SAFETY: the key goes with its length.
-        unsafe { ffi::key_index_c_contains(self.handle.get(), key.as_ptr(), key.len()) }
+        self.find(key).count > 0
     }
 
     /// Removes a key with all its values. It takes no memory.
@@ -314,12 +331,12 @@ impl Index<Ordered> {
 /// The values of a neighbour, and whether it was found around the end. No list is empty.
 fn neighbour(mut call: impl FnMut(*mut u64, usize) -> Neighbour) -> Option<(Values, bool)> {
     let mut cycled = false;
-    let values = Values::by(|values, room| {
+    let values = written(|values, room| {
         let told = call(values, room);
         cycled = told.cycled;
         told.count
     });
-    (values.len() > 0).then_some((values, cycled))
+    (!values.is_empty()).then(|| (Values::of(values), cycled))
 }
 
 impl<K: Kind> Drop for Index<K> {
@@ -341,13 +358,15 @@ impl<K: Kind> fmt::Debug for Index<K> {
 
 #[cfg(test)]
 mod tests {
-    use super::ffi::{Handle, Many, Neighbour};
+    use super::ffi::{Found, Handle, Many, Neighbour};
     use std::mem::{align_of, offset_of, size_of};
 
     // As the header declares them for C, which the compiler of the library takes too.
     #[test]
     fn the_declared_types_have_the_sizes_of_c() {
         assert_eq!((size_of::<Handle>(), align_of::<Handle>()), (8, 8));
+        assert_eq!((size_of::<Found>(), align_of::<Found>()), (16, 8));
+        assert_eq!((offset_of!(Found, count), offset_of!(Found, first)), (0, 8));
         assert_eq!((size_of::<Neighbour>(), align_of::<Neighbour>()), (16, 8));
         assert_eq!(
             (
