@@ -82,23 +82,28 @@ struct key_index_many {
     size_t count;
     uint32_t status;
 };
+struct key_index_counts {
+    size_t keys;
+    size_t items;
+    uint64_t pruned;
+};
+enum { KEY_INDEX_NEXT, KEY_INDEX_PREV, KEY_INDEX_FIRST, KEY_INDEX_LAST };
 uint32_t key_index_c_new(key_index *index, uint32_t kind, uint64_t seed);
 void key_index_c_free(key_index *index);
 uint32_t key_index_c_insert(key_index *index, const uint8_t *key, size_t key_len, uint64_t value);
 struct key_index_many key_index_c_insert_many(key_index *index, const uint8_t *keys, size_t keys_len, const size_t *ends,
                                               size_t ends_len, const uint64_t *values, size_t values_len);
 size_t key_index_c_get(key_index *index, const uint8_t *key, size_t key_len, uint64_t *values, size_t room);
+struct key_index_many key_index_c_get_many(key_index *index, const uint8_t *keys, size_t keys_len, const size_t *ends, size_t ends_len,
+                                           uint64_t *values, size_t room, size_t *stops, size_t stops_len);
 struct key_index_found key_index_c_find(key_index *index, const uint8_t *key, size_t key_len);
 void key_index_c_remove(key_index *index, const uint8_t *key, size_t key_len);
 bool key_index_c_remove_value(key_index *index, const uint8_t *key, size_t key_len, uint64_t value);
 bool key_index_c_replace_value(key_index *index, const uint8_t *key, size_t key_len, uint64_t value, uint64_t with);
-size_t key_index_c_keys(key_index *index);
-size_t key_index_c_items(key_index *index);
-uint64_t key_index_c_pruned(key_index *index);
-struct key_index_neighbour key_index_c_next(key_index *index, const uint8_t *key, size_t key_len, uint64_t *values, size_t room);
-struct key_index_neighbour key_index_c_prev(key_index *index, const uint8_t *key, size_t key_len, uint64_t *values, size_t room);
-struct key_index_neighbour key_index_c_first(key_index *index, uint64_t *values, size_t room);
-struct key_index_neighbour key_index_c_last(key_index *index, uint64_t *values, size_t room);
+uint32_t key_index_c_keep(key_index *index, const uint8_t *key, size_t key_len, const uint8_t *mask, size_t mask_len);
+struct key_index_counts key_index_c_counts(key_index *index);
+struct key_index_neighbour key_index_c_neighbour(key_index *index, uint32_t which, const uint8_t *key, size_t key_len, uint64_t *values,
+                                                 size_t room);
 
 /* Whether an index was made, and a key and a buffer can be passed. A pointer that is null has to have the length 0. */
 static inline bool key_index_is_made(const key_index *index) {
@@ -172,6 +177,23 @@ static inline key_index_status key_index_get(key_index *index, const void *key, 
     return KEY_INDEX_OK;
 }
 
+/* The same of `n` keys, which stand behind one another as for key_index_insert_many: the values of the key of the number i are written
+ * behind those of the keys before it, and end in front of values[stops[i]]. `count` is how many values they have in all, as far as
+ * SIZE_MAX goes. KEY_INDEX_BAD_ARGUMENT: nothing was written. */
+static inline key_index_status key_index_get_many(key_index *index, const void *keys, const size_t *ends, size_t n, uint64_t *values,
+                                                  size_t room, size_t *stops, size_t *count) {
+    uint64_t none = 0;
+    struct key_index_many told;
+    if (count == NULL || !key_index_is_made(index)) return KEY_INDEX_BAD_ARGUMENT;
+    *count = 0;
+    if (n == 0) return KEY_INDEX_OK;
+    if (ends == NULL || stops == NULL || n > PTRDIFF_MAX / sizeof *values ||
+        !key_index_takes(index, keys, ends[n - 1], values, room)) return KEY_INDEX_BAD_ARGUMENT;
+    told = key_index_c_get_many(index, key_index_bytes(keys), ends[n - 1], ends, n, key_index_room(values, &none), room, stops, n);
+    *count = told.count;
+    return (key_index_status)told.status;
+}
+
 /* Tells whether a key has a value. */
 static inline key_index_status key_index_contains(key_index *index, const void *key, size_t key_len, bool *held) {
     if (held == NULL || !key_index_takes(index, key, key_len, NULL, 0)) return KEY_INDEX_BAD_ARGUMENT;
@@ -202,58 +224,57 @@ static inline key_index_status key_index_replace_value(key_index *index, const v
     return KEY_INDEX_OK;
 }
 
+/* Keeps those values of a key whose byte of `mask` is not 0, in their order, and removes the others. It takes no memory.
+ * KEY_INDEX_BAD_ARGUMENT where the mask has not as many bytes as the key has values. */
+static inline key_index_status key_index_keep(key_index *index, const void *key, size_t key_len, const uint8_t *mask, size_t mask_len) {
+    if (!key_index_takes(index, key, key_len, NULL, 0) || (mask == NULL && mask_len != 0) || mask_len > PTRDIFF_MAX)
+        return KEY_INDEX_BAD_ARGUMENT;
+    return (key_index_status)key_index_c_keep(index, key_index_bytes(key), key_len, key_index_bytes(mask), mask_len);
+}
+
 /* How many keys there are, how many values, and how many were ever removed (that count stops at UINT64_MAX). 0 of none. */
 static inline size_t key_index_keys(key_index *index) {
-    return key_index_is_made(index) ? key_index_c_keys(index) : 0;
+    return key_index_is_made(index) ? key_index_c_counts(index).keys : 0;
 }
 static inline size_t key_index_items(key_index *index) {
-    return key_index_is_made(index) ? key_index_c_items(index) : 0;
+    return key_index_is_made(index) ? key_index_c_counts(index).items : 0;
 }
 static inline uint64_t key_index_pruned(key_index *index) {
-    return key_index_is_made(index) ? key_index_c_pruned(index) : 0;
+    return key_index_is_made(index) ? key_index_c_counts(index).pruned : 0;
+}
+
+static inline key_index_status key_index_neighbour(key_index *index, uint32_t which, const void *key, size_t key_len, uint64_t *values,
+                                                   size_t room, size_t *count, bool *cycled) {
+    uint64_t none = 0;
+    struct key_index_neighbour told;
+    if (count == NULL || cycled == NULL || !key_index_takes(index, key, key_len, values, room)) return KEY_INDEX_BAD_ARGUMENT;
+    told = key_index_c_neighbour(index, which, key_index_bytes(key), key_len, key_index_room(values, &none), room);
+    *count = told.count;
+    *cycled = told.cycled;
+    return (key_index_status)told.status;
 }
 
 /* The values of the least shortened key that is greater than that of the key; of the first one, with `cycled` true, if there is none.
  * They are written as key_index_get writes them. `count` is 0 only if the index holds no value. */
 static inline key_index_status key_index_next(key_index *index, const void *key, size_t key_len, uint64_t *values, size_t room,
                                               size_t *count, bool *cycled) {
-    uint64_t none = 0;
-    struct key_index_neighbour told;
-    if (count == NULL || cycled == NULL || !key_index_takes(index, key, key_len, values, room)) return KEY_INDEX_BAD_ARGUMENT;
-    told = key_index_c_next(index, key_index_bytes(key), key_len, key_index_room(values, &none), room);
-    *count = told.count;
-    *cycled = told.cycled;
-    return (key_index_status)told.status;
+    return key_index_neighbour(index, KEY_INDEX_NEXT, key, key_len, values, room, count, cycled);
 }
 
 /* The same below the key: the greatest shortened key that is less, or the last one with `cycled` true. */
 static inline key_index_status key_index_prev(key_index *index, const void *key, size_t key_len, uint64_t *values, size_t room,
                                               size_t *count, bool *cycled) {
-    uint64_t none = 0;
-    struct key_index_neighbour told;
-    if (count == NULL || cycled == NULL || !key_index_takes(index, key, key_len, values, room)) return KEY_INDEX_BAD_ARGUMENT;
-    told = key_index_c_prev(index, key_index_bytes(key), key_len, key_index_room(values, &none), room);
-    *count = told.count;
-    *cycled = told.cycled;
-    return (key_index_status)told.status;
+    return key_index_neighbour(index, KEY_INDEX_PREV, key, key_len, values, room, count, cycled);
 }
 
 /* The values of the least shortened key, and of the greatest. */
 static inline key_index_status key_index_first(key_index *index, uint64_t *values, size_t room, size_t *count) {
-    uint64_t none = 0;
-    struct key_index_neighbour told;
-    if (count == NULL || !key_index_takes(index, NULL, 0, values, room)) return KEY_INDEX_BAD_ARGUMENT;
-    told = key_index_c_first(index, key_index_room(values, &none), room);
-    *count = told.count;
-    return (key_index_status)told.status;
+    bool cycled = false;
+    return key_index_neighbour(index, KEY_INDEX_FIRST, NULL, 0, values, room, count, &cycled);
 }
 static inline key_index_status key_index_last(key_index *index, uint64_t *values, size_t room, size_t *count) {
-    uint64_t none = 0;
-    struct key_index_neighbour told;
-    if (count == NULL || !key_index_takes(index, NULL, 0, values, room)) return KEY_INDEX_BAD_ARGUMENT;
-    told = key_index_c_last(index, key_index_room(values, &none), room);
-    *count = told.count;
-    return (key_index_status)told.status;
+    bool cycled = false;
+    return key_index_neighbour(index, KEY_INDEX_LAST, NULL, 0, values, room, count, &cycled);
 }
 
 #ifdef __cplusplus

@@ -1,17 +1,15 @@
 //! An index of any kind.
-ghost use Rattle.std.specs.Prelude.{◌≡◌, ◌≢◌, ◌<◌, ◌⊎◌, ◌↔◌, [], true, false, length, is_some, IfOk, IfErr, IfSome, IsTrue, nat_eq};
+ghost use Rattle.std.specs.Prelude.{◌≡◌, ◌≢◌, ◌<◌, ◌⊎◌, ◌↔◌, ◌&&◌, [], true, false, length, is_some, IfOk, IfErr, IfSome, OnOk, IsTrue, nat_eq, nat_lt};
 ghost use Rattle.std.specs.Ordering.{nat_cmp};
-ghost use Rattle.key_index_flat.specs.Content.{key_count};
-ghost use Rattle.key_index_flat.specs.Neighbours.{first_list, last_list, next_list, prev_list};
-ghost use Rattle.key_index_flat.specs.View.{after_insert, after_remove, growth_fault_in, items_in, run_of};
+ghost use Rattle.key_index_flat.specs.View.{after_insert, after_remove, growth_fault_in, items_in, run_of, IsWantAt};
 ghost use Rattle.key_index_c.specs.Any.{any_view, held_under, is_ordered, slot_of};
 ghost use Rattle.key_index_c.specs.Buffer.{filled};
-ghost use Rattle.key_index_c.specs.Calls.{AreKeys, Shows, after_inserts, after_removed, after_replaced, found_in, not_cycled, place_of};
+ghost use Rattle.key_index_c.specs.Calls.{AreKeys, Shows, ShowsMany, after_inserts, after_kept, after_removed, after_replaced, counts_in, found_in, mask_status, neighbour_list, not_cycled, place_of, values_of};
 ghost use Rattle.key_index_c.specs.Status.{kind_refusal, status_of};
 
 use crate::status::{self, BAD_ARGUMENT, MEMORY, OK};
 use key_index_flat::index::implement::Lists;
-use key_index_flat::index::{Factory, Ordered, Runs, Unordered, Values, ordered, unordered};
+use key_index_flat::index::{Factory, Fault, Ordered, Runs, Unordered, Values, ordered, unordered};
 use key_index_flat::translator::{EightCap, Hashed, SeededSha256};
 use std::alloc::Global;
 
@@ -33,6 +31,15 @@ pub const ORDERED: u32 = 1;
 /// The kind of an unordered index over hashes by a seed.
 pub const SEEDED: u32 = 2;
 
+/// The next key, or the first one if there is none above.
+pub const NEXT: u32 = 0;
+/// The previous key, or the last one if there is none below.
+pub const PREV: u32 = 1;
+/// The first key.
+pub const FIRST: u32 = 2;
+/// The last key.
+pub const LAST: u32 = 3;
+
 /// How many values a key has, and the first one.
 #[repr(C)]
 #[derive(Drop)]
@@ -43,13 +50,25 @@ pub struct Found {
     pub first: u64,
 }
 
+/// What an index counts.
+#[repr(C)]
+#[derive(Drop)]
+pub struct Counts {
+    /// How many keys there are.
+    pub keys: usize,
+    /// How many values there are.
+    pub items: usize,
+    /// How many values were ever removed. The count stops at `u64::MAX`.
+    pub pruned: u64,
+}
+
 /// What a call for the values of a neighbour tells.
 #[repr(C)]
 #[derive(Drop)]
 pub struct Neighbour {
     /// How many values the neighbour has, 0 where there is none.
     pub count: usize,
-    /// `OK`, or `BAD_ARGUMENT` where the index has no order.
+    /// `OK`, or `BAD_ARGUMENT` where the index has no order or no neighbour has the number.
     pub status: u32,
     /// Whether it was found around the end.
     pub cycled: bool,
@@ -59,9 +78,9 @@ pub struct Neighbour {
 #[repr(C)]
 #[derive(Drop)]
 pub struct Many {
-    /// How many keys were taken, from the first one on.
+    /// How many were inserted, from the first one on; how many values they have.
     pub count: usize,
-    /// `OK` if all were; `BAD_ARGUMENT` if the ends are none of as many keys as there are values.
+    /// `OK`; why the next one was refused; `BAD_ARGUMENT` if the ends are none of so many keys.
     pub status: u32,
 }
 
@@ -124,22 +143,14 @@ impl Any {
 
     /// Inserts values under keys that stand behind one another, each up to its end, until one is refused.
     pub(crate) fn insert_many(&mut self, keys: &[u8], ends: &[usize], values: &[u64]) -> Many
+        requires keys { AreKeys keys.now ends.now (length values.now) }
         ensures order { is_ordered self.new ≡ is_ordered self.old }
         ensures inserted { any_view self.new
             ≡ after_inserts (any_view self.old) keys.now ends.now values.now result.count }
-        ensures keys { AreKeys keys.now ends.now values.now → result.status ≢ BAD_ARGUMENT }
-        ensures taken { result.status ≢ BAD_ARGUMENT → AreKeys keys.now ends.now values.now }
-        ensures unkeyed { result.status ≡ BAD_ARGUMENT → result.count ≡ 0 }
         ensures whole { result.status ≡ OK → result.count ≡ length values.now }
-        ensures status { (result.status ≡ OK) ⊎ (result.status ≡ BAD_ARGUMENT)
-            ⊎ (result.status ≡ status_of (growth_fault_in (any_view self.new))) }
+        ensures keyed { result.status ≢ BAD_ARGUMENT }
+        ensures status { (result.status ≡ OK) ⊎ (result.status ≡ status_of (growth_fault_in (any_view self.new))) }
     {
-        if !are_keys(keys, ends, values) {
-            return Many {
-                count: 0,
-                status: BAD_ARGUMENT,
-            };
-        }
         let mut start = 0;
         for (count, end) in ends.iter().enumerate() {
             let status = self.insert(&keys[start..*end], values[count]);
@@ -160,6 +171,30 @@ impl Any {
         ensures values { buffer.new ≡ filled (held_under self.now key.now) buffer.old }
     {
         each!(self, index => copy(index.get(key), buffer))
+    }
+
+    /// Writes the values of many keys to a buffer, as many as it has room for, and where those of each key end. Tells how many there are,
+    /// as far as a `usize` goes.
+    pub(crate) fn get_many(
+        &self,
+        keys: &[u8],
+        ends: &[usize],
+        buffer: &mut [u64],
+        stops: &mut [usize],
+    ) -> usize
+        requires keys { AreKeys keys.now ends.now (length stops.old) }
+        ensures { ShowsMany (values_of nat_cmp (any_view self.now) keys.now ends.now)
+            (length ends.now) result buffer.old buffer.new stops.new }
+    {
+        let mut start = 0;
+        let mut count: usize = 0;
+        for (number, end) in ends.iter().enumerate() {
+            let from = count.min(buffer.len());
+            count = count.saturating_add(self.get(&keys[start..*end], &mut buffer[from..]));
+            stops[number] = count;
+            start = *end;
+        }
+        count
     }
 
     /// How many values a key has, and the first one.
@@ -215,77 +250,59 @@ impl Any {
         })
     }
 
-    /// How many keys there are.
-    pub(crate) fn keys(&self) -> usize
-        ensures { result ≡ key_count (any_view self.now).content }
+    /// Keeps those values of a key whose byte of a mask is not 0, and tells the status.
+    pub(crate) fn keep(&mut self, key: &[u8], mask: &[u8]) -> u32
+        ensures order { is_ordered self.new ≡ is_ordered self.old }
+        ensures kept { result ≡ OK
+            → any_view self.new ≡ after_kept nat_cmp (any_view self.old) key.now mask.now }
+        ensures refused { result ≢ OK → any_view self.new ≡ any_view self.old }
+        ensures status { result ≡ mask_status mask.now (held_under self.old key.now) }
     {
-        each!(self, index => index.keys())
-    }
-
-    /// How many values there are.
-    pub(crate) fn items(&self) -> usize
-        ensures { result ≡ items_in (any_view self.now) }
-    {
-        each!(self, index => index.items())
-    }
-
-    /// How many values were ever removed.
-    pub(crate) fn pruned(&self) -> u64
-        ensures { result ≡ (any_view self.now).pruned }
-    {
-        each!(self, index => index.pruned())
-    }
-
-    /// Writes the values of the next key.
-    pub(crate) fn next(&self, key: &[u8], buffer: &mut [u64]) -> Neighbour
-        ensures { Shows (is_ordered self.now)
-            (next_list nat_cmp (any_view self.now).content ((any_view self.now).slot key.now)) result buffer.old buffer.new }
-    {
-        match self {
-            Any::Unordered(_) | Any::Seeded(_) => no_order(),
-            Any::Ordered(index) => show(index.next_translated_key(key), buffer),
+        if self.find(key).count != mask.len() {
+            return BAD_ARGUMENT;
         }
+        let _ = each!(self, index => keep(index, key, mask));
+        OK
     }
 
-    /// Writes the values of the previous key.
-    pub(crate) fn prev(&self, key: &[u8], buffer: &mut [u64]) -> Neighbour
-        ensures { Shows (is_ordered self.now)
-            (prev_list nat_cmp (any_view self.now).content ((any_view self.now).slot key.now)) result buffer.old buffer.new }
+    /// How many keys and values there are, and how many values were ever removed.
+    pub(crate) fn counts(&self) -> Counts
+        ensures { result ≡ counts_in (any_view self.now) }
+    {
+        each!(self, index => Counts {
+            keys: index.keys(),
+            items: index.items(),
+            pruned: index.pruned(),
+        })
+    }
+
+    /// Writes the values of a neighbour of a key, told by a number.
+    pub(crate) fn neighbour(&self, which: u32, key: &[u8], buffer: &mut [u64]) -> Neighbour
+        ensures { Shows (is_ordered self.now && nat_lt which 4)
+            (neighbour_list nat_cmp which (any_view self.now) key.now) result buffer.old buffer.new }
     {
         match self {
             Any::Unordered(_) | Any::Seeded(_) => no_order(),
-            Any::Ordered(index) => show(index.prev_translated_key(key), buffer),
-        }
-    }
-
-    /// Writes the values of the first key.
-    pub(crate) fn first(&self, buffer: &mut [u64]) -> Neighbour
-        ensures { Shows (is_ordered self.now)
-            (not_cycled (first_list (any_view self.now).content)) result buffer.old buffer.new }
-    {
-        match self {
-            Any::Unordered(_) | Any::Seeded(_) => no_order(),
-            Any::Ordered(index) => show(end(index.first_translated_key()), buffer),
-        }
-    }
-
-    /// Writes the values of the last key.
-    pub(crate) fn last(&self, buffer: &mut [u64]) -> Neighbour
-        ensures { Shows (is_ordered self.now)
-            (not_cycled (last_list (any_view self.now).content)) result buffer.old buffer.new }
-    {
-        match self {
-            Any::Unordered(_) | Any::Seeded(_) => no_order(),
-            Any::Ordered(index) => show(end(index.last_translated_key()), buffer),
+            Any::Ordered(index) => show_neighbour(index, which, key, buffer),
         }
     }
 }
 
-/// Whether these are the ends of as many keys as there are values.
-fn are_keys(keys: &[u8], ends: &[usize], values: &[u64]) -> bool
-    ensures { IsTrue result ↔ AreKeys keys.now ends.now values.now }
+/// What a call with many keys tells of ends that are none of so many.
+pub(crate) fn no_keys() -> Many
+    ensures { result ≡ record { count = 0; status = BAD_ARGUMENT } }
 {
-    if ends.len() != values.len() {
+    Many {
+        count: 0,
+        status: BAD_ARGUMENT,
+    }
+}
+
+/// Whether these are the ends of so many keys.
+pub(crate) fn are_keys(keys: &[u8], ends: &[usize], count: usize) -> bool
+    ensures { IsTrue result ↔ AreKeys keys.now ends.now count }
+{
+    if ends.len() != count {
         return false;
     }
     let mut start = 0;
@@ -296,6 +313,25 @@ fn are_keys(keys: &[u8], ends: &[usize], values: &[u64]) -> bool
         start = *end;
     }
     true
+}
+
+/// The values of a neighbour of a key, told by a number.
+fn show_neighbour<I: Ordered<Value = u64>>(
+    index: &I,
+    which: u32,
+    key: &[u8],
+    buffer: &mut [u64],
+) -> Neighbour
+    ensures { Shows (nat_lt which 4)
+        (neighbour_list I.Key.cmp which (I.view index.now) key.now) result buffer.old buffer.new }
+{
+    match which {
+        NEXT => show(index.next_translated_key(key), buffer),
+        PREV => show(index.prev_translated_key(key), buffer),
+        FIRST => show(end(index.first_translated_key()), buffer),
+        LAST => show(end(index.last_translated_key()), buffer),
+        _ => no_order(),
+    }
 }
 
 /// What an index with no order tells.
@@ -331,6 +367,26 @@ fn show(neighbour: Option<(Values<'_, u64>, bool)>, buffer: &mut [u64]) -> Neigh
         count,
         status: OK,
         cycled,
+    }
+}
+
+/// Keeps those values of a key whose byte of a mask is not 0.
+fn keep<I: Unordered<Value = u64>>(index: &mut I, key: &[u8], mask: &[u8]) -> Result<(), Fault>
+    requires { length mask.now ≡ length (run_of I.Key.cmp (I.view index.old) key.now) }
+    ensures kept { OnOk result (I.view index.new
+        ≡ after_kept I.Key.cmp (I.view index.old) key.now mask.now) }
+    ensures want { IfErr result (IsWantAt I.view I.may_refuse index.old key.now) }
+{
+    let mut rest = mask;
+    match index.retain(key, move |_| match rest.split_first() {
+        None => false,
+        Some((byte, left)) => {
+            rest = left;
+            *byte != 0
+        }
+    }) {
+        Ok(()) => Ok(()),
+        Err(fault) => Err(fault),
     }
 }
 

@@ -48,7 +48,7 @@ fn session<K: Kind>(
         let key = some_key(&mut random);
         let short = group(&key);
         let value = random.below(50);
-        match random.below(10) {
+        match random.below(11) {
             0 if call % 7 == 0 => {
                 index.remove(&key);
                 pruned += lists.remove(&short).map_or(0, |list| list.len() as u64);
@@ -79,6 +79,24 @@ fn session<K: Kind>(
                     lists.get_mut(&short).unwrap()[place] = value + 100;
                 }
             }
+            5 => {
+                let mut shown = Vec::new();
+                index.retain(&key, |held| {
+                    shown.push(held);
+                    held % 3 != value % 3
+                });
+                let list = lists.remove(&short).unwrap_or_default();
+                assert_eq!(shown, list);
+                let kept: Vec<u64> = list
+                    .iter()
+                    .copied()
+                    .filter(|held| held % 3 != value % 3)
+                    .collect();
+                pruned += (list.len() - kept.len()) as u64;
+                if !kept.is_empty() {
+                    lists.insert(short, kept);
+                }
+            }
             4 => {
                 // The key, its front, and the key once more.
                 let keys = [&key[..], &key[..key.len() / 2], &key].concat();
@@ -106,6 +124,12 @@ fn session<K: Kind>(
         let list = lists.get(&group(&asked)).map_or(&[][..], Vec::as_slice);
         assert_eq!(index.get(&asked).as_slice(), list);
         assert_eq!(index.contains(&asked), !list.is_empty());
+        let (mut values, mut stops) = (Vec::new(), Vec::new());
+        let keys = [&asked[..], &key].concat();
+        index.get_many(&keys, &[asked.len(), keys.len()], &mut values, &mut stops)?;
+        let other = lists.get(&group(&key)).map_or(&[][..], Vec::as_slice);
+        assert_eq!(stops, [list.len(), list.len() + other.len()]);
+        assert_eq!(values, [list, other].concat());
         if call % 100 == 0 {
             assert_eq!(index.keys(), lists.len());
             assert_eq!(index.items(), lists.values().map(Vec::len).sum());
@@ -204,6 +228,12 @@ fn ends_of_no_keys() -> Result<(), Error> {
             Err((0, Error::Ends))
         );
     }
+    let (mut values, mut stops) = (vec![1], vec![1]);
+    assert_eq!(
+        index.get_many(b"figs", &[2, 1], &mut values, &mut stops),
+        Err(Error::Ends)
+    );
+    assert!(values.is_empty() && stops.is_empty());
     assert_eq!(index.insert_many(b"", &[], &[]), Ok(()));
     assert!(index.is_empty());
     Ok(())
