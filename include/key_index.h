@@ -65,7 +65,13 @@ typedef enum key_index_status {
 typedef enum key_index_kind {
     KEY_INDEX_UNORDERED = 0, /* a hashed map: the fastest calls by key */
     KEY_INDEX_ORDERED = 1,   /* a tree, with the next and the previous key */
-    KEY_INDEX_SEEDED = 2     /* a hashed map by a SHA-256 of whole keys and a secret seed: for keys that an attacker picks */
+    KEY_INDEX_SEEDED = 2,    /* a hashed map by a SHA-256 of whole keys and a secret seed: for keys that an attacker picks */
+    /* The first byte of a key, or the first two, pick a partition, and the eight bytes behind them are the index key there: hashed, or
+     * ordered in sorted arrays and trees. An ordered one puts a new value behind those of its key, so the oldest comes first. */
+    KEY_INDEX_UNORDERED_BY_ONE = 3,
+    KEY_INDEX_UNORDERED_BY_TWO = 4,
+    KEY_INDEX_ORDERED_BY_ONE = 5,
+    KEY_INDEX_ORDERED_BY_TWO = 6
 } key_index_kind;
 
 /* What the library exports. */
@@ -97,7 +103,7 @@ size_t key_index_c_get(key_index *index, const uint8_t *key, size_t key_len, uin
 struct key_index_many key_index_c_get_many(key_index *index, const uint8_t *keys, size_t keys_len, const size_t *ends, size_t ends_len,
                                            uint64_t *values, size_t room, size_t *stops, size_t stops_len);
 struct key_index_found key_index_c_find(key_index *index, const uint8_t *key, size_t key_len);
-void key_index_c_remove(key_index *index, const uint8_t *key, size_t key_len);
+uint32_t key_index_c_remove(key_index *index, const uint8_t *key, size_t key_len);
 bool key_index_c_remove_value(key_index *index, const uint8_t *key, size_t key_len, uint64_t value);
 bool key_index_c_replace_value(key_index *index, const uint8_t *key, size_t key_len, uint64_t value, uint64_t with);
 uint32_t key_index_c_keep(key_index *index, const uint8_t *key, size_t key_len, const uint8_t *mask, size_t mask_len);
@@ -142,13 +148,13 @@ static inline void key_index_free(key_index *index) {
     index->at = NULL;
 }
 
-/* Inserts a value in front of those of its key. KEY_INDEX_MEMORY, KEY_INDEX_FULL. */
+/* Inserts a value in front of those of its key, or behind them in an ordered index in partitions. KEY_INDEX_MEMORY, KEY_INDEX_FULL. */
 static inline key_index_status key_index_insert(key_index *index, const void *key, size_t key_len, uint64_t value) {
     if (!key_index_takes(index, key, key_len, NULL, 0)) return KEY_INDEX_BAD_ARGUMENT;
     return (key_index_status)key_index_c_insert(index, key_index_bytes(key), key_len, value);
 }
 
-/* Inserts `n` values in turn, each in front of those of its key. The keys stand behind one another from `keys` on, and the one of the
+/* Inserts `n` values in turn, each as key_index_insert does. The keys stand behind one another from `keys` on, and the one of the
  * number i ends in front of keys[ends[i]], so the ends must not fall. `count` is how many were inserted. KEY_INDEX_MEMORY and
  * KEY_INDEX_FULL: as many as `count` says were, and the next one was refused. KEY_INDEX_BAD_ARGUMENT: none. */
 static inline key_index_status key_index_insert_many(key_index *index, const void *keys, const size_t *ends, const uint64_t *values,
@@ -164,7 +170,7 @@ static inline key_index_status key_index_insert_many(key_index *index, const voi
     return (key_index_status)told.status;
 }
 
-/* Writes the values of a key to `values`, the newest first, as many as there is room for, and to `count` how many the key has. If
+/* Writes the values of a key to `values`, in list order, as many as there is room for, and to `count` how many the key has. If
  * that is more than `room`, ask again with more room. */
 static inline key_index_status key_index_get(key_index *index, const void *key, size_t key_len, uint64_t *values, size_t room,
                                              size_t *count) {
@@ -201,11 +207,10 @@ static inline key_index_status key_index_contains(key_index *index, const void *
     return KEY_INDEX_OK;
 }
 
-/* Removes a key with all its values. It takes no memory. */
+/* Removes a key with all its values. KEY_INDEX_MEMORY, of an ordered index in partitions alone. */
 static inline key_index_status key_index_remove(key_index *index, const void *key, size_t key_len) {
     if (!key_index_takes(index, key, key_len, NULL, 0)) return KEY_INDEX_BAD_ARGUMENT;
-    key_index_c_remove(index, key_index_bytes(key), key_len);
-    return KEY_INDEX_OK;
+    return (key_index_status)key_index_c_remove(index, key_index_bytes(key), key_len);
 }
 
 /* Removes the first value of a key that equals `value`, and tells whether there was one. It takes no memory. */
@@ -224,8 +229,8 @@ static inline key_index_status key_index_replace_value(key_index *index, const v
     return KEY_INDEX_OK;
 }
 
-/* Keeps those values of a key whose byte of `mask` is not 0, in their order, and removes the others. It takes no memory.
- * KEY_INDEX_BAD_ARGUMENT where the mask has not as many bytes as the key has values. */
+/* Keeps those values of a key whose byte of `mask` is not 0, in their order, and removes the others. KEY_INDEX_MEMORY, of an ordered
+ * index in partitions alone. KEY_INDEX_BAD_ARGUMENT where the mask has not as many bytes as the key has values. */
 static inline key_index_status key_index_keep(key_index *index, const void *key, size_t key_len, const uint8_t *mask, size_t mask_len) {
     if (!key_index_takes(index, key, key_len, NULL, 0) || (mask == NULL && mask_len != 0) || mask_len > PTRDIFF_MAX)
         return KEY_INDEX_BAD_ARGUMENT;

@@ -69,6 +69,14 @@ static void holds(key_index *index, key_index_kind kind) {
     CHECK(key_index_keys(index) == keys && key_index_items(index) == items);
 }
 
+/* A list with one value more: in front, or behind those of an ordered index in partitions. */
+static void put(key_index_kind kind, size_t at, uint64_t value) {
+    bool behind = kind == KEY_INDEX_ORDERED_BY_ONE || kind == KEY_INDEX_ORDERED_BY_TWO;
+    if (!behind) memmove(&lists[at][1], lists[at], lens[at] * sizeof value);
+    lists[at][behind ? lens[at] : 0] = value;
+    lens[at]++;
+}
+
 /* A session of calls. Returns whether an allocation was refused. */
 static bool session(key_index_kind kind) {
     key_index index = KEY_INDEX_NONE;
@@ -113,17 +121,11 @@ static bool session(key_index_kind kind) {
             status = key_index_insert_many(&index, keys, ends, values, 2, &count);
             CHECK(status == (before < refused && refused <= allocations ? KEY_INDEX_MEMORY : KEY_INDEX_OK));
             CHECK(status == KEY_INDEX_OK ? count == 2 : count < 2);
-            for (taken = 0; taken < count; taken++) {
-                memmove(&lists[at][1], lists[at], lens[at]++ * sizeof **lists);
-                lists[at][0] = values[taken];
-            }
+            for (taken = 0; taken < count; taken++) put(kind, at, values[taken]);
         } else {
             status = key_index_insert(&index, key, sizeof key, (uint64_t)i + 1000);
             CHECK(status == (before < refused && refused <= allocations ? KEY_INDEX_MEMORY : KEY_INDEX_OK));
-            if (status == KEY_INDEX_OK) {
-                memmove(&lists[at][1], lists[at], lens[at]++ * sizeof **lists);
-                lists[at][0] = (uint64_t)i + 1000;
-            }
+            if (status == KEY_INDEX_OK) put(kind, at, (uint64_t)i + 1000);
         }
         holds(&index, kind);
     }
@@ -135,7 +137,7 @@ static bool session(key_index_kind kind) {
 
 int main(void) {
     int kind;
-    for (kind = KEY_INDEX_UNORDERED; kind <= KEY_INDEX_SEEDED; kind++) {
+    for (kind = KEY_INDEX_UNORDERED; kind <= KEY_INDEX_ORDERED_BY_TWO; kind++) {
         for (refused = 1;; refused++) {
             allocations = 0;
             if (!session((key_index_kind)kind)) break;

@@ -1,3 +1,2 @@
 pub mod BufferLemmas
 pub mod MaskLemmas
-pub mod WantLemmas

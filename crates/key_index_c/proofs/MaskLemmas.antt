@@ -2,7 +2,7 @@
 use Rattle.std.proofs.Common.{◌≡◌, ℕ, Bool, List, [], ◌∷◌, length, refl, arith}
 use Rattle.std.specs.Prelude.{map}
 use Rattle.std.specs.List.Retain.{ReturnsInTurn}
-use Rattle.key_index_c.specs.Calls.{is_kept}
+use Rattle.key_index_c.specs.Changes.{is_kept}
 
 -- a test that answers by what is left of a mask, from its start on
 pub answers_by_mask : {F X : Type 0} (R : F → X → Bool → F → Type 0) (rest : F → List ℕ)

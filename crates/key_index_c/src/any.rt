@@ -1,19 +1,23 @@
 //! An index of any kind.
-ghost use Rattle.std.specs.Prelude.{◌≡◌, ◌≢◌, ◌<◌, ◌⊎◌, ◌↔◌, ◌&&◌, [], true, false, length, is_some, IfOk, IfErr, IfSome, OnOk, IsTrue, nat_eq, nat_lt};
-ghost use Rattle.std.specs.Ordering.{nat_cmp};
-ghost use Rattle.key_index_flat.specs.View.{after_insert, after_remove, growth_fault_in, items_in, run_of, IsWantAt};
-ghost use Rattle.key_index_c.specs.Any.{any_view, held_under, is_ordered, slot_of};
+ghost use Rattle.std.specs.Prelude.{◌≡◌, ◌≢◌, ◌<◌, ◌⊎◌, ◌↔◌, ◌&&◌, [], true, false, length, is_some, IfOk, IfErr, IfSome, IsTrue, nat_lt};
+ghost use Rattle.key_index_flat.specs.View as view;
+ghost use Rattle.key_index_flat.specs.View.{run_of};
+ghost use Rattle.key_index_c.specs.Any.{IsNew, any_view, held_under, inserts_first, is_ordered, kind_of, may_want};
 ghost use Rattle.key_index_c.specs.Buffer.{filled};
-ghost use Rattle.key_index_c.specs.Calls.{AreKeys, Shows, ShowsMany, after_inserts, after_kept, after_removed, after_replaced, counts_in, found_in, mask_status, neighbour_list, not_cycled, place_of, values_of};
+ghost use Rattle.key_index_c.specs.Calls.{AreKeys, Shows, ShowsMany, after_inserts, found_in, place_of, values_of};
+ghost use Rattle.key_index_c.specs.Changes as change;
+ghost use Rattle.key_index_c.specs.Changes.{neighbour_list, not_cycled};
 ghost use Rattle.key_index_c.specs.Status.{kind_refusal, status_of};
+ghost use Rattle.key_index_c.specs.Views.{after_insert, after_kept, after_remove, after_removed, after_replaced, counts_in, growth_fault_in, items_in, neighbour_of};
 
 use crate::status::{self, BAD_ARGUMENT, MEMORY, OK};
 use key_index_flat::index::implement::Lists;
-use key_index_flat::index::{Factory, Fault, Ordered, Runs, Unordered, Values, ordered, unordered};
+use key_index_flat::index::{Factory, Ordered, Unordered, Values, ordered, unordered};
 use key_index_flat::translator::{EightCap, Hashed, SeededSha256};
+use key_index_parts::index::partitioned;
 use std::alloc::Global;
 
-/// An index by eight bytes: the first ones of a key, or of its hash.
+/// An index by eight bytes: the first ones of a key, of what follows the bytes that pick a partition, or of the key's hash.
 #[derive(Drop)]
 pub enum Any {
     /// Hashed, with no order.
@@ -22,6 +26,14 @@ pub enum Any {
     Ordered(ordered::Index<EightCap, u64>),
     /// Hashed, by a hash of whole keys that a seed picks.
     Seeded(unordered::Index<Hashed<EightCap, SeededSha256>, u64>),
+    /// Hashed, in partitions by the first byte.
+    UnorderedByOne(partitioned::unordered::Index<EightCap, u64, 1>),
+    /// Hashed, in partitions by the first two bytes.
+    UnorderedByTwo(partitioned::unordered::Index<EightCap, u64, 2>),
+    /// Sorted arrays or trees, in partitions by the first byte.
+    OrderedByOne(partitioned::ordered::Index<EightCap, u64, 1>),
+    /// Sorted arrays or trees, in partitions by the first two bytes.
+    OrderedByTwo(partitioned::ordered::Index<EightCap, u64, 2>),
 }
 
 /// The kind of an unordered index.
@@ -30,6 +42,14 @@ pub const UNORDERED: u32 = 0;
 pub const ORDERED: u32 = 1;
 /// The kind of an unordered index over hashes by a seed.
 pub const SEEDED: u32 = 2;
+/// The kinds of unordered indices in partitions by one byte and by two.
+pub const UNORDERED_BY_ONE: u32 = 3;
+
+pub const UNORDERED_BY_TWO: u32 = 4;
+/// The kinds of ordered indices in partitions by one byte and by two.
+pub const ORDERED_BY_ONE: u32 = 5;
+
+pub const ORDERED_BY_TWO: u32 = 6;
 
 /// The next key, or the first one if there is none above.
 pub const NEXT: u32 = 0;
@@ -91,62 +111,64 @@ macro_rules! each {
             Any::Unordered($index) => $call,
             Any::Ordered($index) => $call,
             Any::Seeded($index) => $call,
+            Any::UnorderedByOne($index) => $call,
+            Any::UnorderedByTwo($index) => $call,
+            Any::OrderedByOne($index) => $call,
+            Any::OrderedByTwo($index) => $call,
+        }
+    };
+}
+
+// An index of a kind, or why none was made.
+macro_rules! made {
+    ($kind:path, $index:expr) => {
+        match $index {
+            Ok(index) => Ok($kind(index)),
+            Err(_) => Err(MEMORY),
         }
     };
 }
 
 impl Any {
     /// An index of a kind, with no values. Only a seeded one takes the seed.
-    pub(crate) fn new(alloc: Global, kind: u32, seed: u64) -> Result<Box<Any>, u32>
-        ensures empty { IfOk result (λ any. (any_view any.value).content ≡ []) }
-        ensures pruned { IfOk result (λ any. (any_view any.value).pruned ≡ 0) }
-        ensures slots { IfOk result (λ any. (any_view any.value).slot ≡ slot_of kind seed) }
-        ensures order { IfOk result (λ any. is_ordered any.value ≡ nat_eq kind ORDERED) }
-        ensures known { IfOk result (λ any. kind < 3) }
+    pub(crate) fn new(alloc: Global, kind: u32, seed: u64) -> Result<Any, u32>
+        ensures made { IfOk result (λ any. IsNew kind seed (kind_of any) (any_view any)) }
         ensures fault { IfErr result (λ status. status ≡ kind_refusal kind) }
     {
-        let any = match kind {
-            UNORDERED => match unordered::Index::new(alloc, EightCap) {
-                Ok(index) => Any::Unordered(index),
-                Err(_) => return Err(MEMORY),
-            },
-            ORDERED => match ordered::Index::new(alloc, EightCap) {
-                Ok(index) => Any::Ordered(index),
-                Err(_) => return Err(MEMORY),
-            },
-            SEEDED => match unordered::Index::new(alloc, Hashed::from_seed(seed, EightCap)) {
-                Ok(index) => Any::Seeded(index),
-                Err(_) => return Err(MEMORY),
-            },
-            _ => return Err(BAD_ARGUMENT),
-        };
-        match Box::new(alloc, any) {
-            Ok(made) => Ok(made),
-            Err(_) => Err(MEMORY),
+        use partitioned::{ordered as sorted, unordered as hashed};
+        match kind {
+            UNORDERED => made!(Any::Unordered, unordered::Index::new(alloc, EightCap)),
+            ORDERED => made!(Any::Ordered, ordered::Index::new(alloc, EightCap)),
+            SEEDED => {
+                let hashed = Hashed::from_seed(seed, EightCap);
+                made!(Any::Seeded, unordered::Index::new(alloc, hashed))
+            }
+            UNORDERED_BY_ONE => made!(Any::UnorderedByOne, hashed::Index::new(alloc, EightCap)),
+            UNORDERED_BY_TWO => made!(Any::UnorderedByTwo, hashed::Index::new(alloc, EightCap)),
+            ORDERED_BY_ONE => made!(Any::OrderedByOne, sorted::Index::new(alloc, EightCap)),
+            ORDERED_BY_TWO => made!(Any::OrderedByTwo, sorted::Index::new(alloc, EightCap)),
+            _ => Err(BAD_ARGUMENT),
         }
     }
 
     /// Inserts a value under a key, and tells the status.
     pub(crate) fn insert(&mut self, key: &[u8], value: u64) -> u32
-        ensures order { is_ordered self.new ≡ is_ordered self.old }
+        ensures kind { kind_of self.new ≡ kind_of self.old }
         ensures accepted { result ≡ OK
-            → any_view self.new ≡ after_insert nat_cmp true (any_view self.old) key.now value }
+            → any_view self.new ≡ after_insert (inserts_first (kind_of self.old)) (any_view self.old) key.now value }
         ensures room { result ≡ OK → items_in (any_view self.old) < usize.MAX }
         ensures refused { result ≢ OK → any_view self.new ≡ any_view self.old }
         ensures status { (result ≡ OK) ⊎ (result ≡ status_of (growth_fault_in (any_view self.old))) }
     {
-        each!(self, index => match index.insert(key, value) {
-            Ok(()) => OK,
-            Err(refused) => status::of(refused.fault),
-        })
+        each!(self, index => insert(index, key, value))
     }
 
     /// Inserts values under keys that stand behind one another, each up to its end, until one is refused.
     pub(crate) fn insert_many(&mut self, keys: &[u8], ends: &[usize], values: &[u64]) -> Many
         requires keys { AreKeys keys.now ends.now (length values.now) }
-        ensures order { is_ordered self.new ≡ is_ordered self.old }
-        ensures inserted { any_view self.new
-            ≡ after_inserts (any_view self.old) keys.now ends.now values.now result.count }
+        ensures kind { kind_of self.new ≡ kind_of self.old }
+        ensures inserted { any_view self.new ≡ after_inserts (inserts_first (kind_of self.old))
+            (any_view self.old) keys.now ends.now values.now result.count }
         ensures whole { result.status ≡ OK → result.count ≡ length values.now }
         ensures keyed { result.status ≢ BAD_ARGUMENT }
         ensures status { (result.status ≡ OK) ⊎ (result.status ≡ status_of (growth_fault_in (any_view self.new))) }
@@ -183,7 +205,7 @@ impl Any {
         stops: &mut [usize],
     ) -> usize
         requires keys { AreKeys keys.now ends.now (length stops.old) }
-        ensures { ShowsMany (values_of nat_cmp (any_view self.now) keys.now ends.now)
+        ensures { ShowsMany (values_of (any_view self.now) keys.now ends.now)
             (length ends.now) result buffer.old buffer.new stops.new }
     {
         let mut start = 0;
@@ -204,65 +226,45 @@ impl Any {
         each!(self, index => front(index, key))
     }
 
-    /// Removes a key with all its values.
-    pub(crate) fn remove(&mut self, key: &[u8])
-        ensures order { is_ordered self.new ≡ is_ordered self.old }
-        ensures removed { any_view self.new ≡ after_remove nat_cmp (any_view self.old) key.now }
+    /// Removes a key with all its values, and tells the status.
+    pub(crate) fn remove(&mut self, key: &[u8]) -> u32
+        ensures kind { kind_of self.new ≡ kind_of self.old }
+        ensures removed { result ≡ OK → any_view self.new ≡ after_remove (any_view self.old) key.now }
+        ensures refused { result ≢ OK → any_view self.new ≡ any_view self.old }
+        ensures status { (result ≡ OK) ⊎ ((result ≡ MEMORY) × IsTrue (may_want (kind_of self.old))) }
     {
-        let _ = each!(self, index => index.remove(key));
+        each!(self, index => remove(index, key))
     }
 
     /// Removes the first value of a key that equals a value, and tells whether there was one.
     pub(crate) fn remove_value(&mut self, key: &[u8], value: u64) -> bool
-        ensures order { is_ordered self.new ≡ is_ordered self.old }
+        ensures kind { kind_of self.new ≡ kind_of self.old }
         ensures found { result ≡ is_some (place_of value (held_under self.old key.now)) }
         ensures removed { any_view self.new ≡ after_removed (any_view self.old) key.now
             (place_of value (held_under self.old key.now)) }
     {
-        each!(self, index => {
-            let slot = index.slot_of(key);
-            match place_of(index.list_at(slot), value) {
-                None => false,
-                Some(place) => {
-                    index.remove_at(slot, place);
-                    true
-                }
-            }
-        })
+        each!(self, index => remove_value(index, key, value))
     }
 
     /// Puts another value in the place of the first value of a key that equals a value, and tells whether there was one.
     pub(crate) fn replace_value(&mut self, key: &[u8], value: u64, new: u64) -> bool
-        ensures order { is_ordered self.new ≡ is_ordered self.old }
+        ensures kind { kind_of self.new ≡ kind_of self.old }
         ensures found { result ≡ is_some (place_of value (held_under self.old key.now)) }
         ensures replaced { any_view self.new ≡ after_replaced (any_view self.old) key.now
             (place_of value (held_under self.old key.now)) new }
     {
-        each!(self, index => {
-            let slot = index.slot_of(key);
-            match place_of(index.list_at(slot), value) {
-                None => false,
-                Some(place) => {
-                    index.set_at(slot, place, new);
-                    true
-                }
-            }
-        })
+        each!(self, index => replace_value(index, key, value, new))
     }
 
     /// Keeps those values of a key whose byte of a mask is not 0, and tells the status.
     pub(crate) fn keep(&mut self, key: &[u8], mask: &[u8]) -> u32
-        ensures order { is_ordered self.new ≡ is_ordered self.old }
-        ensures kept { result ≡ OK
-            → any_view self.new ≡ after_kept nat_cmp (any_view self.old) key.now mask.now }
+        requires { length mask.now ≡ length (held_under self.old key.now) }
+        ensures kind { kind_of self.new ≡ kind_of self.old }
+        ensures kept { result ≡ OK → any_view self.new ≡ after_kept (any_view self.old) key.now mask.now }
         ensures refused { result ≢ OK → any_view self.new ≡ any_view self.old }
-        ensures status { result ≡ mask_status mask.now (held_under self.old key.now) }
+        ensures status { (result ≡ OK) ⊎ ((result ≡ MEMORY) × IsTrue (may_want (kind_of self.old))) }
     {
-        if self.find(key).count != mask.len() {
-            return BAD_ARGUMENT;
-        }
-        let _ = each!(self, index => keep(index, key, mask));
-        OK
+        each!(self, index => keep(index, key, mask))
     }
 
     /// How many keys and values there are, and how many values were ever removed.
@@ -278,13 +280,98 @@ impl Any {
 
     /// Writes the values of a neighbour of a key, told by a number.
     pub(crate) fn neighbour(&self, which: u32, key: &[u8], buffer: &mut [u64]) -> Neighbour
-        ensures { Shows (is_ordered self.now && nat_lt which 4)
-            (neighbour_list nat_cmp which (any_view self.now) key.now) result buffer.old buffer.new }
+        ensures { Shows (is_ordered (kind_of self.now) && nat_lt which 4)
+            (neighbour_of which (any_view self.now) key.now) result buffer.old buffer.new }
     {
         match self {
-            Any::Unordered(_) | Any::Seeded(_) => no_order(),
             Any::Ordered(index) => show_neighbour(index, which, key, buffer),
+            Any::OrderedByOne(index) => show_neighbour(index, which, key, buffer),
+            Any::OrderedByTwo(index) => show_neighbour(index, which, key, buffer),
+            Any::Unordered(_) | Any::Seeded(_) => no_order(),
+            Any::UnorderedByOne(_) | Any::UnorderedByTwo(_) => no_order(),
         }
+    }
+}
+
+/// Inserts a value under a key, and tells the status.
+fn insert<I: Unordered<Value = u64>>(index: &mut I, key: &[u8], value: u64) -> u32
+    ensures accepted { result ≡ OK
+        → I.view index.new ≡ view.after_insert I.Key.cmp I.INSERT_FIRST (I.view index.old) key.now value }
+    ensures room { result ≡ OK → view.items_in (I.view index.old) < usize.MAX }
+    ensures refused { result ≢ OK → I.view index.new ≡ I.view index.old }
+    ensures status { (result ≡ OK) ⊎ (result ≡ status_of (view.growth_fault_in (I.view index.old))) }
+{
+    match index.insert(key, value) {
+        Ok(()) => OK,
+        Err(refused) => status::of(refused.fault),
+    }
+}
+
+/// Removes a key with all its values, and tells the status.
+fn remove<I: Unordered<Value = u64>>(index: &mut I, key: &[u8]) -> u32
+    ensures removed { result ≡ OK → I.view index.new ≡ view.after_remove I.Key.cmp (I.view index.old) key.now }
+    ensures refused { result ≢ OK → I.view index.new ≡ I.view index.old }
+    ensures status { (result ≡ OK)
+        ⊎ ((result ≡ MEMORY) × IsTrue (I.may_refuse index.old ((I.view index.old).slot key.now))) }
+{
+    match index.remove(key) {
+        Ok(()) => OK,
+        Err(fault) => status::of(fault),
+    }
+}
+
+/// Removes the first value of a key that equals a value, and tells whether there was one.
+fn remove_value<I: Lists<Value = u64>>(index: &mut I, key: &[u8], value: u64) -> bool
+    ensures found { result ≡ is_some (place_of value (run_of I.Key.cmp (I.view index.old) key.now)) }
+    ensures removed { I.view index.new ≡ change.after_removed I.Key.cmp (I.view index.old) key.now
+        (place_of value (run_of I.Key.cmp (I.view index.old) key.now)) }
+{
+    let slot = index.slot_of(key);
+    match place_of(index.list_at(slot), value) {
+        None => false,
+        Some(place) => {
+            index.remove_at(slot, place);
+            true
+        }
+    }
+}
+
+/// Puts another value in the place of the first value of a key that equals a value, and tells whether there was one.
+fn replace_value<I: Lists<Value = u64>>(index: &mut I, key: &[u8], value: u64, new: u64) -> bool
+    ensures found { result ≡ is_some (place_of value (run_of I.Key.cmp (I.view index.old) key.now)) }
+    ensures replaced { I.view index.new ≡ change.after_replaced I.Key.cmp (I.view index.old) key.now
+        (place_of value (run_of I.Key.cmp (I.view index.old) key.now)) new }
+{
+    let slot = index.slot_of(key);
+    match place_of(index.list_at(slot), value) {
+        None => false,
+        Some(place) => {
+            index.set_at(slot, place, new);
+            true
+        }
+    }
+}
+
+/// Keeps those values of a key whose byte of a mask is not 0, and tells the status.
+fn keep<I: Unordered<Value = u64>>(index: &mut I, key: &[u8], mask: &[u8]) -> u32
+    requires { length mask.now ≡ length (run_of I.Key.cmp (I.view index.old) key.now) }
+    ensures kept { result ≡ OK
+        → I.view index.new ≡ change.after_kept I.Key.cmp (I.view index.old) key.now mask.now }
+    ensures refused { result ≢ OK → I.view index.new ≡ I.view index.old }
+    ensures status { (result ≡ OK)
+        ⊎ ((result ≡ MEMORY) × IsTrue (I.may_refuse index.old ((I.view index.old).slot key.now))) }
+{
+    let mut rest = mask;
+    let retained = index.retain(key, move |_| match rest.split_first() {
+        None => false,
+        Some((byte, left)) => {
+            rest = left;
+            *byte != 0
+        }
+    });
+    match retained {
+        Ok(()) => OK,
+        Err(fault) => status::of(fault),
     }
 }
 
@@ -367,26 +454,6 @@ fn show(neighbour: Option<(Values<'_, u64>, bool)>, buffer: &mut [u64]) -> Neigh
         count,
         status: OK,
         cycled,
-    }
-}
-
-/// Keeps those values of a key whose byte of a mask is not 0.
-fn keep<I: Unordered<Value = u64>>(index: &mut I, key: &[u8], mask: &[u8]) -> Result<(), Fault>
-    requires { length mask.now ≡ length (run_of I.Key.cmp (I.view index.old) key.now) }
-    ensures kept { OnOk result (I.view index.new
-        ≡ after_kept I.Key.cmp (I.view index.old) key.now mask.now) }
-    ensures want { IfErr result (IsWantAt I.view I.may_refuse index.old key.now) }
-{
-    let mut rest = mask;
-    match index.retain(key, move |_| match rest.split_first() {
-        None => false,
-        Some((byte, left)) => {
-            rest = left;
-            *byte != 0
-        }
-    }) {
-        Ok(()) => Ok(()),
-        Err(fault) => Err(fault),
     }
 }
 

@@ -4,14 +4,13 @@
 //! caller owes (`requires`) and what the call leaves (`ensures`).
 #![tactic(auto)]
 
-ghost use Rattle.std.specs.Prelude.{◌≡◌, ◌≢◌, ◌<◌, ◌⊎◌, ◌&&◌, [], true, None, length, is_some, nat_eq, nat_lt};
-ghost use Rattle.std.specs.Ordering.{nat_cmp};
-ghost use Rattle.key_index_flat.specs.View.{after_insert, after_remove, growth_fault_in, items_in};
-ghost use Rattle.key_index_c.specs.Any.{slot_of};
+ghost use Rattle.std.specs.Prelude.{◌≡◌, ◌≢◌, ◌<◌, ◌⊎◌, ◌&&◌, None, length, is_some, IsTrue, nat_lt};
+ghost use Rattle.key_index_c.specs.Any.{IsNew, inserts_first, is_ordered, may_want};
 ghost use Rattle.key_index_c.specs.Buffer.{filled};
-ghost use Rattle.key_index_c.specs.Calls.{AreKeys, Shows, ShowsMany, after_inserts, after_kept, after_removed, after_replaced, counts_in, found_in, mask_status, neighbour_list, place_of, values_of};
-ghost use Rattle.key_index_c.specs.Held.{IsMade, Keeps, StaysMade, has_order, values_in, view_in};
+ghost use Rattle.key_index_c.specs.Calls.{AreKeys, Shows, ShowsMany, after_inserts, found_in, place_of, values_of};
+ghost use Rattle.key_index_c.specs.Held.{IsMade, Keeps, StaysMade, kind_in, values_in, view_in};
 ghost use Rattle.key_index_c.specs.Status.{kind_refusal, status_of};
+ghost use Rattle.key_index_c.specs.Views.{after_insert, after_kept, after_remove, after_removed, after_replaced, counts_in, growth_fault_in, items_in, neighbour_of};
 
 use std::alloc::Global;
 
@@ -41,19 +40,18 @@ pub use status::{BAD_ARGUMENT, FULL, MEMORY, OK, TOO_FAR};
 pub extern "C" fn key_index_c_new(alloc: Global, handle: &mut Handle, kind: u32, seed: u64) -> u32
     requires fresh { handle.old.held ≡ None }
     ensures made { result ≡ OK → IsMade handle.new }
-    ensures empty { result ≡ OK → (view_in handle.new).content ≡ [] }
-    ensures pruned { result ≡ OK → (view_in handle.new).pruned ≡ 0 }
-    ensures slots { result ≡ OK → (view_in handle.new).slot ≡ slot_of kind seed }
-    ensures order { result ≡ OK → has_order handle.new ≡ nat_eq kind ORDERED }
-    ensures known { result ≡ OK → kind < 3 }
+    ensures fresh { result ≡ OK → IsNew kind seed (kind_in handle.new) (view_in handle.new) }
     ensures refused { result ≢ OK → handle.new.held ≡ None }
     ensures status { (result ≡ OK) ⊎ (result ≡ kind_refusal kind) }
 {
     match Any::new(alloc, kind, seed) {
-        Ok(made) => {
-            handle.put(made);
-            OK
-        }
+        Ok(any) => match Box::new(alloc, any) {
+            Ok(made) => {
+                handle.put(made);
+                OK
+            }
+            Err(_) => MEMORY,
+        },
         Err(status) => status,
     }
 }
@@ -78,7 +76,7 @@ pub extern "C" fn key_index_c_insert(
     requires made { IsMade handle.old }
     ensures made { StaysMade handle.old handle.new }
     ensures accepted { result ≡ OK
-        → view_in handle.new ≡ after_insert nat_cmp true (view_in handle.old) key.now value }
+        → view_in handle.new ≡ after_insert (inserts_first (kind_in handle.old)) (view_in handle.old) key.now value }
     ensures room { result ≡ OK → items_in (view_in handle.old) < usize.MAX }
     ensures refused { result ≢ OK → view_in handle.new ≡ view_in handle.old }
     ensures status { (result ≡ OK) ⊎ (result ≡ status_of (growth_fault_in (view_in handle.old))) }
@@ -97,8 +95,8 @@ pub extern "C" fn key_index_c_insert_many(
 ) -> Many
     requires made { IsMade handle.old }
     ensures made { StaysMade handle.old handle.new }
-    ensures inserted { view_in handle.new
-        ≡ after_inserts (view_in handle.old) keys.now ends.now values.now result.count }
+    ensures inserted { view_in handle.new ≡ after_inserts (inserts_first (kind_in handle.old))
+        (view_in handle.old) keys.now ends.now values.now result.count }
     ensures keys { AreKeys keys.now ends.now (length values.now) → result.status ≢ BAD_ARGUMENT }
     ensures taken { result.status ≢ BAD_ARGUMENT → AreKeys keys.now ends.now (length values.now) }
     ensures unkeyed { result.status ≡ BAD_ARGUMENT → result.count ≡ 0 }
@@ -143,7 +141,7 @@ pub extern "C" fn key_index_c_get_many(
     ensures same { Keeps handle.old handle.new }
     ensures keys { AreKeys keys.now ends.now (length stops.old) → result.status ≡ OK }
     ensures taken { result.status ≡ OK → AreKeys keys.now ends.now (length stops.old) }
-    ensures shown { result.status ≡ OK → ShowsMany (values_of nat_cmp (view_in handle.old) keys.now ends.now)
+    ensures shown { result.status ≡ OK → ShowsMany (values_of (view_in handle.old) keys.now ends.now)
         (length ends.now) result.count buffer.old buffer.new stops.new }
     ensures refused { result.status ≢ OK → (buffer.new ≡ buffer.old) × (stops.new ≡ stops.old) }
     ensures status { (result.status ≡ OK) ⊎ ((result.status ≡ BAD_ARGUMENT) × (result.count ≡ 0)) }
@@ -167,12 +165,14 @@ pub extern "C" fn key_index_c_find(alloc: Global, handle: &mut Handle, key: &[u8
 
 /// Removes a key with all its values.
 #[unsafe(no_mangle)]
-pub extern "C" fn key_index_c_remove(alloc: Global, handle: &mut Handle, key: &[u8])
+pub extern "C" fn key_index_c_remove(alloc: Global, handle: &mut Handle, key: &[u8]) -> u32
     requires made { IsMade handle.old }
     ensures made { StaysMade handle.old handle.new }
-    ensures removed { view_in handle.new ≡ after_remove nat_cmp (view_in handle.old) key.now }
+    ensures removed { result ≡ OK → view_in handle.new ≡ after_remove (view_in handle.old) key.now }
+    ensures refused { result ≢ OK → view_in handle.new ≡ view_in handle.old }
+    ensures status { (result ≡ OK) ⊎ ((result ≡ MEMORY) × IsTrue (may_want (kind_in handle.old))) }
 {
-    call!(handle, alloc, any => any.remove(key));
+    call!(handle, alloc, any => any.remove(key))
 }
 
 /// Removes the first value of a key that equals a value, and tells whether there was one.
@@ -221,11 +221,18 @@ pub extern "C" fn key_index_c_keep(
 ) -> u32
     requires made { IsMade handle.old }
     ensures made { StaysMade handle.old handle.new }
-    ensures kept { result ≡ OK → view_in handle.new ≡ after_kept nat_cmp (view_in handle.old) key.now mask.now }
+    ensures kept { result ≡ OK → view_in handle.new ≡ after_kept (view_in handle.old) key.now mask.now }
     ensures refused { result ≢ OK → view_in handle.new ≡ view_in handle.old }
-    ensures status { result ≡ mask_status mask.now (values_in handle.old key.now) }
+    ensures masked { length mask.now ≡ length (values_in handle.old key.now) → result ≢ BAD_ARGUMENT }
+    ensures mask { result ≢ BAD_ARGUMENT → length mask.now ≡ length (values_in handle.old key.now) }
+    ensures status { (result ≡ OK) ⊎ (result ≡ BAD_ARGUMENT)
+        ⊎ ((result ≡ MEMORY) × IsTrue (may_want (kind_in handle.old))) }
 {
-    call!(handle, alloc, any => any.keep(key, mask))
+    call!(handle, alloc, any => if any.find(key).count == mask.len() {
+        any.keep(key, mask)
+    } else {
+        BAD_ARGUMENT
+    })
 }
 
 /// How many keys and values there are, and how many values were ever removed.
@@ -249,8 +256,8 @@ pub extern "C" fn key_index_c_neighbour(
 ) -> Neighbour
     requires made { IsMade handle.old }
     ensures same { Keeps handle.old handle.new }
-    ensures shown { Shows (has_order handle.old && nat_lt which 4)
-        (neighbour_list nat_cmp which (view_in handle.old) key.now) result buffer.old buffer.new }
+    ensures shown { Shows (is_ordered (kind_in handle.old) && nat_lt which 4)
+        (neighbour_of which (view_in handle.old) key.now) result buffer.old buffer.new }
 {
     call!(handle, alloc, any => any.neighbour(which, key, buffer))
 }

@@ -49,6 +49,10 @@ pub const BAD_ARGUMENT: u32 = 4;
 pub const UNORDERED: u32 = 0;
 pub const ORDERED: u32 = 1;
 pub const SEEDED: u32 = 2;
+pub const UNORDERED_BY_ONE: u32 = 3;
+pub const UNORDERED_BY_TWO: u32 = 4;
+pub const ORDERED_BY_ONE: u32 = 5;
+pub const ORDERED_BY_TWO: u32 = 6;
 
 pub const NEXT: u32 = 0;
 pub const PREV: u32 = 1;
@@ -86,7 +90,7 @@ extern "C" {
         count_again: usize,
     ) -> Many;
     pub fn key_index_c_find(at: At, key: Key, len: usize) -> Found;
-    pub fn key_index_c_remove(at: At, key: Key, len: usize);
+    pub fn key_index_c_remove(at: At, key: Key, len: usize) -> u32;
     pub fn key_index_c_remove_value(at: At, key: Key, len: usize, value: u64) -> bool;
     pub fn key_index_c_replace_value(at: At, key: Key, len: usize, value: u64, with: u64) -> bool;
     pub fn key_index_c_keep(at: At, key: Key, len: usize, mask: Key, mask_len: usize) -> u32;

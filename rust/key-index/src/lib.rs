@@ -76,14 +76,17 @@ mod sealed {
     }
 }
 
-/// A kind of index: [`Unordered`], [`Ordered`] or [`Seeded`].
+/// A kind of index.
 pub trait Kind: sealed::Sealed {}
 
 /// A kind that takes no seed.
 pub trait Unseeded: Kind {}
 
-macro_rules! kind {
-    ($($doc:literal $name:ident = $number:ident $(: $more:ident)?;)*) => {$(
+/// A kind with the next and the previous key.
+pub trait Neighbours: Kind {}
+
+macro_rules! kinds {
+    ($($doc:literal $name:ident = $number:ident: $($more:ident)*;)*) => {$(
         #[doc = $doc]
         #[derive(Clone, Copy, Debug)]
         pub enum $name {}
@@ -91,14 +94,19 @@ macro_rules! kind {
             const KIND: u32 = ffi::$number;
         }
         impl Kind for $name {}
-        $(impl $more for $name {})?
+        $(impl $more for $name {})*
     )*};
 }
 
-kind! {
+kinds! {
     "A hashed map: the fastest calls by key." Unordered = UNORDERED: Unseeded;
-    "A tree, with the next and the previous key." Ordered = ORDERED: Unseeded;
-    "A hashed map by a SHA-256 of whole keys and a secret seed, for keys that an attacker picks." Seeded = SEEDED;
+    "A tree, with the next and the previous key." Ordered = ORDERED: Unseeded Neighbours;
+    "A hashed map by a SHA-256 of whole keys and a secret seed, for keys that an attacker picks." Seeded = SEEDED:;
+    "A hashed map for each first byte, by the eight bytes behind it." UnorderedByOne = UNORDERED_BY_ONE: Unseeded;
+    "The same for each two first bytes." UnorderedByTwo = UNORDERED_BY_TWO: Unseeded;
+    "Sorted arrays or a tree for each first byte, by the eight bytes behind it. The oldest value of a key comes first."
+    OrderedByOne = ORDERED_BY_ONE: Unseeded Neighbours;
+    "The same for each two first bytes." OrderedByTwo = ORDERED_BY_TWO: Unseeded Neighbours;
 }
 
 /// An index from the first eight bytes of keys, or of their hashes, to lists of values. It stays on the thread that made it.
@@ -149,7 +157,7 @@ impl<K: Kind> Index<K> {
         })
     }
 
-    /// Inserts a value in front of those of its key.
+    /// Inserts a value in front of those of its key, or behind them in an ordered index in partitions.
     ///
     /// # Errors
     ///
@@ -161,7 +169,7 @@ impl<K: Kind> Index<K> {
         })
     }
 
-    /// Inserts values in turn, each in front of those of its key. The keys stand behind one another in `keys`, each up to its end.
+    /// Inserts values in turn, each as [`Index::insert`] does. The keys stand behind one another in `keys`, each up to its end.
     ///
     /// # Errors
     ///
@@ -194,7 +202,7 @@ impl<K: Kind> Index<K> {
         unsafe { ffi::key_index_c_find(self.handle.get(), key.as_ptr(), key.len()) }
     }
 
-    /// The values of a key, the newest first.
+    /// The values of a key, in list order.
     #[inline]
     #[must_use]
     pub fn get(&self, key: &[u8]) -> Values {
@@ -265,10 +273,14 @@ impl<K: Kind> Index<K> {
         self.find(key).count > 0
     }
 
-    /// Removes a key with all its values. It takes no memory.
-    pub fn remove(&mut self, key: &[u8]) {
+    /// Removes a key with all its values.
+    ///
+    /// # Errors
+    ///
+    /// [`Error::Memory`], of an ordered index in partitions alone.
+    pub fn remove(&mut self, key: &[u8]) -> Result<(), Error> {
         // SAFETY: the key goes with its length.
-        unsafe { ffi::key_index_c_remove(self.handle.get(), key.as_ptr(), key.len()) }
+        answer(unsafe { ffi::key_index_c_remove(self.handle.get(), key.as_ptr(), key.len()) })
     }
 
     /// Removes the first value of a key that equals `value`, and tells whether there was one. It takes no memory.
@@ -285,24 +297,30 @@ impl<K: Kind> Index<K> {
         }
     }
 
-    /// Keeps those values of a key for which a test is true, asked once on each in list order, and removes the others. It takes no memory
-    /// but for the values of a key that has two and more.
-    pub fn retain(&mut self, key: &[u8], mut should_retain: impl FnMut(u64) -> bool) {
-        let mut values = self.get(key);
-        let mask: Vec<u8> = values
-            .by_ref()
+    /// Keeps those values of a key for which a test is true, asked once on each in list order, and removes the others.
+    ///
+    /// # Errors
+    ///
+    /// [`Error::Memory`], of an ordered index in partitions alone.
+    pub fn retain(
+        &mut self,
+        key: &[u8],
+        mut should_retain: impl FnMut(u64) -> bool,
+    ) -> Result<(), Error> {
+        let mask: Vec<u8> = self
+            .get(key)
             .map(|value| u8::from(should_retain(value)))
             .collect();
-        // SAFETY: the key and the mask go with their lengths, and the mask has a byte for each value, so it is taken.
-        unsafe {
+        // SAFETY: the key and the mask go with their lengths. The mask has a byte for each value.
+        answer(unsafe {
             ffi::key_index_c_keep(
                 self.handle.get(),
                 key.as_ptr(),
                 key.len(),
                 mask.as_ptr(),
                 mask.len(),
-            );
-        }
+            )
+        })
     }
 
     fn counts(&self) -> Counts {
@@ -335,7 +353,7 @@ impl<K: Kind> Index<K> {
     }
 }
 
-impl Index<Ordered> {
+impl<K: Neighbours> Index<K> {
     /// The values of the least shortened key that is greater than that of the key, and false; if there is none, those of the first one, and
     /// true. `None` exactly if the index is empty.
     #[must_use]

@@ -1,10 +1,9 @@
 use Rattle.std.proofs.Common.{◌≡◌, length, suc, ◌+◌, ◌-◌, ◌<◌, ◌^◌, ◌++◌, take, drop, slice_index, sym, ap, ◌∙◌, arith, add-one, refl, length-append}
 use Rattle.std.specs.Prelude.{slice_range}
-use Rattle.std.specs.Ordering.{nat_cmp}
-use Rattle.key_index_flat.specs.View.{run_of}
 use Rattle.key_index_c.specs.Any.{any_view}
 use Rattle.key_index_c.specs.Buffer.{filled}
 use Rattle.key_index_c.specs.Calls.{counted, key_of, start_of, values_of}
+use Rattle.key_index_c.specs.Views.{values_under}
 use Rattle.key_index_c.proofs.BufferLemmas.{each-set, filled-put_mid}
 use Rattle.key_index_c.proofs.any.Any.get_many.Goals as goal
 
@@ -12,8 +11,8 @@ pub loop-number-preserved : goal.loop-number-preserved
 loop-number-preserved c =
     let had = c.loop-number.invariant in let n = c.loop-number.number in let keys = c.args.keys.now in let ends = c.args.ends.now in
     let s = any_view c.args.self.now in let now = c.loop-number.buffer in let from = c.min-from.result in
-    let lists = values_of nat_cmp s keys ends in let list = run_of nat_cmp s (key_of keys ends n) in
-    let same = ap (λ start. run_of nat_cmp s (slice_range keys start (slice_index ends n))) had.0 in
+    let lists = values_of s keys ends in let list = values_under s (key_of keys ends n) in
+    let same = ap (λ start. values_under s (slice_range keys start (slice_index ends n))) had.0 in
     let written : c.get.new.buffer ≡ filled list (take (length now - from) (drop from now)) =
     c.get.ensures.values ∙ ap (λ values. filled values (take (length now - from) (drop from now))) same in
     let more : c.get.result ≡ length list = c.get.ensures.count ∙ ap length same in
