@@ -219,8 +219,20 @@ impl Any {
         count
     }
 
-    /// How many values a key has, and the first one.
+    /// How many values a key has, and the first one. A flat unordered index is the one whose look-ups cost least, so this is inlined with
+    /// that of its look-up, and calls those of the others.
+    #[inline(always)]
     pub(crate) fn find(&self, key: &[u8]) -> Found
+        ensures { result ≡ found_in (held_under self.now key.now) }
+    {
+        match self {
+            Any::Unordered(index) => front(index, key),
+            other => other.find_apart(key),
+        }
+    }
+
+    #[inline(never)]
+    fn find_apart(&self, key: &[u8]) -> Found
         ensures { result ≡ found_in (held_under self.now key.now) }
     {
         each!(self, index => front(index, key))
@@ -458,7 +470,7 @@ fn show(neighbour: Option<(Values<'_, u64>, bool)>, buffer: &mut [u64]) -> Neigh
 }
 
 /// How many values a key has, and the first one.
-#[inline]
+#[inline(always)]
 fn front<I: Unordered<Value = u64>>(index: &I, key: &[u8]) -> Found
     ensures { result ≡ found_in (run_of I.Key.cmp (I.view index.now) key.now) }
 {
