@@ -16,8 +16,9 @@ int main(void) {
     key_index index = KEY_INDEX_NONE;
     uint64_t values[2] = {0, 0};
     const uint64_t many[2] = {6, 7};
-    const size_t ends[2] = {4, 10}, falling[2] = {4, 3};
-    size_t count = 0;
+    const size_t ends[2] = {4, 10}, falling[2] = {4, 3}, asked[3] = {5, 9, 15};
+    const uint8_t mask[2] = {0, 1};
+    size_t stops[3] = {0, 0, 0}, count = 0;
     bool told = false;
 
     CHECK(key_index_new(&index, KEY_INDEX_ORDERED) == KEY_INDEX_OK);
@@ -39,6 +40,13 @@ int main(void) {
     CHECK(key_index_insert_many(&index, "figsgrapes", ends, many, 2, &count) == KEY_INDEX_OK);
     CHECK(count == 2 && key_index_get(&index, "grapes", 6, values, 2, &count) == KEY_INDEX_OK && count == 1 && values[0] == 7);
     CHECK(key_index_insert_many(&index, "figs", falling, many, 2, &count) == KEY_INDEX_BAD_ARGUMENT && count == 0);
+    CHECK(key_index_get_many(&index, "applefigsgrapes", asked, 3, values, 2, stops, &count) == KEY_INDEX_OK);
+    CHECK(count == 3 && values[0] == 1 && values[1] == 6 && stops[0] == 1 && stops[1] == 2 && stops[2] == 3);
+    CHECK(key_index_get_many(&index, "figs", falling, 2, values, 2, stops, &count) == KEY_INDEX_BAD_ARGUMENT && stops[1] == 2);
+    CHECK(key_index_insert(&index, "figs", 4, 8) == KEY_INDEX_OK);
+    CHECK(key_index_keep(&index, "figs", 4, mask, 1) == KEY_INDEX_BAD_ARGUMENT);
+    CHECK(key_index_keep(&index, "figs", 4, mask, 2) == KEY_INDEX_OK);
+    CHECK(key_index_get(&index, "figs", 4, values, 2, &count) == KEY_INDEX_OK && count == 1 && values[0] == 6);
     CHECK(key_index_get(&index, NULL, 1, values, 2, &count) == KEY_INDEX_BAD_ARGUMENT);
     printf("keys %zu items %zu pruned %llu\n", key_index_keys(&index), key_index_items(&index),
            (unsigned long long)key_index_pruned(&index));

@@ -65,10 +65,20 @@ typedef enum key_index_status {
 typedef enum key_index_kind {
     KEY_INDEX_UNORDERED = 0, /* a hashed map: the fastest calls by key */
     KEY_INDEX_ORDERED = 1,   /* a tree, with the next and the previous key */
-    KEY_INDEX_SEEDED = 2     /* a hashed map by a SHA-256 of whole keys and a secret seed: for keys that an attacker picks */
+    KEY_INDEX_SEEDED = 2,    /* a hashed map by a SHA-256 of whole keys and a secret seed: for keys that an attacker picks */
+    /* The first byte of a key, or the first two, pick a partition, and the eight bytes behind them are the index key there: hashed, or
+     * ordered in sorted arrays and trees. An ordered one puts a new value behind those of its key, so the oldest comes first. */
+    KEY_INDEX_UNORDERED_BY_ONE = 3,
+    KEY_INDEX_UNORDERED_BY_TWO = 4,
+    KEY_INDEX_ORDERED_BY_ONE = 5,
+    KEY_INDEX_ORDERED_BY_TWO = 6
 } key_index_kind;
 
 /* What the library exports. */
+struct key_index_found {
+    size_t count;
+    uint64_t first;
+};
 struct key_index_neighbour {
     size_t count;
     uint32_t status;
@@ -78,23 +88,28 @@ struct key_index_many {
     size_t count;
     uint32_t status;
 };
+struct key_index_counts {
+    size_t keys;
+    size_t items;
+    uint64_t pruned;
+};
+enum { KEY_INDEX_NEXT, KEY_INDEX_PREV, KEY_INDEX_FIRST, KEY_INDEX_LAST };
 uint32_t key_index_c_new(key_index *index, uint32_t kind, uint64_t seed);
 void key_index_c_free(key_index *index);
 uint32_t key_index_c_insert(key_index *index, const uint8_t *key, size_t key_len, uint64_t value);
 struct key_index_many key_index_c_insert_many(key_index *index, const uint8_t *keys, size_t keys_len, const size_t *ends,
                                               size_t ends_len, const uint64_t *values, size_t values_len);
 size_t key_index_c_get(key_index *index, const uint8_t *key, size_t key_len, uint64_t *values, size_t room);
-bool key_index_c_contains(key_index *index, const uint8_t *key, size_t key_len);
-void key_index_c_remove(key_index *index, const uint8_t *key, size_t key_len);
+struct key_index_many key_index_c_get_many(key_index *index, const uint8_t *keys, size_t keys_len, const size_t *ends, size_t ends_len,
+                                           uint64_t *values, size_t room, size_t *stops, size_t stops_len);
+struct key_index_found key_index_c_find(key_index *index, const uint8_t *key, size_t key_len);
+uint32_t key_index_c_remove(key_index *index, const uint8_t *key, size_t key_len);
 bool key_index_c_remove_value(key_index *index, const uint8_t *key, size_t key_len, uint64_t value);
 bool key_index_c_replace_value(key_index *index, const uint8_t *key, size_t key_len, uint64_t value, uint64_t with);
-size_t key_index_c_keys(key_index *index);
-size_t key_index_c_items(key_index *index);
-uint64_t key_index_c_pruned(key_index *index);
-struct key_index_neighbour key_index_c_next(key_index *index, const uint8_t *key, size_t key_len, uint64_t *values, size_t room);
-struct key_index_neighbour key_index_c_prev(key_index *index, const uint8_t *key, size_t key_len, uint64_t *values, size_t room);
-struct key_index_neighbour key_index_c_first(key_index *index, uint64_t *values, size_t room);
-struct key_index_neighbour key_index_c_last(key_index *index, uint64_t *values, size_t room);
+uint32_t key_index_c_keep(key_index *index, const uint8_t *key, size_t key_len, const uint8_t *mask, size_t mask_len);
+struct key_index_counts key_index_c_counts(key_index *index);
+struct key_index_neighbour key_index_c_neighbour(key_index *index, uint32_t which, const uint8_t *key, size_t key_len, uint64_t *values,
+                                                 size_t room);
 
 /* Whether an index was made, and a key and a buffer can be passed. A pointer that is null has to have the length 0. */
 static inline bool key_index_is_made(const key_index *index) {
@@ -133,13 +148,13 @@ static inline void key_index_free(key_index *index) {
     index->at = NULL;
 }
 
-/* Inserts a value in front of those of its key. KEY_INDEX_MEMORY, KEY_INDEX_FULL. */
+/* Inserts a value in front of those of its key, or behind them in an ordered index in partitions. KEY_INDEX_MEMORY, KEY_INDEX_FULL. */
 static inline key_index_status key_index_insert(key_index *index, const void *key, size_t key_len, uint64_t value) {
     if (!key_index_takes(index, key, key_len, NULL, 0)) return KEY_INDEX_BAD_ARGUMENT;
     return (key_index_status)key_index_c_insert(index, key_index_bytes(key), key_len, value);
 }
 
-/* Inserts `n` values in turn, each in front of those of its key. The keys stand behind one another from `keys` on, and the one of the
+/* Inserts `n` values in turn, each as key_index_insert does. The keys stand behind one another from `keys` on, and the one of the
  * number i ends in front of keys[ends[i]], so the ends must not fall. `count` is how many were inserted. KEY_INDEX_MEMORY and
  * KEY_INDEX_FULL: as many as `count` says were, and the next one was refused. KEY_INDEX_BAD_ARGUMENT: none. */
 static inline key_index_status key_index_insert_many(key_index *index, const void *keys, const size_t *ends, const uint64_t *values,
@@ -155,28 +170,47 @@ static inline key_index_status key_index_insert_many(key_index *index, const voi
     return (key_index_status)told.status;
 }
 
-/* Writes the values of a key to `values`, the newest first, as many as there is room for, and to `count` how many the key has. If
+/* Writes the values of a key to `values`, in list order, as many as there is room for, and to `count` how many the key has. If
  * that is more than `room`, ask again with more room. */
 static inline key_index_status key_index_get(key_index *index, const void *key, size_t key_len, uint64_t *values, size_t room,
                                              size_t *count) {
-    uint64_t none = 0;
+    struct key_index_found found;
     if (count == NULL || !key_index_takes(index, key, key_len, values, room)) return KEY_INDEX_BAD_ARGUMENT;
-    *count = key_index_c_get(index, key_index_bytes(key), key_len, key_index_room(values, &none), room);
+    found = key_index_c_find(index, key_index_bytes(key), key_len);
+    if (found.count > 0 && room > 0) values[0] = found.first;
+    if (found.count > 1 && room > 1) key_index_c_get(index, key_index_bytes(key), key_len, values, room);
+    *count = found.count;
     return KEY_INDEX_OK;
+}
+
+/* The same of `n` keys, which stand behind one another as for key_index_insert_many: the values of the key of the number i are written
+ * behind those of the keys before it, and end in front of values[stops[i]]. `count` is how many values they have in all, as far as
+ * SIZE_MAX goes. KEY_INDEX_BAD_ARGUMENT: nothing was written. */
+static inline key_index_status key_index_get_many(key_index *index, const void *keys, const size_t *ends, size_t n, uint64_t *values,
+                                                  size_t room, size_t *stops, size_t *count) {
+    uint64_t none = 0;
+    struct key_index_many told;
+    if (count == NULL || !key_index_is_made(index)) return KEY_INDEX_BAD_ARGUMENT;
+    *count = 0;
+    if (n == 0) return KEY_INDEX_OK;
+    if (ends == NULL || stops == NULL || n > PTRDIFF_MAX / sizeof *values ||
+        !key_index_takes(index, keys, ends[n - 1], values, room)) return KEY_INDEX_BAD_ARGUMENT;
+    told = key_index_c_get_many(index, key_index_bytes(keys), ends[n - 1], ends, n, key_index_room(values, &none), room, stops, n);
+    *count = told.count;
+    return (key_index_status)told.status;
 }
 
 /* Tells whether a key has a value. */
 static inline key_index_status key_index_contains(key_index *index, const void *key, size_t key_len, bool *held) {
     if (held == NULL || !key_index_takes(index, key, key_len, NULL, 0)) return KEY_INDEX_BAD_ARGUMENT;
-    *held = key_index_c_contains(index, key_index_bytes(key), key_len);
+    *held = key_index_c_find(index, key_index_bytes(key), key_len).count > 0;
     return KEY_INDEX_OK;
 }
 
-/* Removes a key with all its values. It takes no memory. */
+/* Removes a key with all its values. KEY_INDEX_MEMORY, of an ordered index in partitions alone. */
 static inline key_index_status key_index_remove(key_index *index, const void *key, size_t key_len) {
     if (!key_index_takes(index, key, key_len, NULL, 0)) return KEY_INDEX_BAD_ARGUMENT;
-    key_index_c_remove(index, key_index_bytes(key), key_len);
-    return KEY_INDEX_OK;
+    return (key_index_status)key_index_c_remove(index, key_index_bytes(key), key_len);
 }
 
 /* Removes the first value of a key that equals `value`, and tells whether there was one. It takes no memory. */
@@ -195,58 +229,57 @@ static inline key_index_status key_index_replace_value(key_index *index, const v
     return KEY_INDEX_OK;
 }
 
+/* Keeps those values of a key whose byte of `mask` is not 0, in their order, and removes the others. KEY_INDEX_MEMORY, of an ordered
+ * index in partitions alone. KEY_INDEX_BAD_ARGUMENT where the mask has not as many bytes as the key has values. */
+static inline key_index_status key_index_keep(key_index *index, const void *key, size_t key_len, const uint8_t *mask, size_t mask_len) {
+    if (!key_index_takes(index, key, key_len, NULL, 0) || (mask == NULL && mask_len != 0) || mask_len > PTRDIFF_MAX)
+        return KEY_INDEX_BAD_ARGUMENT;
+    return (key_index_status)key_index_c_keep(index, key_index_bytes(key), key_len, key_index_bytes(mask), mask_len);
+}
+
 /* How many keys there are, how many values, and how many were ever removed (that count stops at UINT64_MAX). 0 of none. */
 static inline size_t key_index_keys(key_index *index) {
-    return key_index_is_made(index) ? key_index_c_keys(index) : 0;
+    return key_index_is_made(index) ? key_index_c_counts(index).keys : 0;
 }
 static inline size_t key_index_items(key_index *index) {
-    return key_index_is_made(index) ? key_index_c_items(index) : 0;
+    return key_index_is_made(index) ? key_index_c_counts(index).items : 0;
 }
 static inline uint64_t key_index_pruned(key_index *index) {
-    return key_index_is_made(index) ? key_index_c_pruned(index) : 0;
+    return key_index_is_made(index) ? key_index_c_counts(index).pruned : 0;
+}
+
+static inline key_index_status key_index_neighbour(key_index *index, uint32_t which, const void *key, size_t key_len, uint64_t *values,
+                                                   size_t room, size_t *count, bool *cycled) {
+    uint64_t none = 0;
+    struct key_index_neighbour told;
+    if (count == NULL || cycled == NULL || !key_index_takes(index, key, key_len, values, room)) return KEY_INDEX_BAD_ARGUMENT;
+    told = key_index_c_neighbour(index, which, key_index_bytes(key), key_len, key_index_room(values, &none), room);
+    *count = told.count;
+    *cycled = told.cycled;
+    return (key_index_status)told.status;
 }
 
 /* The values of the least shortened key that is greater than that of the key; of the first one, with `cycled` true, if there is none.
  * They are written as key_index_get writes them. `count` is 0 only if the index holds no value. */
 static inline key_index_status key_index_next(key_index *index, const void *key, size_t key_len, uint64_t *values, size_t room,
                                               size_t *count, bool *cycled) {
-    uint64_t none = 0;
-    struct key_index_neighbour told;
-    if (count == NULL || cycled == NULL || !key_index_takes(index, key, key_len, values, room)) return KEY_INDEX_BAD_ARGUMENT;
-    told = key_index_c_next(index, key_index_bytes(key), key_len, key_index_room(values, &none), room);
-    *count = told.count;
-    *cycled = told.cycled;
-    return (key_index_status)told.status;
+    return key_index_neighbour(index, KEY_INDEX_NEXT, key, key_len, values, room, count, cycled);
 }
 
 /* The same below the key: the greatest shortened key that is less, or the last one with `cycled` true. */
 static inline key_index_status key_index_prev(key_index *index, const void *key, size_t key_len, uint64_t *values, size_t room,
                                               size_t *count, bool *cycled) {
-    uint64_t none = 0;
-    struct key_index_neighbour told;
-    if (count == NULL || cycled == NULL || !key_index_takes(index, key, key_len, values, room)) return KEY_INDEX_BAD_ARGUMENT;
-    told = key_index_c_prev(index, key_index_bytes(key), key_len, key_index_room(values, &none), room);
-    *count = told.count;
-    *cycled = told.cycled;
-    return (key_index_status)told.status;
+    return key_index_neighbour(index, KEY_INDEX_PREV, key, key_len, values, room, count, cycled);
 }
 
 /* The values of the least shortened key, and of the greatest. */
 static inline key_index_status key_index_first(key_index *index, uint64_t *values, size_t room, size_t *count) {
-    uint64_t none = 0;
-    struct key_index_neighbour told;
-    if (count == NULL || !key_index_takes(index, NULL, 0, values, room)) return KEY_INDEX_BAD_ARGUMENT;
-    told = key_index_c_first(index, key_index_room(values, &none), room);
-    *count = told.count;
-    return (key_index_status)told.status;
+    bool cycled = false;
+    return key_index_neighbour(index, KEY_INDEX_FIRST, NULL, 0, values, room, count, &cycled);
 }
 static inline key_index_status key_index_last(key_index *index, uint64_t *values, size_t room, size_t *count) {
-    uint64_t none = 0;
-    struct key_index_neighbour told;
-    if (count == NULL || !key_index_takes(index, NULL, 0, values, room)) return KEY_INDEX_BAD_ARGUMENT;
-    told = key_index_c_last(index, key_index_room(values, &none), room);
-    *count = told.count;
-    return (key_index_status)told.status;
+    bool cycled = false;
+    return key_index_neighbour(index, KEY_INDEX_LAST, NULL, 0, values, room, count, &cycled);
 }
 
 #ifdef __cplusplus

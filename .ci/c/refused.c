@@ -44,8 +44,11 @@ enum { KEYS = 40, CALLS = 400, ROOM = 64 };
 static uint64_t lists[KEYS][2 * CALLS];
 static size_t lens[KEYS];
 
-/* The index holds the lists. */
+/* The index holds the lists, asked one by one and all at once. */
 static void holds(key_index *index, key_index_kind kind) {
+    static uint8_t all[8 * KEYS];
+    static uint64_t values_of_all[4 * CALLS];
+    size_t ends[KEYS], stops[KEYS];
     size_t keys = 0, items = 0, count, i;
     for (i = 0; i < KEYS; i++) {
         uint8_t key[8] = {0, 0, 0, 0, 0, 0, 0, (uint8_t)i};
@@ -53,10 +56,25 @@ static void holds(key_index *index, key_index_kind kind) {
         size_t room = i % 2 ? ROOM : 2, shown = lens[i] < room ? lens[i] : room;
         CHECK(key_index_get(index, key, sizeof key, values, room, &count) == KEY_INDEX_OK && count == lens[i]);
         CHECK(memcmp(values, lists[i], shown * sizeof *values) == 0);
+        all[8 * i + 7] = (uint8_t)i;
+        ends[i] = 8 * i + 8;
         keys += lens[i] != 0;
         items += lens[i];
     }
+    CHECK(key_index_get_many(index, all, ends, KEYS, values_of_all, 4 * CALLS, stops, &count) == KEY_INDEX_OK && count == items);
+    for (i = 0, count = 0; i < KEYS; count = stops[i++]) {
+        CHECK(stops[i] == count + lens[i]);
+        CHECK(memcmp(&values_of_all[count], lists[i], lens[i] * sizeof **lists) == 0);
+    }
     CHECK(key_index_keys(index) == keys && key_index_items(index) == items);
+}
+
+/* A list with one value more: in front, or behind those of an ordered index in partitions. */
+static void put(key_index_kind kind, size_t at, uint64_t value) {
+    bool behind = kind == KEY_INDEX_ORDERED_BY_ONE || kind == KEY_INDEX_ORDERED_BY_TWO;
+    if (!behind) memmove(&lists[at][1], lists[at], lens[at] * sizeof value);
+    lists[at][behind ? lens[at] : 0] = value;
+    lens[at]++;
 }
 
 /* A session of calls. Returns whether an allocation was refused. */
@@ -84,6 +102,16 @@ static bool session(key_index_kind kind) {
             CHECK(key_index_remove_value(&index, key, sizeof key, value, &found) == KEY_INDEX_OK && found == (lens[at] != 0));
             if (found) memmove(&lists[at][lens[at] / 2], &lists[at][lens[at] / 2 + 1], (lens[at] - lens[at] / 2 - 1) * sizeof value);
             lens[at] -= found;
+        } else if (random % 8 == 3) {
+            uint8_t mask[2 * CALLS];
+            size_t kept = 0, place;
+            for (place = 0; place < lens[at]; place++) {
+                mask[place] = (uint8_t)(random >> place % 48 & 1);
+                if (mask[place]) lists[at][kept++] = lists[at][place];
+            }
+            CHECK(key_index_keep(&index, key, sizeof key, mask, lens[at]) == KEY_INDEX_OK);
+            CHECK(key_index_keep(&index, key, sizeof key, mask, kept + 1) == KEY_INDEX_BAD_ARGUMENT);
+            lens[at] = kept;
         } else if (random % 8 == 2) {
             /* two values of one key: one of them, none or both */
             uint8_t keys[16] = {0};
@@ -93,17 +121,11 @@ static bool session(key_index_kind kind) {
             status = key_index_insert_many(&index, keys, ends, values, 2, &count);
             CHECK(status == (before < refused && refused <= allocations ? KEY_INDEX_MEMORY : KEY_INDEX_OK));
             CHECK(status == KEY_INDEX_OK ? count == 2 : count < 2);
-            for (taken = 0; taken < count; taken++) {
-                memmove(&lists[at][1], lists[at], lens[at]++ * sizeof **lists);
-                lists[at][0] = values[taken];
-            }
+            for (taken = 0; taken < count; taken++) put(kind, at, values[taken]);
         } else {
             status = key_index_insert(&index, key, sizeof key, (uint64_t)i + 1000);
             CHECK(status == (before < refused && refused <= allocations ? KEY_INDEX_MEMORY : KEY_INDEX_OK));
-            if (status == KEY_INDEX_OK) {
-                memmove(&lists[at][1], lists[at], lens[at]++ * sizeof **lists);
-                lists[at][0] = (uint64_t)i + 1000;
-            }
+            if (status == KEY_INDEX_OK) put(kind, at, (uint64_t)i + 1000);
         }
         holds(&index, kind);
     }
@@ -115,7 +137,7 @@ static bool session(key_index_kind kind) {
 
 int main(void) {
     int kind;
-    for (kind = KEY_INDEX_UNORDERED; kind <= KEY_INDEX_SEEDED; kind++) {
+    for (kind = KEY_INDEX_UNORDERED; kind <= KEY_INDEX_ORDERED_BY_TWO; kind++) {
         for (refused = 1;; refused++) {
             allocations = 0;
             if (!session((key_index_kind)kind)) break;

@@ -1,1 +1,2 @@
-pub mod WantLemmas
+pub mod BufferLemmas
+pub mod MaskLemmas

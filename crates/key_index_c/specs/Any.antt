@@ -1,32 +1,65 @@
--- An index of any kind.
---     any_view      as contracts see it
---     is_ordered    whether it has an order
---     held_under    the values under a key
---     slot_of       what an index of a kind, numbered as in C, makes of a key: the number of its first eight bytes, or those of its hash
-use Rattle.std.specs.Prelude.{ℕ, Bool, true, false, List, nat_eq, if◌then◌else◌}
+-- An index of any kind. Kinds are numbered as in C.
+--     kind_of          its kind
+--     is_ordered       whether a kind has an order
+--     inserts_first    whether one puts a new value in front of those of its key, and not behind them
+--     may_want         whether one may want memory where nothing is inserted
+--     any_view         the index as contracts see it; held_under: the values under a key
+--     slot_of          what an index of a kind makes of a key: the number of its first eight bytes, or those of its hash
+--     prefix_of        how many bytes of a key pick a partition
+--     IsNew            of a kind, with no values, none ever removed, and the index keys of the kind
+use Rattle.std.specs.Prelude.{◌≡◌, ◌<◌, ℕ, Bool, nat_eq, nat_lt, if◌then◌else◌, ◌||◌, List, []}
 use Rattle.std.specs.Int.{w64, to_le_bytes}
-use Rattle.std.specs.Ordering.{nat_cmp}
 use Rattle.key_index_flat.specs.Hashing.{seeded_sha256}
 use Rattle.key_index_flat.specs.Ordered as tree
 use Rattle.key_index_flat.specs.Padding.{cap_number}
 use Rattle.key_index_flat.specs.Unordered as hashed
-use Rattle.key_index_flat.specs.View.{View, run_of}
+use Rattle.key_index_parts.specs.Ordered as sorted_parts
+use Rattle.key_index_parts.specs.Prefix.{slot_by}
+use Rattle.key_index_parts.specs.Unordered as hashed_parts
+use Rattle.key_index_c.specs.Views.{AnyView, ByNumber, ByPair, values_under}
 use Rattle.key_index_c.specs.declared.any.Any.{Any}
-use Rattle.key_index_c.specs.declared.any.Any.TheVariants.{Unordered, Ordered, Seeded}
+use Rattle.key_index_c.specs.declared.any.Any.TheVariants.{Unordered, Ordered, Seeded, UnorderedByOne, UnorderedByTwo, OrderedByOne, OrderedByTwo}
 
-abbrev pub any_view : Any → View ℕ ℕ
-any_view (Unordered index) = hashed.view index
-any_view (Ordered index) = tree.view index
-any_view (Seeded index) = hashed.view index
+abbrev pub kind_of : Any → ℕ
+kind_of (Unordered index) = 0
+kind_of (Ordered index) = 1
+kind_of (Seeded index) = 2
+kind_of (UnorderedByOne index) = 3
+kind_of (UnorderedByTwo index) = 4
+kind_of (OrderedByOne index) = 5
+kind_of (OrderedByTwo index) = 6
+
+abbrev pub is_ordered : ℕ → Bool
+is_ordered kind = nat_eq kind 1 || nat_lt 4 kind
+
+abbrev pub inserts_first : ℕ → Bool
+inserts_first kind = nat_lt kind 5
+
+abbrev pub may_want : ℕ → Bool
+may_want kind = nat_lt 4 kind
+
+abbrev pub any_view : Any → AnyView
+any_view (Unordered index) = ByNumber (hashed.view index)
+any_view (Ordered index) = ByNumber (tree.view index)
+any_view (Seeded index) = ByNumber (hashed.view index)
+any_view (UnorderedByOne index) = ByPair (hashed_parts.view index)
+any_view (UnorderedByTwo index) = ByPair (hashed_parts.view index)
+any_view (OrderedByOne index) = ByPair (sorted_parts.view index)
+any_view (OrderedByTwo index) = ByPair (sorted_parts.view index)
 
 abbrev pub held_under : Any → List ℕ → List ℕ
-held_under any key = run_of nat_cmp (any_view any) key
-
-abbrev pub is_ordered : Any → Bool
-is_ordered (Unordered index) = false
-is_ordered (Ordered index) = true
-is_ordered (Seeded index) = false
+held_under any key = values_under (any_view any) key
 
 abbrev pub slot_of : ℕ → ℕ → List ℕ → ℕ
 slot_of kind seed =
     if nat_eq kind 2 then (λ key. cap_number 8 (to_le_bytes w64 (seeded_sha256 seed key))) else cap_number 8
+
+abbrev pub prefix_of : ℕ → ℕ
+prefix_of kind = if nat_eq kind 3 || nat_eq kind 5 then 1 else 2
+
+abbrev pub IsNew : ℕ → ℕ → ℕ → AnyView → Type 0
+IsNew kind seed made (ByNumber s) =
+    (made ≡ kind) × (kind < 3) × (s.content ≡ []) × (s.pruned ≡ 0) × (s.slot ≡ slot_of kind seed)
+IsNew kind seed made (ByPair s) =
+    (made ≡ kind) × (2 < kind) × (kind < 7) × (s.content ≡ []) × (s.pruned ≡ 0)
+    × (s.slot ≡ slot_by (prefix_of kind) (cap_number 8))

@@ -9,4 +9,4 @@ status_of Full = 2
 status_of TooFar = 3
 
 abbrev pub kind_refusal : ℕ → ℕ
-kind_refusal kind = if nat_lt kind 3 then 1 else 4
+kind_refusal kind = if nat_lt kind 7 then 1 else 4

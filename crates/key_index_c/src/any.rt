@@ -1,21 +1,23 @@
 //! An index of any kind.
-ghost use Rattle.std.specs.Prelude.{◌≡◌, ◌≢◌, ◌<◌, ◌⊎◌, ◌↔◌, [], true, false, length, is_some, IfOk, IfErr, IfSome, IsTrue, nat_eq};
-ghost use Rattle.std.specs.Ordering.{nat_cmp};
-ghost use Rattle.key_index_flat.specs.Content.{key_count};
-ghost use Rattle.key_index_flat.specs.Neighbours.{first_list, last_list, next_list, prev_list};
-ghost use Rattle.key_index_flat.specs.View.{after_insert, after_remove, growth_fault_in, items_in};
-ghost use Rattle.key_index_c.specs.Any.{any_view, held_under, is_ordered, slot_of};
+ghost use Rattle.std.specs.Prelude.{◌≡◌, ◌≢◌, ◌<◌, ◌⊎◌, ◌↔◌, ◌&&◌, [], true, false, length, is_some, IfOk, IfErr, IfSome, IsTrue, nat_lt};
+ghost use Rattle.key_index_flat.specs.View as view;
+ghost use Rattle.key_index_flat.specs.View.{run_of};
+ghost use Rattle.key_index_c.specs.Any.{IsNew, any_view, held_under, inserts_first, is_ordered, kind_of, may_want};
 ghost use Rattle.key_index_c.specs.Buffer.{filled};
-ghost use Rattle.key_index_c.specs.Calls.{AreKeys, Shows, after_inserts, after_removed, after_replaced, not_cycled, place_of};
+ghost use Rattle.key_index_c.specs.Calls.{AreKeys, Shows, ShowsMany, after_inserts, found_in, place_of, values_of};
+ghost use Rattle.key_index_c.specs.Changes as change;
+ghost use Rattle.key_index_c.specs.Changes.{neighbour_list, not_cycled};
 ghost use Rattle.key_index_c.specs.Status.{kind_refusal, status_of};
+ghost use Rattle.key_index_c.specs.Views.{after_insert, after_kept, after_remove, after_removed, after_replaced, counts_in, growth_fault_in, items_in, neighbour_of};
 
 use crate::status::{self, BAD_ARGUMENT, MEMORY, OK};
 use key_index_flat::index::implement::Lists;
-use key_index_flat::index::{Factory, Ordered, Runs, Unordered, Values, ordered, unordered};
+use key_index_flat::index::{Factory, Ordered, Unordered, Values, ordered, unordered};
 use key_index_flat::translator::{EightCap, Hashed, SeededSha256};
+use key_index_parts::index::partitioned;
 use std::alloc::Global;
 
-/// An index by eight bytes: the first ones of a key, or of its hash.
+/// An index by eight bytes: the first ones of a key, of what follows the bytes that pick a partition, or of the key's hash.
 #[derive(Drop)]
 pub enum Any {
     /// Hashed, with no order.
@@ -24,6 +26,14 @@ pub enum Any {
     Ordered(ordered::Index<EightCap, u64>),
     /// Hashed, by a hash of whole keys that a seed picks.
     Seeded(unordered::Index<Hashed<EightCap, SeededSha256>, u64>),
+    /// Hashed, in partitions by the first byte.
+    UnorderedByOne(partitioned::unordered::Index<EightCap, u64, 1>),
+    /// Hashed, in partitions by the first two bytes.
+    UnorderedByTwo(partitioned::unordered::Index<EightCap, u64, 2>),
+    /// Sorted arrays or trees, in partitions by the first byte.
+    OrderedByOne(partitioned::ordered::Index<EightCap, u64, 1>),
+    /// Sorted arrays or trees, in partitions by the first two bytes.
+    OrderedByTwo(partitioned::ordered::Index<EightCap, u64, 2>),
 }
 
 /// The kind of an unordered index.
@@ -32,6 +42,45 @@ pub const UNORDERED: u32 = 0;
 pub const ORDERED: u32 = 1;
 /// The kind of an unordered index over hashes by a seed.
 pub const SEEDED: u32 = 2;
+/// The kinds of unordered indices in partitions by one byte and by two.
+pub const UNORDERED_BY_ONE: u32 = 3;
+
+pub const UNORDERED_BY_TWO: u32 = 4;
+/// The kinds of ordered indices in partitions by one byte and by two.
+pub const ORDERED_BY_ONE: u32 = 5;
+
+pub const ORDERED_BY_TWO: u32 = 6;
+
+/// The next key, or the first one if there is none above.
+pub const NEXT: u32 = 0;
+/// The previous key, or the last one if there is none below.
+pub const PREV: u32 = 1;
+/// The first key.
+pub const FIRST: u32 = 2;
+/// The last key.
+pub const LAST: u32 = 3;
+
+/// How many values a key has, and the first one.
+#[repr(C)]
+#[derive(Drop)]
+pub struct Found {
+    /// How many.
+    pub count: usize,
+    /// The first one, 0 where there is none.
+    pub first: u64,
+}
+
+/// What an index counts.
+#[repr(C)]
+#[derive(Drop)]
+pub struct Counts {
+    /// How many keys there are.
+    pub keys: usize,
+    /// How many values there are.
+    pub items: usize,
+    /// How many values were ever removed. The count stops at `u64::MAX`.
+    pub pruned: u64,
+}
 
 /// What a call for the values of a neighbour tells.
 #[repr(C)]
@@ -39,7 +88,7 @@ pub const SEEDED: u32 = 2;
 pub struct Neighbour {
     /// How many values the neighbour has, 0 where there is none.
     pub count: usize,
-    /// `OK`, or `BAD_ARGUMENT` where the index has no order.
+    /// `OK`, or `BAD_ARGUMENT` where the index has no order or no neighbour has the number.
     pub status: u32,
     /// Whether it was found around the end.
     pub cycled: bool,
@@ -49,9 +98,9 @@ pub struct Neighbour {
 #[repr(C)]
 #[derive(Drop)]
 pub struct Many {
-    /// How many keys were taken, from the first one on.
+    /// How many were inserted, from the first one on; how many values they have.
     pub count: usize,
-    /// `OK` if all were; `BAD_ARGUMENT` if the ends are none of as many keys as there are values.
+    /// `OK`; why the next one was refused; `BAD_ARGUMENT` if the ends are none of so many keys.
     pub status: u32,
 }
 
@@ -62,74 +111,68 @@ macro_rules! each {
             Any::Unordered($index) => $call,
             Any::Ordered($index) => $call,
             Any::Seeded($index) => $call,
+            Any::UnorderedByOne($index) => $call,
+            Any::UnorderedByTwo($index) => $call,
+            Any::OrderedByOne($index) => $call,
+            Any::OrderedByTwo($index) => $call,
+        }
+    };
+}
+
+// An index of a kind, or why none was made.
+macro_rules! made {
+    ($kind:path, $index:expr) => {
+        match $index {
+            Ok(index) => Ok($kind(index)),
+            Err(_) => Err(MEMORY),
         }
     };
 }
 
 impl Any {
     /// An index of a kind, with no values. Only a seeded one takes the seed.
-    pub(crate) fn new(alloc: Global, kind: u32, seed: u64) -> Result<Box<Any>, u32>
-        ensures empty { IfOk result (λ any. (any_view any.value).content ≡ []) }
-        ensures pruned { IfOk result (λ any. (any_view any.value).pruned ≡ 0) }
-        ensures slots { IfOk result (λ any. (any_view any.value).slot ≡ slot_of kind seed) }
-        ensures order { IfOk result (λ any. is_ordered any.value ≡ nat_eq kind ORDERED) }
-        ensures known { IfOk result (λ any. kind < 3) }
+    pub(crate) fn new(alloc: Global, kind: u32, seed: u64) -> Result<Any, u32>
+        ensures made { IfOk result (λ any. IsNew kind seed (kind_of any) (any_view any)) }
         ensures fault { IfErr result (λ status. status ≡ kind_refusal kind) }
     {
-        let any = match kind {
-            UNORDERED => match unordered::Index::new(alloc, EightCap) {
-                Ok(index) => Any::Unordered(index),
-                Err(_) => return Err(MEMORY),
-            },
-            ORDERED => match ordered::Index::new(alloc, EightCap) {
-                Ok(index) => Any::Ordered(index),
-                Err(_) => return Err(MEMORY),
-            },
-            SEEDED => match unordered::Index::new(alloc, Hashed::from_seed(seed, EightCap)) {
-                Ok(index) => Any::Seeded(index),
-                Err(_) => return Err(MEMORY),
-            },
-            _ => return Err(BAD_ARGUMENT),
-        };
-        match Box::new(alloc, any) {
-            Ok(made) => Ok(made),
-            Err(_) => Err(MEMORY),
+        use partitioned::{ordered as sorted, unordered as hashed};
+        match kind {
+            UNORDERED => made!(Any::Unordered, unordered::Index::new(alloc, EightCap)),
+            ORDERED => made!(Any::Ordered, ordered::Index::new(alloc, EightCap)),
+            SEEDED => {
+                let hashed = Hashed::from_seed(seed, EightCap);
+                made!(Any::Seeded, unordered::Index::new(alloc, hashed))
+            }
+            UNORDERED_BY_ONE => made!(Any::UnorderedByOne, hashed::Index::new(alloc, EightCap)),
+            UNORDERED_BY_TWO => made!(Any::UnorderedByTwo, hashed::Index::new(alloc, EightCap)),
+            ORDERED_BY_ONE => made!(Any::OrderedByOne, sorted::Index::new(alloc, EightCap)),
+            ORDERED_BY_TWO => made!(Any::OrderedByTwo, sorted::Index::new(alloc, EightCap)),
+            _ => Err(BAD_ARGUMENT),
         }
     }
 
     /// Inserts a value under a key, and tells the status.
     pub(crate) fn insert(&mut self, key: &[u8], value: u64) -> u32
-        ensures order { is_ordered self.new ≡ is_ordered self.old }
+        ensures kind { kind_of self.new ≡ kind_of self.old }
         ensures accepted { result ≡ OK
-            → any_view self.new ≡ after_insert nat_cmp true (any_view self.old) key.now value }
+            → any_view self.new ≡ after_insert (inserts_first (kind_of self.old)) (any_view self.old) key.now value }
         ensures room { result ≡ OK → items_in (any_view self.old) < usize.MAX }
         ensures refused { result ≢ OK → any_view self.new ≡ any_view self.old }
         ensures status { (result ≡ OK) ⊎ (result ≡ status_of (growth_fault_in (any_view self.old))) }
     {
-        each!(self, index => match index.insert(key, value) {
-            Ok(()) => OK,
-            Err(refused) => status::of(refused.fault),
-        })
+        each!(self, index => insert(index, key, value))
     }
 
     /// Inserts values under keys that stand behind one another, each up to its end, until one is refused.
     pub(crate) fn insert_many(&mut self, keys: &[u8], ends: &[usize], values: &[u64]) -> Many
-        ensures order { is_ordered self.new ≡ is_ordered self.old }
-        ensures inserted { any_view self.new
-            ≡ after_inserts (any_view self.old) keys.now ends.now values.now result.count }
-        ensures keys { AreKeys keys.now ends.now values.now → result.status ≢ BAD_ARGUMENT }
-        ensures taken { result.status ≢ BAD_ARGUMENT → AreKeys keys.now ends.now values.now }
-        ensures unkeyed { result.status ≡ BAD_ARGUMENT → result.count ≡ 0 }
+        requires keys { AreKeys keys.now ends.now (length values.now) }
+        ensures kind { kind_of self.new ≡ kind_of self.old }
+        ensures inserted { any_view self.new ≡ after_inserts (inserts_first (kind_of self.old))
+            (any_view self.old) keys.now ends.now values.now result.count }
         ensures whole { result.status ≡ OK → result.count ≡ length values.now }
-        ensures status { (result.status ≡ OK) ⊎ (result.status ≡ BAD_ARGUMENT)
-            ⊎ (result.status ≡ status_of (growth_fault_in (any_view self.new))) }
+        ensures keyed { result.status ≢ BAD_ARGUMENT }
+        ensures status { (result.status ≡ OK) ⊎ (result.status ≡ status_of (growth_fault_in (any_view self.new))) }
     {
-        if !are_keys(keys, ends, values) {
-            return Many {
-                count: 0,
-                status: BAD_ARGUMENT,
-            };
-        }
         let mut start = 0;
         for (count, end) in ends.iter().enumerate() {
             let status = self.insert(&keys[start..*end], values[count]);
@@ -152,130 +195,213 @@ impl Any {
         each!(self, index => copy(index.get(key), buffer))
     }
 
-    /// Whether a key has a value.
-    pub(crate) fn contains(&self, key: &[u8]) -> bool
-        ensures { IsTrue result ↔ (0 < length (held_under self.now key.now)) }
+    /// Writes the values of many keys to a buffer, as many as it has room for, and where those of each key end. Tells how many there are,
+    /// as far as a `usize` goes.
+    pub(crate) fn get_many(
+        &self,
+        keys: &[u8],
+        ends: &[usize],
+        buffer: &mut [u64],
+        stops: &mut [usize],
+    ) -> usize
+        requires keys { AreKeys keys.now ends.now (length stops.old) }
+        ensures { ShowsMany (values_of (any_view self.now) keys.now ends.now)
+            (length ends.now) result buffer.old buffer.new stops.new }
     {
-        each!(self, index => index.get(key).len() > 0)
+        let mut start = 0;
+        let mut count: usize = 0;
+        for (number, end) in ends.iter().enumerate() {
+            let from = count.min(buffer.len());
+            count = count.saturating_add(self.get(&keys[start..*end], &mut buffer[from..]));
+            stops[number] = count;
+            start = *end;
+        }
+        count
     }
 
-    /// Removes a key with all its values.
-    pub(crate) fn remove(&mut self, key: &[u8])
-        ensures order { is_ordered self.new ≡ is_ordered self.old }
-        ensures removed { any_view self.new ≡ after_remove nat_cmp (any_view self.old) key.now }
+    /// How many values a key has, and the first one. A flat unordered index is the one whose look-ups cost least, so this is inlined with
+    /// that of its look-up, and calls those of the others.
+    #[inline(always)]
+    pub(crate) fn find(&self, key: &[u8]) -> Found
+        ensures { result ≡ found_in (held_under self.now key.now) }
     {
-        let _ = each!(self, index => index.remove(key));
+        match self {
+            Any::Unordered(index) => front(index, key),
+            other => other.find_apart(key),
+        }
+    }
+
+    #[inline(never)]
+    fn find_apart(&self, key: &[u8]) -> Found
+        ensures { result ≡ found_in (held_under self.now key.now) }
+    {
+        each!(self, index => front(index, key))
+    }
+
+    /// Removes a key with all its values, and tells the status.
+    pub(crate) fn remove(&mut self, key: &[u8]) -> u32
+        ensures kind { kind_of self.new ≡ kind_of self.old }
+        ensures removed { result ≡ OK → any_view self.new ≡ after_remove (any_view self.old) key.now }
+        ensures refused { result ≢ OK → any_view self.new ≡ any_view self.old }
+        ensures status { (result ≡ OK) ⊎ ((result ≡ MEMORY) × IsTrue (may_want (kind_of self.old))) }
+    {
+        each!(self, index => remove(index, key))
     }
 
     /// Removes the first value of a key that equals a value, and tells whether there was one.
     pub(crate) fn remove_value(&mut self, key: &[u8], value: u64) -> bool
-        ensures order { is_ordered self.new ≡ is_ordered self.old }
+        ensures kind { kind_of self.new ≡ kind_of self.old }
         ensures found { result ≡ is_some (place_of value (held_under self.old key.now)) }
         ensures removed { any_view self.new ≡ after_removed (any_view self.old) key.now
             (place_of value (held_under self.old key.now)) }
     {
-        each!(self, index => {
-            let slot = index.slot_of(key);
-            match place_of(index.list_at(slot), value) {
-                None => false,
-                Some(place) => {
-                    index.remove_at(slot, place);
-                    true
-                }
-            }
-        })
+        each!(self, index => remove_value(index, key, value))
     }
 
     /// Puts another value in the place of the first value of a key that equals a value, and tells whether there was one.
     pub(crate) fn replace_value(&mut self, key: &[u8], value: u64, new: u64) -> bool
-        ensures order { is_ordered self.new ≡ is_ordered self.old }
+        ensures kind { kind_of self.new ≡ kind_of self.old }
         ensures found { result ≡ is_some (place_of value (held_under self.old key.now)) }
         ensures replaced { any_view self.new ≡ after_replaced (any_view self.old) key.now
             (place_of value (held_under self.old key.now)) new }
     {
-        each!(self, index => {
-            let slot = index.slot_of(key);
-            match place_of(index.list_at(slot), value) {
-                None => false,
-                Some(place) => {
-                    index.set_at(slot, place, new);
-                    true
-                }
-            }
+        each!(self, index => replace_value(index, key, value, new))
+    }
+
+    /// Keeps those values of a key whose byte of a mask is not 0, and tells the status.
+    pub(crate) fn keep(&mut self, key: &[u8], mask: &[u8]) -> u32
+        requires { length mask.now ≡ length (held_under self.old key.now) }
+        ensures kind { kind_of self.new ≡ kind_of self.old }
+        ensures kept { result ≡ OK → any_view self.new ≡ after_kept (any_view self.old) key.now mask.now }
+        ensures refused { result ≢ OK → any_view self.new ≡ any_view self.old }
+        ensures status { (result ≡ OK) ⊎ ((result ≡ MEMORY) × IsTrue (may_want (kind_of self.old))) }
+    {
+        each!(self, index => keep(index, key, mask))
+    }
+
+    /// How many keys and values there are, and how many values were ever removed.
+    pub(crate) fn counts(&self) -> Counts
+        ensures { result ≡ counts_in (any_view self.now) }
+    {
+        each!(self, index => Counts {
+            keys: index.keys(),
+            items: index.items(),
+            pruned: index.pruned(),
         })
     }
 
-    /// How many keys there are.
-    pub(crate) fn keys(&self) -> usize
-        ensures { result ≡ key_count (any_view self.now).content }
-    {
-        each!(self, index => index.keys())
-    }
-
-    /// How many values there are.
-    pub(crate) fn items(&self) -> usize
-        ensures { result ≡ items_in (any_view self.now) }
-    {
-        each!(self, index => index.items())
-    }
-
-    /// How many values were ever removed.
-    pub(crate) fn pruned(&self) -> u64
-        ensures { result ≡ (any_view self.now).pruned }
-    {
-        each!(self, index => index.pruned())
-    }
-
-    /// Writes the values of the next key.
-    pub(crate) fn next(&self, key: &[u8], buffer: &mut [u64]) -> Neighbour
-        ensures { Shows (is_ordered self.now)
-            (next_list nat_cmp (any_view self.now).content ((any_view self.now).slot key.now)) result buffer.old buffer.new }
+    /// Writes the values of a neighbour of a key, told by a number.
+    pub(crate) fn neighbour(&self, which: u32, key: &[u8], buffer: &mut [u64]) -> Neighbour
+        ensures { Shows (is_ordered (kind_of self.now) && nat_lt which 4)
+            (neighbour_of which (any_view self.now) key.now) result buffer.old buffer.new }
     {
         match self {
+            Any::Ordered(index) => show_neighbour(index, which, key, buffer),
+            Any::OrderedByOne(index) => show_neighbour(index, which, key, buffer),
+            Any::OrderedByTwo(index) => show_neighbour(index, which, key, buffer),
             Any::Unordered(_) | Any::Seeded(_) => no_order(),
-            Any::Ordered(index) => show(index.next_translated_key(key), buffer),
-        }
-    }
-
-    /// Writes the values of the previous key.
-    pub(crate) fn prev(&self, key: &[u8], buffer: &mut [u64]) -> Neighbour
-        ensures { Shows (is_ordered self.now)
-            (prev_list nat_cmp (any_view self.now).content ((any_view self.now).slot key.now)) result buffer.old buffer.new }
-    {
-        match self {
-            Any::Unordered(_) | Any::Seeded(_) => no_order(),
-            Any::Ordered(index) => show(index.prev_translated_key(key), buffer),
-        }
-    }
-
-    /// Writes the values of the first key.
-    pub(crate) fn first(&self, buffer: &mut [u64]) -> Neighbour
-        ensures { Shows (is_ordered self.now)
-            (not_cycled (first_list (any_view self.now).content)) result buffer.old buffer.new }
-    {
-        match self {
-            Any::Unordered(_) | Any::Seeded(_) => no_order(),
-            Any::Ordered(index) => show(end(index.first_translated_key()), buffer),
-        }
-    }
-
-    /// Writes the values of the last key.
-    pub(crate) fn last(&self, buffer: &mut [u64]) -> Neighbour
-        ensures { Shows (is_ordered self.now)
-            (not_cycled (last_list (any_view self.now).content)) result buffer.old buffer.new }
-    {
-        match self {
-            Any::Unordered(_) | Any::Seeded(_) => no_order(),
-            Any::Ordered(index) => show(end(index.last_translated_key()), buffer),
+            Any::UnorderedByOne(_) | Any::UnorderedByTwo(_) => no_order(),
         }
     }
 }
 
-/// Whether these are the ends of as many keys as there are values.
-fn are_keys(keys: &[u8], ends: &[usize], values: &[u64]) -> bool
-    ensures { IsTrue result ↔ AreKeys keys.now ends.now values.now }
+/// Inserts a value under a key, and tells the status.
+fn insert<I: Unordered<Value = u64>>(index: &mut I, key: &[u8], value: u64) -> u32
+    ensures accepted { result ≡ OK
+        → I.view index.new ≡ view.after_insert I.Key.cmp I.INSERT_FIRST (I.view index.old) key.now value }
+    ensures room { result ≡ OK → view.items_in (I.view index.old) < usize.MAX }
+    ensures refused { result ≢ OK → I.view index.new ≡ I.view index.old }
+    ensures status { (result ≡ OK) ⊎ (result ≡ status_of (view.growth_fault_in (I.view index.old))) }
 {
-    if ends.len() != values.len() {
+    match index.insert(key, value) {
+        Ok(()) => OK,
+        Err(refused) => status::of(refused.fault),
+    }
+}
+
+/// Removes a key with all its values, and tells the status.
+fn remove<I: Unordered<Value = u64>>(index: &mut I, key: &[u8]) -> u32
+    ensures removed { result ≡ OK → I.view index.new ≡ view.after_remove I.Key.cmp (I.view index.old) key.now }
+    ensures refused { result ≢ OK → I.view index.new ≡ I.view index.old }
+    ensures status { (result ≡ OK)
+        ⊎ ((result ≡ MEMORY) × IsTrue (I.may_refuse index.old ((I.view index.old).slot key.now))) }
+{
+    match index.remove(key) {
+        Ok(()) => OK,
+        Err(fault) => status::of(fault),
+    }
+}
+
+/// Removes the first value of a key that equals a value, and tells whether there was one.
+fn remove_value<I: Lists<Value = u64>>(index: &mut I, key: &[u8], value: u64) -> bool
+    ensures found { result ≡ is_some (place_of value (run_of I.Key.cmp (I.view index.old) key.now)) }
+    ensures removed { I.view index.new ≡ change.after_removed I.Key.cmp (I.view index.old) key.now
+        (place_of value (run_of I.Key.cmp (I.view index.old) key.now)) }
+{
+    let slot = index.slot_of(key);
+    match place_of(index.list_at(slot), value) {
+        None => false,
+        Some(place) => {
+            index.remove_at(slot, place);
+            true
+        }
+    }
+}
+
+/// Puts another value in the place of the first value of a key that equals a value, and tells whether there was one.
+fn replace_value<I: Lists<Value = u64>>(index: &mut I, key: &[u8], value: u64, new: u64) -> bool
+    ensures found { result ≡ is_some (place_of value (run_of I.Key.cmp (I.view index.old) key.now)) }
+    ensures replaced { I.view index.new ≡ change.after_replaced I.Key.cmp (I.view index.old) key.now
+        (place_of value (run_of I.Key.cmp (I.view index.old) key.now)) new }
+{
+    let slot = index.slot_of(key);
+    match place_of(index.list_at(slot), value) {
+        None => false,
+        Some(place) => {
+            index.set_at(slot, place, new);
+            true
+        }
+    }
+}
+
+/// Keeps those values of a key whose byte of a mask is not 0, and tells the status.
+fn keep<I: Unordered<Value = u64>>(index: &mut I, key: &[u8], mask: &[u8]) -> u32
+    requires { length mask.now ≡ length (run_of I.Key.cmp (I.view index.old) key.now) }
+    ensures kept { result ≡ OK
+        → I.view index.new ≡ change.after_kept I.Key.cmp (I.view index.old) key.now mask.now }
+    ensures refused { result ≢ OK → I.view index.new ≡ I.view index.old }
+    ensures status { (result ≡ OK)
+        ⊎ ((result ≡ MEMORY) × IsTrue (I.may_refuse index.old ((I.view index.old).slot key.now))) }
+{
+    let mut rest = mask;
+    let retained = index.retain(key, move |_| match rest.split_first() {
+        None => false,
+        Some((byte, left)) => {
+            rest = left;
+            *byte != 0
+        }
+    });
+    match retained {
+        Ok(()) => OK,
+        Err(fault) => status::of(fault),
+    }
+}
+
+/// What a call with many keys tells of ends that are none of so many.
+pub(crate) fn no_keys() -> Many
+    ensures { result ≡ record { count = 0; status = BAD_ARGUMENT } }
+{
+    Many {
+        count: 0,
+        status: BAD_ARGUMENT,
+    }
+}
+
+/// Whether these are the ends of so many keys.
+pub(crate) fn are_keys(keys: &[u8], ends: &[usize], count: usize) -> bool
+    ensures { IsTrue result ↔ AreKeys keys.now ends.now count }
+{
+    if ends.len() != count {
         return false;
     }
     let mut start = 0;
@@ -286,6 +412,25 @@ fn are_keys(keys: &[u8], ends: &[usize], values: &[u64]) -> bool
         start = *end;
     }
     true
+}
+
+/// The values of a neighbour of a key, told by a number.
+fn show_neighbour<I: Ordered<Value = u64>>(
+    index: &I,
+    which: u32,
+    key: &[u8],
+    buffer: &mut [u64],
+) -> Neighbour
+    ensures { Shows (nat_lt which 4)
+        (neighbour_list I.Key.cmp which (I.view index.now) key.now) result buffer.old buffer.new }
+{
+    match which {
+        NEXT => show(index.next_translated_key(key), buffer),
+        PREV => show(index.prev_translated_key(key), buffer),
+        FIRST => show(end(index.first_translated_key()), buffer),
+        LAST => show(end(index.last_translated_key()), buffer),
+        _ => no_order(),
+    }
 }
 
 /// What an index with no order tells.
@@ -321,6 +466,21 @@ fn show(neighbour: Option<(Values<'_, u64>, bool)>, buffer: &mut [u64]) -> Neigh
         count,
         status: OK,
         cycled,
+    }
+}
+
+/// How many values a key has, and the first one.
+#[inline(always)]
+fn front<I: Unordered<Value = u64>>(index: &I, key: &[u8]) -> Found
+    ensures { result ≡ found_in (run_of I.Key.cmp (I.view index.now) key.now) }
+{
+    let mut values = index.get(key);
+    Found {
+        count: values.len(),
+        first: match values.next() {
+            None => 0,
+            Some(value) => *value,
+        },
     }
 }
 

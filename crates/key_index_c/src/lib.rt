@@ -4,16 +4,13 @@
 //! caller owes (`requires`) and what the call leaves (`ensures`).
 #![tactic(auto)]
 
-ghost use Rattle.std.specs.Prelude.{◌≡◌, ◌≢◌, ◌<◌, ◌⊎◌, ◌↔◌, [], true, None, length, is_some, IsTrue, nat_eq};
-ghost use Rattle.std.specs.Ordering.{nat_cmp};
-ghost use Rattle.key_index_flat.specs.Content.{key_count};
-ghost use Rattle.key_index_flat.specs.Neighbours.{first_list, last_list, next_list, prev_list};
-ghost use Rattle.key_index_flat.specs.View.{after_insert, after_remove, growth_fault_in, items_in};
-ghost use Rattle.key_index_c.specs.Any.{slot_of};
+ghost use Rattle.std.specs.Prelude.{◌≡◌, ◌≢◌, ◌<◌, ◌⊎◌, ◌&&◌, None, length, is_some, IsTrue, nat_lt};
+ghost use Rattle.key_index_c.specs.Any.{IsNew, inserts_first, is_ordered, may_want};
 ghost use Rattle.key_index_c.specs.Buffer.{filled};
-ghost use Rattle.key_index_c.specs.Calls.{AreKeys, Shows, after_inserts, after_removed, after_replaced, not_cycled, place_of};
-ghost use Rattle.key_index_c.specs.Held.{IsMade, Keeps, StaysMade, has_order, values_in, view_in};
+ghost use Rattle.key_index_c.specs.Calls.{AreKeys, Shows, ShowsMany, after_inserts, found_in, place_of, values_of};
+ghost use Rattle.key_index_c.specs.Held.{IsMade, Keeps, StaysMade, kind_in, values_in, view_in};
 ghost use Rattle.key_index_c.specs.Status.{kind_refusal, status_of};
+ghost use Rattle.key_index_c.specs.Views.{after_insert, after_kept, after_remove, after_removed, after_replaced, counts_in, growth_fault_in, items_in, neighbour_of};
 
 use std::alloc::Global;
 
@@ -21,7 +18,20 @@ mod any;
 mod handle;
 mod status;
 
-pub use any::{Any, Many, Neighbour, ORDERED, SEEDED, UNORDERED};
+// A call of the index in a handle.
+macro_rules! call {
+    ($handle:ident, $alloc:ident, $any:ident => $call:expr) => {{
+        let mut $any = $handle.take($alloc);
+        let told = $call;
+        $handle.put($any);
+        told
+    }};
+}
+
+pub use any::{
+    Any, Counts, FIRST, Found, LAST, Many, NEXT, Neighbour, ORDERED, PREV, SEEDED, UNORDERED,
+};
+use any::{are_keys, no_keys};
 pub use handle::Handle;
 pub use status::{BAD_ARGUMENT, FULL, MEMORY, OK, TOO_FAR};
 
@@ -30,19 +40,18 @@ pub use status::{BAD_ARGUMENT, FULL, MEMORY, OK, TOO_FAR};
 pub extern "C" fn key_index_c_new(alloc: Global, handle: &mut Handle, kind: u32, seed: u64) -> u32
     requires fresh { handle.old.held ≡ None }
     ensures made { result ≡ OK → IsMade handle.new }
-    ensures empty { result ≡ OK → (view_in handle.new).content ≡ [] }
-    ensures pruned { result ≡ OK → (view_in handle.new).pruned ≡ 0 }
-    ensures slots { result ≡ OK → (view_in handle.new).slot ≡ slot_of kind seed }
-    ensures order { result ≡ OK → has_order handle.new ≡ nat_eq kind ORDERED }
-    ensures known { result ≡ OK → kind < 3 }
+    ensures fresh { result ≡ OK → IsNew kind seed (kind_in handle.new) (view_in handle.new) }
     ensures refused { result ≢ OK → handle.new.held ≡ None }
     ensures status { (result ≡ OK) ⊎ (result ≡ kind_refusal kind) }
 {
     match Any::new(alloc, kind, seed) {
-        Ok(made) => {
-            handle.put(made);
-            OK
-        }
+        Ok(any) => match Box::new(alloc, any) {
+            Ok(made) => {
+                handle.put(made);
+                OK
+            }
+            Err(_) => MEMORY,
+        },
         Err(status) => status,
     }
 }
@@ -67,15 +76,12 @@ pub extern "C" fn key_index_c_insert(
     requires made { IsMade handle.old }
     ensures made { StaysMade handle.old handle.new }
     ensures accepted { result ≡ OK
-        → view_in handle.new ≡ after_insert nat_cmp true (view_in handle.old) key.now value }
+        → view_in handle.new ≡ after_insert (inserts_first (kind_in handle.old)) (view_in handle.old) key.now value }
     ensures room { result ≡ OK → items_in (view_in handle.old) < usize.MAX }
     ensures refused { result ≢ OK → view_in handle.new ≡ view_in handle.old }
     ensures status { (result ≡ OK) ⊎ (result ≡ status_of (growth_fault_in (view_in handle.old))) }
 {
-    let mut any = handle.take(alloc);
-    let status = any.insert(key, value);
-    handle.put(any);
-    status
+    call!(handle, alloc, any => any.insert(key, value))
 }
 
 /// Inserts values under keys that stand behind one another, each up to its end, until one is refused.
@@ -89,19 +95,19 @@ pub extern "C" fn key_index_c_insert_many(
 ) -> Many
     requires made { IsMade handle.old }
     ensures made { StaysMade handle.old handle.new }
-    ensures inserted { view_in handle.new
-        ≡ after_inserts (view_in handle.old) keys.now ends.now values.now result.count }
-    ensures keys { AreKeys keys.now ends.now values.now → result.status ≢ BAD_ARGUMENT }
-    ensures taken { result.status ≢ BAD_ARGUMENT → AreKeys keys.now ends.now values.now }
+    ensures inserted { view_in handle.new ≡ after_inserts (inserts_first (kind_in handle.old))
+        (view_in handle.old) keys.now ends.now values.now result.count }
+    ensures keys { AreKeys keys.now ends.now (length values.now) → result.status ≢ BAD_ARGUMENT }
+    ensures taken { result.status ≢ BAD_ARGUMENT → AreKeys keys.now ends.now (length values.now) }
     ensures unkeyed { result.status ≡ BAD_ARGUMENT → result.count ≡ 0 }
     ensures whole { result.status ≡ OK → result.count ≡ length values.now }
     ensures status { (result.status ≡ OK) ⊎ (result.status ≡ BAD_ARGUMENT)
         ⊎ (result.status ≡ status_of (growth_fault_in (view_in handle.new))) }
 {
-    let mut any = handle.take(alloc);
-    let told = any.insert_many(keys, ends, values);
-    handle.put(any);
-    told
+    if !are_keys(keys, ends, values.len()) {
+        return no_keys();
+    }
+    call!(handle, alloc, any => any.insert_many(keys, ends, values))
 }
 
 /// Writes the values of a key to a buffer, as many as it has room for, and tells how many the key has.
@@ -117,35 +123,56 @@ pub extern "C" fn key_index_c_get(
     ensures count { result ≡ length (values_in handle.old key.now) }
     ensures values { buffer.new ≡ filled (values_in handle.old key.now) buffer.old }
 {
-    let any = handle.take(alloc);
-    let told = any.get(key, buffer);
-    handle.put(any);
-    told
+    call!(handle, alloc, any => any.get(key, buffer))
 }
 
-/// Whether a key has a value.
+/// Writes the values of keys that stand behind one another, each up to its end, to a buffer, as many as it has room for, and where those of
+/// each key end. Tells how many there are, as far as a `usize` goes.
 #[unsafe(no_mangle)]
-pub extern "C" fn key_index_c_contains(alloc: Global, handle: &mut Handle, key: &[u8]) -> bool
+pub extern "C" fn key_index_c_get_many(
+    alloc: Global,
+    handle: &mut Handle,
+    keys: &[u8],
+    ends: &[usize],
+    buffer: &mut [u64],
+    stops: &mut [usize],
+) -> Many
     requires made { IsMade handle.old }
     ensures same { Keeps handle.old handle.new }
-    ensures held { IsTrue result ↔ (0 < length (values_in handle.old key.now)) }
+    ensures keys { AreKeys keys.now ends.now (length stops.old) → result.status ≡ OK }
+    ensures taken { result.status ≡ OK → AreKeys keys.now ends.now (length stops.old) }
+    ensures shown { result.status ≡ OK → ShowsMany (values_of (view_in handle.old) keys.now ends.now)
+        (length ends.now) result.count buffer.old buffer.new stops.new }
+    ensures refused { result.status ≢ OK → (buffer.new ≡ buffer.old) × (stops.new ≡ stops.old) }
+    ensures status { (result.status ≡ OK) ⊎ ((result.status ≡ BAD_ARGUMENT) × (result.count ≡ 0)) }
 {
-    let any = handle.take(alloc);
-    let told = any.contains(key);
-    handle.put(any);
-    told
+    if !are_keys(keys, ends, stops.len()) {
+        return no_keys();
+    }
+    let count = call!(handle, alloc, any => any.get_many(keys, ends, buffer, stops));
+    Many { count, status: OK }
+}
+
+/// How many values a key has, and the first one.
+#[unsafe(no_mangle)]
+pub extern "C" fn key_index_c_find(alloc: Global, handle: &mut Handle, key: &[u8]) -> Found
+    requires made { IsMade handle.old }
+    ensures same { Keeps handle.old handle.new }
+    ensures found { result ≡ found_in (values_in handle.old key.now) }
+{
+    call!(handle, alloc, any => any.find(key))
 }
 
 /// Removes a key with all its values.
 #[unsafe(no_mangle)]
-pub extern "C" fn key_index_c_remove(alloc: Global, handle: &mut Handle, key: &[u8])
+pub extern "C" fn key_index_c_remove(alloc: Global, handle: &mut Handle, key: &[u8]) -> u32
     requires made { IsMade handle.old }
     ensures made { StaysMade handle.old handle.new }
-    ensures removed { view_in handle.new ≡ after_remove nat_cmp (view_in handle.old) key.now }
+    ensures removed { result ≡ OK → view_in handle.new ≡ after_remove (view_in handle.old) key.now }
+    ensures refused { result ≢ OK → view_in handle.new ≡ view_in handle.old }
+    ensures status { (result ≡ OK) ⊎ ((result ≡ MEMORY) × IsTrue (may_want (kind_in handle.old))) }
 {
-    let mut any = handle.take(alloc);
-    any.remove(key);
-    handle.put(any);
+    call!(handle, alloc, any => any.remove(key))
 }
 
 /// Removes the first value of a key that equals a value, and tells whether there was one.
@@ -162,10 +189,7 @@ pub extern "C" fn key_index_c_remove_value(
     ensures removed { view_in handle.new
         ≡ after_removed (view_in handle.old) key.now (place_of value (values_in handle.old key.now)) }
 {
-    let mut any = handle.take(alloc);
-    let told = any.remove_value(key, value);
-    handle.put(any);
-    told
+    call!(handle, alloc, any => any.remove_value(key, value))
 }
 
 /// Puts another value in the place of the first value of a key that equals a value, and tells whether there was one.
@@ -183,121 +207,57 @@ pub extern "C" fn key_index_c_replace_value(
     ensures replaced { view_in handle.new
         ≡ after_replaced (view_in handle.old) key.now (place_of value (values_in handle.old key.now)) new }
 {
-    let mut any = handle.take(alloc);
-    let told = any.replace_value(key, value, new);
-    handle.put(any);
-    told
+    call!(handle, alloc, any => any.replace_value(key, value, new))
 }
 
-/// How many keys there are.
+/// Keeps those values of a key whose byte of a mask is not 0, in their order, and removes the others. The mask has a byte for each value of
+/// the key.
 #[unsafe(no_mangle)]
-pub extern "C" fn key_index_c_keys(alloc: Global, handle: &mut Handle) -> usize
-    requires made { IsMade handle.old }
-    ensures same { Keeps handle.old handle.new }
-    ensures count { result ≡ key_count (view_in handle.old).content }
-{
-    let any = handle.take(alloc);
-    let told = any.keys();
-    handle.put(any);
-    told
-}
-
-/// How many values there are.
-#[unsafe(no_mangle)]
-pub extern "C" fn key_index_c_items(alloc: Global, handle: &mut Handle) -> usize
-    requires made { IsMade handle.old }
-    ensures same { Keeps handle.old handle.new }
-    ensures count { result ≡ items_in (view_in handle.old) }
-{
-    let any = handle.take(alloc);
-    let told = any.items();
-    handle.put(any);
-    told
-}
-
-/// How many values were ever removed. The count stops at `u64::MAX`.
-#[unsafe(no_mangle)]
-pub extern "C" fn key_index_c_pruned(alloc: Global, handle: &mut Handle) -> u64
-    requires made { IsMade handle.old }
-    ensures same { Keeps handle.old handle.new }
-    ensures count { result ≡ (view_in handle.old).pruned }
-{
-    let any = handle.take(alloc);
-    let told = any.pruned();
-    handle.put(any);
-    told
-}
-
-/// Writes the values of the next key, or of the first one if there is none above.
-#[unsafe(no_mangle)]
-pub extern "C" fn key_index_c_next(
+pub extern "C" fn key_index_c_keep(
     alloc: Global,
     handle: &mut Handle,
+    key: &[u8],
+    mask: &[u8],
+) -> u32
+    requires made { IsMade handle.old }
+    ensures made { StaysMade handle.old handle.new }
+    ensures kept { result ≡ OK → view_in handle.new ≡ after_kept (view_in handle.old) key.now mask.now }
+    ensures refused { result ≢ OK → view_in handle.new ≡ view_in handle.old }
+    ensures masked { length mask.now ≡ length (values_in handle.old key.now) → result ≢ BAD_ARGUMENT }
+    ensures mask { result ≢ BAD_ARGUMENT → length mask.now ≡ length (values_in handle.old key.now) }
+    ensures status { (result ≡ OK) ⊎ (result ≡ BAD_ARGUMENT)
+        ⊎ ((result ≡ MEMORY) × IsTrue (may_want (kind_in handle.old))) }
+{
+    call!(handle, alloc, any => if any.find(key).count == mask.len() {
+        any.keep(key, mask)
+    } else {
+        BAD_ARGUMENT
+    })
+}
+
+/// How many keys and values there are, and how many values were ever removed.
+#[unsafe(no_mangle)]
+pub extern "C" fn key_index_c_counts(alloc: Global, handle: &mut Handle) -> Counts
+    requires made { IsMade handle.old }
+    ensures same { Keeps handle.old handle.new }
+    ensures counts { result ≡ counts_in (view_in handle.old) }
+{
+    call!(handle, alloc, any => any.counts())
+}
+
+/// Writes the values of a neighbour of a key, told by a number: `NEXT`, `PREV`, `FIRST` or `LAST`.
+#[unsafe(no_mangle)]
+pub extern "C" fn key_index_c_neighbour(
+    alloc: Global,
+    handle: &mut Handle,
+    which: u32,
     key: &[u8],
     buffer: &mut [u64],
 ) -> Neighbour
     requires made { IsMade handle.old }
     ensures same { Keeps handle.old handle.new }
-    ensures shown { Shows (has_order handle.old)
-        (next_list nat_cmp (view_in handle.old).content ((view_in handle.old).slot key.now)) result buffer.old buffer.new }
+    ensures shown { Shows (is_ordered (kind_in handle.old) && nat_lt which 4)
+        (neighbour_of which (view_in handle.old) key.now) result buffer.old buffer.new }
 {
-    let any = handle.take(alloc);
-    let told = any.next(key, buffer);
-    handle.put(any);
-    told
-}
-
-/// Writes the values of the previous key, or of the last one if there is none below.
-#[unsafe(no_mangle)]
-pub extern "C" fn key_index_c_prev(
-    alloc: Global,
-    handle: &mut Handle,
-    key: &[u8],
-    buffer: &mut [u64],
-) -> Neighbour
-    requires made { IsMade handle.old }
-    ensures same { Keeps handle.old handle.new }
-    ensures shown { Shows (has_order handle.old)
-        (prev_list nat_cmp (view_in handle.old).content ((view_in handle.old).slot key.now)) result buffer.old buffer.new }
-{
-    let any = handle.take(alloc);
-    let told = any.prev(key, buffer);
-    handle.put(any);
-    told
-}
-
-/// Writes the values of the first key.
-#[unsafe(no_mangle)]
-pub extern "C" fn key_index_c_first(
-    alloc: Global,
-    handle: &mut Handle,
-    buffer: &mut [u64],
-) -> Neighbour
-    requires made { IsMade handle.old }
-    ensures same { Keeps handle.old handle.new }
-    ensures shown { Shows (has_order handle.old)
-        (not_cycled (first_list (view_in handle.old).content)) result buffer.old buffer.new }
-{
-    let any = handle.take(alloc);
-    let told = any.first(buffer);
-    handle.put(any);
-    told
-}
-
-/// Writes the values of the last key.
-#[unsafe(no_mangle)]
-pub extern "C" fn key_index_c_last(
-    alloc: Global,
-    handle: &mut Handle,
-    buffer: &mut [u64],
-) -> Neighbour
-    requires made { IsMade handle.old }
-    ensures same { Keeps handle.old handle.new }
-    ensures shown { Shows (has_order handle.old)
-        (not_cycled (last_list (view_in handle.old).content)) result buffer.old buffer.new }
-{
-    let any = handle.take(alloc);
-    let told = any.last(buffer);
-    handle.put(any);
-    told
+    call!(handle, alloc, any => any.neighbour(which, key, buffer))
 }

@@ -75,7 +75,9 @@ fn measure<K: Kind>(mut index: Index<K>, many: usize) -> Result<(), Error> {
     })?;
     let half = &present[..many / 2];
     line("remove", half.len(), || {
-        half.iter().for_each(|key| index.remove(key));
+        for key in half {
+            index.remove(key)?;
+        }
         Ok(0)
     })
 }

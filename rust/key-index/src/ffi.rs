@@ -8,6 +8,14 @@ pub struct Handle {
     pub at: *mut c_void,
 }
 
+/// How many values a key has, and the first one.
+#[repr(C)]
+#[derive(Clone, Copy, Debug, PartialEq, Eq)]
+pub struct Found {
+    pub count: usize,
+    pub first: u64,
+}
+
 /// What is told of a neighbour.
 #[repr(C)]
 #[derive(Clone, Copy, Debug, PartialEq, Eq)]
@@ -25,6 +33,15 @@ pub struct Many {
     pub status: u32,
 }
 
+/// What an index counts.
+#[repr(C)]
+#[derive(Clone, Copy, Debug, PartialEq, Eq)]
+pub struct Counts {
+    pub keys: usize,
+    pub items: usize,
+    pub pruned: u64,
+}
+
 pub const OK: u32 = 0;
 pub const FULL: u32 = 2;
 pub const BAD_ARGUMENT: u32 = 4;
@@ -32,59 +49,58 @@ pub const BAD_ARGUMENT: u32 = 4;
 pub const UNORDERED: u32 = 0;
 pub const ORDERED: u32 = 1;
 pub const SEEDED: u32 = 2;
+pub const UNORDERED_BY_ONE: u32 = 3;
+pub const UNORDERED_BY_TWO: u32 = 4;
+pub const ORDERED_BY_ONE: u32 = 5;
+pub const ORDERED_BY_TWO: u32 = 6;
 
+pub const NEXT: u32 = 0;
+pub const PREV: u32 = 1;
+pub const FIRST: u32 = 2;
+pub const LAST: u32 = 3;
+
+/// An index, and a key's bytes.
+type At = *mut Handle;
+type Key = *const u8;
+
+// Each pointer but a handle's goes with the length behind it.
 extern "C" {
-    pub fn key_index_c_new(handle: *mut Handle, kind: u32, seed: u64) -> u32;
-    pub fn key_index_c_free(handle: *mut Handle);
-    pub fn key_index_c_insert(handle: *mut Handle, key: *const u8, len: usize, value: u64) -> u32;
+    pub fn key_index_c_new(at: At, kind: u32, seed: u64) -> u32;
+    pub fn key_index_c_free(at: At);
+    pub fn key_index_c_insert(at: At, key: Key, len: usize, value: u64) -> u32;
     pub fn key_index_c_insert_many(
-        handle: *mut Handle,
-        keys: *const u8,
-        keys_len: usize,
+        at: At,
+        keys: Key,
+        len: usize,
         ends: *const usize,
-        ends_len: usize,
+        count: usize,
         values: *const u64,
-        values_len: usize,
+        count_again: usize,
     ) -> Many;
-    pub fn key_index_c_get(
-        handle: *mut Handle,
-        key: *const u8,
+    pub fn key_index_c_get(at: At, key: Key, len: usize, values: *mut u64, room: usize) -> usize;
+    pub fn key_index_c_get_many(
+        at: At,
+        keys: Key,
         len: usize,
+        ends: *const usize,
+        count: usize,
         values: *mut u64,
         room: usize,
-    ) -> usize;
-    pub fn key_index_c_contains(handle: *mut Handle, key: *const u8, len: usize) -> bool;
-    pub fn key_index_c_remove(handle: *mut Handle, key: *const u8, len: usize);
-    pub fn key_index_c_remove_value(
-        handle: *mut Handle,
-        key: *const u8,
-        len: usize,
-        value: u64,
-    ) -> bool;
-    pub fn key_index_c_replace_value(
-        handle: *mut Handle,
-        key: *const u8,
-        len: usize,
-        value: u64,
-        with: u64,
-    ) -> bool;
-    pub fn key_index_c_keys(handle: *mut Handle) -> usize;
-    pub fn key_index_c_items(handle: *mut Handle) -> usize;
-    pub fn key_index_c_pruned(handle: *mut Handle) -> u64;
-    pub fn key_index_c_next(
-        handle: *mut Handle,
-        key: *const u8,
+        stops: *mut usize,
+        count_again: usize,
+    ) -> Many;
+    pub fn key_index_c_find(at: At, key: Key, len: usize) -> Found;
+    pub fn key_index_c_remove(at: At, key: Key, len: usize) -> u32;
+    pub fn key_index_c_remove_value(at: At, key: Key, len: usize, value: u64) -> bool;
+    pub fn key_index_c_replace_value(at: At, key: Key, len: usize, value: u64, with: u64) -> bool;
+    pub fn key_index_c_keep(at: At, key: Key, len: usize, mask: Key, mask_len: usize) -> u32;
+    pub fn key_index_c_counts(at: At) -> Counts;
+    pub fn key_index_c_neighbour(
+        at: At,
+        which: u32,
+        key: Key,
         len: usize,
         values: *mut u64,
         room: usize,
     ) -> Neighbour;
-    pub fn key_index_c_prev(
-        handle: *mut Handle,
-        key: *const u8,
-        len: usize,
-        values: *mut u64,
-        room: usize,
-    ) -> Neighbour;
-    pub fn key_index_c_first(handle: *mut Handle, values: *mut u64, room: usize) -> Neighbour;
-    pub fn key_index_c_last(handle: *mut Handle, values: *mut u64, room: usize) -> Neighbour;
 }

@@ -29,10 +29,11 @@
 mod ffi;
 mod values;
 
-use ffi::{Handle, Neighbour};
+use ffi::{Counts, Found, Handle};
 use std::cell::UnsafeCell;
 use std::fmt;
 use std::marker::PhantomData;
+use values::written;
 pub use values::Values;
 
 /// Why a call was refused. The index holds what it held.
@@ -43,7 +44,7 @@ pub enum Error {
     Memory,
     /// The index holds `usize::MAX` values.
     Full,
-    /// The ends are none of as many keys as there are values.
+    /// The ends are none of so many keys.
     Ends,
 }
 
@@ -52,7 +53,7 @@ impl fmt::Display for Error {
         f.write_str(match self {
             Error::Memory => "refused memory",
             Error::Full => "refused full",
-            Error::Ends => "the ends are none of as many keys as there are values",
+            Error::Ends => "the ends are none of so many keys",
         })
     }
 }
@@ -75,45 +76,38 @@ mod sealed {
     }
 }
 
-/// A kind of index: [`Unordered`], [`Ordered`] or [`Seeded`].
+/// A kind of index.
 pub trait Kind: sealed::Sealed {}
-
-/// A hashed map: the fastest calls by key.
-#[derive(Clone, Copy, Debug)]
-pub enum Unordered {}
-
-/// A tree, with the next and the previous key.
-#[derive(Clone, Copy, Debug)]
-pub enum Ordered {}
-
-/// A hashed map by a SHA-256 of whole keys and a secret seed, for keys that an attacker picks.
-#[derive(Clone, Copy, Debug)]
-pub enum Seeded {}
-
-impl sealed::Sealed for Unordered {
-    const KIND: u32 = ffi::UNORDERED;
-}
-
-impl sealed::Sealed for Ordered {
-    const KIND: u32 = ffi::ORDERED;
-}
-
-impl sealed::Sealed for Seeded {
-    const KIND: u32 = ffi::SEEDED;
-}
-
-impl Kind for Unordered {}
-
-impl Kind for Ordered {}
-
-impl Kind for Seeded {}
 
 /// A kind that takes no seed.
 pub trait Unseeded: Kind {}
 
-impl Unseeded for Unordered {}
+/// A kind with the next and the previous key.
+pub trait Neighbours: Kind {}
 
-impl Unseeded for Ordered {}
+macro_rules! kinds {
+    ($($doc:literal $name:ident = $number:ident: $($more:ident)*;)*) => {$(
+        #[doc = $doc]
+        #[derive(Clone, Copy, Debug)]
+        pub enum $name {}
+        impl sealed::Sealed for $name {
+            const KIND: u32 = ffi::$number;
+        }
+        impl Kind for $name {}
+        $(impl $more for $name {})*
+    )*};
+}
+
+kinds! {
+    "A hashed map: the fastest calls by key." Unordered = UNORDERED: Unseeded;
+    "A tree, with the next and the previous key." Ordered = ORDERED: Unseeded Neighbours;
+    "A hashed map by a SHA-256 of whole keys and a secret seed, for keys that an attacker picks." Seeded = SEEDED:;
+    "A hashed map for each first byte, by the eight bytes behind it." UnorderedByOne = UNORDERED_BY_ONE: Unseeded;
+    "The same for each two first bytes." UnorderedByTwo = UNORDERED_BY_TWO: Unseeded;
+    "Sorted arrays or a tree for each first byte, by the eight bytes behind it. The oldest value of a key comes first."
+    OrderedByOne = ORDERED_BY_ONE: Unseeded Neighbours;
+    "The same for each two first bytes." OrderedByTwo = ORDERED_BY_TWO: Unseeded Neighbours;
+}
 
 /// An index from the first eight bytes of keys, or of their hashes, to lists of values. It stays on the thread that made it.
 ///
@@ -163,7 +157,7 @@ impl<K: Kind> Index<K> {
         })
     }
 
-    /// Inserts a value in front of those of its key.
+    /// Inserts a value in front of those of its key, or behind them in an ordered index in partitions.
     ///
     /// # Errors
     ///
@@ -175,7 +169,7 @@ impl<K: Kind> Index<K> {
         })
     }
 
-    /// Inserts values in turn, each in front of those of its key. The keys stand behind one another in `keys`, each up to its end.
+    /// Inserts values in turn, each as [`Index::insert`] does. The keys stand behind one another in `keys`, each up to its end.
     ///
     /// # Errors
     ///
@@ -202,10 +196,26 @@ impl<K: Kind> Index<K> {
         answer(told.status).map_err(|error| (told.count, error))
     }
 
-    /// The values of a key, the newest first.
+    #[inline]
+    fn find(&self, key: &[u8]) -> Found {
+        // SAFETY: the key goes with its length.
+        unsafe { ffi::key_index_c_find(self.handle.get(), key.as_ptr(), key.len()) }
+    }
+
+    /// The values of a key, in list order.
+    #[inline]
     #[must_use]
     pub fn get(&self, key: &[u8]) -> Values {
-        Values::by(|values, room| {
+        let found = self.find(key);
+        if found.count < 2 {
+            return Values::at_most_one(found.first, found.count);
+        }
+        Values::of(self.several(key))
+    }
+
+    #[cold]
+    fn several(&self, key: &[u8]) -> Box<[u64]> {
+        written(|values, room| {
             // SAFETY: the key and the room for values go with their lengths.
             unsafe {
                 ffi::key_index_c_get(self.handle.get(), key.as_ptr(), key.len(), values, room)
@@ -213,17 +223,64 @@ impl<K: Kind> Index<K> {
         })
     }
 
-    /// Whether a key has a value.
-    #[must_use]
-    pub fn contains(&self, key: &[u8]) -> bool {
-        // SAFETY: the key goes with its length.
-        unsafe { ffi::key_index_c_contains(self.handle.get(), key.as_ptr(), key.len()) }
+    /// Writes the values of many keys to `values`, those of a key behind those of the key before it, and to `stops` where those of each key
+    /// end. The keys stand behind one another in `keys`, each up to its end.
+    ///
+    /// # Errors
+    ///
+    /// [`Error::Ends`] if `ends` falls somewhere or goes past `keys`. Both vectors are empty then.
+    pub fn get_many(
+        &self,
+        keys: &[u8],
+        ends: &[usize],
+        values: &mut Vec<u64>,
+        stops: &mut Vec<usize>,
+    ) -> Result<(), Error> {
+        stops.clear();
+        stops.resize(ends.len(), 0);
+        values.resize(values.capacity().max(ends.len()), 0);
+        loop {
+            // SAFETY: keys, ends, values and stops go with their lengths.
+            let told = unsafe {
+                ffi::key_index_c_get_many(
+                    self.handle.get(),
+                    keys.as_ptr(),
+                    keys.len(),
+                    ends.as_ptr(),
+                    ends.len(),
+                    values.as_mut_ptr(),
+                    values.len(),
+                    stops.as_mut_ptr(),
+                    stops.len(),
+                )
+            };
+            let all_written = told.count <= values.len();
+            values.resize(told.count, 0);
+            if let Err(error) = answer(told.status) {
+                stops.clear();
+                return Err(error);
+            }
+            if all_written {
+                return Ok(());
+            }
+        }
     }
 
-    /// Removes a key with all its values. It takes no memory.
-    pub fn remove(&mut self, key: &[u8]) {
+    /// Whether a key has a value.
+    #[inline]
+    #[must_use]
+    pub fn contains(&self, key: &[u8]) -> bool {
+        self.find(key).count > 0
+    }
+
+    /// Removes a key with all its values.
+    ///
+    /// # Errors
+    ///
+    /// [`Error::Memory`], of an ordered index in partitions alone.
+    pub fn remove(&mut self, key: &[u8]) -> Result<(), Error> {
         // SAFETY: the key goes with its length.
-        unsafe { ffi::key_index_c_remove(self.handle.get(), key.as_ptr(), key.len()) }
+        answer(unsafe { ffi::key_index_c_remove(self.handle.get(), key.as_ptr(), key.len()) })
     }
 
     /// Removes the first value of a key that equals `value`, and tells whether there was one. It takes no memory.
@@ -240,25 +297,53 @@ impl<K: Kind> Index<K> {
         }
     }
 
+    /// Keeps those values of a key for which a test is true, asked once on each in list order, and removes the others.
+    ///
+    /// # Errors
+    ///
+    /// [`Error::Memory`], of an ordered index in partitions alone.
+    pub fn retain(
+        &mut self,
+        key: &[u8],
+        mut should_retain: impl FnMut(u64) -> bool,
+    ) -> Result<(), Error> {
+        let mask: Vec<u8> = self
+            .get(key)
+            .map(|value| u8::from(should_retain(value)))
+            .collect();
+        // SAFETY: the key and the mask go with their lengths. The mask has a byte for each value.
+        answer(unsafe {
+            ffi::key_index_c_keep(
+                self.handle.get(),
+                key.as_ptr(),
+                key.len(),
+                mask.as_ptr(),
+                mask.len(),
+            )
+        })
+    }
+
+    fn counts(&self) -> Counts {
+        // SAFETY: as above.
+        unsafe { ffi::key_index_c_counts(self.handle.get()) }
+    }
+
     /// How many shortened keys there are.
     #[must_use]
     pub fn keys(&self) -> usize {
-        // SAFETY: as above.
-        unsafe { ffi::key_index_c_keys(self.handle.get()) }
+        self.counts().keys
     }
 
     /// How many values there are.
     #[must_use]
     pub fn items(&self) -> usize {
-        // SAFETY: as above.
-        unsafe { ffi::key_index_c_items(self.handle.get()) }
+        self.counts().items
     }
 
     /// How many values were ever removed. The count stops at `u64::MAX`.
     #[must_use]
     pub fn pruned(&self) -> u64 {
-        // SAFETY: as above.
-        unsafe { ffi::key_index_c_pruned(self.handle.get()) }
+        self.counts().pruned
     }
 
     /// Whether there is no value.
@@ -268,58 +353,53 @@ impl<K: Kind> Index<K> {
     }
 }
 
-impl Index<Ordered> {
+impl<K: Neighbours> Index<K> {
     /// The values of the least shortened key that is greater than that of the key, and false; if there is none, those of the first one, and
     /// true. `None` exactly if the index is empty.
     #[must_use]
     pub fn next_translated_key(&self, key: &[u8]) -> Option<(Values, bool)> {
-        neighbour(|values, room| {
-            // SAFETY: the key and the room for values go with their lengths.
-            unsafe {
-                ffi::key_index_c_next(self.handle.get(), key.as_ptr(), key.len(), values, room)
-            }
-        })
+        self.neighbour(ffi::NEXT, key)
     }
 
     /// The values of the greatest shortened key that is less than that of the key, and false; if there is none, those of the last one, and
     /// true. `None` exactly if the index is empty.
     #[must_use]
     pub fn prev_translated_key(&self, key: &[u8]) -> Option<(Values, bool)> {
-        neighbour(|values, room| {
-            // SAFETY: the key and the room for values go with their lengths.
-            unsafe {
-                ffi::key_index_c_prev(self.handle.get(), key.as_ptr(), key.len(), values, room)
-            }
-        })
+        self.neighbour(ffi::PREV, key)
     }
 
     /// The values of the least shortened key. `None` exactly if the index is empty.
     #[must_use]
     pub fn first_translated_key(&self) -> Option<Values> {
-        // SAFETY: the room for values goes with its length.
-        let first =
-            |values, room| unsafe { ffi::key_index_c_first(self.handle.get(), values, room) };
-        neighbour(first).map(|(values, _)| values)
+        self.neighbour(ffi::FIRST, b"").map(|(values, _)| values)
     }
 
     /// The values of the greatest shortened key. `None` exactly if the index is empty.
     #[must_use]
     pub fn last_translated_key(&self) -> Option<Values> {
-        // SAFETY: the room for values goes with its length.
-        let last = |values, room| unsafe { ffi::key_index_c_last(self.handle.get(), values, room) };
-        neighbour(last).map(|(values, _)| values)
+        self.neighbour(ffi::LAST, b"").map(|(values, _)| values)
     }
-}
 
-/// The values of a neighbour, and whether it was found around the end. No list is empty.
-fn neighbour(mut call: impl FnMut(*mut u64, usize) -> Neighbour) -> Option<(Values, bool)> {
-    let mut cycled = false;
-    let values = Values::by(|values, room| {
-        let told = call(values, room);
-        cycled = told.cycled;
-        told.count
-    });
-    (values.len() > 0).then_some((values, cycled))
+    /// The values of a neighbour, and whether it was found around the end. No list is empty.
+    fn neighbour(&self, which: u32, key: &[u8]) -> Option<(Values, bool)> {
+        let mut cycled = false;
+        let values = written(|values, room| {
+            // SAFETY: the key and the room for values go with their lengths.
+            let told = unsafe {
+                ffi::key_index_c_neighbour(
+                    self.handle.get(),
+                    which,
+                    key.as_ptr(),
+                    key.len(),
+                    values,
+                    room,
+                )
+            };
+            cycled = told.cycled;
+            told.count
+        });
+        (!values.is_empty()).then(|| (Values::of(values), cycled))
+    }
 }
 
 impl<K: Kind> Drop for Index<K> {
@@ -336,28 +416,5 @@ impl<K: Kind> fmt::Debug for Index<K> {
             .field("items", &self.items())
             .field("pruned", &self.pruned())
             .finish_non_exhaustive()
-    }
-}
-
-#[cfg(test)]
-mod tests {
-    use super::ffi::{Handle, Many, Neighbour};
-    use std::mem::{align_of, offset_of, size_of};
-
-    // As the header declares them for C, which the compiler of the library takes too.
-    #[test]
-    fn the_declared_types_have_the_sizes_of_c() {
-        assert_eq!((size_of::<Handle>(), align_of::<Handle>()), (8, 8));
-        assert_eq!((size_of::<Neighbour>(), align_of::<Neighbour>()), (16, 8));
-        assert_eq!(
-            (
-                offset_of!(Neighbour, count),
-                offset_of!(Neighbour, status),
-                offset_of!(Neighbour, cycled)
-            ),
-            (0, 8, 12)
-        );
-        assert_eq!((size_of::<Many>(), align_of::<Many>()), (16, 8));
-        assert_eq!((offset_of!(Many, count), offset_of!(Many, status)), (0, 8));
     }
 }

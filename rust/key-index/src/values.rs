@@ -2,60 +2,80 @@
 
 use std::iter::FusedIterator;
 
-/// The most values that are kept without memory of their own.
+/// How many values a first call for several has room for.
 const FEW: usize = 8;
 
-#[derive(Clone, Debug)]
-enum Kept {
-    Few([u64; FEW], usize),
-    Many(Vec<u64>),
-}
-
-/// The values of one key, in list order. They are copies, so the index may change meanwhile. Beyond eight they are kept in a `Vec`.
+/// The values of one key, in list order. They are copies, so the index may change meanwhile. Two and more have memory of their own.
 #[derive(Clone, Debug)]
 pub struct Values {
-    kept: Kept,
-    next: usize,
+    // A sole value stays in a register: look-ups one after another overlap.
+    one: u64,
+    several: Option<Box<[u64]>>,
+    left: usize,
 }
 
 impl Values {
-    /// What a call writes to a place with room for so many, as far as that goes, where it tells how many there are.
-    pub(crate) fn by(mut call: impl FnMut(*mut u64, usize) -> usize) -> Values {
-        let mut few = [0; FEW];
-        let len = call(few.as_mut_ptr(), FEW);
-        let kept = if len <= FEW {
-            Kept::Few(few, len)
-        } else {
-            let mut many = vec![0; len];
-            call(many.as_mut_ptr(), len);
-            Kept::Many(many)
-        };
-        Values { kept, next: 0 }
+    /// At most one value.
+    #[inline]
+    pub(crate) fn at_most_one(value: u64, len: usize) -> Values {
+        Values {
+            one: value,
+            several: None,
+            left: len,
+        }
+    }
+
+    /// Any values.
+    #[inline]
+    pub(crate) fn of(values: Box<[u64]>) -> Values {
+        Values {
+            one: 0,
+            left: values.len(),
+            several: Some(values),
+        }
     }
 
     /// The values that are left.
+    #[inline]
     #[must_use]
     pub fn as_slice(&self) -> &[u64] {
-        let all = match &self.kept {
-            Kept::Few(few, len) => &few[..*len],
-            Kept::Many(many) => many,
+        let all = match &self.several {
+            None => std::slice::from_ref(&self.one),
+            Some(several) => several,
         };
-        &all[self.next..]
+        &all[all.len() - self.left.min(all.len())..]
     }
+}
+
+/// What a call writes to a place with room for so many, as far as that goes, where it tells how many there are.
+pub(crate) fn written(mut call: impl FnMut(*mut u64, usize) -> usize) -> Box<[u64]> {
+    let mut few = [0; FEW];
+    let len = call(few.as_mut_ptr(), FEW);
+    if len <= FEW {
+        return few[..len].into();
+    }
+    let mut many = vec![0; len];
+    call(many.as_mut_ptr(), len);
+    many.into()
 }
 
 impl Iterator for Values {
     type Item = u64;
 
+    #[inline]
     fn next(&mut self) -> Option<u64> {
-        let value = self.as_slice().first().copied()?;
-        self.next += 1;
+        let value = match &self.several {
+            _ if self.left == 0 => return None,
+            None => self.one,
+            Some(several) => several[several.len() - self.left],
+        };
+        self.left -= 1;
         Some(value)
     }
 
+    #[inline]
     fn size_hint(&self) -> (usize, Option<usize>) {
-        let len = self.as_slice().len();
-        (len, Some(len))
+        (self.left, Some(self.left))
     }
 }
 

@@ -1,6 +1,8 @@
 //! Each call beside a `BTreeMap` of lists.
 
-use key_index::{Error, Index, Kind, Ordered, Seeded, Unordered, Values};
+use key_index::{Error, Index, Kind, Neighbours, Values};
+use key_index::{Ordered, OrderedByOne, OrderedByTwo, Seeded};
+use key_index::{Unordered, UnorderedByOne, UnorderedByTwo};
 use std::collections::BTreeMap;
 
 /// Marsaglia's xorshift.
@@ -13,13 +15,6 @@ impl Random {
         self.0 ^= self.0 << 17;
         (self.0 >> 8) % bound
     }
-}
-
-/// The first eight bytes of a key, with zeros behind a shorter one.
-fn shortened(key: &[u8]) -> Vec<u8> {
-    let mut short = key[..key.len().min(8)].to_vec();
-    short.resize(8, 0);
-    short
 }
 
 type Lists = BTreeMap<Vec<u8>, Vec<u64>>;
@@ -39,8 +34,10 @@ fn session<K: Kind>(
     calls: u32,
     seed: u64,
     group: fn(&[u8]) -> Vec<u8>,
+    first: bool,
     also: impl Fn(&Index<K>, &Lists, &[u8]),
 ) -> Result<(), Error> {
+    let add = |list: &mut Vec<u64>, value| list.insert(if first { 0 } else { list.len() }, value);
     let mut random = Random(seed);
     let mut lists = Lists::new();
     let mut pruned = 0;
@@ -48,9 +45,9 @@ fn session<K: Kind>(
         let key = some_key(&mut random);
         let short = group(&key);
         let value = random.below(50);
-        match random.below(10) {
+        match random.below(11) {
             0 if call % 7 == 0 => {
-                index.remove(&key);
+                index.remove(&key)?;
                 pruned += lists.remove(&short).map_or(0, |list| list.len() as u64);
             }
             1 | 2 => {
@@ -79,6 +76,24 @@ fn session<K: Kind>(
                     lists.get_mut(&short).unwrap()[place] = value + 100;
                 }
             }
+            5 => {
+                let mut shown = Vec::new();
+                index.retain(&key, |held| {
+                    shown.push(held);
+                    held % 3 != value % 3
+                })?;
+                let list = lists.remove(&short).unwrap_or_default();
+                assert_eq!(shown, list);
+                let kept: Vec<u64> = list
+                    .iter()
+                    .copied()
+                    .filter(|held| held % 3 != value % 3)
+                    .collect();
+                pruned += (list.len() - kept.len()) as u64;
+                if !kept.is_empty() {
+                    lists.insert(short, kept);
+                }
+            }
             4 => {
                 // The key, its front, and the key once more.
                 let keys = [&key[..], &key[..key.len() / 2], &key].concat();
@@ -91,21 +106,24 @@ fn session<K: Kind>(
                     (key.len() / 2, value + 1),
                     (key.len(), value + 2),
                 ] {
-                    lists
-                        .entry(group(&key[..end]))
-                        .or_default()
-                        .insert(0, value);
+                    add(lists.entry(group(&key[..end])).or_default(), value);
                 }
             }
             _ => {
                 index.insert(&key, value)?;
-                lists.entry(short).or_default().insert(0, value);
+                add(lists.entry(short).or_default(), value);
             }
         }
         let asked = some_key(&mut random);
         let list = lists.get(&group(&asked)).map_or(&[][..], Vec::as_slice);
         assert_eq!(index.get(&asked).as_slice(), list);
         assert_eq!(index.contains(&asked), !list.is_empty());
+        let (mut values, mut stops) = (Vec::new(), Vec::new());
+        let keys = [&asked[..], &key].concat();
+        index.get_many(&keys, &[asked.len(), keys.len()], &mut values, &mut stops)?;
+        let other = lists.get(&group(&key)).map_or(&[][..], Vec::as_slice);
+        assert_eq!(stops, [list.len(), list.len() + other.len()]);
+        assert_eq!(values, [list, other].concat());
         if call % 100 == 0 {
             assert_eq!(index.keys(), lists.len());
             assert_eq!(index.items(), lists.values().map(Vec::len).sum());
@@ -117,66 +135,79 @@ fn session<K: Kind>(
     Ok(())
 }
 
+/// The first so many bytes of a key, with zeros behind a shorter one.
+fn padded<const N: usize>(key: &[u8]) -> Vec<u8> {
+    let mut short = key[..key.len().min(N)].to_vec();
+    short.resize(N, 0);
+    short
+}
+
+/// What an ordered index answers of the neighbours of a key.
+fn neighbours<K: Neighbours, const N: usize>(index: &Index<K>, lists: &Lists, key: &[u8]) {
+    let short = padded::<N>(key);
+    let above = lists
+        .range(short.clone()..)
+        .find(|(held, _)| **held > short);
+    let next = above
+        .map(|at| (at, false))
+        .or(lists.iter().next().map(|at| (at, true)));
+    let below = lists.range(..short).next_back();
+    let prev = below
+        .map(|at| (at, false))
+        .or(lists.iter().next_back().map(|at| (at, true)));
+    for (found, wanted) in [
+        (index.next_translated_key(key), next),
+        (index.prev_translated_key(key), prev),
+    ] {
+        assert_eq!(
+            found
+                .as_ref()
+                .map(|(values, cycled)| (values.as_slice(), *cycled)),
+            wanted.map(|((_, list), cycled)| (list.as_slice(), cycled))
+        );
+    }
+    let ends = [
+        (index.first_translated_key(), lists.values().next()),
+        (index.last_translated_key(), lists.values().next_back()),
+    ];
+    for (found, wanted) in ends {
+        assert_eq!(
+            found.as_ref().map(Values::as_slice),
+            wanted.map(Vec::as_slice)
+        );
+    }
+}
+
 #[test]
 fn unordered_beside_lists() -> Result<(), Error> {
-    session(
-        Index::<Unordered>::new()?,
-        100_000,
-        1,
-        shortened,
-        |_, _, _| (),
-    )
+    let index = Index::<Unordered>::new()?;
+    session(index, 60_000, 1, padded::<8>, true, |_, _, _| ())
 }
 
 // Whole keys differ in their hashes.
 #[test]
 fn seeded_beside_lists() -> Result<(), Error> {
     let index = Index::<Seeded>::with_seed(0x5eed)?;
-    session(index, 100_000, 3, <[u8]>::to_vec, |_, _, _| ())
+    session(index, 60_000, 3, <[u8]>::to_vec, true, |_, _, _| ())
 }
 
 #[test]
 fn ordered_beside_lists() -> Result<(), Error> {
-    session(
-        Index::<Ordered>::new()?,
-        100_000,
-        2,
-        shortened,
-        |index, lists, key| {
-            let short = shortened(key);
-            let above = lists
-                .range(short.clone()..)
-                .find(|(held, _)| **held > short);
-            let next = above
-                .map(|at| (at, false))
-                .or(lists.iter().next().map(|at| (at, true)));
-            let below = lists.range(..short).next_back();
-            let prev = below
-                .map(|at| (at, false))
-                .or(lists.iter().next_back().map(|at| (at, true)));
-            for (found, wanted) in [
-                (index.next_translated_key(key), next),
-                (index.prev_translated_key(key), prev),
-            ] {
-                assert_eq!(
-                    found
-                        .as_ref()
-                        .map(|(values, cycled)| (values.as_slice(), *cycled)),
-                    wanted.map(|((_, list), cycled)| (list.as_slice(), cycled))
-                );
-            }
-            let ends = [
-                (index.first_translated_key(), lists.values().next()),
-                (index.last_translated_key(), lists.values().next_back()),
-            ];
-            for (found, wanted) in ends {
-                assert_eq!(
-                    found.as_ref().map(Values::as_slice),
-                    wanted.map(Vec::as_slice)
-                );
-            }
-        },
-    )
+    let index = Index::<Ordered>::new()?;
+    session(index, 60_000, 2, padded::<8>, true, neighbours::<_, 8>)
+}
+
+// A byte or two pick the partition, and eight more are the index key there.
+#[test]
+fn partitioned_beside_lists() -> Result<(), Error> {
+    let index = Index::<UnorderedByOne>::new()?;
+    session(index, 30_000, 4, padded::<9>, true, |_, _, _| ())?;
+    let index = Index::<UnorderedByTwo>::new()?;
+    session(index, 30_000, 5, padded::<10>, true, |_, _, _| ())?;
+    let index = Index::<OrderedByOne>::new()?;
+    session(index, 30_000, 6, padded::<9>, false, neighbours::<_, 9>)?;
+    let index = Index::<OrderedByTwo>::new()?;
+    session(index, 30_000, 7, padded::<10>, false, neighbours::<_, 10>)
 }
 
 #[test]
@@ -204,6 +235,12 @@ fn ends_of_no_keys() -> Result<(), Error> {
             Err((0, Error::Ends))
         );
     }
+    let (mut values, mut stops) = (vec![1], vec![1]);
+    assert_eq!(
+        index.get_many(b"figs", &[2, 1], &mut values, &mut stops),
+        Err(Error::Ends)
+    );
+    assert!(values.is_empty() && stops.is_empty());
     assert_eq!(index.insert_many(b"", &[], &[]), Ok(()));
     assert!(index.is_empty());
     Ok(())
