@@ -42,13 +42,13 @@ pub const UNORDERED: u32 = 0;
 pub const ORDERED: u32 = 1;
 /// The kind of an unordered index over hashes by a seed.
 pub const SEEDED: u32 = 2;
-/// The kinds of unordered indices in partitions by one byte and by two.
+/// The kind of an unordered index in partitions by one byte.
 pub const UNORDERED_BY_ONE: u32 = 3;
-
+/// The kind of an unordered index in partitions by two bytes.
 pub const UNORDERED_BY_TWO: u32 = 4;
-/// The kinds of ordered indices in partitions by one byte and by two.
+/// The kind of an ordered index in partitions by one byte.
 pub const ORDERED_BY_ONE: u32 = 5;
-
+/// The kind of an ordered index in partitions by two bytes.
 pub const ORDERED_BY_TWO: u32 = 6;
 
 /// The next key, or the first one if there is none above.

@@ -29,7 +29,8 @@ macro_rules! call {
 }
 
 pub use any::{
-    Any, Counts, FIRST, Found, LAST, Many, NEXT, Neighbour, ORDERED, PREV, SEEDED, UNORDERED,
+    Any, Counts, FIRST, Found, LAST, Many, NEXT, Neighbour, ORDERED, ORDERED_BY_ONE,
+    ORDERED_BY_TWO, PREV, SEEDED, UNORDERED, UNORDERED_BY_ONE, UNORDERED_BY_TWO,
 };
 use any::{are_keys, no_keys};
 pub use handle::Handle;

@@ -102,11 +102,11 @@ kinds! {
     "A hashed map: the fastest calls by key." Unordered = UNORDERED: Unseeded;
     "A tree, with the next and the previous key." Ordered = ORDERED: Unseeded Neighbours;
     "A hashed map by a SHA-256 of whole keys and a secret seed, for keys that an attacker picks." Seeded = SEEDED:;
-    "A hashed map for each first byte, by the eight bytes behind it." UnorderedByOne = UNORDERED_BY_ONE: Unseeded;
-    "The same for each two first bytes." UnorderedByTwo = UNORDERED_BY_TWO: Unseeded;
-    "Sorted arrays or a tree for each first byte, by the eight bytes behind it. The oldest value of a key comes first."
+    "A hashed map for each first byte, by the eight bytes behind it. Empty it takes 18 KiB." UnorderedByOne = UNORDERED_BY_ONE: Unseeded;
+    "The same for each two first bytes. Empty it takes 4.5 MiB." UnorderedByTwo = UNORDERED_BY_TWO: Unseeded;
+    "Sorted arrays or a tree for each first byte, by the eight bytes behind it. The oldest value of a key comes first. Empty it takes 16 KiB."
     OrderedByOne = ORDERED_BY_ONE: Unseeded Neighbours;
-    "The same for each two first bytes." OrderedByTwo = ORDERED_BY_TWO: Unseeded Neighbours;
+    "The same for each two first bytes. Empty it takes 4 MiB." OrderedByTwo = ORDERED_BY_TWO: Unseeded Neighbours;
 }
 
 /// An index from the first eight bytes of keys, or of their hashes, to lists of values. It stays on the thread that made it.
