@@ -1,12 +1,15 @@
 -- On a family of buckets, by what each holds.
 --     held_within                       a slot that has a value is of some bucket
 --     is_filled-with_list, filled_held  what holds a value is filled
+--     some_value                        a list that is filled has a value
 --     IsBucket, bucket_taken            a bucket that was taken from its place
 --     bucket_told, list_told            what a bucket holds is what the family tells of it
 --     bucket_seen                       what a bucket that was taken holds, by what buckets the family has
 --     bucket_edited, bucket_stays       the family after one list of a bucket was edited, and after none was
 --     all_alike, none_filled            buckets that are all alike, and that hold nothing
 --     flags_edited, flags_stay          which buckets are filled after such a call
+--     flags_emptied, flags_filled       and where a bit is written only if it changes
+--     filled_before                     what is filled with a list no longer than it was, was filled
 --     standing_told, within_mapped      how a bucket stands is what the family tells of it
 --     LeavesIn-set, GrowsIn-set         how the buckets stand after a call that says it of one
 --     spills_to                         how they stand where one spilled if it was due
@@ -18,7 +21,7 @@
 --     due_told, due_none                how many values are due to spill, by how many a spill would move
 --     counted_buckets                   each bucket stands with as many values as it holds
 --     left_fewer                        no more values of a bucket once its list became no longer
-use Rattle.std.proofs.Common.{◌≡◌, ℕ, zero, suc, ◌<◌, Bool, true, false, not, nat_le, List, [], ◌∷◌, ◌++◌, map, insert, take, drop, replicate, All, set, length, refl, sym, ap, subst, ◌∙◌, ◌≤◌, ◌&&◌, ◌||◌, nat_lt, arith, lt_of_not-le, slice_index_or}
+use Rattle.std.proofs.Common.{◌≡◌, ℕ, zero, suc, ◌<◌, Bool, true, false, not, T, nat_le, List, [], ◌∷◌, ◌++◌, map, insert, take, drop, replicate, All, set, length, refl, sym, ap, subst, ◌∙◌, ◌≤◌, ◌&&◌, ◌||◌, nat_lt, arith, lt_of_not-le, slice_index_or}
 use Rattle.std.proofs.lemmas.Bool.{le-leb, lt-leb}
 use Rattle.std.proofs.lemmas.List.{get_or-map, get_or-set_same, set-set, map-set, get_or_past, length-map}
 use Rattle.std.specs.Cmp.{IsTotalOrder}
@@ -47,6 +50,10 @@ pub not_not : (b c : Bool) → b ≡ not c → not b ≡ c
 not_not b true e = ap not e
 not_not b false e = ap not e
 
+pub some_value : {V : Type 0} (l : List V) → false ≡ not (is_filled l) → 0 < length l
+some_value [] e = absurd (subst T (sym e) tt)
+some_value (v ∷ vs) e = omega arith
+
 module _ {K V : Type 0} (cmp : K → K → Ordering) where
   pub held_within : (buckets : List (Content K V)) (slot : ℕ × K) (place : ℕ) → place < length (list_in cmp buckets slot) → slot.0 < length buckets
   held_within buckets slot place h = lt_of_not-le (λ past.
@@ -72,6 +79,11 @@ module _ {K V : Type 0} (cmp : K → K → Ordering) where
   pub is_filled-with_put : (c : Content K V) (k : K) (l : List V) (first : Bool) (v : V) → is_filled (with_list cmp c k (put_value first v l)) ≡ true
   is_filled-with_put c k l true v = filled_with c k v l
   is_filled-with_put c k l false v = is_filled-with_list c k (l ++ v ∷ []) (some_among l [] v)
+
+  pub filled_before : (c : Content K V) (k : K) (l : List V) → length l ≤ length (list_at cmp c k) → is_filled (with_list cmp c k l) ≡ true → is_filled c ≡ true
+  filled_before [] k [] few e = e
+  filled_before [] k (v ∷ vs) few e = absurd (omega (arith, few))
+  filled_before (e ∷ es) k l few h = refl
 
   pub filled_held : (c : Content K V) (k : K) → 0 < length (list_at cmp c k) → is_filled c ≡ true
   filled_held [] k h = absurd (omega (arith, h))
@@ -112,6 +124,19 @@ module _ {X K V : Type 0} (cmp : K → K → Ordering) {f : X → Content K V} {
   pub flags_stay : (flags : List Bool) (y : X) → flags ≡ filled_buckets (map f xs) → is_filled (f y) ≡ is_filled (f x) → flags ≡ filled_buckets (map f (set xs p y))
   flags_stay flags y told e =
       told ∙ sym (ap (λ cs. filled_buckets cs) (map-set f xs p y) ∙ map-set_same is_filled (map f xs) p (f y) (f x) (e ∙ ap is_filled (ap f bucket.at ∙ sym (get_or-map f xs p x (f x) bucket.inside))))
+
+  -- where a bit is written only if it changes
+  pub flags_emptied : (flags : List Bool) (y : X) (b : Bool) → flags ≡ filled_buckets (map f xs) → (is_filled (f y) ≡ true → is_filled (f x) ≡ true) → b ≡ not (is_filled (f y))
+      → (if b then set flags p false else flags) ≡ filled_buckets (map f (set xs p y))
+  flags_emptied flags y true told held e = flags_edited flags y false told (not_not _ _ e)
+  flags_emptied flags y false told held e =
+      let holds = sym (not_not _ _ e) in
+      flags_stay flags y told (holds ∙ sym (held holds))
+
+  pub flags_filled : (flags : List Bool) (y : X) (b : Bool) → flags ≡ filled_buckets (map f xs) → is_filled (f y) ≡ true → (b ≡ false → is_filled (f x) ≡ true)
+      → (if b then set flags p true else flags) ≡ filled_buckets (map f (set xs p y))
+  flags_filled flags y true told holds held = flags_edited flags y true told (sym holds)
+  flags_filled flags y false told holds held = flags_stay flags y told (holds ∙ sym (held refl))
 
 pub all_alike : {X A : Type 0} (f : X → A) (a : A) (xs : List X) → All (λ x. f x ≡ a) xs → map f xs ≡ replicate (length xs) a
 all_alike f a [] h = refl

@@ -1,5 +1,5 @@
 //! Which places of a row are filled: a bit for each, in words, a bit for each word that has one, and so on up to one word.
-ghost use Rattle.std.specs.Prelude.{◌≡◌, ◌≢◌, ℕ, Bool, List, false, ◌+◌, ◌*◌, ◌%◌, ◌^◌, ◌<◌, ◌≤◌, length, replicate, slice_index, slice_set, IfOk, IfSome};
+ghost use Rattle.std.specs.Prelude.{◌≡◌, ◌≢◌, ℕ, Bool, List, false, ◌+◌, ◌*◌, ◌%◌, ◌^◌, ◌<◌, ◌≤◌, length, replicate, slice_index, slice_set, IfOk, IfSome, if◌then◌else◌};
 ghost use Rattle.key_index_parts.specs.Bitmap.{IsFirstFrom, IsLastBelow, flag_at, word_has, words_have, flags_of, IsSummary, IsRow};
 ghost use Rattle.key_index_parts.specs.Prefix.{partition_count};
 
@@ -188,6 +188,17 @@ impl Bitmap {
         ensures { self.new ≡ slice_set self.old place fills }
     {
         self.places.set(place, fills);
+    }
+
+    /// `set`, where it is told that this changes anything.
+    #[inline]
+    pub(super) fn set_if(&mut self, changes: bool, place: usize, fills: bool)
+        requires { place < length self.old }
+        ensures { self.new ≡ (if changes then slice_set self.old place fills else self.old) }
+    {
+        if changes {
+            self.set(place, fills);
+        }
     }
 
     /// The first filled place from a start on.

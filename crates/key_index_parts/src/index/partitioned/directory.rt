@@ -176,7 +176,7 @@ impl<T: Translator, V: Drop, X: EditBucket<T, V> + Drop> Directory<T, V, X> {
         ensures counted { AreCounted self.new.contents self.new.standing }
     {
         let absent = self.buckets[slot.0].insert_at(slot.1, place, value)?;
-        self.filled.set(slot.0, true);
+        self.filled.set_if(absent, slot.0, true);
         Ok(absent)
     }
 
@@ -191,8 +191,8 @@ impl<T: Translator, V: Drop, X: EditBucket<T, V> + Drop> Directory<T, V, X> {
     {
         let bucket = &mut self.buckets[slot.0];
         let removed = bucket.remove_at(slot.1, place);
-        let holds = !bucket.is_empty();
-        self.filled.set(slot.0, holds);
+        let emptied = bucket.is_empty();
+        self.filled.set_if(emptied, slot.0, false);
         removed
     }
 
@@ -217,8 +217,8 @@ impl<T: Translator, V: Drop, X: EditBucket<T, V> + Drop> Directory<T, V, X> {
     {
         let bucket = &mut self.buckets[slot.0];
         let counts = bucket.retain(slot.1, should_retain);
-        let holds = !bucket.is_empty();
-        self.filled.set(slot.0, holds);
+        let emptied = bucket.is_empty();
+        self.filled.set_if(emptied, slot.0, false);
         counts
     }
 
@@ -234,8 +234,8 @@ impl<T: Translator, V: Drop, X: EditBucket<T, V> + Drop> Directory<T, V, X> {
     {
         let bucket = &mut self.buckets[slot.0];
         let taken = bucket.remove(slot.1);
-        let some_left = !bucket.is_empty();
-        self.filled.set(slot.0, some_left);
+        let none_left = bucket.is_empty();
+        self.filled.set_if(none_left, slot.0, false);
         taken
     }
 }
@@ -375,10 +375,7 @@ impl<T: Translator, V: Drop, X: Bucket<T, V> + Drop> Directory<T, V, X> {
         ensures counted { AreCounted self.new.contents self.new.standing }
     {
         let (absent, moved) = self.buckets[slot.0].insert(slot.1, value, limit)?;
-        if absent {
-            self.filled.set(slot.0, true);
-            return Ok((absent, moved));
-        }
+        self.filled.set_if(absent, slot.0, true);
         Ok((absent, moved))
     }
 

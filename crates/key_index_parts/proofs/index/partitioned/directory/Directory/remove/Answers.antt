@@ -1,12 +1,14 @@
-use Rattle.std.proofs.Common.{[], ◌∙◌, ap, arith}
-use Rattle.key_index_parts.proofs.family.FamilyLemmas.{bucket_taken, not_not, bucket_edited, flags_edited, LeavesIn-set, left_fewer}
+use Rattle.std.proofs.Common.{[], ◌∙◌, ap, sym, arith}
+use Rattle.key_index_flat.specs.Content.{is_filled}
+use Rattle.key_index_parts.proofs.family.FamilyLemmas.{bucket_taken, bucket_edited, filled_before, flags_emptied, LeavesIn-set, left_fewer}
 use Rattle.key_index_parts.proofs.family.FamilyLemmas.{counted_buckets}
 use Rattle.key_index_parts.proofs.index.partitioned.directory.Directory.remove.Goals as goal
 
 pub invariant_of-self : goal.invariant_of-self
 invariant_of-self g c =
     let bucket = bucket_taken g.X.Held.content c.self.inside.buckets.items (ap (λ s. s.contents) c.self.view_is) c.requires c.index_mut-bucket.ensures.value in
-    c.set.ensures ∙ flags_edited g.T.Key.Ord.cmp bucket c.self.inside.filled c.remove-taken.new.self _ c.self.invariant (not_not _ _ c.is_empty-some_left.ensures)
+    c.set_if.ensures ∙ flags_emptied g.T.Key.Ord.cmp bucket c.self.inside.filled c.remove-taken.new.self _ c.self.invariant
+    (λ h. filled_before g.T.Key.Ord.cmp _ c.args.slot.1 [] (omega arith) (ap is_filled (sym c.remove-taken.ensures.content) ∙ h)) c.is_empty-none_left.ensures
 
 pub returns-clause-buckets : goal.returns-clause-buckets
 returns-clause-buckets g c =

@@ -1,13 +1,18 @@
-use Rattle.std.proofs.Common.{remove, ◌∙◌, ap}
-use Rattle.key_index_parts.proofs.family.FamilyLemmas.{held_within, bucket_taken, not_not, bucket_edited, flags_edited, LeavesIn-set}
+use Rattle.std.proofs.Common.{length, remove, ◌∙◌, ap, arith}
+use Rattle.key_index_parts.proofs.family.FamilyLemmas.{held_within, bucket_taken, list_told, bucket_edited, filled_held, flags_emptied, LeavesIn-set}
 use Rattle.key_index_parts.proofs.family.FamilyLemmas.{counted_buckets}
+use Rattle.key_index_parts.specs.Family.{list_in}
 use Rattle.key_index_parts.proofs.index.partitioned.directory.Directory.remove_at.Goals as goal
 
 pub invariant_of-self : goal.invariant_of-self
 invariant_of-self g c =
     let cmp = g.T.Key.Ord.cmp in
     let bucket = bucket_taken g.X.Held.content c.self.inside.buckets.items (ap (λ s. s.contents) c.self.view_is) (held_within cmp c.args.self.now.contents c.args.slot c.args.place c.requires) c.index_mut-bucket.ensures.value in
-    c.set.ensures ∙ flags_edited cmp bucket c.self.inside.filled c.remove_at-removed.new.self _ c.self.invariant (not_not _ _ c.is_empty-holds.ensures)
+    let list = ap (λ l. length l) (list_told cmp bucket c.args.slot.1) in
+    let same = ap (λ s. length (list_in cmp s.contents c.args.slot)) c.self.view_is in
+    let place = c.requires in
+    c.set_if.ensures ∙ flags_emptied cmp bucket c.self.inside.filled c.remove_at-removed.new.self _ c.self.invariant
+    (λ h. filled_held cmp _ c.args.slot.1 (omega (arith, list, same, place))) c.is_empty-emptied.ensures
 
 pub returns-clause-buckets : goal.returns-clause-buckets
 returns-clause-buckets g c =

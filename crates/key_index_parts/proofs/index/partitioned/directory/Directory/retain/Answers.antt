@@ -1,7 +1,8 @@
-use Rattle.std.proofs.Common.{subst, ◌∙◌, ap}
+use Rattle.std.proofs.Common.{subst, ◌∙◌, ap, sym}
 use Rattle.std.specs.Fn.{CalledAt}
 use Rattle.std.specs.List.Retain.{IsFiltered}
-use Rattle.key_index_parts.proofs.family.FamilyLemmas.{bucket_taken, not_not, list_told, bucket_edited, flags_edited, LeavesIn-set, left_fewer}
+use Rattle.key_index_flat.specs.Content.{is_filled}
+use Rattle.key_index_parts.proofs.family.FamilyLemmas.{bucket_taken, list_told, bucket_edited, filled_before, flags_emptied, LeavesIn-set, left_fewer}
 use Rattle.key_index_parts.proofs.family.BucketLemmas.{kept_at_most}
 use Rattle.key_index_parts.proofs.family.FamilyLemmas.{counted_buckets}
 use Rattle.key_index_parts.proofs.index.partitioned.directory.Directory.retain.Goals as goal
@@ -9,7 +10,9 @@ use Rattle.key_index_parts.proofs.index.partitioned.directory.Directory.retain.G
 pub invariant_of-self : goal.invariant_of-self
 invariant_of-self g c =
     let bucket = bucket_taken g.X.Held.content c.self.inside.buckets.items (ap (λ s. s.contents) c.self.view_is) c.requires.within c.index_mut-bucket.ensures.value in
-    c.set.ensures ∙ flags_edited g.T.Key.Ord.cmp bucket c.self.inside.filled c.retain-counts.new.self _ c.self.invariant (not_not _ _ c.is_empty-holds.ensures)
+    let kept = c.retain-counts.ensures.kept in
+    c.set_if.ensures ∙ flags_emptied g.T.Key.Ord.cmp bucket c.self.inside.filled c.retain-counts.new.self _ c.self.invariant
+    (λ h. filled_before g.T.Key.Ord.cmp _ c.args.slot.1 kept.0 (kept_at_most (CalledAt g.F.FnMut) c.args.should_retain _ kept.0 kept.1) (ap is_filled (sym kept.2) ∙ h)) c.is_empty-emptied.ensures
 
 pub returns-clause-kept : goal.returns-clause-kept
 returns-clause-kept g c =
