@@ -4,11 +4,14 @@
 --     probes_push                 one probe more
 --     visits_append               the visits of some probes, and then of others
 --     probes_key, folds_key       one key more, of an iterator's items
+--     folds_through, visits_through  what a closure that only calls another visits
 use Rattle.std.proofs.Common.{◌≡◌, ℕ, ◌+◌, List, [], ◌∷◌, ◌++◌, length, map, refl, sym, ap, subst, ◌∙◌, arith, append-nil, append_assoc}
 use Rattle.std.proofs.lemmas.Fn.{FoldsTo-push}
 use Rattle.std.proofs.lemmas.List.{map-append, length-map}
+use Rattle.std.specs.Borrow.{Bor}
+use Rattle.std.specs.Fn.{Mut, Called}
 use Rattle.std.specs.List.{FoldsTo}
-use Rattle.key_index_flat.specs.Visits.{probes_from, visits_of}
+use Rattle.key_index_flat.specs.Visits.{VisitsAt, probes_from, visits_of}
 
 pub folds_append : {P A : Type 0} (R : P → A → P → Type 0) (p q u : P) (xs ys : List A) → FoldsTo R p xs q → FoldsTo R q ys u → FoldsTo R p (xs ++ ys) u
 folds_append {P = P} R p q u [] ys h k = subst (λ (j : P). FoldsTo R j ys u) (sym h) k
@@ -61,3 +64,8 @@ module _ {A K : Type 0} (slot : List ℕ → K) (bytes : A → List ℕ) (keys :
 pub folds_through : {P Q A : Type 0} (R : P → A → P → Type 0) (S : Q → A → Q → Type 0) (inside : P → Q) → ((p : P) (x : A) (q : P) → R p x q → S (inside p) x (inside q)) → (p q : P) (xs : List A) → FoldsTo R p xs q → FoldsTo S (inside p) xs (inside q)
 folds_through R S inside f p q [] h = ap inside h
 folds_through R S inside f p q (x ∷ xs) h = (inside h.0, f p x h.0 h.1, folds_through R S inside f h.0 q xs h.2)
+
+module _ {P Q V : Type 0} (g : Mut P (ℕ × (Bor V × Unit {0})) (Unit {0})) (k : Mut Q (ℕ × (Bor V × Unit {0})) (Unit {0})) (inside : P → Q)
+    (calls : (p : P) (t : ℕ × (Bor V × Unit {0})) (q : P) → Called g p t tt q → Called k (inside p) t tt (inside q)) where
+  pub visits_through : (p q : P) (xs : List (ℕ × V)) → FoldsTo (VisitsAt g) p xs q → FoldsTo (VisitsAt k) (inside p) xs (inside q)
+  visits_through p q xs h = folds_through (VisitsAt g) (VisitsAt k) inside (λ p x q h. (h.0, h.1, calls p (x.0, (h.0, tt)) q h.2)) p q xs h

@@ -1,12 +1,12 @@
 -- On the content that first values and tails stand for.
-use Rattle.std.proofs.Common.{◌≡◌, ℕ, zero, suc, ◌+◌, ◌-◌, ◌<◌, nat_eq, Bool, true, false, cond, T, List, [], ◌∷◌, ◌++◌, length, insert, slice_get, Option, Some, None, unwrap_or, Result, Ok, Err, is_some, OnOk, OnErr, refl, sym, ap, subst, ◌∙◌, arith, add-zero}
+use Rattle.std.proofs.Common.{◌≡◌, ℕ, zero, suc, ◌+◌, ◌-◌, ◌<◌, nat_eq, Bool, true, false, not, cond, T, List, [], ◌∷◌, ◌++◌, length, insert, slice_get, Option, Some, None, unwrap_or, Result, Ok, Err, is_some, OnOk, OnErr, refl, sym, ap, subst, ◌∙◌, arith, add-zero}
 use Rattle.std.proofs.lemmas.List.{nil_from_length}
 use Rattle.std.specs.declared.cmp.Ordering.{Ordering}
 use Rattle.std.specs.declared.cmp.Ordering.TheVariants.{Equal}
 use Rattle.std.specs.Ordering.{eq_by_cmp}
 use Rattle.std.specs.Cmp.{IsTotalOrder}
 use Rattle.std.specs.Map.{lookup}
-use Rattle.key_index_flat.specs.Content.{Content, key_count, list_at, with_list}
+use Rattle.key_index_flat.specs.Content.{Content, is_filled, key_count, list_at, with_list}
 use Rattle.key_index_flat.specs.Storage.{added, list_of, content_of}
 use Rattle.key_index_flat.specs.Storage.{value_of, Sets, IsLinked}
 use Rattle.key_index_flat.specs.laws.Laws.{IsLawful-with_list, IsLawful-content_of}
@@ -26,6 +26,10 @@ None-is_some (Some v) e = absurd (subst T e tt)
 some_value : {V : Type 0} (o : Option V) (d : V) → is_some o ≡ true → Some (unwrap_or o d) ≡ o
 some_value None d e = absurd (subst T (sym e) tt)
 some_value (Some v) d e = refl
+
+filled-list_of : {V : Type 0} (o : Option V) (tail : List V) → is_filled (list_of o tail) ≡ is_some o
+filled-list_of None tail = refl
+filled-list_of (Some v) tail = refl
 
 -- whether a value came back tells whether the key has one
 pub none_back : {V : Type 0} (b : Bool) (v : V) (o : Option V) → o ≡ cond b (Some v) None → o ≡ None → b ≡ false
@@ -85,6 +89,10 @@ module _ {K V : Type 0} {cmp : K → K → Ordering} (o : IsTotalOrder cmp) wher
     list_at-some heads tail k held empty =
         let longer : 0 ≡ 1 + length (tail k) = sym (ap (λ l. length l) empty) ∙ ap (λ l. length l) (list_at-content_of heads tail k) ∙ length-list_of_some (value_of cmp heads k) (tail k) held in
         omega (arith, longer)
+
+    -- whether a key has a list is whether it has a first value
+    pub absent_told : (heads : List (K × V)) (tail : K → List V) (k : K) (held : Bool) → is_some (value_of cmp heads k) ≡ held → not held ≡ not (is_filled (list_at cmp (content_of cmp heads tail) k))
+    absent_told heads tail k held e = sym (ap (λ l. not (is_filled l)) (list_at-content_of heads tail k) ∙ ap not (filled-list_of (value_of cmp heads k) (tail k) ∙ e))
 
     -- where the first value and the tail of one key change, the content changes there
     pub content_of-changed : (heads news : List (K × V)) (tail later : K → List V) (k : K) (l : List V)
@@ -250,7 +258,7 @@ module _ {K V : Type 0} {cmp : K → K → Ordering} (o : IsTotalOrder cmp) wher
             behind_content (Ok u) put others_tail = (last_value (at_end put) others_tail).content
             behind_content (Err e) put others_tail = tt
 
-          pub behind_refused : (r : Result (Unit {0}) V) → OnErr r (later k ≡ tail k) → ((q : K) → eq_by_cmp cmp q k ≡ false → later q ≡ tail q)
+          pub behind_refused : {A : Type 0} (r : Result A V) → later k ≡ tail k → ((q : K) → eq_by_cmp cmp q k ≡ false → later q ≡ tail q)
               → OnErr r (content_of cmp news later ≡ content_of cmp heads tail)
           behind_refused (Ok u) refused others_tail = tt
           behind_refused (Err e) refused others_tail = (nothing_behind refused others_tail).content

@@ -224,6 +224,6 @@ module _ {K V : Type 0} {cmp : K → K → Ordering} (o : IsTotalOrder cmp) (exa
   inserted_content place x (Ok u) p h at others = (inserted_in_tail place x p h at others).content
   inserted_content place x (Err e) p h at others = tt
 
-  pub refused_content : (r : Result (Unit {0}) V) → OnErr r (later k ≡ tail k) → Others → OnErr r (content_of cmp heads later ≡ content_of cmp heads tail)
+  pub refused_content : {A : Type 0} (r : Result A V) → later k ≡ tail k → Others → OnErr r (content_of cmp heads later ≡ content_of cmp heads tail)
   refused_content (Ok u) refused others = tt
   refused_content (Err e) refused others = (StandsFor-same_list refused others).content

@@ -142,8 +142,7 @@ where
                 Ok(()) => Outcome::Edited(flags),
                 Err(fault) => Outcome::Refused(fault),
             },
-            Outcome::Done => Outcome::Refused(Fault::Memory),
-            Outcome::Refused(fault) => Outcome::Refused(fault),
+            Outcome::Done | Outcome::Refused(_) => unreachable!(),
         },
     }
 }

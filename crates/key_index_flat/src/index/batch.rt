@@ -48,18 +48,6 @@ where
     visit
 }
 
-/// `visit_list` for a closure that keeps no reference.
-fn show_list<V, F: FnMut(usize, &V)>(place: usize, values: Values<'_, V>, mut visit: F) -> F
-    requires { F.IsAlwaysCallable visit }
-    ensures again { F.IsAlwaysCallable result }
-    ensures visited { FoldsTo (VisitsAt F.FnMut) visit (map (λ v. (place, v)) values.entry) result }
-{
-    for value in values {
-        visit(place, value);
-    }
-    visit
-}
-
 /// `visit_by_place` for a closure that keeps no reference, which is what a trait's call takes.
 pub fn show_by_place<I: Lists, B: Iterator + Drop, F: FnMut(usize, &I::Value)>(
     index: &I,
@@ -72,11 +60,7 @@ where
     requires callable { F.IsAlwaysCallable visit }
     ensures { Visits ByPlace B.Iterator B.Item.items keys I.Key.cmp (I.view index.now) F.FnMut visit }
 {
-    let mut place = 0;
-    for key in keys {
-        visit = show_list(place, index.list_at(index.slot_of(key.as_slice())), visit);
-        place += 1;
-    }
+    visit_by_place(index, keys, move |place, value| visit(place, value));
 }
 
 /// The index keys of a batch of keys, each with its place.
@@ -157,27 +141,12 @@ where
     }
 }
 
-/// `visit_probes` for a closure that keeps no reference.
-fn show_probes<I: Lists, F: FnMut(usize, &I::Value)>(
-    index: &I,
-    probes: Vec<(I::Key, usize)>,
-    mut visit: F,
-) -> F
-    requires { F.IsAlwaysCallable visit }
-    ensures { FoldsTo (VisitsAt F.FnMut) visit (visits_of (run_at I.Key.cmp (I.view index.now)) probes.items) result }
-{
-    'probes: for probe in probes {
-        visit = show_list(probe.1, index.list_at(probe.0), visit);
-    }
-    visit
-}
-
 /// `visit_by_key` for a closure that keeps no reference, which is what a trait's call takes.
 pub fn show_by_key<I: Lists, B: Iterator + Drop, F: FnMut(usize, &I::Value)>(
     alloc: Global,
     index: &I,
     keys: B,
-    visit: F,
+    mut visit: F,
 ) -> Result<(), Fault>
 where
     B::Item: AsSlice<u8> + Drop,
@@ -187,6 +156,6 @@ where
     ensures fault { IfErr result (λ f. f ≡ Fault.Memory) }
 {
     let probes = probes_by_key(alloc, index, keys)?;
-    show_probes(index, probes, visit);
+    visit_probes(index, probes, move |place, value| visit(place, value));
     Ok(())
 }

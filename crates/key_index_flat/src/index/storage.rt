@@ -14,7 +14,7 @@ pub mod small_map;
 pub mod tails;
 pub mod tree_key;
 
-use super::implement::Retained;
+use super::implement::{Neighbours, Retained};
 use super::{Fault, Refused, Values};
 use crate::translator::Translator;
 use chains::Chains;
@@ -116,7 +116,7 @@ impl<T: Translator, V: Drop, M: Heads<T::Key, V>> Storage<T, V, M> {
             return Err(Refused::full(value));
         }
         match self.chains.insert(slot, value) {
-            Ok(()) => {
+            Ok(_) => {
                 self.items += 1;
                 Ok(())
             }
@@ -153,7 +153,7 @@ impl<T: Translator, V: Drop, M: Heads<T::Key, V>> Storage<T, V, M> {
             return Err(Refused::full(value));
         }
         match self.chains.insert_at(slot, place, value) {
-            Ok(()) => {
+            Ok(_) => {
                 self.items += 1;
                 Ok(())
             }

@@ -1,28 +1,17 @@
 -- On the lists of a flat index as a bucket.
---     absent_key                               whether a key that a list was put under had none, by how many keys there were and are
+--     absent_too                               an accepted insertion, and whether its key had none
 --     lawful_put, lawful_absent, lawful_kept   an insertion leaves a lawful content
-use Rattle.std.proofs.Common.{◌≡◌, ℕ, zero, suc, ◌+◌, ◌<◌, not, nat_lt, List, [], ◌∷◌, length, Result, Ok, Err, IfOk, OnOk, OnErr, refl, sym, ap, subst, arith}
-use Rattle.std.proofs.lemmas.Bool.{lt-ltb, le-ltb}
+use Rattle.std.proofs.Common.{◌≡◌, ℕ, zero, suc, ◌<◌, Bool, List, Result, Ok, Err, IfOk, OnOk, OnErr, refl, sym, subst, arith}
 use Rattle.std.specs.declared.cmp.Ordering.{Ordering}
 use Rattle.std.specs.Cmp.{IsTotalOrder}
-use Rattle.key_index_flat.specs.Content.{Content, is_filled, IsLawful, list_at, with_list, key_count}
-use Rattle.key_index_flat.proofs.content.ContentLemmas.{key_count-with_list, entries_for}
+use Rattle.key_index_flat.specs.Content.{Content, IsLawful, with_list}
 use Rattle.key_index_flat.proofs.asked.KeptLemmas.{lawful_edit}
-use Rattle.key_index_parts.proofs.family.StorageLemmas.{entries_for-filled}
 
-more_keys : {V : Type 0} (old : List V) (keys now : ℕ) → now + entries_for old ≡ keys + 1 → nat_lt keys now ≡ not (is_filled old)
-more_keys [] keys now e = lt-ltb keys now (omega (arith, e))
-more_keys (v ∷ vs) keys now e = le-ltb keys now (omega (arith, e))
+pub absent_too : {E : Type 0} (P : Type 0) (r : Result Bool E) (b : Bool) → OnOk r P → IfOk r (λ absent. absent ≡ b) → IfOk r (λ absent. P × (absent ≡ b))
+absent_too P (Ok a) b p e = (p, e)
+absent_too P (Err x) b p e = tt
 
 module _ {K V : Type 0} {cmp : K → K → Ordering} (o : IsTotalOrder cmp) where
-  pub absent_key : (c d : Content K V) (k : K) (l : List V) (keys now : ℕ) → IsLawful cmp c → d ≡ with_list cmp c k l → 0 < length l
-      → keys ≡ key_count c → now ≡ key_count d → nat_lt keys now ≡ not (is_filled (list_at cmp c k))
-  absent_key c d k l keys now lawful e filled was is =
-      let counts = key_count-with_list o c k l lawful in
-      let one = entries_for-filled l filled in
-      let same = ap (λ x. key_count x) e in
-      more_keys (list_at cmp c k) keys now (omega (arith, counts, one, same, was, is))
-
   -- what an insertion leaves is lawful, accepted or refused
   pub lawful_put : {A E : Type 0} (c d : Content K V) (k : K) (l : List V) (r : Result A E) → IsLawful cmp c → OnOk r (d ≡ with_list cmp c k l) → OnErr r (d ≡ c) → IsLawful cmp d
   lawful_put c d k l (Ok x) h done same = lawful_edit o c d k l h done

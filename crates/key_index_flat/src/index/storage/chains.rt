@@ -1,12 +1,11 @@
 //! The lists of an index: the first value of each index key in one map, and in another the tails of the lists that have more. An entry
 //! whose key has one value then costs that key and that value alone.
-ghost use Rattle.std.specs.Prelude.{◌≡◌, ◌+◌, ◌<◌, ◌≤◌, true, false, if◌then◌else◌, List, [], ◌∷◌, ◌++◌, length, slice_get, slice_set, insert, remove, Some, IfOk, IfErr, IfSome, IfNone, IsOk, OnOk, OnErr};
+ghost use Rattle.std.specs.Prelude.{◌≡◌, ◌+◌, ◌<◌, ◌≤◌, true, false, if◌then◌else◌, List, [], ◌∷◌, ◌++◌, length, slice_get, slice_set, insert, remove, Some, IfOk, IfErr, IfSome, IfNone, IsOk, OnOk, OnErr, not};
 ghost use Rattle.std.specs.Fn.{CalledAt};
 ghost use Rattle.std.specs.List.Retain.{IsFiltered};
 ghost use Rattle.std.specs.Map.Iter.{deref_pair};
 ghost use Rattle.std.specs.Option.{option_map};
-ghost use Rattle.key_index_flat.specs.Content.{key_count, list_at, with_list, with_list_by, IsLawful};
-ghost use Rattle.key_index_flat.specs.Neighbours.{entries_above, entries_below, first_list, last_list, next_list, prev_list};
+ghost use Rattle.key_index_flat.specs.Content.{is_filled, key_count, list_at, with_list, with_list_by, IsLawful};
 ghost use Rattle.key_index_flat.specs.Retention.{AsksBehind};
 ghost use Rattle.key_index_flat.specs.Storage.{KeptLists, added, content_of, list_of, tail_at, IsLinked};
 ghost use Rattle.key_index_flat.specs.Values.{values_of, VisitsEach};
@@ -17,6 +16,7 @@ use super::small_map::SmallMap;
 use super::tails::{Back, End, Tails};
 use super::tree_key::TreeMap;
 use crate::index::Values;
+use crate::index::neighbours::Neighbours;
 use crate::index::retain::Retained;
 use crate::index::values::visit_in_turn;
 use crate::translator::Translator;
@@ -96,47 +96,54 @@ impl<T: Translator, V: Drop, M: Heads<T::Key, V>, E: End> Chains<T, V, M, E> {
         self.tails.value_at(slot, place - 1)
     }
 
-    /// Puts a value in front of the list at an index key. The one look-up that finds the key also puts the value there; a first value
+    /// Puts a value in front of the list at an index key, and tells whether that had none. The one look-up that finds the key also puts the value there; a first value
     /// that finds no room in the tail then goes back to its place, which takes no memory.
     #[inline]
-    fn insert_first(&mut self, slot: T::Key, value: V) -> Result<(), V>
+    fn insert_first(&mut self, slot: T::Key, value: V) -> Result<bool, V>
         ensures accepted { OnOk result (self.new.content
             ≡ with_list_by T.Key.cmp self.old.content slot (λ l. value ∷ l)) }
+        ensures absent { IfOk result (λ absent.
+            absent ≡ not (is_filled (list_at T.Key.cmp self.old.content slot))) }
         ensures refused { OnErr result (self.new.content ≡ self.old.content) }
         ensures room { self.old.spare ≤ self.new.spare + added T.Key.cmp self.old.content slot }
         ensures succeeds { 0 < self.old.spare → list_at T.Key.cmp self.old.content slot ≡ [] → IsOk result }
         ensures returned { IfErr result (λ back. back ≡ value) }
     {
         let Some(displaced) = self.heads.insert(slot, value)? else {
-            return Ok(());
+            return Ok(true);
         };
         match self.tails.insert_at(self.alloc, slot, Some(0), displaced) {
-            Ok(()) => Ok(()),
+            Ok(()) => Ok(false),
             Err(displaced) => Err(self.heads.replace(&slot, displaced)),
         }
     }
 
-    /// Puts a value behind the list at an index key.
+    /// Puts a value behind the list at an index key, and tells whether that had none.
     #[inline]
-    fn insert_last(&mut self, slot: T::Key, value: V) -> Result<(), V>
+    fn insert_last(&mut self, slot: T::Key, value: V) -> Result<bool, V>
         ensures accepted { OnOk result (self.new.content
             ≡ with_list_by T.Key.cmp self.old.content slot (λ l. l ++ value ∷ [])) }
+        ensures absent { IfOk result (λ absent.
+            absent ≡ not (is_filled (list_at T.Key.cmp self.old.content slot))) }
         ensures refused { OnErr result (self.new.content ≡ self.old.content) }
         ensures room { self.old.spare ≤ self.new.spare + added T.Key.cmp self.old.content slot }
         ensures succeeds { 0 < self.old.spare → list_at T.Key.cmp self.old.content slot ≡ [] → IsOk result }
         ensures returned { IfErr result (λ back. back ≡ value) }
     {
         let Some(value) = self.heads.insert_absent(slot, value)? else {
-            return Ok(());
+            return Ok(true);
         };
-        self.tails.insert_at(self.alloc, slot, None, value)
+        self.tails.insert_at(self.alloc, slot, None, value)?;
+        Ok(false)
     }
 
-    /// Puts a value in at its end of the list at an index key.
+    /// Puts a value in at its end of the list at an index key, and tells whether that had none.
     #[inline]
-    pub fn insert(&mut self, slot: T::Key, value: V) -> Result<(), V>
+    pub fn insert(&mut self, slot: T::Key, value: V) -> Result<bool, V>
         ensures accepted { OnOk result (self.new.content
             ≡ with_list_by T.Key.cmp self.old.content slot (put_value E.FIRST value)) }
+        ensures absent { IfOk result (λ absent.
+            absent ≡ not (is_filled (list_at T.Key.cmp self.old.content slot))) }
         ensures refused { OnErr result (self.new.content ≡ self.old.content) }
         ensures room { self.old.spare ≤ self.new.spare + added T.Key.cmp self.old.content slot }
         ensures succeeds { 0 < self.old.spare → list_at T.Key.cmp self.old.content slot ≡ [] → IsOk result }
@@ -195,12 +202,14 @@ impl<T: Translator, V: Drop, M: Heads<T::Key, V>, E: End> Chains<T, V, M, E> {
         self.heads.replace(&slot, value);
     }
 
-    /// Puts a value in at a place of the index key's list, or behind its last one.
+    /// Puts a value in at a place of the index key's list, or behind its last one, and tells whether the index key had none.
     #[inline]
-    pub fn insert_at(&mut self, slot: T::Key, place: usize, value: V) -> Result<(), V>
+    pub fn insert_at(&mut self, slot: T::Key, place: usize, value: V) -> Result<bool, V>
         requires place { place ≤ length (list_at T.Key.cmp self.old.content slot) }
         ensures accepted { OnOk result (self.new.content
             ≡ with_list_by T.Key.cmp self.old.content slot (λ l. insert l place value)) }
+        ensures absent { IfOk result (λ absent.
+            absent ≡ not (is_filled (list_at T.Key.cmp self.old.content slot))) }
         ensures refused { OnErr result (self.new.content ≡ self.old.content) }
         ensures returned { IfErr result (λ back. back ≡ value) }
     {
@@ -208,7 +217,8 @@ impl<T: Translator, V: Drop, M: Heads<T::Key, V>, E: End> Chains<T, V, M, E> {
             return self.insert_first(slot, value);
         }
         self.tails
-            .insert_at(self.alloc, slot, Some(place - 1), value)
+            .insert_at(self.alloc, slot, Some(place - 1), value)?;
+        Ok(false)
     }
 
     /// Removes the value at a place of the index key's list, and tells how many are left.
@@ -335,63 +345,30 @@ fn values_of<'a, K: Ord + Hash + Copy, V, E: End>(
     }
 }
 
-impl<T: Translator, V: Drop, M: OrderedHeads<T::Key, V>, E: End> Chains<T, V, M, E> {
-    /// The list of the least key.
+impl<T: Translator, V: Drop, M: OrderedHeads<T::Key, V>, E: End> Neighbours<T::Key, V>
+    for Chains<T, V, M, E> {
+    ghost content = { λ c. c.content };
+
+    ghost order = { T.Key.cmp };
+
     #[inline]
-    pub fn first(&self) -> Option<Values<'_, V>>
-        ensures { result ≡ first_list self.now.content }
-    {
+    fn first(&self) -> Option<Values<'_, V>> {
         values_of(&self.tails, self.heads.first())
     }
 
-    /// The list of the greatest key.
     #[inline]
-    pub fn last(&self) -> Option<Values<'_, V>>
-        ensures { result ≡ last_list self.now.content }
-    {
+    fn last(&self) -> Option<Values<'_, V>> {
         values_of(&self.tails, self.heads.last())
     }
 
-    /// The list of the least key above a key.
     #[inline]
-    pub fn above(&self, slot: T::Key) -> Option<Values<'_, V>>
-        ensures { result ≡ first_list (entries_above T.Key.cmp self.now.content slot) }
-    {
+    fn above(&self, slot: T::Key) -> Option<Values<'_, V>> {
         values_of(&self.tails, self.heads.above(&slot))
     }
 
-    /// The list of the greatest key below a key.
     #[inline]
-    pub fn below(&self, slot: T::Key) -> Option<Values<'_, V>>
-        ensures { result ≡ last_list (entries_below T.Key.cmp self.now.content slot) }
-    {
+    fn below(&self, slot: T::Key) -> Option<Values<'_, V>> {
         values_of(&self.tails, self.heads.below(&slot))
-    }
-
-    #[inline]
-    pub fn next(&self, slot: T::Key) -> Option<(Values<'_, V>, bool)>
-        ensures { result ≡ next_list T.Key.cmp self.now.content slot }
-    {
-        match self.above(slot) {
-            Some(above) => Some((above, false)),
-            None => match self.first() {
-                Some(first) => Some((first, true)),
-                None => None,
-            },
-        }
-    }
-
-    #[inline]
-    pub fn prev(&self, slot: T::Key) -> Option<(Values<'_, V>, bool)>
-        ensures { result ≡ prev_list T.Key.cmp self.now.content slot }
-    {
-        match self.below(slot) {
-            Some(below) => Some((below, false)),
-            None => match self.last() {
-                Some(last) => Some((last, true)),
-                None => None,
-            },
-        }
     }
 }
 

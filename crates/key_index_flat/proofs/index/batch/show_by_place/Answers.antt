@@ -1,24 +1,14 @@
-use Rattle.std.proofs.Common.{ap, ◌∙◌, arith}
-use Rattle.std.proofs.lemmas.List.{length_push}
-use Rattle.key_index_flat.specs.View.{run_at}
-use Rattle.key_index_flat.specs.Visits.{VisitsAt}
-use Rattle.key_index_flat.proofs.asked.VisitLemmas.{folds_key}
+use Rattle.std.proofs.Common.{refl, rules, of_calls}
+use denote.Param.Always.{always_mut, mut_by}
+use Rattle.key_index_flat.proofs.asked.VisitLemmas.{visits_through}
 use Rattle.key_index_flat.proofs.index.batch.show_by_place.Goals as goal
 
-pub loop-key-preserved : goal.loop-key-preserved
-loop-key-preserved g c =
-    let i = c.loop-key.invariant in
-    let left = c.in-Some.ensures.goes.on i.1 in
-    let less = left.2 in
-    let room = i.2 in
-    let long = length_push c.loop-key.yielded c.in-Some.key in
-    let count = i.3 in
-    let view = g.I.Runs.view c.args.index.now in (
-      left.0,
-      left.1,
-      omega (arith, less, room),
-      omega (arith, long, count),
-      c.show_list-visit.ensures.again,
-      folds_key view.slot g.B.Item.AsSlice.items c.loop-key.yielded c.in-Some.key c.loop-key.place c.as_slice.result.now count c.as_slice.ensures (run_at g.I.Key.Ord.cmp view) (VisitsAt g.F.FnMut)
-          c.args.visit c.loop-key.visit c.show_list-visit.result c.list_at.result (c.list_at.ensures ∙ ap (run_at g.I.Key.Ord.cmp view) c.slot_of.ensures) i.5 c.show_list-visit.ensures.visited,
-    )
+pub visit_by_place-requires : goal.visit_by_place-requires
+visit_by_place-requires g c κs =
+    ((refl, tt), (c.requires.batch, mut_by _ (λ s. always_mut g.F.FnMut s.0) (λ s a i. search (rules, i)) (λ s a r t i e. search (rules, of_calls)) _ c.requires.callable))
+
+pub returns : goal.returns
+returns g c =
+    let visited = c.visit_by_place.ensures in
+    let through = visits_through _ g.F.FnMut (λ s. s.0) (λ p t q e. search (rules, of_calls)) _ c.visit_by_place.result _ visited.2 in
+    (c.visit_by_place.result.0, (visited.0, visited.1, through))

@@ -60,9 +60,7 @@ impl<T: Translator, V: Drop> EditBucket<T, V> for Chained<T, V> {
     }
 
     fn insert_at(&mut self, key: T::Key, place: usize, value: V) -> Result<bool, V> {
-        let keys = self.chains.keys();
-        self.chains.insert_at(key, place, value)?;
-        Ok(keys < self.chains.keys())
+        self.chains.insert_at(key, place, value)
     }
 
     #[inline]
@@ -115,9 +113,8 @@ impl<T: Translator, V: Drop> Bucket<T, V> for Chained<T, V> {
 
     #[inline]
     fn insert(&mut self, key: T::Key, value: V, _limit: usize) -> Result<(bool, usize), V> {
-        let keys = self.chains.keys();
-        self.chains.insert(key, value)?;
-        Ok((keys < self.chains.keys(), 0))
+        let absent = self.chains.insert(key, value)?;
+        Ok((absent, 0))
     }
 
     fn insert_absent(&mut self, key: T::Key, value: V, _limit: usize) -> Result<(usize, usize), V> {

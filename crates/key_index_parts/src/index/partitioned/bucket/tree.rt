@@ -5,7 +5,7 @@ ghost use Rattle.key_index_flat.specs.Storage.{IsCounted};
 
 use super::{EditBucket, Form, Held, OrderedBucket, ReadBucket};
 use key_index_flat::index::Values;
-use key_index_flat::index::implement::{Back, Chains, Retained, TreeMap};
+use key_index_flat::index::implement::{Back, Chains, Neighbours, Retained, TreeMap};
 use key_index_flat::translator::Translator;
 use std::alloc::Global;
 
@@ -98,10 +98,9 @@ impl<T: Translator, V: Drop> EditBucket<T, V> for Tree<T, V> {
         if self.len == usize::MAX {
             return Err(value);
         }
-        let keys = self.lists.keys();
-        self.lists.insert_at(key, place, value)?;
+        let absent = self.lists.insert_at(key, place, value)?;
         self.len += 1;
-        Ok(keys < self.lists.keys())
+        Ok(absent)
     }
 
     fn remove_at(&mut self, key: T::Key, place: usize) -> (V, usize) {
@@ -128,10 +127,9 @@ impl<T: Translator, V: Drop> Form<T, V> for Tree<T, V> {
         if self.len == usize::MAX {
             return Err(value);
         }
-        let keys = self.lists.keys();
-        self.lists.insert(key, value)?;
+        let absent = self.lists.insert(key, value)?;
         self.len += 1;
-        Ok(keys < self.lists.keys())
+        Ok(absent)
     }
 
     fn insert_and_retain<F: FnMut(&V) -> bool>(

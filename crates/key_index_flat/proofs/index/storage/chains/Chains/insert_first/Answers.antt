@@ -1,6 +1,6 @@
-use Rattle.std.proofs.Common.{ℕ, ◌+◌, length, cond, is_some, Some, arith, refl, ap, sym, ◌∙◌}
+use Rattle.std.proofs.Common.{ℕ, true, false, ◌+◌, length, cond, is_some, Some, arith, refl, ap, sym, ◌∙◌}
 use Rattle.key_index_flat.specs.Storage.{tail_at}
-use Rattle.key_index_flat.proofs.content.ChainLemmas.{added-none, list_at-some, first_value, newer_value, StandsFor-put_back}
+use Rattle.key_index_flat.proofs.content.ChainLemmas.{absent_told, added-none, list_at-some, first_value, newer_value, StandsFor-put_back}
 use Rattle.key_index_flat.proofs.index.storage.chains.Chains.insert_first.Goals as goal
 
 pub invariant_of-self-in_default : goal.invariant_of-self-in_default
@@ -44,3 +44,15 @@ pub returns-in-Err-clause-succeeds : goal.returns-in-Err-clause-succeeds
 returns-in-Err-clause-succeeds g c =
     let some = sym c.in_ok-displaced.ensures.old ∙ c.in-Some.is in
     rw (← c.self.view_is) (λ _ empty. absurd (list_at-some g.met.T.Key.Ord.total g.met.T.Translator.exact (g.M.Heads.entries c.self.inside.heads) (tail_at g.E.End.FIRST g.T.Key.PartialEq.eq c.self.inside.tails.map) c.args.slot (ap is_some some) empty))
+
+pub returns-in_default-clause-absent : goal.returns-in_default-clause-absent
+returns-in_default-clause-absent g c =
+    let tail = tail_at g.E.End.FIRST g.T.Key.PartialEq.eq c.self.inside.tails.map in
+    let none = sym c.in_ok-displaced.ensures.old ∙ c.in_default.is in
+    rw (← c.self.view_is) (absent_told g.met.T.Key.Ord.total g.met.T.Translator.exact (g.M.Heads.entries c.self.inside.heads) tail c.args.slot false (ap is_some none))
+
+pub returns-in-Ok-clause-absent : goal.returns-in-Ok-clause-absent
+returns-in-Ok-clause-absent g c =
+    let tail = tail_at g.E.End.FIRST g.T.Key.PartialEq.eq c.self.inside.tails.map in
+    let some = sym c.in_ok-displaced.ensures.old ∙ c.in-Some.is in
+    rw (← c.self.view_is) (absent_told g.met.T.Key.Ord.total g.met.T.Translator.exact (g.M.Heads.entries c.self.inside.heads) tail c.args.slot true (ap is_some some))

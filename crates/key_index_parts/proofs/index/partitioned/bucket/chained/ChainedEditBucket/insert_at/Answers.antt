@@ -1,16 +1,11 @@
 use Rattle.std.proofs.Common.{insert, arith}
 use Rattle.std.proofs.lemmas.List.Edits.{length-insert}
 use Rattle.key_index_flat.specs.Content.{list_at}
-use Rattle.key_index_parts.proofs.family.ChainedLemmas.{absent_key, lawful_put}
+use Rattle.key_index_parts.proofs.family.ChainedLemmas.{absent_too, lawful_put}
 use Rattle.key_index_parts.proofs.index.partitioned.bucket.chained.ChainedEditBucket.insert_at.Goals as goal
 
 pub invariant_of-self : goal.invariant_of-self
 invariant_of-self g c = record { lawful = lawful_put g.met.T.Key.Ord.total c.args.self.now.chains.content _ c.args.key _ c.insert_at.result c.args.self.now.lawful c.insert_at.ensures.accepted c.insert_at.ensures.refused }
 
 pub returns-clause-accepted : goal.returns-clause-accepted
-returns-clause-accepted g c =
-    let chains = c.args.self.now.chains.content in
-    let list = list_at g.T.Key.Ord.cmp chains c.args.key in
-    let more = length-insert list c.args.place c.args.value c.requires in
-    let content = c.in_ok-insert_at.ensures.accepted in
-    (content, absent_key g.met.T.Key.Ord.total chains _ c.args.key (insert list c.args.place c.args.value) _ _ c.args.self.now.lawful content (omega (arith, more)) c.keys-keys.ensures c.keys.ensures)
+returns-clause-accepted g c = absent_too _ c.insert_at.result _ c.insert_at.ensures.accepted c.insert_at.ensures.absent
