@@ -27,10 +27,13 @@
 #![warn(clippy::pedantic)]
 
 mod ffi;
+mod immutable;
+mod owned;
 mod values;
 
-use ffi::{Counts, Found, Handle};
-use std::cell::UnsafeCell;
+use ffi::{Counts, Found};
+pub use immutable::Immutable;
+use owned::Owned;
 use std::fmt;
 use std::marker::PhantomData;
 use values::written;
@@ -44,6 +47,10 @@ pub enum Error {
     Memory,
     /// The index holds `usize::MAX` values.
     Full,
+    /// The position is `usize::MAX` or more past the start.
+    TooFar,
+    /// The position is below the start, or indexed.
+    Position,
     /// The ends are none of so many keys.
     Ends,
 }
@@ -53,6 +60,8 @@ impl fmt::Display for Error {
         f.write_str(match self {
             Error::Memory => "refused memory",
             Error::Full => "refused full",
+            Error::TooFar => "refused far",
+            Error::Position => "refused position",
             Error::Ends => "the ends are none of so many keys",
         })
     }
@@ -60,11 +69,12 @@ impl fmt::Display for Error {
 
 impl std::error::Error for Error {}
 
-/// The error of a status. A call of this crate gets no other than these, and a bad argument only for ends.
+/// The error of a status. A call of this crate gets no other than these, and a bad argument only for ends, or for a position.
 fn answer(status: u32) -> Result<(), Error> {
     match status {
         ffi::OK => Ok(()),
         ffi::FULL => Err(Error::Full),
+        ffi::TOO_FAR => Err(Error::TooFar),
         ffi::BAD_ARGUMENT => Err(Error::Ends),
         _ => Err(Error::Memory),
     }
@@ -116,9 +126,7 @@ kinds! {
 /// std::thread::spawn(move || index.keys());
 /// ```
 pub struct Index<K: Kind> {
-    // The library takes the index out of the handle for a call, and puts it back. So a call by `&self` writes to the handle, which no other
-    // call sees: no call comes back to this crate, and the index goes to no other thread.
-    handle: UnsafeCell<Handle>,
+    owned: Owned,
     kind: PhantomData<K>,
 }
 
@@ -146,13 +154,10 @@ impl Index<Seeded> {
 
 impl<K: Kind> Index<K> {
     fn made(seed: u64) -> Result<Self, Error> {
-        let mut handle = Handle {
-            at: std::ptr::null_mut(),
-        };
         // SAFETY: the handle is fresh.
-        answer(unsafe { ffi::key_index_c_new(&mut handle, K::KIND, seed) })?;
+        let owned = Owned::made(|fresh| unsafe { ffi::key_index_c_new(fresh, K::KIND, seed) })?;
         Ok(Index {
-            handle: UnsafeCell::new(handle),
+            owned,
             kind: PhantomData,
         })
     }
@@ -164,9 +169,7 @@ impl<K: Kind> Index<K> {
     /// [`Error::Memory`], or [`Error::Full`] exactly if there are `usize::MAX` values.
     pub fn insert(&mut self, key: &[u8], value: u64) -> Result<(), Error> {
         // SAFETY: the index was made and is not freed, as in each call below, and the key goes with its length.
-        answer(unsafe {
-            ffi::key_index_c_insert(self.handle.get(), key.as_ptr(), key.len(), value)
-        })
+        answer(unsafe { ffi::key_index_c_insert(self.owned.at(), key.as_ptr(), key.len(), value) })
     }
 
     /// Inserts values in turn, each as [`Index::insert`] does. The keys stand behind one another in `keys`, each up to its end.
@@ -184,7 +187,7 @@ impl<K: Kind> Index<K> {
         // SAFETY: keys, ends and values go with their lengths.
         let told = unsafe {
             ffi::key_index_c_insert_many(
-                self.handle.get(),
+                self.owned.at(),
                 keys.as_ptr(),
                 keys.len(),
                 ends.as_ptr(),
@@ -199,7 +202,7 @@ impl<K: Kind> Index<K> {
     #[inline]
     fn find(&self, key: &[u8]) -> Found {
         // SAFETY: the key goes with its length.
-        unsafe { ffi::key_index_c_find(self.handle.get(), key.as_ptr(), key.len()) }
+        unsafe { ffi::key_index_c_find(self.owned.at(), key.as_ptr(), key.len()) }
     }
 
     /// The values of a key, in list order.
@@ -210,16 +213,14 @@ impl<K: Kind> Index<K> {
         if found.count < 2 {
             return Values::at_most_one(found.first, found.count);
         }
-        Values::of(self.several(key))
+        self.several(key)
     }
 
     #[cold]
-    fn several(&self, key: &[u8]) -> Box<[u64]> {
+    fn several(&self, key: &[u8]) -> Values {
         written(|values, room| {
             // SAFETY: the key and the room for values go with their lengths.
-            unsafe {
-                ffi::key_index_c_get(self.handle.get(), key.as_ptr(), key.len(), values, room)
-            }
+            unsafe { ffi::key_index_c_get(self.owned.at(), key.as_ptr(), key.len(), values, room) }
         })
     }
 
@@ -243,7 +244,7 @@ impl<K: Kind> Index<K> {
             // SAFETY: keys, ends, values and stops go with their lengths.
             let told = unsafe {
                 ffi::key_index_c_get_many(
-                    self.handle.get(),
+                    self.owned.at(),
                     keys.as_ptr(),
                     keys.len(),
                     ends.as_ptr(),
@@ -280,20 +281,20 @@ impl<K: Kind> Index<K> {
     /// [`Error::Memory`], of an ordered index in partitions alone.
     pub fn remove(&mut self, key: &[u8]) -> Result<(), Error> {
         // SAFETY: the key goes with its length.
-        answer(unsafe { ffi::key_index_c_remove(self.handle.get(), key.as_ptr(), key.len()) })
+        answer(unsafe { ffi::key_index_c_remove(self.owned.at(), key.as_ptr(), key.len()) })
     }
 
     /// Removes the first value of a key that equals `value`, and tells whether there was one. It takes no memory.
     pub fn remove_value(&mut self, key: &[u8], value: u64) -> bool {
         // SAFETY: the key goes with its length.
-        unsafe { ffi::key_index_c_remove_value(self.handle.get(), key.as_ptr(), key.len(), value) }
+        unsafe { ffi::key_index_c_remove_value(self.owned.at(), key.as_ptr(), key.len(), value) }
     }
 
     /// Puts `with` in the place of the first value of a key that equals `value`, and tells whether there was one. It takes no memory.
     pub fn replace_value(&mut self, key: &[u8], value: u64, with: u64) -> bool {
         // SAFETY: the key goes with its length.
         unsafe {
-            ffi::key_index_c_replace_value(self.handle.get(), key.as_ptr(), key.len(), value, with)
+            ffi::key_index_c_replace_value(self.owned.at(), key.as_ptr(), key.len(), value, with)
         }
     }
 
@@ -311,21 +312,16 @@ impl<K: Kind> Index<K> {
             .get(key)
             .map(|value| u8::from(should_retain(value)))
             .collect();
+        let at = self.owned.at();
         // SAFETY: the key and the mask go with their lengths. The mask has a byte for each value.
         answer(unsafe {
-            ffi::key_index_c_keep(
-                self.handle.get(),
-                key.as_ptr(),
-                key.len(),
-                mask.as_ptr(),
-                mask.len(),
-            )
+            ffi::key_index_c_keep(at, key.as_ptr(), key.len(), mask.as_ptr(), mask.len())
         })
     }
 
     fn counts(&self) -> Counts {
         // SAFETY: as above.
-        unsafe { ffi::key_index_c_counts(self.handle.get()) }
+        unsafe { ffi::key_index_c_counts(self.owned.at()) }
     }
 
     /// How many shortened keys there are.
@@ -382,30 +378,15 @@ impl<K: Neighbours> Index<K> {
 
     /// The values of a neighbour, and whether it was found around the end. No list is empty.
     fn neighbour(&self, which: u32, key: &[u8]) -> Option<(Values, bool)> {
+        let (at, key, len) = (self.owned.at(), key.as_ptr(), key.len());
         let mut cycled = false;
         let values = written(|values, room| {
             // SAFETY: the key and the room for values go with their lengths.
-            let told = unsafe {
-                ffi::key_index_c_neighbour(
-                    self.handle.get(),
-                    which,
-                    key.as_ptr(),
-                    key.len(),
-                    values,
-                    room,
-                )
-            };
+            let told = unsafe { ffi::key_index_c_neighbour(at, which, key, len, values, room) };
             cycled = told.cycled;
             told.count
         });
-        (!values.is_empty()).then(|| (Values::of(values), cycled))
-    }
-}
-
-impl<K: Kind> Drop for Index<K> {
-    fn drop(&mut self) {
-        // SAFETY: it was made and is freed here alone.
-        unsafe { ffi::key_index_c_free(self.handle.get()) }
+        (values.len() > 0).then_some((values, cycled))
     }
 }
 
