@@ -16,11 +16,11 @@ loop-count-preserved g c =
       drop-next all n x rest step ∙ ap (λ m. drop m all) (sym (add-one n)),
       elim c.if-count-buffer.branch [
         | then-count-buffer w ↦
-          let fits : n < length old = omega (arith, w.if-count-buffer, c.loop-count.auto.buffer) in
-          w.buffer-is ∙ ap (λ b. slice_set b n x) had.2 ∙ filled-next all n x rest old step fits ∙ more
+            let fits : n < length old = omega (arith, w.if-count-buffer, c.loop-count.auto.buffer) in
+            w.buffer-is ∙ ap (λ b. slice_set b n x) had.2 ∙ filled-next all n x rest old step fits ∙ more
         | else-count-buffer w ↦
-          let full : length old ≤ n = omega (arith, w.if-count-buffer, c.loop-count.auto.buffer) in
-          w.buffer-is ∙ had.2 ∙ filled-full all n x rest old step full ∙ more
+            let full : length old ≤ n = omega (arith, w.if-count-buffer, c.loop-count.auto.buffer) in
+            w.buffer-is ∙ had.2 ∙ filled-full all n x rest old step full ∙ more
       ],
     )
 

@@ -1,5 +1,4 @@
 use Rattle.key_index_c.proofs.PositionLemmas.{at_most}
-use Rattle.key_index_c.specs.Positions.{by_position}
 use Rattle.key_index.specs.Immutable.{key_at}
 use Rattle.key_index_c.proofs.immutable.positions.Goals as goal
 
