@@ -4,7 +4,8 @@
  * A store that keeps its records in a log inserts the position of each record under the record's key. The index keeps the first
  * eight bytes of the key and the position. It returns the positions of the records that may match a key, and the store compares
  * the full keys. Keys that agree in their first eight bytes share one list; a shorter key counts as if zeros stood behind it. An index
- * of the kind KEY_INDEX_SEEDED keeps eight bytes of a hash of the whole key instead.
+ * of the kind KEY_INDEX_SEEDED keeps eight bytes of a hash of the whole key instead. For keys that are inserted once, by position, and
+ * pruned from the front there is another type, key_index_immutable: see "Immutable indices" below.
  *
  *     key_index index = KEY_INDEX_NONE;
  *     if (key_index_new(&index, KEY_INDEX_UNORDERED) != KEY_INDEX_OK) ..
@@ -22,6 +23,7 @@
  *   - a null pointer to an index, to a key or a buffer whose length is not 0, or to a place for an answer;
  *   - an index that was not made (`at` is null), or to a call that makes one, one that was;
  *   - a kind that is none of those below, or a call for a neighbour of an index without an order;
+ *   - a position that is below the start of an immutable index, or indexed;
  *   - a length that no block of memory has.
  * They cannot test the following. Where it does not hold, what happens is undefined:
  *   1. A key_index was set to KEY_INDEX_NONE, or a key_index_immutable to KEY_INDEX_IMMUTABLE_NONE, and since then only these functions
@@ -304,7 +306,7 @@ static inline key_index_status key_index_last(key_index *index, uint64_t *values
     return key_index_neighbour(index, KEY_INDEX_LAST, NULL, 0, values, room, count, &cycled);
 }
 
-/* IMMUTABLE INDICES
+/* Immutable indices
  *
  * Each key is inserted once, at a position of its own, as a record's is in a log that only grows; positions come mostly in order, and
  * are removed from the front alone. The index keeps the first eight bytes of each key, in one row of memory by position, and so holds

@@ -3,7 +3,8 @@
 //! A store that keeps its records in a log inserts the position of each record under the record's key. The index keeps the first
 //! eight bytes of the key and the position. It returns the positions of the records that may match a key, and the store compares the
 //! full keys. Keys that agree in their first eight bytes share one list, the newest value first; a shorter key counts as if zeros
-//! stood behind it. A [`Seeded`] index keeps eight bytes of a hash of the whole key instead.
+//! stood behind it. A [`Seeded`] index keeps eight bytes of a hash of the whole key instead. An [`Immutable`] one has keys by position,
+//! which are inserted once and removed from the front.
 //!
 //! ```
 //! use key_index::{Index, Ordered};
@@ -21,7 +22,7 @@
 //! ```
 //!
 //! What is proved is the contract of each function that this crate calls, for callers that keep its conditions. This crate keeps them:
-//! an index is made by [`Index::new`] and freed once, a call has it alone, and a pointer goes with its own length. Nobody checks that
+//! an index is made by its `new` and freed once, a call has it alone, and a pointer goes with its own length. Nobody checks that
 //! the declarations in `ffi.rs` agree with the library's; a test compares sizes, and makes each call.
 
 #![warn(clippy::pedantic)]
