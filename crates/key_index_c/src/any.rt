@@ -4,7 +4,7 @@ ghost use Rattle.key_index_flat.specs.View as view;
 ghost use Rattle.key_index_flat.specs.View.{run_of};
 ghost use Rattle.key_index_c.specs.Any.{HasLists, IsNew, any_view, held_under, inserts_first, is_ordered, kind_of, may_want};
 ghost use Rattle.key_index_c.specs.Buffer.{filled};
-ghost use Rattle.key_index_c.specs.Calls.{AreKeys, Shows, ShowsMany, after_inserts, found_in, place_of, values_of};
+ghost use Rattle.key_index_c.specs.Calls.{AreKeys, Shows, ShowsMany, after_inserts, found_in, lists_of, place_of, values_of};
 ghost use Rattle.key_index_c.specs.Changes as change;
 ghost use Rattle.key_index_c.specs.Changes.{neighbour_list, not_cycled};
 ghost use Rattle.key_index_c.specs.Status.{kind_refusal, status_of};
@@ -125,16 +125,6 @@ macro_rules! each {
     };
 }
 
-// An index of a kind, or why none was made.
-macro_rules! made {
-    ($kind:path, $index:expr) => {
-        match $index {
-            Ok(index) => Ok($kind(index)),
-            Err(_) => Err(MEMORY),
-        }
-    };
-}
-
 impl Any {
     /// An index of a kind, with no values. Only a seeded one takes the seed.
     pub(crate) fn new(alloc: Global, kind: u32, seed: u64) -> Result<Any, u32>
@@ -218,15 +208,7 @@ impl Any {
         ensures { ShowsMany (values_of (any_view self.now) keys.now ends.now)
             (length ends.now) result buffer.old buffer.new stops.new }
     {
-        let mut start = 0;
-        let mut count: usize = 0;
-        for (number, end) in ends.iter().enumerate() {
-            let from = count.min(buffer.len());
-            count = count.saturating_add(self.get(&keys[start..*end], &mut buffer[from..]));
-            stops[number] = count;
-            start = *end;
-        }
-        count
+        each!(self, index => get_many(index, keys, ends, buffer, stops))
     }
 
     /// How many values a key has, and the first one. A flat unordered index is the one whose look-ups cost least, so this is inlined with
@@ -336,6 +318,30 @@ fn insert<I: Unordered<Value = u64>>(index: &mut I, key: &[u8], value: u64) -> u
         Ok(()) => OK,
         Err(refused) => status::of(refused.fault),
     }
+}
+
+/// Writes the values of many keys to a buffer, and where those of each key end, and tells how many there are, as far as a `usize` goes.
+fn get_many<I: Unordered<Value = u64>>(
+    index: &I,
+    keys: &[u8],
+    ends: &[usize],
+    buffer: &mut [u64],
+    stops: &mut [usize],
+) -> usize
+    requires { AreKeys keys.now ends.now (length stops.old) }
+    ensures { ShowsMany (lists_of (run_of I.Key.cmp (I.view index.now)) keys.now ends.now)
+        (length ends.now) result buffer.old buffer.new stops.new }
+{
+    let mut start = 0;
+    let mut count: usize = 0;
+    for (number, end) in ends.iter().enumerate() {
+        let from = count.min(buffer.len());
+        let values = index.get(&keys[start..*end]);
+        count = count.saturating_add(copy(values, &mut buffer[from..]));
+        stops[number] = count;
+        start = *end;
+    }
+    count
 }
 
 /// Removes a key with all its values, and tells the status.

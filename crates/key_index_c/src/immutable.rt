@@ -39,16 +39,6 @@ macro_rules! each {
     };
 }
 
-// An immutable index of a kind, or why none was made.
-macro_rules! made {
-    ($kind:path, $index:expr) => {
-        match $index {
-            Ok(index) => Ok($kind(index)),
-            Err(_) => Err(MEMORY),
-        }
-    };
-}
-
 impl Any {
     /// An immutable index of a kind, with no positions, from a start on, with room for so many insertions in order. Only a seeded one
     /// takes the seed.

@@ -15,6 +15,16 @@ ghost use Rattle.key_index_c.specs.Views.{after_insert, after_kept, after_remove
 
 use std::alloc::Global;
 
+// An index of a kind, or why none was made.
+macro_rules! made {
+    ($kind:path, $index:expr) => {
+        match $index {
+            Ok(index) => Ok($kind(index)),
+            Err(_) => Err(MEMORY),
+        }
+    };
+}
+
 mod any;
 mod handle;
 mod immutable;
