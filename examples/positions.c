@@ -12,6 +12,38 @@
         } \
     } while (0)
 
+/* A log whose first record is at position 100. */
+static void log_of_records(void) {
+    key_index_immutable log = KEY_INDEX_IMMUTABLE_NONE;
+    uint64_t positions[2] = {0, 0};
+    size_t count = 0;
+
+    CHECK(key_index_immutable_new(&log, 100, 3) == KEY_INDEX_OK);
+    CHECK(key_index_immutable_new(&log, 100, 3) == KEY_INDEX_BAD_ARGUMENT);
+    CHECK(key_index_immutable_insert(&log, "cherry stone", 12, 100) == KEY_INDEX_OK);
+    CHECK(key_index_immutable_insert(&log, "apple pie", 9, 101) == KEY_INDEX_OK);
+    CHECK(key_index_immutable_insert(&log, "cherry syrup", 12, 107) == KEY_INDEX_OK);
+    CHECK(key_index_immutable_insert(&log, "plum", 4, 101) == KEY_INDEX_BAD_ARGUMENT);
+    CHECK(key_index_immutable_insert(&log, "plum", 4, 99) == KEY_INDEX_BAD_ARGUMENT);
+    CHECK(key_index_immutable_get(&log, "cherry s", 8, positions, 2, &count) == KEY_INDEX_OK);
+    CHECK(count == 2 && positions[0] + positions[1] == 207 && positions[0] != positions[1]);
+    CHECK(key_index_immutable_is_indexed(&log, 101) && !key_index_immutable_is_indexed(&log, 102));
+    CHECK(key_index_immutable_prune(&log, 101) == KEY_INDEX_OK);
+    CHECK(key_index_immutable_get(&log, "cherry stone", 12, positions, 2, &count) == KEY_INDEX_OK && count == 1);
+    CHECK(positions[0] == 107 && key_index_immutable_items(&log) == 2);
+    CHECK(key_index_immutable_start(&log) == 101 && key_index_immutable_pruned(&log) == 1);
+    CHECK(key_index_immutable_get(&log, NULL, 1, positions, 2, &count) == KEY_INDEX_BAD_ARGUMENT);
+    key_index_immutable_free(&log);
+    CHECK(!key_index_immutable_is_indexed(&log, 101) && key_index_immutable_items(&log) == 0);
+
+    /* from the first position on, where the last one is too far past it */
+    CHECK(key_index_immutable_new_seeded(&log, 7, 0, 0) == KEY_INDEX_OK);
+    CHECK(key_index_immutable_insert(&log, "plum", 4, UINT64_MAX) == KEY_INDEX_TOO_FAR);
+    CHECK(key_index_immutable_insert(&log, "plum", 4, 0) == KEY_INDEX_OK);
+    CHECK(key_index_immutable_get(&log, "plum\0", 5, positions, 2, &count) == KEY_INDEX_OK && count == 0);
+    key_index_immutable_free(&log);
+}
+
 int main(void) {
     key_index index = KEY_INDEX_NONE;
     uint64_t values[2] = {0, 0};
@@ -51,5 +83,6 @@ int main(void) {
     printf("keys %zu items %zu pruned %llu\n", key_index_keys(&index), key_index_items(&index),
            (unsigned long long)key_index_pruned(&index));
     key_index_free(&index);
+    log_of_records();
     return 0;
 }

@@ -4,7 +4,8 @@
  * A store that keeps its records in a log inserts the position of each record under the record's key. The index keeps the first
  * eight bytes of the key and the position. It returns the positions of the records that may match a key, and the store compares
  * the full keys. Keys that agree in their first eight bytes share one list; a shorter key counts as if zeros stood behind it. An index
- * of the kind KEY_INDEX_SEEDED keeps eight bytes of a hash of the whole key instead.
+ * of the kind KEY_INDEX_SEEDED keeps eight bytes of a hash of the whole key instead. For keys that are inserted once, by position, and
+ * pruned from the front there is another type, key_index_immutable: see "Immutable indices" below.
  *
  *     key_index index = KEY_INDEX_NONE;
  *     if (key_index_new(&index, KEY_INDEX_UNORDERED) != KEY_INDEX_OK) ..
@@ -20,12 +21,14 @@
  *
  * The functions below test each argument that they can, and answer KEY_INDEX_BAD_ARGUMENT, with nothing done, for:
  *   - a null pointer to an index, to a key or a buffer whose length is not 0, or to a place for an answer;
- *   - an index that was not made (`at` is null), or to key_index_new one that was;
+ *   - an index that was not made (`at` is null), or to a call that makes one, one that was;
  *   - a kind that is none of those below, or a call for a neighbour of an index without an order;
+ *   - a position that is below the start of an immutable index, or indexed;
  *   - a length that no block of memory has.
  * They cannot test the following. Where it does not hold, what happens is undefined:
- *   1. A key_index was set to KEY_INDEX_NONE, and since then only these functions wrote to it. It may be moved, as by an assignment,
- *      if the old place is not used any more. A copy of one is not another index.
+ *   1. A key_index was set to KEY_INDEX_NONE, or a key_index_immutable to KEY_INDEX_IMMUTABLE_NONE, and since then only these functions
+ *      wrote to it. It may be moved, as by an assignment, if the old place is not used any more. A copy of one is not another index.
+ *      The member of a key_index_immutable is not passed as a key_index.
  *   2. One call at a time gets an index, those that only read it too, and all calls of an index come from one thread.
  *   3. A pointer to a key leads to as many bytes as its length says, one to numbers to as many, aligned as their type is; a buffer for
  *      answers was set before (to anything). Neither overlaps the other, the key_index or a place for an answer, and no other
@@ -52,13 +55,20 @@ typedef struct key_index {
 
 #define KEY_INDEX_NONE { NULL }
 
+/* An immutable index, or none: keys by position. */
+typedef struct key_index_immutable {
+    key_index index;
+} key_index_immutable;
+
+#define KEY_INDEX_IMMUTABLE_NONE { KEY_INDEX_NONE }
+
 /* What a call answers. After any but KEY_INDEX_OK the index holds what it held, but for key_index_insert_many, and nothing was written
  * but `count` and `cycled`. */
 typedef enum key_index_status {
     KEY_INDEX_OK = 0,
     KEY_INDEX_MEMORY = 1,      /* an allocation failed */
     KEY_INDEX_FULL = 2,        /* the index holds SIZE_MAX values */
-    KEY_INDEX_TOO_FAR = 3,     /* no index of the kinds below answers this */
+    KEY_INDEX_TOO_FAR = 3,     /* a position is SIZE_MAX or more past the start of an immutable index */
     KEY_INDEX_BAD_ARGUMENT = 4 /* see above */
 } key_index_status;
 
@@ -94,8 +104,15 @@ struct key_index_counts {
     size_t items;
     uint64_t pruned;
 };
+struct key_index_position_counts {
+    size_t items;
+    uint64_t start;
+    uint64_t pruned;
+};
 enum { KEY_INDEX_NEXT, KEY_INDEX_PREV, KEY_INDEX_FIRST, KEY_INDEX_LAST };
+enum { KEY_INDEX_IMMUTABLE_PLAIN = 7, KEY_INDEX_IMMUTABLE_SEEDED = 8 };
 uint32_t key_index_c_new(key_index *index, uint32_t kind, uint64_t seed);
+uint32_t key_index_c_new_immutable(key_index *index, uint32_t kind, uint64_t seed, uint64_t start, size_t capacity);
 void key_index_c_free(key_index *index);
 uint32_t key_index_c_insert(key_index *index, const uint8_t *key, size_t key_len, uint64_t value);
 struct key_index_many key_index_c_insert_many(key_index *index, const uint8_t *keys, size_t keys_len, const size_t *ends,
@@ -111,6 +128,11 @@ uint32_t key_index_c_keep(key_index *index, const uint8_t *key, size_t key_len, 
 struct key_index_counts key_index_c_counts(key_index *index);
 struct key_index_neighbour key_index_c_neighbour(key_index *index, uint32_t which, const uint8_t *key, size_t key_len, uint64_t *values,
                                                  size_t room);
+uint32_t key_index_c_insert_at(key_index *index, const uint8_t *key, size_t key_len, uint64_t position);
+size_t key_index_c_positions(key_index *index, const uint8_t *key, size_t key_len, uint64_t *positions, size_t room);
+bool key_index_c_is_indexed(key_index *index, uint64_t position);
+void key_index_c_prune(key_index *index, uint64_t start);
+struct key_index_position_counts key_index_c_position_counts(key_index *index);
 
 /* Whether an index was made, and a key and a buffer can be passed. A pointer that is null has to have the length 0. */
 static inline bool key_index_is_made(const key_index *index) {
@@ -282,6 +304,81 @@ static inline key_index_status key_index_first(key_index *index, uint64_t *value
 static inline key_index_status key_index_last(key_index *index, uint64_t *values, size_t room, size_t *count) {
     bool cycled = false;
     return key_index_neighbour(index, KEY_INDEX_LAST, NULL, 0, values, room, count, &cycled);
+}
+
+/* Immutable indices
+ *
+ * Each key is inserted once, at a position of its own, as a record's is in a log that only grows; positions come mostly in order, and
+ * are removed from the front alone. The index keeps the first eight bytes of each key, in one row of memory by position, and so holds
+ * no list: ask for a key, and it answers the positions of all keys with the same first eight bytes, in no particular order.
+ *
+ * Keys whose eighth byte is always the same are found slowly, since a search begins where the low bits of the index key select: for keys
+ * shorter than eight bytes, and for those that an attacker picks, take a seeded one, which keeps eight bytes of a hash of the whole key. */
+
+/* What the two calls below make. */
+static inline key_index_status key_index_new_immutable_of(key_index_immutable *index, uint32_t kind, uint64_t seed, uint64_t start,
+                                                          size_t capacity) {
+    uint32_t status;
+    if (index == NULL || index->index.at != NULL) return KEY_INDEX_BAD_ARGUMENT;
+    status = key_index_c_new_immutable(&index->index, kind, seed, start, capacity);
+    if (status != KEY_INDEX_OK) index->index.at = NULL;
+    return (key_index_status)status;
+}
+
+/* Makes an index with no positions, whose first one is `start`, and with room for `capacity` insertions in order. KEY_INDEX_MEMORY. */
+static inline key_index_status key_index_immutable_new(key_index_immutable *index, uint64_t start, size_t capacity) {
+    return key_index_new_immutable_of(index, KEY_INDEX_IMMUTABLE_PLAIN, 0, start, capacity);
+}
+/* The same by hashes. Draw the seed at random at each start, and keep it secret. */
+static inline key_index_status key_index_immutable_new_seeded(key_index_immutable *index, uint64_t seed, uint64_t start,
+                                                              size_t capacity) {
+    return key_index_new_immutable_of(index, KEY_INDEX_IMMUTABLE_SEEDED, seed, start, capacity);
+}
+
+/* Frees an index, which is KEY_INDEX_IMMUTABLE_NONE then. Of null, or of none, it does nothing. */
+static inline void key_index_immutable_free(key_index_immutable *index) {
+    if (index != NULL) key_index_free(&index->index);
+}
+
+/* Indexes a key at a position. KEY_INDEX_BAD_ARGUMENT where the position is below the start, or indexed. KEY_INDEX_TOO_FAR where it is
+ * SIZE_MAX or more past the start. KEY_INDEX_MEMORY: the positions between take room, 8 bytes each. */
+static inline key_index_status key_index_immutable_insert(key_index_immutable *index, const void *key, size_t key_len,
+                                                          uint64_t position) {
+    if (index == NULL || !key_index_takes(&index->index, key, key_len, NULL, 0)) return KEY_INDEX_BAD_ARGUMENT;
+    return (key_index_status)key_index_c_insert_at(&index->index, key_index_bytes(key), key_len, position);
+}
+
+/* Writes the positions of a key to `positions`, each once and in no particular order, as many as there is room for, and to `count` how
+ * many the key has. If that is more than `room`, ask again with more room. */
+static inline key_index_status key_index_immutable_get(key_index_immutable *index, const void *key, size_t key_len,
+                                                       uint64_t *positions, size_t room, size_t *count) {
+    uint64_t none = 0;
+    if (index == NULL || count == NULL || !key_index_takes(&index->index, key, key_len, positions, room)) return KEY_INDEX_BAD_ARGUMENT;
+    *count = key_index_c_positions(&index->index, key_index_bytes(key), key_len, key_index_room(positions, &none), room);
+    return KEY_INDEX_OK;
+}
+
+/* Whether a position is indexed. false of none. */
+static inline bool key_index_immutable_is_indexed(key_index_immutable *index, uint64_t position) {
+    return index != NULL && key_index_is_made(&index->index) && key_index_c_is_indexed(&index->index, position);
+}
+
+/* Removes every position below `start`, which is the start from then on; one that was passed changes nothing. It takes no memory. */
+static inline key_index_status key_index_immutable_prune(key_index_immutable *index, uint64_t start) {
+    if (index == NULL || !key_index_is_made(&index->index)) return KEY_INDEX_BAD_ARGUMENT;
+    key_index_c_prune(&index->index, start);
+    return KEY_INDEX_OK;
+}
+
+/* How many positions are indexed, where the index starts, and how many were ever pruned (that count stops at UINT64_MAX). 0 of none. */
+static inline size_t key_index_immutable_items(key_index_immutable *index) {
+    return index != NULL && key_index_is_made(&index->index) ? key_index_c_position_counts(&index->index).items : 0;
+}
+static inline uint64_t key_index_immutable_start(key_index_immutable *index) {
+    return index != NULL && key_index_is_made(&index->index) ? key_index_c_position_counts(&index->index).start : 0;
+}
+static inline uint64_t key_index_immutable_pruned(key_index_immutable *index) {
+    return index != NULL && key_index_is_made(&index->index) ? key_index_c_position_counts(&index->index).pruned : 0;
 }
 
 #ifdef __cplusplus

@@ -135,12 +135,70 @@ static bool session(key_index_kind kind) {
     return allocations >= refused;
 }
 
+/* The same of an immutable index: keys by position, of which those below the start are gone. */
+static bool immutable_session(bool seeded) {
+    enum { PLACES = 300, FIRST = 1000 };
+    static uint8_t keys[PLACES]; /* 0 where a position is not indexed */
+    const int kind = seeded ? KEY_INDEX_IMMUTABLE_SEEDED : KEY_INDEX_IMMUTABLE_PLAIN;
+    key_index_immutable index = KEY_INDEX_IMMUTABLE_NONE;
+    key_index_status status = seeded ? key_index_immutable_new_seeded(&index, 7, FIRST, 3) : key_index_immutable_new(&index, FIRST, 3);
+    uint64_t random = 88172645463325252u, start = 0, pruned = 0;
+    int i;
+    memset(keys, 0, sizeof keys);
+    if (status != KEY_INDEX_OK) CHECK(status == KEY_INDEX_MEMORY && index.index.at == NULL && allocations >= refused && blocks == 0);
+    if (status != KEY_INDEX_OK) return true;
+    for (i = 0; i < PLACES; i++) {
+        uint64_t found[PLACES], at, items = 0;
+        uint8_t key[8] = {0}, asked[8] = {0};
+        size_t count, room = i % 2 ? PLACES : 2, place, many = 0;
+        long before = allocations;
+        random ^= random << 13, random ^= random >> 7, random ^= random << 17;
+        at = random % 4 ? (uint64_t)i : random / 4 % PLACES;
+        key[0] = (uint8_t)(1 + (random >> 20) % 9);
+        asked[0] = (uint8_t)(1 + (random >> 30) % 9);
+        status = key_index_immutable_insert(&index, key, sizeof key, FIRST + at);
+        if (at < start || keys[at] != 0) CHECK(status == KEY_INDEX_BAD_ARGUMENT && allocations == before);
+        else CHECK(status == (before < refused && refused <= allocations ? KEY_INDEX_MEMORY : KEY_INDEX_OK));
+        if (status == KEY_INDEX_OK) keys[at] = key[0];
+        if (random % 32 == 0) {
+            uint64_t bound = random / 32 % (uint64_t)(i + 1);
+            before = allocations;
+            CHECK(key_index_immutable_prune(&index, FIRST + bound) == KEY_INDEX_OK && allocations == before);
+            for (; start < bound; start++) pruned += keys[start] != 0, keys[start] = 0;
+        }
+        CHECK(key_index_immutable_get(&index, asked, sizeof asked, found, room, &count) == KEY_INDEX_OK);
+        for (place = 0; place < PLACES; place++) {
+            CHECK(key_index_immutable_is_indexed(&index, FIRST + place) == (keys[place] != 0));
+            items += keys[place] != 0;
+            many += keys[place] == asked[0];
+        }
+        CHECK(count == many);
+        for (place = 0; place < count && place < room; place++) {
+            CHECK(found[place] - FIRST < PLACES && keys[found[place] - FIRST] == asked[0]);
+            for (at = 0; at < place; at++) CHECK(found[at] != found[place]);
+        }
+        CHECK(key_index_immutable_items(&index) == items && key_index_immutable_start(&index) == FIRST + start);
+        CHECK(key_index_immutable_pruned(&index) == pruned);
+    }
+    CHECK(pruned > 0 && blocks > 0);
+    key_index_immutable_free(&index);
+    CHECK(blocks == 0 && index.index.at == NULL);
+    return allocations >= refused;
+}
+
 int main(void) {
     int kind;
     for (kind = KEY_INDEX_UNORDERED; kind <= KEY_INDEX_ORDERED_BY_TWO; kind++) {
         for (refused = 1;; refused++) {
             allocations = 0;
             if (!session((key_index_kind)kind)) break;
+        }
+        if (refused < 10) return 1;
+    }
+    for (kind = 0; kind < 2; kind++) {
+        for (refused = 1;; refused++) {
+            allocations = 0;
+            if (!immutable_session(kind == 1)) break;
         }
         if (refused < 10) return 1;
     }

@@ -4,7 +4,7 @@
 --     start_of         where the key of a number begins, among keys that stand behind one another, by where each ends; key_of: that key
 --     AreKeys          these are the ends of so many keys
 --     after_inserts    the first so many keys and values are inserted, in turn
---     values_of        the values of the first so many keys, those of a key behind those of the key before it
+--     lists_of         the lists of the first so many keys, that of a key behind that of the key before it; values_of: those of an index
 --     counted          how many values these are, as far as a usize goes
 --     ShowsMany        what is told of so many keys: how many values they have, the buffer then, and where those of each key end
 --     if_ordered       a neighbour of an index that has an order, and else none
@@ -43,9 +43,12 @@ after_inserts first s keys ends values zero = s
 after_inserts first s keys ends values (suc n) =
     after_insert first (after_inserts first s keys ends values n) (key_of keys ends n) (slice_index values n)
 
+abbrev pub lists_of : (List ℕ → List ℕ) → List ℕ → List ℕ → ℕ → List ℕ
+lists_of list keys ends zero = []
+lists_of list keys ends (suc n) = lists_of list keys ends n ++ list (key_of keys ends n)
+
 abbrev pub values_of : AnyView → List ℕ → List ℕ → ℕ → List ℕ
-values_of s keys ends zero = []
-values_of s keys ends (suc n) = values_of s keys ends n ++ values_under s (key_of keys ends n)
+values_of s keys ends = lists_of (values_under s) keys ends
 
 abbrev pub counted : List ℕ → ℕ
 counted values = min (length values) (2 ^ 64 - 1)

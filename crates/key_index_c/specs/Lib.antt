@@ -4,5 +4,6 @@ pub mod Calls
 pub mod Changes
 pub mod Handle
 pub mod Held
+pub mod Positions
 pub mod Status
 pub mod Views

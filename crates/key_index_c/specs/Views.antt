@@ -1,6 +1,6 @@
 -- An index as contracts see it, by index keys that are numbers, or pairs of a partition's number and such a key; and what calls leave of
 -- it and tell, each as of a view of that kind.
-use Rattle.std.specs.Prelude.{ℕ, Bool, List, Option}
+use Rattle.std.specs.Prelude.{ℕ, Bool, true, List, [], Option}
 use Rattle.std.specs.Ordering.{nat_cmp}
 use Rattle.key_index_flat.specs.View as view
 use Rattle.key_index_flat.specs.View.{View, run_of}
@@ -12,6 +12,10 @@ use Rattle.key_index_c.specs.declared.any.Counts.{Counts}
 pub data AnyView : Type 0 where
   ByNumber : View ℕ ℕ → AnyView
   ByPair : View (ℕ × ℕ) ℕ → AnyView
+
+-- that of what is no such index
+abbrev pub no_view : AnyView
+no_view = ByNumber (record { content = []; pruned = 0; slot = λ _. 0; admitted = λ _. true })
 
 abbrev pub values_under : AnyView → List ℕ → List ℕ
 values_under (ByNumber s) key = run_of nat_cmp s key

@@ -2,15 +2,16 @@
 ghost use Rattle.std.specs.Prelude.{◌≡◌, ◌≢◌, ◌<◌, ◌⊎◌, ◌↔◌, ◌&&◌, [], true, false, length, is_some, IfOk, IfErr, IfSome, IsTrue, nat_lt};
 ghost use Rattle.key_index_flat.specs.View as view;
 ghost use Rattle.key_index_flat.specs.View.{run_of};
-ghost use Rattle.key_index_c.specs.Any.{IsNew, any_view, held_under, inserts_first, is_ordered, kind_of, may_want};
+ghost use Rattle.key_index_c.specs.Any.{HasLists, IsNew, any_view, held_under, inserts_first, is_ordered, kind_of, may_want};
 ghost use Rattle.key_index_c.specs.Buffer.{filled};
-ghost use Rattle.key_index_c.specs.Calls.{AreKeys, Shows, ShowsMany, after_inserts, found_in, place_of, values_of};
+ghost use Rattle.key_index_c.specs.Calls.{AreKeys, Shows, ShowsMany, after_inserts, found_in, lists_of, place_of, values_of};
 ghost use Rattle.key_index_c.specs.Changes as change;
 ghost use Rattle.key_index_c.specs.Changes.{neighbour_list, not_cycled};
 ghost use Rattle.key_index_c.specs.Status.{kind_refusal, status_of};
 ghost use Rattle.key_index_c.specs.Views.{after_insert, after_kept, after_remove, after_removed, after_replaced, counts_in, growth_fault_in, items_in, neighbour_of};
 
 use crate::status::{self, BAD_ARGUMENT, MEMORY, OK};
+use key_index::index::immutable;
 use key_index_flat::index::implement::Lists;
 use key_index_flat::index::{Factory, Ordered, Unordered, Values, ordered, unordered};
 use key_index_flat::translator::{EightCap, Hashed, SeededSha256};
@@ -34,6 +35,10 @@ pub enum Any {
     OrderedByOne(partitioned::ordered::Index<EightCap, u64, 1>),
     /// Sorted arrays or trees, in partitions by the first two bytes.
     OrderedByTwo(partitioned::ordered::Index<EightCap, u64, 2>),
+    /// By position: keys that are inserted once, and removed by position alone.
+    Immutable(immutable::Index<EightCap>),
+    /// The same by a hash of whole keys that a seed picks.
+    ImmutableSeeded(immutable::Index<Hashed<EightCap, SeededSha256>>),
 }
 
 /// The kind of an unordered index.
@@ -104,7 +109,7 @@ pub struct Many {
     pub status: u32,
 }
 
-// A call that is the same for an index of each kind.
+// A call that is the same for an index of each kind that has lists.
 macro_rules! each {
     ($any:expr, $index:ident => $call:expr) => {
         match $any {
@@ -115,16 +120,7 @@ macro_rules! each {
             Any::UnorderedByTwo($index) => $call,
             Any::OrderedByOne($index) => $call,
             Any::OrderedByTwo($index) => $call,
-        }
-    };
-}
-
-// An index of a kind, or why none was made.
-macro_rules! made {
-    ($kind:path, $index:expr) => {
-        match $index {
-            Ok(index) => Ok($kind(index)),
-            Err(_) => Err(MEMORY),
+            Any::Immutable(_) | Any::ImmutableSeeded(_) => unreachable!(),
         }
     };
 }
@@ -153,6 +149,7 @@ impl Any {
 
     /// Inserts a value under a key, and tells the status.
     pub(crate) fn insert(&mut self, key: &[u8], value: u64) -> u32
+        requires lists { HasLists (kind_of self.old) }
         ensures kind { kind_of self.new ≡ kind_of self.old }
         ensures accepted { result ≡ OK
             → any_view self.new ≡ after_insert (inserts_first (kind_of self.old)) (any_view self.old) key.now value }
@@ -165,6 +162,7 @@ impl Any {
 
     /// Inserts values under keys that stand behind one another, each up to its end, until one is refused.
     pub(crate) fn insert_many(&mut self, keys: &[u8], ends: &[usize], values: &[u64]) -> Many
+        requires lists { HasLists (kind_of self.old) }
         requires keys { AreKeys keys.now ends.now (length values.now) }
         ensures kind { kind_of self.new ≡ kind_of self.old }
         ensures inserted { any_view self.new ≡ after_inserts (inserts_first (kind_of self.old))
@@ -189,6 +187,7 @@ impl Any {
 
     /// Writes the values of a key to a buffer, as many as it has room for, and tells how many the key has.
     pub(crate) fn get(&self, key: &[u8], buffer: &mut [u64]) -> usize
+        requires lists { HasLists (kind_of self.now) }
         ensures count { result ≡ length (held_under self.now key.now) }
         ensures values { buffer.new ≡ filled (held_under self.now key.now) buffer.old }
     {
@@ -204,25 +203,19 @@ impl Any {
         buffer: &mut [u64],
         stops: &mut [usize],
     ) -> usize
+        requires lists { HasLists (kind_of self.now) }
         requires keys { AreKeys keys.now ends.now (length stops.old) }
         ensures { ShowsMany (values_of (any_view self.now) keys.now ends.now)
             (length ends.now) result buffer.old buffer.new stops.new }
     {
-        let mut start = 0;
-        let mut count: usize = 0;
-        for (number, end) in ends.iter().enumerate() {
-            let from = count.min(buffer.len());
-            count = count.saturating_add(self.get(&keys[start..*end], &mut buffer[from..]));
-            stops[number] = count;
-            start = *end;
-        }
-        count
+        each!(self, index => get_many(index, keys, ends, buffer, stops))
     }
 
     /// How many values a key has, and the first one. A flat unordered index is the one whose look-ups cost least, so this is inlined with
     /// that of its look-up, and calls those of the others.
     #[inline(always)]
     pub(crate) fn find(&self, key: &[u8]) -> Found
+        requires { HasLists (kind_of self.now) }
         ensures { result ≡ found_in (held_under self.now key.now) }
     {
         match self {
@@ -233,6 +226,7 @@ impl Any {
 
     #[inline(never)]
     fn find_apart(&self, key: &[u8]) -> Found
+        requires { HasLists (kind_of self.now) }
         ensures { result ≡ found_in (held_under self.now key.now) }
     {
         each!(self, index => front(index, key))
@@ -240,6 +234,7 @@ impl Any {
 
     /// Removes a key with all its values, and tells the status.
     pub(crate) fn remove(&mut self, key: &[u8]) -> u32
+        requires lists { HasLists (kind_of self.old) }
         ensures kind { kind_of self.new ≡ kind_of self.old }
         ensures removed { result ≡ OK → any_view self.new ≡ after_remove (any_view self.old) key.now }
         ensures refused { result ≢ OK → any_view self.new ≡ any_view self.old }
@@ -250,6 +245,7 @@ impl Any {
 
     /// Removes the first value of a key that equals a value, and tells whether there was one.
     pub(crate) fn remove_value(&mut self, key: &[u8], value: u64) -> bool
+        requires lists { HasLists (kind_of self.old) }
         ensures kind { kind_of self.new ≡ kind_of self.old }
         ensures found { result ≡ is_some (place_of value (held_under self.old key.now)) }
         ensures removed { any_view self.new ≡ after_removed (any_view self.old) key.now
@@ -260,6 +256,7 @@ impl Any {
 
     /// Puts another value in the place of the first value of a key that equals a value, and tells whether there was one.
     pub(crate) fn replace_value(&mut self, key: &[u8], value: u64, new: u64) -> bool
+        requires lists { HasLists (kind_of self.old) }
         ensures kind { kind_of self.new ≡ kind_of self.old }
         ensures found { result ≡ is_some (place_of value (held_under self.old key.now)) }
         ensures replaced { any_view self.new ≡ after_replaced (any_view self.old) key.now
@@ -270,7 +267,8 @@ impl Any {
 
     /// Keeps those values of a key whose byte of a mask is not 0, and tells the status.
     pub(crate) fn keep(&mut self, key: &[u8], mask: &[u8]) -> u32
-        requires { length mask.now ≡ length (held_under self.old key.now) }
+        requires lists { HasLists (kind_of self.old) }
+        requires mask { length mask.now ≡ length (held_under self.old key.now) }
         ensures kind { kind_of self.new ≡ kind_of self.old }
         ensures kept { result ≡ OK → any_view self.new ≡ after_kept (any_view self.old) key.now mask.now }
         ensures refused { result ≢ OK → any_view self.new ≡ any_view self.old }
@@ -281,6 +279,7 @@ impl Any {
 
     /// How many keys and values there are, and how many values were ever removed.
     pub(crate) fn counts(&self) -> Counts
+        requires { HasLists (kind_of self.now) }
         ensures { result ≡ counts_in (any_view self.now) }
     {
         each!(self, index => Counts {
@@ -292,6 +291,7 @@ impl Any {
 
     /// Writes the values of a neighbour of a key, told by a number.
     pub(crate) fn neighbour(&self, which: u32, key: &[u8], buffer: &mut [u64]) -> Neighbour
+        requires { HasLists (kind_of self.now) }
         ensures { Shows (is_ordered (kind_of self.now) && nat_lt which 4)
             (neighbour_of which (any_view self.now) key.now) result buffer.old buffer.new }
     {
@@ -301,6 +301,7 @@ impl Any {
             Any::OrderedByTwo(index) => show_neighbour(index, which, key, buffer),
             Any::Unordered(_) | Any::Seeded(_) => no_order(),
             Any::UnorderedByOne(_) | Any::UnorderedByTwo(_) => no_order(),
+            Any::Immutable(_) | Any::ImmutableSeeded(_) => unreachable!(),
         }
     }
 }
@@ -317,6 +318,30 @@ fn insert<I: Unordered<Value = u64>>(index: &mut I, key: &[u8], value: u64) -> u
         Ok(()) => OK,
         Err(refused) => status::of(refused.fault),
     }
+}
+
+/// Writes the values of many keys to a buffer, and where those of each key end, and tells how many there are, as far as a `usize` goes.
+fn get_many<I: Unordered<Value = u64>>(
+    index: &I,
+    keys: &[u8],
+    ends: &[usize],
+    buffer: &mut [u64],
+    stops: &mut [usize],
+) -> usize
+    requires { AreKeys keys.now ends.now (length stops.old) }
+    ensures { ShowsMany (lists_of (run_of I.Key.cmp (I.view index.now)) keys.now ends.now)
+        (length ends.now) result buffer.old buffer.new stops.new }
+{
+    let mut start = 0;
+    let mut count: usize = 0;
+    for (number, end) in ends.iter().enumerate() {
+        let from = count.min(buffer.len());
+        let values = index.get(&keys[start..*end]);
+        count = count.saturating_add(copy(values, &mut buffer[from..]));
+        stops[number] = count;
+        start = *end;
+    }
+    count
 }
 
 /// Removes a key with all its values, and tells the status.

@@ -4,18 +4,30 @@
 //! caller owes (`requires`) and what the call leaves (`ensures`).
 #![tactic(auto)]
 
-ghost use Rattle.std.specs.Prelude.{◌≡◌, ◌≢◌, ◌<◌, ◌⊎◌, ◌&&◌, None, length, is_some, IsTrue, nat_lt};
-ghost use Rattle.key_index_c.specs.Any.{IsNew, inserts_first, is_ordered, may_want};
+ghost use Rattle.std.specs.Prelude.{◌≡◌, ◌≢◌, ◌<◌, ◌↔◌, ◌⊎◌, ◌&&◌, None, length, is_some, IsSome, IsTrue, nat_lt};
+ghost use Rattle.key_index_c.specs.Any.{IsNew, IsNewImmutable, inserts_first, is_ordered, may_want};
 ghost use Rattle.key_index_c.specs.Buffer.{filled};
 ghost use Rattle.key_index_c.specs.Calls.{AreKeys, Shows, ShowsMany, after_inserts, found_in, place_of, values_of};
-ghost use Rattle.key_index_c.specs.Held.{IsMade, Keeps, StaysMade, kind_in, values_in, view_in};
-ghost use Rattle.key_index_c.specs.Status.{kind_refusal, status_of};
+ghost use Rattle.key_index_c.specs.Held.{IsImmutable, IsMade, Keeps, StaysMade, kind_in, positions_in, values_in, view_in};
+ghost use Rattle.key_index_c.specs.Positions.{AreCounts, IsInserted, IsPruned, Refuses, ShowsPositions};
+ghost use Rattle.key_index_c.specs.Status.{immutable_refusal, kind_refusal, status_of};
 ghost use Rattle.key_index_c.specs.Views.{after_insert, after_kept, after_remove, after_removed, after_replaced, counts_in, growth_fault_in, items_in, neighbour_of};
 
 use std::alloc::Global;
 
+// An index of a kind, or why none was made.
+macro_rules! made {
+    ($kind:path, $index:expr) => {
+        match $index {
+            Ok(index) => Ok($kind(index)),
+            Err(_) => Err(MEMORY),
+        }
+    };
+}
+
 mod any;
 mod handle;
+mod immutable;
 mod status;
 
 // A call of the index in a handle.
@@ -28,12 +40,29 @@ macro_rules! call {
     }};
 }
 
+// A new index is put into a handle, if it was made.
+macro_rules! put {
+    ($handle:ident, $alloc:ident, $any:expr) => {
+        match $any {
+            Ok(any) => match Box::new($alloc, any) {
+                Ok(made) => {
+                    $handle.put(made);
+                    OK
+                }
+                Err(_) => MEMORY,
+            },
+            Err(status) => status,
+        }
+    };
+}
+
 pub use any::{
     Any, Counts, FIRST, Found, LAST, Many, NEXT, Neighbour, ORDERED, ORDERED_BY_ONE,
     ORDERED_BY_TWO, PREV, SEEDED, UNORDERED, UNORDERED_BY_ONE, UNORDERED_BY_TWO,
 };
 use any::{are_keys, no_keys};
 pub use handle::Handle;
+pub use immutable::{IMMUTABLE, IMMUTABLE_SEEDED, PositionCounts};
 pub use status::{BAD_ARGUMENT, FULL, MEMORY, OK, TOO_FAR};
 
 /// Makes an index of a kind. Only a seeded one takes the seed.
@@ -45,22 +74,36 @@ pub extern "C" fn key_index_c_new(alloc: Global, handle: &mut Handle, kind: u32,
     ensures refused { result ≢ OK → handle.new.held ≡ None }
     ensures status { (result ≡ OK) ⊎ (result ≡ kind_refusal kind) }
 {
-    match Any::new(alloc, kind, seed) {
-        Ok(any) => match Box::new(alloc, any) {
-            Ok(made) => {
-                handle.put(made);
-                OK
-            }
-            Err(_) => MEMORY,
-        },
-        Err(status) => status,
-    }
+    put!(handle, alloc, Any::new(alloc, kind, seed))
 }
 
-/// Frees an index.
+/// Makes an immutable index of a kind, from a start on, with room for so many insertions in order. Only a seeded one takes the seed.
+#[unsafe(no_mangle)]
+pub extern "C" fn key_index_c_new_immutable(
+    alloc: Global,
+    handle: &mut Handle,
+    kind: u32,
+    seed: u64,
+    start: u64,
+    capacity: usize,
+) -> u32
+    requires fresh { handle.old.held ≡ None }
+    ensures made { result ≡ OK → IsImmutable handle.new }
+    ensures fresh { result ≡ OK → IsNewImmutable kind seed start (kind_in handle.new) (positions_in handle.new) }
+    ensures refused { result ≢ OK → handle.new.held ≡ None }
+    ensures status { (result ≡ OK) ⊎ (result ≡ immutable_refusal kind) }
+{
+    put!(
+        handle,
+        alloc,
+        Any::new_immutable(alloc, kind, seed, start, capacity)
+    )
+}
+
+/// Frees an index of any kind.
 #[unsafe(no_mangle)]
 pub extern "C" fn key_index_c_free(alloc: Global, handle: &mut Handle)
-    requires made { IsMade handle.old }
+    requires made { IsSome handle.old.held }
     ensures freed { handle.new.held ≡ None }
 {
     let _ = handle.take(alloc);
@@ -261,4 +304,66 @@ pub extern "C" fn key_index_c_neighbour(
         (neighbour_of which (view_in handle.old) key.now) result buffer.old buffer.new }
 {
     call!(handle, alloc, any => any.neighbour(which, key, buffer))
+}
+
+/// Indexes a key at a position of an immutable index.
+#[unsafe(no_mangle)]
+pub extern "C" fn key_index_c_insert_at(
+    alloc: Global,
+    handle: &mut Handle,
+    key: &[u8],
+    position: u64,
+) -> u32
+    requires made { IsImmutable handle.old }
+    ensures made { StaysMade handle.old handle.new }
+    ensures inserted { result ≡ OK → IsInserted (positions_in handle.old) key.now position (positions_in handle.new) }
+    ensures refused { result ≢ OK → positions_in handle.new ≡ positions_in handle.old }
+    ensures status { Refuses (positions_in handle.old) position result }
+{
+    call!(handle, alloc, any => any.insert_at(key, position))
+}
+
+/// Writes the positions of a key to a buffer, as many as it has room for, and tells how many the key has.
+#[unsafe(no_mangle)]
+pub extern "C" fn key_index_c_positions(
+    alloc: Global,
+    handle: &mut Handle,
+    key: &[u8],
+    buffer: &mut [u64],
+) -> usize
+    requires made { IsImmutable handle.old }
+    ensures same { Keeps handle.old handle.new }
+    ensures shown { ShowsPositions (positions_in handle.old) key.now result buffer.old buffer.new }
+{
+    call!(handle, alloc, any => any.positions(key, buffer))
+}
+
+/// Whether a key is indexed at a position.
+#[unsafe(no_mangle)]
+pub extern "C" fn key_index_c_is_indexed(alloc: Global, handle: &mut Handle, position: u64) -> bool
+    requires made { IsImmutable handle.old }
+    ensures same { Keeps handle.old handle.new }
+    ensures indexed { IsTrue result ↔ IsSome ((positions_in handle.old).keys position) }
+{
+    call!(handle, alloc, any => any.is_indexed(position))
+}
+
+/// Removes every position below one, which is the start from then on, if it isn't below the start.
+#[unsafe(no_mangle)]
+pub extern "C" fn key_index_c_prune(alloc: Global, handle: &mut Handle, start: u64)
+    requires made { IsImmutable handle.old }
+    ensures made { StaysMade handle.old handle.new }
+    ensures pruned { IsPruned (positions_in handle.old) start (positions_in handle.new) }
+{
+    call!(handle, alloc, any => any.prune(start))
+}
+
+/// How many positions are indexed, where the index starts, and how many were ever pruned.
+#[unsafe(no_mangle)]
+pub extern "C" fn key_index_c_position_counts(alloc: Global, handle: &mut Handle) -> PositionCounts
+    requires made { IsImmutable handle.old }
+    ensures same { Keeps handle.old handle.new }
+    ensures counts { AreCounts (positions_in handle.old) result }
+{
+    call!(handle, alloc, any => any.position_counts())
 }

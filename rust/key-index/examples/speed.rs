@@ -55,6 +55,21 @@ fn sum<K: Kind>(index: &Index<K>, keys: &[[u8; 32]]) -> u64 {
         .fold(0, u64::wrapping_add)
 }
 
+/// The sum of the values of keys that stand behind one another, by batches of 1,024.
+fn sum_of_many<K: Kind>(index: &Index<K>, keys: &[u8]) -> Result<u64, Error> {
+    let ends: Vec<usize> = (1..=1024).map(|count| count * 32).collect();
+    let (mut values, mut stops) = (Vec::new(), Vec::new());
+    let mut sum: u64 = 0;
+    for batch in keys.chunks(1024 * 32) {
+        let ends = &ends[..batch.len() / 32];
+        index.get_many(batch, ends, &mut values, &mut stops)?;
+        sum = values
+            .iter()
+            .fold(sum, |sum, value| sum.wrapping_add(*value));
+    }
+    Ok(sum)
+}
+
 fn measure<K: Kind>(mut index: Index<K>, many: usize) -> Result<(), Error> {
     let mut present = keys(0x9E37_79B9_7F4A_7C05, many);
     let absent = keys(0xD1B5_4A32_D192_ED03, many);
@@ -66,6 +81,8 @@ fn measure<K: Kind>(mut index: Index<K>, many: usize) -> Result<(), Error> {
     })?;
     shuffle(&mut present);
     line("get", many, || Ok(sum(&index, &present)))?;
+    let behind_one_another = present.concat();
+    line("many", many, || sum_of_many(&index, &behind_one_another))?;
     line("miss", many, || Ok(sum(&index, &absent)))?;
     line("contains", many, || {
         Ok(present

@@ -42,8 +42,18 @@ pub struct Counts {
     pub pruned: u64,
 }
 
+/// What an immutable index counts.
+#[repr(C)]
+#[derive(Clone, Copy, Debug, PartialEq, Eq)]
+pub struct PositionCounts {
+    pub items: usize,
+    pub start: u64,
+    pub pruned: u64,
+}
+
 pub const OK: u32 = 0;
 pub const FULL: u32 = 2;
+pub const TOO_FAR: u32 = 3;
 pub const BAD_ARGUMENT: u32 = 4;
 
 pub const UNORDERED: u32 = 0;
@@ -53,6 +63,8 @@ pub const UNORDERED_BY_ONE: u32 = 3;
 pub const UNORDERED_BY_TWO: u32 = 4;
 pub const ORDERED_BY_ONE: u32 = 5;
 pub const ORDERED_BY_TWO: u32 = 6;
+pub const IMMUTABLE: u32 = 7;
+pub const IMMUTABLE_SEEDED: u32 = 8;
 
 pub const NEXT: u32 = 0;
 pub const PREV: u32 = 1;
@@ -63,44 +75,26 @@ pub const LAST: u32 = 3;
 type At = *mut Handle;
 type Key = *const u8;
 
-// Each pointer but a handle's goes with the length behind it.
+// Each pointer but a handle's goes with the length behind it. A line each, as in the header.
+#[rustfmt::skip]
 extern "C" {
     pub fn key_index_c_new(at: At, kind: u32, seed: u64) -> u32;
+    pub fn key_index_c_new_immutable(at: At, kind: u32, seed: u64, start: u64, capacity: usize) -> u32;
     pub fn key_index_c_free(at: At);
     pub fn key_index_c_insert(at: At, key: Key, len: usize, value: u64) -> u32;
-    pub fn key_index_c_insert_many(
-        at: At,
-        keys: Key,
-        len: usize,
-        ends: *const usize,
-        count: usize,
-        values: *const u64,
-        count_again: usize,
-    ) -> Many;
+    pub fn key_index_c_insert_many(at: At, keys: Key, len: usize, ends: *const usize, n: usize, values: *const u64, n_again: usize) -> Many;
     pub fn key_index_c_get(at: At, key: Key, len: usize, values: *mut u64, room: usize) -> usize;
-    pub fn key_index_c_get_many(
-        at: At,
-        keys: Key,
-        len: usize,
-        ends: *const usize,
-        count: usize,
-        values: *mut u64,
-        room: usize,
-        stops: *mut usize,
-        count_again: usize,
-    ) -> Many;
+    pub fn key_index_c_get_many(at: At, keys: Key, len: usize, ends: *const usize, n: usize, values: *mut u64, room: usize, stops: *mut usize, n_again: usize) -> Many;
     pub fn key_index_c_find(at: At, key: Key, len: usize) -> Found;
     pub fn key_index_c_remove(at: At, key: Key, len: usize) -> u32;
     pub fn key_index_c_remove_value(at: At, key: Key, len: usize, value: u64) -> bool;
     pub fn key_index_c_replace_value(at: At, key: Key, len: usize, value: u64, with: u64) -> bool;
     pub fn key_index_c_keep(at: At, key: Key, len: usize, mask: Key, mask_len: usize) -> u32;
     pub fn key_index_c_counts(at: At) -> Counts;
-    pub fn key_index_c_neighbour(
-        at: At,
-        which: u32,
-        key: Key,
-        len: usize,
-        values: *mut u64,
-        room: usize,
-    ) -> Neighbour;
+    pub fn key_index_c_neighbour(at: At, which: u32, key: Key, len: usize, values: *mut u64, room: usize) -> Neighbour;
+    pub fn key_index_c_insert_at(at: At, key: Key, len: usize, position: u64) -> u32;
+    pub fn key_index_c_positions(at: At, key: Key, len: usize, positions: *mut u64, room: usize) -> usize;
+    pub fn key_index_c_is_indexed(at: At, position: u64) -> bool;
+    pub fn key_index_c_prune(at: At, start: u64);
+    pub fn key_index_c_position_counts(at: At) -> PositionCounts;
 }

@@ -3,7 +3,8 @@
 //! A store that keeps its records in a log inserts the position of each record under the record's key. The index keeps the first
 //! eight bytes of the key and the position. It returns the positions of the records that may match a key, and the store compares the
 //! full keys. Keys that agree in their first eight bytes share one list, the newest value first; a shorter key counts as if zeros
-//! stood behind it. A [`Seeded`] index keeps eight bytes of a hash of the whole key instead.
+//! stood behind it. A [`Seeded`] index keeps eight bytes of a hash of the whole key instead. An [`Immutable`] one has keys by position,
+//! which are inserted once and removed from the front.
 //!
 //! ```
 //! use key_index::{Index, Ordered};
@@ -21,16 +22,19 @@
 //! ```
 //!
 //! What is proved is the contract of each function that this crate calls, for callers that keep its conditions. This crate keeps them:
-//! an index is made by [`Index::new`] and freed once, a call has it alone, and a pointer goes with its own length. Nobody checks that
+//! an index is made by its `new` and freed once, a call has it alone, and a pointer goes with its own length. Nobody checks that
 //! the declarations in `ffi.rs` agree with the library's; a test compares sizes, and makes each call.
 
 #![warn(clippy::pedantic)]
 
 mod ffi;
+mod immutable;
+mod owned;
 mod values;
 
-use ffi::{Counts, Found, Handle};
-use std::cell::UnsafeCell;
+use ffi::{Counts, Found};
+pub use immutable::Immutable;
+use owned::Owned;
 use std::fmt;
 use std::marker::PhantomData;
 use values::written;
@@ -44,6 +48,10 @@ pub enum Error {
     Memory,
     /// The index holds `usize::MAX` values.
     Full,
+    /// The position is `usize::MAX` or more past the start.
+    TooFar,
+    /// The position is below the start, or indexed.
+    Position,
     /// The ends are none of so many keys.
     Ends,
 }
@@ -53,6 +61,8 @@ impl fmt::Display for Error {
         f.write_str(match self {
             Error::Memory => "refused memory",
             Error::Full => "refused full",
+            Error::TooFar => "refused far",
+            Error::Position => "refused position",
             Error::Ends => "the ends are none of so many keys",
         })
     }
@@ -60,11 +70,12 @@ impl fmt::Display for Error {
 
 impl std::error::Error for Error {}
 
-/// The error of a status. A call of this crate gets no other than these, and a bad argument only for ends.
+/// The error of a status. A call of this crate gets no other than these, and a bad argument only for ends, or for a position.
 fn answer(status: u32) -> Result<(), Error> {
     match status {
         ffi::OK => Ok(()),
         ffi::FULL => Err(Error::Full),
+        ffi::TOO_FAR => Err(Error::TooFar),
         ffi::BAD_ARGUMENT => Err(Error::Ends),
         _ => Err(Error::Memory),
     }
@@ -116,9 +127,7 @@ kinds! {
 /// std::thread::spawn(move || index.keys());
 /// ```
 pub struct Index<K: Kind> {
-    // The library takes the index out of the handle for a call, and puts it back. So a call by `&self` writes to the handle, which no other
-    // call sees: no call comes back to this crate, and the index goes to no other thread.
-    handle: UnsafeCell<Handle>,
+    owned: Owned,
     kind: PhantomData<K>,
 }
 
@@ -146,13 +155,10 @@ impl Index<Seeded> {
 
 impl<K: Kind> Index<K> {
     fn made(seed: u64) -> Result<Self, Error> {
-        let mut handle = Handle {
-            at: std::ptr::null_mut(),
-        };
         // SAFETY: the handle is fresh.
-        answer(unsafe { ffi::key_index_c_new(&mut handle, K::KIND, seed) })?;
+        let owned = Owned::made(|fresh| unsafe { ffi::key_index_c_new(fresh, K::KIND, seed) })?;
         Ok(Index {
-            handle: UnsafeCell::new(handle),
+            owned,
             kind: PhantomData,
         })
     }
@@ -164,9 +170,7 @@ impl<K: Kind> Index<K> {
     /// [`Error::Memory`], or [`Error::Full`] exactly if there are `usize::MAX` values.
     pub fn insert(&mut self, key: &[u8], value: u64) -> Result<(), Error> {
         // SAFETY: the index was made and is not freed, as in each call below, and the key goes with its length.
-        answer(unsafe {
-            ffi::key_index_c_insert(self.handle.get(), key.as_ptr(), key.len(), value)
-        })
+        answer(unsafe { ffi::key_index_c_insert(self.owned.at(), key.as_ptr(), key.len(), value) })
     }
 
     /// Inserts values in turn, each as [`Index::insert`] does. The keys stand behind one another in `keys`, each up to its end.
@@ -184,7 +188,7 @@ impl<K: Kind> Index<K> {
         // SAFETY: keys, ends and values go with their lengths.
         let told = unsafe {
             ffi::key_index_c_insert_many(
-                self.handle.get(),
+                self.owned.at(),
                 keys.as_ptr(),
                 keys.len(),
                 ends.as_ptr(),
@@ -199,7 +203,7 @@ impl<K: Kind> Index<K> {
     #[inline]
     fn find(&self, key: &[u8]) -> Found {
         // SAFETY: the key goes with its length.
-        unsafe { ffi::key_index_c_find(self.handle.get(), key.as_ptr(), key.len()) }
+        unsafe { ffi::key_index_c_find(self.owned.at(), key.as_ptr(), key.len()) }
     }
 
     /// The values of a key, in list order.
@@ -210,16 +214,14 @@ impl<K: Kind> Index<K> {
         if found.count < 2 {
             return Values::at_most_one(found.first, found.count);
         }
-        Values::of(self.several(key))
+        self.several(key)
     }
 
     #[cold]
-    fn several(&self, key: &[u8]) -> Box<[u64]> {
+    fn several(&self, key: &[u8]) -> Values {
         written(|values, room| {
             // SAFETY: the key and the room for values go with their lengths.
-            unsafe {
-                ffi::key_index_c_get(self.handle.get(), key.as_ptr(), key.len(), values, room)
-            }
+            unsafe { ffi::key_index_c_get(self.owned.at(), key.as_ptr(), key.len(), values, room) }
         })
     }
 
@@ -243,7 +245,7 @@ impl<K: Kind> Index<K> {
             // SAFETY: keys, ends, values and stops go with their lengths.
             let told = unsafe {
                 ffi::key_index_c_get_many(
-                    self.handle.get(),
+                    self.owned.at(),
                     keys.as_ptr(),
                     keys.len(),
                     ends.as_ptr(),
@@ -280,20 +282,20 @@ impl<K: Kind> Index<K> {
     /// [`Error::Memory`], of an ordered index in partitions alone.
     pub fn remove(&mut self, key: &[u8]) -> Result<(), Error> {
         // SAFETY: the key goes with its length.
-        answer(unsafe { ffi::key_index_c_remove(self.handle.get(), key.as_ptr(), key.len()) })
+        answer(unsafe { ffi::key_index_c_remove(self.owned.at(), key.as_ptr(), key.len()) })
     }
 
     /// Removes the first value of a key that equals `value`, and tells whether there was one. It takes no memory.
     pub fn remove_value(&mut self, key: &[u8], value: u64) -> bool {
         // SAFETY: the key goes with its length.
-        unsafe { ffi::key_index_c_remove_value(self.handle.get(), key.as_ptr(), key.len(), value) }
+        unsafe { ffi::key_index_c_remove_value(self.owned.at(), key.as_ptr(), key.len(), value) }
     }
 
     /// Puts `with` in the place of the first value of a key that equals `value`, and tells whether there was one. It takes no memory.
     pub fn replace_value(&mut self, key: &[u8], value: u64, with: u64) -> bool {
         // SAFETY: the key goes with its length.
         unsafe {
-            ffi::key_index_c_replace_value(self.handle.get(), key.as_ptr(), key.len(), value, with)
+            ffi::key_index_c_replace_value(self.owned.at(), key.as_ptr(), key.len(), value, with)
         }
     }
 
@@ -311,21 +313,16 @@ impl<K: Kind> Index<K> {
             .get(key)
             .map(|value| u8::from(should_retain(value)))
             .collect();
+        let at = self.owned.at();
         // SAFETY: the key and the mask go with their lengths. The mask has a byte for each value.
         answer(unsafe {
-            ffi::key_index_c_keep(
-                self.handle.get(),
-                key.as_ptr(),
-                key.len(),
-                mask.as_ptr(),
-                mask.len(),
-            )
+            ffi::key_index_c_keep(at, key.as_ptr(), key.len(), mask.as_ptr(), mask.len())
         })
     }
 
     fn counts(&self) -> Counts {
         // SAFETY: as above.
-        unsafe { ffi::key_index_c_counts(self.handle.get()) }
+        unsafe { ffi::key_index_c_counts(self.owned.at()) }
     }
 
     /// How many shortened keys there are.
@@ -382,30 +379,15 @@ impl<K: Neighbours> Index<K> {
 
     /// The values of a neighbour, and whether it was found around the end. No list is empty.
     fn neighbour(&self, which: u32, key: &[u8]) -> Option<(Values, bool)> {
+        let (at, key, len) = (self.owned.at(), key.as_ptr(), key.len());
         let mut cycled = false;
         let values = written(|values, room| {
             // SAFETY: the key and the room for values go with their lengths.
-            let told = unsafe {
-                ffi::key_index_c_neighbour(
-                    self.handle.get(),
-                    which,
-                    key.as_ptr(),
-                    key.len(),
-                    values,
-                    room,
-                )
-            };
+            let told = unsafe { ffi::key_index_c_neighbour(at, which, key, len, values, room) };
             cycled = told.cycled;
             told.count
         });
-        (!values.is_empty()).then(|| (Values::of(values), cycled))
-    }
-}
-
-impl<K: Kind> Drop for Index<K> {
-    fn drop(&mut self) {
-        // SAFETY: it was made and is freed here alone.
-        unsafe { ffi::key_index_c_free(self.handle.get()) }
+        (values.len() > 0).then_some((values, cycled))
     }
 }
 

@@ -25,16 +25,6 @@ impl Values {
         }
     }
 
-    /// Any values.
-    #[inline]
-    pub(crate) fn of(values: Box<[u64]>) -> Values {
-        Values {
-            one: 0,
-            left: values.len(),
-            several: Some(values),
-        }
-    }
-
     /// The values that are left.
     #[inline]
     #[must_use]
@@ -48,15 +38,22 @@ impl Values {
 }
 
 /// What a call writes to a place with room for so many, as far as that goes, where it tells how many there are.
-pub(crate) fn written(mut call: impl FnMut(*mut u64, usize) -> usize) -> Box<[u64]> {
+pub(crate) fn written(mut call: impl FnMut(*mut u64, usize) -> usize) -> Values {
     let mut few = [0; FEW];
     let len = call(few.as_mut_ptr(), FEW);
-    if len <= FEW {
-        return few[..len].into();
+    if len < 2 {
+        return Values::at_most_one(few[0], len);
     }
-    let mut many = vec![0; len];
-    call(many.as_mut_ptr(), len);
-    many.into()
+    let mut several: Box<[u64]> = few[..len.min(FEW)].into();
+    if len > FEW {
+        several = vec![0; len].into();
+        call(several.as_mut_ptr(), len);
+    }
+    Values {
+        one: 0,
+        several: Some(several),
+        left: len,
+    }
 }
 
 impl Iterator for Values {

@@ -1,6 +1,6 @@
 //! Each call beside a `BTreeMap` of lists.
 
-use key_index::{Error, Index, Kind, Neighbours, Values};
+use key_index::{Error, Immutable, Index, Kind, Neighbours, Values};
 use key_index::{Ordered, OrderedByOne, OrderedByTwo, Seeded};
 use key_index::{Unordered, UnorderedByOne, UnorderedByTwo};
 use std::collections::BTreeMap;
@@ -208,6 +208,47 @@ fn partitioned_beside_lists() -> Result<(), Error> {
     session(index, 30_000, 6, padded::<9>, false, neighbours::<_, 9>)?;
     let index = Index::<OrderedByTwo>::new()?;
     session(index, 30_000, 7, padded::<10>, false, neighbours::<_, 10>)
+}
+
+/// Inserts random keys at positions about the start, and prunes, where `group` tells which keys share an index key.
+fn positions(mut index: Immutable, seed: u64, group: fn(&[u8]) -> Vec<u8>) -> Result<(), Error> {
+    let mut random = Random(seed);
+    let (mut start, mut pruned) = (index.start(), 0);
+    let mut keys = BTreeMap::new();
+    for _ in 0..30_000 {
+        let key = some_key(&mut random);
+        let position = (start + random.below(60)).saturating_sub(10);
+        if start <= position && !keys.contains_key(&position) {
+            index.insert(&key, position)?;
+            keys.insert(position, group(&key));
+        } else {
+            assert_eq!(index.insert(&key, position), Err(Error::Position));
+        }
+        if random.below(20) == 0 {
+            let bound = (start + random.below(30)).saturating_sub(5);
+            index.prune(bound);
+            start = start.max(bound);
+            let before = keys.len();
+            keys.retain(|position, _| start <= *position);
+            pruned += (before - keys.len()) as u64;
+        }
+        let asked = some_key(&mut random);
+        let mut found: Vec<u64> = index.get(&asked).collect();
+        found.sort_unstable();
+        let wanted = keys.iter().filter(|(_, held)| **held == group(&asked));
+        assert!(wanted.map(|(position, _)| *position).eq(found));
+        assert_eq!(index.is_indexed(position), keys.contains_key(&position));
+        assert_eq!(index.items(), keys.len());
+        assert_eq!((index.start(), index.pruned()), (start, pruned));
+    }
+    assert!(pruned > 100);
+    Ok(())
+}
+
+#[test]
+fn immutable_beside_positions() -> Result<(), Error> {
+    positions(Immutable::new(1 << 40, 7)?, 8, padded::<8>)?;
+    positions(Immutable::with_seed(0x5eed, 0, 0)?, 9, <[u8]>::to_vec)
 }
 
 #[test]

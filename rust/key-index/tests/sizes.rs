@@ -4,7 +4,7 @@
 #[path = "../src/ffi.rs"]
 mod ffi;
 
-use ffi::{Counts, Found, Handle, Many, Neighbour};
+use ffi::{Counts, Found, Handle, Many, Neighbour, PositionCounts};
 use std::mem::{align_of, offset_of, size_of};
 
 #[test]
@@ -32,4 +32,16 @@ fn the_declared_types_have_the_sizes_of_c() {
     );
     assert_eq!((size_of::<Many>(), align_of::<Many>()), (16, 8));
     assert_eq!((offset_of!(Many, count), offset_of!(Many, status)), (0, 8));
+    assert_eq!(
+        (size_of::<PositionCounts>(), align_of::<PositionCounts>()),
+        (24, 8)
+    );
+    assert_eq!(
+        (
+            offset_of!(PositionCounts, items),
+            offset_of!(PositionCounts, start),
+            offset_of!(PositionCounts, pruned)
+        ),
+        (0, 8, 16)
+    );
 }

@@ -1,29 +1,46 @@
-use Rattle.std.proofs.Common.{◌≡◌, length, suc, ◌+◌, ◌-◌, ◌<◌, ◌^◌, ◌++◌, take, drop, slice_index, sym, ap, ◌∙◌, arith, add-one, refl, length-append}
-use Rattle.std.specs.Prelude.{slice_range}
+use Rattle.std.proofs.Common.{length, sym, subst}
 use Rattle.key_index_c.specs.Any.{any_view}
-use Rattle.key_index_c.specs.Buffer.{filled}
-use Rattle.key_index_c.specs.Calls.{counted, key_of, start_of, values_of}
-use Rattle.key_index_c.specs.Views.{values_under}
-use Rattle.key_index_c.proofs.BufferLemmas.{each-set, filled-put_mid}
+use Rattle.key_index_c.specs.Calls.{ShowsMany, values_of}
 use Rattle.key_index_c.proofs.any.Any.get_many.Goals as goal
 
-pub loop-number-preserved : goal.loop-number-preserved
-loop-number-preserved c =
-    let had = c.loop-number.invariant in let n = c.loop-number.number in let keys = c.args.keys.now in let ends = c.args.ends.now in
-    let s = any_view c.args.self.now in let now = c.loop-number.buffer in let from = c.min-from.result in
-    let lists = values_of s keys ends in let list = values_under s (key_of keys ends n) in
-    let same = ap (λ start. values_under s (slice_range keys start (slice_index ends n))) had.0 in
-    let written : c.get.new.buffer ≡ filled list (take (length now - from) (drop from now)) =
-    c.get.ensures.values ∙ ap (λ values. filled values (take (length now - from) (drop from now))) same in
-    let more : c.get.result ≡ length list = c.get.ensures.count ∙ ap length same in
-    let told : c.saturating_add-count.result ≡ counted (lists n ++ list) =
-    omega (arith, c.saturating_add-count.ensures, had.1, more, length-append (lists n) list) in
-    let next : lists (n + 1) ≡ lists n ++ list = ap lists (add-one n) in
-    let bound : length now < 2 ^ 64 = omega arith in
-    let fits : n < length c.loop-number.stops = omega (arith, c.loop-number.auto.stops, c.requires.keys.paired) in (
-      sym (ap (start_of ends) (add-one n)),
-      told ∙ ap counted (sym next),
-      filled-put_mid (lists n) list c.args.buffer.now now c.get.new.buffer from _ _ had.2 c.min-from.ensures had.1 bound refl written
-          ∙ ap (λ values. filled values c.args.buffer.now) (sym next),
-      each-set (λ i. counted (lists (suc i))) c.loop-number.stops n _ had.3 fits told,
-    )
+pub returns-in-Unordered : goal.returns-in-Unordered
+returns-in-Unordered c =
+    let called = c.get_many in
+    subst (λ any. ShowsMany (values_of (any_view any) c.args.keys.now c.args.ends.now) (length c.args.ends.now) called.result c.args.buffer.now called.new.buffer called.new.stops)
+    (sym c.in-Unordered.is) called.ensures
+
+pub returns-in-Ordered : goal.returns-in-Ordered
+returns-in-Ordered c =
+    let called = c.get_many-in-Ordered in
+    subst (λ any. ShowsMany (values_of (any_view any) c.args.keys.now c.args.ends.now) (length c.args.ends.now) called.result c.args.buffer.now called.new.buffer called.new.stops)
+    (sym c.in-Ordered.is) called.ensures
+
+pub returns-in-Seeded : goal.returns-in-Seeded
+returns-in-Seeded c =
+    let called = c.get_many-in-Seeded in
+    subst (λ any. ShowsMany (values_of (any_view any) c.args.keys.now c.args.ends.now) (length c.args.ends.now) called.result c.args.buffer.now called.new.buffer called.new.stops)
+    (sym c.in-Seeded.is) called.ensures
+
+pub returns-in-UnorderedByOne : goal.returns-in-UnorderedByOne
+returns-in-UnorderedByOne c =
+    let called = c.get_many-in-UnorderedByOne in
+    subst (λ any. ShowsMany (values_of (any_view any) c.args.keys.now c.args.ends.now) (length c.args.ends.now) called.result c.args.buffer.now called.new.buffer called.new.stops)
+    (sym c.in-UnorderedByOne.is) called.ensures
+
+pub returns-in-UnorderedByTwo : goal.returns-in-UnorderedByTwo
+returns-in-UnorderedByTwo c =
+    let called = c.get_many-in-UnorderedByTwo in
+    subst (λ any. ShowsMany (values_of (any_view any) c.args.keys.now c.args.ends.now) (length c.args.ends.now) called.result c.args.buffer.now called.new.buffer called.new.stops)
+    (sym c.in-UnorderedByTwo.is) called.ensures
+
+pub returns-in-OrderedByOne : goal.returns-in-OrderedByOne
+returns-in-OrderedByOne c =
+    let called = c.get_many-in-OrderedByOne in
+    subst (λ any. ShowsMany (values_of (any_view any) c.args.keys.now c.args.ends.now) (length c.args.ends.now) called.result c.args.buffer.now called.new.buffer called.new.stops)
+    (sym c.in-OrderedByOne.is) called.ensures
+
+pub returns-in-OrderedByTwo : goal.returns-in-OrderedByTwo
+returns-in-OrderedByTwo c =
+    let called = c.get_many-in-OrderedByTwo in
+    subst (λ any. ShowsMany (values_of (any_view any) c.args.keys.now c.args.ends.now) (length c.args.ends.now) called.result c.args.buffer.now called.new.buffer called.new.stops)
+    (sym c.in-OrderedByTwo.is) called.ensures
