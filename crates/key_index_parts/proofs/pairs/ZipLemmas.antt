@@ -1,11 +1,10 @@
 -- Keys and values that stand beside each other as pairs.
 --     length-zip, values_of-zip            what zip has
 --     length-remove_range                  how many are left
---     remove-remove_range                  the last one before a range that went goes too
 --     take-zip, drop-zip                   a part of both is one of the pairs
 --     zip-insert, zip-remove, zip-remove_range     an edit of both is one of the pairs
 --     zip-pairs_with                       values beside keys that are one
-use Rattle.std.proofs.Common.{◌≡◌, ℕ, zero, suc, ◌+◌, ◌-◌, ◌<◌, ◌≤◌, List, [], ◌∷◌, ◌++◌, length, take, drop, insert, remove, All, refl, sym, ap, ◌∙◌, arith}
+use Rattle.std.proofs.Common.{◌≡◌, ℕ, zero, suc, ◌+◌, ◌-◌, ◌≤◌, List, [], ◌∷◌, ◌++◌, length, take, drop, insert, remove, All, refl, sym, ap, ◌∙◌, arith}
 use Rattle.std.proofs.lemmas.List.{length-append, length-take-le, length-drop}
 use Rattle.std.proofs.lemmas.List.Elements.{All-head, All-tail}
 use Rattle.std.specs.List.{zip, remove_range}
@@ -71,11 +70,3 @@ length-remove_range xs i j le within =
     let front = length-take-le i xs (omega arith) in
     let back = length-drop j xs in
     omega (arith, whole, front, back)
-
-remove-append : {X : Type 0} (xs ys : List X) (i : ℕ) → i < length xs → remove (take (suc i) xs ++ ys) i ≡ take i xs ++ ys
-remove-append [] ys i inside = absurd (omega (arith, inside))
-remove-append (x ∷ xs) ys zero inside = refl
-remove-append (x ∷ xs) ys (suc i) inside = ap (λ l. x ∷ l) (remove-append xs ys i (omega (arith, inside)))
-
-pub remove-remove_range : {X : Type 0} (xs : List X) (i j : ℕ) → i < length xs → remove (remove_range xs (suc i) j) i ≡ remove_range xs i j
-remove-remove_range xs i j inside = remove-append xs (drop j xs) i inside

@@ -501,7 +501,7 @@ impl<T: Translator, V: Drop, X: OrderedBucket<T, V> + Drop> Neighbours<(usize, T
         self.last_below(self.buckets.len())
     }
 
-    #[inline]
+    #[inline(always)]
     fn above(&self, slot: (usize, T::Key)) -> Option<Values<'_, V>> {
         match self.buckets[slot.0].above(slot.1) {
             Some(values) => Some(values),
@@ -509,7 +509,7 @@ impl<T: Translator, V: Drop, X: OrderedBucket<T, V> + Drop> Neighbours<(usize, T
         }
     }
 
-    #[inline]
+    #[inline(always)]
     fn below(&self, slot: (usize, T::Key)) -> Option<Values<'_, V>> {
         match self.buckets[slot.0].below(slot.1) {
             Some(values) => Some(values),

@@ -35,9 +35,6 @@ const FEW_HALVES: usize = 5;
 /// How often a search of more keys halves them. It leaves one of 511.
 const HALVES: usize = 9;
 
-/// Up to how many items that go, those behind them move once for each.
-const FEW_GO: usize = 4;
-
 /// `front_len` of some keys, by so many halvings. The compiler writes all of them out, which it needs to make no branch of one.
 #[inline(always)]
 fn by_halves<K, P: FnMut(&K) -> bool, const TIMES: usize>(keys: &[K], mut test: P) -> usize
@@ -299,20 +296,20 @@ fn push_times<K: Copy>(keys: &mut Vec<K>, key: K, count: usize)
     }
 }
 
-/// Removes the items in a range of places. Where they are few, those behind them move for each one that goes, in one copy; else each of
-/// those moves once, by a swap, since `Vec::drain` moves them through a buffer of its own, which costs more than most of a partition.
+/// Removes the items in a range of places. Each one behind them moves once: by a swap where more than one goes, since `Vec::drain` moves
+/// them through a buffer of its own, which costs more than most of a partition.
 fn take_out<T: Drop>(items: &mut Vec<T>, from: usize, to: usize)
     requires order { from ≤ to }
     requires within { to ≤ length items.old.items }
     ensures items { items.new.items ≡ remove_range items.old.items from to }
     ensures capacity { vec_capacity items.new ≡ vec_capacity items.old }
 {
-    if to - from <= FEW_GO {
-        let mut end = to;
-        'few: while from < end {
-            end -= 1;
-            items.remove(end);
-        }
+    let count = to - from;
+    if count == 0 {
+        return;
+    }
+    if count == 1 {
+        items.remove(from);
         return;
     }
     let mut into = from;

@@ -1,29 +1,6 @@
-use Rattle.std.proofs.Common.{◌≡◌, suc, ◌-◌, ◌<◌, length, refl, sym, ap, ◌∙◌, arith}
-use Rattle.std.proofs.lemmas.List.{take-append-drop}
-use Rattle.std.specs.List.{remove, remove_range}
+use Rattle.std.proofs.Common.{◌<◌, length, refl, ◌∙◌, arith}
 use Rattle.key_index_parts.proofs.pairs.GapLemmas.{closed_first, closed_more, closed_last}
-use Rattle.key_index_parts.proofs.pairs.ZipLemmas.{remove-remove_range}
 use Rattle.key_index_parts.proofs.index.partitioned.ordered.partition.take_out.Goals as goal
-
-pub few-init : goal.few-init
-few-init g c = record {
-  taken = sym (take-append-drop c.args.to c.args.items.now.items);
-  first = c.requires.order;
-  last = omega arith;
-  capacity = refl;
-}
-
-pub few-preserved : goal.few-preserved
-few-preserved g c =
-    let xs = c.args.items.now.items in
-    let at = c.few in
-    let next : at.end ≡ suc (at.end - 1) = omega (arith, c.few-test.true) in record {
-      taken = c.remove.ensures.items ∙ ap (λ l. remove l (at.end - 1)) (at.invariant.taken ∙ ap (λ n. remove_range xs n c.args.to) next)
-          ∙ remove-remove_range xs (at.end - 1) c.args.to (omega (arith, c.few-test.true, at.invariant.last, c.requires.within));
-      first = omega (arith, c.few-test.true);
-      last = omega (arith, at.invariant.last);
-      capacity = c.remove.ensures.capacity ∙ at.invariant.capacity;
-    }
 
 pub items-init : goal.items-init
 items-init g c = record {

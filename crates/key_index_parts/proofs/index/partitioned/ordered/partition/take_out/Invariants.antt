@@ -1,19 +1,7 @@
-use Rattle.std.proofs.Common.{◌≡◌, ◌≤◌, ◌-◌, length}
-use Rattle.std.specs.List.{remove_range}
+use Rattle.std.proofs.Common.{◌≡◌, ◌-◌, length}
 use Rattle.std.specs.Vec.{vec_capacity}
 use Rattle.key_index_parts.proofs.pairs.GapLemmas.{Closed}
 use Rattle.key_index_parts.proofs.index.partitioned.ordered.partition.take_out.Given as goal
-
-abbrev pub invariant-few : goal.invariant-few
-invariant-few g l = record {
-  taken : l.items.items ≡ remove_range l.fn.items.items l.end l.fn.to;
-  first : l.fn.from ≤ l.end;
-  last : l.end ≤ l.fn.to;
-  capacity : vec_capacity l.items ≡ vec_capacity l.fn.items;
-}
-
-abbrev pub decreases-few : goal.decreases-few
-decreases-few g l = l.end
 
 abbrev pub invariant-items : goal.invariant-items
 invariant-items g l = record {
