@@ -1,6 +1,7 @@
 -- What a value index holds: a finite map from index keys to lists that are not empty (a multimap whose values keep their order).
 -- It is the list of its entries in the order of the keys, so equal maps are one value. `cmp` is the order of the keys.
 --     list_at, with_list      the list at a key, empty where the key is absent; the map with a list at a key, and without the key where the list is empty
+--     lacks                   whether a key is absent
 --     IsLawful                the keys strictly rise, and no list is empty
 --     key_count, item_count   how many keys, and how many values
 use Rattle.std.specs.Prelude.{ℕ, ◌+◌, Bool, true, false, not, ◌&&◌, T, List, [], ◌∷◌, length, unwrap_or}
@@ -30,6 +31,9 @@ item_count (e ∷ es) = length e.1 + item_count es
 module _ {K V : Type 0} (cmp : K → K → Ordering) where
   abbrev pub list_at : Content K V → K → List V
   list_at c k = unwrap_or (find cmp k c) []
+
+  abbrev pub lacks : Content K V → K → Bool
+  lacks c k = not (is_filled (list_at c k))
 
   abbrev pub with_list : Content K V → K → List V → Content K V
   with_list c k [] = where_key cmp (λ x. not (eq_by_cmp cmp k x)) c

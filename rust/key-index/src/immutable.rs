@@ -68,10 +68,10 @@ impl Immutable {
         let status = unsafe {
             ffi::key_index_c_insert_at(self.owned.at(), key.as_ptr(), key.len(), position)
         };
-        answer(status).map_err(|error| match error {
-            Error::Ends => Error::Position,
-            other => other,
-        })
+        match status {
+            ffi::BAD_ARGUMENT => Err(Error::Position),
+            other => answer(other),
+        }
     }
 
     /// The positions of a key, each once and in no particular order.

@@ -44,11 +44,13 @@ pub(crate) fn written(mut call: impl FnMut(*mut u64, usize) -> usize) -> Values 
     if len < 2 {
         return Values::at_most_one(few[0], len);
     }
-    let mut several: Box<[u64]> = few[..len.min(FEW)].into();
-    if len > FEW {
-        several = vec![0; len].into();
-        call(several.as_mut_ptr(), len);
-    }
+    let several: Box<[u64]> = if len > FEW {
+        let mut many = vec![0; len];
+        call(many.as_mut_ptr(), len);
+        many.into()
+    } else {
+        few[..len].into()
+    };
     Values {
         one: 0,
         several: Some(several),

@@ -3,6 +3,7 @@
 
 use key_index::{Error, Immutable, Index, Kind, Neighbours, Values};
 use key_index::{Ordered, OrderedByOne, OrderedByTwo, Unordered, UnorderedByOne, UnorderedByTwo};
+use std::collections::BTreeSet;
 use std::process::Command;
 
 type Lines<'a> = &'a [&'a str];
@@ -157,7 +158,7 @@ fn sessions_of_the_cases() -> Result<(), Error> {
         .output()
         .expect("Python 3 runs cases/sessions");
     let text = String::from_utf8(written.stdout).unwrap();
-    let mut sessions = 0;
+    let mut kinds = BTreeSet::new();
     for session in text.split("== ").skip(1) {
         let lines: Vec<&str> = session.lines().collect();
         let words: Vec<&str> = lines[0].split(' ').collect();
@@ -177,8 +178,9 @@ fn sessions_of_the_cases() -> Result<(), Error> {
             }
             other => panic!("no kind {other}"),
         }
-        sessions += 1;
+        kinds.insert(words[0]);
     }
-    assert!(written.status.success() && sessions > 0);
+    assert!(written.status.success());
+    assert_eq!(kinds.len(), 9, "{kinds:?}");
     Ok(())
 }

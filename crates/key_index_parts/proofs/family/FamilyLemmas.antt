@@ -1,7 +1,7 @@
 -- On a family of buckets, by what each holds.
 --     held_within                       a slot that has a value is of some bucket
 --     is_filled-with_list, filled_held  what holds a value is filled
---     some_value                        a list that is filled has a value
+--     filled_positive                   a list that is filled has a value
 --     IsBucket, bucket_taken            a bucket that was taken from its place
 --     bucket_told, list_told            what a bucket holds is what the family tells of it
 --     bucket_seen                       what a bucket that was taken holds, by what buckets the family has
@@ -50,9 +50,9 @@ pub not_not : (b c : Bool) → b ≡ not c → not b ≡ c
 not_not b true e = ap not e
 not_not b false e = ap not e
 
-pub some_value : {V : Type 0} (l : List V) → false ≡ not (is_filled l) → 0 < length l
-some_value [] e = absurd (subst T (sym e) tt)
-some_value (v ∷ vs) e = omega arith
+pub filled_positive : {V : Type 0} (l : List V) → false ≡ not (is_filled l) → 0 < length l
+filled_positive [] e = absurd (subst T (sym e) tt)
+filled_positive (v ∷ vs) e = omega arith
 
 module _ {K V : Type 0} (cmp : K → K → Ordering) where
   pub held_within : (buckets : List (Content K V)) (slot : ℕ × K) (place : ℕ) → place < length (list_in cmp buckets slot) → slot.0 < length buckets

@@ -1,11 +1,11 @@
 //! The lists of an index: the first value of each index key in one map, and in another the tails of the lists that have more. An entry
 //! whose key has one value then costs that key and that value alone.
-ghost use Rattle.std.specs.Prelude.{◌≡◌, ◌+◌, ◌<◌, ◌≤◌, true, false, if◌then◌else◌, List, [], ◌∷◌, ◌++◌, length, slice_get, slice_set, insert, remove, Some, IfOk, IfErr, IfSome, IfNone, IsOk, OnOk, OnErr, not};
+ghost use Rattle.std.specs.Prelude.{◌≡◌, ◌+◌, ◌<◌, ◌≤◌, true, false, if◌then◌else◌, List, [], ◌∷◌, ◌++◌, length, slice_get, slice_set, insert, remove, Some, IfOk, IfErr, IfSome, IfNone, IsOk, OnOk, OnErr};
 ghost use Rattle.std.specs.Fn.{CalledAt};
 ghost use Rattle.std.specs.List.Retain.{IsFiltered};
 ghost use Rattle.std.specs.Map.Iter.{deref_pair};
 ghost use Rattle.std.specs.Option.{option_map};
-ghost use Rattle.key_index_flat.specs.Content.{is_filled, key_count, list_at, with_list, with_list_by, IsLawful};
+ghost use Rattle.key_index_flat.specs.Content.{key_count, lacks, list_at, with_list, with_list_by, IsLawful};
 ghost use Rattle.key_index_flat.specs.Retention.{AsksBehind};
 ghost use Rattle.key_index_flat.specs.Storage.{KeptLists, added, content_of, list_of, tail_at, IsLinked};
 ghost use Rattle.key_index_flat.specs.Values.{values_of, VisitsEach};
@@ -96,14 +96,13 @@ impl<T: Translator, V: Drop, M: Heads<T::Key, V>, E: End> Chains<T, V, M, E> {
         self.tails.value_at(slot, place - 1)
     }
 
-    /// Puts a value in front of the list at an index key, and tells whether that had none. The one look-up that finds the key also puts the value there; a first value
-    /// that finds no room in the tail then goes back to its place, which takes no memory.
+    /// Puts a value in front of the list at an index key, and tells whether that had none. The one look-up that finds the key also puts
+    /// the value there; a first value that finds no room in the tail then goes back to its place, which takes no memory.
     #[inline]
     fn insert_first(&mut self, slot: T::Key, value: V) -> Result<bool, V>
         ensures accepted { OnOk result (self.new.content
             ≡ with_list_by T.Key.cmp self.old.content slot (λ l. value ∷ l)) }
-        ensures absent { IfOk result (λ absent.
-            absent ≡ not (is_filled (list_at T.Key.cmp self.old.content slot))) }
+        ensures absent { IfOk result (λ absent. absent ≡ lacks T.Key.cmp self.old.content slot) }
         ensures refused { OnErr result (self.new.content ≡ self.old.content) }
         ensures room { self.old.spare ≤ self.new.spare + added T.Key.cmp self.old.content slot }
         ensures succeeds { 0 < self.old.spare → list_at T.Key.cmp self.old.content slot ≡ [] → IsOk result }
@@ -123,8 +122,7 @@ impl<T: Translator, V: Drop, M: Heads<T::Key, V>, E: End> Chains<T, V, M, E> {
     fn insert_last(&mut self, slot: T::Key, value: V) -> Result<bool, V>
         ensures accepted { OnOk result (self.new.content
             ≡ with_list_by T.Key.cmp self.old.content slot (λ l. l ++ value ∷ [])) }
-        ensures absent { IfOk result (λ absent.
-            absent ≡ not (is_filled (list_at T.Key.cmp self.old.content slot))) }
+        ensures absent { IfOk result (λ absent. absent ≡ lacks T.Key.cmp self.old.content slot) }
         ensures refused { OnErr result (self.new.content ≡ self.old.content) }
         ensures room { self.old.spare ≤ self.new.spare + added T.Key.cmp self.old.content slot }
         ensures succeeds { 0 < self.old.spare → list_at T.Key.cmp self.old.content slot ≡ [] → IsOk result }
@@ -142,8 +140,7 @@ impl<T: Translator, V: Drop, M: Heads<T::Key, V>, E: End> Chains<T, V, M, E> {
     pub fn insert(&mut self, slot: T::Key, value: V) -> Result<bool, V>
         ensures accepted { OnOk result (self.new.content
             ≡ with_list_by T.Key.cmp self.old.content slot (put_value E.FIRST value)) }
-        ensures absent { IfOk result (λ absent.
-            absent ≡ not (is_filled (list_at T.Key.cmp self.old.content slot))) }
+        ensures absent { IfOk result (λ absent. absent ≡ lacks T.Key.cmp self.old.content slot) }
         ensures refused { OnErr result (self.new.content ≡ self.old.content) }
         ensures room { self.old.spare ≤ self.new.spare + added T.Key.cmp self.old.content slot }
         ensures succeeds { 0 < self.old.spare → list_at T.Key.cmp self.old.content slot ≡ [] → IsOk result }
@@ -208,8 +205,7 @@ impl<T: Translator, V: Drop, M: Heads<T::Key, V>, E: End> Chains<T, V, M, E> {
         requires place { place ≤ length (list_at T.Key.cmp self.old.content slot) }
         ensures accepted { OnOk result (self.new.content
             ≡ with_list_by T.Key.cmp self.old.content slot (λ l. insert l place value)) }
-        ensures absent { IfOk result (λ absent.
-            absent ≡ not (is_filled (list_at T.Key.cmp self.old.content slot))) }
+        ensures absent { IfOk result (λ absent. absent ≡ lacks T.Key.cmp self.old.content slot) }
         ensures refused { OnErr result (self.new.content ≡ self.old.content) }
         ensures returned { IfErr result (λ back. back ≡ value) }
     {

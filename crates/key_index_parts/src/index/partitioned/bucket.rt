@@ -2,7 +2,7 @@
 ghost use Rattle.std.specs.Prelude.{◌≡◌, ◌+◌, ◌<◌, ◌≤◌, Bool, false, IsTrue, if◌then◌else◌, List, [], ◌∷◌, length, not, slice_get, slice_set, insert, remove, Some, IfOk, IfErr, OnOk, OnErr};
 ghost use Rattle.std.specs.Fn.{CalledAt};
 ghost use Rattle.std.specs.List.Retain.{IsFiltered};
-ghost use Rattle.key_index_flat.specs.Content.{Content, IsLawful, is_filled, item_count, list_at, with_list, with_list_by};
+ghost use Rattle.key_index_flat.specs.Content.{Content, IsLawful, is_filled, item_count, lacks, list_at, with_list, with_list_by};
 ghost use Rattle.key_index_flat.specs.Neighbours.{first_list, last_list, entries_above, entries_below};
 ghost use Rattle.key_index_flat.specs.View.{put_value};
 ghost use Rattle.key_index_flat.specs.Values.{VisitsEach, values_of};
@@ -83,7 +83,7 @@ pub(super) trait EditBucket<T: Translator, V>: ReadBucket<T, V> {
         requires { place ≤ length (list_at T.Key.cmp (Self.content self.old) key) }
         ensures accepted { IfOk result (λ absent.
             (Self.content self.new ≡ with_list_by T.Key.cmp (Self.content self.old) key (λ l. insert l place value))
-            × (absent ≡ not (is_filled (list_at T.Key.cmp (Self.content self.old) key)))) }
+            × (absent ≡ lacks T.Key.cmp (Self.content self.old) key)) }
         ensures standing { OnOk result
             (Self.spilled self.new ≡ stays_spilled (Self.spilled self.old) (Self.content self.new)) }
         ensures refused { OnErr result (Self.content self.new ≡ Self.content self.old) }
@@ -123,7 +123,7 @@ pub(super) trait Form<T: Translator, V>: EditBucket<T, V> {
     fn insert(&mut self, key: T::Key, value: V) -> Result<bool, V>
         ensures accepted { IfOk result (λ absent.
             (Self.content self.new ≡ with_list_by T.Key.cmp (Self.content self.old) key (put_value false value))
-            × (absent ≡ not (is_filled (list_at T.Key.cmp (Self.content self.old) key)))) }
+            × (absent ≡ lacks T.Key.cmp (Self.content self.old) key)) }
         ensures refused { OnErr result (Self.content self.new ≡ Self.content self.old) }
         ensures returned { IfErr result (λ back. back ≡ value) };
 
@@ -186,7 +186,7 @@ pub(super) trait Bucket<T: Translator, V>: EditBucket<T, V> {
         requires { 1 ≤ limit }
         ensures accepted { IfOk result (λ told.
             (Self.content self.new ≡ with_list_by T.Key.cmp (Self.content self.old) key (put_value FIRST value))
-            × (told.0 ≡ not (is_filled (list_at T.Key.cmp (Self.content self.old) key)))) }
+            × (told.0 ≡ lacks T.Key.cmp (Self.content self.old) key)) }
         ensures standing { IfOk result (λ told. Grows SPILLS limit
             (Self.spilled self.old) told.1 (Self.content self.new) (Self.spilled self.new)) }
         ensures refused { OnErr result (Self.content self.new ≡ Self.content self.old) }

@@ -503,17 +503,19 @@ impl<T: Translator, V: Drop, X: OrderedBucket<T, V> + Drop> Neighbours<(usize, T
 
     #[inline(always)]
     fn above(&self, slot: (usize, T::Key)) -> Option<Values<'_, V>> {
-        match self.buckets[slot.0].above(slot.1) {
-            Some(values) => Some(values),
-            None => self.first_from(slot.0 + 1),
+        let own = self.buckets[slot.0].above(slot.1);
+        if own.is_some() {
+            return own;
         }
+        self.first_from(slot.0 + 1)
     }
 
     #[inline(always)]
     fn below(&self, slot: (usize, T::Key)) -> Option<Values<'_, V>> {
-        match self.buckets[slot.0].below(slot.1) {
-            Some(values) => Some(values),
-            None => self.last_below(slot.0),
+        let own = self.buckets[slot.0].below(slot.1);
+        if own.is_some() {
+            return own;
         }
+        self.last_below(slot.0)
     }
 }

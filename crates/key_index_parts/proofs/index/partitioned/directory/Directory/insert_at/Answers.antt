@@ -1,6 +1,6 @@
 use Rattle.std.proofs.Common.{insert, not, ap, sym, ◌∙◌}
 use Rattle.key_index_flat.specs.Content.{is_filled, list_at}
-use Rattle.key_index_parts.proofs.family.FamilyLemmas.{bucket_taken, some_value, list_told, bucket_edited, flags_filled, flags_stay, on_refusal, filled_insert, filled_held, LeavesIn-set, family_stays}
+use Rattle.key_index_parts.proofs.family.FamilyLemmas.{bucket_taken, filled_positive, list_told, bucket_edited, flags_filled, flags_stay, on_refusal, filled_insert, filled_held, LeavesIn-set, family_stays}
 use Rattle.key_index_parts.proofs.family.FamilyLemmas.{counted_buckets}
 use Rattle.key_index_parts.proofs.index.partitioned.directory.Directory.insert_at.Goals as goal
 
@@ -18,7 +18,7 @@ invariant_of-self-2 g c =
     let x = c.index_mut.result.now in
     let told = c.in_ok-absent.ensures.accepted in
     c.set_if.ensures ∙ flags_filled cmp bucket c.self.inside.filled c.insert_at.new.self _ c.self.invariant
-    (ap is_filled told.0 ∙ filled_insert cmp (f x) k (list_at cmp (f x) k) c.args.place c.args.value) (λ b. filled_held cmp (f x) k (some_value _ (sym b ∙ told.1)))
+    (ap is_filled told.0 ∙ filled_insert cmp (f x) k (list_at cmp (f x) k) c.args.place c.args.value) (λ b. filled_held cmp (f x) k (filled_positive _ (sym b ∙ told.1)))
 
 pub returns-clause-accepted : goal.returns-clause-accepted
 returns-clause-accepted g c =
