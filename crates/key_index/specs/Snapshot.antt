@@ -1,17 +1,14 @@
 -- A snapshot: a finite map from full keys to positions, in the order of the keys' bytes. It stands in an index as records.
-use Rattle.std.specs.Prelude.{◌≡◌, ℕ, Bool, true, false, List, [], ◌∷◌, map, Option, Vec}
+use Rattle.std.specs.Prelude.{◌≡◌, ℕ, List, map, Option, Vec}
 use Rattle.std.specs.FinMap.{FinMap, entries, find, from_entries}
 use Rattle.std.specs.List.{IsDistinct}
 use Rattle.std.specs.Ordering.{eq_by_cmp}
 use Rattle.std.specs.declared.alloc.Global.{Global}
 use Rattle.std.specs.declared.cmp.Ordering.{Ordering}
-use Rattle.key_index_flat.specs.declared.index.command.Step.TheVariants as step
 use Rattle.key_index_flat.specs.FullKeys.{IsFiledIn, byte_cmp}
 use Rattle.key_index_flat.specs.Neighbours.{entries_above, entries_below, first_entry, last_entry}
 use Rattle.key_index_flat.specs.Values.{values_of}
 use Rattle.key_index_flat.specs.View.{View, run_at}
-use Rattle.key_index_parts.specs.declared.index.partitioned.builds.op.Op.{Op}
-use Rattle.key_index_parts.specs.declared.index.partitioned.builds.op.Op.TheVariants as op
 use Rattle.key_index.specs.declared.snapshot.record.Record.{Record}
 
 -- the map
@@ -48,6 +45,11 @@ module _ {K : Type 0} (cmp : K → K → Ordering) where
     pub filed : IsFiledIn key_of cmp s
     pub once : (k : K) → IsDistinct (eq_by_cmp byte_cmp) (map key_of (run_at cmp s k))
 
+  -- so they do, and these are the entries of the map
+  pub record Holds (es : List (List ℕ × ℕ)) (s : View K Record) : Type 0 where
+    pub kept : IsKept s
+    pub built : entries (positions_in s) ≡ es
+
 -- ---- the bodies
 
 -- the position of the first record that has a key
@@ -57,10 +59,3 @@ position_in a l = find byte_cmp a (map entry_of l)
 -- the entries of a map whose keys are vectors
 abbrev pub entries_of : List (Vec ℕ Global × ℕ) → List (List ℕ × ℕ)
 entries_of es = map (λ e. (e.0.items, e.1)) es
-
--- the op puts a record in: behind the first one of its index key, or where there is none
-abbrev pub IsOpOf : Record → Bool → Op Record → Type 0
-IsOpOf r true (op.GetOrInsert key v) = ⊥
-IsOpOf r true (op.Edit key steps) = (key.items ≡ key_of r) × (steps.items ≡ step.Next ∷ step.Insert r ∷ [])
-IsOpOf r false (op.GetOrInsert key v) = (key.items ≡ key_of r) × (v ≡ r)
-IsOpOf r false (op.Edit key steps) = ⊥

@@ -1,18 +1,17 @@
 //! A snapshot: the position of each full key, over any ordered index.
-ghost use Rattle.std.specs.Prelude.{◌≡◌, ◌≢◌, ◌↔◌, ◌^◌, ◌<◌, [], length, reverse, Some, None, false, is_some, not, slice_get, IsTrue, IfSome, IfOk, IfErr, OnOk, OnErr};
+ghost use Rattle.std.specs.Prelude.{◌≡◌, ◌≢◌, ◌↔◌, ◌^◌, ◌<◌, [], length, reverse, Some, None, is_some, not, slice_get, IsTrue, IfSome, IfOk, IfErr, OnOk, OnErr};
 ghost use Rattle.std.specs.Coded.{coded_ℕ, coded_list};
 ghost use Rattle.std.specs.FinMap as map;
-ghost use Rattle.std.specs.Option.{option_map, MatchOption};
-ghost use Rattle.std.specs.Ordering.{eq_by_cmp};
+ghost use Rattle.std.specs.Option.{option_map};
 ghost use Rattle.std.specs.Result.{IsErrOf};
 ghost use Rattle.std.specs.Str.{bytes_eq};
 ghost use Rattle.key_index_parts.specs.Ops.{IsCuts, after_ops};
 ghost use Rattle.key_index_flat.specs.FullKeys.{IsBytes};
-ghost use Rattle.key_index.specs.Snapshot.{Positions, key_of, positions_of, next_position, prev_position, positions_in, IsKept, position_in, entries_of, IsOpOf};
+ghost use Rattle.key_index.specs.Snapshot.{Positions, key_of, positions_of, next_position, prev_position, positions_in, IsKept, position_in, entries_of, Holds};
 
 mod record;
 
-use key_index_flat::index::{Fault, Ordered, Runs, Step, Values, resolve_next, resolve_prev};
+use key_index_flat::index::{Fault, Ordered, Values, resolve_next, resolve_prev};
 use key_index_parts::index::partitioned::{Op, Partitioned, build_in_ranges};
 pub use record::Record;
 use std::alloc::Global;
@@ -39,6 +38,7 @@ impl<I: Ordered<Value = Record>> Model for Snapshot<I> {
 /// A record of a key, which it copies.
 fn record_of(alloc: Global, key: &[u8], position: u64) -> Result<Record, Fault>
     ensures key { IfOk result (λ r. r.key.items ≡ key.now) }
+    ensures bytes { IsBytes key.now }
     ensures position { IfOk result (λ r. r.position ≡ position) }
     ensures fault { IfErr result (λ f. f ≡ Fault.Memory) }
 {
@@ -177,57 +177,21 @@ fn last_of_each(alloc: Global, records: Vec<Record>) -> Result<BTreeMap<Vec<u8>,
     Ok(last)
 }
 
-/// The index key of a key, whose items are bytes.
-fn slot_of_bytes<I: Runs>(index: &I, key: &[u8]) -> I::Key
-    ensures slot { result ≡ (I.view index.now).slot key.now }
-    ensures bytes { IsBytes key.now }
-{
-    index.slot_of(key)
-}
-
-/// Whether an index key is the one before.
-fn is_same<K: Ord + Copy>(before: Option<K>, slot: K) -> bool
-    ensures { MatchOption before (result ≡ false) (λ k. result ≡ eq_by_cmp K.cmp k slot) }
-{
-    match before {
-        Some(before) => before == slot,
-        None => false,
-    }
-}
-
-/// The op that puts a record behind the first one of its index key, or in where there is none.
-fn op_of(alloc: Global, item: Record, behind: bool) -> Result<Op<Record>, Fault>
-    ensures op { IfOk result (λ made. IsOpOf item behind made) }
-    ensures fault { IfErr result (λ fault. fault ≡ Fault.Memory) }
-{
-    let key = Vec::from_slice(alloc, item.key.as_slice())?;
-    if !behind {
-        return Ok(Op::GetOrInsert(key, item));
-    }
-    let steps = Vec::from_array(alloc, [Step::Next, Step::Insert(item)])?;
-    Ok(Op::Edit(key, steps))
-}
-
-/// The ops that put a record of each key in. Since the keys rise, those of one index key stand side by side.
+/// The ops that put a record of each key in.
 fn ops_of<I: Ordered<Value = Record> + Partitioned>(
     alloc: Global,
     index: &I,
     last: BTreeMap<Vec<u8>, u64>,
 ) -> Result<Vec<Op<Record>>, Fault>
     requires empty { (I.view index.now).content ≡ [] }
-    ensures kept { IfOk result (λ ops. IsKept I.Key.cmp (after_ops I.Key.cmp ops.items (I.view index.now))) }
-    ensures built { IfOk result (λ ops.
-        map.entries (positions_in (after_ops I.Key.cmp ops.items (I.view index.now))) ≡ entries_of last.entries) }
+    ensures filled { IfOk result (λ ops. Holds I.Key.cmp (entries_of last.entries)
+        (after_ops I.Key.cmp I.INSERT_FIRST ops.items (I.view index.now))) }
     ensures fault { IfErr result (λ fault. fault ≡ Fault.Memory) }
 {
     let mut ops = Vec::with_capacity(alloc, last.len())?;
-    let mut before: Option<I::Key> = None;
     for (key, position) in last {
-        let slot = slot_of_bytes(index, key.as_slice());
-        let behind = is_same(before, slot);
-        let op = op_of(alloc, Record { key, position }, behind)?;
-        ops.push(op)?;
-        before = Some(slot);
+        let record = record_of(alloc, key.as_slice(), position)?;
+        ops.push(Op::Insert(key, record))?;
     }
     Ok(ops)
 }

@@ -29,10 +29,14 @@ module _ {V : Type 0} where
   flags_held steps (v ∷ vs) = flags_of steps (edit_start (v ∷ vs))
 
   abbrev pub op_size : Op V → ℕ
+  op_size (op.Insert key v) = 1
   op_size (op.GetOrInsert key v) = 1
   op_size (op.Edit key steps) = length steps.items
 
   abbrev pub IsAccepted : Op V → List V → Outcome → Type 0
+  IsAccepted (op.Insert key v) l outcome.Done = Unit {0}
+  IsAccepted (op.Insert key v) l (outcome.Refused f) = ⊥
+  IsAccepted (op.Insert key v) l (outcome.Edited flags) = ⊥
   IsAccepted (op.GetOrInsert key v) l outcome.Done = Unit {0}
   IsAccepted (op.GetOrInsert key v) l (outcome.Refused f) = ⊥
   IsAccepted (op.GetOrInsert key v) l (outcome.Edited flags) = ⊥
@@ -41,21 +45,22 @@ module _ {V : Type 0} where
   IsAccepted (op.Edit key steps) l (outcome.Edited flags) = flags.items ≡ flags_held steps.items l
 
 abbrev pub command_of : {V F : Type 0} → Op V → Command V F
+command_of (op.Insert key v) = command.Insert key v
 command_of (op.GetOrInsert key v) = command.GetOrInsert key v
 command_of (op.Edit key steps) = command.Edit key steps
 
-module _ {K V : Type 0} (cmp : K → K → Ordering) where
+module _ {K V : Type 0} (cmp : K → K → Ordering) (first : Bool) where
   abbrev pub AreAccepted : List (Op V) → List Outcome → View K V → Type 0
   AreAccepted [] [] s = Unit {0}
   AreAccepted [] (o ∷ os) s = ⊥
   AreAccepted (x ∷ xs) [] s = ⊥
-  AreAccepted (x ∷ xs) (o ∷ os) s = IsAccepted x (run_of cmp s (op_key x)) o × AreAccepted xs os (after_op cmp x s)
+  AreAccepted (x ∷ xs) (o ∷ os) s = IsAccepted x (run_of cmp s (op_key x)) o × AreAccepted xs os (after_op cmp first x s)
 
   abbrev pub HaveSpace : List (Op V) → View K V → Type 0
   HaveSpace [] s = Unit {0}
-  HaveSpace (x ∷ xs) s = (items_in s + op_size x < 2 ^ 64) × HaveSpace xs (after_op cmp x s)
+  HaveSpace (x ∷ xs) s = (items_in s + op_size x < 2 ^ 64) × HaveSpace xs (after_op cmp first x s)
 
-  abbrev pub RunsAs : Bool → List (Op V) → View K V → View K V → Type 0
-  RunsAs first ops s t =
+  abbrev pub RunsAs : List (Op V) → View K V → View K V → Type 0
+  RunsAs ops s t =
       (os : List Outcome) → AreAccepted ops os s → HaveSpace ops s
       → IsLegal cmp first (λ f v b g. ⊥) (map (command_of {F = Unit {0}}) ops) os s t

@@ -26,10 +26,10 @@ number_of partition slot b = partition (slot b)
 abbrev pub empty_view : {K V : Type 0} → (List ℕ → K) → (K → Bool) → View K V
 empty_view slot admitted = record { content = []; pruned = 0; slot = slot; admitted = admitted }
 
-module _ {R K V : Type 0} (cmp : K → K → Ordering) (view : R → View K V) (slot : List ℕ → K) (partition : K → ℕ) where
+module _ {R K V : Type 0} (cmp : K → K → Ordering) (first : Bool) (view : R → View K V) (slot : List ℕ → K) (partition : K → ℕ) where
   pub record IsFilled (ops : List (Op V)) (a b : ℕ) (range : R) : Type 0 where
     pub holds : view range
-        ≡ after_ops cmp (ops_within (number_of partition slot) a b ops)
+        ≡ after_ops cmp first (ops_within (number_of partition slot) a b ops)
         (empty_view slot (λ k. is_between a b (partition k)))
 
   pub record AreFilled (ops : List (Op V)) (cuts : List ℕ) (ranges : List R) : Type 0 where
@@ -54,16 +54,16 @@ module _ {R K V : Type 0} (cmp : K → K → Ordering) (view : R → View K V) w
     pub left : after ≡ installed (take count ranges) before
     pub why : fault ≡ install_fault (items_in after) (items_in (view refused))
 
--- before: the view of an index before a build from ops between cuts
-module _ {K V : Type 0} (cmp : K → K → Ordering) (partition : K → ℕ) (cuts : List ℕ) (ops : List (Op V))
+-- before: the view of an index before a build from ops between cuts; first: whether a new value goes in front
+module _ {K V : Type 0} (cmp : K → K → Ordering) (first : Bool) (partition : K → ℕ) (cuts : List ℕ) (ops : List (Op V))
     (before : View K V) where
   abbrev pub filled_by : ℕ → List (Op V) → View K V
   filled_by n xs =
       let number = number_of partition before.slot in
-      after_ops cmp (ops_within number (slice_index cuts n) (slice_index cuts (n + 1)) xs) before
+      after_ops cmp first (ops_within number (slice_index cuts n) (slice_index cuts (n + 1)) xs) before
 
   abbrev pub built_upto : ℕ → View K V
-  built_upto n = after_ops cmp (ops_below (number_of partition before.slot) (slice_index cuts n) ops) before
+  built_upto n = after_ops cmp first (ops_below (number_of partition before.slot) (slice_index cuts n) ops) before
 
   pub record FillsUp : Type 0 where
     pub done : List (Op V)

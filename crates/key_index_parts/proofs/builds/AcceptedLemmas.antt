@@ -74,9 +74,12 @@ module _ {K V F : Type 0} {cmp : K → K → Ordering} (o : IsTotalOrder cmp) (f
       (after_steps steps start, subst (λ m. EditGives others steps flags (edit_start m) (after_steps steps start)) (sym is) (subst (λ f. EditGives others steps f start (after_steps steps start)) (sym said) (steps_legal others steps start (omega (arith, room, all)))), refl)
 
   -- again: the same list put at its key
-  pub op_legal : ((c : Content K V) (k : K) → IsLawful cmp c → with_list cmp c k (list_at cmp c k) ≡ c) → (x : Op V) (out : Outcome) (s : View K V) → IsLawful cmp s.content → HaveSpace cmp (x ∷ []) s
-      → IsAccepted x (list_at cmp s.content (s.slot (op_key x))) out → CommandGives cmp first ask (command_of x) out s (after_op cmp x s)
-  op_legal again (op.GetOrInsert key v) outcome.Done s h room good = (not_full (item_count s.content) (item_count s.content) (omega (arith, room.0)) refl, (λ i. record (after_op cmp (op.GetOrInsert key v) s) { pruned = sym (pruned_none s.pruned) i }))
+  pub op_legal : ((c : Content K V) (k : K) → IsLawful cmp c → with_list cmp c k (list_at cmp c k) ≡ c) → (x : Op V) (out : Outcome) (s : View K V) → IsLawful cmp s.content → HaveSpace cmp first (x ∷ []) s
+      → IsAccepted x (list_at cmp s.content (s.slot (op_key x))) out → CommandGives cmp first ask (command_of x) out s (after_op cmp first x s)
+  op_legal again (op.Insert key v) outcome.Done s h room good = (not_full (item_count s.content) (item_count s.content) (omega (arith, room.0)) refl, (λ i. record (after_op cmp first (op.Insert key v) s) { pruned = sym (pruned_none s.pruned) i }))
+  op_legal again (op.Insert key v) (outcome.Refused f) s h room good = absurd good
+  op_legal again (op.Insert key v) (outcome.Edited flags) s h room good = absurd good
+  op_legal again (op.GetOrInsert key v) outcome.Done s h room good = (not_full (item_count s.content) (item_count s.content) (omega (arith, room.0)) refl, (λ i. record (after_op cmp first (op.GetOrInsert key v) s) { pruned = sym (pruned_none s.pruned) i }))
   op_legal again (op.GetOrInsert key v) (outcome.Refused f) s h room good = absurd good
   op_legal again (op.GetOrInsert key v) (outcome.Edited flags) s h room good = absurd good
   op_legal again (op.Edit key steps) outcome.Done s h room good = absurd good
@@ -84,16 +87,16 @@ module _ {K V F : Type 0} {cmp : K → K → Ordering} (o : IsTotalOrder cmp) (f
   op_legal again (op.Edit key steps) (outcome.Edited flags) s h room good =
       edit_legal (s.slot key.items) s (list_at cmp s.content (s.slot key.items)) steps.items flags.items h refl room.0 (again s.content (s.slot key.items) h) good
 
-  pub ops_legal : ((c : Content K V) (k : K) → IsLawful cmp c → with_list cmp c k (list_at cmp c k) ≡ c) → (xs : List (Op V)) (os : List Outcome) (s : View K V) → IsLawful cmp s.content → HaveSpace cmp xs s
-      → AreAccepted cmp xs os s → IsLegal cmp first ask (map command_of xs) os s (after_ops cmp xs s)
+  pub ops_legal : ((c : Content K V) (k : K) → IsLawful cmp c → with_list cmp c k (list_at cmp c k) ≡ c) → (xs : List (Op V)) (os : List Outcome) (s : View K V) → IsLawful cmp s.content → HaveSpace cmp first xs s
+      → AreAccepted cmp first xs os s → IsLegal cmp first ask (map command_of xs) os s (after_ops cmp first xs s)
   ops_legal again [] [] s h room good = refl
   ops_legal again [] (out ∷ os) s h room good = absurd good
   ops_legal again (x ∷ xs) [] s h room good = absurd good
   ops_legal again (x ∷ xs) (out ∷ os) s h room good =
-      (after_op cmp x s, op_legal again x out s h (room.0, tt) good.0, ops_legal again xs os (after_op cmp x s) (IsLawful-with_list o s.content (s.slot (op_key x)) _ h) room.1 good.1)
+      (after_op cmp first x s, op_legal again x out s h (room.0, tt) good.0, ops_legal again xs os (after_op cmp first x s) (IsLawful-with_list o s.content (s.slot (op_key x)) _ h) room.1 good.1)
 
 module _ {K V : Type 0} {cmp : K → K → Ordering} (o : IsTotalOrder cmp) (exact : (x y : K) → cmp x y ≡ Equal → x ≡ y) where
-  pub runs_as : (first : Bool) (ops : List (Op V)) (s t : View K V) → IsLawful cmp s.content → t ≡ after_ops cmp ops s → RunsAs cmp first ops s t
+  pub runs_as : (first : Bool) (ops : List (Op V)) (s t : View K V) → IsLawful cmp s.content → t ≡ after_ops cmp first ops s → RunsAs cmp first ops s t
   runs_as first ops s t h is os good space =
       subst (λ u. IsLegal cmp first (λ f v b g. ⊥) (map (command_of {F = Unit {0}}) ops) os s u) (sym is)
       (ops_legal o first (λ f v b g. ⊥) (λ c k l. with_list-same o exact c k l) ops os s h space good)

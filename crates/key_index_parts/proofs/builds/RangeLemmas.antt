@@ -119,61 +119,61 @@ set_length [] i x = refl
 set_length (z ∷ zs) zero x = refl
 set_length (z ∷ zs) (suc i) x = ap (λ n. suc n) (set_length zs i x)
 
-module _ {K V : Type 0} (cmp : K → K → Ordering) where
-  pub slot-after_ops : (xs : List (Op V)) (s : View K V) → (after_ops cmp xs s).slot ≡ s.slot
+module _ {K V : Type 0} (cmp : K → K → Ordering) (first : Bool) where
+  pub slot-after_ops : (xs : List (Op V)) (s : View K V) → (after_ops cmp first xs s).slot ≡ s.slot
   slot-after_ops [] s = refl
-  slot-after_ops (x ∷ xs) s = slot-after_ops xs (after_op cmp x s)
+  slot-after_ops (x ∷ xs) s = slot-after_ops xs (after_op cmp first x s)
 
-  pub admitted-after_ops : (xs : List (Op V)) (s : View K V) → (after_ops cmp xs s).admitted ≡ s.admitted
+  pub admitted-after_ops : (xs : List (Op V)) (s : View K V) → (after_ops cmp first xs s).admitted ≡ s.admitted
   admitted-after_ops [] s = refl
-  admitted-after_ops (x ∷ xs) s = admitted-after_ops xs (after_op cmp x s)
+  admitted-after_ops (x ∷ xs) s = admitted-after_ops xs (after_op cmp first x s)
 
-  pub after_ops-append : (xs : List (Op V)) (x : Op V) (s : View K V) → after_ops cmp (xs ++ x ∷ []) s ≡ after_op cmp x (after_ops cmp xs s)
+  pub after_ops-append : (xs : List (Op V)) (x : Op V) (s : View K V) → after_ops cmp first (xs ++ x ∷ []) s ≡ after_op cmp first x (after_ops cmp first xs s)
   after_ops-append [] x s = refl
-  after_ops-append (y ∷ ys) x s = after_ops-append ys x (after_op cmp y s)
+  after_ops-append (y ∷ ys) x s = after_ops-append ys x (after_op cmp first y s)
 
 -- what the ops below a number leave
-abbrev pub upto : {K V : Type 0} → (K → K → Ordering) → (K → ℕ) → List (Op V) → View K V → ℕ → View K V
-upto cmp partition ops start a = after_ops cmp (ops_below (number_of partition start.slot) a ops) start
+abbrev pub upto : {K V : Type 0} → (K → K → Ordering) → Bool → (K → ℕ) → List (Op V) → View K V → ℕ → View K V
+upto cmp first partition ops start a = after_ops cmp first (ops_below (number_of partition start.slot) a ops) start
 
-module _ {R K V : Type 0} {cmp : K → K → Ordering} {view : R → View K V} {keys : List ℕ → K} {partition : K → ℕ} where
+module _ {R K V : Type 0} {cmp : K → K → Ordering} {first : Bool} {view : R → View K V} {keys : List ℕ → K} {partition : K → ℕ} where
   -- one op more, elsewhere
   filled_other : (ops : List (Op V)) (x : Op V) (a b : ℕ) (r : R) → is_between a b (number_of partition keys (op_key x)) ≡ false
-      → IsFilled cmp view keys partition ops a b r → IsFilled cmp view keys partition (ops ++ x ∷ []) a b r
-  filled_other ops x a b r out was = record { holds = was.holds ∙ ap (λ l. after_ops cmp l (empty_view keys (λ k. is_between a b (partition k)))) (sym (filter_out _ ops x out)) }
+      → IsFilled cmp first view keys partition ops a b r → IsFilled cmp first view keys partition (ops ++ x ∷ []) a b r
+  filled_other ops x a b r out was = record { holds = was.holds ∙ ap (λ l. after_ops cmp first l (empty_view keys (λ k. is_between a b (partition k)))) (sym (filter_out _ ops x out)) }
 
   -- and here
   filled_here : (ops : List (Op V)) (x : Op V) (a b : ℕ) (r n : R) → is_between a b (number_of partition keys (op_key x)) ≡ true
-      → view n ≡ after_op cmp x (view r)
-      → IsFilled cmp view keys partition ops a b r → IsFilled cmp view keys partition (ops ++ x ∷ []) a b n
+      → view n ≡ after_op cmp first x (view r)
+      → IsFilled cmp first view keys partition ops a b r → IsFilled cmp first view keys partition (ops ++ x ∷ []) a b n
   filled_here ops x a b r n inside fills was =
       let none = empty_view keys (λ k. is_between a b (partition k)) in
-      record { holds = fills ∙ ap (λ s. after_op cmp x s) was.holds ∙ sym (after_ops-append cmp (ops_within (number_of partition keys) a b ops) x none) ∙ ap (λ l. after_ops cmp l none) (sym (filter_in _ ops x inside)) }
+      record { holds = fills ∙ ap (λ s. after_op cmp first x s) was.holds ∙ sym (after_ops-append cmp first (ops_within (number_of partition keys) a b ops) x none) ∙ ap (λ l. after_ops cmp first l none) (sym (filter_in _ ops x inside)) }
 
   -- the keys and the partitions of a filled range
-  pub filled_slot : (ops : List (Op V)) (a b : ℕ) (r : R) → IsFilled cmp view keys partition ops a b r → (view r).slot ≡ keys
-  filled_slot ops a b r is = ap (λ s. s.slot) is.holds ∙ slot-after_ops cmp (ops_within (number_of partition keys) a b ops) (empty_view keys (λ k. is_between a b (partition k)))
+  pub filled_slot : (ops : List (Op V)) (a b : ℕ) (r : R) → IsFilled cmp first view keys partition ops a b r → (view r).slot ≡ keys
+  filled_slot ops a b r is = ap (λ s. s.slot) is.holds ∙ slot-after_ops cmp first (ops_within (number_of partition keys) a b ops) (empty_view keys (λ k. is_between a b (partition k)))
 
-  pub filled_covers : (ops : List (Op V)) (a b : ℕ) (r : R) → IsFilled cmp view keys partition ops a b r → (k : K) → (view r).admitted k ≡ is_between a b (partition k)
-  filled_covers ops a b r is k = ap (λ s. s.admitted k) is.holds ∙ ap (λ f. f k) (admitted-after_ops cmp (ops_within (number_of partition keys) a b ops) (empty_view keys (λ q. is_between a b (partition q))))
+  pub filled_covers : (ops : List (Op V)) (a b : ℕ) (r : R) → IsFilled cmp first view keys partition ops a b r → (k : K) → (view r).admitted k ≡ is_between a b (partition k)
+  filled_covers ops a b r is k = ap (λ s. s.admitted k) is.holds ∙ ap (λ f. f k) (admitted-after_ops cmp first (ops_within (number_of partition keys) a b ops) (empty_view keys (λ q. is_between a b (partition q))))
 
   pub filled_more : (cuts : List ℕ) (total : ℕ) → IsCuts cuts total → (ops : List (Op V)) (x : Op V) (ranges : List R) (j : ℕ) (r n : R)
       → j + 1 < length cuts → slice_index cuts j ≤ number_of partition keys (op_key x) → number_of partition keys (op_key x) < slice_index cuts (j + 1)
       → slice_get ranges j ≡ Some r
-      → view n ≡ after_op cmp x (view r)
-      → AreFilled cmp view keys partition ops cuts ranges → AreFilled cmp view keys partition (ops ++ x ∷ []) cuts (set ranges j n)
+      → view n ≡ after_op cmp first x (view r)
+      → AreFilled cmp first view keys partition ops cuts ranges → AreFilled cmp first view keys partition (ops ++ x ∷ []) cuts (set ranges j n)
   filled_more cuts total lawful ops x ranges j r n within low high here fills was = record {
     long = ap (λ m. m + 1) (set_length ranges j n) ∙ was.long;
     each = λ i y e.
         let number = number_of partition keys (op_key x) in
-        elim (nat_lt i j) as (λ u. nat_lt i j ≡ u → IsFilled cmp view keys partition (ops ++ x ∷ []) (slice_index cuts i) (slice_index cuts (i + 1)) y) [
+        elim (nat_lt i j) as (λ u. nat_lt i j ≡ u → IsFilled cmp first view keys partition (ops ++ x ∷ []) (slice_index cuts i) (slice_index cuts (i + 1)) y) [
           | true ↦ λ p.
               let lt = ltb-true i j p in
               let rise = cuts_from cuts total lawful (i + 1) j (omega (arith, lt)) (omega (arith, within)) in
               filled_other ops x _ _ y (not_between_above _ _ number (omega (arith, rise, low))) (was.each i y (sym (set_other ranges j i n (λ q. omega (arith, q, lt))) ∙ e))
           | false ↦ λ p.
               let ge = ltb-false i j p in
-              elim (nat_lt j i) as (λ u. nat_lt j i ≡ u → IsFilled cmp view keys partition (ops ++ x ∷ []) (slice_index cuts i) (slice_index cuts (i + 1)) y) [
+              elim (nat_lt j i) as (λ u. nat_lt j i ≡ u → IsFilled cmp first view keys partition (ops ++ x ∷ []) (slice_index cuts i) (slice_index cuts (i + 1)) y) [
                 | true ↦ λ q.
                     let gt = ltb-true j i q in
                     let long = was.long in
@@ -185,47 +185,47 @@ module _ {R K V : Type 0} {cmp : K → K → Ordering} {view : R → View K V} {
                     let le = ltb-false j i q in
                     let same : j ≡ i = omega (arith, le, ge) in
                     let is : n ≡ y = set_same ranges j n y (ap (λ m. slice_get (set ranges j n) m) same ∙ e) in
-                    subst (λ m. IsFilled cmp view keys partition (ops ++ x ∷ []) (slice_index cuts m) (slice_index cuts (m + 1)) y) same
-                    (subst (λ m. IsFilled cmp view keys partition (ops ++ x ∷ []) (slice_index cuts j) (slice_index cuts (j + 1)) m) is
+                    subst (λ m. IsFilled cmp first view keys partition (ops ++ x ∷ []) (slice_index cuts m) (slice_index cuts (m + 1)) y) same
+                    (subst (λ m. IsFilled cmp first view keys partition (ops ++ x ∷ []) (slice_index cuts j) (slice_index cuts (j + 1)) m) is
                     (filled_here ops x _ _ r n (is_between-within _ _ number low high) fills (was.each j r here)))
               ] refl
         ] refl;
   }
 
-module _ {R K V : Type 0} {cmp : K → K → Ordering} {view : R → View K V} {partition : K → ℕ} where
+module _ {R K V : Type 0} {cmp : K → K → Ordering} {first : Bool} {view : R → View K V} {partition : K → ℕ} where
   module _ (o : IsTotalOrder cmp) (exact : (x y : K) → cmp x y ≡ Equal → x ≡ y) (ops : List (Op V)) (start : View K V) (lawful : IsLawful cmp start.content) where
-    installs_one : (a b : ℕ) (r : R) → a ≤ b → IsFree cmp (λ k. not (nat_lt (partition k) a)) start.content → IsFilled cmp view start.slot partition ops a b r → joined_view cmp (upto cmp partition ops start a) (view r) ≡ upto cmp partition ops start b
+    installs_one : (a b : ℕ) (r : R) → a ≤ b → IsFree cmp (λ k. not (nat_lt (partition k) a)) start.content → IsFilled cmp first view start.slot partition ops a b r → joined_view cmp (upto cmp first partition ops start a) (view r) ≡ upto cmp first partition ops start b
     installs_one a b r le free is =
-        ap (λ t. joined_view cmp (upto cmp partition ops start a) t) is.holds
-        ∙ join_ops o exact partition a b le ops start (empty_view start.slot (λ k. is_between a b (partition k))) refl lawful (tt, tt) free (λ k h. refl)
-        ∙ ap (λ s. after_ops cmp (ops_below (number_of partition start.slot) b ops) s) (λ i. record start { content = joined-empty o exact start.content lawful i; pruned = sym (pruned_none start.pruned) i })
+        ap (λ t. joined_view cmp (upto cmp first partition ops start a) t) is.holds
+        ∙ join_ops first o exact partition a b le ops start (empty_view start.slot (λ k. is_between a b (partition k))) refl lawful (tt, tt) free (λ k h. refl)
+        ∙ ap (λ s. after_ops cmp first (ops_below (number_of partition start.slot) b ops) s) (λ i. record start { content = joined-empty o exact start.content lawful i; pruned = sym (pruned_none start.pruned) i })
 
-    finds_empty : (a b : ℕ) (r : R) → IsFree cmp (λ k. not (nat_lt (partition k) a)) start.content → IsFilled cmp view start.slot partition ops a b r → IsFree cmp (view r).admitted (upto cmp partition ops start a).content
+    finds_empty : (a b : ℕ) (r : R) → IsFree cmp (λ k. not (nat_lt (partition k) a)) start.content → IsFilled cmp first view start.slot partition ops a b r → IsFree cmp (view r).admitted (upto cmp first partition ops start a).content
     finds_empty a b r free is k in_range =
-        free_above o exact partition a ops start free k
+        free_above first o exact partition a ops start free k
         (elim (nat_lt (partition k) a) as (λ u. not u && nat_lt (partition k) b ≡ true → not u ≡ true) [ true ↦ λ e. e | false ↦ λ e. refl ] (sym (filled_covers ops a b r is k) ∙ in_range))
 
     -- cut: the numbers from which the ranges go
     pub install_from : (cut : ℕ → ℕ) (i : ℕ) (ranges : List R) → ((j : ℕ) → IsFree cmp (λ k. not (nat_lt (partition k) j)) start.content)
-        → ((j : ℕ) (r : R) → slice_get ranges j ≡ Some r → IsFilled cmp view start.slot partition ops (cut (i + j)) (cut (i + j + 1)) r)
+        → ((j : ℕ) (r : R) → slice_get ranges j ≡ Some r → IsFilled cmp first view start.slot partition ops (cut (i + j)) (cut (i + j + 1)) r)
         → ((j : ℕ) → j < length ranges → cut (i + j) ≤ cut (i + j + 1))
-        → CanInstall cmp view ranges (upto cmp partition ops start (cut i)) × ((n : ℕ) → n ≤ length ranges → installed cmp view (take n ranges) (upto cmp partition ops start (cut i)) ≡ upto cmp partition ops start (cut (i + n)))
-    install_from cut i [] free each rise = (tt, λ n le. let none : n ≡ 0 = omega (arith, le) in let e : i ≡ i + n = omega (arith, none) in (λ t. installed cmp view (take (none t) []) (upto cmp partition ops start (cut i))) ∙ ap (λ m. upto cmp partition ops start (cut m)) e)
+        → CanInstall cmp view ranges (upto cmp first partition ops start (cut i)) × ((n : ℕ) → n ≤ length ranges → installed cmp view (take n ranges) (upto cmp first partition ops start (cut i)) ≡ upto cmp first partition ops start (cut (i + n)))
+    install_from cut i [] free each rise = (tt, λ n le. let none : n ≡ 0 = omega (arith, le) in let e : i ≡ i + n = omega (arith, none) in (λ t. installed cmp view (take (none t) []) (upto cmp first partition ops start (cut i))) ∙ ap (λ m. upto cmp first partition ops start (cut m)) e)
     install_from cut i (r ∷ rs) free each rise =
         let here : i + 0 ≡ i = omega arith in
         let next : i + 0 + 1 ≡ i + 1 = omega arith in
         let shift : (j : ℕ) → i + suc j ≡ (i + 1) + j = λ j. omega arith in
-        let is : IsFilled cmp view start.slot partition ops (cut i) (cut (i + 1)) r =
-        subst (λ m. IsFilled cmp view start.slot partition ops (cut i) (cut m) r) next (subst (λ m. IsFilled cmp view start.slot partition ops (cut m) (cut (i + 0 + 1)) r) here (each 0 r refl)) in
+        let is : IsFilled cmp first view start.slot partition ops (cut i) (cut (i + 1)) r =
+        subst (λ m. IsFilled cmp first view start.slot partition ops (cut i) (cut m) r) next (subst (λ m. IsFilled cmp first view start.slot partition ops (cut m) (cut (i + 0 + 1)) r) here (each 0 r refl)) in
         let up : cut i ≤ cut (i + 1) = subst (λ m. cut i ≤ cut m) next (subst (λ m. cut m ≤ cut (i + 0 + 1)) here (rise 0 (omega arith))) in
-        let step : joined_view cmp (upto cmp partition ops start (cut i)) (view r) ≡ upto cmp partition ops start (cut (i + 1)) = installs_one (cut i) (cut (i + 1)) r up (free (cut i)) is in
+        let step : joined_view cmp (upto cmp first partition ops start (cut i)) (view r) ≡ upto cmp first partition ops start (cut (i + 1)) = installs_one (cut i) (cut (i + 1)) r up (free (cut i)) is in
         let rest = install_from cut (i + 1) rs free
-        (λ j x e. subst (λ m. IsFilled cmp view start.slot partition ops (cut m) (cut (m + 1)) x) (shift j) (each (suc j) x e))
+        (λ j x e. subst (λ m. IsFilled cmp first view start.slot partition ops (cut m) (cut (m + 1)) x) (shift j) (each (suc j) x e))
         (λ j lt. subst (λ m. cut m ≤ cut (m + 1)) (shift j) (rise (suc j) (omega (arith, lt)))) in (
           (finds_empty (cut i) (cut (i + 1)) r (free (cut i)) is, subst (λ s. CanInstall cmp view rs s) (sym step) rest.0),
           elim [
-            | zero ↦ λ le. ap (λ m. upto cmp partition ops start (cut m)) (sym here)
-            | suc n ↦ λ le. ap (λ s. installed cmp view (take n rs) s) step ∙ rest.1 n (omega (arith, le)) ∙ ap (λ m. upto cmp partition ops start (cut m)) (sym (shift n))
+            | zero ↦ λ le. ap (λ m. upto cmp first partition ops start (cut m)) (sym here)
+            | suc n ↦ λ le. ap (λ s. installed cmp view (take n rs) s) step ∙ rest.1 n (omega (arith, le)) ∙ ap (λ m. upto cmp first partition ops start (cut m)) (sym (shift n))
           ],
         )
 
@@ -252,55 +252,56 @@ get_append P [] x each last (suc i) y e = absurd (cc e)
 get_append P (z ∷ zs) x each last zero y e = each 0 y e
 get_append P (z ∷ zs) x each last (suc i) y e = get_append (λ j w. P (suc j) w) zs x (λ j w q. each (suc j) w q) last i y e
 
-module _ {R K V : Type 0} {cmp : K → K → Ordering} {view : R → View K V} {keys : List ℕ → K} {partition : K → ℕ} where
+module _ {R K V : Type 0} {cmp : K → K → Ordering} {first : Bool} {view : R → View K V} {keys : List ℕ → K} {partition : K → ℕ} where
   -- a new range
-  pub filled_none : (a b : ℕ) (r : R) → (view r).slot ≡ keys → ((k : K) → (view r).admitted k ≡ is_between a b (partition k)) → (view r).content ≡ [] → (view r).pruned ≡ 0 → IsFilled cmp view keys partition [] a b r
+  pub filled_none : (a b : ℕ) (r : R) → (view r).slot ≡ keys → ((k : K) → (view r).admitted k ≡ is_between a b (partition k)) → (view r).content ≡ [] → (view r).pruned ≡ 0 → IsFilled cmp first view keys partition [] a b r
   filled_none a b r slots covers empty nothing = record { holds = same_view empty nothing slots (λ i k. covers k i) }
 
-module _ {R K V : Type 0} {cmp : K → K → Ordering} {view : R → View K V} {partition : K → ℕ} where
+module _ {R K V : Type 0} {cmp : K → K → Ordering} {first : Bool} {view : R → View K V} {partition : K → ℕ} where
   pub install_filled : IsTotalOrder cmp → ((x y : K) → cmp x y ≡ Equal → x ≡ y) → (cuts : List ℕ) (total : ℕ) → IsCuts cuts total → (ops : List (Op V)) (ranges : List R) (start : View K V) → start.content ≡ []
-      → AreFilled cmp view start.slot partition ops cuts ranges
-      → CanInstall cmp view ranges start × ((n : ℕ) → n ≤ length ranges → installed cmp view (take n ranges) start ≡ upto cmp partition ops start (slice_index cuts n))
+      → AreFilled cmp first view start.slot partition ops cuts ranges
+      → CanInstall cmp view ranges start × ((n : ℕ) → n ≤ length ranges → installed cmp view (take n ranges) start ≡ upto cmp first partition ops start (slice_index cuts n))
   install_filled o exact cuts total lawful ops ranges start empty are =
       let long = are.long in
-      let none : upto cmp partition ops start (slice_index cuts 0) ≡ start = ap (λ a. upto cmp partition ops start a) lawful.starts ∙ ap (λ l. after_ops cmp l start) (ops_below-zero (number_of partition start.slot) ops) in
+      let none : upto cmp first partition ops start (slice_index cuts 0) ≡ start = ap (λ a. upto cmp first partition ops start a) lawful.starts ∙ ap (λ l. after_ops cmp first l start) (ops_below-zero (number_of partition start.slot) ops) in
       let shift : (j : ℕ) → j ≡ 0 + j = λ j. omega arith in
       let all = install_from {view = view} {partition = partition} o exact ops start (subst (λ c. IsLawful cmp c) (sym empty) (tt, tt)) (λ j. slice_index cuts j) 0 ranges
       (λ j k h. ap (λ c. list_at cmp c k) empty)
-      (λ j r e. subst (λ m. IsFilled cmp view start.slot partition ops (slice_index cuts m) (slice_index cuts (m + 1)) r) (shift j) (are.each j r e))
+      (λ j r e. subst (λ m. IsFilled cmp first view start.slot partition ops (slice_index cuts m) (slice_index cuts (m + 1)) r) (shift j) (are.each j r e))
       (λ j lt. subst (λ m. slice_index cuts m ≤ slice_index cuts (m + 1)) (shift j) (cuts_from cuts total lawful j (j + 1) (omega arith) (omega (arith, long, lt)))) in (
         subst (λ s. CanInstall cmp view ranges s) none all.0,
-        λ n le. ap (λ s. installed cmp view (take n ranges) s) (sym none) ∙ all.1 n le ∙ ap (λ m. upto cmp partition ops start (slice_index cuts m)) (sym (shift n)),
+        λ n le. ap (λ s. installed cmp view (take n ranges) s) (sym none) ∙ all.1 n le ∙ ap (λ m. upto cmp first partition ops start (slice_index cuts m)) (sym (shift n)),
       )
 
 pub on_ok_map : {A E : Type 0} {P Q : Type 0} (r : Result A E) → (P → Q) → OnOk r P → OnOk r Q
 on_ok_map (Ok a) f p = f p
 on_ok_map (Err e) f p = tt
 
-module _ {K V : Type 0} (cmp : K → K → Ordering) where
+module _ {K V : Type 0} (cmp : K → K → Ordering) (first : Bool) where
   -- what ops make of a content, whatever was pruned and is admitted
-  content-after_op : (x : Op V) (s t : View K V) → s.content ≡ t.content → s.slot ≡ t.slot → (after_op cmp x s).content ≡ (after_op cmp x t).content
-  content-after_op x s t c l = λ i. with_list cmp (c i) (l i (op_key x)) (list_after x (list_at cmp (c i) (l i (op_key x))))
+  content-after_op : (x : Op V) (s t : View K V) → s.content ≡ t.content → s.slot ≡ t.slot → (after_op cmp first x s).content ≡ (after_op cmp first x t).content
+  content-after_op x s t c l = λ i. with_list cmp (c i) (l i (op_key x)) (list_after first x (list_at cmp (c i) (l i (op_key x))))
 
-  content-after_ops : (xs : List (Op V)) (s t : View K V) → s.content ≡ t.content → s.slot ≡ t.slot → (after_ops cmp xs s).content ≡ (after_ops cmp xs t).content
+  content-after_ops : (xs : List (Op V)) (s t : View K V) → s.content ≡ t.content → s.slot ≡ t.slot → (after_ops cmp first xs s).content ≡ (after_ops cmp first xs t).content
   content-after_ops [] s t c l = c
-  content-after_ops (x ∷ xs) s t c l = content-after_ops xs (after_op cmp x s) (after_op cmp x t) (content-after_op x s t c l) l
+  content-after_ops (x ∷ xs) s t c l = content-after_ops xs (after_op cmp first x s) (after_op cmp first x t) (content-after_op x s t c l) l
 
   content-after_begun : (n : ℕ) (x : Op V) (s t : View K V) → s.content ≡ t.content → s.slot ≡ t.slot → (after_begun cmp n x s).content ≡ (after_begun cmp n x t).content
+  content-after_begun n (op.Insert key v) s t c l = c
   content-after_begun n (op.GetOrInsert key v) s t c l = c
   content-after_begun n (op.Edit key steps) s t c l = λ i. with_list cmp (c i) (l i key.items) (edit_held (take n steps.items) (list_at cmp (c i) (l i key.items))).items
 
-module _ {R K V : Type 0} {cmp : K → K → Ordering} {view : R → View K V} {partition : K → ℕ} (cuts : List ℕ) (ops : List (Op V)) (start : View K V) (empty : start.content ≡ []) (place : ℕ) (done : List (Op V)) (r : R)
-    (is : IsFilled cmp view start.slot partition done (slice_index cuts place) (slice_index cuts (place + 1)) r) where
-  content-filled : (filled_by cmp partition cuts ops start place done).content ≡ (view r).content
+module _ {R K V : Type 0} {cmp : K → K → Ordering} {first : Bool} {view : R → View K V} {partition : K → ℕ} (cuts : List ℕ) (ops : List (Op V)) (start : View K V) (empty : start.content ≡ []) (place : ℕ) (done : List (Op V)) (r : R)
+    (is : IsFilled cmp first view start.slot partition done (slice_index cuts place) (slice_index cuts (place + 1)) r) where
+  content-filled : (filled_by cmp first partition cuts ops start place done).content ≡ (view r).content
   content-filled =
       let a = slice_index cuts place in
       let b = slice_index cuts (place + 1) in
-      content-after_ops cmp (ops_within (number_of partition start.slot) a b done) start (empty_view start.slot (λ k. is_between a b (partition k))) empty refl ∙ ap (λ s. s.content) (sym is.holds)
+      content-after_ops cmp first (ops_within (number_of partition start.slot) a b done) start (empty_view start.slot (λ k. is_between a b (partition k))) empty refl ∙ ap (λ s. s.content) (sym is.holds)
 
   -- an op that a range refuses
   pub fills_up : (rest : List (Op V)) (x : Op V) (fault : Fault) → done ++ x ∷ rest ≡ ops → place + 1 < length cuts → IsTrue (is_between (slice_index cuts place) (slice_index cuts (place + 1)) (number_of partition start.slot (op_key x))) → IsFillFault fault (λ n. after_begun cmp n x (view r))
-      → IsFillingFault cmp partition cuts ops start fault
+      → IsFillingFault cmp first partition cuts ops start fault
   fills_up rest x fault split among goes (inl want) = inl want
   fills_up rest x fault split among goes (inr full) = inr (
     full.0,
@@ -314,8 +315,8 @@ module _ {R K V : Type 0} {cmp : K → K → Ordering} {view : R → View K V} {
       among = among;
       goes = goes;
       full =
-          ap (λ c. item_count c) (content-after_begun cmp full.1 x (filled_by cmp partition cuts ops start place done) (view r) content-filled
-          (slot-after_ops cmp (ops_within (number_of partition start.slot) (slice_index cuts place) (slice_index cuts (place + 1)) done) start ∙ sym (filled_slot done (slice_index cuts place) (slice_index cuts (place + 1)) r is)))
+          ap (λ c. item_count c) (content-after_begun cmp first full.1 x (filled_by cmp first partition cuts ops start place done) (view r) content-filled
+          (slot-after_ops cmp first (ops_within (number_of partition start.slot) (slice_index cuts place) (slice_index cuts (place + 1)) done) start ∙ sym (filled_slot done (slice_index cuts place) (slice_index cuts (place + 1)) r is)))
           ∙ full.2;
     },
   )
@@ -325,30 +326,30 @@ pub take-refilled : {A : Type 0} (n : ℕ) (new items : List A) → n ≡ length
 take-refilled n new items known same =
     ap (λ l. take n (new ++ l)) (drop_all (length new) items (omega (arith, same))) ∙ ap (λ l. take n l) (append-nil new) ∙ take_all n new (omega (arith, known, same))
 
-module _ {R K V : Type 0} {cmp : K → K → Ordering} {view : R → View K V} {partition : K → ℕ}
+module _ {R K V : Type 0} {cmp : K → K → Ordering} {first : Bool} {view : R → View K V} {partition : K → ℕ}
     (o : IsTotalOrder cmp) (exact : (x y : K) → cmp x y ≡ Equal → x ≡ y) (cuts : List ℕ) (total : ℕ) (lawful : IsCuts cuts total) (ops : List (Op V)) (ranges : List R) (start : View K V) (empty : start.content ≡ [])
-    (are : AreFilled cmp view start.slot partition ops cuts ranges) where
+    (are : AreFilled cmp first view start.slot partition ops cuts ranges) where
   pub build_done : AreBelow (number_of partition start.slot) total ops → (all : List R) → all ≡ ranges → (answer : Result (Unit {0}) Fault) (after : View K V)
-      → OnOk answer (after ≡ installed cmp view all start) → OnOk answer (after ≡ after_ops cmp ops start)
+      → OnOk answer (after ≡ installed cmp view all start) → OnOk answer (after ≡ after_ops cmp first ops start)
   build_done below all same answer after said =
       let long = are.long in
       let last : length ranges ≡ length cuts - 1 = omega (arith, long) in
       let each = (install_filled o exact cuts total lawful ops ranges start empty are).1 (length ranges) (omega arith) in
-      let is : installed cmp view all start ≡ after_ops cmp ops start =
+      let is : installed cmp view all start ≡ after_ops cmp first ops start =
       ap (λ l. installed cmp view l start) (same ∙ sym (take_whole ranges)) ∙ each
-      ∙ ap (λ n. after_ops cmp (ops_below (number_of partition start.slot) n ops) start) (ap (λ i. slice_index cuts i) last ∙ lawful.ends) ∙ ap (λ l. after_ops cmp l start) (below_all (number_of partition start.slot) total ops below) in
+      ∙ ap (λ n. after_ops cmp first (ops_below (number_of partition start.slot) n ops) start) (ap (λ i. slice_index cuts i) last ∙ lawful.ends) ∙ ap (λ l. after_ops cmp first l start) (below_all (number_of partition start.slot) total ops below) in
       on_ok_map {P = after ≡ installed cmp view all start} answer (λ e. e ∙ is) said
 
   pub build_refused : (all : List R) → all ≡ ranges → (answer : Result (Unit {0}) Fault) (after : View K V)
-      → IfErr answer (StopsAt cmp view all start after) → IfErr answer (RefusesBuild cmp partition cuts ops start after)
+      → IfErr answer (StopsAt cmp view all start after) → IfErr answer (RefusesBuild cmp first partition cuts ops start after)
   build_refused all same (Ok a) after said = tt
   build_refused all same (Err fault) after said =
       let n = said.count in
       let found = ap (λ l. slice_get l n) (sym same) ∙ said.found in
       let lt = get_within ranges n said.refused found in
       let long = are.long in
-      let left : after ≡ built_upto cmp partition cuts ops start n =
+      let left : after ≡ built_upto cmp first partition cuts ops start n =
       said.left ∙ ap (λ l. installed cmp view (take n l) start) same ∙ (install_filled o exact cuts total lawful ops ranges start empty are).1 n (omega (arith, lt)) in
-      let items : items_in (view said.refused) ≡ items_in (filled_by cmp partition cuts ops start n ops) =
+      let items : items_in (view said.refused) ≡ items_in (filled_by cmp first partition cuts ops start n ops) =
       ap (λ c. item_count c) (sym (content-filled cuts ops start empty n ops said.refused (are.each n said.refused found))) in
       inr (n, omega (arith, lt, long), left, said.why ∙ (λ i. install_fault (items_in (left i)) (items i)))

@@ -491,6 +491,8 @@ impl<T: Translator, V: Drop, const P: usize> Partitioned for Index<T, V, P> {
 
     ghost prefix = { partition_by P };
 
+    ghost one_end = { refl };
+
     ghost files = { λ index b _. partition_by-made P b index.is_index.least index.is_index.greatest };
 
     ghost within = { λ b h. partition_by-below P b h };

@@ -173,6 +173,8 @@ impl<T: Translator, V: Drop, X: Bucket<T, V> + Drop, const P: usize> PartitionRa
     for RangeIndex<T, V, X, P> {
     ghost use Rattle.key_index_parts.specs.laws.RangeLaws.{gathered_from-covers};
 
+    ghost INSERT_FIRST = { X.FIRST };
+
     ghost offset = { λ range. range.offset };
 
     ghost count = { λ range. length range.storage.buckets };
@@ -189,6 +191,15 @@ impl<T: Translator, V: Drop, X: Bucket<T, V> + Drop, const P: usize> PartitionRa
     fn holds(&self, key: &[u8]) -> bool {
         let (partition, _) = partition_index_and_sub_key::<P>(key);
         self.covers(partition)
+    }
+
+    fn insert(&mut self, key: &[u8], value: V) -> Result<(), Refused<V>> {
+        let slot = self.slot_of(key);
+        let own = self.own(slot);
+        match self.storage.insert(own, value) {
+            Ok(()) => Ok(()),
+            Err(refused) => Err(refused),
+        }
     }
 
     #[inline]

@@ -435,6 +435,7 @@ impl<T: Translator, V: Drop, X: Bucket<T, V> + Drop, const P: usize> Storage<T, 
         ensures refused { OnErr result (self.new ≡ self.old) }
         ensures kept { KeepsBuckets T.Key.cmp self.old.buckets self.new.buckets }
         ensures returned { IfErr result (λ back. back ≡ value) }
+        ensures range_bound { KeepsRange self.old self.new }
     {
         match self.buckets.insert(slot, value, self.threshold) {
             Ok((absent, moved)) => {
@@ -515,6 +516,7 @@ impl<T: Translator, V: Drop, X: Bucket<T, V> + Drop, const P: usize> Storage<T, 
         ensures kept { KeepsBuckets T.Key.cmp self.old.buckets self.new.buckets }
         ensures returned { IfErr result (λ r. r.value ≡ value) }
         ensures fault { IfErr result (λ r. r.fault ≡ growth_fault (item_count (gathered self.old.buckets))) }
+        ensures range_bound { KeepsRange self.old self.new }
     {
         if self.is_full() {
             return Err(Refused::full(value));

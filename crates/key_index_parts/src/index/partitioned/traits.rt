@@ -1,17 +1,19 @@
 //! What the indices in partitions have in common, and their ranges.
-ghost use Rattle.std.specs.Prelude.{◌≡◌, ◌↔◌, ℕ, ◌+◌, ◌<◌, ◌≤◌, List, [], not, nat_eq, IsTrue, IfErr, OnOk, OnErr, IfOk};
+ghost use Rattle.std.specs.Prelude.{◌≡◌, ◌↔◌, ℕ, Bool, ◌+◌, ◌<◌, ◌≤◌, List, [], not, nat_eq, IsTrue, IfErr, OnOk, OnErr, IfOk};
 ghost use Rattle.std.specs.Fn.{CalledAt};
 ghost use Rattle.key_index_flat.specs.Content.{key_count};
 ghost use Rattle.key_index_flat.specs.FullKeys.{IsBytes};
-ghost use Rattle.key_index_flat.specs.View.{items_in, Admits};
+ghost use Rattle.key_index_flat.specs.View.{items_in, after_insert, growth_fault_in, Admits, AlsoAt, StaysBut};
 ghost use Rattle.key_index_flat.specs.Values.{values_of, VisitsEach};
 ghost use Rattle.key_index_parts.specs.Joined.{IsFree, IsSpanKept, is_between, install_fault, joined_view};
 
-use key_index_flat::index::{Fault, Search, Unordered};
+use key_index_flat::index::{Fault, Refused, Search, Unordered};
 
 /// Some neighbouring partitions of an index, apart from it: what they hold is read and changed by the same keys as in the index, and is
-/// then installed in it. A range has `get_mut` and `get_mut_or_insert` as an index has them, for a key that it `holds`.
+/// then installed in it. A range has `insert`, `get_mut` and `get_mut_or_insert` as an index has them, for a key that it `holds`.
 pub trait PartitionRange: Search {
+    ghost INSERT_FIRST: { Bool };
+
     ghost offset: { Self → ℕ };
 
     ghost count: { Self → ℕ };
@@ -19,6 +21,17 @@ pub trait PartitionRange: Search {
     /// Whether the range covers the key's partition.
     fn holds(&self, key: &[u8]) -> bool
         ensures { IsTrue result ↔ Admits (Self.view self.now) key.now };
+
+    /// Adds a value as `insert` of the range's index does.
+    fn insert(&mut self, key: &[u8], value: Self::Value) -> Result<(), Refused<Self::Value>>
+        requires admits { Admits (Self.view self.old) key.now }
+        ensures accepted { OnOk result (Self.view self.new
+            ≡ after_insert Self.Key.cmp INSERT_FIRST (Self.view self.old) key.now value) }
+        ensures settled { OnOk result (AlsoAt Self.view Self.settled self.old key.now self.new) }
+        ensures room { OnOk result (items_in (Self.view self.old) < usize.MAX) }
+        ensures refused { OnErr result (StaysBut Self.view Self.left_by_refusal self.old key.now self.new) }
+        ensures returned { IfErr result (λ r. r.value ≡ value) }
+        ensures fault { IfErr result (λ r. r.fault ≡ growth_fault_in (Self.view self.old)) };
 
     /// The first partition that the range covers.
     fn offset(&self) -> usize
@@ -108,6 +121,8 @@ pub trait Partitioned: Unordered {
         ensures returned { IfErr result (λ e. e.0 ≡ range) }
         ensures fault { IfErr result (λ e. e.1
             ≡ install_fault (items_in (Self.view self.old)) (items_in (Self.Range.view range))) };
+
+    ghost one_end: { Self.Range.INSERT_FIRST ≡ Self.INSERT_FIRST };
 
     ghost files: { (x : Self) (b : List ℕ) → IsBytes b → partition ((Self.view x).slot b) ≡ prefix b };
 

@@ -5,4 +5,4 @@ use Rattle.key_index.proofs.snapshot.Snapshot.build.Goals as goal
 
 pub returns-clause-built : goal.returns-clause-built
 returns-clause-built g c =
-    ap positions_in c.in_ok-build_in_ranges.ensures.built ∙ same_entries_map _ _ (c.in_ok-ops.ensures.built ∙ c.in_ok-last.ensures.last)
+    ap positions_in c.in_ok-build_in_ranges.ensures.built ∙ same_entries_map _ _ (c.in_ok-ops.ensures.filled.built ∙ c.in_ok-last.ensures.last)

@@ -24,6 +24,7 @@ fn partition_at<I: Partitioned>(op: &Op<I::Value>) -> usize
     ensures below { result < I.partitions }
 {
     match op {
+        Op::Insert(key, _) => partition_of_key::<I>(key.as_slice()),
         Op::GetOrInsert(key, _) => partition_of_key::<I>(key.as_slice()),
         Op::Edit(key, _) => partition_of_key::<I>(key.as_slice()),
     }
@@ -53,7 +54,7 @@ fn make_ranges<I: Partitioned>(
 ) -> Result<Vec<I::Range>, Fault>
     requires { IsCuts cuts.now I.partitions }
     ensures made { IfOk result (λ ranges.
-        AreFilled I.Key.cmp I.Range.view (I.view index.now).slot I.partition [] cuts.now ranges.items) }
+        AreFilled I.Key.cmp I.INSERT_FIRST I.Range.view (I.view index.now).slot I.partition [] cuts.now ranges.items) }
     ensures fault { IfErr result (λ f. f ≡ Fault.Memory) }
 {
     let mut ranges = Vec::with_capacity(alloc, cuts.len() - 1)?;
@@ -78,11 +79,11 @@ where
     I::Value: Drop,
     requires none { (I.view index.now).content ≡ [] }
     requires cuts { IsCuts cuts.now I.partitions }
-    requires empty { AreFilled I.Key.cmp I.Range.view (I.view index.now).slot I.partition [] cuts.now ranges.old }
+    requires empty { AreFilled I.Key.cmp I.INSERT_FIRST I.Range.view (I.view index.now).slot I.partition [] cuts.now ranges.old }
     ensures filled { OnOk result (
-        AreFilled I.Key.cmp I.Range.view (I.view index.now).slot I.partition ops.items cuts.now ranges.new) }
+        AreFilled I.Key.cmp I.INSERT_FIRST I.Range.view (I.view index.now).slot I.partition ops.items cuts.now ranges.new) }
     ensures below { OnOk result (AreBelow (number_of I.partition (I.view index.now).slot) I.partitions ops.items) }
-    ensures refused { IfErr result (IsFillingFault I.Key.cmp I.partition cuts.now ops.items (I.view index.now)) }
+    ensures refused { IfErr result (IsFillingFault I.Key.cmp I.INSERT_FIRST I.partition cuts.now ops.items (I.view index.now)) }
 {
     let mut rest = ops.into_iter();
     'ops: while let Some(op) = rest.next() {
@@ -126,11 +127,12 @@ where
     I::Value: Drop,
     requires empty { (I.view index.old).content ≡ [] }
     requires cuts { IsCuts cuts.now I.partitions }
-    ensures built { OnOk result (I.view index.new ≡ after_ops I.Key.cmp ops.items (I.view index.old)) }
+    ensures built { OnOk result (I.view index.new ≡ after_ops I.Key.cmp I.INSERT_FIRST ops.items (I.view index.old)) }
     ensures runs { OnOk result (
         RunsAs I.Key.cmp I.INSERT_FIRST ops.items (I.view index.old) (I.view index.new)) }
     ensures refused { IfErr result (
-        RefusesBuild I.Key.cmp I.partition cuts.now ops.items (I.view index.old) (I.view index.new)) }
+        RefusesBuild I.Key.cmp I.INSERT_FIRST I.partition cuts.now ops.items
+        (I.view index.old) (I.view index.new)) }
 {
     let mut ranges = make_ranges(alloc, &*index, cuts)?;
     fill_all(&*index, ranges.as_mut_slice(), cuts, ops)?;

@@ -2,7 +2,7 @@
 ghost use Rattle.std.specs.Prelude.{◌≡◌, ◌<◌, length, take, IsTrue, IfErr, OnOk};
 ghost use Rattle.key_index_flat.specs.CursorRun.{EditsBy};
 ghost use Rattle.key_index_flat.specs.Run.{one_if_absent};
-ghost use Rattle.key_index_flat.specs.View.{run_at, with_edit, growth_fault_in, Admits};
+ghost use Rattle.key_index_flat.specs.View.{run_at, after_insert, with_edit, growth_fault_in, Admits};
 ghost use Rattle.key_index_parts.specs.Fill.{RefusesStep, IsFillFault};
 ghost use Rattle.key_index_parts.specs.Ops.{after_op, after_begun, after_steps, edited_by, op_key};
 
@@ -79,15 +79,29 @@ where
     Ok(())
 }
 
+/// A value, at its end of the key's list.
+fn fill_insert<R: PartitionRange>(range: &mut R, key: &[u8], value: R::Value) -> Result<(), Fault>
+where
+    R::Value: Drop,
+    requires { Admits (R.view range.old) key.now }
+    ensures filled { OnOk result (R.view range.new
+        ≡ after_insert R.Key.cmp R.INSERT_FIRST (R.view range.old) key.now value) }
+    ensures fault { IfErr result (λ f. f ≡ growth_fault_in (R.view range.old)) }
+{
+    range.insert(key, value)?;
+    Ok(())
+}
+
 /// One op, at a key whose partition the range covers.
 pub(crate) fn fill<R: PartitionRange>(range: &mut R, op: Op<R::Value>) -> Result<(), Fault>
 where
     R::Value: Drop,
     requires { Admits (R.view range.old) (op_key op) }
-    ensures filled { OnOk result (R.view range.new ≡ after_op R.Key.cmp op (R.view range.old)) }
+    ensures filled { OnOk result (R.view range.new ≡ after_op R.Key.cmp R.INSERT_FIRST op (R.view range.old)) }
     ensures refused { IfErr result (λ f. IsFillFault f (λ n. after_begun R.Key.cmp n op (R.view range.old))) }
 {
     match op {
+        Op::Insert(key, value) => fill_insert(range, key.as_slice(), value),
         Op::GetOrInsert(key, value) => fill_absent(range, key.as_slice(), value),
         Op::Edit(key, steps) => fill_edit(range, key.as_slice(), steps),
     }

@@ -3,7 +3,7 @@ use Rattle.std.specs.Prelude.{slice_index}
 use Rattle.std.specs.Vec.Iter.{into_iter_items}
 use Rattle.std.proofs.lemmas.Option.{slice_get-get_or}
 use Rattle.key_index_parts.specs.Joined.{is_between}
-use Rattle.key_index_parts.specs.Ops.{op_key}
+use Rattle.key_index_parts.specs.Ops.{after_op, op_key}
 use Rattle.key_index_parts.specs.Ranges.{number_of}
 use Rattle.key_index_parts.proofs.builds.DoneLemmas.{split_more}
 use Rattle.key_index_parts.proofs.builds.FillLemmas.{IfErr-IsErrAnd}
@@ -47,7 +47,7 @@ ops-preserved g c =
       filled = filled_more cuts g.I.Partitioned.partitions c.requires.cuts was.done op c.ops.ranges at r c.fill.new.range within
           (subst (λ n. slice_index cuts at ≤ n) number c.place_among-at.ensures.low) (subst (λ n. n < slice_index cuts (at + 1)) number c.place_among-at.ensures.high)
           (slice_get-get_or c.ops.ranges at c.index-ranges-at.result (omega (arith, long, within)))
-          c.in_ok-fill.ensures.filled was.filled;
+          (c.in_ok-fill.ensures.filled ∙ ap (λ first. after_op g.I.Key.Ord.cmp first op (g.I.Range.Runs.view r)) g.met.I.Partitioned.one_end) was.filled;
       below = below_more (number_of g.I.Partitioned.partition (g.I.Runs.view c.args.index.now).slot) g.I.Partitioned.partitions was.done op was.below (subst (λ n. n < g.I.Partitioned.partitions) number c.partition_at.ensures.below);
     }
 

@@ -10,7 +10,7 @@ invariant-ops g l = record {
   known : into_iter_len l.rest ≡ length (into_iter_items l.rest);
   done : List (Op g.row.I-Value.Denot);
   split : done ++ into_iter_items l.rest ≡ l.fn.ops.items;
-  filled : AreFilled g.I.Key.Ord.cmp g.I.Range.Runs.view (g.I.Runs.view l.index).slot g.I.Partitioned.partition done l.cuts l.ranges;
+  filled : AreFilled g.I.Key.Ord.cmp g.I.Unordered.INSERT_FIRST g.I.Range.Runs.view (g.I.Runs.view l.index).slot g.I.Partitioned.partition done l.cuts l.ranges;
   below : AreBelow (number_of g.I.Partitioned.partition (g.I.Runs.view l.index).slot) g.I.Partitioned.partitions done;
 }
 

@@ -35,7 +35,7 @@ cuts-preserved g c =
     let from : g.I.Range.PartitionRange.offset range ≡ slice_index cuts (length ranges) = start ∙ ap (λ i. slice_index cuts i) before in
     let sum : g.I.Range.PartitionRange.offset range + g.I.Range.PartitionRange.count range ≡ slice_index cuts at = omega (arith, start, count, up) in
     let to : g.I.Range.PartitionRange.offset range + g.I.Range.PartitionRange.count range ≡ slice_index cuts (length ranges + 1) = sum ∙ ap (λ i. slice_index cuts i) (sym long) in
-    let P : ℕ → g.row.I-Range.Denot → Type 0 = λ i r. IsFilled {R = g.row.I-Range.Denot} {K = g.row.I-Key.Denot} {V = g.row.I-Value.Denot} g.I.Key.Ord.cmp g.I.Range.Runs.view (g.I.Runs.view c.args.index.now).slot g.I.Partitioned.partition [] (slice_index cuts i) (slice_index cuts (i + 1)) r in
+    let P : ℕ → g.row.I-Range.Denot → Type 0 = λ i r. IsFilled {R = g.row.I-Range.Denot} {K = g.row.I-Key.Denot} {V = g.row.I-Value.Denot} g.I.Key.Ord.cmp g.I.Unordered.INSERT_FIRST g.I.Range.Runs.view (g.I.Runs.view c.args.index.now).slot g.I.Partitioned.partition [] (slice_index cuts i) (slice_index cuts (i + 1)) r in
     let last : P (length ranges) range = filled_none (slice_index cuts (length ranges)) (slice_index cuts (length ranges + 1)) range said.slots (λ k. g.met.I.Partitioned.covered range k ∙ (λ i. is_between (from i) (to i) (g.I.Partitioned.partition k))) said.empty said.pruned in
     record {
       within = omega (arith, lt);

@@ -26,3 +26,6 @@ returns-in-Ok-put-clause-settled g c = λ is.
     let mid = ap (λ s. s.standings) c.in-Ok.ensures.settled ∙ ap (λ b. settled_in b old n) is in
     settles_by old new n c.in-Ok.ensures.within c.in-Ok.ensures.least
     (c.in-Ok-put.ensures.standing ∙ (λ i. settled_in (is i) (with_entries (mid i) n (entries_at new n)) n))
+
+pub returns-in-Ok-put-clause-range_bound : goal.returns-in-Ok-put-clause-range_bound
+returns-in-Ok-put-clause-range_bound g c = λ before. c.put.ensures.range_bound (c.settle.ensures.range_bound before)

@@ -6,8 +6,10 @@ use Rattle.key_index_flat.proofs.entries.EntryLemmas.{length-put_value}
 use Rattle.key_index_parts.specs.Gathered.{gathered}
 use Rattle.key_index_parts.proofs.family.StorageLemmas.{within_buckets, keys_below, counted_gain, KeepsBuckets-edited, keeps_all, view_edited}
 use Rattle.key_index_parts.proofs.standing.StandingLemmas.{grows_to, pruned_after-zero}
-use Rattle.key_index_parts.proofs.standing.PaidLemmas.{StaysPaid-GrowsIn, listed_by}
+use Rattle.key_index_parts.proofs.standing.PaidLemmas.{StaysPaid, StaysPaid-GrowsIn, listed_by}
 use Rattle.key_index_parts.specs.Standing.{standings_of}
+use Rattle.key_index_parts.proofs.index.partitioned.storage.Storage.put.Given.{Over}
+use Rattle.key_index_parts.proofs.index.partitioned.storage.Storage.put.Goals.{After-spill}
 use Rattle.key_index_parts.proofs.index.partitioned.storage.Storage.put.Goals as goal
 
 pub insert-requires : goal.insert-requires
@@ -47,9 +49,20 @@ pub returns-in-Ok-clause-standing : goal.returns-in-Ok-clause-standing
 returns-in-Ok-clause-standing g c =
     rw (← c.self.view_is) (grows_to g.X.Bucket.SPILLS (standings_of c.self.inside.threshold c.self.inside.buckets.standing c.self.inside.moves.spills c.self.inside.moves.moved) c.args.slot.0 _ (listed_by _ _ c.self.inside.told c.args.slot.0 (within_buckets c.self.view_is c.args.slot.0 c.requires.within)) c.self.inside.least _ c.in-Ok.ensures.standing c.spill.ensures.spills c.spill.ensures.moved)
 
-pub invariant_of-self-inside : goal.invariant_of-self-inside
-invariant_of-self-inside g c =
-    let list = list_in g.T.Key.Ord.cmp c.self.inside.buckets.contents c.args.slot in
-    let inside = within_buckets c.self.view_is c.args.slot.0 c.requires.within in
+grown_paid : (g : Over) (c : After-spill g) → let s = c.self.inside in
+    StaysPaid (standings_of s.threshold s.buckets.standing s.moves.spills s.moves.moved) (standings_of s.threshold c.insert.new.self.standing c.spill.new.self.spills c.spill.new.self.moved) s.counts.pruned c.gain.new.self.pruned
+grown_paid g c =
+    let s = c.self.inside in
+    let list = list_in g.T.Key.Ord.cmp s.buckets.contents c.args.slot in
     let more = length-put_value g.X.Bucket.FIRST c.args.value list in
-    (c.self.inside.least, (c.insert.ensures.counted, ((StaysPaid-GrowsIn c.self.invariant g.met.T.Key.Ord.total c.args.slot (put_value g.X.Bucket.FIRST c.args.value list) c.insert.new.self.contents inside c.in-Ok.ensures.accepted.0 c.self.inside.buckets.standing _ c.self.inside.told c.insert.ensures.counted c.self.inside.threshold c.self.inside.moves.spills c.self.inside.moves.moved c.self.inside.counts.pruned _ 0 (omega (arith, more)) (c.gain.ensures.pruned ∙ sym (pruned_after-zero c.self.inside.counts.pruned)) g.X.Bucket.SPILLS c.self.inside.least c.in-Ok.ensures.standing c.spill.ensures.spills c.spill.ensures.moved).within c.self.inside.within, tt)))
+    StaysPaid-GrowsIn c.self.invariant g.met.T.Key.Ord.total c.args.slot (put_value g.X.Bucket.FIRST c.args.value list) c.insert.new.self.contents (within_buckets c.self.view_is c.args.slot.0 c.requires.within) c.in-Ok.ensures.accepted.0
+    s.buckets.standing _ s.told c.insert.ensures.counted s.threshold s.moves.spills s.moves.moved s.counts.pruned _ 0 (omega (arith, more)) (c.gain.ensures.pruned ∙ sym (pruned_after-zero s.counts.pruned))
+    g.X.Bucket.SPILLS s.least c.in-Ok.ensures.standing c.spill.ensures.spills c.spill.ensures.moved
+
+pub invariant_of-self-inside : goal.invariant_of-self-inside
+invariant_of-self-inside g c = (c.self.inside.least, (c.insert.ensures.counted, ((grown_paid g c).within c.self.inside.within, tt)))
+
+pub returns-in-Ok-clause-range_bound : goal.returns-in-Ok-clause-range_bound
+returns-in-Ok-clause-range_bound g c =
+    let stays = grown_paid g (goal.at.returns-in-Ok-clause-range_bound g c).After-spill in
+    rw (← c.self.view_is) stays.range_bound
