@@ -9,17 +9,21 @@ from xorshift import Numbers
 
 @case_of(*BY_ONE)
 def is_built_in_ranges(*words):
-    """Five ops in two ranges: two values come behind others, and a key loses both that it had."""
+    """Seven ops in two ranges: two values come behind others, a key loses both that it had, and two values are inserted, one where there
+    is none."""
     with Asked(*words) as index:
         index.keep("get_or_insert x1001 1")
         index.keep("get_or_insert x9001 2")
         index.keep("edit x1001 next insert:3")
         index.keep("get_or_insert x900105 4")
         index.keep("edit x9001 next delete next insert:5")
+        index.keep("insert x1001 6")
+        index.keep("insert x9101 7")
         index.ask("build 0 128 256", "ok")
-        index.holds(b"\x10\x01", [1, 3])
+        index.holds(b"\x10\x01", [6, 1, 3] if words[0].startswith("punordered") else [1, 3, 6])
         index.holds(b"\x90\x01", [5])
-        index.counts(2, 3, 1)
+        index.holds(b"\x91\x01", [7])
+        index.counts(3, 5, 1)
 
 
 @case_of(*BY_ONE)
@@ -57,8 +61,10 @@ def op(lists, numbers):
     """An op, which is also done to its key's list."""
     number = numbers.next()
     key = random_key(number)
-    if number // 64 % 2 == 0:
-        lists.get_or_insert(key, number)
-        return f"get_or_insert {word(key)} {number}"
+    kind = number // 64 % 4
+    if kind < 2:
+        name = ["get_or_insert", "insert"][kind]
+        getattr(lists, name)(key, number)
+        return f"{name} {word(key)} {number}"
     steps, _ = edit(lists, key, numbers)
     return " ".join(["edit", word(key), *steps])

@@ -106,9 +106,11 @@ def ranges_keep_lists(*words):
 
 
 def call(index, lists, numbers, key, number):
-    """One call of a range by a key that it holds, with an edit where the key has values."""
+    """One call of a range by a key that it holds: an insertion, or an edit where the key has values."""
     value, moves = numbers.next(), random_moves(numbers)
-    if value % 8 < 5:
+    if value % 8 == 0:
+        index.ask(f"range_insert {word(key)} {number} {value}", lists.insert(key, value))
+    elif value % 8 < 5:
         answer, _ = lists.edit_or_insert(key, value, moves)
         index.ask(" ".join(["range_edit_or_insert", word(key), str(number), str(value), *moves]), answer)
     else:

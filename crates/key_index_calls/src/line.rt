@@ -88,6 +88,7 @@ pub(crate) enum Name {
     Range,
     RangeAt,
     RangeCounts,
+    RangeInsert,
     RangeEdit,
     RangeEditAt,
     RangeEditOrInsert,
@@ -196,12 +197,13 @@ const OF_PARTITIONS: [(&str, Name); 8] = [
 ];
 
 /// Those of ranges.
-const OF_RANGES: [(&str, Name); 13] = [
+const OF_RANGES: [(&str, Name); 14] = [
     ("range", Name::Range),
     ("range_at", Name::RangeAt),
     ("install", Name::Install),
     ("can_install", Name::CanInstall),
     ("range_counts", Name::RangeCounts),
+    ("range_insert", Name::RangeInsert),
     ("range_edit", Name::RangeEdit),
     ("range_edit_or_insert", Name::RangeEditOrInsert),
     ("range_edit_at", Name::RangeEditAt),

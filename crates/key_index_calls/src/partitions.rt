@@ -119,10 +119,10 @@ fn ops(alloc: Global, lines: &[Line]) -> Result<Vec<Op<u64>>, AllocError> {
     let mut ops = Vec::new(alloc);
     for line in lines {
         let key = line.key(0).to_vec(alloc)?;
-        ops.push(if line.name == Name::GetOrInsert {
-            Op::GetOrInsert(key, line.number(0))
-        } else {
-            Op::Edit(key, steps(alloc, line)?)
+        ops.push(match line.name {
+            Name::Insert => Op::Insert(key, line.number(0)),
+            Name::GetOrInsert => Op::GetOrInsert(key, line.number(0)),
+            _ => Op::Edit(key, steps(alloc, line)?),
         })?;
     }
     Ok(ops)
@@ -185,6 +185,9 @@ fn edit_range<R: PartitionRange<Value = u64>>(range: &mut R, line: &Line, answer
     let key = line.key(0);
     if !range.holds(key) {
         answer.word("unallowed");
+    } else if line.name == Name::RangeInsert {
+        let value = line.number(1);
+        answer.given(range.insert(key, value), value);
     } else if line.name == Name::RangeEdit {
         edit(range, key, line, answer);
     } else if line.name == Name::RangeEditOrInsert {
@@ -217,6 +220,7 @@ fn is_of_range(line: &Line) -> bool {
         Name::RangeCounts
         | Name::RangeHolds
         | Name::RangeValues
+        | Name::RangeInsert
         | Name::RangeEdit
         | Name::RangeEditAt
         | Name::RangeEditOrInsert

@@ -1,5 +1,5 @@
 -- On a build: the last position of each key, and the ops that put a record of each in.
---     last_step      one record more
+--     put_commutes   what an insertion into the collecting map leaves; last_step: one record more
 --     filling_none, filling_step     what ops leave that insert records of rising keys
 use Rattle.std.proofs.Common.{◌≡◌, ℕ, zero, suc, ◌<◌, Bool, true, false, cond, if◌then◌else◌, nat_lt, List, [], ◌∷◌, ◌++◌, length, map, reverse, append_assoc, take, drop, slice_index_or, Option, Some, None, is_some, All, Vec, refl, sym, ap, subst, ◌∙◌, arith}
 use Rattle.std.proofs.lemmas.Bool.{false≢true, lt-ltb}
@@ -48,7 +48,7 @@ record_at e = record { key = e.0; position = e.1 }
 abbrev pub cmp_keys : Vec ℕ Global → Vec ℕ Global → Ordering
 cmp_keys x y = slice_cmp nat_cmp x.items y.items
 
-put_commutes : (es : List Entry) (k : Vec ℕ Global) (v : ℕ) → entries_of (insert_entry cmp_keys es k v) ≡ put byte_cmp k.items v (entries_of es)
+pub put_commutes : (es : List Entry) (k : Vec ℕ Global) (v : ℕ) → entries_of (insert_entry cmp_keys es k v) ≡ put byte_cmp k.items v (entries_of es)
 put_commutes [] k v = refl
 put_commutes (e ∷ es) k v =
     elim (cmp_keys k e.0) as (λ r. entries_of (match_ordering r ((k, v) ∷ e ∷ es) ((e.0, v) ∷ es) (e ∷ insert_entry cmp_keys es k v))

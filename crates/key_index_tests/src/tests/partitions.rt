@@ -167,30 +167,32 @@ fn record(
     push(rt, records, (bytes, position));
 }
 
-/// Four records of three keys, the newest first.
+/// Six records of four keys, the newest first. Two keys agree in the bytes that an index of these tests keeps.
 fn records(rt: &impl Abort, alloc: Global) -> Vec<(Vec<u8>, u64)> {
     let mut records = Vec::new(alloc);
     record(rt, alloc, &mut records, b"\x10\x01", 9);
     record(rt, alloc, &mut records, b"\x80\x01", 8);
-    record(rt, alloc, &mut records, b"\x10\x01", 7);
-    record(rt, alloc, &mut records, b"\xff", 6);
+    record(rt, alloc, &mut records, b"\x10\x01\x05", 7);
+    record(rt, alloc, &mut records, b"\x10\x01", 6);
+    record(rt, alloc, &mut records, b"\x10\x01\x05", 5);
+    record(rt, alloc, &mut records, b"\xff", 4);
     records
 }
 
 /// The partitioned ordered index by one byte and then one more.
 type InOrder = partitioned::ordered::Index<OneCap, u64, 1>;
 
-/// The newest record of each key stands.
+/// The newest record of each full key stands, of two that share an index key too.
 fn newest_in_order(rt: &impl Abort, alloc: Global, index: InOrder) {
     assert!(rt; index.keys() == 0);
     assert!(rt; are_cuts(&CUTS, index.partition_count()));
     let Ok(index) = newest_positions(alloc, index, &CUTS, records(rt, alloc)) else {
         panic!(rt; "an index")
     };
-    are(rt, index.get(b"\x10\x01"), &[9]);
+    are(rt, index.get(b"\x10\x01"), &[9, 7]);
     are(rt, index.get(b"\x80\x01"), &[8]);
-    are(rt, index.get(b"\xff"), &[6]);
-    counts_are(rt, (index.keys(), index.items(), index.pruned()), (3, 3, 0));
+    are(rt, index.get(b"\xff"), &[4]);
+    counts_are(rt, (index.keys(), index.items(), index.pruned()), (3, 4, 0));
 }
 
 #[test]
@@ -221,12 +223,12 @@ fn newest_stand_without_order(rt: HostRuntime) {
     let Ok(index) = newest_positions(alloc, index, &CUTS, records(&rt, alloc)) else {
         panic!(&rt; "an index")
     };
-    are(&rt, index.get(b"\x10\x01"), &[9]);
+    are(&rt, index.get(b"\x10\x01"), &[7, 9]);
     are(&rt, index.get(b"\x80\x01"), &[8]);
-    are(&rt, index.get(b"\xff"), &[6]);
+    are(&rt, index.get(b"\xff"), &[4]);
     counts_are(
         &rt,
         (index.keys(), index.items(), index.pruned()),
-        (3, 3, 0),
+        (3, 4, 0),
     );
 }
