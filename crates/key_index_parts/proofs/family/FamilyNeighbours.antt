@@ -2,7 +2,7 @@
 --     flag_told, flag_at-within               the flag of a bucket, and a flag that is set is of one
 --     first_of, first_none                    the first list of the buckets from a number on, by the first of them that is filled, and where none is
 --     last_of, last_list-no_flags             the last list of the buckets below a number, by the last of them that is filled, and where none is
---     above-gathered_lists, below-gathered_lists  the list of the least key above a slot, and of the greatest below: in its own bucket, or in one beyond it
+--     next_list-gathered, prev_list-gathered  the next list of a slot and the previous one: in its own bucket, in one beyond it, or at the other end
 use Rattle.std.proofs.Common.{◌≡◌, ℕ, zero, suc, ◌+◌, ◌-◌, ◌<◌, ◌≤◌, nat_lt, true, false, T, List, [], ◌∷◌, ◌++◌, get_or, take, drop, length, Option, Some, None, append-nil, refl, sym, ap, subst, ◌∙◌, add-one, arith}
 use Rattle.std.proofs.lemmas.Bool.{ltb-true, ltb-false}
 use Rattle.std.proofs.lemmas.List.{get_or-drop, get_or-take, get_or_past, length-take}
@@ -10,7 +10,7 @@ use Rattle.std.specs.List.{last_or}
 use Rattle.std.specs.Option.{option_map, option_or}
 use Rattle.std.specs.declared.cmp.Ordering.{Ordering}
 use Rattle.key_index_flat.specs.Content.{Content, is_filled}
-use Rattle.key_index_flat.specs.Neighbours.{first_entry, last_entry, entries_above, entries_below, first_list, last_list}
+use Rattle.key_index_flat.specs.Neighbours.{first_entry, last_entry, or_cycled, entries_above, entries_below, first_list, last_list, next_list, prev_list}
 use Rattle.key_index_parts.specs.Family.{bucket_at, filled_buckets}
 use Rattle.key_index_parts.specs.Bitmap.{IsFirst, IsLast, flag_at}
 use Rattle.key_index_parts.specs.Gathered.{pair_cmp, tagged, gathered_from, gathered}
@@ -119,20 +119,27 @@ module _ {K V : Type 0} where
 
 -- ---- neighbours
 
--- of a slot whose own bucket holds c: the list that c has, or else the one that the buckets beyond have
-module _ {K V : Type 0} (cmp : K → K → Ordering) (buckets : List (Content K V)) (slot : ℕ × K) {c : Content K V} (told : c ≡ bucket_at buckets slot.0) {o p : Option (List V)} where
-  pub above-gathered_lists : o ≡ first_list (entries_above cmp c slot.1) → p ≡ first_list (gathered_from (slot.0 + 1) (drop (slot.0 + 1) buckets))
-      → option_or o p ≡ first_list (entries_above (pair_cmp cmp) (gathered buckets) slot)
-  above-gathered_lists own later =
+or_cycled-lists : {K V : Type 0} (o p : Option (K × List V)) → or_cycled (option_map (λ e. e.1) o) (option_map (λ e. e.1) p) ≡ option_map (λ n. (n.0.1, n.1)) (or_cycled o p)
+or_cycled-lists (Some e) p = refl
+or_cycled-lists None (Some e) = refl
+or_cycled-lists None None = refl
+
+-- of a slot whose own bucket holds c: the list that c has, or else the one that the buckets beyond have, or else the one at the other end
+module _ {K V : Type 0} (cmp : K → K → Ordering) (buckets : List (Content K V)) (slot : ℕ × K) {c : Content K V} (told : c ≡ bucket_at buckets slot.0) {o p q : Option (List V)} where
+  pub next_list-gathered : o ≡ first_list (entries_above cmp c slot.1) → p ≡ first_list (gathered_from (slot.0 + 1) (drop (slot.0 + 1) buckets)) → q ≡ first_list (gathered buckets)
+      → or_cycled (option_or o p) q ≡ next_list (pair_cmp cmp) (gathered buckets) slot
+  next_list-gathered own later first =
       let of_own = own ∙ ap (λ d. first_list (entries_above cmp d slot.1)) told in
       let of_later = later ∙ ap (λ n. first_list (gathered_from n (drop n buckets))) (add-one slot.0) in
-      (λ i. option_or (of_own i) (of_later i))
-      ∙ sym (ap (λ d. first_list d) (above-gathered cmp buckets slot.0 slot.1) ∙ first_list-append slot.0 _ _)
+      (λ i. or_cycled (option_or (of_own i) (of_later i)) (first i))
+      ∙ ap (λ r. or_cycled r (first_list (gathered buckets))) (sym (ap (λ d. first_list d) (above-gathered cmp buckets slot.0 slot.1) ∙ first_list-append slot.0 _ _))
+      ∙ or_cycled-lists (first_entry (entries_above (pair_cmp cmp) (gathered buckets) slot)) (first_entry (gathered buckets))
 
-  pub below-gathered_lists : o ≡ last_list (entries_below cmp c slot.1) → p ≡ last_list (gathered (take slot.0 buckets))
-      → option_or o p ≡ last_list (entries_below (pair_cmp cmp) (gathered buckets) slot)
-  below-gathered_lists own earlier =
+  pub prev_list-gathered : o ≡ last_list (entries_below cmp c slot.1) → p ≡ last_list (gathered (take slot.0 buckets)) → q ≡ last_list (gathered buckets)
+      → or_cycled (option_or o p) q ≡ prev_list (pair_cmp cmp) (gathered buckets) slot
+  prev_list-gathered own earlier last =
       let own_below = entries_below cmp (bucket_at buckets slot.0) slot.1 in
       let of_own = own ∙ ap (λ d. last_list (entries_below cmp d slot.1)) told ∙ sym (last-tagged slot.0 own_below) in
-      (λ i. option_or (of_own i) (earlier i))
-      ∙ sym (ap (λ d. last_list d) (below-gathered cmp buckets slot.0 slot.1) ∙ last_list-append (gathered (take slot.0 buckets)) (tagged slot.0 own_below))
+      (λ i. or_cycled (option_or (of_own i) (earlier i)) (last i))
+      ∙ ap (λ r. or_cycled r (last_list (gathered buckets))) (sym (ap (λ d. last_list d) (below-gathered cmp buckets slot.0 slot.1) ∙ last_list-append (gathered (take slot.0 buckets)) (tagged slot.0 own_below)))
+      ∙ or_cycled-lists (last_entry (entries_below (pair_cmp cmp) (gathered buckets) slot)) (last_entry (gathered buckets))

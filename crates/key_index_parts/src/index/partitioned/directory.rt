@@ -4,7 +4,7 @@ ghost use Rattle.std.specs.Bool.{Decides};
 ghost use Rattle.std.specs.Fn.{CalledAt};
 ghost use Rattle.std.specs.List.Retain.{IsFiltered};
 ghost use Rattle.key_index_flat.specs.Content.{is_filled, item_count};
-ghost use Rattle.key_index_flat.specs.Neighbours.{first_list, last_list};
+ghost use Rattle.key_index_flat.specs.Neighbours.{first_list, last_list, next_list, prev_list};
 ghost use Rattle.key_index_flat.specs.View.{put_value};
 ghost use Rattle.key_index_flat.specs.Values.{VisitsEach, values_of};
 ghost use Rattle.key_index_parts.specs.Family.{AreCounted, Family, RetainsWith, stands, inline_in, bucket_at, list_in, with_list_in, with_edit_in, with_buckets_from, with_items_from, filled_buckets, AreFree};
@@ -15,7 +15,7 @@ ghost use Rattle.key_index_parts.specs.Standing.{GrowsIn, LeavesIn, SpillsIn, is
 use super::bitmap::Bitmap;
 use super::bucket::spilling::Spilling;
 use super::bucket::{Bucket, EditBucket, Held, OrderedBucket, ReadBucket};
-use key_index_flat::index::implement::{Neighbours, Retained};
+use key_index_flat::index::implement::Retained;
 use key_index_flat::index::{Fault, Values};
 use key_index_flat::translator::Translator;
 use std::alloc::{AllocError, Global};
@@ -483,39 +483,48 @@ impl<T: Translator, V: Drop, X: OrderedBucket<T, V> + Drop> Directory<T, V, X> {
             None => None,
         }
     }
-}
 
-impl<T: Translator, V: Drop, X: OrderedBucket<T, V> + Drop> Neighbours<(usize, T::Key), V>
-    for Directory<T, V, X> {
-    ghost content = { λ d. gathered d.contents };
-
-    ghost order = { pair_cmp T.Key.cmp };
-
-    ghost reaches = { λ d slot. slot.0 < length d.contents };
-
-    fn first(&self) -> Option<Values<'_, V>> {
+    pub(super) fn first(&self) -> Option<Values<'_, V>>
+        ensures { result ≡ first_list (gathered self.now.contents) }
+    {
         self.first_from(0)
     }
 
-    fn last(&self) -> Option<Values<'_, V>> {
+    pub(super) fn last(&self) -> Option<Values<'_, V>>
+        ensures { result ≡ last_list (gathered self.now.contents) }
+    {
         self.last_below(self.buckets.len())
     }
 
-    #[inline(always)]
-    fn above(&self, slot: (usize, T::Key)) -> Option<Values<'_, V>> {
-        let own = self.buckets[slot.0].above(slot.1);
-        if own.is_some() {
-            return own;
+    pub(super) fn next(&self, slot: (usize, T::Key)) -> Option<(Values<'_, V>, bool)>
+        requires { slot.0 < length self.now.contents }
+        ensures { result ≡ next_list (pair_cmp T.Key.cmp) (gathered self.now.contents) slot }
+    {
+        match self.buckets[slot.0].above(slot.1) {
+            Some(values) => Some((values, false)),
+            None => match self.first_from(slot.0 + 1) {
+                Some(values) => Some((values, false)),
+                None => match self.first() {
+                    Some(values) => Some((values, true)),
+                    None => None,
+                },
+            },
         }
-        self.first_from(slot.0 + 1)
     }
 
-    #[inline(always)]
-    fn below(&self, slot: (usize, T::Key)) -> Option<Values<'_, V>> {
-        let own = self.buckets[slot.0].below(slot.1);
-        if own.is_some() {
-            return own;
+    pub(super) fn prev(&self, slot: (usize, T::Key)) -> Option<(Values<'_, V>, bool)>
+        requires { slot.0 < length self.now.contents }
+        ensures { result ≡ prev_list (pair_cmp T.Key.cmp) (gathered self.now.contents) slot }
+    {
+        match self.buckets[slot.0].below(slot.1) {
+            Some(values) => Some((values, false)),
+            None => match self.last_below(slot.0) {
+                Some(values) => Some((values, false)),
+                None => match self.last() {
+                    Some(values) => Some((values, true)),
+                    None => None,
+                },
+            },
         }
-        self.last_below(slot.0)
     }
 }

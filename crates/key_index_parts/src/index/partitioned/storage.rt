@@ -19,7 +19,7 @@ use super::bucket::{Bucket, EditBucket, Held, OrderedBucket, ReadBucket};
 use super::counts::{Counts, Moves};
 use super::directory::Directory;
 use super::partition_index_and_sub_key;
-use key_index_flat::index::implement::{Neighbours, Retained};
+use key_index_flat::index::implement::Retained;
 use key_index_flat::index::{Fault, Refused, Values};
 use key_index_flat::translator::Translator;
 use std::alloc::Global;
