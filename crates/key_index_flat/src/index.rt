@@ -9,7 +9,6 @@ mod batch;
 mod command;
 pub mod implement;
 mod index_cursor;
-mod neighbours;
 pub mod ordered;
 mod resolve;
 mod retain;

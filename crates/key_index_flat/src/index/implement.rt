@@ -2,7 +2,6 @@
 pub use super::batch::{
     Lists, probes_by_key, show_by_key, show_by_place, visit_by_key, visit_by_place,
 };
-pub use super::neighbours::Neighbours;
 pub use super::retain::{Retained, keep_in_front, retain_in_turn};
 pub use super::storage::chains::Chains;
 pub use super::storage::small_map::SmallMap;

@@ -14,7 +14,7 @@ pub mod small_map;
 pub mod tails;
 pub mod tree_key;
 
-use super::implement::{Neighbours, Retained};
+use super::implement::Retained;
 use super::{Fault, Refused, Values};
 use crate::translator::Translator;
 use chains::Chains;

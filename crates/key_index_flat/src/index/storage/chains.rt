@@ -6,6 +6,7 @@ ghost use Rattle.std.specs.List.Retain.{IsFiltered};
 ghost use Rattle.std.specs.Map.Iter.{deref_pair};
 ghost use Rattle.std.specs.Option.{option_map};
 ghost use Rattle.key_index_flat.specs.Content.{key_count, lacks, list_at, with_list, with_list_by, IsLawful};
+ghost use Rattle.key_index_flat.specs.Neighbours.{entries_above, entries_below, first_list, last_list, next_list, prev_list};
 ghost use Rattle.key_index_flat.specs.Retention.{AsksBehind};
 ghost use Rattle.key_index_flat.specs.Storage.{KeptLists, added, content_of, list_of, tail_at, IsLinked};
 ghost use Rattle.key_index_flat.specs.Values.{values_of, VisitsEach};
@@ -16,7 +17,6 @@ use super::small_map::SmallMap;
 use super::tails::{Back, End, Tails};
 use super::tree_key::TreeMap;
 use crate::index::Values;
-use crate::index::neighbours::Neighbours;
 use crate::index::retain::Retained;
 use crate::index::values::visit_in_turn;
 use crate::translator::Translator;
@@ -341,30 +341,63 @@ fn values_of<'a, K: Ord + Hash + Copy, V, E: End>(
     }
 }
 
-impl<T: Translator, V: Drop, M: OrderedHeads<T::Key, V>, E: End> Neighbours<T::Key, V>
-    for Chains<T, V, M, E> {
-    ghost content = { λ c. c.content };
-
-    ghost order = { T.Key.cmp };
-
+impl<T: Translator, V: Drop, M: OrderedHeads<T::Key, V>, E: End> Chains<T, V, M, E> {
+    /// The list of the least key.
     #[inline]
-    fn first(&self) -> Option<Values<'_, V>> {
+    pub fn first(&self) -> Option<Values<'_, V>>
+        ensures { result ≡ first_list self.now.content }
+    {
         values_of(&self.tails, self.heads.first())
     }
 
+    /// The list of the greatest key.
     #[inline]
-    fn last(&self) -> Option<Values<'_, V>> {
+    pub fn last(&self) -> Option<Values<'_, V>>
+        ensures { result ≡ last_list self.now.content }
+    {
         values_of(&self.tails, self.heads.last())
     }
 
+    /// The list of the least key above a key.
     #[inline]
-    fn above(&self, slot: T::Key) -> Option<Values<'_, V>> {
+    pub fn above(&self, slot: T::Key) -> Option<Values<'_, V>>
+        ensures { result ≡ first_list (entries_above T.Key.cmp self.now.content slot) }
+    {
         values_of(&self.tails, self.heads.above(&slot))
     }
 
+    /// The list of the greatest key below a key.
     #[inline]
-    fn below(&self, slot: T::Key) -> Option<Values<'_, V>> {
+    pub fn below(&self, slot: T::Key) -> Option<Values<'_, V>>
+        ensures { result ≡ last_list (entries_below T.Key.cmp self.now.content slot) }
+    {
         values_of(&self.tails, self.heads.below(&slot))
+    }
+
+    #[inline]
+    pub fn next(&self, slot: T::Key) -> Option<(Values<'_, V>, bool)>
+        ensures { result ≡ next_list T.Key.cmp self.now.content slot }
+    {
+        match self.above(slot) {
+            Some(above) => Some((above, false)),
+            None => match self.first() {
+                Some(first) => Some((first, true)),
+                None => None,
+            },
+        }
+    }
+
+    #[inline]
+    pub fn prev(&self, slot: T::Key) -> Option<(Values<'_, V>, bool)>
+        ensures { result ≡ prev_list T.Key.cmp self.now.content slot }
+    {
+        match self.below(slot) {
+            Some(below) => Some((below, false)),
+            None => match self.last() {
+                Some(last) => Some((last, true)),
+                None => None,
+            },
+        }
     }
 }
 

@@ -5,7 +5,7 @@ ghost use Rattle.key_index_flat.specs.Storage.{IsCounted};
 
 use super::{EditBucket, Form, Held, OrderedBucket, ReadBucket};
 use key_index_flat::index::Values;
-use key_index_flat::index::implement::{Back, Chains, Neighbours, Retained, TreeMap};
+use key_index_flat::index::implement::{Back, Chains, Retained, TreeMap};
 use key_index_flat::translator::Translator;
 use std::alloc::Global;
 

@@ -2,7 +2,7 @@ use Rattle.std.proofs.Common.{ap, sym, ◌∙◌}
 use Rattle.std.specs.Option.{option_map}
 use Rattle.key_index_flat.specs.Storage.{tail_at}
 use Rattle.key_index_flat.proofs.neighbours.NeighbourLemmas.{listed, first_list-in_order}
-use Rattle.key_index_flat.proofs.index.storage.chains.ChainsNeighboursKey.first.Goals as goal
+use Rattle.key_index_flat.proofs.index.storage.chains.Chains.first.Goals as goal
 
 pub returns : goal.returns
 returns g c =

@@ -2,7 +2,7 @@ use Rattle.std.proofs.Common.{ap, sym, ◌∙◌}
 use Rattle.std.specs.Option.{option_map}
 use Rattle.key_index_flat.specs.Storage.{tail_at}
 use Rattle.key_index_flat.proofs.neighbours.NeighbourLemmas.{listed, last_list-in_order}
-use Rattle.key_index_flat.proofs.index.storage.chains.ChainsNeighboursKey.last.Goals as goal
+use Rattle.key_index_flat.proofs.index.storage.chains.Chains.last.Goals as goal
 
 pub returns : goal.returns
 returns g c =
