@@ -1,12 +1,17 @@
 -- Full keys. An index files its values under index keys, which are shorter than keys, and each value knows its own key in full.
 --     IsFiled              each value stands under the index key of its full key, which is a list of bytes
 --     IsLeast              the least value of a list, the first of those that tie; none exactly where the list is empty
+--     IsLeastRead          the same of a value that stands beside its full key
+--     first_with           the first value of a list that has a full key
 --     IsFullNext           the value with the least full key strictly above a key, of all that are held. Among equal full keys the first.
 --                          None exactly where no full key is above. IsFullPrev: the same with the greatest strictly below
 --     IsNextCandidate      the value with the least full key of those above the key under its own index key. Where none is above, of all those under the next
 --                          index key, which a flagged neighbour isn't. IsPrevCandidate: the same with greatest, below and previous
-use Rattle.std.specs.Prelude.{◌≡◌, ◌<◌, ℕ, Bool, true, false, List, [], ◌∷◌, ◌++◌, Option, Some, None, All}
-use Rattle.std.specs.List.{filter}
+use Rattle.std.specs.Prelude.{◌≡◌, ◌<◌, ℕ, Bool, true, false, List, [], ◌∷◌, ◌++◌, Option, Some, None, IfSome, All}
+use Rattle.std.specs.Borrow.{Bor}
+use Rattle.std.specs.List.{filter, find}
+use Rattle.std.specs.Option.{option_map}
+use Rattle.std.specs.Str.{bytes_eq}
 use Rattle.std.specs.declared.cmp.Ordering.{Ordering}
 use Rattle.std.specs.declared.cmp.Ordering.TheVariants.{Less}
 use Rattle.std.specs.Ordering.{is_lt, nat_cmp, on, flip_args}
@@ -28,6 +33,13 @@ IsLeast cmp l None = l ≡ []
 IsLeast {V = V} cmp l (Some v) =
     (before : List V) × (after : List V) × (l ≡ before ++ v ∷ after)
     × All (λ w. cmp v w ≡ Less) before × All (λ w. IsLeBy cmp v w) after
+
+abbrev pub IsLeastRead : {V K : Type 0} → (V → List ℕ) → (K → List ℕ) → (List ℕ → List ℕ → Ordering) → List V → Option (Bor V × K) → Type 0
+IsLeastRead full_key items cmp l o =
+    IsLeast (on full_key cmp) l (option_map (λ n. n.0.now) o) × IfSome o (λ n. items n.1 ≡ full_key n.0.now)
+
+abbrev pub first_with : {V : Type 0} → (V → List ℕ) → List ℕ → List V → Option V
+first_with full_key a l = find (λ v. bytes_eq (full_key v) a) l
 
 -- the first list, or where it is empty the second
 abbrev pub or_list : {V : Type 0} → List V → List V → List V

@@ -2,6 +2,7 @@
 --     next_of_filed, prev_of_filed      the candidate is the neighbour among all values
 --     filed_first, filed_rest           the first list of a filed content, and the others
 --     least_own                         the least of a list that has one, where another stands behind it
+--     first_with-anywhere               the first value of all that has a full key is the first of the key's own list
 use Rattle.std.proofs.Common.{◌≡◌, ℕ, Bool, true, false, cond, T, List, [], ◌∷◌, ◌++◌, Option, Some, None, unwrap_or, All, append_assoc, append-nil, length, length-append, arith, refl, sym, ap, subst, ◌∙◌}
 use Rattle.std.proofs.lemmas.Bool.{false≢true}
 use Rattle.std.proofs.lemmas.List.Elements.{All-nil, All-head, All-tail, All-append, All-weaker, All-filter, filter-append}
@@ -11,11 +12,14 @@ use Rattle.std.specs.Ordering.{is_lt, is_eq, is_gt, ordering_reverse, flip_args}
 use Rattle.std.specs.Cmp.{IsTotalOrder, tied_itself, on_total, back_total}
 use Rattle.std.specs.Cmp.Lexicographic.{nat_list_cmp_total}
 use Rattle.std.specs.List.{filter, last_or}
-use Rattle.std.specs.Option.{option_map}
+use Rattle.std.proofs.lemmas.List.Folds.{find-append}
+use Rattle.std.proofs.lemmas.Slice.Eq.{bytes_eq-Decides}
+use Rattle.std.specs.Option.{option_map, option_or}
+use Rattle.std.specs.Str.{bytes_eq}
 use Rattle.std.specs.FinMap.{find, is_sorted}
 use Rattle.std.specs.FinMap.Entries.{below_all, is_sorted-where_key}
 use Rattle.key_index_flat.specs.Content.{Content, is_filled, list_at, IsLawful}
-use Rattle.key_index_flat.specs.FullKeys.{IsBytes, byte_cmp, IsLeast, or_list, unflagged, cmp_keys, above, below, IsFiled, IsFullNext, IsFullPrev, IsNextCandidate, IsPrevCandidate}
+use Rattle.key_index_flat.specs.FullKeys.{IsBytes, byte_cmp, IsLeast, first_with, or_list, unflagged, cmp_keys, above, below, IsFiled, IsFullNext, IsFullPrev, IsNextCandidate, IsPrevCandidate}
 use Rattle.key_index_flat.specs.Values.{values_of}
 use Rattle.key_index_flat.specs.laws.Laws.{T-and_first, T-and_second, all_filled-where_key}
 use Rattle.key_index_flat.specs.Neighbours.{entries_above, entries_below, first_entry, last_entry, or_cycled, KeepsOrder}
@@ -61,6 +65,41 @@ module _ {K V : Type 0} {cmp : K → K → Ordering} (o : IsTotalOrder cmp) (ful
         | Equal ↦ λ p x. subst (All Under) (sym (list_at-below_all o k e.0 es (λ y q. o.congr k e.0 y p ∙ q) h)) (All-nil Under)
         | Greater ↦ λ p x. x
       ] refl (f k)
+
+-- a full key is held where it is held in its own list
+module _ {K V : Type 0} {cmp : K → K → Ordering} (o : IsTotalOrder cmp) (full_key : V → List ℕ) (slot : List ℕ → K) (a : List ℕ) where
+  first_with-other_slot : (x : K) (l : List V) → All (λ v. IsBytes (full_key v) × (slot (full_key v) ≡ x)) l → ((slot a ≡ x) → ⊥) → first_with full_key a l ≡ None
+  first_with-other_slot x [] h other = refl
+  first_with-other_slot x (v ∷ vs) h other =
+      let Under : V → Type 0 = λ v. IsBytes (full_key v) × (slot (full_key v) ≡ x) in
+      elim (bytes_eq (full_key v) a) as (λ b. bytes_eq (full_key v) a ≡ b → cond b (Some v) (first_with full_key a vs) ≡ None) [
+        | true ↦ λ e. absurd (other (ap slot (sym ((bytes_eq-Decides (full_key v) a).0 e)) ∙ (All-head Under v vs h).1))
+        | false ↦ λ e. first_with-other_slot x vs (All-tail Under v vs h) other
+      ] refl
+
+  pub first_with-anywhere : (c : Content K V) → T (is_sorted cmp c) → IsFiled full_key cmp slot c → first_with full_key a (values_of c) ≡ first_with full_key a (list_at cmp c (slot a))
+  first_with-anywhere [] h f = refl
+  first_with-anywhere (e ∷ es) h f =
+      let k = slot a in
+      let rest = first_with-anywhere es (T-and_second _ _ h) (filed_rest o full_key slot e es (T-and_first _ _ h) f) in
+      let mine = filed_first o full_key slot e es f in
+      let not_here : (cmp k e.0 ≡ Equal → ⊥) → first_with full_key a e.1 ≡ None = λ n. first_with-other_slot e.0 e.1 mine (λ s. n (ap (λ x. cmp x e.0) s ∙ tied_itself o e.0)) in
+      find-append (λ v. bytes_eq (full_key v) a) e.1 (values_of es)
+      ∙ elim (cmp k e.0) as (λ r. cmp k e.0 ≡ r → option_or (first_with full_key a e.1) (first_with full_key a (values_of es)) ≡ first_with full_key a (unwrap_or (cond (is_eq r) (Some e.1) (find cmp k es)) [])) [
+        | Less ↦ λ p. (λ i. option_or (not_here (λ q. less_not_equal (sym p ∙ q)) i) (rest i))
+        | Equal ↦ λ p. ap (λ r. option_or (first_with full_key a e.1) r) (rest ∙ ap (first_with full_key a) (list_at-below_all o k e.0 es (λ y q. o.congr k e.0 y p ∙ q) (T-and_first _ _ h))) ∙ option_or_none (first_with full_key a e.1)
+        | Greater ↦ λ p. (λ i. option_or (not_here (λ q. greater_not_equal (sym p ∙ q)) i) (rest i))
+      ] refl
+    where
+      less_not_equal : Less ≡ Equal → ⊥
+      less_not_equal e = cc
+
+      greater_not_equal : Greater ≡ Equal → ⊥
+      greater_not_equal e = cc
+
+      option_or_none : (r : Option V) → option_or r None ≡ r
+      option_or_none None = refl
+      option_or_none (Some v) = refl
 
 module _ {K V : Type 0} {cmp : K → K → Ordering} (o : IsTotalOrder cmp) (full_key : V → List ℕ) (slot : List ℕ → K) (keeps : KeepsOrder cmp slot) where
   -- a value that stands under its own index key, and one whose index key is above another
