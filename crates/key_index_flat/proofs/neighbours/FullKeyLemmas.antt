@@ -1,5 +1,5 @@
 -- On full keys in an index that keeps their order: in a filed content, what a list and its neighbour have is what all lists have.
---     next_of_filed, prev_of_filed      the candidate is the neighbour among all values
+--     next_of_filed, prev_of_filed, first_of_filed, last_of_filed      the candidate is the neighbour among all values
 --     filed_first, filed_rest           the first list of a filed content, and the others
 --     least_own                         the least of a list that has one, where another stands behind it
 --     first_with-anywhere               the first value of all that has a full key is the first of the key's own list
@@ -19,7 +19,7 @@ use Rattle.std.specs.Str.{bytes_eq}
 use Rattle.std.specs.FinMap.{find, is_sorted}
 use Rattle.std.specs.FinMap.Entries.{below_all, is_sorted-where_key}
 use Rattle.key_index_flat.specs.Content.{Content, is_filled, list_at, IsLawful}
-use Rattle.key_index_flat.specs.FullKeys.{IsBytes, byte_cmp, IsLeast, first_with, or_list, unflagged, cmp_keys, above, below, IsFiled, IsFullNext, IsFullPrev, IsNextCandidate, IsPrevCandidate}
+use Rattle.key_index_flat.specs.FullKeys.{IsBytes, byte_cmp, IsLeast, first_with, or_list, unflagged, cmp_keys, above, below, IsFiled, IsFullFirst, IsFullLast, IsFullNext, IsFullPrev, IsFirstCandidate, IsLastCandidate, IsNextCandidate, IsPrevCandidate}
 use Rattle.key_index_flat.specs.Values.{values_of}
 use Rattle.key_index_flat.specs.laws.Laws.{T-and_first, T-and_second, all_filled-where_key}
 use Rattle.key_index_flat.specs.Neighbours.{entries_above, entries_below, first_entry, last_entry, or_cycled, KeepsOrder}
@@ -167,6 +167,12 @@ module _ {K V : Type 0} {cmp : K → K → Ordering} (o : IsTotalOrder cmp) (ful
         | Greater ↦ λ p. rest
       ] refl
 
+  first_of_all : (e : K × List V) (es : Content K V) (r : Option V) → IsLawful cmp (e ∷ es) → Filed (e ∷ es) → IsLeast (cmp_keys full_key) e.1 r → IsLeast (cmp_keys full_key) (values_of (e ∷ es)) r
+  first_of_all e es None h f least = absurd (not_filled e.1 (T-and_first _ _ h.1) least)
+  first_of_all e es (Some v) h f least =
+      let keys = on_total full_key nat_list_cmp_total in
+      IsLeast-front keys e.1 (values_of es) v least (less_all e.0 v (values_of es) (least_has keys (FiledUnder e.0) e.1 v least f.0) (behind_all e.0 es (T-and_first _ _ h.0) f.1))
+
   -- its own list, and else the first of the higher lists
   own_or_first : (k : K) (own : List V) (d : Content K V) (other : Option (K × List V)) (r : Option V) → All (FiledUnder k) own → All (Behind k) (values_of d) → IsLawful cmp d → Filed d
       → IsLeast (cmp_keys full_key) (or_list own (unflagged (option_map (λ n. (n.0.1, n.1)) (or_cycled (first_entry d) other)))) r → IsLeast (cmp_keys full_key) (own ++ values_of d) r
@@ -176,10 +182,7 @@ module _ {K V : Type 0} {cmp : K → K → Ordering} (o : IsTotalOrder cmp) (ful
       IsLeast-front keys (x ∷ xs) (values_of d) v least (less_all k v (values_of d) (least_has keys (FiledUnder k) (x ∷ xs) v least u) b)
   own_or_first k [] [] None r u b h f least = least
   own_or_first k [] [] (Some e) r u b h f least = least
-  own_or_first k [] (e ∷ es) other None u b h f least = absurd (not_filled e.1 (T-and_first _ _ h.1) least)
-  own_or_first k [] (e ∷ es) other (Some v) u b h f least =
-      let keys = on_total full_key nat_list_cmp_total in
-      IsLeast-front keys e.1 (values_of es) v least (less_all e.0 v (values_of es) (least_has keys (FiledUnder e.0) e.1 v least f.0) (behind_all e.0 es (T-and_first _ _ h.0) f.1))
+  own_or_first k [] (e ∷ es) other r u b h f least = first_of_all e es r h f least
 
   last_of_all : (e : K × List V) (es : Content K V) (other : Option (K × List V)) (r : Option V) → IsLawful cmp (e ∷ es) → Filed (e ∷ es)
       → IsLeast (flip_args (cmp_keys full_key)) (unflagged (option_map (λ n. (n.0.1, n.1)) (or_cycled (last_or (Some e) es) other))) r → IsLeast (flip_args (cmp_keys full_key)) (values_of (e ∷ es)) r
@@ -205,6 +208,19 @@ module _ {K V : Type 0} {cmp : K → K → Ordering} (o : IsTotalOrder cmp) (ful
   own_or_last k [] [] (Some e) r u b h f least = least
   own_or_last k [] (e ∷ es) other r u b h f least =
       subst (λ l. IsLeast (flip_args (cmp_keys full_key)) l r) (sym (append-nil (values_of (e ∷ es)))) (last_of_all e es other r h f least)
+
+  pub first_of_filed : (c : Content K V) (r : Option V) → IsLawful cmp c → IsFiled full_key cmp slot c → IsFirstCandidate full_key c r → IsFullFirst full_key c r
+  first_of_filed [] r h f least = least
+  first_of_filed (e ∷ es) r h f least = first_of_all e es r h (filed_entries (e ∷ es) h.0 f) least
+
+  pub last_of_filed : (c : Content K V) (r : Option V) → IsLawful cmp c → IsFiled full_key cmp slot c → IsLastCandidate full_key c r → IsFullLast full_key c r
+  last_of_filed [] r h f least = least
+  last_of_filed (e ∷ es) r h f least =
+      last_of_all e es None r h (filed_entries (e ∷ es) h.0 f) (subst (λ l. IsLeast (flip_args (cmp_keys full_key)) l r) (unflagged-found (last_or (Some e) es)) least)
+    where
+      unflagged-found : (found : Option (K × List V)) → unwrap_or (option_map (λ e. e.1) found) [] ≡ unflagged (option_map (λ n. (n.0.1, n.1)) (or_cycled found None))
+      unflagged-found None = refl
+      unflagged-found (Some e) = refl
 
   filed_where : (p : K → Bool) (c : Content K V) → Filed c → Filed (filter (λ e. p e.0) c)
   filed_where p [] f = tt

@@ -1,12 +1,12 @@
 //! Values by their full keys, in an index that keeps shorter ones: a reader has the full keys.
-ghost use Rattle.std.specs.Prelude.{◌≡◌, ◌∷◌, ◌++◌, ℕ, List, [], IfOk, IfSome, OnOk};
+ghost use Rattle.std.specs.Prelude.{◌≡◌, ◌∷◌, ◌++◌, ℕ, List, [], IfOk, OnOk, unwrap_or};
 ghost use Rattle.std.specs.List.{filter};
 ghost use Rattle.std.specs.Option.{option_copied, option_map};
 ghost use Rattle.std.specs.declared.cmp.Ordering.{Ordering};
 ghost use Rattle.std.specs.Ordering.{is_lt, on, flip_args};
 ghost use Rattle.std.specs.Cmp.{IsTotalOrder, back_total};
 ghost use Rattle.std.specs.Cmp.Lexicographic.{nat_list_cmp_total};
-ghost use Rattle.key_index_flat.specs.FullKeys.{IsFiledIn, IsFullNext, IsFullPrev, IsLeast, IsLeastRead, IsNextIn, IsPrevIn, byte_cmp, first_with, unflagged};
+ghost use Rattle.key_index_flat.specs.FullKeys.{IsFiledIn, IsFirstCandidate, IsFullFirst, IsFullGap, IsFullLast, IsFullNext, IsFullPrev, IsGapIn, IsLastCandidate, IsLeast, IsLeastRead, IsNextIn, IsPrevIn, byte_cmp, first_with, gap_copied, unflagged};
 ghost use Rattle.key_index_flat.specs.Values.{values_of};
 ghost use Rattle.key_index_flat.specs.View.{run_of};
 
@@ -135,6 +135,21 @@ fn nearest_beyond<'a, S: Side, V, R: Records<'a, V>>(
     Ok(without_key(nearest))
 }
 
+/// The first of the nearest values of a list, if there is one.
+fn nearest_if_any<'a, S: Side, V, R: Records<'a, V>>(
+    list: Option<Values<'a, V>>,
+    records: &mut R,
+) -> Result<Option<&'a V>, R::Error>
+    ensures nearest { IfOk result (λ o.
+        IsLeast (on (R.full_key records.old) S.cmp) (unwrap_or list.entry []) (option_copied o)) }
+    ensures stays { OnOk result (R.full_key records.new ≡ R.full_key records.old) }
+{
+    match list {
+        Some(values) => nearest::<S, _, _>(values, records),
+        None => Ok(None),
+    }
+}
+
 /// The first of the nearest values of a neighbour, unless that one was found by cycling.
 fn nearest_unflagged<'a, S: Side, V, R: Records<'a, V>>(
     found: Option<(Values<'a, V>, bool)>,
@@ -261,4 +276,66 @@ pub fn prev_record<'a, I: Ordered, R: Records<'a, I::Value>>(
     ensures stays { OnOk result (R.full_key records.new ≡ R.full_key records.old) }
 {
     prev_candidate(index, records, key)
+}
+
+/// The values next to a full key that no value has, below and above: `None` where one has the key. Of a side on which no full key is
+/// there is none. It needs an index whose values stand under their own full keys.
+///
+/// Whatever the index holds, no value in the key's own list has it, and the two are those that `prev_record` and `next_record` give.
+///
+/// Reads the values of the own list up to three times, and those of one list on each side. An error of the reader ends it, and is
+/// handed on.
+pub fn absent<'a, I: Ordered, R: Records<'a, I::Value>>(
+    index: &'a I,
+    records: &mut R,
+    key: &[u8],
+) -> Result<Option<(Option<&'a I::Value>, Option<&'a I::Value>)>, R::Error>
+    ensures candidate { IfOk result (λ gap.
+        IsGapIn (R.full_key records.old) I.Key.cmp (I.view index.now) key.now (gap_copied gap)) }
+    ensures filed { IsFiledIn (R.full_key records.old) I.Key.cmp (I.view index.now) → IfOk result (λ gap.
+        IsFullGap (R.full_key records.old) (I.view index.now).content key.now (gap_copied gap)) }
+    ensures stays { OnOk result (R.full_key records.new ≡ R.full_key records.old) }
+{
+    if let Some(_) = find_record(index, records, key)? {
+        return Ok(None);
+    }
+    let below = prev_record(index, records, key)?;
+    let above = next_record(index, records, key)?;
+    Ok(Some((below, above)))
+}
+
+/// The value with the least full key of all, in an index whose values stand under their own full keys. `None` exactly where the
+/// index is empty. Among equal full keys the first in list order.
+///
+/// Whatever the index holds, it is the least of the first list. Reads the values of that list, each once. An error of the reader
+/// ends it, and is handed on.
+pub fn first_record<'a, I: Ordered, R: Records<'a, I::Value>>(
+    index: &'a I,
+    records: &mut R,
+) -> Result<Option<&'a I::Value>, R::Error>
+    ensures candidate { IfOk result (λ o.
+        IsFirstCandidate (R.full_key records.old) (I.view index.now).content (option_copied o)) }
+    ensures filed { IsFiledIn (R.full_key records.old) I.Key.cmp (I.view index.now) → IfOk result (λ o.
+        IsFullFirst (R.full_key records.old) (I.view index.now).content (option_copied o)) }
+    ensures stays { OnOk result (R.full_key records.new ≡ R.full_key records.old) }
+{
+    nearest_if_any::<Above, _, _>(index.first_translated_key(), records)
+}
+
+/// The value with the greatest full key of all, in an index whose values stand under their own full keys. `None` exactly where the
+/// index is empty. Among equal full keys the first in list order.
+///
+/// Whatever the index holds, it is the greatest of the last list. Reads the values of that list, each once. An error of the reader
+/// ends it, and is handed on.
+pub fn last_record<'a, I: Ordered, R: Records<'a, I::Value>>(
+    index: &'a I,
+    records: &mut R,
+) -> Result<Option<&'a I::Value>, R::Error>
+    ensures candidate { IfOk result (λ o.
+        IsLastCandidate (R.full_key records.old) (I.view index.now).content (option_copied o)) }
+    ensures filed { IsFiledIn (R.full_key records.old) I.Key.cmp (I.view index.now) → IfOk result (λ o.
+        IsFullLast (R.full_key records.old) (I.view index.now).content (option_copied o)) }
+    ensures stays { OnOk result (R.full_key records.new ≡ R.full_key records.old) }
+{
+    nearest_if_any::<Below, _, _>(index.last_translated_key(), records)
 }
