@@ -3,6 +3,7 @@
 --     IsLeast              the least value of a list, the first of those that tie; none exactly where the list is empty
 --     IsLeastRead          the same of a value that stands beside its full key
 --     first_with           the first value of a list that has a full key
+--     FailsOn              an error of a read of one of some values
 --     IsFullNext           the value with the least full key strictly above a key, of all that are held. Among equal full keys the first.
 --                          None exactly where no full key is above. IsFullPrev: the same with the greatest strictly below
 --     IsFullFirst, IsFullLast      the value with the least full key of all, and with the greatest
@@ -13,7 +14,7 @@
 --     IsGapIn              the candidates on both sides of a full key that no value under its own index key has; none exactly where one has it
 use Rattle.std.specs.Prelude.{◌≡◌, ◌<◌, ℕ, Bool, true, false, List, [], ◌∷◌, ◌++◌, Option, Some, None, IsSome, IfSome, unwrap_or, All}
 use Rattle.std.specs.Borrow.{Bor}
-use Rattle.std.specs.List.{filter, find}
+use Rattle.std.specs.List.{Contains, filter, find}
 use Rattle.std.specs.Option.{option_copied, option_map}
 use Rattle.std.specs.Str.{bytes_eq}
 use Rattle.std.specs.declared.cmp.Ordering.{Ordering}
@@ -44,6 +45,9 @@ IsLeastRead full_key items cmp l o =
 
 abbrev pub first_with : {V : Type 0} → (V → List ℕ) → List ℕ → List V → Option V
 first_with full_key a l = find (λ v. bytes_eq (full_key v) a) l
+
+abbrev pub FailsOn : {V E : Type 0} → (V → E → Type 0) → List V → E → Type 0
+FailsOn {V = V} fails l e = (v : V) × Contains l v × fails v e
 
 -- the first list, or where it is empty the second
 abbrev pub or_list : {V : Type 0} → List V → List V → List V

@@ -22,7 +22,9 @@ mod values;
 pub use apply::run;
 pub use command::{Command, Outcome, Step};
 pub use index_cursor::IndexCursor;
-pub use records::{Records, find_record, next_record, prev_record};
+pub use records::{
+    Records, absent, find_record, first_record, last_record, next_record, prev_record,
+};
 pub use resolve::{Keyed, OwnKeys, resolve_next, resolve_prev};
 pub use traits::cursor::{Cursor, CursorState};
 pub use traits::ordered::Ordered;

@@ -2,10 +2,12 @@
 --     next_of_filed, prev_of_filed, first_of_filed, last_of_filed      the candidate is the neighbour among all values
 --     filed_first, filed_rest           the first list of a filed content, and the others
 --     least_own                         the least of a list that has one, where another stands behind it
+--     least_other                       what a reader gave of the other list, where its own list had none
 --     first_with-anywhere               the first value of all that has a full key is the first of the key's own list
-use Rattle.std.proofs.Common.{◌≡◌, ℕ, Bool, true, false, cond, T, List, [], ◌∷◌, ◌++◌, Option, Some, None, unwrap_or, All, append_assoc, append-nil, length, length-append, arith, refl, sym, ap, subst, ◌∙◌}
+use Rattle.std.proofs.Common.{◌≡◌, ℕ, Bool, true, false, cond, T, List, [], ◌∷◌, ◌++◌, Option, Some, None, Result, IfOk, unwrap_or, All, append_assoc, append-nil, length, length-append, arith, refl, sym, ap, subst, ◌∙◌}
 use Rattle.std.proofs.lemmas.Bool.{false≢true}
 use Rattle.std.proofs.lemmas.List.Elements.{All-nil, All-head, All-tail, All-append, All-weaker, All-filter, filter-append}
+use Rattle.std.specs.Borrow.{Bor}
 use Rattle.std.specs.declared.cmp.Ordering.{Ordering}
 use Rattle.std.specs.declared.cmp.Ordering.TheVariants.{Less, Equal, Greater}
 use Rattle.std.specs.Ordering.{is_lt, is_eq, is_gt, ordering_reverse, flip_args}
@@ -14,7 +16,7 @@ use Rattle.std.specs.Cmp.Lexicographic.{nat_list_cmp_total}
 use Rattle.std.specs.List.{filter, last_or}
 use Rattle.std.proofs.lemmas.List.Folds.{find-append}
 use Rattle.std.proofs.lemmas.Slice.Eq.{bytes_eq-Decides}
-use Rattle.std.specs.Option.{option_map, option_or}
+use Rattle.std.specs.Option.{option_copied, option_map, option_or}
 use Rattle.std.specs.Str.{bytes_eq}
 use Rattle.std.specs.FinMap.{find, is_sorted}
 use Rattle.std.specs.FinMap.Entries.{below_all, is_sorted-where_key}
@@ -320,3 +322,10 @@ module _ {K V : Type 0} {cmp : K → K → Ordering} (o : IsTotalOrder cmp) (ful
 pub least_own : {V : Type 0} (cmp : V → V → Ordering) (own other : List V) (v : V) → IsLeast cmp own (Some v) → IsLeast cmp (or_list own other) (Some v)
 least_own cmp [] other v least = let none = ap (λ l. length l) least.2 in let some = length-append least.0 (v ∷ least.1) in absurd (omega (arith, none, some))
 least_own cmp (x ∷ xs) other v least = least
+
+-- what a reader gave of the other list, where its own list had none
+pub least_other : {V E : Type 0} (order : (V → List ℕ) → V → V → Ordering) (keys then : V → List ℕ) (own found other : List V) (r : Result (Option (Bor V)) E) → then ≡ keys → own ≡ [] → found ≡ other
+    → IfOk r (λ o. IsLeast (order then) found (option_copied o)) → IfOk r (λ o. IsLeast (order keys) (or_list own other) (option_copied o))
+least_other order keys then own found other r same none is h =
+    subst (λ l. IfOk r (λ o. IsLeast (order keys) (or_list l other) (option_copied o))) (sym none)
+    (subst (λ l. IfOk r (λ o. IsLeast (order keys) l (option_copied o))) is (subst (λ k. IfOk r (λ o. IsLeast (order k) found (option_copied o))) same h))

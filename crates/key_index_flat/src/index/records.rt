@@ -1,19 +1,23 @@
 //! Values by their full keys, in an index that keeps shorter ones: a reader has the full keys.
-ghost use Rattle.std.specs.Prelude.{◌≡◌, ◌∷◌, ◌++◌, ℕ, List, [], IfOk, OnOk, unwrap_or};
+ghost use Rattle.std.specs.Prelude.{◌≡◌, ◌∷◌, ◌++◌, ℕ, List, [], IfErr, IfOk, unwrap_or};
 ghost use Rattle.std.specs.List.{filter};
 ghost use Rattle.std.specs.Option.{option_copied, option_map};
 ghost use Rattle.std.specs.declared.cmp.Ordering.{Ordering};
 ghost use Rattle.std.specs.Ordering.{is_lt, on, flip_args};
 ghost use Rattle.std.specs.Cmp.{IsTotalOrder, back_total};
 ghost use Rattle.std.specs.Cmp.Lexicographic.{nat_list_cmp_total};
-ghost use Rattle.key_index_flat.specs.FullKeys.{IsFiledIn, IsFirstCandidate, IsFullFirst, IsFullGap, IsFullLast, IsFullNext, IsFullPrev, IsGapIn, IsLastCandidate, IsLeast, IsLeastRead, IsNextIn, IsPrevIn, byte_cmp, first_with, gap_copied, unflagged};
+ghost use Rattle.key_index_flat.specs.FullKeys.{FailsOn, IsFiledIn, IsFirstCandidate, IsFullFirst, IsFullGap, IsFullLast, IsFullNext, IsFullPrev, IsGapIn, IsLastCandidate, IsLeast, IsLeastRead, IsNextIn, IsPrevIn, byte_cmp, first_with, gap_copied, unflagged};
 ghost use Rattle.key_index_flat.specs.Values.{values_of};
 ghost use Rattle.key_index_flat.specs.View.{run_of};
 
 use super::{Ordered, Unordered, Values};
 use std::convert::AsSlice;
 
-/// Reads the full key of a value's record.
+/// Reads the full keys of values from their records.
+///
+/// `full_key` are the keys that the records have. A reader is `sound` while each of its reads gave what the records have: one whose
+/// device may answer wrongly is not sound after a wrong answer, and nothing is told of what it then read. `reads` relates it before
+/// and after any number of reads, whether or not they fail, and `fails` tells why one may fail.
 pub trait Records<'a, V> {
     type Key: AsSlice<u8> + Drop;
 
@@ -21,10 +25,23 @@ pub trait Records<'a, V> {
 
     ghost full_key: { Self → V → List ℕ };
 
-    /// The full key of a value's record. After a read that succeeds all full keys are as they were.
+    ghost reads: { Self → Self → Type 0 };
+
+    ghost sound: { Self → Type 0 } = { λ _. Unit {0} };
+
+    ghost fails: { Self → V → Self.Error → Type 0 } = { λ _ _ _. Unit {0} };
+
+    ghost reads_nothing: { (x : Self) → reads x x };
+
+    ghost reads_both: { (x y z : Self) → reads x y → reads y z → reads x z };
+
+    ghost stays: { (x y : Self) → reads x y → sound y → sound x × (full_key y ≡ full_key x) };
+
+    /// The full key of a value's record.
     fn key_of(&mut self, value: &'a V) -> Result<Self::Key, Self::Error>
-        ensures key { IfOk result (λ key. Self.Key.items key ≡ full_key self.old value.now) }
-        ensures stays { OnOk result (full_key self.new ≡ full_key self.old) };
+        ensures key { sound self.new → IfOk result (λ key. Self.Key.items key ≡ full_key self.old value.now) }
+        ensures reads { reads self.old self.new }
+        ensures fault { IfErr result (fails self.new value.now) };
 }
 
 /// A side of a key, where its neighbour is looked for: the order in which the keys there come, from the nearest on.
@@ -103,9 +120,10 @@ fn nearest<'a, S: Side, V, R: Records<'a, V>>(
     values: Values<'a, V>,
     records: &mut R,
 ) -> Result<Option<&'a V>, R::Error>
-    ensures nearest { IfOk result (λ o.
+    ensures nearest { R.sound records.new → IfOk result (λ o.
         IsLeast (on (R.full_key records.old) S.cmp) values.entry (option_copied o)) }
-    ensures stays { OnOk result (R.full_key records.new ≡ R.full_key records.old) }
+    ensures reads { R.reads records.old records.new }
+    ensures fault { IfErr result (FailsOn (R.fails records.new) values.entry) }
 {
     let mut nearest = None;
     for value in values {
@@ -121,9 +139,10 @@ fn nearest_beyond<'a, S: Side, V, R: Records<'a, V>>(
     records: &mut R,
     key: &[u8],
 ) -> Result<Option<&'a V>, R::Error>
-    ensures nearest { let keys = R.full_key records.old in IfOk result (λ o. IsLeast (on keys S.cmp)
-        (filter (λ v. is_lt (S.cmp key.now (keys v))) values.entry) (option_copied o)) }
-    ensures stays { OnOk result (R.full_key records.new ≡ R.full_key records.old) }
+    ensures nearest { let keys = R.full_key records.old in R.sound records.new → IfOk result (λ o.
+        IsLeast (on keys S.cmp) (filter (λ v. is_lt (S.cmp key.now (keys v))) values.entry) (option_copied o)) }
+    ensures reads { R.reads records.old records.new }
+    ensures fault { IfErr result (FailsOn (R.fails records.new) values.entry) }
 {
     let mut nearest = None;
     for value in values {
@@ -140,9 +159,10 @@ fn nearest_if_any<'a, S: Side, V, R: Records<'a, V>>(
     list: Option<Values<'a, V>>,
     records: &mut R,
 ) -> Result<Option<&'a V>, R::Error>
-    ensures nearest { IfOk result (λ o.
+    ensures nearest { R.sound records.new → IfOk result (λ o.
         IsLeast (on (R.full_key records.old) S.cmp) (unwrap_or list.entry []) (option_copied o)) }
-    ensures stays { OnOk result (R.full_key records.new ≡ R.full_key records.old) }
+    ensures reads { R.reads records.old records.new }
+    ensures fault { IfErr result (FailsOn (R.fails records.new) (unwrap_or list.entry [])) }
 {
     match list {
         Some(values) => nearest::<S, _, _>(values, records),
@@ -155,9 +175,10 @@ fn nearest_unflagged<'a, S: Side, V, R: Records<'a, V>>(
     found: Option<(Values<'a, V>, bool)>,
     records: &mut R,
 ) -> Result<Option<&'a V>, R::Error>
-    ensures nearest { IfOk result (λ o.
+    ensures nearest { R.sound records.new → IfOk result (λ o.
         IsLeast (on (R.full_key records.old) S.cmp) (unflagged found.entry) (option_copied o)) }
-    ensures stays { OnOk result (R.full_key records.new ≡ R.full_key records.old) }
+    ensures reads { R.reads records.old records.new }
+    ensures fault { IfErr result (FailsOn (R.fails records.new) (unflagged found.entry)) }
 {
     match found {
         Some((values, false)) => nearest::<S, _, _>(values, records),
@@ -171,9 +192,10 @@ fn first_record_with<'a, V, R: Records<'a, V>>(
     records: &mut R,
     key: &[u8],
 ) -> Result<Option<&'a V>, R::Error>
-    ensures first { IfOk result (λ o.
+    ensures first { R.sound records.new → IfOk result (λ o.
         option_copied o ≡ first_with (R.full_key records.old) key.now values.entry) }
-    ensures stays { OnOk result (R.full_key records.new ≡ R.full_key records.old) }
+    ensures reads { R.reads records.old records.new }
+    ensures fault { IfErr result (FailsOn (R.fails records.new) values.entry) }
 {
     for value in values {
         let full_key = records.key_of(value)?;
@@ -193,11 +215,12 @@ pub fn find_record<'a, I: Unordered, R: Records<'a, I::Value>>(
     records: &mut R,
     key: &[u8],
 ) -> Result<Option<&'a I::Value>, R::Error>
-    ensures candidate { IfOk result (λ o. option_copied o
+    ensures candidate { R.sound records.new → IfOk result (λ o. option_copied o
         ≡ first_with (R.full_key records.old) key.now (run_of I.Key.cmp (I.view index.now) key.now)) }
-    ensures filed { IsFiledIn (R.full_key records.old) I.Key.cmp (I.view index.now) → IfOk result (λ o.
+    ensures filed { R.sound records.new → IsFiledIn (R.full_key records.old) I.Key.cmp (I.view index.now) → IfOk result (λ o.
         option_copied o ≡ first_with (R.full_key records.old) key.now (values_of (I.view index.now).content)) }
-    ensures stays { OnOk result (R.full_key records.new ≡ R.full_key records.old) }
+    ensures reads { R.reads records.old records.new }
+    ensures fault { IfErr result (FailsOn (R.fails records.new) (values_of (I.view index.now).content)) }
 {
     first_record_with(index.get(key), records, key)
 }
@@ -209,14 +232,16 @@ fn next_candidate<'a, I: Ordered, R: Records<'a, I::Value>>(
     records: &mut R,
     key: &[u8],
 ) -> Result<Option<&'a I::Value>, R::Error>
-    ensures candidate { IfOk result (λ o.
+    ensures candidate { R.sound records.new → IfOk result (λ o.
         IsNextIn (R.full_key records.old) I.Key.cmp (I.view index.now) key.now (option_copied o)) }
-    ensures stays { OnOk result (R.full_key records.new ≡ R.full_key records.old) }
+    ensures reads { R.reads records.old records.new }
+    ensures fault { IfErr result (FailsOn (R.fails records.new) (values_of (I.view index.now).content)) }
 {
-    if let Some(value) = nearest_beyond::<Above, _, _>(index.get(key), records, key)? {
-        return Ok(Some(value));
+    match nearest_beyond::<Above, _, _>(index.get(key), records, key) {
+        Ok(None) => nearest_unflagged::<Above, _, _>(index.next_translated_key(key), records),
+        Ok(Some(value)) => Ok(Some(value)),
+        Err(error) => Err(error),
     }
-    nearest_unflagged::<Above, _, _>(index.next_translated_key(key), records)
 }
 
 /// The value with the least full key strictly above a key, of all in an index whose values stand under their own full keys. `None`
@@ -231,11 +256,12 @@ pub fn next_record<'a, I: Ordered, R: Records<'a, I::Value>>(
     records: &mut R,
     key: &[u8],
 ) -> Result<Option<&'a I::Value>, R::Error>
-    ensures candidate { IfOk result (λ o.
+    ensures candidate { R.sound records.new → IfOk result (λ o.
         IsNextIn (R.full_key records.old) I.Key.cmp (I.view index.now) key.now (option_copied o)) }
-    ensures filed { IsFiledIn (R.full_key records.old) I.Key.cmp (I.view index.now) → IfOk result (λ o.
+    ensures filed { R.sound records.new → IsFiledIn (R.full_key records.old) I.Key.cmp (I.view index.now) → IfOk result (λ o.
         IsFullNext (R.full_key records.old) (I.view index.now).content key.now (option_copied o)) }
-    ensures stays { OnOk result (R.full_key records.new ≡ R.full_key records.old) }
+    ensures reads { R.reads records.old records.new }
+    ensures fault { IfErr result (FailsOn (R.fails records.new) (values_of (I.view index.now).content)) }
 {
     next_candidate(index, records, key)
 }
@@ -247,14 +273,16 @@ fn prev_candidate<'a, I: Ordered, R: Records<'a, I::Value>>(
     records: &mut R,
     key: &[u8],
 ) -> Result<Option<&'a I::Value>, R::Error>
-    ensures candidate { IfOk result (λ o.
+    ensures candidate { R.sound records.new → IfOk result (λ o.
         IsPrevIn (R.full_key records.old) I.Key.cmp (I.view index.now) key.now (option_copied o)) }
-    ensures stays { OnOk result (R.full_key records.new ≡ R.full_key records.old) }
+    ensures reads { R.reads records.old records.new }
+    ensures fault { IfErr result (FailsOn (R.fails records.new) (values_of (I.view index.now).content)) }
 {
-    if let Some(value) = nearest_beyond::<Below, _, _>(index.get(key), records, key)? {
-        return Ok(Some(value));
+    match nearest_beyond::<Below, _, _>(index.get(key), records, key) {
+        Ok(None) => nearest_unflagged::<Below, _, _>(index.prev_translated_key(key), records),
+        Ok(Some(value)) => Ok(Some(value)),
+        Err(error) => Err(error),
     }
-    nearest_unflagged::<Below, _, _>(index.prev_translated_key(key), records)
 }
 
 /// The value with the greatest full key strictly below a key, of all in an index whose values stand under their own full keys.
@@ -269,11 +297,12 @@ pub fn prev_record<'a, I: Ordered, R: Records<'a, I::Value>>(
     records: &mut R,
     key: &[u8],
 ) -> Result<Option<&'a I::Value>, R::Error>
-    ensures candidate { IfOk result (λ o.
+    ensures candidate { R.sound records.new → IfOk result (λ o.
         IsPrevIn (R.full_key records.old) I.Key.cmp (I.view index.now) key.now (option_copied o)) }
-    ensures filed { IsFiledIn (R.full_key records.old) I.Key.cmp (I.view index.now) → IfOk result (λ o.
+    ensures filed { R.sound records.new → IsFiledIn (R.full_key records.old) I.Key.cmp (I.view index.now) → IfOk result (λ o.
         IsFullPrev (R.full_key records.old) (I.view index.now).content key.now (option_copied o)) }
-    ensures stays { OnOk result (R.full_key records.new ≡ R.full_key records.old) }
+    ensures reads { R.reads records.old records.new }
+    ensures fault { IfErr result (FailsOn (R.fails records.new) (values_of (I.view index.now).content)) }
 {
     prev_candidate(index, records, key)
 }
@@ -290,18 +319,21 @@ pub fn absent<'a, I: Ordered, R: Records<'a, I::Value>>(
     records: &mut R,
     key: &[u8],
 ) -> Result<Option<(Option<&'a I::Value>, Option<&'a I::Value>)>, R::Error>
-    ensures candidate { IfOk result (λ gap.
+    ensures candidate { R.sound records.new → IfOk result (λ gap.
         IsGapIn (R.full_key records.old) I.Key.cmp (I.view index.now) key.now (gap_copied gap)) }
-    ensures filed { IsFiledIn (R.full_key records.old) I.Key.cmp (I.view index.now) → IfOk result (λ gap.
+    ensures filed { R.sound records.new → IsFiledIn (R.full_key records.old) I.Key.cmp (I.view index.now) → IfOk result (λ gap.
         IsFullGap (R.full_key records.old) (I.view index.now).content key.now (gap_copied gap)) }
-    ensures stays { OnOk result (R.full_key records.new ≡ R.full_key records.old) }
+    ensures reads { R.reads records.old records.new }
+    ensures fault { IfErr result (FailsOn (R.fails records.new) (values_of (I.view index.now).content)) }
 {
-    if let Some(_) = find_record(index, records, key)? {
-        return Ok(None);
+    match find_record(index, records, key)? {
+        Some(_) => Ok(None),
+        None => {
+            let below = prev_record(index, records, key)?;
+            let above = next_record(index, records, key)?;
+            Ok(Some((below, above)))
+        }
     }
-    let below = prev_record(index, records, key)?;
-    let above = next_record(index, records, key)?;
-    Ok(Some((below, above)))
 }
 
 /// The value with the least full key of all, in an index whose values stand under their own full keys. `None` exactly where the
@@ -313,11 +345,12 @@ pub fn first_record<'a, I: Ordered, R: Records<'a, I::Value>>(
     index: &'a I,
     records: &mut R,
 ) -> Result<Option<&'a I::Value>, R::Error>
-    ensures candidate { IfOk result (λ o.
+    ensures candidate { R.sound records.new → IfOk result (λ o.
         IsFirstCandidate (R.full_key records.old) (I.view index.now).content (option_copied o)) }
-    ensures filed { IsFiledIn (R.full_key records.old) I.Key.cmp (I.view index.now) → IfOk result (λ o.
+    ensures filed { R.sound records.new → IsFiledIn (R.full_key records.old) I.Key.cmp (I.view index.now) → IfOk result (λ o.
         IsFullFirst (R.full_key records.old) (I.view index.now).content (option_copied o)) }
-    ensures stays { OnOk result (R.full_key records.new ≡ R.full_key records.old) }
+    ensures reads { R.reads records.old records.new }
+    ensures fault { IfErr result (FailsOn (R.fails records.new) (values_of (I.view index.now).content)) }
 {
     nearest_if_any::<Above, _, _>(index.first_translated_key(), records)
 }
@@ -331,11 +364,12 @@ pub fn last_record<'a, I: Ordered, R: Records<'a, I::Value>>(
     index: &'a I,
     records: &mut R,
 ) -> Result<Option<&'a I::Value>, R::Error>
-    ensures candidate { IfOk result (λ o.
+    ensures candidate { R.sound records.new → IfOk result (λ o.
         IsLastCandidate (R.full_key records.old) (I.view index.now).content (option_copied o)) }
-    ensures filed { IsFiledIn (R.full_key records.old) I.Key.cmp (I.view index.now) → IfOk result (λ o.
+    ensures filed { R.sound records.new → IsFiledIn (R.full_key records.old) I.Key.cmp (I.view index.now) → IfOk result (λ o.
         IsFullLast (R.full_key records.old) (I.view index.now).content (option_copied o)) }
-    ensures stays { OnOk result (R.full_key records.new ≡ R.full_key records.old) }
+    ensures reads { R.reads records.old records.new }
+    ensures fault { IfErr result (FailsOn (R.fails records.new) (values_of (I.view index.now).content)) }
 {
     nearest_if_any::<Below, _, _>(index.last_translated_key(), records)
 }

@@ -1,5 +1,5 @@
 //! Neighbours of a full key, in an index that keeps shorter ones, of values that know their own.
-ghost use Rattle.std.specs.Prelude.{◌≡◌, Ok, ℕ, List};
+ghost use Rattle.std.specs.Prelude.{◌≡◌, Ok, ℕ, List, refl};
 ghost use Rattle.std.specs.Option.{option_copied};
 ghost use Rattle.key_index_flat.specs.FullKeys.{IsFiledIn, IsFullNext, IsFullPrev, IsNextIn, IsPrevIn};
 
@@ -26,6 +26,14 @@ impl<'a, V: Keyed> Records<'a, V> for OwnKeys {
     type Error = Infallible;
 
     ghost full_key = { λ _ value. V.full_key value };
+
+    ghost reads = { λ _ _. Unit {0} };
+
+    ghost reads_nothing = { λ _. tt };
+
+    ghost reads_both = { λ _ _ _ _ _. tt };
+
+    ghost stays = { λ _ _ _ _. (tt, refl) };
 
     #[inline]
     fn key_of(&mut self, value: &'a V) -> Result<&'a [u8], Infallible> {

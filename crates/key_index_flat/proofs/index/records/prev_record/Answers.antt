@@ -13,5 +13,5 @@ returns-clause-filed g c =
     let keys = g.R.Records.full_key c.args.records.now in
     let bytes : IsBytes key = All-from_get_or (λ n. n < 256) key 0 (λ i within. omega (arith, c.type_inv.key i)) in
     let content = (g.I.Runs.view index).content in
-    λ f. IfOk-weaker c.prev_candidate.result _ (λ o. IsFullPrev keys content key (option_copied o))
-    (λ o is. prev_of_filed g.met.I.Key.Ord.total keys (g.I.Runs.view index).slot (g.met.I.Ordered.keeps_order index) key bytes content (option_copied o) (g.met.I.Runs.lawful index) f is) c.prev_candidate.ensures.candidate
+    λ sound f. IfOk-weaker c.prev_candidate.result _ (λ o. IsFullPrev keys content key (option_copied o))
+    (λ o is. prev_of_filed g.met.I.Key.Ord.total keys (g.I.Runs.view index).slot (g.met.I.Ordered.keeps_order index) key bytes content (option_copied o) (g.met.I.Runs.lawful index) f is) (c.prev_candidate.ensures.candidate sound)
