@@ -217,7 +217,8 @@ pub fn find_record<'a, I: Unordered, R: Records<'a, I::Value>>(
 ) -> Result<Option<&'a I::Value>, R::Error>
     ensures candidate { R.sound records.new → IfOk result (λ o. option_copied o
         ≡ first_with (R.full_key records.old) key.now (run_of I.Key.cmp (I.view index.now) key.now)) }
-    ensures filed { R.sound records.new → IsFiledIn (R.full_key records.old) I.Key.cmp (I.view index.now) → IfOk result (λ o.
+    ensures filed { R.sound records.new → IsFiledIn (R.full_key records.old) I.Key.cmp (I.view index.now)
+        → IfOk result (λ o.
         option_copied o ≡ first_with (R.full_key records.old) key.now (values_of (I.view index.now).content)) }
     ensures reads { R.reads records.old records.new }
     ensures fault { IfErr result (FailsOn (R.fails records.new) (values_of (I.view index.now).content)) }
@@ -258,8 +259,8 @@ pub fn next_record<'a, I: Ordered, R: Records<'a, I::Value>>(
 ) -> Result<Option<&'a I::Value>, R::Error>
     ensures candidate { R.sound records.new → IfOk result (λ o.
         IsNextIn (R.full_key records.old) I.Key.cmp (I.view index.now) key.now (option_copied o)) }
-    ensures filed { R.sound records.new → IsFiledIn (R.full_key records.old) I.Key.cmp (I.view index.now) → IfOk result (λ o.
-        IsFullNext (R.full_key records.old) (I.view index.now).content key.now (option_copied o)) }
+    ensures filed { R.sound records.new → IsFiledIn (R.full_key records.old) I.Key.cmp (I.view index.now)
+        → IfOk result (λ o. IsFullNext (R.full_key records.old) (I.view index.now).content key.now (option_copied o)) }
     ensures reads { R.reads records.old records.new }
     ensures fault { IfErr result (FailsOn (R.fails records.new) (values_of (I.view index.now).content)) }
 {
@@ -299,8 +300,8 @@ pub fn prev_record<'a, I: Ordered, R: Records<'a, I::Value>>(
 ) -> Result<Option<&'a I::Value>, R::Error>
     ensures candidate { R.sound records.new → IfOk result (λ o.
         IsPrevIn (R.full_key records.old) I.Key.cmp (I.view index.now) key.now (option_copied o)) }
-    ensures filed { R.sound records.new → IsFiledIn (R.full_key records.old) I.Key.cmp (I.view index.now) → IfOk result (λ o.
-        IsFullPrev (R.full_key records.old) (I.view index.now).content key.now (option_copied o)) }
+    ensures filed { R.sound records.new → IsFiledIn (R.full_key records.old) I.Key.cmp (I.view index.now)
+        → IfOk result (λ o. IsFullPrev (R.full_key records.old) (I.view index.now).content key.now (option_copied o)) }
     ensures reads { R.reads records.old records.new }
     ensures fault { IfErr result (FailsOn (R.fails records.new) (values_of (I.view index.now).content)) }
 {
@@ -321,8 +322,8 @@ pub fn absent<'a, I: Ordered, R: Records<'a, I::Value>>(
 ) -> Result<Option<(Option<&'a I::Value>, Option<&'a I::Value>)>, R::Error>
     ensures candidate { R.sound records.new → IfOk result (λ gap.
         IsGapIn (R.full_key records.old) I.Key.cmp (I.view index.now) key.now (gap_copied gap)) }
-    ensures filed { R.sound records.new → IsFiledIn (R.full_key records.old) I.Key.cmp (I.view index.now) → IfOk result (λ gap.
-        IsFullGap (R.full_key records.old) (I.view index.now).content key.now (gap_copied gap)) }
+    ensures filed { R.sound records.new → IsFiledIn (R.full_key records.old) I.Key.cmp (I.view index.now)
+        → IfOk result (λ gap. IsFullGap (R.full_key records.old) (I.view index.now).content key.now (gap_copied gap)) }
     ensures reads { R.reads records.old records.new }
     ensures fault { IfErr result (FailsOn (R.fails records.new) (values_of (I.view index.now).content)) }
 {
@@ -347,8 +348,8 @@ pub fn first_record<'a, I: Ordered, R: Records<'a, I::Value>>(
 ) -> Result<Option<&'a I::Value>, R::Error>
     ensures candidate { R.sound records.new → IfOk result (λ o.
         IsFirstCandidate (R.full_key records.old) (I.view index.now).content (option_copied o)) }
-    ensures filed { R.sound records.new → IsFiledIn (R.full_key records.old) I.Key.cmp (I.view index.now) → IfOk result (λ o.
-        IsFullFirst (R.full_key records.old) (I.view index.now).content (option_copied o)) }
+    ensures filed { R.sound records.new → IsFiledIn (R.full_key records.old) I.Key.cmp (I.view index.now)
+        → IfOk result (λ o. IsFullFirst (R.full_key records.old) (I.view index.now).content (option_copied o)) }
     ensures reads { R.reads records.old records.new }
     ensures fault { IfErr result (FailsOn (R.fails records.new) (values_of (I.view index.now).content)) }
 {
@@ -366,8 +367,8 @@ pub fn last_record<'a, I: Ordered, R: Records<'a, I::Value>>(
 ) -> Result<Option<&'a I::Value>, R::Error>
     ensures candidate { R.sound records.new → IfOk result (λ o.
         IsLastCandidate (R.full_key records.old) (I.view index.now).content (option_copied o)) }
-    ensures filed { R.sound records.new → IsFiledIn (R.full_key records.old) I.Key.cmp (I.view index.now) → IfOk result (λ o.
-        IsFullLast (R.full_key records.old) (I.view index.now).content (option_copied o)) }
+    ensures filed { R.sound records.new → IsFiledIn (R.full_key records.old) I.Key.cmp (I.view index.now)
+        → IfOk result (λ o. IsFullLast (R.full_key records.old) (I.view index.now).content (option_copied o)) }
     ensures reads { R.reads records.old records.new }
     ensures fault { IfErr result (FailsOn (R.fails records.new) (values_of (I.view index.now).content)) }
 {
