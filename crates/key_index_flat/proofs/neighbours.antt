@@ -2,3 +2,4 @@ pub mod NeighbourLemmas
 pub mod LeastLemmas
 pub mod FullKeyLemmas
 pub mod Nested
+pub mod HeldLemmas

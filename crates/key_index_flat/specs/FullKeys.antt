@@ -1,20 +1,30 @@
 -- Full keys. An index files its values under index keys, which are shorter than keys, and each value knows its own key in full.
 --     IsFiled              each value stands under the index key of its full key, which is a list of bytes
 --     IsLeast              the least value of a list, the first of those that tie; none exactly where the list is empty
+--     IsLeastRead          the same of a value that stands beside its full key
+--     first_with           the first value of a list that has a full key
+--     FailsOn              an error of a read of one of some values
 --     IsFullNext           the value with the least full key strictly above a key, of all that are held. Among equal full keys the first.
 --                          None exactly where no full key is above. IsFullPrev: the same with the greatest strictly below
+--     IsFullFirst, IsFullLast      the value with the least full key of all, and with the greatest
+--     IsFullGap            the neighbours of a full key that no value has; none exactly where one has it
 --     IsNextCandidate      the value with the least full key of those above the key under its own index key. Where none is above, of all those under the next
 --                          index key, which a flagged neighbour isn't. IsPrevCandidate: the same with greatest, below and previous
-use Rattle.std.specs.Prelude.{◌≡◌, ◌<◌, ℕ, Bool, true, false, List, [], ◌∷◌, ◌++◌, Option, Some, None, All}
-use Rattle.std.specs.List.{filter}
+--     IsFirstCandidate, IsLastCandidate      the least of the first list, and the greatest of the last
+--     IsGapIn              the candidates on both sides of a full key that no value under its own index key has; none exactly where one has it
+use Rattle.std.specs.Prelude.{◌≡◌, ◌<◌, ℕ, Bool, true, false, List, [], ◌∷◌, ◌++◌, Option, Some, None, IsSome, IfSome, unwrap_or, All}
+use Rattle.std.specs.Borrow.{Bor}
+use Rattle.std.specs.List.{Contains, filter, find}
+use Rattle.std.specs.Option.{option_copied, option_map}
+use Rattle.std.specs.Str.{bytes_eq}
 use Rattle.std.specs.declared.cmp.Ordering.{Ordering}
 use Rattle.std.specs.declared.cmp.Ordering.TheVariants.{Less}
 use Rattle.std.specs.Ordering.{is_lt, nat_cmp, on, flip_args}
 use Rattle.std.specs.Cmp.Lexicographic.{slice_cmp}
 use Rattle.std.specs.BTreeMap.Range.{IsLeBy}
-use Rattle.key_index_flat.specs.View.{View}
+use Rattle.key_index_flat.specs.View.{View, run_of}
 use Rattle.key_index_flat.specs.Content.{Content, list_at}
-use Rattle.key_index_flat.specs.Neighbours.{next_list, prev_list}
+use Rattle.key_index_flat.specs.Neighbours.{first_list, last_list, next_list, prev_list}
 use Rattle.key_index_flat.specs.Values.{values_of}
 
 abbrev pub IsBytes : List ℕ → Type 0
@@ -29,6 +39,16 @@ IsLeast {V = V} cmp l (Some v) =
     (before : List V) × (after : List V) × (l ≡ before ++ v ∷ after)
     × All (λ w. cmp v w ≡ Less) before × All (λ w. IsLeBy cmp v w) after
 
+abbrev pub IsLeastRead : {V K : Type 0} → (V → List ℕ) → (K → List ℕ) → (List ℕ → List ℕ → Ordering) → List V → Option (Bor V × K) → Type 0
+IsLeastRead full_key items cmp l o =
+    IsLeast (on full_key cmp) l (option_map (λ n. n.0.now) o) × IfSome o (λ n. items n.1 ≡ full_key n.0.now)
+
+abbrev pub first_with : {V : Type 0} → (V → List ℕ) → List ℕ → List V → Option V
+first_with full_key a l = find (λ v. bytes_eq (full_key v) a) l
+
+abbrev pub FailsOn : {V E : Type 0} → (V → E → Type 0) → List V → E → Type 0
+FailsOn {V = V} fails l e = (v : V) × Contains l v × fails v e
+
 -- the first list, or where it is empty the second
 abbrev pub or_list : {V : Type 0} → List V → List V → List V
 or_list [] other = other
@@ -39,6 +59,10 @@ abbrev pub unflagged : {V : Type 0} → Option (List V × Bool) → List V
 unflagged None = []
 unflagged (Some (l, true)) = []
 unflagged (Some (l, false)) = l
+
+-- the values of the references in a pair of neighbours
+abbrev pub gap_copied : {V : Type 0} → Option (Option (Bor V) × Option (Bor V)) → Option (Option V × Option V)
+gap_copied gap = option_map (λ g. (option_copied g.0, option_copied g.1)) gap
 
 module _ {V : Type 0} (full_key : V → List ℕ) where
   abbrev pub cmp_keys : V → V → Ordering
@@ -55,6 +79,22 @@ module _ {V : Type 0} (full_key : V → List ℕ) where
 
   abbrev pub IsFullPrev : {K : Type 0} → Content K V → List ℕ → Option V → Type 0
   IsFullPrev c a o = IsLeast (flip_args cmp_keys) (below a (values_of c)) o
+
+  abbrev pub IsFullFirst : {K : Type 0} → Content K V → Option V → Type 0
+  IsFullFirst c o = IsLeast cmp_keys (values_of c) o
+
+  abbrev pub IsFullLast : {K : Type 0} → Content K V → Option V → Type 0
+  IsFullLast c o = IsLeast (flip_args cmp_keys) (values_of c) o
+
+  abbrev pub IsFullGap : {K : Type 0} → Content K V → List ℕ → Option (Option V × Option V) → Type 0
+  IsFullGap c a None = IsSome (first_with full_key a (values_of c))
+  IsFullGap c a (Some g) = (first_with full_key a (values_of c) ≡ None) × IsFullPrev c a g.0 × IsFullNext c a g.1
+
+  abbrev pub IsFirstCandidate : {K : Type 0} → Content K V → Option V → Type 0
+  IsFirstCandidate c o = IsLeast cmp_keys (unwrap_or (first_list c) []) o
+
+  abbrev pub IsLastCandidate : {K : Type 0} → Content K V → Option V → Type 0
+  IsLastCandidate c o = IsLeast (flip_args cmp_keys) (unwrap_or (last_list c) []) o
 
   module _ {K : Type 0} (cmp : K → K → Ordering) where
     abbrev pub IsFiled : (List ℕ → K) → Content K V → Type 0
@@ -76,3 +116,7 @@ module _ {V : Type 0} (full_key : V → List ℕ) where
 
     abbrev pub IsPrevIn : View K V → List ℕ → Option V → Type 0
     IsPrevIn s b o = IsPrevCandidate s.content (s.slot b) b o
+
+    abbrev pub IsGapIn : View K V → List ℕ → Option (Option V × Option V) → Type 0
+    IsGapIn s b None = IsSome (first_with full_key b (run_of cmp s b))
+    IsGapIn s b (Some g) = (first_with full_key b (run_of cmp s b) ≡ None) × IsPrevIn s b g.0 × IsNextIn s b g.1

@@ -10,6 +10,7 @@ mod command;
 pub mod implement;
 mod index_cursor;
 pub mod ordered;
+mod records;
 mod resolve;
 mod retain;
 mod storage;
@@ -20,7 +21,10 @@ mod values;
 pub use apply::run;
 pub use command::{Command, Outcome, Step};
 pub use index_cursor::IndexCursor;
-pub use resolve::{Keyed, resolve_next, resolve_prev};
+pub use records::{
+    Records, absent, find_record, first_record, last_record, next_record, prev_record,
+};
+pub use resolve::{Keyed, OwnKeys, resolve_next, resolve_prev};
 pub use traits::cursor::{Cursor, CursorState};
 pub use traits::ordered::Ordered;
 pub use traits::runs::Runs;

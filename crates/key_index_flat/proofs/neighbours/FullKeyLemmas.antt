@@ -1,21 +1,27 @@
 -- On full keys in an index that keeps their order: in a filed content, what a list and its neighbour have is what all lists have.
---     next_of_filed, prev_of_filed      the candidate is the neighbour among all values
+--     next_of_filed, prev_of_filed, first_of_filed, last_of_filed      the candidate is the neighbour among all values
 --     filed_first, filed_rest           the first list of a filed content, and the others
 --     least_own                         the least of a list that has one, where another stands behind it
-use Rattle.std.proofs.Common.{◌≡◌, ℕ, Bool, true, false, cond, T, List, [], ◌∷◌, ◌++◌, Option, Some, None, unwrap_or, All, append_assoc, append-nil, length, length-append, arith, refl, sym, ap, subst, ◌∙◌}
+--     least_other                       what a reader gave of the other list, where its own list had none
+--     first_with-anywhere               the first value of all that has a full key is the first of the key's own list
+use Rattle.std.proofs.Common.{◌≡◌, ℕ, Bool, true, false, cond, T, List, [], ◌∷◌, ◌++◌, Option, Some, None, Result, IfOk, unwrap_or, All, append_assoc, append-nil, length, length-append, arith, refl, sym, ap, subst, ◌∙◌}
 use Rattle.std.proofs.lemmas.Bool.{false≢true}
 use Rattle.std.proofs.lemmas.List.Elements.{All-nil, All-head, All-tail, All-append, All-weaker, All-filter, filter-append}
+use Rattle.std.specs.Borrow.{Bor}
 use Rattle.std.specs.declared.cmp.Ordering.{Ordering}
 use Rattle.std.specs.declared.cmp.Ordering.TheVariants.{Less, Equal, Greater}
 use Rattle.std.specs.Ordering.{is_lt, is_eq, is_gt, ordering_reverse, flip_args}
 use Rattle.std.specs.Cmp.{IsTotalOrder, tied_itself, on_total, back_total}
 use Rattle.std.specs.Cmp.Lexicographic.{nat_list_cmp_total}
 use Rattle.std.specs.List.{filter, last_or}
-use Rattle.std.specs.Option.{option_map}
+use Rattle.std.proofs.lemmas.List.Folds.{find-append}
+use Rattle.std.proofs.lemmas.Slice.Eq.{bytes_eq-Decides}
+use Rattle.std.specs.Option.{option_copied, option_map, option_or}
+use Rattle.std.specs.Str.{bytes_eq}
 use Rattle.std.specs.FinMap.{find, is_sorted}
 use Rattle.std.specs.FinMap.Entries.{below_all, is_sorted-where_key}
 use Rattle.key_index_flat.specs.Content.{Content, is_filled, list_at, IsLawful}
-use Rattle.key_index_flat.specs.FullKeys.{IsBytes, byte_cmp, IsLeast, or_list, unflagged, cmp_keys, above, below, IsFiled, IsFullNext, IsFullPrev, IsNextCandidate, IsPrevCandidate}
+use Rattle.key_index_flat.specs.FullKeys.{IsBytes, byte_cmp, IsLeast, first_with, or_list, unflagged, cmp_keys, above, below, IsFiled, IsFullFirst, IsFullLast, IsFullNext, IsFullPrev, IsFirstCandidate, IsLastCandidate, IsNextCandidate, IsPrevCandidate}
 use Rattle.key_index_flat.specs.Values.{values_of}
 use Rattle.key_index_flat.specs.laws.Laws.{T-and_first, T-and_second, all_filled-where_key}
 use Rattle.key_index_flat.specs.Neighbours.{entries_above, entries_below, first_entry, last_entry, or_cycled, KeepsOrder}
@@ -61,6 +67,41 @@ module _ {K V : Type 0} {cmp : K → K → Ordering} (o : IsTotalOrder cmp) (ful
         | Equal ↦ λ p x. subst (All Under) (sym (list_at-below_all o k e.0 es (λ y q. o.congr k e.0 y p ∙ q) h)) (All-nil Under)
         | Greater ↦ λ p x. x
       ] refl (f k)
+
+-- a full key is held where it is held in its own list
+module _ {K V : Type 0} {cmp : K → K → Ordering} (o : IsTotalOrder cmp) (full_key : V → List ℕ) (slot : List ℕ → K) (a : List ℕ) where
+  first_with-other_slot : (x : K) (l : List V) → All (λ v. IsBytes (full_key v) × (slot (full_key v) ≡ x)) l → ((slot a ≡ x) → ⊥) → first_with full_key a l ≡ None
+  first_with-other_slot x [] h other = refl
+  first_with-other_slot x (v ∷ vs) h other =
+      let Under : V → Type 0 = λ v. IsBytes (full_key v) × (slot (full_key v) ≡ x) in
+      elim (bytes_eq (full_key v) a) as (λ b. bytes_eq (full_key v) a ≡ b → cond b (Some v) (first_with full_key a vs) ≡ None) [
+        | true ↦ λ e. absurd (other (ap slot (sym ((bytes_eq-Decides (full_key v) a).0 e)) ∙ (All-head Under v vs h).1))
+        | false ↦ λ e. first_with-other_slot x vs (All-tail Under v vs h) other
+      ] refl
+
+  pub first_with-anywhere : (c : Content K V) → T (is_sorted cmp c) → IsFiled full_key cmp slot c → first_with full_key a (values_of c) ≡ first_with full_key a (list_at cmp c (slot a))
+  first_with-anywhere [] h f = refl
+  first_with-anywhere (e ∷ es) h f =
+      let k = slot a in
+      let rest = first_with-anywhere es (T-and_second _ _ h) (filed_rest o full_key slot e es (T-and_first _ _ h) f) in
+      let mine = filed_first o full_key slot e es f in
+      let not_here : (cmp k e.0 ≡ Equal → ⊥) → first_with full_key a e.1 ≡ None = λ n. first_with-other_slot e.0 e.1 mine (λ s. n (ap (λ x. cmp x e.0) s ∙ tied_itself o e.0)) in
+      find-append (λ v. bytes_eq (full_key v) a) e.1 (values_of es)
+      ∙ elim (cmp k e.0) as (λ r. cmp k e.0 ≡ r → option_or (first_with full_key a e.1) (first_with full_key a (values_of es)) ≡ first_with full_key a (unwrap_or (cond (is_eq r) (Some e.1) (find cmp k es)) [])) [
+        | Less ↦ λ p. (λ i. option_or (not_here (λ q. less_not_equal (sym p ∙ q)) i) (rest i))
+        | Equal ↦ λ p. ap (λ r. option_or (first_with full_key a e.1) r) (rest ∙ ap (first_with full_key a) (list_at-below_all o k e.0 es (λ y q. o.congr k e.0 y p ∙ q) (T-and_first _ _ h))) ∙ option_or_none (first_with full_key a e.1)
+        | Greater ↦ λ p. (λ i. option_or (not_here (λ q. greater_not_equal (sym p ∙ q)) i) (rest i))
+      ] refl
+    where
+      less_not_equal : Less ≡ Equal → ⊥
+      less_not_equal e = cc
+
+      greater_not_equal : Greater ≡ Equal → ⊥
+      greater_not_equal e = cc
+
+      option_or_none : (r : Option V) → option_or r None ≡ r
+      option_or_none None = refl
+      option_or_none (Some v) = refl
 
 module _ {K V : Type 0} {cmp : K → K → Ordering} (o : IsTotalOrder cmp) (full_key : V → List ℕ) (slot : List ℕ → K) (keeps : KeepsOrder cmp slot) where
   -- a value that stands under its own index key, and one whose index key is above another
@@ -128,6 +169,12 @@ module _ {K V : Type 0} {cmp : K → K → Ordering} (o : IsTotalOrder cmp) (ful
         | Greater ↦ λ p. rest
       ] refl
 
+  first_of_all : (e : K × List V) (es : Content K V) (r : Option V) → IsLawful cmp (e ∷ es) → Filed (e ∷ es) → IsLeast (cmp_keys full_key) e.1 r → IsLeast (cmp_keys full_key) (values_of (e ∷ es)) r
+  first_of_all e es None h f least = absurd (not_filled e.1 (T-and_first _ _ h.1) least)
+  first_of_all e es (Some v) h f least =
+      let keys = on_total full_key nat_list_cmp_total in
+      IsLeast-front keys e.1 (values_of es) v least (less_all e.0 v (values_of es) (least_has keys (FiledUnder e.0) e.1 v least f.0) (behind_all e.0 es (T-and_first _ _ h.0) f.1))
+
   -- its own list, and else the first of the higher lists
   own_or_first : (k : K) (own : List V) (d : Content K V) (other : Option (K × List V)) (r : Option V) → All (FiledUnder k) own → All (Behind k) (values_of d) → IsLawful cmp d → Filed d
       → IsLeast (cmp_keys full_key) (or_list own (unflagged (option_map (λ n. (n.0.1, n.1)) (or_cycled (first_entry d) other)))) r → IsLeast (cmp_keys full_key) (own ++ values_of d) r
@@ -137,10 +184,7 @@ module _ {K V : Type 0} {cmp : K → K → Ordering} (o : IsTotalOrder cmp) (ful
       IsLeast-front keys (x ∷ xs) (values_of d) v least (less_all k v (values_of d) (least_has keys (FiledUnder k) (x ∷ xs) v least u) b)
   own_or_first k [] [] None r u b h f least = least
   own_or_first k [] [] (Some e) r u b h f least = least
-  own_or_first k [] (e ∷ es) other None u b h f least = absurd (not_filled e.1 (T-and_first _ _ h.1) least)
-  own_or_first k [] (e ∷ es) other (Some v) u b h f least =
-      let keys = on_total full_key nat_list_cmp_total in
-      IsLeast-front keys e.1 (values_of es) v least (less_all e.0 v (values_of es) (least_has keys (FiledUnder e.0) e.1 v least f.0) (behind_all e.0 es (T-and_first _ _ h.0) f.1))
+  own_or_first k [] (e ∷ es) other r u b h f least = first_of_all e es r h f least
 
   last_of_all : (e : K × List V) (es : Content K V) (other : Option (K × List V)) (r : Option V) → IsLawful cmp (e ∷ es) → Filed (e ∷ es)
       → IsLeast (flip_args (cmp_keys full_key)) (unflagged (option_map (λ n. (n.0.1, n.1)) (or_cycled (last_or (Some e) es) other))) r → IsLeast (flip_args (cmp_keys full_key)) (values_of (e ∷ es)) r
@@ -166,6 +210,19 @@ module _ {K V : Type 0} {cmp : K → K → Ordering} (o : IsTotalOrder cmp) (ful
   own_or_last k [] [] (Some e) r u b h f least = least
   own_or_last k [] (e ∷ es) other r u b h f least =
       subst (λ l. IsLeast (flip_args (cmp_keys full_key)) l r) (sym (append-nil (values_of (e ∷ es)))) (last_of_all e es other r h f least)
+
+  pub first_of_filed : (c : Content K V) (r : Option V) → IsLawful cmp c → IsFiled full_key cmp slot c → IsFirstCandidate full_key c r → IsFullFirst full_key c r
+  first_of_filed [] r h f least = least
+  first_of_filed (e ∷ es) r h f least = first_of_all e es r h (filed_entries (e ∷ es) h.0 f) least
+
+  pub last_of_filed : (c : Content K V) (r : Option V) → IsLawful cmp c → IsFiled full_key cmp slot c → IsLastCandidate full_key c r → IsFullLast full_key c r
+  last_of_filed [] r h f least = least
+  last_of_filed (e ∷ es) r h f least =
+      last_of_all e es None r h (filed_entries (e ∷ es) h.0 f) (subst (λ l. IsLeast (flip_args (cmp_keys full_key)) l r) (unflagged-found (last_or (Some e) es)) least)
+    where
+      unflagged-found : (found : Option (K × List V)) → unwrap_or (option_map (λ e. e.1) found) [] ≡ unflagged (option_map (λ n. (n.0.1, n.1)) (or_cycled found None))
+      unflagged-found None = refl
+      unflagged-found (Some e) = refl
 
   filed_where : (p : K → Bool) (c : Content K V) → Filed c → Filed (filter (λ e. p e.0) c)
   filed_where p [] f = tt
@@ -265,3 +322,10 @@ module _ {K V : Type 0} {cmp : K → K → Ordering} (o : IsTotalOrder cmp) (ful
 pub least_own : {V : Type 0} (cmp : V → V → Ordering) (own other : List V) (v : V) → IsLeast cmp own (Some v) → IsLeast cmp (or_list own other) (Some v)
 least_own cmp [] other v least = let none = ap (λ l. length l) least.2 in let some = length-append least.0 (v ∷ least.1) in absurd (omega (arith, none, some))
 least_own cmp (x ∷ xs) other v least = least
+
+-- what a reader gave of the other list, where its own list had none
+pub least_other : {V E : Type 0} (order : (V → List ℕ) → V → V → Ordering) (keys then : V → List ℕ) (own found other : List V) (r : Result (Option (Bor V)) E) → then ≡ keys → own ≡ [] → found ≡ other
+    → IfOk r (λ o. IsLeast (order then) found (option_copied o)) → IfOk r (λ o. IsLeast (order keys) (or_list own other) (option_copied o))
+least_other order keys then own found other r same none is h =
+    subst (λ l. IfOk r (λ o. IsLeast (order keys) (or_list l other) (option_copied o))) (sym none)
+    (subst (λ l. IfOk r (λ o. IsLeast (order keys) l (option_copied o))) is (subst (λ k. IfOk r (λ o. IsLeast (order k) found (option_copied o))) same h))

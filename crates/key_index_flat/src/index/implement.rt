@@ -1,7 +1,8 @@
-//! What an index of one's own is made of. Who uses an index needs none of it.
+//! What an index of one's own is made of, and a search of one's own for neighbours. Who uses an index needs none of it.
 pub use super::batch::{
     Lists, probes_by_key, show_by_key, show_by_place, visit_by_key, visit_by_place,
 };
+pub use super::records::{Above, Below, Side};
 pub use super::retain::{Retained, keep_in_front, retain_in_turn};
 pub use super::storage::chains::Chains;
 pub use super::storage::small_map::SmallMap;

@@ -1,0 +1,376 @@
+//! Values by their full keys, in an index that keeps shorter ones: a reader has the full keys.
+ghost use Rattle.std.specs.Prelude.{◌≡◌, ◌∷◌, ◌++◌, ℕ, List, [], IfErr, IfOk, unwrap_or};
+ghost use Rattle.std.specs.List.{filter};
+ghost use Rattle.std.specs.Option.{option_copied, option_map};
+ghost use Rattle.std.specs.declared.cmp.Ordering.{Ordering};
+ghost use Rattle.std.specs.Ordering.{is_lt, on, flip_args};
+ghost use Rattle.std.specs.Cmp.{IsTotalOrder, back_total};
+ghost use Rattle.std.specs.Cmp.Lexicographic.{nat_list_cmp_total};
+ghost use Rattle.key_index_flat.specs.FullKeys.{FailsOn, IsFiledIn, IsFirstCandidate, IsFullFirst, IsFullGap, IsFullLast, IsFullNext, IsFullPrev, IsGapIn, IsLastCandidate, IsLeast, IsLeastRead, IsNextIn, IsPrevIn, byte_cmp, first_with, gap_copied, unflagged};
+ghost use Rattle.key_index_flat.specs.Values.{values_of};
+ghost use Rattle.key_index_flat.specs.View.{run_of};
+
+use super::{Ordered, Unordered, Values};
+use std::convert::AsSlice;
+
+/// Reads the full keys of values from their records.
+///
+/// `full_key` are the keys that the records have. A reader is `sound` while each of its reads gave what the records have: one whose
+/// device may answer wrongly is not sound after a wrong answer, and nothing is told of what it then read. `reads` relates it before
+/// and after any number of reads, whether or not they fail, and `fails` tells why one may fail.
+pub trait Records<'a, V> {
+    type Key: AsSlice<u8> + Drop;
+
+    type Error: Drop;
+
+    ghost full_key: { Self → V → List ℕ };
+
+    ghost reads: { Self → Self → Type 0 };
+
+    ghost sound: { Self → Type 0 } = { λ _. Unit {0} };
+
+    ghost fails: { Self → V → Self.Error → Type 0 } = { λ _ _ _. Unit {0} };
+
+    ghost reads_nothing: { (x : Self) → reads x x };
+
+    ghost reads_both: { (x y z : Self) → reads x y → reads y z → reads x z };
+
+    ghost stays: { (x y : Self) → reads x y → sound y → sound x × (full_key y ≡ full_key x) };
+
+    /// The full key of a value's record.
+    fn key_of(&mut self, value: &'a V) -> Result<Self::Key, Self::Error>
+        ensures key { sound self.new → IfOk result (λ key. Self.Key.items key ≡ full_key self.old value.now) }
+        ensures reads { reads self.old self.new }
+        ensures fault { IfErr result (fails self.new value.now) };
+}
+
+/// A side of a key, where its neighbour is looked for: the order in which the keys there come, from the nearest on.
+pub trait Side {
+    ghost cmp: { List ℕ → List ℕ → Ordering };
+
+    /// Whether a key comes before another.
+    fn is_before(a: &[u8], b: &[u8]) -> bool
+        ensures { result ≡ is_lt (cmp a.now b.now) };
+
+    ghost total: { IsTotalOrder cmp };
+}
+
+/// Keys above, in the order of bytes.
+pub struct Above;
+
+impl Side for Above {
+    ghost cmp = { byte_cmp };
+
+    #[inline]
+    #[tactic(auto, using(crate::proofs::neighbours::LeastLemmas::told_before))]
+    fn is_before(a: &[u8], b: &[u8]) -> bool {
+        a < b
+    }
+
+    ghost total = { nat_list_cmp_total };
+}
+
+/// Keys below, in that order turned.
+pub struct Below;
+
+impl Side for Below {
+    ghost cmp = { flip_args byte_cmp };
+
+    #[inline]
+    #[tactic(auto, using(crate::proofs::neighbours::LeastLemmas::told_before))]
+    fn is_before(a: &[u8], b: &[u8]) -> bool {
+        b < a
+    }
+
+    ghost total = { back_total nat_list_cmp_total };
+}
+
+/// Of the nearest value of a list and one that comes behind it, each with its full key, the one with the nearer full key.
+fn nearer<'a, S: Side, V, K: AsSlice<u8> + Drop>(
+    nearest: Option<(&'a V, K)>,
+    value: &'a V,
+    key: K,
+) -> Option<(&'a V, K)>
+    ensures { (keys : V → List ℕ) (l : List V) → K.items key ≡ keys value.now
+        → IsLeastRead keys K.items S.cmp l nearest.entry
+        → IsLeastRead keys K.items S.cmp (l ++ value.now ∷ []) result }
+{
+    let Some(first) = nearest else {
+        return Some((value, key));
+    };
+    if S::is_before(key.as_slice(), first.1.as_slice()) {
+        Some((value, key))
+    } else {
+        Some(first)
+    }
+}
+
+/// The value that was found, without its full key.
+fn without_key<'a, V, K: Drop>(found: Option<(&'a V, K)>) -> Option<&'a V>
+    ensures { option_copied result ≡ option_map (λ n. n.0.now) found.entry }
+{
+    match found {
+        Some((value, _)) => Some(value),
+        None => None,
+    }
+}
+
+/// The first of the values with the nearest full key.
+fn nearest<'a, S: Side, V, R: Records<'a, V>>(
+    values: Values<'a, V>,
+    records: &mut R,
+) -> Result<Option<&'a V>, R::Error>
+    ensures nearest { R.sound records.new → IfOk result (λ o.
+        IsLeast (on (R.full_key records.old) S.cmp) values.entry (option_copied o)) }
+    ensures reads { R.reads records.old records.new }
+    ensures fault { IfErr result (FailsOn (R.fails records.new) values.entry) }
+{
+    let mut nearest = None;
+    for value in values {
+        let key = records.key_of(value)?;
+        nearest = nearer::<S, _, _>(nearest, value, key);
+    }
+    Ok(without_key(nearest))
+}
+
+/// The first of the values with the nearest full key beyond a key.
+fn nearest_beyond<'a, S: Side, V, R: Records<'a, V>>(
+    values: Values<'a, V>,
+    records: &mut R,
+    key: &[u8],
+) -> Result<Option<&'a V>, R::Error>
+    ensures nearest { let keys = R.full_key records.old in R.sound records.new → IfOk result (λ o.
+        IsLeast (on keys S.cmp) (filter (λ v. is_lt (S.cmp key.now (keys v))) values.entry) (option_copied o)) }
+    ensures reads { R.reads records.old records.new }
+    ensures fault { IfErr result (FailsOn (R.fails records.new) values.entry) }
+{
+    let mut nearest = None;
+    for value in values {
+        let full_key = records.key_of(value)?;
+        if S::is_before(key, full_key.as_slice()) {
+            nearest = nearer::<S, _, _>(nearest, value, full_key);
+        }
+    }
+    Ok(without_key(nearest))
+}
+
+/// The first of the nearest values of a list, if there is one.
+fn nearest_if_any<'a, S: Side, V, R: Records<'a, V>>(
+    list: Option<Values<'a, V>>,
+    records: &mut R,
+) -> Result<Option<&'a V>, R::Error>
+    ensures nearest { R.sound records.new → IfOk result (λ o.
+        IsLeast (on (R.full_key records.old) S.cmp) (unwrap_or list.entry []) (option_copied o)) }
+    ensures reads { R.reads records.old records.new }
+    ensures fault { IfErr result (FailsOn (R.fails records.new) (unwrap_or list.entry [])) }
+{
+    match list {
+        Some(values) => nearest::<S, _, _>(values, records),
+        None => Ok(None),
+    }
+}
+
+/// The first of the nearest values of a neighbour, unless that one was found by cycling.
+fn nearest_unflagged<'a, S: Side, V, R: Records<'a, V>>(
+    found: Option<(Values<'a, V>, bool)>,
+    records: &mut R,
+) -> Result<Option<&'a V>, R::Error>
+    ensures nearest { R.sound records.new → IfOk result (λ o.
+        IsLeast (on (R.full_key records.old) S.cmp) (unflagged found.entry) (option_copied o)) }
+    ensures reads { R.reads records.old records.new }
+    ensures fault { IfErr result (FailsOn (R.fails records.new) (unflagged found.entry)) }
+{
+    match found {
+        Some((values, false)) => nearest::<S, _, _>(values, records),
+        _ => Ok(None),
+    }
+}
+
+/// The first of the values that has a full key.
+fn first_record_with<'a, V, R: Records<'a, V>>(
+    values: Values<'a, V>,
+    records: &mut R,
+    key: &[u8],
+) -> Result<Option<&'a V>, R::Error>
+    ensures first { R.sound records.new → IfOk result (λ o.
+        option_copied o ≡ first_with (R.full_key records.old) key.now values.entry) }
+    ensures reads { R.reads records.old records.new }
+    ensures fault { IfErr result (FailsOn (R.fails records.new) values.entry) }
+{
+    for value in values {
+        let full_key = records.key_of(value)?;
+        if full_key.as_slice() == key {
+            return Ok(Some(value));
+        }
+    }
+    Ok(None)
+}
+
+/// The first value in list order, of those in the list of a key, whose record has this full key. Where values stand under their own
+/// full keys it is the first of all that the index holds: so `None` exactly where none of them has the key.
+///
+/// Reads the values of one list up to the one that is found. An error of the reader ends it, and is handed on.
+pub fn find_record<'a, I: Unordered, R: Records<'a, I::Value>>(
+    index: &'a I,
+    records: &mut R,
+    key: &[u8],
+) -> Result<Option<&'a I::Value>, R::Error>
+    ensures candidate { R.sound records.new → IfOk result (λ o. option_copied o
+        ≡ first_with (R.full_key records.old) key.now (run_of I.Key.cmp (I.view index.now) key.now)) }
+    ensures filed { R.sound records.new → IsFiledIn (R.full_key records.old) I.Key.cmp (I.view index.now)
+        → IfOk result (λ o.
+        option_copied o ≡ first_with (R.full_key records.old) key.now (values_of (I.view index.now).content)) }
+    ensures reads { R.reads records.old records.new }
+    ensures fault { IfErr result (FailsOn (R.fails records.new) (values_of (I.view index.now).content)) }
+{
+    first_record_with(index.get(key), records, key)
+}
+
+/// The least of the values above a key in its own list. Where none is above, the least of the next list, unless that one is found
+/// by cycling.
+fn next_candidate<'a, I: Ordered, R: Records<'a, I::Value>>(
+    index: &'a I,
+    records: &mut R,
+    key: &[u8],
+) -> Result<Option<&'a I::Value>, R::Error>
+    ensures candidate { R.sound records.new → IfOk result (λ o.
+        IsNextIn (R.full_key records.old) I.Key.cmp (I.view index.now) key.now (option_copied o)) }
+    ensures reads { R.reads records.old records.new }
+    ensures fault { IfErr result (FailsOn (R.fails records.new) (values_of (I.view index.now).content)) }
+{
+    match nearest_beyond::<Above, _, _>(index.get(key), records, key) {
+        Ok(None) => nearest_unflagged::<Above, _, _>(index.next_translated_key(key), records),
+        Ok(Some(value)) => Ok(Some(value)),
+        Err(error) => Err(error),
+    }
+}
+
+/// The value with the least full key strictly above a key, of all in an index whose values stand under their own full keys. `None`
+/// exactly where no full key is above: it doesn't go round. Among equal full keys the first in list order.
+///
+/// Whatever the index holds, it is the least of those above the key in its own list and, where none is, of those in the next list,
+/// unless that one is found by cycling.
+///
+/// Reads the values of one list or two, each once. An error of the reader ends it, and is handed on.
+pub fn next_record<'a, I: Ordered, R: Records<'a, I::Value>>(
+    index: &'a I,
+    records: &mut R,
+    key: &[u8],
+) -> Result<Option<&'a I::Value>, R::Error>
+    ensures candidate { R.sound records.new → IfOk result (λ o.
+        IsNextIn (R.full_key records.old) I.Key.cmp (I.view index.now) key.now (option_copied o)) }
+    ensures filed { R.sound records.new → IsFiledIn (R.full_key records.old) I.Key.cmp (I.view index.now)
+        → IfOk result (λ o. IsFullNext (R.full_key records.old) (I.view index.now).content key.now (option_copied o)) }
+    ensures reads { R.reads records.old records.new }
+    ensures fault { IfErr result (FailsOn (R.fails records.new) (values_of (I.view index.now).content)) }
+{
+    next_candidate(index, records, key)
+}
+
+/// The greatest of the values below a key in its own list. Where none is below, the greatest of the previous list, unless that one
+/// is found by cycling.
+fn prev_candidate<'a, I: Ordered, R: Records<'a, I::Value>>(
+    index: &'a I,
+    records: &mut R,
+    key: &[u8],
+) -> Result<Option<&'a I::Value>, R::Error>
+    ensures candidate { R.sound records.new → IfOk result (λ o.
+        IsPrevIn (R.full_key records.old) I.Key.cmp (I.view index.now) key.now (option_copied o)) }
+    ensures reads { R.reads records.old records.new }
+    ensures fault { IfErr result (FailsOn (R.fails records.new) (values_of (I.view index.now).content)) }
+{
+    match nearest_beyond::<Below, _, _>(index.get(key), records, key) {
+        Ok(None) => nearest_unflagged::<Below, _, _>(index.prev_translated_key(key), records),
+        Ok(Some(value)) => Ok(Some(value)),
+        Err(error) => Err(error),
+    }
+}
+
+/// The value with the greatest full key strictly below a key, of all in an index whose values stand under their own full keys.
+/// `None` exactly where no full key is below: it doesn't go round. Among equal full keys the first in list order.
+///
+/// Whatever the index holds, it is the greatest of those below the key in its own list and, where none is, of those in the previous
+/// list, unless that one is found by cycling.
+///
+/// Reads the values of one list or two, each once. An error of the reader ends it, and is handed on.
+pub fn prev_record<'a, I: Ordered, R: Records<'a, I::Value>>(
+    index: &'a I,
+    records: &mut R,
+    key: &[u8],
+) -> Result<Option<&'a I::Value>, R::Error>
+    ensures candidate { R.sound records.new → IfOk result (λ o.
+        IsPrevIn (R.full_key records.old) I.Key.cmp (I.view index.now) key.now (option_copied o)) }
+    ensures filed { R.sound records.new → IsFiledIn (R.full_key records.old) I.Key.cmp (I.view index.now)
+        → IfOk result (λ o. IsFullPrev (R.full_key records.old) (I.view index.now).content key.now (option_copied o)) }
+    ensures reads { R.reads records.old records.new }
+    ensures fault { IfErr result (FailsOn (R.fails records.new) (values_of (I.view index.now).content)) }
+{
+    prev_candidate(index, records, key)
+}
+
+/// The values next to a full key that no value has, below and above: `None` where one has the key. Of a side on which no full key is
+/// there is none. It needs an index whose values stand under their own full keys.
+///
+/// Whatever the index holds, no value in the key's own list has it, and the two are those that `prev_record` and `next_record` give.
+///
+/// Reads the values of the own list up to three times, and those of one list on each side. An error of the reader ends it, and is
+/// handed on.
+pub fn absent<'a, I: Ordered, R: Records<'a, I::Value>>(
+    index: &'a I,
+    records: &mut R,
+    key: &[u8],
+) -> Result<Option<(Option<&'a I::Value>, Option<&'a I::Value>)>, R::Error>
+    ensures candidate { R.sound records.new → IfOk result (λ gap.
+        IsGapIn (R.full_key records.old) I.Key.cmp (I.view index.now) key.now (gap_copied gap)) }
+    ensures filed { R.sound records.new → IsFiledIn (R.full_key records.old) I.Key.cmp (I.view index.now)
+        → IfOk result (λ gap. IsFullGap (R.full_key records.old) (I.view index.now).content key.now (gap_copied gap)) }
+    ensures reads { R.reads records.old records.new }
+    ensures fault { IfErr result (FailsOn (R.fails records.new) (values_of (I.view index.now).content)) }
+{
+    match find_record(index, records, key)? {
+        Some(_) => Ok(None),
+        None => {
+            let below = prev_record(index, records, key)?;
+            let above = next_record(index, records, key)?;
+            Ok(Some((below, above)))
+        }
+    }
+}
+
+/// The value with the least full key of all, in an index whose values stand under their own full keys. `None` exactly where the
+/// index is empty. Among equal full keys the first in list order.
+///
+/// Whatever the index holds, it is the least of the first list. Reads the values of that list, each once. An error of the reader
+/// ends it, and is handed on.
+pub fn first_record<'a, I: Ordered, R: Records<'a, I::Value>>(
+    index: &'a I,
+    records: &mut R,
+) -> Result<Option<&'a I::Value>, R::Error>
+    ensures candidate { R.sound records.new → IfOk result (λ o.
+        IsFirstCandidate (R.full_key records.old) (I.view index.now).content (option_copied o)) }
+    ensures filed { R.sound records.new → IsFiledIn (R.full_key records.old) I.Key.cmp (I.view index.now)
+        → IfOk result (λ o. IsFullFirst (R.full_key records.old) (I.view index.now).content (option_copied o)) }
+    ensures reads { R.reads records.old records.new }
+    ensures fault { IfErr result (FailsOn (R.fails records.new) (values_of (I.view index.now).content)) }
+{
+    nearest_if_any::<Above, _, _>(index.first_translated_key(), records)
+}
+
+/// The value with the greatest full key of all, in an index whose values stand under their own full keys. `None` exactly where the
+/// index is empty. Among equal full keys the first in list order.
+///
+/// Whatever the index holds, it is the greatest of the last list. Reads the values of that list, each once. An error of the reader
+/// ends it, and is handed on.
+pub fn last_record<'a, I: Ordered, R: Records<'a, I::Value>>(
+    index: &'a I,
+    records: &mut R,
+) -> Result<Option<&'a I::Value>, R::Error>
+    ensures candidate { R.sound records.new → IfOk result (λ o.
+        IsLastCandidate (R.full_key records.old) (I.view index.now).content (option_copied o)) }
+    ensures filed { R.sound records.new → IsFiledIn (R.full_key records.old) I.Key.cmp (I.view index.now)
+        → IfOk result (λ o. IsFullLast (R.full_key records.old) (I.view index.now).content (option_copied o)) }
+    ensures reads { R.reads records.old records.new }
+    ensures fault { IfErr result (FailsOn (R.fails records.new) (values_of (I.view index.now).content)) }
+{
+    nearest_if_any::<Below, _, _>(index.last_translated_key(), records)
+}
