@@ -4,6 +4,7 @@
 
 pub mod builds;
 pub mod callers;
+pub mod log;
 pub mod named;
 pub mod records;
 pub mod reserved;

@@ -4,6 +4,7 @@ use key_index_flat::index::{Factory, Fault, Outcome, Unordered, Values, ordered,
 use key_index_flat::translator::OneCap;
 use key_index_parts::index::partitioned;
 use key_index_uses::callers::{forget, move_to, newest};
+use key_index_uses::log::{gap, position};
 use std::test::Fail;
 
 #[test]
@@ -80,6 +81,36 @@ fn newest_is_given(rt: HostRuntime) {
         newest(rt.alloc()) == Ok(Some(2)),
         "the newest position",
     );
+}
+
+#[test]
+fn a_log_is_asked_by_full_keys(rt: HostRuntime) {
+    let mut index = ordered::Index::<OneCap, u64>::new(rt.alloc(), OneCap).expect(&rt, "an index");
+    let mut keys = Vec::new(rt.alloc());
+    for (at, key) in [(0, b"ay"), (1, b"ax"), (2, b"by")] {
+        index.insert(key, at).expect(&rt, "insert");
+        let copy = Vec::from_slice(rt.alloc(), key).expect(&rt, "a key");
+        keys.push(copy).expect(&rt, "room");
+    }
+    let log = keys.as_slice();
+    let found = position(&index, log, b"ax").is_ok_and(|at| at.copied() == Some(1));
+    holds(&rt, found, "the second record of one index key");
+    let none = position(&index, log, b"az").is_ok_and(|at| at.is_none());
+    holds(&rt, none, "no record of a third key of that index key");
+    let between = gap(&index, log, b"az").is_ok_and(|gap| match gap {
+        Some((Some(below), Some(above))) => *below == 0 && *above == 2,
+        _ => false,
+    });
+    holds(&rt, between, "the greatest below and the least above");
+    let last = gap(&index, log, b"c").is_ok_and(|gap| match gap {
+        Some((Some(below), None)) => *below == 2,
+        _ => false,
+    });
+    holds(&rt, last, "none above");
+    let held = gap(&index, log, b"by").is_ok_and(|gap| gap.is_none());
+    holds(&rt, held, "a key that has a record");
+    let missing = position(&index, &log[..1], b"ax").is_err();
+    holds(&rt, missing, "a position that the log lacks");
 }
 
 #[test]
