@@ -1,49 +1,36 @@
 -- On a build: the last position of each key, and the ops that put a record of each in.
 --     put_commutes   what an insertion into the collecting map leaves; last_step: one record more
 --     filling_none, filling_step     what ops leave that insert records of rising keys
-use Rattle.std.proofs.Common.{◌≡◌, ℕ, zero, suc, ◌<◌, Bool, true, false, cond, if◌then◌else◌, nat_lt, List, [], ◌∷◌, ◌++◌, length, map, reverse, append_assoc, take, drop, slice_index_or, Option, Some, None, is_some, All, Vec, refl, sym, ap, subst, ◌∙◌, arith}
-use Rattle.std.proofs.lemmas.Bool.{false≢true, lt-ltb}
+use Rattle.std.proofs.Common.{◌≡◌, ℕ, zero, suc, ◌<◌, Bool, cond, List, [], ◌∷◌, ◌++◌, length, map, reverse, take, drop, slice_index_or, Some, None, All, Vec, refl, sym, ap, subst, ◌∙◌, arith}
 use Rattle.std.proofs.lemmas.List.{map-append, reverse-append}
 use Rattle.std.proofs.lemmas.List.Elements.{All-nil, All-cons, All-head, All-tail}
-use Rattle.std.proofs.lemmas.Map.Lookups.{exact_bytes}
-use Rattle.std.proofs.lemmas.Map.Keys.{IsDistinct-head, IsDistinct-tail, IsDistinct-cons, sorted_head, sorted_tail}
+use Rattle.std.proofs.lemmas.Map.Keys.{sorted_head, sorted_tail}
 use Rattle.std.specs.BTreeMap.{insert_entry}
-use Rattle.std.specs.Cmp.{IsTotalOrder, tied_itself}
+use Rattle.std.specs.Cmp.{IsTotalOrder}
 use Rattle.std.specs.Cmp.Lexicographic.{slice_cmp, nat_list_cmp_total}
-use Rattle.std.specs.FinMap.{entries, find, insert, entries-insert, get-entries, len-entries, len-empty}
+use Rattle.std.specs.FinMap.{entries, find, get, entries-insert, get-entries, len-entries, len-empty}
 use Rattle.std.specs.FinMap.Entries.{by_order, put}
-use Rattle.std.specs.List.{AllByRecursion, IsDistinct}
+use Rattle.std.specs.List.{AllByRecursion}
 use Rattle.std.specs.List.Sorted.{IsStrictlySortedBy}
 use Rattle.std.specs.Map.{keys_of}
-use Rattle.std.specs.Option.{MatchOption}
-use Rattle.std.specs.Ordering.{eq_by_cmp, is_eq, is_gt, match_ordering, nat_cmp, ordering_reverse}
+use Rattle.std.specs.Ordering.{is_eq, match_ordering, nat_cmp, ordering_reverse}
 use Rattle.std.specs.declared.alloc.Global.{Global}
 use Rattle.std.specs.declared.cmp.Ordering.{Ordering}
 use Rattle.std.specs.declared.cmp.Ordering.TheVariants.{Less, Equal, Greater}
-use Rattle.key_index_flat.specs.Content.{with_list, IsLawful}
-use Rattle.key_index_flat.specs.Cursor.{Active, Done, list_after_insert}
+use Rattle.key_index_flat.specs.Content.{IsLawful}
+use Rattle.key_index_flat.proofs.runs.CursorLemmas.{pruned_none}
 use Rattle.key_index_flat.specs.FullKeys.{IsBytes, byte_cmp}
-use Rattle.key_index_flat.specs.Neighbours.{KeepsOrder}
-use Rattle.key_index_flat.specs.Run.{one_if_absent}
 use Rattle.key_index_flat.specs.Values.{values_of}
-use Rattle.key_index_flat.specs.View.{View, run_at, run_of}
-use Rattle.key_index_flat.proofs.content.ContentLemmas.{Equal-is_eq}
-use Rattle.key_index_flat.proofs.entries.EntryLemmas.{head_apart, none_apart, none_distinct, not_both, same, cond-swapped}
-use Rattle.key_index_parts.specs.Ops.{after_op, edit_held}
-use Rattle.key_index_parts.specs.declared.index.partitioned.builds.op.Op.{Op}
+use Rattle.key_index_flat.specs.View.{View, after_insert}
+use Rattle.key_index_parts.specs.Ops.{after_op}
 use Rattle.key_index_parts.specs.declared.index.partitioned.builds.op.Op.TheVariants as op
-use Rattle.key_index_flat.specs.declared.index.command.Step.TheVariants as step
 use Rattle.key_index_parts.proofs.builds.OpLemmas.{IsLawful-after_op}
-use Rattle.key_index.proofs.snapshots.KeptLemmas.{set_after, empty_kept}
-use Rattle.key_index.proofs.snapshots.SnapshotLemmas.{get-positions_in}
-use Rattle.key_index.specs.Snapshot.{IsKept, IsOpOf, entries_of, entry_of, key_of, positions_in, positions_of, position_in}
+use Rattle.key_index.proofs.snapshots.KeptLemmas.{empty_kept, put_new}
+use Rattle.key_index.specs.Snapshot.{Holds, entries_of, key_of, positions_in, positions_of}
 use Rattle.key_index.specs.declared.snapshot.record.Record.{Record}
 
 abbrev pub Entry : Type 0
 Entry = Vec ℕ Global × ℕ
-
-abbrev pub record_at : Entry → Record
-record_at e = record { key = e.0; position = e.1 }
 
 abbrev pub cmp_keys : Vec ℕ Global → Vec ℕ Global → Ordering
 cmp_keys x y = slice_cmp nat_cmp x.items y.items
