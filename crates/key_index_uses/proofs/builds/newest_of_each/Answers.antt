@@ -1,4 +1,5 @@
-use Rattle.std.proofs.Common.{◌≡◌, ◌++◌, [], ◌∷◌, append-nil, append_assoc, sym, ap, ◌∙◌}
+use Rattle.std.proofs.Common.{◌≡◌, ◌++◌, ℕ, [], ◌∷◌, Vec, append-nil, append_assoc, sym, ap, ◌∙◌}
+use Rattle.std.specs.declared.alloc.Global.{Global}
 use Rattle.key_index.proofs.snapshots.BuildLemmas.{entries_of-none}
 use Rattle.key_index_uses.proofs.NewestLemmas.{newest_more}
 use Rattle.key_index_uses.proofs.builds.newest_of_each.Goals as goal
@@ -9,7 +10,7 @@ records-init c = record { done = []; split = append-nil c.args.records.items; ke
 pub records-preserved : goal.records-preserved
 records-preserved c =
     let was = c.records.invariant in
-    let x = (c.in-Some.key, c.in-Some.position) in
+    let x : Vec ℕ Global × ℕ = (c.in-Some.key, c.in-Some.position) in
     record {
       done = x ∷ was.done;
       split = sym (append_assoc c.pop.new.self.items (x ∷ []) was.done) ∙ ap (λ l. l ++ was.done) (sym c.in-Some.ensures.items) ∙ was.split;
