@@ -70,7 +70,7 @@ impl fmt::Display for Error {
 
 impl std::error::Error for Error {}
 
-/// The error of a status. A call of this crate gets no other than these. A bad argument is of ends; a call that has another meaning for it tells so itself.
+/// The error of a status. A call of this crate gets no other than these. A bad argument is one of ends, where the call doesn't see to it.
 fn answer(status: u32) -> Result<(), Error> {
     match status {
         ffi::OK => Ok(()),
