@@ -83,6 +83,11 @@ int main(void) {
     printf("keys %zu items %zu pruned %llu\n", key_index_keys(&index), key_index_items(&index),
            (unsigned long long)key_index_pruned(&index));
     key_index_free(&index);
+    CHECK(key_index_build(&index, KEY_INDEX_ORDERED_BY_ONE, 0, "figs", falling, many, 2) == KEY_INDEX_BAD_ARGUMENT && index.at == NULL);
+    CHECK(key_index_build(&index, KEY_INDEX_ORDERED_BY_ONE, 0, "figsgrapes", ends, many, 2) == KEY_INDEX_OK);
+    CHECK(key_index_build(&index, KEY_INDEX_ORDERED, 0, "figsgrapes", ends, many, 2) == KEY_INDEX_BAD_ARGUMENT);
+    CHECK(key_index_last(&index, values, 2, &count) == KEY_INDEX_OK && count == 1 && values[0] == 7 && key_index_items(&index) == 2);
+    key_index_free(&index);
     log_of_records();
     return 0;
 }

@@ -193,6 +193,18 @@ static inline key_index_status key_index_insert_many(key_index *index, const voi
     return (key_index_status)told.status;
 }
 
+/* Makes an index of a kind that holds `n` values, as key_index_insert_many inserts them into a new one. Only KEY_INDEX_SEEDED takes the
+ * seed. KEY_INDEX_MEMORY, KEY_INDEX_BAD_ARGUMENT: there is none still. */
+static inline key_index_status key_index_build(key_index *index, key_index_kind kind, uint64_t seed, const void *keys,
+                                               const size_t *ends, const uint64_t *values, size_t n) {
+    size_t count = 0;
+    key_index_status status = key_index_new_seeded(index, kind, seed);
+    if (status != KEY_INDEX_OK) return status;
+    status = key_index_insert_many(index, keys, ends, values, n, &count);
+    if (status != KEY_INDEX_OK) key_index_free(index);
+    return status;
+}
+
 /* Writes the values of a key to `values`, in list order, as many as there is room for, and to `count` how many the key has. If
  * that is more than `room`, ask again with more room. */
 static inline key_index_status key_index_get(key_index *index, const void *key, size_t key_len, uint64_t *values, size_t room,

@@ -135,7 +135,31 @@ static bool session(key_index_kind kind) {
     return allocations >= refused;
 }
 
-/* The same of an immutable index: keys by position, of which those below the start are gone. */
+/* A build of twice as many values as keys: the index holds all, or there is none. */
+static bool build(key_index_kind kind) {
+    static uint8_t keys[16 * KEYS];
+    key_index index = KEY_INDEX_NONE;
+    key_index_status status;
+    uint64_t values[2 * KEYS];
+    size_t ends[2 * KEYS], i;
+    memset(lens, 0, sizeof lens);
+    for (i = 0; i < 2 * KEYS; i++) {
+        size_t at = i * 7 % KEYS;
+        keys[8 * i + 7] = (uint8_t)at;
+        ends[i] = 8 * i + 8;
+        values[i] = i + 1000;
+        put(kind, at, values[i]);
+    }
+    status = key_index_build(&index, kind, 7, keys, ends, values, 2 * KEYS);
+    CHECK(status == (refused <= allocations ? KEY_INDEX_MEMORY : KEY_INDEX_OK));
+    if (status == KEY_INDEX_OK) holds(&index, kind);
+    CHECK((status == KEY_INDEX_OK) == (index.at != NULL) && (status == KEY_INDEX_OK || blocks == 0));
+    key_index_free(&index);
+    CHECK(blocks == 0);
+    return status != KEY_INDEX_OK;
+}
+
+/* A session of an immutable index: keys by position, of which those below the start are gone. */
 static bool immutable_session(bool seeded) {
     enum { PLACES = 300, FIRST = 1000 };
     static uint8_t keys[PLACES]; /* 0 where a position is not indexed */
@@ -192,6 +216,11 @@ int main(void) {
         for (refused = 1;; refused++) {
             allocations = 0;
             if (!session((key_index_kind)kind)) break;
+        }
+        if (refused < 10) return 1;
+        for (refused = 1;; refused++) {
+            allocations = 0;
+            if (!build((key_index_kind)kind)) break;
         }
         if (refused < 10) return 1;
     }

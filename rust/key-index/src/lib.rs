@@ -140,6 +140,19 @@ impl<K: Unseeded> Index<K> {
     pub fn new() -> Result<Self, Error> {
         Self::made(0)
     }
+
+    /// The index that holds values under keys, as [`Index::insert_many`] inserts them into a new one.
+    ///
+    /// # Errors
+    ///
+    /// [`Error::Memory`]; [`Error::Ends`] as with `insert_many`.
+    pub fn build(keys: &[u8], ends: &[usize], values: &[u64]) -> Result<Self, Error> {
+        let mut index = Self::new()?;
+        match index.insert_many(keys, ends, values) {
+            Ok(()) => Ok(index),
+            Err((_, error)) => Err(error),
+        }
+    }
 }
 
 impl Index<Seeded> {
@@ -185,18 +198,11 @@ impl<K: Kind> Index<K> {
         ends: &[usize],
         values: &[u64],
     ) -> Result<(), (usize, Error)> {
+        let (at, bytes, len) = (self.owned.at(), keys.as_ptr(), keys.len());
+        let (ends, n) = (ends.as_ptr(), ends.len());
+        let (values, many) = (values.as_ptr(), values.len());
         // SAFETY: keys, ends and values go with their lengths.
-        let told = unsafe {
-            ffi::key_index_c_insert_many(
-                self.owned.at(),
-                keys.as_ptr(),
-                keys.len(),
-                ends.as_ptr(),
-                ends.len(),
-                values.as_ptr(),
-                values.len(),
-            )
-        };
+        let told = unsafe { ffi::key_index_c_insert_many(at, bytes, len, ends, n, values, many) };
         answer(told.status).map_err(|error| (told.count, error))
     }
 

@@ -284,6 +284,13 @@ fn ends_of_no_keys() -> Result<(), Error> {
     assert!(values.is_empty() && stops.is_empty());
     assert_eq!(index.insert_many(b"", &[], &[]), Ok(()));
     assert!(index.is_empty());
+    assert_eq!(
+        Index::<Unordered>::build(b"figs", &[2, 1], &[1, 2]).err(),
+        Some(Error::Ends)
+    );
+    let built = Index::<OrderedByOne>::build(b"figsfigs", &[4, 8], &[1, 2])?;
+    assert!(built.get(b"figs").eq([1, 2]));
+    assert_eq!(built.items(), 2);
     Ok(())
 }
 
