@@ -205,8 +205,10 @@ def has_a_limit_of_its_size(file, kind):
     (root / "crates/key_index_store_cli/out").mkdir(parents=True)
     for crate in ("flat", "parts", "store", "store_cli"):
         (root / f"crates/key_index_{crate}/src").mkdir(parents=True)
+    (root / ".ci").mkdir()
+    for name in ("store", "crates.txt", ".ci/newer", ".ci/unproved"):
+        shutil.copy(Path(__file__).resolve().parent.parent / name, root / name)
     shutil.copy(Store.path, root / "crates/key_index_store_cli/out/key_index_store_cli")
-    shutil.copy(Path(__file__).resolve().parent.parent / "store", root / "store")
     for blocks in (0, 1, 2):
         file.unlink(missing_ok=True)
         lines = [f"put {number:02x} {'31' * 90}" for number in range(30)]
