@@ -153,10 +153,10 @@ fn positions(lines: Lines, kept: usize, mut index: Immutable) {
 
 #[test]
 fn sessions_of_the_cases() -> Result<(), Error> {
-    let script = concat!(env!("CARGO_MANIFEST_DIR"), "/../../cases/sessions");
+    let script = concat!(env!("CARGO_MANIFEST_DIR"), "/../../tests/harness/sessions");
     let written = Command::new(script)
         .output()
-        .expect("Python 3 runs cases/sessions");
+        .expect("Python 3 runs tests/harness/sessions");
     let text = String::from_utf8(written.stdout).unwrap();
     let mut kinds = BTreeSet::new();
     for session in text.split("== ").skip(1) {

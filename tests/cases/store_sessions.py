@@ -1,0 +1,360 @@
+"""Sessions of the program key_index_store over files that are opened anew, beside a dict."""
+import resource
+import subprocess
+
+from cases.store import FRAME, HEADER, IN_ORDER, KINDS, Sessions, Store, case_of_store, compare, file_of, record
+from harness.session import Wrong
+from harness.xorshift import Numbers
+
+# What keys have in common that are alike in their first 32 bytes.
+FRONT = b"thirty-two bytes that are alike:"
+
+
+def random_key(number):
+    """One of 64 keys, of which eight each are alike in their first 32 bytes, or 33."""
+    return FRONT[:31] + bytes([number // 8 % 8, 0, number % 8])
+
+
+@case_of_store(*KINDS)
+def answers_as_a_dict(file, kind):
+    """Four files of five thousand random calls each, opened anew each thousand of them."""
+    keys = [random_key(number) for number in range(64)]
+    for seed in range(1, 5):
+        sessions = Sessions(file.with_name(f"{seed}.log"), kind)
+        numbers = Numbers(seed)
+        for _ in range(5):
+            for _ in range(1000):
+                number = numbers.next()
+                key = random_key(number)
+                if number >> 60 < 5:
+                    sessions.delete(key)
+                elif number >> 60 < 12:
+                    sessions.put(key, bytes([number >> 32 & 0xFF]) * (number >> 40 & 3))
+                elif number >> 60 < 14:
+                    sessions.get(key)
+                else:
+                    sessions.has(key)
+            sessions.hold(keys)
+            sessions.check()
+
+
+@case_of_store("ordered")
+def is_the_same_for_each_kind(file, _kind):
+    """A file that sessions of all kinds change in turn."""
+    keys = [random_key(number) for number in range(64)]
+    log = None
+    numbers = Numbers()
+    for turn in range(20):
+        sessions = Sessions(file, KINDS[turn * 3 % 5], log=log)
+        for _ in range(100):
+            number = numbers.next()
+            if number >> 60 < 6:
+                sessions.delete(random_key(number))
+            else:
+                sessions.put(random_key(number), bytes([turn]))
+        sessions.hold(keys)
+        sessions.check()
+        log = file.read_bytes()
+
+
+@case_of_store(*IN_ORDER)
+def finds_neighbours(file, kind):
+    """A thousand random calls, and after each hundredth all neighbours and both ends, those in a copy and in place,
+    behind calls there, and in the copy opened anew. Of 64 keys eight each are alike in their first 33 bytes."""
+    keys = [FRONT[:28] + b"\0\xff\0" + bytes([number // 8, 0xFF, number % 8]) for number in range(64)]
+    sessions = Sessions(file, kind)
+    numbers = Numbers()
+    for call in range(1000):
+        number = numbers.next()
+        key = keys[number % 64]
+        if number >> 60 < 8:
+            sessions.delete(key)
+        else:
+            sessions.put(key, bytes([number >> 32 & 0xFF]))
+        if call % 100 == 0:
+            compare_neighbours(sessions, keys)
+            sessions.compact(file.with_name(f"{call}.copy"))
+            sessions.move(file.with_name(f"{call}.log"))
+            compare_neighbours(sessions, keys)
+            sessions.put(key, b"moved")
+            sessions.delete(keys[number // 64 % 64])
+            sessions.dead()
+            compare_neighbours(sessions, keys)
+            sessions.compact()
+            sessions.dead()
+            sessions.put(key, b"in place")
+            sessions.check()
+            compare_neighbours(sessions, keys)
+
+
+def compare_neighbours(sessions, keys):
+    """Those of each key, of the empty one and of one above all; and both ends, and walks."""
+    for key in [*keys, b"", b"z"]:
+        sessions.neighbours(key)
+    sessions.ends()
+    for key, count in [(b"", 100), (keys[9], 3), (keys[9][:-2], 100), (keys[63], 2), (b"", 0), (b"z", 9), (FRONT, 5)]:
+        sessions.scan(key, count)
+    sessions.hold(keys)
+
+
+@case_of_store(*IN_ORDER)
+def walks_beside_a_dict(file, kind):
+    """Keys of 0 to 3 bytes out of three, put and deleted at random: walks from each of them, of each prefix."""
+    keys = [b""]
+    for _ in range(3):
+        keys = [b"", *(key + bytes([byte]) for key in keys for byte in (0, 0x7F, 0xFF))]
+    sessions = Sessions(file, kind)
+    numbers = Numbers(5)
+    for _ in range(8):
+        for _ in range(30):
+            number = numbers.next()
+            if number >> 62:
+                sessions.put(keys[number % len(keys)], bytes([number >> 32 & 0xFF]))
+            else:
+                sessions.delete(keys[number % len(keys)])
+        for key in keys:
+            sessions.neighbours(key)
+            sessions.scan(key, 40)
+            sessions.scan(key, 2)
+        sessions.ends()
+        sessions.check()
+
+
+@case_of_store(*KINDS)
+def has_the_empty_key(file, kind):
+    """It comes first, and is copied too; and an empty value is not none."""
+    sessions = Sessions(file, kind)
+    sessions.put(b"", b"none")
+    sessions.put(b"\0", b"")
+    sessions.has(b"")
+    sessions.has(b"\0")
+    keys = [b"", b"\0", b"\0\0"]
+    if kind in IN_ORDER:
+        sessions.move(file.with_name("copy.log"))
+        compare_neighbours(sessions, [*keys, *keys, FRONT] * 10)
+    sessions.hold(keys)
+    sessions.check()
+    sessions.delete(b"")
+    sessions.delete(b"")
+    sessions.hold(keys)
+    sessions.check()
+    sessions.hold(keys)
+    sessions.check()
+
+
+@case_of_store(*KINDS)
+def has_no_keys(file, kind):
+    """A new file: it has no byte, until the first put."""
+    sessions = Sessions(file, kind)
+    sessions.hold([b"", b"a"])
+    sessions.delete(b"a")
+    sessions.ask("sync", "ok")
+    sessions.cut()
+    sessions.salvage(file.with_name("none.log"))
+    if kind in IN_ORDER:
+        sessions.ends()
+        sessions.neighbours(b"a")
+        sessions.scan(b"", 5)
+        sessions.dead()
+        sessions.compact(file.with_name("empty.log"))
+        sessions.compact()
+        sessions.move(file.with_name("moved.log"))
+    sessions.check()
+    sessions.put(b"a", b"b")
+    sessions.delete(b"a")
+    sessions.check()
+    sessions.count()
+    if kind in IN_ORDER:
+        sessions.ends()
+        sessions.dead()
+        sessions.compact()
+    sessions.check()
+
+
+# Texts, with the words that write them.
+TEXTS = [
+    (b"", '""'),
+    (b"", "-"),
+    (b"apple", '"apple"'),
+    (b" ", '" "'),
+    (b"two words  ", '"two words  "'),
+    (b'"', r'"\""'),
+    (b"\\", r'"\\"'),
+    (b'a\\"b', r'"a\\\"b"'),
+    (b"\\n", r'"\\n"'),
+    (b"~", "7E"),
+    (b"\x7f", "7f"),
+    (b"\x1f", "1F"),
+    (b"\xff\0", "ff00"),
+    ("\u00e9".encode(), '"\u00e9"'),
+    (b"\t", '"\t"'),
+    (b"-", '"-"'),
+    (b"00", '"00"'),
+    (b"none", '"none"'),
+]
+
+
+@case_of_store(*KINDS)
+def reads_and_shows_texts(file, kind):
+    """Keys and values as texts in quotes, in one form and the other, with the flag and without it."""
+    for flags in ([], ["--text"]):
+        file.unlink(missing_ok=True)
+        sessions = Sessions(file, kind, *flags)
+        for number, (key, key_word) in enumerate(TEXTS):
+            value, value_word = TEXTS[-1 - number]
+            sessions.put(key, value)
+            sessions.lines[-1] = f"put {key_word} {value_word}"
+            sessions.get(key)
+            sessions.lines[-1] = f"get {key_word}"
+            sessions.has(key)
+            sessions.lines[-1] = f"has {key_word}"
+        if kind in IN_ORDER:
+            for key, key_word in TEXTS:
+                sessions.neighbours(key)
+                sessions.lines[-3:] = [f"{name} {key_word}" for name in ("next", "prev", "absent")]
+            sessions.ends()
+            sessions.scan(b"", 99)
+        sessions.hold([key for key, _ in TEXTS])
+        sessions.check()
+        sessions.hold([key for key, _ in TEXTS])
+        sessions.check()
+
+
+@case_of_store(*KINDS)
+def holds_long_records(file, kind):
+    """Keys and values whose records end about the sizes of the blocks that are read, 1 KiB and 64 KiB, in one or over
+    two; and of a megabyte."""
+    sessions = Sessions(file, kind)
+    numbers = Numbers()
+    entries = []
+    for size in (1024, 65536):
+        for off in (-21, -17, -13, -1, 0, 1):
+            front = bytes([len(entries) % 251, len(entries) // 251])
+            entries.append((front + b"k" * (size + off - 2), b"v"))
+            entries.append((front, b"w" * (size + off)))
+            entries.append((front + b"half", bytes([size % 251]) * ((size + off) // 2)))
+    entries.append((b"m" * 300_000, b"long"))
+    entries.append((b"short", b"n" * 1_000_000))
+    for key, value in entries:
+        sessions.put(key, value)
+    keys = [key for key, _ in entries]
+    for key in keys[:12]:
+        sessions.put(key, bytes([numbers.next() & 0xFF]))
+    for key in keys[12:18]:
+        sessions.delete(key)
+    for key in keys:
+        sessions.has(key)
+    sessions.hold(keys)
+    sessions.check()
+    sessions.hold(keys)
+    sessions.salvage(file.with_name("saved.log"))
+    if kind in IN_ORDER:
+        sessions.dead()
+        sessions.compact()
+        sessions.dead()
+        sessions.hold(keys)
+    sessions.check()
+
+
+@case_of_store(*IN_ORDER)
+def is_not_copied_over_bytes(file, kind):
+    """A file that has bytes is no place for a copy, nor is the file itself; an empty one is, and one that is there
+    beside it as an unfinished copy is emptied if it is a store, and refused if it is not."""
+    two = file_of(record(b"apple", b"1"), record(b"berry", b"2"))
+    for line in ("compact", "move", "salvage"):
+        sessions = Sessions(file, kind, log=two)
+        taken = file.with_name(f"{line}.log")
+        for log in (b"x", HEADER, two):
+            taken.write_bytes(log)
+            sessions.logs[taken] = log
+            sessions.ask(f"{line} {taken}", "refused not empty")
+            sessions.hold([b"apple", b"berry"])
+            sessions.check()
+        sessions.ask(f"{line} {file}", "refused not empty")
+        sessions.hold([b"apple", b"berry"])
+        sessions.check()
+        fresh = file.with_name(f"{line} fresh.log")
+        part = file.with_name(f"{line} fresh.log.part")
+        fresh.write_bytes(b"")
+        part.write_bytes(b"a text")
+        sessions.logs[part] = b"a text"
+        sessions.logs[fresh] = b""
+        sessions.ask(f'{line} "{fresh}"', "refused not empty")
+        sessions.count()
+        sessions.check()
+        part.write_bytes(file_of(record(b"old", b"part"), record(b"older", b"part")) + b"torn")
+        getattr(sessions, line)(fresh)
+        sessions.lines[-1] = f'{line} "{fresh}"'
+        sessions.hold([b"apple", b"berry", b"old"])
+        sessions.check()
+        compare("what remains", sorted(path.name for path in file.parent.glob("*.part")), [])
+        fresh.unlink()
+
+
+@case_of_store(*IN_ORDER)
+def is_compacted_through_a_link(file, kind):
+    """Where FILE is a link, the file that it leads to is replaced; the new file keeps the permissions."""
+    link = file.with_name("link.log")
+    link.symlink_to(file.name)
+    sessions = Sessions(file, kind, log=file_of(record(b"a", b"1"), record(b"a", b"2")))
+    sessions.first = link
+    file.chmod(0o640)
+    sessions.compact()
+    sessions.put(b"b", b"3")
+    sessions.check()
+    compare("the link", (link.is_symlink(), oct(file.stat().st_mode & 0o777)), (True, oct(0o640)))
+
+
+@case_of_store("ordered", "pordered", "hashed")
+def holds_many_alike(file, kind):
+    """Two thousand keys alike in their first twenty bytes. Their time grows with their number, not with its square: of
+    that, which once took some seconds for each thousand, the limit is a guard, and no more."""
+    keys = [f"https://example.org/{number}".encode() for number in range(2000)]
+    before = resource.getrusage(resource.RUSAGE_CHILDREN)
+    sessions = Sessions(file, kind)
+    for key in keys:
+        sessions.put(key, key[-8:])
+    sessions.check()
+    sessions.hold(keys)
+    sessions.check()
+    after = resource.getrusage(resource.RUSAGE_CHILDREN)
+    if after.ru_utime + after.ru_stime - before.ru_utime - before.ru_stime > 10:
+        raise Wrong("2,000 keys that are alike took more than ten seconds of processor time")
+
+
+@case_of_store(*IN_ORDER)
+def tells_what_is_dead(file, kind):
+    """Bytes of older records, of deletions, and of what stands behind the last whole record."""
+    torn = record(b"torn", b"off")[:-1]
+    log = file_of(record(b"a", b"1"), record(b"a", b"22"), record(b"b", b""), record(b"b", None)) + torn
+    sessions = Sessions(file, kind, log=log)
+    sessions.dead()
+    compare("dead", sessions.wanted[-1], f"dead {3 * FRAME + 4 + len(torn)}")
+    sessions.cut()
+    sessions.dead()
+    sessions.compact()
+    sessions.dead()
+    sessions.check()
+    sessions.dead()
+    sessions.check()
+
+
+@case_of_store(*KINDS)
+def answers_each_command(file, kind):
+    """A kind without an order refuses the commands that ask for one, and goes on."""
+    sessions = Sessions(file, kind)
+    sessions.put(b"a", b"1")
+    for line in ["next 61", "prev 61", "absent 61", "first", "last", "scan - 1", "scan-prefix - 1", "dead", "compact"]:
+        if kind not in IN_ORDER:
+            sessions.ask(line, "refused unordered")
+    if kind not in IN_ORDER:
+        sessions.ask("compact copy.log", "refused unordered")
+        sessions.ask("move copy.log", "refused unordered")
+    sessions.ask("sync", "ok")
+    sessions.cut()
+    sessions.hold([b"a"])
+    sessions.check()
+    help_text = subprocess.run([Store.path, "--help"], capture_output=True, text=True, check=True).stdout
+    for line in ("put", "get", "has", "delete", "count", "sync", "cut", "salvage", "next", "prev", "absent", "first"):
+        compare(f"--help tells {line}", f"  {line} " in help_text or f"  {line}," in help_text, True)
+    compare(f"--help tells {kind}", f"\n  {kind} " in help_text, True)
