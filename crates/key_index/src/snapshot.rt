@@ -11,7 +11,9 @@ ghost use Rattle.key_index.specs.Snapshot.{Positions, key_of, positions_of, next
 
 mod record;
 
-use key_index_flat::index::{Fault, Ordered, Values, resolve_next, resolve_prev};
+use key_index_flat::index::{
+    Fault, Ordered, OwnKeys, Values, find_record, resolve_next, resolve_prev,
+};
 use key_index_parts::index::partitioned::{Op, Partitioned, build_in_ranges};
 pub use record::Record;
 use std::alloc::Global;
@@ -62,18 +64,6 @@ fn place_of(values: Values<'_, Record>, key: &[u8]) -> Option<usize>
     None
 }
 
-/// The position of the record of a key in a list.
-fn find_position(values: Values<'_, Record>, key: &[u8]) -> Option<u64>
-    ensures { result ≡ position_in key.now values.entry }
-{
-    for record in values {
-        if record.key.as_slice() == key {
-            return Some(record.position);
-        }
-    }
-    None
-}
-
 impl<I: Ordered<Value = Record>> Snapshot<I> {
     /// No keys, over an index that holds none.
     pub fn new(alloc: Global, index: I) -> Snapshot<I>
@@ -100,7 +90,11 @@ impl<I: Ordered<Value = Record>> Snapshot<I> {
     pub fn get(&self, key: &[u8]) -> Option<u64>
         ensures { result ≡ map.get self.now key.now }
     {
-        find_position(self.index.get(key), key)
+        match find_record(&self.index, &mut OwnKeys, key) {
+            Ok(Some(record)) => Some(record.position),
+            Ok(None) => None,
+            Err(never) => match never {},
+        }
     }
 
     /// Sets the position of a key, in the place of the one that it has. A refusal leaves the map: `Full` exactly where the key

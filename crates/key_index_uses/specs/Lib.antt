@@ -1,3 +1,4 @@
+pub mod Archive
 pub mod Exclusion
 pub mod Log
 pub mod Newest

@@ -10,7 +10,7 @@ use key_index_parts::index::partitioned::ordered::{Ahead, same_visits, visit_ahe
 use std::alloc::Global;
 
 /// Whether the record at a position of a log has a full key.
-fn is_record(log: &[&[u8]], position: u64, key: &[u8]) -> bool
+pub(crate) fn is_record(log: &[&[u8]], position: u64, key: &[u8]) -> bool
     ensures { result ≡ is_record (map (λ key. key.now) log.now) key.now position }
 {
     match log.get(position as usize) {

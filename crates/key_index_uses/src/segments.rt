@@ -1,8 +1,10 @@
-//! A log of records in segments of equal length, whose oldest segments are dropped.
-ghost use Rattle.std.specs.Prelude.{◌≡◌, ◌*◌, ◌^◌, ◌<◌, None, IfOk, OnErr};
+//! An archive: a log of records in segments of equal length, whose oldest segments are dropped.
+ghost use Rattle.std.specs.Prelude.{◌≡◌, ℕ, ◌*◌, ◌^◌, ◌<◌, None, false, map, IfOk, IfSome, IsTrue, OnErr};
 ghost use Rattle.key_index.specs.Immutable.{end_of, key_at, ArePositions};
 ghost use Rattle.key_index.specs.Marks.{IsInserted, IsPruned};
+ghost use Rattle.key_index_uses.specs.Archive.{IsLogOf, has_record};
 
+use crate::records::is_record;
 use key_index::index::immutable::{Index, Positions};
 use key_index_flat::index::Fault;
 use key_index_flat::translator::Translator;
@@ -73,5 +75,20 @@ impl<T: Translator> SegmentedLog<T> {
         ensures { ArePositions self.now (T.translated self.now.translator key.now) result }
     {
         self.index.get(key)
+    }
+
+    /// The position of a record that has a key, of those whose segments were not dropped. The index tells which may have it, and the log,
+    /// which has the records' keys by position, which one does. `None` where no such record has it.
+    pub fn find(&self, log: &[&[u8]], key: &[u8]) -> Option<u64>
+        ensures found { IfSome result (λ p. IsTrue (has_record self.now (map (λ key. key.now) log.now) key.now p)) }
+        ensures none { IsLogOf (T.translated self.now.translator) self.now (map (λ key. key.now) log.now)
+            → result ≡ None → (p : ℕ) → has_record self.now (map (λ key. key.now) log.now) key.now p ≡ false }
+    {
+        for position in self.index.get(key) {
+            if is_record(log, position, key) {
+                return Some(position);
+            }
+        }
+        None
     }
 }

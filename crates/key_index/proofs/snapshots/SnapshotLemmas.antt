@@ -1,21 +1,25 @@
 -- On snapshots: what records that stand under their own index keys say of each full key.
 --     next_position-IsLeast, prev_position-IsLeast  the nearest record in full keys is the nearest entry of the map
---     get-positions_in                              the position of a full key is that of the first record of its own list that has it
+--     get-first_with                                the position of a full key is that of the first record that has it
+--     get-positions_in                              it is that of the first one of its own list
 --     set_map, unset_map                            a list in which one full key changes changes the map there alone
 use Rattle.std.proofs.Common.{◌≡◌, ℕ, zero, suc, ◌<◌, true, false, cond, T, List, [], ◌∷◌, length, map, slice_get, Option, Some, None, is_some, refl, sym, ap, subst, ◌∙◌, arith}
 use Rattle.std.proofs.lemmas.Bool.{false≢true}
 use Rattle.std.proofs.lemmas.Map.Lookups.{exact_bytes}
+use Rattle.std.proofs.lemmas.Slice.Eq.{bytes_eq-Decides}
 use Rattle.std.specs.Cmp.{IsTotalOrder, tied_itself}
 use Rattle.std.specs.Cmp.Lexicographic.{nat_list_cmp_total}
 use Rattle.std.specs.FinMap.{entries, find, get, insert, remove, is_sorted, get-entries, get-from_entries, get-insert, get-remove, same_map}
 use Rattle.std.specs.Option.{option_map}
 use Rattle.std.specs.Ordering.{eq_by_cmp, flip_args, is_eq}
+use Rattle.std.specs.Str.{bytes_eq}
 use Rattle.std.specs.declared.cmp.Ordering.{Ordering}
 use Rattle.std.specs.declared.cmp.Ordering.TheVariants.{Equal}
 use Rattle.key_index_flat.specs.Content.{Content, list_at, with_list}
-use Rattle.key_index_flat.specs.FullKeys.{IsFiled, IsLeast, above, below, byte_cmp, cmp_keys}
+use Rattle.key_index_flat.specs.FullKeys.{IsFiled, IsLeast, above, below, byte_cmp, cmp_keys, first_with}
 use Rattle.key_index_flat.specs.Values.{values_of}
 use Rattle.key_index_flat.proofs.content.ContentLemmas.{Equal-is_eq, list_at-with_list}
+use Rattle.key_index_flat.proofs.entries.EntryLemmas.{same, same_is, same_itself}
 use Rattle.key_index_flat.proofs.entries.MapLemmas as nearest
 use Rattle.key_index.specs.Snapshot.{key_of, entry_of, positions_of, position_in, next_position, prev_position}
 use Rattle.key_index.specs.declared.snapshot.record.Record.{Record}
@@ -28,6 +32,25 @@ next_position-IsLeast vs a r h = nearest.first_entry-IsLeast entry_of vs (positi
 
 pub prev_position-IsLeast : (vs : List Record) (a : List ℕ) (r : Option Record) → IsLeast (flip_args (cmp_keys key_of)) (below key_of a vs) r → option_map entry_of r ≡ prev_position (positions_of vs) a
 prev_position-IsLeast vs a r h = nearest.last_entry-IsLeast entry_of vs (positions_of vs) (find-positions_of vs) a r h
+
+position_in-first_with : (vs : List Record) (a : List ℕ) → option_map (λ r. r.position) (first_with key_of a vs) ≡ position_in a vs
+position_in-first_with [] a = refl
+position_in-first_with (r ∷ rs) a =
+    elim (bytes_eq (key_of r) a) as (λ b. bytes_eq (key_of r) a ≡ b → option_map (λ r. r.position) (cond b (Some r) (first_with key_of a rs)) ≡ cond (same a (key_of r)) (Some r.position) (position_in a rs)) [
+      | true ↦ λ e.
+          ap (λ b. cond b (Some r.position) (position_in a rs)) (sym (same_itself a) ∙ ap (same a) (sym ((bytes_eq-Decides (key_of r) a).0 e)))
+      | false ↦ λ e.
+          let apart : same a (key_of r) ≡ false =
+          elim (same a (key_of r)) as (λ b. same a (key_of r) ≡ b → b ≡ false) [
+            | true ↦ λ t. absurd (false≢true (sym e ∙ (bytes_eq-Decides (key_of r) a).1 (sym (same_is a (key_of r) t))))
+            | false ↦ λ t. refl
+          ] refl in
+          position_in-first_with rs a ∙ ap (λ b. cond b (Some r.position) (position_in a rs)) (sym apart)
+    ] refl
+
+pub get-first_with : (vs : List Record) (a : List ℕ) (found : Option Record) → found ≡ first_with key_of a vs → option_map (λ r. r.position) found ≡ get (positions_of vs) a
+get-first_with vs a found is =
+    ap (option_map (λ r. r.position)) is ∙ position_in-first_with vs a ∙ sym (get-from_entries nat_list_cmp_total (map entry_of vs) a)
 
 module _ {K : Type 0} {cmp : K → K → Ordering} (o : IsTotalOrder cmp) (exact : (x y : K) → cmp x y ≡ Equal → x ≡ y) (slot : List ℕ → K) where
   pub get-positions_in : (c : Content K Record) → T (is_sorted cmp c) → IsFiled key_of cmp slot c → (a : List ℕ) → get (positions_of (values_of c)) a ≡ position_in a (list_at cmp c (slot a))

@@ -1,12 +1,8 @@
 //! Neighbours of a key among those that have a value.
 ghost use Rattle.std.specs.Prelude.{◌≡◌, ◌≤◌, ℕ, List, ◌∷◌, [], ◌++◌, length, take, IfSome, IfOk, IfErr, All};
-ghost use Rattle.std.specs.Cmp.{IsTotalOrder, back_total};
-ghost use Rattle.std.specs.Cmp.Lexicographic.{nat_list_cmp_total};
 ghost use Rattle.std.specs.FinMap.{entries};
 ghost use Rattle.std.specs.Option.{option_map};
-ghost use Rattle.std.specs.Ordering.{is_lt, flip_args};
-ghost use Rattle.std.specs.declared.cmp.Ordering.{Ordering};
-ghost use Rattle.key_index_flat.specs.FullKeys.{byte_cmp, unflagged};
+ghost use Rattle.key_index_flat.specs.FullKeys.{unflagged};
 ghost use Rattle.key_index_flat.specs.Neighbours.{first_entry, last_entry};
 ghost use Rattle.key_index_store.specs.Device.{IsRead, Sees};
 ghost use Rattle.key_index_store.specs.Indexed.{IsLive, IsNearest, beyond, entry_at, is_behind, key_at, key_in_bytes};
@@ -16,6 +12,7 @@ use super::find::{read_front, read_value};
 use super::{Fault, Store, positions_of};
 use crate::device::Device;
 use crate::record::key_in;
+use key_index_flat::index::implement::{Above, Below, Side};
 use key_index_flat::index::{Ordered, Values};
 use std::alloc::Global;
 
@@ -24,43 +21,6 @@ use std::alloc::Global;
 pub struct Gap {
     pub before: Option<(Vec<u8>, Vec<u8>)>,
     pub after: Option<(Vec<u8>, Vec<u8>)>,
-}
-
-/// A side of a key, where its neighbour is looked for: the order in which the keys there come, from the nearest on.
-pub(super) trait Side {
-    ghost cmp: { List ℕ → List ℕ → Ordering };
-
-    /// Whether a key comes before another.
-    fn is_before(a: &[u8], b: &[u8]) -> bool
-        ensures { result ≡ is_lt (cmp a.now b.now) };
-
-    ghost total: { IsTotalOrder cmp };
-}
-
-/// Keys above, in the order of bytes.
-pub(super) struct Above;
-
-impl Side for Above {
-    ghost cmp = { byte_cmp };
-
-    fn is_before(a: &[u8], b: &[u8]) -> bool {
-        a < b
-    }
-
-    ghost total = { nat_list_cmp_total };
-}
-
-/// Keys below, in that order turned.
-pub(super) struct Below;
-
-impl Side for Below {
-    ghost cmp = { flip_args byte_cmp };
-
-    fn is_before(a: &[u8], b: &[u8]) -> bool {
-        b < a
-    }
-
-    ghost total = { back_total nat_list_cmp_total };
 }
 
 /// Whether a key comes behind another, or none is given.

@@ -5,6 +5,7 @@ use key_index_flat::translator::OneCap;
 use key_index_parts::index::partitioned;
 use key_index_uses::callers::{forget, move_to, newest};
 use key_index_uses::log::{gap, position};
+use key_index_uses::segments::SegmentedLog;
 use std::test::Fail;
 
 #[test]
@@ -111,6 +112,22 @@ fn a_log_is_asked_by_full_keys(rt: HostRuntime) {
     holds(&rt, held, "a key that has a record");
     let missing = position(&index, &[], b"ax").is_err();
     holds(&rt, missing, "a position that the log lacks");
+}
+
+#[test]
+fn an_archive_confirms_what_its_index_tells(rt: HostRuntime) {
+    let mut archive = SegmentedLog::new(rt.alloc(), OneCap).expect(&rt, "an archive");
+    let log: [&[u8]; 3] = [b"ay", b"ax", b"by"];
+    for key in &log {
+        archive.append(key).expect(&rt, "append");
+    }
+    let second = archive.find(&log, b"ax") == Some(1);
+    holds(&rt, second, "the second record of one index key");
+    holds(&rt, archive.find(&log, b"by") == Some(2), "the third one");
+    holds(&rt, archive.find(&log, b"az").is_none(), "no such record");
+    holds(&rt, archive.find(&[], b"ay").is_none(), "an empty log");
+    archive.drop_front(1);
+    holds(&rt, archive.find(&log, b"by").is_none(), "it was dropped");
 }
 
 #[test]
