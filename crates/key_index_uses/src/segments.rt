@@ -1,8 +1,10 @@
 //! An archive: a log of records in segments of equal length, whose oldest segments are dropped.
-ghost use Rattle.std.specs.Prelude.{◌≡◌, ℕ, ◌*◌, ◌^◌, ◌<◌, None, false, map, IfOk, IfSome, IsTrue, OnErr};
+ghost use Rattle.std.specs.Prelude.{◌≡◌, ℕ, ◌*◌, ◌^◌, ◌<◌, None, false, map, All, IfOk, IfSome, IsTrue, OnErr};
+ghost use Rattle.std.specs.List.{Contains};
 ghost use Rattle.key_index.specs.Immutable.{end_of, key_at, ArePositions};
 ghost use Rattle.key_index.specs.Marks.{IsInserted, IsPruned};
 ghost use Rattle.key_index_uses.specs.Archive.{IsLogOf, has_record};
+ghost use Rattle.key_index_uses.specs.Records.{is_record};
 
 use crate::records::is_record;
 use key_index::index::immutable::{Index, Positions};
@@ -31,6 +33,21 @@ impl<T: Translator> Model for SegmentedLog<T> {
     ghost view = { λ s. s.index };
 
     ghost invariant = { λ s. s.next ≡ end_of s.index };
+}
+
+/// The first of some positions at which a log has a record with a key.
+fn confirmed<T: Translator>(positions: Positions<'_, T>, log: &[&[u8]], key: &[u8]) -> Option<u64>
+    ensures found { IfSome result (λ p. Contains positions.entry p
+        × IsTrue (is_record (map (λ key. key.now) log.now) key.now p)) }
+    ensures none { result ≡ None
+        → All (λ p. is_record (map (λ key. key.now) log.now) key.now p ≡ false) positions.entry }
+{
+    for position in positions {
+        if is_record(log, position, key) {
+            return Some(position);
+        }
+    }
+    None
 }
 
 impl<T: Translator> SegmentedLog<T> {
@@ -84,11 +101,6 @@ impl<T: Translator> SegmentedLog<T> {
         ensures none { IsLogOf (T.translated self.now.translator) self.now (map (λ key. key.now) log.now)
             → result ≡ None → (p : ℕ) → has_record self.now (map (λ key. key.now) log.now) key.now p ≡ false }
     {
-        for position in self.index.get(key) {
-            if is_record(log, position, key) {
-                return Some(position);
-            }
-        }
-        None
+        confirmed(self.index.get(key), log, key)
     }
 }
