@@ -73,7 +73,7 @@ typedef enum key_index_status {
 } key_index_status;
 
 typedef enum key_index_kind {
-    KEY_INDEX_UNORDERED = 0, /* a hashed map: the fastest calls by key */
+    KEY_INDEX_UNORDERED = 0, /* a hashed map: the fastest look-ups */
     KEY_INDEX_ORDERED = 1,   /* a tree, with the next and the previous key */
     KEY_INDEX_SEEDED = 2,    /* a hashed map by a SHA-256 of whole keys and a secret seed: for keys that an attacker picks */
     /* The first byte of a key, or the first two, pick a partition, and the eight bytes behind them are the index key there: hashed, or
@@ -194,7 +194,7 @@ static inline key_index_status key_index_insert_many(key_index *index, const voi
 }
 
 /* Makes an index of a kind that holds `n` values, as key_index_insert_many inserts them into a new one. Only KEY_INDEX_SEEDED takes the
- * seed. KEY_INDEX_MEMORY, KEY_INDEX_BAD_ARGUMENT: there is none still. */
+ * seed. KEY_INDEX_MEMORY, KEY_INDEX_BAD_ARGUMENT: `index` is what it was. */
 static inline key_index_status key_index_build(key_index *index, key_index_kind kind, uint64_t seed, const void *keys,
                                                const size_t *ends, const uint64_t *values, size_t n) {
     size_t count = 0;

@@ -206,7 +206,7 @@ def has_a_limit_of_its_size(file, kind):
     for crate in ("flat", "parts", "store", "store_cli"):
         (root / f"crates/key_index_{crate}/src").mkdir(parents=True)
     (root / ".ci").mkdir()
-    for name in ("store", "crates.txt", ".ci/newer"):
+    for name in ("store", "crates.txt", ".ci/is_current", ".ci/program"):
         shutil.copy(Path(__file__).resolve().parent.parent.parent / name, root / name)
     shutil.copy(Store.path, root / "crates/key_index_store_cli/out/key_index_store_cli")
     for blocks in (0, 1, 2):

@@ -110,7 +110,7 @@ macro_rules! kinds {
 }
 
 kinds! {
-    "A hashed map: the fastest calls by key." Unordered = UNORDERED: Unseeded;
+    "A hashed map: the fastest look-ups." Unordered = UNORDERED: Unseeded;
     "A tree, with the next and the previous key." Ordered = ORDERED: Unseeded Neighbours;
     "A hashed map by a SHA-256 of whole keys and a secret seed, for keys that an attacker picks." Seeded = SEEDED:;
     "A hashed map for each first byte, by the eight bytes behind it. Empty it takes 18 KiB." UnorderedByOne = UNORDERED_BY_ONE: Unseeded;
