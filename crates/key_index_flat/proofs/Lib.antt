@@ -4,3 +4,4 @@ pub mod neighbours
 pub mod asked
 pub mod keys
 pub mod runs
+pub mod CallerLemmas

@@ -3,11 +3,12 @@
 --     IsLeast              the least value of a list, the first of those that tie; none exactly where the list is empty
 --     IsLeastRead          the same of a value that stands beside its full key
 --     first_with           the first value of a list that has a full key
+--     AsRead               of each assignment of full keys to values with which a reader agrees
 --     FailsOn              an error of a read of one of some values
 --     IsFullNext           the value with the least full key strictly above a key, of all that are held. Among equal full keys the first.
 --                          None exactly where no full key is above. IsFullPrev: the same with the greatest strictly below
 --     IsFullFirst, IsFullLast      the value with the least full key of all, and with the greatest
---     IsFullGap            the neighbours of a full key that no value has; none exactly where one has it
+--     IsGapAmong           the neighbours of a full key that no value of a list has; none exactly where one has it. IsFullGap: of all that are held
 --     IsNextCandidate      the value with the least full key of those above the key under its own index key. Where none is above, of all those under the next
 --                          index key, which a flagged neighbour isn't. IsPrevCandidate: the same with greatest, below and previous
 --     IsFirstCandidate, IsLastCandidate      the least of the first list, and the greatest of the last
@@ -45,6 +46,9 @@ IsLeastRead full_key items cmp l o =
 
 abbrev pub first_with : {V : Type 0} → (V → List ℕ) → List ℕ → List V → Option V
 first_with full_key a l = find (λ v. bytes_eq (full_key v) a) l
+
+abbrev pub AsRead : {V : Type 0} → ((V → List ℕ) → Type 0) → ((V → List ℕ) → Type 0) → Type 0
+AsRead {V = V} agrees P = (keys : V → List ℕ) → agrees keys → P keys
 
 abbrev pub FailsOn : {V E : Type 0} → (V → E → Type 0) → List V → E → Type 0
 FailsOn {V = V} fails l e = (v : V) × Contains l v × fails v e
@@ -86,9 +90,13 @@ module _ {V : Type 0} (full_key : V → List ℕ) where
   abbrev pub IsFullLast : {K : Type 0} → Content K V → Option V → Type 0
   IsFullLast c o = IsLeast (flip_args cmp_keys) (values_of c) o
 
+  abbrev pub IsGapAmong : List ℕ → List V → Option (Option V × Option V) → Type 0
+  IsGapAmong a l None = IsSome (first_with full_key a l)
+  IsGapAmong a l (Some g) =
+      (first_with full_key a l ≡ None) × IsLeast (flip_args cmp_keys) (below a l) g.0 × IsLeast cmp_keys (above a l) g.1
+
   abbrev pub IsFullGap : {K : Type 0} → Content K V → List ℕ → Option (Option V × Option V) → Type 0
-  IsFullGap c a None = IsSome (first_with full_key a (values_of c))
-  IsFullGap c a (Some g) = (first_with full_key a (values_of c) ≡ None) × IsFullPrev c a g.0 × IsFullNext c a g.1
+  IsFullGap c a gap = IsGapAmong a (values_of c) gap
 
   abbrev pub IsFirstCandidate : {K : Type 0} → Content K V → Option V → Type 0
   IsFirstCandidate c o = IsLeast cmp_keys (unwrap_or (first_list c) []) o

@@ -13,6 +13,7 @@ pub mod ordered;
 mod records;
 mod resolve;
 mod retain;
+mod show;
 mod storage;
 mod traits;
 pub mod unordered;

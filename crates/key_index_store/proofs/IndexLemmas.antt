@@ -34,9 +34,6 @@ pub some_mapped : {A B : Type 0} (f : A → B) (o : Option A) → is_some o ≡ 
 some_mapped f None = refl
 some_mapped f (Some x) = refl
 
-pub some_none : (o : Option ℕ) → is_some o ≡ true → ¬ (o ≡ None)
-some_none o some none = false≢true (sym (ap is_some none) ∙ some)
-
 get_map : (e : ℕ → List ℕ × List ℕ) (l : List ℕ) (i : ℕ) → option_map (λ p. (e p).0) (slice_get l i) ≡ option_map (λ (x : List ℕ × List ℕ). x.0) (slice_get (map e l) i)
 get_map e [] i = refl
 get_map e (p ∷ ps) zero = refl

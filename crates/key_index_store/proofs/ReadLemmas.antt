@@ -1,7 +1,6 @@
 -- On reads of the front of a record: what is read tells as much as all that stands there.
 --     front_tells     the key
 --     whole_tells     the record, where all of it was asked for
---     read-then       two calls that only read, one after the other
 --     match_same, match_other, match_readable  a candidate whose key is known, beside the one that is sought
 use Rattle.std.proofs.Common.{◌≡◌, ◌⊎◌, ℕ, zero, suc, ◌+◌, ◌-◌, ◌≤◌, ◌<◌, min, Bool, true, false, cond, List, [], ◌∷◌, ◌++◌, slice_get, get_or, length, take, drop, Option, Some, Result, Ok, Err, inl, inr, refl, sym, ap, subst, ◌∙◌, take-append-drop, length-take, length-drop, arith}
 use Rattle.std.specs.Result.{OnOk, is_ok}
@@ -9,7 +8,6 @@ use Rattle.std.proofs.lemmas.Bool.{cases_lt}
 use Rattle.std.proofs.lemmas.Bool.{false≢true}
 use Rattle.std.proofs.lemmas.List.{drop-take, nil_from_length, take_all}
 use Rattle.std.specs.Str.{bytes_eq}
-use Rattle.key_index_store.specs.Device.{IsRead}
 use Rattle.key_index_store.specs.Indexed.{IsLive, key_at, match_of}
 use Rattle.key_index_store.specs.declared.store.find.Match.{Match}
 use Rattle.key_index_store.specs.declared.store.find.Match.TheVariants.{Same, Other, Unreadable}
@@ -119,13 +117,6 @@ module _ (log : List ℕ) (limit p : ℕ) (within : limit ≤ length log) where
 pub on_ok_told : {A E : Type 0} {P : Type 0} (r : Result A E) → is_ok r ≡ true → OnOk r P → P
 on_ok_told (Ok x) e h = h
 on_ok_told (Err x) e h = absurd (false≢true e)
-
-module _ {D : Type 0} {seen : D → Option (List ℕ)} {may_leave : D → List ℕ → Type 0} where
-  pub read-none : (a : D) → IsRead seen may_leave a a
-  read-none a = record { stays = λ bytes h. h; crash = λ c h. h }
-
-  pub read-then : (a b c : D) → IsRead seen may_leave a b → IsRead seen may_leave b c → IsRead seen may_leave a c
-  read-then a b c first second = record { stays = λ bytes h. first.stays bytes (second.stays bytes h); crash = λ left h. first.crash left (second.crash left h) }
 
 -- ---- a candidate's key
 

@@ -32,12 +32,6 @@ not_summed-short n bytes h = elim (is_summed n bytes) as (λ b. is_summed n byte
 pub part-short : (n : ℕ) (bytes : List ℕ) → length bytes < n + 4 → part n bytes ≡ None
 part-short n bytes h = ap (λ b. cond b (Some (take n bytes)) None) (not_summed-short n bytes h)
 
-pub part-summed : (n : ℕ) (bytes : List ℕ) → is_summed n bytes ≡ true → part n bytes ≡ Some (take n bytes)
-part-summed n bytes e = ap (λ b. cond b (Some (take n bytes)) None) e
-
-pub part-not_summed : (n : ℕ) (bytes : List ℕ) → is_summed n bytes ≡ false → part n bytes ≡ None
-part-not_summed n bytes e = ap (λ b. cond b (Some (take n bytes)) None) e
-
 pub part_is : (n : ℕ) (bytes p : List ℕ) → part n bytes ≡ Some p → (is_summed n bytes ≡ true) × (take n bytes ≡ p) × (n + 4 ≤ length bytes)
 part_is n bytes p e = elim (is_summed n bytes) as (λ b. is_summed n bytes ≡ b → cond b (Some (take n bytes)) None ≡ Some p → (b ≡ true) × (take n bytes ≡ p) × (n + 4 ≤ length bytes)) [
   | true ↦ λ t q. (refl, ap (λ o. unwrap_or o p) q, long t)

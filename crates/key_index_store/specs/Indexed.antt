@@ -3,24 +3,23 @@
 --     IsLive, IsUnder       a position is live;  and stands under the index key of its full key, which is bytes
 --     value_in              the value of the first record in a list of positions that has a key
 --     IsAt                  the place of a key in a list, by the entries of its positions;  or that it isn't there
---     beyond, IsNearest     of some positions those whose keys come behind a key in an order, or all;  the key that comes first in it, and its position
+--     key_read, HasKeys     the key that a read of the head and the key at a position gives;  keys of positions that a device has
 --     match_of              a candidate's key beside the one that is sought
 --     Indexes               the log is complete records, and the index has the position of each key's newest one that has a value, once,
 --                           under the index key of the key
 --     Keeps                 what a store keeps of its log: where the complete records end, what stands behind them, and the index of them
 --     Settles               after the position of a key's newest record was filed: in the place of the older one, or as a new one
 --     KeepsLists            no list is another
-use Rattle.std.specs.Prelude.{◌≡◌, ◌-◌, ◌≤◌, ℕ, Bool, if◌then◌else◌, true, false, List, [], map, length, drop, take, remove, slice_get, slice_set, Option, Some, None, All, Vec}
+use Rattle.std.specs.Prelude.{◌≡◌, ◌-◌, ◌≤◌, ℕ, Bool, if◌then◌else◌, true, false, List, [], map, length, drop, take, remove, slice_get, slice_set, Option, Some, None, All, unwrap_or}
 use Rattle.std.specs.FinMap.{find, get, len}
-use Rattle.std.specs.List.{filter, flat_map, IsDistinct}
+use Rattle.std.specs.List.{flat_map, IsDistinct}
 use Rattle.std.specs.Option.{option_map}
-use Rattle.std.specs.Ordering.{eq_by_cmp, is_lt, on}
+use Rattle.std.specs.Ordering.{eq_by_cmp}
 use Rattle.std.specs.Str.{bytes_eq}
-use Rattle.std.specs.declared.alloc.Global.{Global}
 use Rattle.std.specs.declared.cmp.Ordering.{Ordering}
-use Rattle.key_index_flat.specs.FullKeys.{IsBytes, IsLeast, byte_cmp}
+use Rattle.key_index_flat.specs.FullKeys.{IsBytes, byte_cmp}
 use Rattle.key_index_flat.specs.View.{View, after_insert, items_in, run_at, run_of, with_edit, with_pruned}
-use Rattle.key_index_store.specs.Record.{Fits, Outcome, Complete, Torn, Damaged, Stops, bytes_of, encoded, reading}
+use Rattle.key_index_store.specs.Record.{Fits, Outcome, Complete, Torn, Damaged, Stops, bytes_of, encoded, key_in, reading}
 use Rattle.key_index_store.specs.Stored.{IsTail, held_by, records_of}
 use Rattle.key_index_store.specs.declared.store.find.Match.{Match}
 use Rattle.key_index_store.specs.declared.store.find.Match.TheVariants.{Same, Other, Unreadable}
@@ -30,15 +29,6 @@ abbrev pub parts_of : Outcome → List ℕ × List ℕ
 parts_of (Complete r) = (r.key, bytes_of r.value)
 parts_of Torn = ([], [])
 parts_of Damaged = ([], [])
-
--- a key that the code has, with its position
-abbrev pub key_in_bytes : Option (Vec ℕ Global × ℕ) → Option (List ℕ × ℕ)
-key_in_bytes o = option_map (λ f. (f.0.items, f.1)) o
-
--- a key comes behind another, or none is given
-abbrev pub is_behind : (List ℕ → List ℕ → Ordering) → Option (List ℕ) → List ℕ → Bool
-is_behind cmp None key = true
-is_behind cmp (Some a) key = is_lt (cmp a key)
 
 abbrev pub match_of : Option (List ℕ) → List ℕ → Match
 match_of None key = Unreadable
@@ -64,12 +54,12 @@ module _ (log : List ℕ) where
   abbrev pub value_in : List ℕ → List ℕ → Option (List ℕ)
   value_in key ps = find byte_cmp key (map entry_at ps)
 
-  abbrev pub beyond : (List ℕ → List ℕ → Ordering) → Option (List ℕ) → List ℕ → List ℕ
-  beyond cmp None ps = ps
-  beyond cmp (Some a) ps = filter (λ p. is_lt (cmp a (key_at p))) ps
+  abbrev pub key_read : ℕ → List ℕ
+  key_read p = unwrap_or (key_in (drop p log)) []
 
-  abbrev pub IsNearest : (List ℕ → List ℕ → Ordering) → List ℕ → Option (List ℕ × ℕ) → Type 0
-  IsNearest cmp ps found = (o : Option ℕ) × IsLeast (on key_at cmp) ps o × (found ≡ option_map (λ p. (key_at p, p)) o)
+-- where its bytes are seen, and a limit is within them: the keys that its first bytes have
+abbrev pub HasKeys : Option (List ℕ) → ℕ → (ℕ → List ℕ) → Type 0
+HasKeys seen limit keys = (log : List ℕ) × (seen ≡ Some log) × (limit ≤ length log) × (keys ≡ key_read (take limit log))
 
 module _ {K : Type 0} (cmp : K → K → Ordering) where
   pub record Indexes (log : List ℕ) (s : View K ℕ) : Type 0 where

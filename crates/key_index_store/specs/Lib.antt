@@ -10,3 +10,4 @@ pub mod Record
 pub mod Salvage
 pub mod Stored
 pub mod Translators
+pub mod laws

@@ -13,6 +13,7 @@ ghost use Rattle.key_index_store.specs.Stored.{HasChanged, HasRefused, HasRoom, 
 
 mod compact;
 pub(crate) mod find;
+mod log;
 mod neighbours;
 mod replay;
 
@@ -21,6 +22,7 @@ use crate::record::encode;
 use crate::salvage::{Salvaged, salvage};
 use find::{find, find_place, length_of, read_value};
 use key_index_flat::index::{self, Refused, Unordered, Values};
+use log::Log;
 pub use neighbours::Gap;
 use replay::replay;
 use std::alloc::{AllocError, Global};
@@ -71,10 +73,8 @@ pub enum Tail {
 /// records leave the map.
 #[derive(Drop)]
 pub struct Store<D: Device, I: Unordered<Value = u64>> {
-    alloc: Global,
-    device: D,
+    log: Log<D>,
     index: I,
-    end: u64,
     tail: Tail,
 }
 
@@ -84,9 +84,9 @@ impl<D: Device, I: Unordered<Value = u64>> Model for Store<D, I> {
 
     ghost Value = { D };
 
-    ghost view = { λ s. s.device };
+    ghost view = { λ s. s.log.device };
 
-    ghost invariant = { λ s. Sees (D.seen s.device) (λ log. Keeps I.Key.cmp log (I.view s.index) s.end s.tail) };
+    ghost invariant = { λ s. Sees (D.seen s.log.device) (λ log. Keeps I.Key.cmp log (I.view s.index) s.log.end s.tail) };
 }
 
 /// Files the position of a key's newest record: in the place of the older one, or as a new one; of a deletion removes the older one.
@@ -258,10 +258,8 @@ impl<D: Device, I: Unordered<Value = u64>> Store<D, I> {
     {
         match replay(alloc, &mut device, &mut index) {
             Ok((end, tail)) => Ok(Store {
-                alloc,
-                device,
+                log: Log { alloc, device, end },
                 index,
-                end,
                 tail,
             }),
             Err(fault) => Err(NotOpened { fault, device }),
@@ -285,7 +283,7 @@ impl<D: Device, I: Unordered<Value = u64>> Store<D, I> {
     pub fn end(&self) -> u64
         ensures { Sees (D.seen self.now) (λ log. result ≡ end_of log) }
     {
-        self.end
+        self.log.end
     }
 
     /// What stands behind them. After a write that failed, nothing may stand where `Torn` is told.
@@ -302,13 +300,13 @@ impl<D: Device, I: Unordered<Value = u64>> Store<D, I> {
         ensures read { IsRead D.seen D.may_leave self.old self.new }
         ensures fault { Sees (D.seen self.new) (λ log. IfErr result MayRead) }
     {
-        let (alloc, end) = (self.alloc, self.end);
+        let (alloc, end) = (self.log.alloc, self.log.end);
         let positions = positions_of(&self.index, key);
-        let Some(found) = find(alloc, &mut self.device, positions, key, end)? else {
+        let Some(found) = find(alloc, &mut self.log.device, positions, key, end)? else {
             return Ok(None);
         };
         let front = found.bytes.as_slice();
-        let value = read_value(alloc, &mut self.device, found.position, end, front)?;
+        let value = read_value(alloc, &mut self.log.device, found.position, end, front)?;
         Ok(Some(value))
     }
 
@@ -319,9 +317,9 @@ impl<D: Device, I: Unordered<Value = u64>> Store<D, I> {
         ensures read { IsRead D.seen D.may_leave self.old self.new }
         ensures fault { Sees (D.seen self.new) (λ log. IfErr result MayRead) }
     {
-        let (alloc, end) = (self.alloc, self.end);
+        let (alloc, end) = (self.log.alloc, self.log.end);
         let positions = positions_of(&self.index, key);
-        let place = find_place(alloc, &mut self.device, positions, key, end)?;
+        let place = find_place(alloc, &mut self.log.device, positions, key, end)?;
         Ok(place.is_some())
     }
 
@@ -399,15 +397,15 @@ impl<D: Device, I: Unordered<Value = u64>> Store<D, I> {
             (D.may_leave self.old) (D.may_leave self.new)) }
     {
         self.make_room()?;
-        let (alloc, end) = (self.alloc, self.end);
+        let (alloc, end) = (self.log.alloc, self.log.end);
         let positions = positions_of(&self.index, key);
-        let place = find_place(alloc, &mut self.device, positions, key, end)?;
+        let place = find_place(alloc, &mut self.log.device, positions, key, end)?;
         if value.is_none() && place.is_none() {
             return Ok(false);
         }
         match append(
             alloc,
-            &mut self.device,
+            &mut self.log.device,
             &mut self.index,
             key,
             value,
@@ -415,7 +413,7 @@ impl<D: Device, I: Unordered<Value = u64>> Store<D, I> {
             end,
         ) {
             Ok(longer) => {
-                self.end = longer;
+                self.log.end = longer;
                 self.tail = Tail::Nothing;
                 Ok(place.is_some())
             }
@@ -437,7 +435,7 @@ impl<D: Device, I: Unordered<Value = u64>> Store<D, I> {
             → LeavesSame old (D.may_leave self.old) (D.may_leave self.new) }
         ensures fault { IfErr result (λ f. f ≡ Fault.WriteFailed) }
     {
-        match self.device.set_len(self.end) {
+        match self.log.device.set_len(self.log.end) {
             Ok(()) => {
                 self.tail = Tail::Nothing;
                 Ok(())
@@ -452,7 +450,7 @@ impl<D: Device, I: Unordered<Value = u64>> Store<D, I> {
         ensures read { IsRead D.seen D.may_leave self.old self.new }
         ensures fault { IfErr result (λ f. f ≡ Fault.WriteFailed) }
     {
-        match self.device.sync() {
+        match self.log.device.sync() {
             Ok(()) => Ok(()),
             Err(_) => Err(Fault::WriteFailed),
         }
@@ -464,7 +462,7 @@ impl<D: Device, I: Unordered<Value = u64>> Store<D, I> {
         ensures read { IsRead D.seen D.may_leave self.old self.new }
         ensures fault { IfErr result (λ f. f ≡ Fault.ReadFailed) }
     {
-        length_of(&mut self.device)
+        length_of(&mut self.log.device)
     }
 
     /// Copies each whole record of the log to a fresh one, in their order, behind damage too.
@@ -481,7 +479,7 @@ impl<D: Device, I: Unordered<Value = u64>> Store<D, I> {
         ensures read { IsRead D.seen D.may_leave self.old self.new }
         ensures fault { IfErr result (MaySalvage (C.seen into.new)) }
     {
-        salvage(self.alloc, &mut self.device, into)
+        salvage(self.log.alloc, &mut self.log.device, into)
     }
 
     /// The device, to be opened anew.
@@ -490,6 +488,6 @@ impl<D: Device, I: Unordered<Value = u64>> Store<D, I> {
         I: Drop,
         ensures { result ≡ self }
     {
-        self.device
+        self.log.device
     }
 }

@@ -12,7 +12,7 @@ use Rattle.key_index_flat.specs.View.{View, put_value, run_at, run_of, with_edit
 use Rattle.key_index_flat.proofs.content.ContentLemmas.{with_list-same}
 use Rattle.key_index_flat.proofs.runs.CursorLemmas.{list_at-with_list_same}
 
-put_value-empty : {V : Type 0} (first : Bool) (v : V) → put_value first v [] ≡ v ∷ []
+pub put_value-empty : {V : Type 0} (first : Bool) (v : V) → put_value first v [] ≡ v ∷ []
 put_value-empty true v = refl
 put_value-empty false v = refl
 
@@ -21,17 +21,6 @@ slice_set-empty [] v h = refl
 slice_set-empty (x ∷ xs) v h = absurd (h (omega arith))
 
 module _ {K V : Type 0} {cmp : K → K → Ordering} (o : IsTotalOrder cmp) where
-  -- a value that is put under a key whose values were taken out
-  pub alone-replaced : (first : Bool) (s t u : View K V) (b : List ℕ) (v : V) → t ≡ after_remove cmp s b → u ≡ after_insert cmp first t b v
-      → run_of cmp u b ≡ v ∷ []
-  alone-replaced first s t u b v taken put =
-      let slot = s.slot b in
-      let whole : u ≡ after_insert cmp first (after_remove cmp s b) b v = put ∙ ap (λ x. after_insert cmp first x b v) taken in
-      let gone = list_at-with_list_same o s.content slot [] in
-      ap (λ x. run_of cmp x b) whole
-      ∙ list_at-with_list_same o (with_list cmp s.content slot []) slot (put_value first v (list_at cmp (with_list cmp s.content slot []) slot))
-      ∙ ap (λ l. put_value first v l) gone ∙ put_value-empty first v
-
   -- a key that has no value has no first one
   pub absent_stays : ((x y : K) → cmp x y ≡ Equal → x ≡ y) → (s t : View K V) (k : K) (v : V) → IsLawful cmp s.content → t ≡ s
       → ¬ (0 < length (run_at cmp s k)) → t ≡ with_edit cmp s k (λ l. slice_set l 0 v)

@@ -1,6 +1,5 @@
 pub mod CallerLemmas
 pub mod ExclusionLemmas
-pub mod FiledLemmas
 pub mod GapLemmas
 pub mod NewestLemmas
 pub mod RecordLemmas

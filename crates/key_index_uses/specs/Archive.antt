@@ -9,5 +9,6 @@ module _ {T K : Type 0} where
   abbrev pub has_record : Log T K → List (List ℕ) → List ℕ → ℕ → Bool
   has_record s log key p = is_some (key_at s p) && is_record log key p
 
-  abbrev pub IsLogOf : (List ℕ → K) → Log T K → List (List ℕ) → Type 0
-  IsLogOf slot s log = (key : List ℕ) (p : ℕ) → IsTrue (has_record s log key p) → key_at s p ≡ Some (slot key)
+  abbrev pub IsLogOf : (T → List ℕ → K) → Log T K → List (List ℕ) → Type 0
+  IsLogOf translated s log =
+      (key : List ℕ) (p : ℕ) → IsTrue (has_record s log key p) → key_at s p ≡ Some (translated s.translator key)

@@ -1,5 +1,5 @@
 //! Callers as a user writes them: over any index, by its content alone.
-ghost use Rattle.std.specs.Prelude.{◌≡◌, ◌+◌, ◌-◌, ◌<◌, ◌↔◌, ◌⊎◌, ◌==◌, [], ◌∷◌, ◌++◌, length, filter, map, zip, Some, true, not, IfOk, IfErr, OnOk, OnErr, IsTrue, slice_set};
+ghost use Rattle.std.specs.Prelude.{◌≡◌, ◌+◌, ◌-◌, ◌<◌, ◌↔◌, ◌⊎◌, ◌==◌, ℕ, List, [], ◌∷◌, ◌++◌, length, filter, map, zip, Some, true, not, IfOk, IfErr, OnOk, OnErr, IsTrue, slice_set};
 ghost use Rattle.std.specs.Ordering.{nat_cmp};
 ghost use Rattle.std.specs.List.{FoldsTo, last_or};
 ghost use Rattle.std.specs.Option.{MatchOption, option_copied};
@@ -82,6 +82,8 @@ where
         ≡ after_insert I.Key.cmp I.INSERT_FIRST (after_remove I.Key.cmp (I.view index.old) key.now) key.now value) }
     ensures refused { OnErr result ((I.view index.new ≡ I.view index.old)
         ⊎ (I.view index.new ≡ after_remove I.Key.cmp (I.view index.old) key.now)) }
+    ensures filed { (keys : I.Value → List ℕ) → keys value ≡ key.now
+        → IsFiledIn keys I.Key.cmp (I.view index.old) → OnOk result (IsFiledIn keys I.Key.cmp (I.view index.new)) }
 {
     index.remove(key)?;
     index.insert(key, value)?;

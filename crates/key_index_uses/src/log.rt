@@ -3,6 +3,7 @@ ghost use Rattle.std.specs.Prelude.{◌≡◌, refl, IfErr, IfOk};
 ghost use Rattle.std.specs.Option.{option_copied};
 ghost use Rattle.key_index_flat.specs.FullKeys.{FailsOn, IsFiledIn, IsFullGap, first_with, gap_copied};
 ghost use Rattle.key_index_flat.specs.Values.{values_of};
+ghost use Rattle.key_index_flat.specs.View.{run_of};
 ghost use Rattle.key_index_uses.specs.Log.{IsMissing, key_in};
 
 use key_index_flat::index::{Ordered, Records, Unordered, absent, find_record};
@@ -24,7 +25,7 @@ impl<'a, 'l> Records<'a, u64> for Log<'l> {
 
     type Error = Missing;
 
-    ghost full_key = { λ log position. key_in log.keys.now position };
+    ghost agrees = { λ log keys. keys ≡ key_in log.keys.now };
 
     ghost reads = { λ before after. after.keys.now ≡ before.keys.now };
 
@@ -34,7 +35,7 @@ impl<'a, 'l> Records<'a, u64> for Log<'l> {
 
     ghost reads_both = { λ _ _ _ first second. second ∙ first };
 
-    ghost stays = { λ _ _ same _. (tt, ap key_in same) };
+    ghost agreed = { λ _ _ _ same agrees. agrees ∙ ap key_in same };
 
     fn key_of(&mut self, position: &'a u64) -> Result<&'l [u8], Missing> {
         match self.keys.get(*position as usize) {
@@ -45,7 +46,7 @@ impl<'a, 'l> Records<'a, u64> for Log<'l> {
 }
 
 /// The position of the first record with a key, over any index whose positions were inserted under their records' keys. It fails only
-/// where the index has a position that the log lacks.
+/// where the list of the key has a position that the log lacks.
 pub fn position<'a, I: Unordered<Value = u64>>(
     index: &'a I,
     keys: &[Vec<u8>],
@@ -54,7 +55,7 @@ pub fn position<'a, I: Unordered<Value = u64>>(
     ensures first { IsFiledIn (key_in keys.now) I.Key.cmp (I.view index.now) → IfOk result (λ found.
         option_copied found ≡ first_with (key_in keys.now) key.now (values_of (I.view index.now).content)) }
     ensures missing { IfErr result
-        (FailsOn (λ position _. IsMissing keys.now position) (values_of (I.view index.now).content)) }
+        (FailsOn (λ position _. IsMissing keys.now position) (run_of I.Key.cmp (I.view index.now) key.now)) }
 {
     find_record(index, &mut Log { keys }, key)
 }

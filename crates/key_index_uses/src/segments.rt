@@ -1,5 +1,5 @@
 //! An archive: a log of records in segments of equal length, whose oldest segments are dropped.
-ghost use Rattle.std.specs.Prelude.{◌≡◌, ℕ, ◌*◌, ◌^◌, ◌<◌, None, false, map, All, IfOk, IfSome, IsTrue, OnErr};
+ghost use Rattle.std.specs.Prelude.{◌≡◌, ℕ, ◌*◌, ◌^◌, ◌<◌, None, Some, false, List, map, slice_get, All, IfOk, IfSome, IsTrue, OnOk, OnErr};
 ghost use Rattle.std.specs.List.{Contains};
 ghost use Rattle.key_index.specs.Immutable.{end_of, key_at, ArePositions};
 ghost use Rattle.key_index.specs.Marks.{IsInserted, IsPruned};
@@ -56,6 +56,7 @@ impl<T: Translator> SegmentedLog<T> {
         ensures empty { IfOk result (λ s. (p : _) → key_at s p ≡ None) }
         ensures end { IfOk result (λ s. end_of s ≡ 0) }
         ensures translator { IfOk result (λ s. s.translator ≡ translator) }
+        ensures filed { IfOk result (λ s. (log : List (List ℕ)) → IsLogOf T.translated s log) }
     {
         let index = Index::new(alloc, translator, 0, SEGMENT as usize)?;
         Ok(SegmentedLog { index, next: 0 })
@@ -66,6 +67,8 @@ impl<T: Translator> SegmentedLog<T> {
         ensures position { IfOk result (λ p. p ≡ end_of self.old) }
         ensures appended { IfOk result (λ p. IsInserted p (T.translated self.old.translator key.now)
             self.old self.new) }
+        ensures filed { (log : List (List ℕ)) → IsLogOf T.translated self.old log
+            → slice_get log (end_of self.old) ≡ Some key.now → OnOk result (IsLogOf T.translated self.new log) }
         ensures refused { OnErr result (self.new ≡ self.old) }
     {
         let Some(next) = self.next.checked_add(1) else {
@@ -80,7 +83,8 @@ impl<T: Translator> SegmentedLog<T> {
     /// Drops all segments in front of one: no record of theirs is found any more, and every other as before. Takes no memory.
     pub fn drop_front(&mut self, segment: u64)
         requires { segment * 4096 < 2 ^ 64 }
-        ensures { IsPruned (segment * 4096) self.old self.new }
+        ensures pruned { IsPruned (segment * 4096) self.old self.new }
+        ensures filed { (log : List (List ℕ)) → IsLogOf T.translated self.old log → IsLogOf T.translated self.new log }
     {
         let start = segment * SEGMENT;
         self.index.prune(start);
@@ -98,7 +102,7 @@ impl<T: Translator> SegmentedLog<T> {
     /// which has the records' keys by position, which one does. `None` where no such record has it.
     pub fn find(&self, log: &[&[u8]], key: &[u8]) -> Option<u64>
         ensures found { IfSome result (λ p. IsTrue (has_record self.now (map (λ key. key.now) log.now) key.now p)) }
-        ensures none { IsLogOf (T.translated self.now.translator) self.now (map (λ key. key.now) log.now)
+        ensures none { IsLogOf T.translated self.now (map (λ key. key.now) log.now)
             → result ≡ None → (p : ℕ) → has_record self.now (map (λ key. key.now) log.now) key.now p ≡ false }
     {
         confirmed(self.index.get(key), log, key)

@@ -324,8 +324,8 @@ least_own cmp [] other v least = let none = ap (λ l. length l) least.2 in let s
 least_own cmp (x ∷ xs) other v least = least
 
 -- what a reader gave of the other list, where its own list had none
-pub least_other : {V E : Type 0} (order : (V → List ℕ) → V → V → Ordering) (keys then : V → List ℕ) (own found other : List V) (r : Result (Option (Bor V)) E) → then ≡ keys → own ≡ [] → found ≡ other
-    → IfOk r (λ o. IsLeast (order then) found (option_copied o)) → IfOk r (λ o. IsLeast (order keys) (or_list own other) (option_copied o))
-least_other order keys then own found other r same none is h =
-    subst (λ l. IfOk r (λ o. IsLeast (order keys) (or_list l other) (option_copied o))) (sym none)
-    (subst (λ l. IfOk r (λ o. IsLeast (order keys) l (option_copied o))) is (subst (λ k. IfOk r (λ o. IsLeast (order k) found (option_copied o))) same h))
+pub least_other : {V E : Type 0} (cmp : V → V → Ordering) (own found other : List V) (r : Result (Option (Bor V)) E) → own ≡ [] → found ≡ other
+    → IfOk r (λ o. IsLeast cmp found (option_copied o)) → IfOk r (λ o. IsLeast cmp (or_list own other) (option_copied o))
+least_other cmp own found other r none is h =
+    subst (λ l. IfOk r (λ o. IsLeast cmp (or_list l other) (option_copied o))) (sym none)
+    (subst (λ l. IfOk r (λ o. IsLeast cmp l (option_copied o))) is h)

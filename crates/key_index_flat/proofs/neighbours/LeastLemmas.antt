@@ -3,6 +3,7 @@
 --     IsLeast-front, IsLeast-back                 a list of greater values behind, and in front
 --     least_has                                   what holds of each value holds of the least
 --     is_lt-same_keys, told_before                what a test of two keys told, and what `<` of them by `PartialOrd` did
+--     not_below, not_above                        a key that is above another isn't below it; one that is neither another nor above it is below it
 --     filter_push_passes, filter_push_fails       one more value that passes a filter, and one that doesn't
 use Rattle.std.proofs.Common.{◌≡◌, ℕ, Bool, true, false, cond, List, [], ◌∷◌, ◌++◌, map, Some, All, append_assoc, append-nil, refl, sym, ap, subst, ◌∙◌}
 use Rattle.std.proofs.lemmas.List.{map-append}
@@ -10,11 +11,13 @@ use Rattle.std.specs.List.{filter}
 use Rattle.std.proofs.lemmas.List.Elements.{filter-append, All-nil, All-cons, All-head, All-tail, All-append, All-push, All-weaker}
 use Rattle.std.specs.declared.cmp.Ordering.{Ordering}
 use Rattle.std.specs.declared.cmp.Ordering.TheVariants.{Less, Equal, Greater}
-use Rattle.std.specs.Ordering.{is_gt, is_lt, is_some_and, nat_cmp, ordering_reverse}
-use Rattle.std.specs.Cmp.Lexicographic.{slice_cmp, slice_partial_cmp, lists_agrees}
+use Rattle.std.specs.Ordering.{is_eq, is_gt, is_lt, is_some_and, nat_cmp, ordering_reverse}
+use Rattle.std.proofs.lemmas.Bool.{false≢true}
+use Rattle.std.specs.Str.{bytes_eq}
+use Rattle.std.specs.Cmp.Lexicographic.{nat_list_cmp_total, slice_cmp, slice_partial_cmp, lists_agrees, texts_ties}
 use Rattle.std.specs.Cmp.{IsTotalOrder, alike_right}
 use Rattle.std.specs.BTreeMap.Range.{IsLeBy}
-use Rattle.key_index_flat.specs.FullKeys.{IsLeast}
+use Rattle.key_index_flat.specs.FullKeys.{IsLeast, byte_cmp}
 
 module _ {V : Type 0} {cmp : V → V → Ordering} (o : IsTotalOrder cmp) where
   pub le_by_less : (v w : V) → cmp v w ≡ Less → IsLeBy cmp v w
@@ -65,6 +68,21 @@ is_lt-same_keys cmp a b p q r is first second = (λ i. is_lt (cmp (sym first i) 
 -- what `<` of two keys by `PartialOrd` told, by their order
 pub told_before : (a b : List ℕ) (r : Bool) → r ≡ is_some_and is_lt (slice_partial_cmp (λ m n. Some (nat_cmp m n)) a b) → r ≡ is_lt (slice_cmp nat_cmp a b)
 told_before a b r said = said ∙ ap (is_some_and is_lt) (lists_agrees {R = nat_cmp} {C = λ m n. Some (nat_cmp m n)} (λ m n. refl) a b)
+
+module _ (a b : List ℕ) where
+  pub not_below : is_lt (byte_cmp a b) ≡ true → is_lt (byte_cmp b a) ≡ false
+  not_below above =
+      ap is_lt (nat_list_cmp_total.antisymm b a)
+      ∙ elim (byte_cmp a b) as (λ r. is_lt r ≡ true → is_lt (ordering_reverse r) ≡ false) [ Less ↦ λ _. refl | Equal ↦ λ e. cc | Greater ↦ λ e. cc ] above
+
+  pub not_above : bytes_eq b a ≡ false → is_lt (byte_cmp a b) ≡ false → is_lt (byte_cmp b a) ≡ true
+  not_above other low =
+      ap is_lt (nat_list_cmp_total.antisymm b a)
+      ∙ elim (byte_cmp a b) as (λ r. byte_cmp a b ≡ r → is_lt r ≡ false → is_lt (ordering_reverse r) ≡ true) [
+        | Less ↦ λ _ e. cc
+        | Equal ↦ λ tied e. absurd (false≢true (sym other ∙ texts_ties b a ∙ ap is_eq (nat_list_cmp_total.antisymm b a ∙ ap ordering_reverse tied)))
+        | Greater ↦ λ _ e. refl
+      ] refl low
 
 -- one more value, which passes a filter or doesn't
 module _ {X Y : Type 0} (p : Y → Bool) (f : X → Y) (xs : List X) (x : X) where

@@ -3,16 +3,17 @@ ghost use Rattle.std.specs.Prelude.{◌≡◌, [], true, false, refl, IsOk, IfOk
 ghost use Rattle.key_index_flat.specs.Content.{IsLawful};
 ghost use Rattle.key_index_flat.specs.Storage.{view_of};
 
-use super::implement::{Lists, show_by_key, visit_by_key};
+use super::implement::{Lists, show_by_key, show_counts, visit_by_key};
 use super::storage::Storage;
 use super::storage::tree_key::TreeMap;
 use super::{Factory, Fault, IndexCursor, Ordered, Refused, Runs, Search, Unordered, Values};
 use crate::translator::{OrderedTranslator, Translator};
 use std::alloc::Global;
 use std::convert::AsSlice;
+use std::fmt;
 
 /// An index over an ordered map from translated key to newest value, and a hashed one from translated key to the older values of the
-/// keys that have any. An entry without collisions costs its translated key and its value alone.
+/// keys that have any. So a key with one value is in the first alone.
 ///
 /// `insert` puts a value in front of those of its key. `remove` takes no memory and never refuses. Over a translator that keeps the
 /// order of bytes it also gives the neighbours of a key: each by a number of comparisons that is logarithmic in the keys.
@@ -239,6 +240,13 @@ impl<T: OrderedTranslator, V: Drop> Ordered for Index<T, V> {
     #[inline]
     fn last_translated_key(&self) -> Option<Values<'_, V>> {
         self.storage.last()
+    }
+}
+
+impl<T: Translator, V: Drop> fmt::Debug for Index<T, V> {
+    /// Shows how many keys and values it holds and how many were removed.
+    fn fmt<W: fmt::Write>(&self, f: &mut fmt::Formatter<W>) -> fmt::Result {
+        show_counts(self, "Index", f)
     }
 }
 

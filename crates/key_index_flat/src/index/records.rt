@@ -6,7 +6,7 @@ ghost use Rattle.std.specs.declared.cmp.Ordering.{Ordering};
 ghost use Rattle.std.specs.Ordering.{is_lt, on, flip_args};
 ghost use Rattle.std.specs.Cmp.{IsTotalOrder, back_total};
 ghost use Rattle.std.specs.Cmp.Lexicographic.{nat_list_cmp_total};
-ghost use Rattle.key_index_flat.specs.FullKeys.{FailsOn, IsFiledIn, IsFirstCandidate, IsFullFirst, IsFullGap, IsFullLast, IsFullNext, IsFullPrev, IsGapIn, IsLastCandidate, IsLeast, IsLeastRead, IsNextIn, IsPrevIn, byte_cmp, first_with, gap_copied, unflagged};
+ghost use Rattle.key_index_flat.specs.FullKeys.{AsRead, FailsOn, IsFiledIn, IsFirstCandidate, IsFullFirst, IsFullGap, IsFullLast, IsFullNext, IsFullPrev, IsGapAmong, IsGapIn, IsLastCandidate, IsLeast, IsLeastRead, IsNextIn, IsPrevIn, above, below, byte_cmp, cmp_keys, first_with, gap_copied, unflagged};
 ghost use Rattle.key_index_flat.specs.Values.{values_of};
 ghost use Rattle.key_index_flat.specs.View.{run_of};
 
@@ -15,19 +15,18 @@ use std::convert::AsSlice;
 
 /// Reads the full keys of values from their records.
 ///
-/// `full_key` are the keys that the records have. A reader is `sound` while each of its reads gave what the records have: one whose
-/// device may answer wrongly is not sound after a wrong answer, and nothing is told of what it then read. `reads` relates it before
-/// and after any number of reads, whether or not they fail, and `fails` tells why one may fail.
+/// A reader `agrees` with an assignment of full keys to values while each of its reads gave what that one assigns, and what is told of
+/// the keys is told by each assignment with which it still agrees. So one whose device answered wrongly may agree with none, and
+/// nothing is told of what it then read. `reads` relates a reader before and after any number of reads, whether or not they fail, and
+/// `fails` tells why one may fail.
 pub trait Records<'a, V> {
     type Key: AsSlice<u8> + Drop;
 
     type Error: Drop;
 
-    ghost full_key: { Self → V → List ℕ };
+    ghost agrees: { Self → (V → List ℕ) → Type 0 };
 
     ghost reads: { Self → Self → Type 0 };
-
-    ghost sound: { Self → Type 0 } = { λ _. Unit {0} };
 
     ghost fails: { Self → V → Self.Error → Type 0 } = { λ _ _ _. Unit {0} };
 
@@ -35,11 +34,11 @@ pub trait Records<'a, V> {
 
     ghost reads_both: { (x y z : Self) → reads x y → reads y z → reads x z };
 
-    ghost stays: { (x y : Self) → reads x y → sound y → sound x × (full_key y ≡ full_key x) };
+    ghost agreed: { (x y : Self) (keys : V → List ℕ) → reads x y → agrees y keys → agrees x keys };
 
     /// The full key of a value's record.
     fn key_of(&mut self, value: &'a V) -> Result<Self::Key, Self::Error>
-        ensures key { sound self.new → IfOk result (λ key. Self.Key.items key ≡ full_key self.old value.now) }
+        ensures key { AsRead (agrees self.new) (λ keys. IfOk result (λ key. Self.Key.items key ≡ keys value.now)) }
         ensures reads { reads self.old self.new }
         ensures fault { IfErr result (fails self.new value.now) };
 }
@@ -120,8 +119,8 @@ fn nearest<'a, S: Side, V, R: Records<'a, V>>(
     values: Values<'a, V>,
     records: &mut R,
 ) -> Result<Option<&'a V>, R::Error>
-    ensures nearest { R.sound records.new → IfOk result (λ o.
-        IsLeast (on (R.full_key records.old) S.cmp) values.entry (option_copied o)) }
+    ensures nearest { AsRead (R.agrees records.new) (λ keys. IfOk result (λ o.
+        IsLeast (on keys S.cmp) values.entry (option_copied o))) }
     ensures reads { R.reads records.old records.new }
     ensures fault { IfErr result (FailsOn (R.fails records.new) values.entry) }
 {
@@ -139,8 +138,8 @@ fn nearest_beyond<'a, S: Side, V, R: Records<'a, V>>(
     records: &mut R,
     key: &[u8],
 ) -> Result<Option<&'a V>, R::Error>
-    ensures nearest { let keys = R.full_key records.old in R.sound records.new → IfOk result (λ o.
-        IsLeast (on keys S.cmp) (filter (λ v. is_lt (S.cmp key.now (keys v))) values.entry) (option_copied o)) }
+    ensures nearest { AsRead (R.agrees records.new) (λ keys. IfOk result (λ o.
+        IsLeast (on keys S.cmp) (filter (λ v. is_lt (S.cmp key.now (keys v))) values.entry) (option_copied o))) }
     ensures reads { R.reads records.old records.new }
     ensures fault { IfErr result (FailsOn (R.fails records.new) values.entry) }
 {
@@ -154,13 +153,41 @@ fn nearest_beyond<'a, S: Side, V, R: Records<'a, V>>(
     Ok(without_key(nearest))
 }
 
+/// The first of the values with the greatest full key below a key and of those with the least one above it. `None` where one of the
+/// values has the key.
+fn nearest_beside<'a, V, R: Records<'a, V>>(
+    values: Values<'a, V>,
+    records: &mut R,
+    key: &[u8],
+) -> Result<Option<(Option<&'a V>, Option<&'a V>)>, R::Error>
+    ensures beside { AsRead (R.agrees records.new) (λ keys. IfOk result (λ gap.
+        IsGapAmong keys key.now values.entry (gap_copied gap))) }
+    ensures reads { R.reads records.old records.new }
+    ensures fault { IfErr result (FailsOn (R.fails records.new) values.entry) }
+{
+    let mut below = None;
+    let mut above = None;
+    for value in values {
+        let full_key = records.key_of(value)?;
+        if full_key.as_slice() == key {
+            return Ok(None);
+        }
+        if Above::is_before(key, full_key.as_slice()) {
+            above = nearer::<Above, _, _>(above, value, full_key);
+        } else {
+            below = nearer::<Below, _, _>(below, value, full_key);
+        }
+    }
+    Ok(Some((without_key(below), without_key(above))))
+}
+
 /// The first of the nearest values of a list, if there is one.
 fn nearest_if_any<'a, S: Side, V, R: Records<'a, V>>(
     list: Option<Values<'a, V>>,
     records: &mut R,
 ) -> Result<Option<&'a V>, R::Error>
-    ensures nearest { R.sound records.new → IfOk result (λ o.
-        IsLeast (on (R.full_key records.old) S.cmp) (unwrap_or list.entry []) (option_copied o)) }
+    ensures nearest { AsRead (R.agrees records.new) (λ keys. IfOk result (λ o.
+        IsLeast (on keys S.cmp) (unwrap_or list.entry []) (option_copied o))) }
     ensures reads { R.reads records.old records.new }
     ensures fault { IfErr result (FailsOn (R.fails records.new) (unwrap_or list.entry [])) }
 {
@@ -175,8 +202,8 @@ fn nearest_unflagged<'a, S: Side, V, R: Records<'a, V>>(
     found: Option<(Values<'a, V>, bool)>,
     records: &mut R,
 ) -> Result<Option<&'a V>, R::Error>
-    ensures nearest { R.sound records.new → IfOk result (λ o.
-        IsLeast (on (R.full_key records.old) S.cmp) (unflagged found.entry) (option_copied o)) }
+    ensures nearest { AsRead (R.agrees records.new) (λ keys. IfOk result (λ o.
+        IsLeast (on keys S.cmp) (unflagged found.entry) (option_copied o))) }
     ensures reads { R.reads records.old records.new }
     ensures fault { IfErr result (FailsOn (R.fails records.new) (unflagged found.entry)) }
 {
@@ -192,8 +219,8 @@ fn first_record_with<'a, V, R: Records<'a, V>>(
     records: &mut R,
     key: &[u8],
 ) -> Result<Option<&'a V>, R::Error>
-    ensures first { R.sound records.new → IfOk result (λ o.
-        option_copied o ≡ first_with (R.full_key records.old) key.now values.entry) }
+    ensures first { AsRead (R.agrees records.new) (λ keys. IfOk result (λ o.
+        option_copied o ≡ first_with keys key.now values.entry)) }
     ensures reads { R.reads records.old records.new }
     ensures fault { IfErr result (FailsOn (R.fails records.new) values.entry) }
 {
@@ -215,33 +242,33 @@ pub fn find_record<'a, I: Unordered, R: Records<'a, I::Value>>(
     records: &mut R,
     key: &[u8],
 ) -> Result<Option<&'a I::Value>, R::Error>
-    ensures candidate { R.sound records.new → IfOk result (λ o. option_copied o
-        ≡ first_with (R.full_key records.old) key.now (run_of I.Key.cmp (I.view index.now) key.now)) }
-    ensures filed { R.sound records.new → IsFiledIn (R.full_key records.old) I.Key.cmp (I.view index.now)
-        → IfOk result (λ o.
-        option_copied o ≡ first_with (R.full_key records.old) key.now (values_of (I.view index.now).content)) }
+    ensures candidate { AsRead (R.agrees records.new) (λ keys. IfOk result (λ o.
+        option_copied o ≡ first_with keys key.now (run_of I.Key.cmp (I.view index.now) key.now))) }
+    ensures filed { AsRead (R.agrees records.new) (λ keys. IsFiledIn keys I.Key.cmp (I.view index.now) → IfOk result (λ o.
+        option_copied o ≡ first_with keys key.now (values_of (I.view index.now).content))) }
     ensures reads { R.reads records.old records.new }
-    ensures fault { IfErr result (FailsOn (R.fails records.new) (values_of (I.view index.now).content)) }
+    ensures fault { IfErr result (FailsOn (R.fails records.new) (run_of I.Key.cmp (I.view index.now) key.now)) }
 {
     first_record_with(index.get(key), records, key)
 }
 
-/// The least of the values above a key in its own list. Where none is above, the least of the next list, unless that one is found
-/// by cycling.
-fn next_candidate<'a, I: Ordered, R: Records<'a, I::Value>>(
+/// The least of the values above a key in its own list, if it is given. Else the least of the next list, unless that one is found by
+/// cycling.
+fn own_or_next<'a, I: Ordered, R: Records<'a, I::Value>>(
     index: &'a I,
     records: &mut R,
     key: &[u8],
+    own: Option<&'a I::Value>,
 ) -> Result<Option<&'a I::Value>, R::Error>
-    ensures candidate { R.sound records.new → IfOk result (λ o.
-        IsNextIn (R.full_key records.old) I.Key.cmp (I.view index.now) key.now (option_copied o)) }
+    ensures candidate { AsRead (R.agrees records.new) (λ keys.
+        IsLeast (cmp_keys keys) (above keys key.now (run_of I.Key.cmp (I.view index.now) key.now)) (option_copied own.entry)
+        → IfOk result (λ o. IsNextIn keys I.Key.cmp (I.view index.now) key.now (option_copied o))) }
     ensures reads { R.reads records.old records.new }
     ensures fault { IfErr result (FailsOn (R.fails records.new) (values_of (I.view index.now).content)) }
 {
-    match nearest_beyond::<Above, _, _>(index.get(key), records, key) {
-        Ok(None) => nearest_unflagged::<Above, _, _>(index.next_translated_key(key), records),
-        Ok(Some(value)) => Ok(Some(value)),
-        Err(error) => Err(error),
+    match own {
+        Some(value) => Ok(Some(value)),
+        None => nearest_unflagged::<Above, _, _>(index.next_translated_key(key), records),
     }
 }
 
@@ -257,32 +284,34 @@ pub fn next_record<'a, I: Ordered, R: Records<'a, I::Value>>(
     records: &mut R,
     key: &[u8],
 ) -> Result<Option<&'a I::Value>, R::Error>
-    ensures candidate { R.sound records.new → IfOk result (λ o.
-        IsNextIn (R.full_key records.old) I.Key.cmp (I.view index.now) key.now (option_copied o)) }
-    ensures filed { R.sound records.new → IsFiledIn (R.full_key records.old) I.Key.cmp (I.view index.now)
-        → IfOk result (λ o. IsFullNext (R.full_key records.old) (I.view index.now).content key.now (option_copied o)) }
+    ensures candidate { AsRead (R.agrees records.new) (λ keys. IfOk result (λ o.
+        IsNextIn keys I.Key.cmp (I.view index.now) key.now (option_copied o))) }
+    ensures filed { AsRead (R.agrees records.new) (λ keys. IsFiledIn keys I.Key.cmp (I.view index.now)
+        → IfOk result (λ o. IsFullNext keys (I.view index.now).content key.now (option_copied o))) }
     ensures reads { R.reads records.old records.new }
     ensures fault { IfErr result (FailsOn (R.fails records.new) (values_of (I.view index.now).content)) }
 {
-    next_candidate(index, records, key)
+    let own = nearest_beyond::<Above, _, _>(index.get(key), records, key)?;
+    own_or_next(index, records, key, own)
 }
 
-/// The greatest of the values below a key in its own list. Where none is below, the greatest of the previous list, unless that one
-/// is found by cycling.
-fn prev_candidate<'a, I: Ordered, R: Records<'a, I::Value>>(
+/// The greatest of the values below a key in its own list, if it is given. Else the greatest of the previous list, unless that one is found by
+/// cycling.
+fn own_or_prev<'a, I: Ordered, R: Records<'a, I::Value>>(
     index: &'a I,
     records: &mut R,
     key: &[u8],
+    own: Option<&'a I::Value>,
 ) -> Result<Option<&'a I::Value>, R::Error>
-    ensures candidate { R.sound records.new → IfOk result (λ o.
-        IsPrevIn (R.full_key records.old) I.Key.cmp (I.view index.now) key.now (option_copied o)) }
+    ensures candidate { AsRead (R.agrees records.new) (λ keys.
+        IsLeast (flip_args (cmp_keys keys)) (below keys key.now (run_of I.Key.cmp (I.view index.now) key.now)) (option_copied own.entry)
+        → IfOk result (λ o. IsPrevIn keys I.Key.cmp (I.view index.now) key.now (option_copied o))) }
     ensures reads { R.reads records.old records.new }
     ensures fault { IfErr result (FailsOn (R.fails records.new) (values_of (I.view index.now).content)) }
 {
-    match nearest_beyond::<Below, _, _>(index.get(key), records, key) {
-        Ok(None) => nearest_unflagged::<Below, _, _>(index.prev_translated_key(key), records),
-        Ok(Some(value)) => Ok(Some(value)),
-        Err(error) => Err(error),
+    match own {
+        Some(value) => Ok(Some(value)),
+        None => nearest_unflagged::<Below, _, _>(index.prev_translated_key(key), records),
     }
 }
 
@@ -298,14 +327,15 @@ pub fn prev_record<'a, I: Ordered, R: Records<'a, I::Value>>(
     records: &mut R,
     key: &[u8],
 ) -> Result<Option<&'a I::Value>, R::Error>
-    ensures candidate { R.sound records.new → IfOk result (λ o.
-        IsPrevIn (R.full_key records.old) I.Key.cmp (I.view index.now) key.now (option_copied o)) }
-    ensures filed { R.sound records.new → IsFiledIn (R.full_key records.old) I.Key.cmp (I.view index.now)
-        → IfOk result (λ o. IsFullPrev (R.full_key records.old) (I.view index.now).content key.now (option_copied o)) }
+    ensures candidate { AsRead (R.agrees records.new) (λ keys. IfOk result (λ o.
+        IsPrevIn keys I.Key.cmp (I.view index.now) key.now (option_copied o))) }
+    ensures filed { AsRead (R.agrees records.new) (λ keys. IsFiledIn keys I.Key.cmp (I.view index.now)
+        → IfOk result (λ o. IsFullPrev keys (I.view index.now).content key.now (option_copied o))) }
     ensures reads { R.reads records.old records.new }
     ensures fault { IfErr result (FailsOn (R.fails records.new) (values_of (I.view index.now).content)) }
 {
-    prev_candidate(index, records, key)
+    let own = nearest_beyond::<Below, _, _>(index.get(key), records, key)?;
+    own_or_prev(index, records, key, own)
 }
 
 /// The values next to a full key that no value has, below and above: `None` where one has the key. Of a side on which no full key is
@@ -313,28 +343,25 @@ pub fn prev_record<'a, I: Ordered, R: Records<'a, I::Value>>(
 ///
 /// Whatever the index holds, no value in the key's own list has it, and the two are those that `prev_record` and `next_record` give.
 ///
-/// Reads the values of the own list up to three times, and those of one list on each side. An error of the reader ends it, and is
-/// handed on.
+/// Reads the values of one list to three, each once. An error of the reader ends it, and is handed on.
 pub fn absent<'a, I: Ordered, R: Records<'a, I::Value>>(
     index: &'a I,
     records: &mut R,
     key: &[u8],
 ) -> Result<Option<(Option<&'a I::Value>, Option<&'a I::Value>)>, R::Error>
-    ensures candidate { R.sound records.new → IfOk result (λ gap.
-        IsGapIn (R.full_key records.old) I.Key.cmp (I.view index.now) key.now (gap_copied gap)) }
-    ensures filed { R.sound records.new → IsFiledIn (R.full_key records.old) I.Key.cmp (I.view index.now)
-        → IfOk result (λ gap. IsFullGap (R.full_key records.old) (I.view index.now).content key.now (gap_copied gap)) }
+    ensures candidate { AsRead (R.agrees records.new) (λ keys. IfOk result (λ gap.
+        IsGapIn keys I.Key.cmp (I.view index.now) key.now (gap_copied gap))) }
+    ensures filed { AsRead (R.agrees records.new) (λ keys. IsFiledIn keys I.Key.cmp (I.view index.now)
+        → IfOk result (λ gap. IsFullGap keys (I.view index.now).content key.now (gap_copied gap))) }
     ensures reads { R.reads records.old records.new }
     ensures fault { IfErr result (FailsOn (R.fails records.new) (values_of (I.view index.now).content)) }
 {
-    match find_record(index, records, key)? {
-        Some(_) => Ok(None),
-        None => {
-            let below = prev_record(index, records, key)?;
-            let above = next_record(index, records, key)?;
-            Ok(Some((below, above)))
-        }
-    }
+    let Some((below, above)) = nearest_beside(index.get(key), records, key)? else {
+        return Ok(None);
+    };
+    let below = own_or_prev(index, records, key, below)?;
+    let above = own_or_next(index, records, key, above)?;
+    Ok(Some((below, above)))
 }
 
 /// The value with the least full key of all, in an index whose values stand under their own full keys. `None` exactly where the
@@ -346,10 +373,10 @@ pub fn first_record<'a, I: Ordered, R: Records<'a, I::Value>>(
     index: &'a I,
     records: &mut R,
 ) -> Result<Option<&'a I::Value>, R::Error>
-    ensures candidate { R.sound records.new → IfOk result (λ o.
-        IsFirstCandidate (R.full_key records.old) (I.view index.now).content (option_copied o)) }
-    ensures filed { R.sound records.new → IsFiledIn (R.full_key records.old) I.Key.cmp (I.view index.now)
-        → IfOk result (λ o. IsFullFirst (R.full_key records.old) (I.view index.now).content (option_copied o)) }
+    ensures candidate { AsRead (R.agrees records.new) (λ keys. IfOk result (λ o.
+        IsFirstCandidate keys (I.view index.now).content (option_copied o))) }
+    ensures filed { AsRead (R.agrees records.new) (λ keys. IsFiledIn keys I.Key.cmp (I.view index.now)
+        → IfOk result (λ o. IsFullFirst keys (I.view index.now).content (option_copied o))) }
     ensures reads { R.reads records.old records.new }
     ensures fault { IfErr result (FailsOn (R.fails records.new) (values_of (I.view index.now).content)) }
 {
@@ -365,10 +392,10 @@ pub fn last_record<'a, I: Ordered, R: Records<'a, I::Value>>(
     index: &'a I,
     records: &mut R,
 ) -> Result<Option<&'a I::Value>, R::Error>
-    ensures candidate { R.sound records.new → IfOk result (λ o.
-        IsLastCandidate (R.full_key records.old) (I.view index.now).content (option_copied o)) }
-    ensures filed { R.sound records.new → IsFiledIn (R.full_key records.old) I.Key.cmp (I.view index.now)
-        → IfOk result (λ o. IsFullLast (R.full_key records.old) (I.view index.now).content (option_copied o)) }
+    ensures candidate { AsRead (R.agrees records.new) (λ keys. IfOk result (λ o.
+        IsLastCandidate keys (I.view index.now).content (option_copied o))) }
+    ensures filed { AsRead (R.agrees records.new) (λ keys. IsFiledIn keys I.Key.cmp (I.view index.now)
+        → IfOk result (λ o. IsFullLast keys (I.view index.now).content (option_copied o))) }
     ensures reads { R.reads records.old records.new }
     ensures fault { IfErr result (FailsOn (R.fails records.new) (values_of (I.view index.now).content)) }
 {

@@ -25,7 +25,7 @@ impl<'a, V: Keyed> Records<'a, V> for OwnKeys {
 
     type Error = Infallible;
 
-    ghost full_key = { λ _ value. V.full_key value };
+    ghost agrees = { λ _ keys. keys ≡ V.full_key };
 
     ghost reads = { λ _ _. Unit {0} };
 
@@ -33,7 +33,7 @@ impl<'a, V: Keyed> Records<'a, V> for OwnKeys {
 
     ghost reads_both = { λ _ _ _ _ _. tt };
 
-    ghost stays = { λ _ _ _ _. (tt, refl) };
+    ghost agreed = { λ _ _ _ _ is. is };
 
     #[inline]
     fn key_of(&mut self, value: &'a V) -> Result<&'a [u8], Infallible> {

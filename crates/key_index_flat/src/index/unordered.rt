@@ -3,16 +3,17 @@ ghost use Rattle.std.specs.Prelude.{◌≡◌, [], true, refl, IsOk, IfOk, IfErr
 ghost use Rattle.key_index_flat.specs.Content.{IsLawful};
 ghost use Rattle.key_index_flat.specs.Storage.{view_of};
 
-use super::implement::{Lists, show_by_place, visit_by_place};
+use super::implement::{Lists, show_by_place, show_counts, visit_by_place};
 use super::storage::Storage;
 use super::{Factory, Fault, IndexCursor, Refused, Runs, Search, Unordered, Values};
 use crate::translator::Translator;
 use key_index_map::map::Map;
 use std::alloc::Global;
 use std::convert::AsSlice;
+use std::fmt;
 
 /// An index over a hashed map from translated key to newest value, and another from translated key to the older values of the keys
-/// that have any. An entry without collisions costs its translated key and its value alone.
+/// that have any. So a key with one value is in the first alone.
 ///
 /// `insert` puts a value in front of those of its key. `remove` takes no memory and never refuses.
 #[derive(Drop)]
@@ -255,6 +256,13 @@ impl<T: Translator, V: Drop> Unordered for Index<T, V> {
     #[inline]
     fn pruned(&self) -> u64 {
         self.storage.pruned()
+    }
+}
+
+impl<T: Translator, V: Drop> fmt::Debug for Index<T, V> {
+    /// Shows how many keys and values it holds and how many were removed.
+    fn fmt<W: fmt::Write>(&self, f: &mut fmt::Formatter<W>) -> fmt::Result {
+        show_counts(self, "Index", f)
     }
 }
 

@@ -5,6 +5,7 @@ ghost use Rattle.std.specs.Iterator.{YieldsFirstRef, item_count};
 ghost use Rattle.key_index_flat.specs.Content.{is_filled};
 ghost use Rattle.key_index_flat.specs.Values.{VisitsInTurn, in_order};
 
+use std::alloc::AllocError;
 use std::marker::Model;
 
 /// An iterator over the values of one key, in list order. It takes no memory, and ends.
@@ -70,6 +71,21 @@ impl<'a, V> Values<'a, V> {
         ensures { result ≡ not (is_filled self.now) }
     {
         self.first.is_none() && self.rest.is_empty()
+    }
+}
+
+impl<'a, V> Clone for Values<'a, V> {
+    ghost is_clone = { λ values clone. clone ≡ values };
+
+    ghost is_infallible = { λ _. Unit {0} };
+
+    #[inline]
+    fn clone(&self) -> Result<Values<'a, V>, AllocError> {
+        Ok(Values {
+            first: self.first,
+            rest: self.rest,
+            from_end: self.from_end,
+        })
     }
 }
 

@@ -6,6 +6,7 @@ ghost use Rattle.key_index_store.specs.Device.{Changes, IsRead, Sees};
 ghost use Rattle.key_index_store.specs.Stored.{EntriesFit, IsCopy, MayRead, compacted, entries_behind, held_by, in_bytes};
 
 use super::find::length_of;
+use super::log::Log;
 use super::{Fault, NotOpened, Store, Tail};
 use crate::device::Device;
 use key_index_flat::index::{Ordered, Unordered};
@@ -22,10 +23,12 @@ fn without_records<C: Device, I: Unordered<Value = u64>>(
     ensures { result ≡ device }
 {
     Store {
-        alloc,
-        device,
+        log: Log {
+            alloc,
+            device,
+            end: 0,
+        },
         index,
-        end: 0,
         tail: Tail::Nothing,
     }
 }
@@ -102,7 +105,7 @@ impl<D: Device, I: Ordered<Value = u64>> Store<D, I> {
                 });
             }
         }
-        let mut copy = without_records(self.alloc, into, index);
+        let mut copy = without_records(self.log.alloc, into, index);
         match self.copy_to(&mut copy) {
             Ok(()) => Ok(copy),
             Err(fault) => Err(NotOpened {

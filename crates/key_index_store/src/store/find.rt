@@ -203,7 +203,7 @@ fn is_whole(bytes: &[u8]) -> bool
 }
 
 /// The value of the record at the front of some bytes, copied.
-fn copy_value(alloc: Global, bytes: &[u8]) -> Result<Vec<u8>, Fault>
+pub(super) fn copy_value(alloc: Global, bytes: &[u8]) -> Result<Vec<u8>, Fault>
     ensures value { (r : Entry) → reading bytes.now ≡ Complete r → IfOk result (λ v. v.items ≡ bytes_of r.value) }
     ensures fault { (r : Entry) → reading bytes.now ≡ Complete r → IfErr result MayRead }
 {

@@ -6,6 +6,9 @@ use key_index_parts::index::partitioned;
 use key_index_uses::callers::{forget, move_to, newest};
 use key_index_uses::log::{gap, position};
 use key_index_uses::segments::SegmentedLog;
+use std::alloc::Global;
+use std::fmt::Debug;
+use std::process::Abort;
 use std::test::Fail;
 
 #[test]
@@ -73,6 +76,74 @@ fn insert_order_and_warmth(rt: HostRuntime) {
         partitioned::ordered::Index::<OneCap, u64, 1>::LOOKUP_WARMS_UPDATE,
         "LOOKUP_WARMS_UPDATE",
     );
+}
+
+/// Whether an index that has two values of one index key says so, and whether a copy of its values has both.
+fn tells_what_it_has<I: Unordered<Value = u64> + Debug>(
+    rt: &impl Abort,
+    alloc: Global,
+    mut index: I,
+) -> Result<(), Fail>
+where
+    I: Drop,
+{
+    reads(
+        rt,
+        format!(in alloc; "{index:?}")?.as_str(),
+        "Index { keys: 0, items: 0, pruned: 0 }",
+    );
+    holds(rt, !index.contains_key(b"\x0b\x02"), "no key is held");
+    for (key, value) in [(b"\x0b\x02\x01", 1), (b"\x0b\x02\x02", 2)] {
+        index.insert(key, value).expect(rt, "insert");
+    }
+    holds(rt, index.contains_key(b"\x0b\x02"), "a key is held");
+    holds(rt, !index.contains_key(b"\x0c\x02"), "another is not");
+    let mut values = index.get(b"\x0b\x02");
+    let first = values.next().copied();
+    let copy = values.clone()?;
+    holds(rt, first.is_some() && copy.len() == 1, "one is left");
+    holds(
+        rt,
+        copy.last().copied() == values.last().copied(),
+        "a copy has it",
+    );
+    reads(
+        rt,
+        format!(in alloc; "{index:?}")?.as_str(),
+        "Index { keys: 1, items: 2, pruned: 0 }",
+    );
+    index.remove(b"\x0b\x02").expect(rt, "remove");
+    reads(
+        rt,
+        format!(in alloc; "{index:?}")?.as_str(),
+        "Index { keys: 0, items: 0, pruned: 2 }",
+    );
+    Ok(())
+}
+
+#[test]
+fn indices_tell_what_they_have(rt: HostRuntime) -> Result<(), Fail> {
+    let alloc = rt.alloc();
+    tells_what_it_has(
+        &rt,
+        alloc,
+        unordered::Index::<OneCap, u64>::new(alloc, OneCap).expect(&rt, "an index"),
+    )?;
+    tells_what_it_has(
+        &rt,
+        alloc,
+        ordered::Index::<OneCap, u64>::new(alloc, OneCap).expect(&rt, "an index"),
+    )?;
+    tells_what_it_has(
+        &rt,
+        alloc,
+        partitioned::unordered::Index::<OneCap, u64, 1>::new(alloc, OneCap).expect(&rt, "an index"),
+    )?;
+    tells_what_it_has(
+        &rt,
+        alloc,
+        partitioned::ordered::Index::<OneCap, u64, 1>::new(alloc, OneCap).expect(&rt, "an index"),
+    )
 }
 
 #[test]

@@ -1,7 +1,7 @@
 //! What the indices have in common: generic code is proved over these traits, by the content of an index alone.
 ghost use Rattle.std.specs.Prelude.{◌≡◌, ◌↔◌, IsTrue, ℕ, ◌-◌, ◌<◌, List, [], Bool, All, IfErr, OnOk, OnErr, IfOk};
 ghost use Rattle.std.specs.Fn.{CalledAt};
-ghost use Rattle.key_index_flat.specs.Content.{key_count};
+ghost use Rattle.key_index_flat.specs.Content.{is_filled, key_count};
 ghost use Rattle.key_index_flat.specs.View.{items_in, run_of, after_insert, after_remove, growth_fault_in, Admits, AlsoAt, InsertsAndRetainsAt, IsWantAt, RetainsAt, StaysBut};
 ghost use Rattle.key_index_flat.specs.Visits.{InAnyOrder, IsBatch, Visits};
 
@@ -101,6 +101,13 @@ pub trait Unordered: Search {
         ensures { IsTrue result ↔ ((Self.view self.now).content ≡ []) }
     {
         self.keys() == 0
+    }
+
+    /// Whether the key's index key has a value. Takes no memory.
+    final fn contains_key(&self, key: &[u8]) -> bool
+        ensures { result ≡ is_filled (run_of Self.Key.cmp (Self.view self.now) key.now) }
+    {
+        !self.get(key).is_empty()
     }
 
     /// How many values are held, those of all index keys together.

@@ -14,13 +14,14 @@ use super::bucket::spilling::Spilling;
 use super::storage::Storage;
 use super::{PartitionRange, Partitioned, partition_index_and_sub_key, range};
 pub use ahead::{Ahead, same_visits, show_ahead, visit_ahead};
-use key_index_flat::index::implement::{Lists, probes_by_key, visit_by_key};
+use key_index_flat::index::implement::{Lists, probes_by_key, show_counts, visit_by_key};
 use key_index_flat::index::{
     Factory, Fault, IndexCursor, Ordered, Refused, Runs, Search, Unordered, Values,
 };
 use key_index_flat::translator::{OrderedTranslator, Translator};
 use std::alloc::Global;
 use std::convert::AsSlice;
+use std::fmt;
 use together::show_together;
 
 /// At how many values a partition of an index made by `new` spills.
@@ -446,6 +447,13 @@ impl<T: OrderedTranslator, V: Drop, const P: usize> Ordered for Index<T, V, P> {
     #[inline]
     fn last_translated_key(&self) -> Option<Values<'_, V>> {
         self.storage.last()
+    }
+}
+
+impl<T: Translator, V: Drop, const P: usize> fmt::Debug for Index<T, V, P> {
+    /// Shows how many keys and values it holds and how many were removed.
+    fn fmt<W: fmt::Write>(&self, f: &mut fmt::Formatter<W>) -> fmt::Result {
+        show_counts(self, "Index", f)
     }
 }
 

@@ -7,13 +7,14 @@ ghost use Rattle.key_index_parts.specs.Prefix.{partition_count, partition_by, sl
 use super::bucket::chained::Chained;
 use super::storage::Storage;
 use super::{Partitioned, partition_index_and_sub_key, range};
-use key_index_flat::index::implement::{Lists, show_by_place, visit_by_place};
+use key_index_flat::index::implement::{Lists, show_by_place, show_counts, visit_by_place};
 use key_index_flat::index::{
     Factory, Fault, IndexCursor, Refused, Runs, Search, Unordered, Values,
 };
 use key_index_flat::translator::Translator;
 use std::alloc::Global;
 use std::convert::AsSlice;
+use std::fmt;
 
 /// The lists of a flat index for each of `256^P` partitions, whose newest values stand in one array up to 32 keys. The translator
 /// shortens what follows the first `P` bytes of a key.
@@ -231,6 +232,13 @@ impl<T: Translator, V: Drop, const P: usize> Unordered for Index<T, V, P> {
     #[inline]
     fn pruned(&self) -> u64 {
         self.storage.pruned()
+    }
+}
+
+impl<T: Translator, V: Drop, const P: usize> fmt::Debug for Index<T, V, P> {
+    /// Shows how many keys and values it holds and how many were removed.
+    fn fmt<W: fmt::Write>(&self, f: &mut fmt::Formatter<W>) -> fmt::Result {
+        show_counts(self, "Index", f)
     }
 }
 

@@ -4,7 +4,8 @@ use Rattle.std.specs.Result.{is_ok}
 use Rattle.key_index_store.specs.Device.{Sees}
 use Rattle.key_index_store.specs.Record.{Entry, Stops, encoded, entry_of, reading}
 use Rattle.key_index_store.proofs.HeaderLemmas.{on_err_told}
-use Rattle.key_index_store.proofs.ReadLemmas.{on_ok_told, read-then}
+use Rattle.key_index_store.proofs.ReadLemmas.{on_ok_told}
+use Rattle.key_index_store.specs.laws.ReadLaws.{read-then}
 use Rattle.key_index_store.proofs.SalvageLemmas.{copied_all, copied_begun, copied_more, copied_none, copied_on, copied_part, counted_all, front_of, kept_none, scan_at, scan_more, scan_on, some_bytes, spelled_front, told_damaged, told_torn, told_whole, within_rest}
 use Rattle.key_index_store.proofs.salvage.salvage.Goals as goal
 

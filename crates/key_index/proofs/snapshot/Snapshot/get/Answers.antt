@@ -1,4 +1,4 @@
-use Rattle.std.proofs.Common.{sym, ap, ◌∙◌}
+use Rattle.std.proofs.Common.{refl, sym, ap, ◌∙◌}
 use Rattle.std.specs.FinMap.{get}
 use Rattle.std.specs.Option.{option_copied, option_map}
 use Rattle.key_index_flat.specs.Values.{values_of}
@@ -10,7 +10,7 @@ returns-in-Ok-Some g c =
     let key = c.args.key.now in
     let all = values_of (g.I.Runs.view c.self.inside.index).content in
     ap (λ found. option_map (λ r. r.position) (option_copied found)) (sym c.in-Ok-Some.field-0-is)
-    ∙ get-first_with all key (option_copied c.in-Ok-Some.field-0) (c.in-Ok-Some.ensures.filed tt c.self.invariant.filed)
+    ∙ get-first_with all key (option_copied c.in-Ok-Some.field-0) (c.in-Ok-Some.ensures.filed _ refl c.self.invariant.filed)
     ∙ ap (λ m. get m key) c.self.view_is
 
 pub returns-in-Ok-None : goal.returns-in-Ok-None
@@ -18,5 +18,5 @@ returns-in-Ok-None g c =
     let key = c.args.key.now in
     let all = values_of (g.I.Runs.view c.self.inside.index).content in
     ap (λ found. option_map (λ r. r.position) (option_copied found)) (sym c.in-Ok-None.field-0-is)
-    ∙ get-first_with all key (option_copied c.in-Ok-None.field-0) (c.in-Ok-None.ensures.filed tt c.self.invariant.filed)
+    ∙ get-first_with all key (option_copied c.in-Ok-None.field-0) (c.in-Ok-None.ensures.filed _ refl c.self.invariant.filed)
     ∙ ap (λ m. get m key) c.self.view_is

@@ -1,49 +1,67 @@
-use Rattle.std.proofs.Common.{sym, ap, subst, ◌∙◌}
+use Rattle.std.proofs.Common.{◌<◌, None, Some, IsSome, List, Option, Bor, rules, sym, subst, arith, ◌∙◌}
+use Rattle.std.proofs.lemmas.List.Elements.{All-from_get_or}
 use Rattle.std.specs.Option.{option_copied}
-use Rattle.key_index_flat.specs.FullKeys.{IsFiledIn, IsFullNext, IsFullPrev, IsNextIn, IsPrevIn}
+use Rattle.key_index_flat.specs.FullKeys.{FailsOn, IsBytes, IsGapAmong, gap_copied}
+use Rattle.key_index_flat.proofs.neighbours.FullKeyLemmas.{first_with-anywhere, next_of_filed, prev_of_filed}
+use Rattle.key_index_flat.proofs.neighbours.HeldLemmas.{FailsOn-list_at}
 use Rattle.key_index_flat.proofs.index.records.absent.Goals as goal
 
-pub returns-in_err-below-in-None-clause-reads : goal.returns-in_err-below-in-None-clause-reads
-returns-in_err-below-in-None-clause-reads g c =
-    g.R.Records.reads_both c.args.records.now c.find_record.new.records c.prev_record.new.records c.find_record.ensures.reads c.prev_record.ensures.reads
+pub returns-in_err-below-clause-fault : goal.returns-in_err-below-clause-fault
+returns-in_err-below-clause-fault g c =
+    let view = g.I.Runs.view c.args.index.now in
+    let fails = g.R.Records.fails c.nearest_beside.new.records in
+    let error = c.in_err-below.field-0.0 in
+    let may = FailsOn-list_at fails view.content g.I.Key.Ord.cmp (view.slot c.args.key.now) error (subst (λ (l : List g.row.I-Value.Denot). FailsOn fails l error) c.get.ensures c.in_err-below.ensures.fault) in
+    search (rules, may)
 
-pub returns-in_err-above-in-None-clause-reads : goal.returns-in_err-above-in-None-clause-reads
-returns-in_err-above-in-None-clause-reads g c =
+pub returns-in_default-clause-filed : goal.returns-in_default-clause-filed
+returns-in_default-clause-filed g c = λ keys agrees f.
+    let index = c.args.index.now in
+    let view = g.I.Runs.view index in
+    let key = c.args.key.now in
+    let own = subst (λ (gap : Option (Option (Bor g.row.I-Value.Denot) × Option (Bor g.row.I-Value.Denot))). IsGapAmong keys key c.get.result (gap_copied gap)) c.in_default.is (c.in_ok-below.ensures.beside keys agrees) in
+    let here = subst (λ (l : List g.row.I-Value.Denot). IsGapAmong keys key l None) c.get.ensures own in
+    subst (λ (o : Option g.row.I-Value.Denot). IsSome o) (sym (first_with-anywhere g.met.I.Key.Ord.total keys view.slot key view.content (g.met.I.Runs.lawful index).0 f)) here
+
+pub returns-in_err-above-clause-reads : goal.returns-in_err-above-clause-reads
+returns-in_err-above-clause-reads g c =
     let law = g.R.Records in
     let begun = c.args.records.now in
-    let second = c.prev_record.new.records in
-    law.reads_both begun second c.next_record.new.records (law.reads_both begun c.find_record.new.records second c.find_record.ensures.reads c.prev_record.ensures.reads) c.next_record.ensures.reads
+    let second = c.own_or_prev.new.records in
+    law.reads_both begun second c.own_or_next.new.records (law.reads_both begun c.nearest_beside.new.records second c.nearest_beside.ensures.reads c.own_or_prev.ensures.reads) c.own_or_next.ensures.reads
 
-pub returns-in_ok-above-in-None-clause-candidate : goal.returns-in_ok-above-in-None-clause-candidate
-returns-in_ok-above-in-None-clause-candidate g c = λ sound.
+pub returns-clause-candidate : goal.returns-clause-candidate
+returns-clause-candidate g c = λ keys agrees.
     let law = g.R.Records in
-    let view = g.I.Runs.view c.args.index.now in
-    let cmp = g.I.Key.Ord.cmp in
     let key = c.args.key.now in
-    let first = c.find_record.new.records in
-    let second = c.prev_record.new.records in
-    let at_second = law.stays second c.next_record.new.records c.next_record.ensures.reads sound in
-    let at_first = law.stays first second c.prev_record.ensures.reads at_second.0 in
-    let at_begun = law.stays c.args.records.now first c.find_record.ensures.reads at_first.0 in (
-      sym (c.in_ok-find_record.ensures.candidate at_first.0) ∙ ap option_copied c.in-None.is,
-      subst (λ keys. IsPrevIn keys cmp view key (option_copied c.in_ok-below-in-None.below)) at_begun.1 (c.in_ok-below-in-None.ensures.candidate at_second.0),
-      subst (λ keys. IsNextIn keys cmp view key (option_copied c.in_ok-above-in-None.above)) (at_first.1 ∙ at_begun.1) (c.in_ok-above-in-None.ensures.candidate sound),
+    let second = c.own_or_prev.new.records in
+    let at_second = law.agreed second c.own_or_next.new.records keys c.own_or_next.ensures.reads agrees in
+    let at_first = law.agreed c.nearest_beside.new.records second keys c.own_or_prev.ensures.reads at_second in
+    let own = subst (λ (gap : Option (Option (Bor g.row.I-Value.Denot) × Option (Bor g.row.I-Value.Denot))). IsGapAmong keys key c.get.result (gap_copied gap)) c.in-Some.is (c.in_ok-below.ensures.beside keys at_first) in
+    let here = subst (λ (l : List g.row.I-Value.Denot). IsGapAmong keys key l (Some (option_copied c.in-Some.below, option_copied c.in-Some.above))) c.get.ensures own in (
+      here.0,
+      c.in_ok-below-2.ensures.candidate keys at_second here.1,
+      c.in_ok-above.ensures.candidate keys agrees here.2,
     )
 
-pub returns-in_ok-above-in-None-clause-filed : goal.returns-in_ok-above-in-None-clause-filed
-returns-in_ok-above-in-None-clause-filed g c = λ sound filed.
-    let law = g.R.Records in
-    let view = g.I.Runs.view c.args.index.now in
-    let cmp = g.I.Key.Ord.cmp in
+pub returns-clause-filed : goal.returns-clause-filed
+returns-clause-filed g c = λ keys agrees f.
+    let index = c.args.index.now in
+    let view = g.I.Runs.view index in
     let key = c.args.key.now in
-    let first = c.find_record.new.records in
-    let second = c.prev_record.new.records in
-    let at_second = law.stays second c.next_record.new.records c.next_record.ensures.reads sound in
-    let at_first = law.stays first second c.prev_record.ensures.reads at_second.0 in
-    let at_begun = law.stays c.args.records.now first c.find_record.ensures.reads at_first.0 in
-    let filed_first = subst (λ keys. IsFiledIn keys cmp view) (sym at_begun.1) filed in
-    let filed_second = subst (λ keys. IsFiledIn keys cmp view) (sym at_first.1) filed_first in (
-      sym (c.in_ok-find_record.ensures.filed at_first.0 filed) ∙ ap option_copied c.in-None.is,
-      subst (λ keys. IsFullPrev keys view.content key (option_copied c.in_ok-below-in-None.below)) at_begun.1 (c.in_ok-below-in-None.ensures.filed at_second.0 filed_first),
-      subst (λ keys. IsFullNext keys view.content key (option_copied c.in_ok-above-in-None.above)) (at_first.1 ∙ at_begun.1) (c.in_ok-above-in-None.ensures.filed sound filed_second),
+    let bytes : IsBytes key = All-from_get_or (λ n. n < 256) key 0 (λ i within. omega (arith, c.type_inv.key i)) in
+    let total = g.met.I.Key.Ord.total in
+    let order = g.met.I.Ordered.keeps_order index in
+    let lawful = g.met.I.Runs.lawful index in
+    let is = returns-clause-candidate g c keys agrees in (
+      first_with-anywhere total keys view.slot key view.content lawful.0 f ∙ is.0,
+      prev_of_filed total keys view.slot order key bytes view.content (option_copied c.in_ok-below-2.below) lawful f is.1,
+      next_of_filed total keys view.slot order key bytes view.content (option_copied c.in_ok-above.above) lawful f is.2,
     )
+
+pub returns-clause-reads : goal.returns-clause-reads
+returns-clause-reads g c =
+    let law = g.R.Records in
+    let begun = c.args.records.now in
+    let second = c.own_or_prev.new.records in
+    law.reads_both begun second c.own_or_next.new.records (law.reads_both begun c.nearest_beside.new.records second c.nearest_beside.ensures.reads c.own_or_prev.ensures.reads) c.own_or_next.ensures.reads

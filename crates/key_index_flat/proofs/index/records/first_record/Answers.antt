@@ -10,11 +10,10 @@ use Rattle.key_index_flat.proofs.index.records.first_record.Goals as goal
 pub returns-clause-filed : goal.returns-clause-filed
 returns-clause-filed g c =
     let index = c.args.index.now in
-    let keys = g.R.Records.full_key c.args.records.now in
     let content = (g.I.Runs.view index).content in
-    λ sound f. IfOk-weaker c.nearest_if_any.result _ (λ o. IsFullFirst keys content (option_copied o))
+    λ keys agrees f. IfOk-weaker c.nearest_if_any.result _ (λ o. IsFullFirst keys content (option_copied o))
     (λ o is. first_of_filed g.met.I.Key.Ord.total keys (g.I.Runs.view index).slot (g.met.I.Ordered.keeps_order index) content (option_copied o) (g.met.I.Runs.lawful index) f
-    (subst (λ (l : Option (List g.row.I-Value.Denot)). IsLeast (cmp_keys keys) (unwrap_or l []) (option_copied o)) c.first_translated_key.ensures is)) (c.nearest_if_any.ensures.nearest sound)
+    (subst (λ (l : Option (List g.row.I-Value.Denot)). IsLeast (cmp_keys keys) (unwrap_or l []) (option_copied o)) c.first_translated_key.ensures is)) (c.nearest_if_any.ensures.nearest keys agrees)
 
 pub returns-clause-fault : goal.returns-clause-fault
 returns-clause-fault g c =

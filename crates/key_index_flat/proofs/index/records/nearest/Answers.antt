@@ -1,4 +1,4 @@
-use Rattle.std.proofs.Common.{◌∷◌, [], All, ap, refl, subst, sym, map, ◌∙◌}
+use Rattle.std.proofs.Common.{◌∷◌, [], All, refl, subst, sym, map}
 use Rattle.std.proofs.lemmas.List.{map-append}
 use Rattle.std.proofs.lemmas.List.Elements.{All-tail, All-contains_itself}
 use Rattle.std.specs.List.{Contains}
@@ -9,23 +9,20 @@ pub loop-value-init : goal.loop-value-init
 loop-value-init g c = record {
   reads = g.R.Records.reads_nothing c.args.records.now;
   left = subst (All (Contains c.args.values)) (sym c.into_iter-value-iterator.ensures.into_iter_gives) (All-contains_itself c.args.values);
-  least = λ _. (refl, tt);
+  least = λ _ _. (refl, tt);
 }
 
 pub loop-value-preserved : goal.loop-value-preserved
 loop-value-preserved g c =
     let law = g.R.Records in
-    let begun = c.args.records.now in
     let now = c.loop-value.records in
-    let keys = g.R.Records.full_key begun in
     let so_far = c.loop-value.invariant in
     let value = c.in-Some.value in
     record {
-      reads = law.reads_both begun now c.key_of.new.self so_far.reads c.in_ok-key.ensures.reads;
+      reads = law.reads_both c.args.records.now now c.key_of.new.self so_far.reads c.in_ok-key.ensures.reads;
       left = All-tail (Contains c.args.values) value.now c.next.new.self (subst (All (Contains c.args.values)) c.in-Some.ensures.steps so_far.left);
-      least = λ sound.
-          let before = law.stays now c.key_of.new.self c.in_ok-key.ensures.reads sound in
-          let is_key = c.in_ok-key.ensures.key sound ∙ ap (λ f. f value.now) (law.stays begun now so_far.reads before.0).1 in
+      least = λ keys agrees.
+          let before = law.agreed now c.key_of.new.self keys c.in_ok-key.ensures.reads agrees in
           subst (λ l. IsLeastRead keys g.R.Key.AsSlice.items g.S.Side.cmp l c.nearer-nearest.result) (sym (map-append (λ v. v.now) c.loop-value.yielded (value ∷ [])))
-          (c.nearer-nearest.ensures keys (map (λ v. v.now) c.loop-value.yielded) is_key (so_far.least before.0));
+          (c.nearer-nearest.ensures keys (map (λ v. v.now) c.loop-value.yielded) (c.in_ok-key.ensures.key keys agrees) (so_far.least keys before));
     }

@@ -1,6 +1,6 @@
 use Rattle.std.proofs.Common.{All, map}
 use Rattle.std.specs.List.{Contains}
-use Rattle.key_index_flat.specs.FullKeys.{IsLeastRead}
+use Rattle.key_index_flat.specs.FullKeys.{AsRead, IsLeastRead}
 use Rattle.key_index_flat.proofs.index.records.nearest.Given as goal
 
 -- the nearest of the values so far
@@ -8,6 +8,6 @@ abbrev pub invariant-loop-value : goal.invariant-loop-value
 invariant-loop-value g l = record {
   reads : g.R.Records.reads l.fn.records l.records;
   left : All (Contains l.fn.values) l.value-iterator;
-  least : g.R.Records.sound l.records
-      → IsLeastRead (g.R.Records.full_key l.fn.records) g.R.Key.AsSlice.items g.S.Side.cmp (map (λ value. value.now) l.yielded) l.nearest;
+  least : AsRead (g.R.Records.agrees l.records) (λ keys.
+      IsLeastRead keys g.R.Key.AsSlice.items g.S.Side.cmp (map (λ value. value.now) l.yielded) l.nearest);
 }

@@ -1,4 +1,4 @@
-use Rattle.std.proofs.Common.{true, false, All, ap, refl, sym, subst, map, ◌∙◌}
+use Rattle.std.proofs.Common.{true, false, All, refl, sym, subst, map, ◌∙◌}
 use Rattle.std.proofs.lemmas.List.Elements.{All-tail, All-contains_itself}
 use Rattle.std.specs.List.{Contains, filter}
 use Rattle.std.specs.Ordering.{is_lt}
@@ -10,48 +10,44 @@ pub loop-value-init : goal.loop-value-init
 loop-value-init g c = record {
   reads = g.R.Records.reads_nothing c.args.records.now;
   left = subst (All (Contains c.args.values)) (sym c.into_iter-value-iterator.ensures.into_iter_gives) (All-contains_itself c.args.values);
-  least = λ _. (refl, tt);
+  least = λ _ _. (refl, tt);
 }
 
 pub loop-value-preserved-then-is_before : goal.loop-value-preserved-then-is_before
 loop-value-preserved-then-is_before g c =
     let law = g.R.Records in
-    let begun = c.args.records.now in
     let now = c.loop-value.records in
-    let keys = g.R.Records.full_key begun in
     let cmp = g.S.Side.cmp in
     let key = c.args.key.now in
     let so_far = c.loop-value.invariant in
     let value = c.in-Some.value in
     record {
-      reads = law.reads_both begun now c.key_of.new.self so_far.reads c.in_ok-full_key.ensures.reads;
+      reads = law.reads_both c.args.records.now now c.key_of.new.self so_far.reads c.in_ok-full_key.ensures.reads;
       left = All-tail (Contains c.args.values) value.now c.next.new.self (subst (All (Contains c.args.values)) c.in-Some.ensures.steps so_far.left);
-      least = λ sound.
-          let before = law.stays now c.key_of.new.self c.in_ok-full_key.ensures.reads sound in
-          let is_key = c.in_ok-full_key.ensures.key sound ∙ ap (λ f. f value.now) (law.stays begun now so_far.reads before.0).1 in
+      least = λ keys agrees.
+          let before = law.agreed now c.key_of.new.self keys c.in_ok-full_key.ensures.reads agrees in
+          let is_key = c.in_ok-full_key.ensures.key keys agrees in
           let test = is_lt-same_keys cmp key c.as_slice.result.now key (keys value.now) true c.if-is_before.ensures refl (c.as_slice.ensures ∙ is_key) in
           let more = filter_push_passes (λ v. is_lt (cmp key (keys v))) (λ v. v.now) c.loop-value.yielded value test in
           subst (λ l. IsLeastRead keys g.R.Key.AsSlice.items cmp l c.nearer-nearest.result) (sym more)
-          (c.nearer-nearest.ensures keys (filter (λ v. is_lt (cmp key (keys v))) (map (λ v. v.now) c.loop-value.yielded)) is_key (so_far.least before.0));
+          (c.nearer-nearest.ensures keys (filter (λ v. is_lt (cmp key (keys v))) (map (λ v. v.now) c.loop-value.yielded)) is_key (so_far.least keys before));
     }
 
 pub loop-value-preserved : goal.loop-value-preserved
 loop-value-preserved g c =
     let law = g.R.Records in
-    let begun = c.args.records.now in
     let now = c.loop-value.records in
-    let keys = g.R.Records.full_key begun in
     let cmp = g.S.Side.cmp in
     let key = c.args.key.now in
     let so_far = c.loop-value.invariant in
     let value = c.in-Some.value in
     record {
-      reads = law.reads_both begun now c.key_of.new.self so_far.reads c.in_ok-full_key.ensures.reads;
+      reads = law.reads_both c.args.records.now now c.key_of.new.self so_far.reads c.in_ok-full_key.ensures.reads;
       left = All-tail (Contains c.args.values) value.now c.next.new.self (subst (All (Contains c.args.values)) c.in-Some.ensures.steps so_far.left);
-      least = λ sound.
-          let before = law.stays now c.key_of.new.self c.in_ok-full_key.ensures.reads sound in
-          let is_key = c.in_ok-full_key.ensures.key sound ∙ ap (λ f. f value.now) (law.stays begun now so_far.reads before.0).1 in
+      least = λ keys agrees.
+          let before = law.agreed now c.key_of.new.self keys c.in_ok-full_key.ensures.reads agrees in
+          let is_key = c.in_ok-full_key.ensures.key keys agrees in
           let test = is_lt-same_keys cmp key c.as_slice.result.now key (keys value.now) false c.if-is_before.ensures refl (c.as_slice.ensures ∙ is_key) in
           let same = filter_push_fails (λ v. is_lt (cmp key (keys v))) (λ v. v.now) c.loop-value.yielded value test in
-          subst (λ l. IsLeastRead keys g.R.Key.AsSlice.items cmp l c.loop-value.nearest) (sym same) (so_far.least before.0);
+          subst (λ l. IsLeastRead keys g.R.Key.AsSlice.items cmp l c.loop-value.nearest) (sym same) (so_far.least keys before);
     }

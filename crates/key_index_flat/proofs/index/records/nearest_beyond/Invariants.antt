@@ -1,16 +1,15 @@
 use Rattle.std.proofs.Common.{All, map}
 use Rattle.std.specs.List.{Contains, filter}
 use Rattle.std.specs.Ordering.{is_lt}
-use Rattle.key_index_flat.specs.FullKeys.{IsLeastRead}
+use Rattle.key_index_flat.specs.FullKeys.{AsRead, IsLeastRead}
 use Rattle.key_index_flat.proofs.index.records.nearest_beyond.Given as goal
 
 -- the nearest of those beyond the key among the values so far
 abbrev pub invariant-loop-value : goal.invariant-loop-value
 invariant-loop-value g l =
-    let keys = g.R.Records.full_key l.fn.records in
     record {
       reads : g.R.Records.reads l.fn.records l.records;
       left : All (Contains l.fn.values) l.value-iterator;
-      least : g.R.Records.sound l.records
-          → IsLeastRead keys g.R.Key.AsSlice.items g.S.Side.cmp (filter (λ v. is_lt (g.S.Side.cmp l.key (keys v))) (map (λ value. value.now) l.yielded)) l.nearest;
+      least : AsRead (g.R.Records.agrees l.records) (λ keys.
+          IsLeastRead keys g.R.Key.AsSlice.items g.S.Side.cmp (filter (λ v. is_lt (g.S.Side.cmp l.key (keys v))) (map (λ value. value.now) l.yielded)) l.nearest);
     }

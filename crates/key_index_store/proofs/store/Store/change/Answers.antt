@@ -28,7 +28,7 @@ returns-in_err-place-clause-refused g c =
     let mid_seen = c.in_err-place.ensures.read.stays mid seen in
     let room = c.in_ok-make_room.ensures.room mid (sym (ap g.D.Device.seen c.self.view_is) ∙ mid_seen) in
     let h = c.self.invariant mid mid_seen in
-    let front = take c.self.inside.end mid in
+    let front = take c.self.inside.log.end mid in
     let live = subst (All (IsLive front)) (sym c.positions_of-positions.ensures.run) (live_run g.I.Key.Ord.cmp front (g.I.Runs.view c.self.inside.index) c.args.key.now h.indexed) in
     (room.0, room.1, refused_early room.0 mid room.2 r c.in_err-place.field-0.0 (may_read-refuse room.0 r c.in_err-place.field-0.0 (c.in_err-place.ensures.fault mid seen h.within live))) in
     search (rules, told)
@@ -39,11 +39,11 @@ returns-then-is_none-2-clause-changed g c = λ mid seen.
     let mid_seen = c.in_ok-place.ensures.read.stays mid seen in
     let room = c.in_ok-make_room.ensures.room mid (sym (ap g.D.Device.seen c.self.view_is) ∙ mid_seen) in
     let h = c.self.invariant mid mid_seen in
-    let front = take c.self.inside.end mid in
+    let front = take c.self.inside.log.end mid in
     let live = subst (All (IsLive front)) (sym c.positions_of-positions.ensures.run) (live_run g.I.Key.Ord.cmp front (g.I.Runs.view c.self.inside.index) c.args.key.now h.indexed) in
     let told : is_some c.in_ok-place.place ≡ is_some (get (held_by mid) c.args.key.now) =
     c.in_ok-place.ensures.held mid seen h.within live
-    ∙ ap is_some (ap (value_in front c.args.key.now) c.positions_of-positions.ensures.run ∙ h.indexed.found c.args.key.now ∙ ap (λ m. get m c.args.key.now) (sym (kept_held g.I.Key.Ord.cmp mid (g.I.Runs.view c.self.inside.index) c.self.inside.end c.self.inside.tail h))) in
+    ∙ ap is_some (ap (value_in front c.args.key.now) c.positions_of-positions.ensures.run ∙ h.indexed.found c.args.key.now ∙ ap (λ m. get m c.args.key.now) (sym (kept_held g.I.Key.Ord.cmp mid (g.I.Runs.view c.self.inside.index) c.self.inside.log.end c.self.inside.tail h))) in
     let absent = None-is_some (get (held_by mid) r.key) (sym told ∙ c.is_none-then-is_none.ensures ∙ ap not c.if-is_none-2.true) in
     let deleted = mapped_none {A = Bor (List ℕ)} (λ v. v.now) c.args.value (sym (some_mapped {A = Bor (List ℕ)} (λ v. v.now) c.args.value) ∙ c.is_none.ensures ∙ ap not c.if-is_none.true) in
     (room.0, room.1, nothing_changed room.0 mid room.2 r (ap (option_map {T = Bor (List ℕ)} (λ v. v.now)) deleted) absent)
@@ -56,11 +56,11 @@ invariant_of-self-in-Err g c = λ new seen.
     let mid_seen = c.in_ok-place.ensures.read.stays mid failed.1 in
     let room = c.in_ok-make_room.ensures.room mid (sym (ap g.D.Device.seen c.self.view_is) ∙ mid_seen) in
     let h = c.self.invariant mid mid_seen in
-    let part = failed.2 (all_kept room.0 mid room.2 r g.met.I.Key.Ord.total g.met.I.Runs.exact g.I.Unordered.INSERT_FIRST (g.I.Runs.view c.self.inside.index) c.self.inside.end c.self.inside.tail h c.requires) in
+    let part = failed.2 (all_kept room.0 mid room.2 r g.met.I.Key.Ord.total g.met.I.Runs.exact g.I.Unordered.INSERT_FIRST (g.I.Runs.view c.self.inside.index) c.self.inside.log.end c.self.inside.tail h c.requires) in
     let is : new ≡ mid ++ take part.0 (encoded r) = part.1 in
     let less : (part.0 < length (encoded r)) ⊎ (part.0 ≡ 0) = part.2 in
-    subst (λ l. Keeps g.I.Key.Ord.cmp l (g.I.Runs.view c.append.new.index) c.self.inside.end tail.Torn) (sym is)
-    (begun_keeps g.met.I.Key.Ord.total g.met.I.Runs.exact g.I.Unordered.INSERT_FIRST mid (g.I.Runs.view c.self.inside.index) c.self.inside.end (at_end room.0 mid room.2 r g.met.I.Key.Ord.total g.met.I.Runs.exact g.I.Unordered.INSERT_FIRST (g.I.Runs.view c.self.inside.index) c.self.inside.end c.self.inside.tail h c.requires) r c.requires part.0 less (g.I.Runs.view c.append.new.index) c.in-Err.ensures.refused)
+    subst (λ l. Keeps g.I.Key.Ord.cmp l (g.I.Runs.view c.append.new.index) c.self.inside.log.end tail.Torn) (sym is)
+    (begun_keeps g.met.I.Key.Ord.total g.met.I.Runs.exact g.I.Unordered.INSERT_FIRST mid (g.I.Runs.view c.self.inside.index) c.self.inside.log.end (at_end room.0 mid room.2 r g.met.I.Key.Ord.total g.met.I.Runs.exact g.I.Unordered.INSERT_FIRST (g.I.Runs.view c.self.inside.index) c.self.inside.log.end c.self.inside.tail h c.requires) r c.requires part.0 less (g.I.Runs.view c.append.new.index) c.in-Err.ensures.refused)
 
 pub returns-in-Err-clause-refused : goal.returns-in-Err-clause-refused
 returns-in-Err-clause-refused g c = λ new seen.
@@ -70,18 +70,18 @@ returns-in-Err-clause-refused g c = λ new seen.
     let mid_seen = c.in_ok-place.ensures.read.stays mid failed.1 in
     let room = c.in_ok-make_room.ensures.room mid (sym (ap g.D.Device.seen c.self.view_is) ∙ mid_seen) in
     let h = c.self.invariant mid mid_seen in
-    let part = failed.2 (all_kept room.0 mid room.2 r g.met.I.Key.Ord.total g.met.I.Runs.exact g.I.Unordered.INSERT_FIRST (g.I.Runs.view c.self.inside.index) c.self.inside.end c.self.inside.tail h c.requires) in
+    let part = failed.2 (all_kept room.0 mid room.2 r g.met.I.Key.Ord.total g.met.I.Runs.exact g.I.Unordered.INSERT_FIRST (g.I.Runs.view c.self.inside.index) c.self.inside.log.end c.self.inside.tail h c.requires) in
     let is : new ≡ mid ++ take part.0 (encoded r) = part.1 in
     let less : (part.0 < length (encoded r)) ⊎ (part.0 ≡ 0) = part.2 in
-    let front = take c.self.inside.end mid in
+    let front = take c.self.inside.log.end mid in
     let live = subst (All (IsLive front)) (sym c.positions_of-positions.ensures.run) (live_run g.I.Key.Ord.cmp front (g.I.Runs.view c.self.inside.index) c.args.key.now h.indexed) in
     let told : is_some c.in_ok-place.place ≡ is_some (get (held_by mid) c.args.key.now) =
     c.in_ok-place.ensures.held mid failed.1 h.within live
-    ∙ ap is_some (ap (value_in front c.args.key.now) c.positions_of-positions.ensures.run ∙ h.indexed.found c.args.key.now ∙ ap (λ m. get m c.args.key.now) (sym (kept_held g.I.Key.Ord.cmp mid (g.I.Runs.view c.self.inside.index) c.self.inside.end c.self.inside.tail h))) in
+    ∙ ap is_some (ap (value_in front c.args.key.now) c.positions_of-positions.ensures.run ∙ h.indexed.found c.args.key.now ∙ ap (λ m. get m c.args.key.now) (sym (kept_held g.I.Key.Ord.cmp mid (g.I.Runs.view c.self.inside.index) c.self.inside.log.end c.self.inside.tail h))) in
     let may = append-refuse room.0 r c.in-Err.fault (λ full.
     let absent = None-is_some (get (held_by mid) r.key) (sym told ∙ ap is_some full.0) in
-    full-refuse (g.I.Runs.view c.self.inside.index) room.0 r c.in-Err.fault (h.indexed.counted ∙ ap (λ m. len m) (sym (kept_held g.I.Key.Ord.cmp mid (g.I.Runs.view c.self.inside.index) c.self.inside.end c.self.inside.tail h) ∙ room.2.held)) (ap (λ m. get m r.key) (sym room.2.held) ∙ absent) full.1) c.in-Err.ensures.fault in
-    (room.0, room.1, subst (HasRefused room.0 r c.in-Err.fault) (sym is) (begun_refused room.0 mid room.2 r g.met.I.Key.Ord.total g.met.I.Runs.exact g.I.Unordered.INSERT_FIRST (g.I.Runs.view c.self.inside.index) c.self.inside.end c.self.inside.tail h c.requires part.0 less c.in-Err.fault may))
+    full-refuse (g.I.Runs.view c.self.inside.index) room.0 r c.in-Err.fault (h.indexed.counted ∙ ap (λ m. len m) (sym (kept_held g.I.Key.Ord.cmp mid (g.I.Runs.view c.self.inside.index) c.self.inside.log.end c.self.inside.tail h) ∙ room.2.held)) (ap (λ m. get m r.key) (sym room.2.held) ∙ absent) full.1) c.in-Err.ensures.fault in
+    (room.0, room.1, subst (HasRefused room.0 r c.in-Err.fault) (sym is) (begun_refused room.0 mid room.2 r g.met.I.Key.Ord.total g.met.I.Runs.exact g.I.Unordered.INSERT_FIRST (g.I.Runs.view c.self.inside.index) c.self.inside.log.end c.self.inside.tail h c.requires part.0 less c.in-Err.fault may))
 
 pub returns-in-Err-clause-crash : goal.returns-in-Err-clause-crash
 returns-in-Err-clause-crash g c = λ new seen.
@@ -91,17 +91,17 @@ returns-in-Err-clause-crash g c = λ new seen.
     let mid_seen = c.in_ok-place.ensures.read.stays mid failed.1 in
     let room = c.in_ok-make_room.ensures.room mid (sym (ap g.D.Device.seen c.self.view_is) ∙ mid_seen) in
     let h = c.self.invariant mid mid_seen in
-    let part = failed.2 (all_kept room.0 mid room.2 r g.met.I.Key.Ord.total g.met.I.Runs.exact g.I.Unordered.INSERT_FIRST (g.I.Runs.view c.self.inside.index) c.self.inside.end c.self.inside.tail h c.requires) in
+    let part = failed.2 (all_kept room.0 mid room.2 r g.met.I.Key.Ord.total g.met.I.Runs.exact g.I.Unordered.INSERT_FIRST (g.I.Runs.view c.self.inside.index) c.self.inside.log.end c.self.inside.tail h c.requires) in
     let is : new ≡ mid ++ take part.0 (encoded r) = part.1 in
     let less : (part.0 < length (encoded r)) ⊎ (part.0 ≡ 0) = part.2 in (
       room.0,
       room.1,
-      λ c' left. elim (c.in-Err.ensures.crash mid failed.1 (all_kept room.0 mid room.2 r g.met.I.Key.Ord.total g.met.I.Runs.exact g.I.Unordered.INSERT_FIRST (g.I.Runs.view c.self.inside.index) c.self.inside.end c.self.inside.tail h c.requires) c' left) [
+      λ c' left. elim (c.in-Err.ensures.crash mid failed.1 (all_kept room.0 mid room.2 r g.met.I.Key.Ord.total g.met.I.Runs.exact g.I.Unordered.INSERT_FIRST (g.I.Runs.view c.self.inside.index) c.self.inside.log.end c.self.inside.tail h c.requires) c' left) [
         | inl could ↦ (elim (c.in_ok-make_room.ensures.crash room.0 room.1 c' (subst (λ d. g.D.Device.may_leave d c') c.self.view_is (c.in_ok-place.ensures.read.crash c' could))) [
           | inl before ↦ inl before
           | inr same ↦ inr (inl same)
         ])
-        | inr more ↦ inr (subst (IsBeforeOrAfter room.0 r) (sym more.1) (held_any room.0 mid room.2 r g.met.I.Key.Ord.total g.met.I.Runs.exact g.I.Unordered.INSERT_FIRST (g.I.Runs.view c.self.inside.index) c.self.inside.end c.self.inside.tail h c.requires more.0))
+        | inr more ↦ inr (subst (IsBeforeOrAfter room.0 r) (sym more.1) (held_any room.0 mid room.2 r g.met.I.Key.Ord.total g.met.I.Runs.exact g.I.Unordered.INSERT_FIRST (g.I.Runs.view c.self.inside.index) c.self.inside.log.end c.self.inside.tail h c.requires more.0))
       ],
     )
 
@@ -113,12 +113,12 @@ invariant_of-self-in-Ok g c = λ new seen.
     let mid_seen = c.in_ok-place.ensures.read.stays mid written.1 in
     let room = c.in_ok-make_room.ensures.room mid (sym (ap g.D.Device.seen c.self.view_is) ∙ mid_seen) in
     let h = c.self.invariant mid mid_seen in
-    let is : new ≡ mid ++ encoded r = written.2 (all_kept room.0 mid room.2 r g.met.I.Key.Ord.total g.met.I.Runs.exact g.I.Unordered.INSERT_FIRST (g.I.Runs.view c.self.inside.index) c.self.inside.end c.self.inside.tail h c.requires) in
-    let front = take c.self.inside.end mid in
+    let is : new ≡ mid ++ encoded r = written.2 (all_kept room.0 mid room.2 r g.met.I.Key.Ord.total g.met.I.Runs.exact g.I.Unordered.INSERT_FIRST (g.I.Runs.view c.self.inside.index) c.self.inside.log.end c.self.inside.tail h c.requires) in
+    let front = take c.self.inside.log.end mid in
     let live = subst (All (IsLive front)) (sym c.positions_of-positions.ensures.run) (live_run g.I.Key.Ord.cmp front (g.I.Runs.view c.self.inside.index) c.args.key.now h.indexed) in
     let at = c.in_ok-place.ensures.at mid written.1 h.within live in
     subst (λ l. Keeps g.I.Key.Ord.cmp l (g.I.Runs.view c.append.new.index) c.in-Ok.longer tail.Nothing) (sym is)
-    (written_keeps g.met.I.Key.Ord.total g.met.I.Runs.exact g.I.Unordered.INSERT_FIRST mid (g.I.Runs.view c.self.inside.index) c.self.inside.end (at_end room.0 mid room.2 r g.met.I.Key.Ord.total g.met.I.Runs.exact g.I.Unordered.INSERT_FIRST (g.I.Runs.view c.self.inside.index) c.self.inside.end c.self.inside.tail h c.requires) r c.requires
+    (written_keeps g.met.I.Key.Ord.total g.met.I.Runs.exact g.I.Unordered.INSERT_FIRST mid (g.I.Runs.view c.self.inside.index) c.self.inside.log.end (at_end room.0 mid room.2 r g.met.I.Key.Ord.total g.met.I.Runs.exact g.I.Unordered.INSERT_FIRST (g.I.Runs.view c.self.inside.index) c.self.inside.log.end c.self.inside.tail h c.requires) r c.requires
     c.positions_of-positions.ensures.bytes (g.I.Runs.view c.append.new.index) (g.met.I.Runs.lawful c.self.inside.index) (g.met.I.Runs.lawful c.append.new.index) c.positions_of-positions.result c.positions_of-positions.ensures.run
     (is_some c.args.value) (some_mapped {A = Bor (List ℕ)} (λ v. v.now) c.args.value) c.in_ok-place.place at c.in-Ok.ensures.settled c.in-Ok.longer c.in-Ok.ensures.longer)
 
@@ -130,18 +130,18 @@ returns-in-Ok-clause-changed g c = λ new seen.
     let mid_seen = c.in_ok-place.ensures.read.stays mid written.1 in
     let room = c.in_ok-make_room.ensures.room mid (sym (ap g.D.Device.seen c.self.view_is) ∙ mid_seen) in
     let h = c.self.invariant mid mid_seen in
-    let is : new ≡ mid ++ encoded r = written.2 (all_kept room.0 mid room.2 r g.met.I.Key.Ord.total g.met.I.Runs.exact g.I.Unordered.INSERT_FIRST (g.I.Runs.view c.self.inside.index) c.self.inside.end c.self.inside.tail h c.requires) in
-    let front = take c.self.inside.end mid in
+    let is : new ≡ mid ++ encoded r = written.2 (all_kept room.0 mid room.2 r g.met.I.Key.Ord.total g.met.I.Runs.exact g.I.Unordered.INSERT_FIRST (g.I.Runs.view c.self.inside.index) c.self.inside.log.end c.self.inside.tail h c.requires) in
+    let front = take c.self.inside.log.end mid in
     let live = subst (All (IsLive front)) (sym c.positions_of-positions.ensures.run) (live_run g.I.Key.Ord.cmp front (g.I.Runs.view c.self.inside.index) c.args.key.now h.indexed) in
     let told : is_some c.in_ok-place.place ≡ is_some (get (held_by mid) c.args.key.now) =
     c.in_ok-place.ensures.held mid written.1 h.within live
-    ∙ ap is_some (ap (value_in front c.args.key.now) c.positions_of-positions.ensures.run ∙ h.indexed.found c.args.key.now ∙ ap (λ m. get m c.args.key.now) (sym (kept_held g.I.Key.Ord.cmp mid (g.I.Runs.view c.self.inside.index) c.self.inside.end c.self.inside.tail h))) in
+    ∙ ap is_some (ap (value_in front c.args.key.now) c.positions_of-positions.ensures.run ∙ h.indexed.found c.args.key.now ∙ ap (λ m. get m c.args.key.now) (sym (kept_held g.I.Key.Ord.cmp mid (g.I.Runs.view c.self.inside.index) c.self.inside.log.end c.self.inside.tail h))) in
     let had : c.is_some.result ≡ is_some (get (held_by room.0) r.key) = c.is_some.ensures ∙ told ∙ ap (λ m. is_some (get m r.key)) room.2.held in
     let some : (is_some r.value || c.is_some.result) ≡ true = elim c.else-is_none.branch [
       | else-is_none-via-then-is_none+else-is_none-2 w ↦ ap (λ b. is_some r.value || b) (c.is_some.ensures ∙ w.if-is_none-2.ensures) ∙ or-true (is_some r.value)
       | else-is_none-via-else-is_none w ↦ ap (λ b. b || c.is_some.result) (sym (some_mapped {A = Bor (List ℕ)} (λ v. v.now) c.args.value) ∙ w.if-is_none.ensures)
     ] in
-    (room.0, room.1, subst (HasChanged room.0 r c.is_some.result) (sym is) (written_changed room.0 mid room.2 r g.met.I.Key.Ord.total g.met.I.Runs.exact g.I.Unordered.INSERT_FIRST (g.I.Runs.view c.self.inside.index) c.self.inside.end c.self.inside.tail h c.requires c.is_some.result had some))
+    (room.0, room.1, subst (HasChanged room.0 r c.is_some.result) (sym is) (written_changed room.0 mid room.2 r g.met.I.Key.Ord.total g.met.I.Runs.exact g.I.Unordered.INSERT_FIRST (g.I.Runs.view c.self.inside.index) c.self.inside.log.end c.self.inside.tail h c.requires c.is_some.result had some))
 
 pub returns-in-Ok-clause-crash : goal.returns-in-Ok-clause-crash
 returns-in-Ok-clause-crash g c = λ new seen.
@@ -151,14 +151,14 @@ returns-in-Ok-clause-crash g c = λ new seen.
     let mid_seen = c.in_ok-place.ensures.read.stays mid written.1 in
     let room = c.in_ok-make_room.ensures.room mid (sym (ap g.D.Device.seen c.self.view_is) ∙ mid_seen) in
     let h = c.self.invariant mid mid_seen in
-    let is : new ≡ mid ++ encoded r = written.2 (all_kept room.0 mid room.2 r g.met.I.Key.Ord.total g.met.I.Runs.exact g.I.Unordered.INSERT_FIRST (g.I.Runs.view c.self.inside.index) c.self.inside.end c.self.inside.tail h c.requires) in (
+    let is : new ≡ mid ++ encoded r = written.2 (all_kept room.0 mid room.2 r g.met.I.Key.Ord.total g.met.I.Runs.exact g.I.Unordered.INSERT_FIRST (g.I.Runs.view c.self.inside.index) c.self.inside.log.end c.self.inside.tail h c.requires) in (
       room.0,
       room.1,
-      λ c' left. elim (c.in-Ok.ensures.crash mid written.1 (all_kept room.0 mid room.2 r g.met.I.Key.Ord.total g.met.I.Runs.exact g.I.Unordered.INSERT_FIRST (g.I.Runs.view c.self.inside.index) c.self.inside.end c.self.inside.tail h c.requires) c' left) [
+      λ c' left. elim (c.in-Ok.ensures.crash mid written.1 (all_kept room.0 mid room.2 r g.met.I.Key.Ord.total g.met.I.Runs.exact g.I.Unordered.INSERT_FIRST (g.I.Runs.view c.self.inside.index) c.self.inside.log.end c.self.inside.tail h c.requires) c' left) [
         | inl could ↦ (elim (c.in_ok-make_room.ensures.crash room.0 room.1 c' (subst (λ d. g.D.Device.may_leave d c') c.self.view_is (c.in_ok-place.ensures.read.crash c' could))) [
           | inl before ↦ inl before
           | inr same ↦ inr (inl same)
         ])
-        | inr more ↦ inr (subst (IsBeforeOrAfter room.0 r) (sym more.1) (held_any room.0 mid room.2 r g.met.I.Key.Ord.total g.met.I.Runs.exact g.I.Unordered.INSERT_FIRST (g.I.Runs.view c.self.inside.index) c.self.inside.end c.self.inside.tail h c.requires more.0))
+        | inr more ↦ inr (subst (IsBeforeOrAfter room.0 r) (sym more.1) (held_any room.0 mid room.2 r g.met.I.Key.Ord.total g.met.I.Runs.exact g.I.Unordered.INSERT_FIRST (g.I.Runs.view c.self.inside.index) c.self.inside.log.end c.self.inside.tail h c.requires more.0))
       ],
     )

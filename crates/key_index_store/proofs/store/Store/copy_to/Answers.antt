@@ -5,7 +5,7 @@ use Rattle.key_index_flat.specs.Neighbours.{first_entry}
 use Rattle.key_index_store.specs.Record.{Entry, Fits}
 use Rattle.key_index_store.specs.Stored.{entries_behind, held_by, in_bytes, put_of, with_record}
 use Rattle.key_index_store.proofs.CompactLemmas.{copied_all, copied_more, copied_none, len-held_copy, may_copy, next_held, next_there, undamaged-copy}
-use Rattle.key_index_store.proofs.ReadLemmas.{read-none, read-then}
+use Rattle.key_index_store.specs.laws.ReadLaws.{read-none, read-then}
 use Rattle.key_index_store.proofs.store.Store.copy_to.Goals as goal
 
 pub loop-copied-init : goal.loop-copied-init

@@ -11,7 +11,7 @@ returns-in-Err-clause-crash g c = λ log seen c' left.
     let h = c.self.invariant log seen_in in
     elim (c.in-Err.ensures.crash log c' seen_in h.within left) [
       | inl could ↦ inl (subst (λ d. g.D.Device.may_leave d c') c.self.view_is could)
-      | inr is ↦ inr (ap held_by is ∙ cut_held g.I.Key.Ord.cmp log (g.I.Runs.view c.self.inside.index) c.self.inside.end c.self.inside.tail h)
+      | inr is ↦ inr (ap held_by is ∙ cut_held g.I.Key.Ord.cmp log (g.I.Runs.view c.self.inside.index) c.self.inside.log.end c.self.inside.tail h)
     ]
 
 pub returns-in-Err-clause-held : goal.returns-in-Err-clause-held
@@ -27,7 +27,7 @@ invariant_of-self g c = λ new seen.
     let h = c.self.invariant old before.1 in
     let is = before.2 h.within in
     let was = sym (ap g.D.Device.seen c.self.view_is) ∙ before.1 in
-    subst (λ l. Keeps g.I.Key.Ord.cmp l (g.I.Runs.view c.self.inside.index) c.self.inside.end tail.Nothing) (sym is) (cut_keeps g.I.Key.Ord.cmp old (g.I.Runs.view c.self.inside.index) c.self.inside.end c.self.inside.tail h)
+    subst (λ l. Keeps g.I.Key.Ord.cmp l (g.I.Runs.view c.self.inside.index) c.self.inside.log.end tail.Nothing) (sym is) (cut_keeps g.I.Key.Ord.cmp old (g.I.Runs.view c.self.inside.index) c.self.inside.log.end c.self.inside.tail h)
 
 pub returns-in-Ok-clause-cut : goal.returns-in-Ok-clause-cut
 returns-in-Ok-clause-cut g c = λ new seen.
@@ -36,7 +36,7 @@ returns-in-Ok-clause-cut g c = λ new seen.
     let h = c.self.invariant old before.1 in
     let is = before.2 h.within in
     let was = sym (ap g.D.Device.seen c.self.view_is) ∙ before.1 in
-    (old, was, is ∙ sym (kept_front g.I.Key.Ord.cmp old (g.I.Runs.view c.self.inside.index) c.self.inside.end c.self.inside.tail h))
+    (old, was, is ∙ sym (kept_front g.I.Key.Ord.cmp old (g.I.Runs.view c.self.inside.index) c.self.inside.log.end c.self.inside.tail h))
 
 pub returns-in-Ok-clause-all : goal.returns-in-Ok-clause-all
 returns-in-Ok-clause-all g c = λ new seen.
@@ -45,7 +45,7 @@ returns-in-Ok-clause-all g c = λ new seen.
     let h = c.self.invariant old before.1 in
     let is = before.2 h.within in
     let was = sym (ap g.D.Device.seen c.self.view_is) ∙ before.1 in
-    subst (λ l. end_of l ≡ length l) (sym is) (cut_end g.I.Key.Ord.cmp old (g.I.Runs.view c.self.inside.index) c.self.inside.end c.self.inside.tail h)
+    subst (λ l. end_of l ≡ length l) (sym is) (cut_end g.I.Key.Ord.cmp old (g.I.Runs.view c.self.inside.index) c.self.inside.log.end c.self.inside.tail h)
 
 pub returns-in-Ok-clause-held : goal.returns-in-Ok-clause-held
 returns-in-Ok-clause-held g c = λ new seen.
@@ -54,7 +54,7 @@ returns-in-Ok-clause-held g c = λ new seen.
     let h = c.self.invariant old before.1 in
     let is = before.2 h.within in
     let was = sym (ap g.D.Device.seen c.self.view_is) ∙ before.1 in
-    (old, was, ap held_by is ∙ cut_held g.I.Key.Ord.cmp old (g.I.Runs.view c.self.inside.index) c.self.inside.end c.self.inside.tail h)
+    (old, was, ap held_by is ∙ cut_held g.I.Key.Ord.cmp old (g.I.Runs.view c.self.inside.index) c.self.inside.log.end c.self.inside.tail h)
 
 pub returns-in-Ok-clause-crash : goal.returns-in-Ok-clause-crash
 returns-in-Ok-clause-crash g c = λ log seen c' left.
@@ -62,5 +62,5 @@ returns-in-Ok-clause-crash g c = λ log seen c' left.
     let h = c.self.invariant log seen_in in
     elim (c.in-Ok.ensures.crash log c' seen_in h.within left) [
       | inl could ↦ inl (subst (λ d. g.D.Device.may_leave d c') c.self.view_is could)
-      | inr is ↦ inr (ap held_by is ∙ cut_held g.I.Key.Ord.cmp log (g.I.Runs.view c.self.inside.index) c.self.inside.end c.self.inside.tail h)
+      | inr is ↦ inr (ap held_by is ∙ cut_held g.I.Key.Ord.cmp log (g.I.Runs.view c.self.inside.index) c.self.inside.log.end c.self.inside.tail h)
     ]

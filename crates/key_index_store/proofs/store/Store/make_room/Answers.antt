@@ -6,7 +6,7 @@ use Rattle.key_index_store.proofs.store.Store.make_room.Goals as goal
 pub returns-in-Nothing-clause-room : goal.returns-in-Nothing-clause-room
 returns-in-Nothing-clause-room g c = λ log seen.
     let h = c.self.invariant log (ap g.D.Device.seen c.self.view_is ∙ seen) in
-    let facts = nothing_cut g.I.Key.Ord.cmp log (g.I.Runs.view c.self.inside.index) c.self.inside.end c.self.inside.tail h c.in-Nothing.is in
+    let facts = nothing_cut g.I.Key.Ord.cmp log (g.I.Runs.view c.self.inside.index) c.self.inside.log.end c.self.inside.tail h c.in-Nothing.is in
     (log, seen, record { cut = facts.0; held = refl; all = facts.1; undamaged = facts.2 })
 
 pub returns-in-Torn-clause-room : goal.returns-in-Torn-clause-room
@@ -18,13 +18,13 @@ returns-in-Torn-clause-room g c = on_ok_with c.cut_tail.result c.cut_tail.ensure
       before.1,
       record {
         cut = before.2;
-        held = ap held_by (before.2 ∙ kept_front g.I.Key.Ord.cmp old (g.I.Runs.view c.self.inside.index) c.self.inside.end c.self.inside.tail h) ∙ cut_held g.I.Key.Ord.cmp old (g.I.Runs.view c.self.inside.index) c.self.inside.end c.self.inside.tail h;
+        held = ap held_by (before.2 ∙ kept_front g.I.Key.Ord.cmp old (g.I.Runs.view c.self.inside.index) c.self.inside.log.end c.self.inside.tail h) ∙ cut_held g.I.Key.Ord.cmp old (g.I.Runs.view c.self.inside.index) c.self.inside.log.end c.self.inside.tail h;
         all = all new seen;
-        undamaged = torn_undamaged g.I.Key.Ord.cmp old (g.I.Runs.view c.self.inside.index) c.self.inside.end c.self.inside.tail h c.in-Torn.is;
+        undamaged = torn_undamaged g.I.Key.Ord.cmp old (g.I.Runs.view c.self.inside.index) c.self.inside.log.end c.self.inside.tail h c.in-Torn.is;
       },
     ))
 
 pub returns-in-Damaged-clause-fault : goal.returns-in-Damaged-clause-fault
 returns-in-Damaged-clause-fault g c = λ log seen.
     let h = c.self.invariant log (ap g.D.Device.seen c.self.view_is ∙ seen) in
-    inr (refl, damaged_tail g.I.Key.Ord.cmp log (g.I.Runs.view c.self.inside.index) c.self.inside.end c.self.inside.tail h c.in-Damaged.is)
+    inr (refl, damaged_tail g.I.Key.Ord.cmp log (g.I.Runs.view c.self.inside.index) c.self.inside.log.end c.self.inside.tail h c.in-Damaged.is)

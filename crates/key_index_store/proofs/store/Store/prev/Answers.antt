@@ -1,58 +1,53 @@
-use Rattle.std.proofs.Common.{rules, All, take, sym, subst, ◌∙◌}
+use Rattle.std.proofs.Common.{◌≡◌, ◌≤◌, rules, length, take, sym, ap, subst, ◌∙◌}
 use Rattle.std.proofs.lemmas.Result.{IfOk-weaker}
-use Rattle.key_index_flat.specs.FullKeys.{unflagged}
-use Rattle.key_index_store.specs.Indexed.{IsLive}
-use Rattle.key_index_store.proofs.NearestLemmas.{live_below, own_before, prev_before}
-use Rattle.key_index_store.proofs.StoreLemmas.{live_run}
+use Rattle.std.specs.Result.{IfErr, IfOk}
+use Rattle.std.specs.Option.{IfSome, option_copied, option_map}
+use Rattle.key_index_store.specs.Indexed.{HasKeys, IsLive, entry_at, key_read}
+use Rattle.key_index_store.specs.Stored.{MayRead, in_bytes}
+use Rattle.key_index_store.proofs.NearestLemmas.{prev_told, live_value, read_filed}
 use Rattle.key_index_store.proofs.store.Store.prev.Goals as goal
 
-pub returns-in_err-own-clause-fault : goal.returns-in_err-own-clause-fault
-returns-in_err-own-clause-fault g c = λ log seen.
-    let front = take c.self.inside.end log in
-    let keeps = c.self.invariant log (c.in_err-own.ensures.read.stays log seen) in
-    let live = live_run g.I.Key.Ord.cmp front (g.I.Runs.view c.self.inside.index) c.args.key.now keeps.indexed in
-    let may = c.in_err-own.ensures.fault log seen keeps.within (subst (All (IsLive front)) (sym c.positions_of-positions.ensures.run) live) in
-    search (rules, may)
-
-pub returns-then-is_some-clause-prev : goal.returns-then-is_some-clause-prev
-returns-then-is_some-clause-prev g c = λ log seen.
-    let before = c.with_its_value.ensures.read.stays log seen in
-    let keeps = c.self.invariant log (c.in_ok-own.ensures.read.stays log before) in
-    let told = own_before g.met.I.Key.Ord.total log (g.I.Runs.view c.self.inside.index) c.self.inside.end c.self.inside.tail (g.met.I.Ordered.keeps_order c.self.inside.index) (g.met.I.Runs.lawful c.self.inside.index) keeps
-    c.args.key.now c.positions_of-positions.ensures.bytes c.positions_of-positions.result c.positions_of-positions.ensures.run c.in_ok-own.own (c.in_ok-own.ensures.nearest log before keeps.within) c.if-is_some.ensures in
-    IfOk-weaker c.with_its_value.result _ _ (λ o value. value ∙ told.1) (c.with_its_value.ensures.value log seen keeps.within told.0)
-
-pub returns-then-is_some-clause-fault : goal.returns-then-is_some-clause-fault
-returns-then-is_some-clause-fault g c = λ log seen.
-    let before = c.with_its_value.ensures.read.stays log seen in
-    let keeps = c.self.invariant log (c.in_ok-own.ensures.read.stays log before) in
-    let told = own_before g.met.I.Key.Ord.total log (g.I.Runs.view c.self.inside.index) c.self.inside.end c.self.inside.tail (g.met.I.Ordered.keeps_order c.self.inside.index) (g.met.I.Runs.lawful c.self.inside.index) keeps
-    c.args.key.now c.positions_of-positions.ensures.bytes c.positions_of-positions.result c.positions_of-positions.ensures.run c.in_ok-own.own (c.in_ok-own.ensures.nearest log before keeps.within) c.if-is_some.ensures in
-    c.with_its_value.ensures.fault log seen keeps.within told.0
-
-pub returns-in_err-found-clause-fault : goal.returns-in_err-found-clause-fault
-returns-in_err-found-clause-fault g c = λ log seen.
-    let keeps = c.self.invariant log (c.in_ok-own.ensures.read.stays log (c.in_err-found.ensures.read.stays log seen)) in
-    let live = live_below g.met.I.Key.Ord.total log (g.I.Runs.view c.self.inside.index) c.self.inside.end c.self.inside.tail (g.met.I.Ordered.keeps_order c.self.inside.index) (g.met.I.Runs.lawful c.self.inside.index) keeps c.args.key.now in
-    let may = c.in_err-found.ensures.fault log seen keeps.within (subst (λ x. All (IsLive (take c.self.inside.end log)) (unflagged x)) (sym c.prev_translated_key-other.ensures) live) in
+pub returns-in_err-position-clause-fault : goal.returns-in_err-position-clause-fault
+returns-in_err-position-clause-fault g c = λ log seen.
+    let read = c.in_err-position.ensures.reads in
+    let inside = c.self.inside in
+    let keeps = c.self.invariant log (read.0.stays log seen) in
+    let failed = c.in_err-position.ensures.fault in
+    let live = live_value g.met.I.Key.Ord.total log (g.I.Runs.view inside.index) inside.log.end inside.tail (g.met.I.Runs.lawful inside.index) keeps failed.0 failed.1 in
+    let may = failed.2 log seen (subst (λ e. e ≤ length log) (sym read.1) keeps.within) (subst (λ e. IsLive (take e log) failed.0) (sym read.1) live) in
     search (rules, may)
 
 pub returns-clause-prev : goal.returns-clause-prev
 returns-clause-prev g c = λ log seen.
-    let found_seen = c.with_its_value-2.ensures.read.stays log seen in
-    let own_seen = c.in_ok-found.ensures.read.stays log found_seen in
-    let keeps = c.self.invariant log (c.in_ok-own.ensures.read.stays log own_seen) in
-    let told = prev_before g.met.I.Key.Ord.total log (g.I.Runs.view c.self.inside.index) c.self.inside.end c.self.inside.tail (g.met.I.Ordered.keeps_order c.self.inside.index) (g.met.I.Runs.lawful c.self.inside.index) keeps
-    c.args.key.now c.positions_of-positions.ensures.bytes c.positions_of-positions.result c.positions_of-positions.ensures.run c.in_ok-own.own (c.in_ok-own.ensures.nearest log own_seen keeps.within) c.if-is_some.ensures
-    c.prev_translated_key-other.result c.prev_translated_key-other.ensures c.in_ok-found.found (c.in_ok-found.ensures.nearest log found_seen keeps.within) in
-    IfOk-weaker c.with_its_value-2.result _ _ (λ o value. value ∙ told.1) (c.with_its_value-2.ensures.value log seen keeps.within told.0)
+    let read = c.in_ok-position.ensures.reads in
+    let inside = c.self.inside in
+    let end = inside.log.end in
+    let between = c.entry.ensures.read.stays log seen in
+    let keeps = c.self.invariant log (read.0.stays log between) in
+    let keys = key_read (take end log) in
+    let agrees : HasKeys (g.D.Device.seen c.prev_record.new.records.device) c.prev_record.new.records.end keys =
+    (log, between, subst (λ e. e ≤ length log) (sym read.1) keeps.within, ap (λ e. key_read (take e log)) (sym read.1)) in
+    let found = option_copied c.in_ok-position.position in
+    let view = g.I.Runs.view inside.index in
+    let total = g.met.I.Key.Ord.total in
+    let lawful = g.met.I.Runs.lawful inside.index in
+    let told = prev_told total log view end inside.tail lawful keeps c.args.key.now found (c.in_ok-position.ensures.filed keys agrees (read_filed total log view end inside.tail lawful keeps)) in
+    let entry = subst (λ e. e ≤ length log → IfSome found (IsLive (take e log)) → IfOk c.entry.result (λ o. in_bytes o ≡ option_map (entry_at (take e log)) found)) read.1 (c.entry.ensures.entry log seen) in
+    IfOk-weaker c.entry.result _ _ (λ o is. is ∙ told.1) (entry keeps.within told.0)
 
 pub returns-clause-fault : goal.returns-clause-fault
 returns-clause-fault g c = λ log seen.
-    let found_seen = c.with_its_value-2.ensures.read.stays log seen in
-    let own_seen = c.in_ok-found.ensures.read.stays log found_seen in
-    let keeps = c.self.invariant log (c.in_ok-own.ensures.read.stays log own_seen) in
-    let told = prev_before g.met.I.Key.Ord.total log (g.I.Runs.view c.self.inside.index) c.self.inside.end c.self.inside.tail (g.met.I.Ordered.keeps_order c.self.inside.index) (g.met.I.Runs.lawful c.self.inside.index) keeps
-    c.args.key.now c.positions_of-positions.ensures.bytes c.positions_of-positions.result c.positions_of-positions.ensures.run c.in_ok-own.own (c.in_ok-own.ensures.nearest log own_seen keeps.within) c.if-is_some.ensures
-    c.prev_translated_key-other.result c.prev_translated_key-other.ensures c.in_ok-found.found (c.in_ok-found.ensures.nearest log found_seen keeps.within) in
-    c.with_its_value-2.ensures.fault log seen keeps.within told.0
+    let read = c.in_ok-position.ensures.reads in
+    let inside = c.self.inside in
+    let end = inside.log.end in
+    let between = c.entry.ensures.read.stays log seen in
+    let keeps = c.self.invariant log (read.0.stays log between) in
+    let keys = key_read (take end log) in
+    let agrees : HasKeys (g.D.Device.seen c.prev_record.new.records.device) c.prev_record.new.records.end keys =
+    (log, between, subst (λ e. e ≤ length log) (sym read.1) keeps.within, ap (λ e. key_read (take e log)) (sym read.1)) in
+    let found = option_copied c.in_ok-position.position in
+    let view = g.I.Runs.view inside.index in
+    let total = g.met.I.Key.Ord.total in
+    let lawful = g.met.I.Runs.lawful inside.index in
+    let told = prev_told total log view end inside.tail lawful keeps c.args.key.now found (c.in_ok-position.ensures.filed keys agrees (read_filed total log view end inside.tail lawful keeps)) in
+    subst (λ e. e ≤ length log → IfSome found (IsLive (take e log)) → IfErr c.entry.result MayRead) read.1 (c.entry.ensures.fault log seen) keeps.within told.0

@@ -4,7 +4,8 @@ use Rattle.std.specs.Option.{option_map}
 use Rattle.key_index_store.specs.Indexed.{IsLive, entry_at, key_at, value_in}
 use Rattle.key_index_store.specs.Record.{key_in}
 use Rattle.key_index_flat.proofs.entries.EntryLemmas.{key-slice_get, look-at_place, passed_by}
-use Rattle.key_index_store.proofs.ReadLemmas.{key_in-live, slice_get-here, match_other, match_readable, match_same, read-then}
+use Rattle.key_index_store.proofs.ReadLemmas.{key_in-live, slice_get-here, match_other, match_readable, match_same}
+use Rattle.key_index_store.specs.laws.ReadLaws.{read-then}
 use Rattle.key_index_store.proofs.store.find.find.Goals.{in-Other, in-Unreadable}
 use Rattle.key_index_store.proofs.store.find.find.Goals as goal
 

@@ -1,6 +1,6 @@
 use Rattle.std.proofs.Common.{◌≡◌, ◌&&◌, ◌+◌, drop, sym, ap, ◌∙◌, arith}
 use Rattle.key_index_store.specs.Stored.{is_zeros}
-use Rattle.key_index_store.proofs.ReadLemmas.{read-then}
+use Rattle.key_index_store.specs.laws.ReadLaws.{read-then}
 use Rattle.key_index_store.proofs.ReplayLemmas.{zeros_split}
 use Rattle.key_index_store.proofs.store.replay.are_zeros.Goals as goal
 

@@ -3,7 +3,7 @@ use Rattle.std.proofs.lemmas.List.{drop-drop}
 use Rattle.key_index_store.specs.Indexed.{Indexes}
 use Rattle.key_index_store.specs.Record.{Complete, IsFound, encoded, entry_of, outcome_of}
 use Rattle.key_index_store.proofs.IndexLemmas.{some_mapped}
-use Rattle.key_index_store.proofs.ReadLemmas.{read-then}
+use Rattle.key_index_store.specs.laws.ReadLaws.{read-then}
 use Rattle.key_index_store.proofs.ReplayLemmas.{one_more, place-within, rest-some}
 use Rattle.key_index_store.proofs.store.replay.file_all.Goals as goal
 

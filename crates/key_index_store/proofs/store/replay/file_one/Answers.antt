@@ -3,7 +3,7 @@ use Rattle.std.proofs.lemmas.List.{take_all}
 use Rattle.key_index_store.specs.Indexed.{Indexes}
 use Rattle.key_index_store.specs.Record.{Complete, Damaged, Torn, IsFound, Stops, encoded, entry_of, outcome_of, reading}
 use Rattle.key_index_store.proofs.IndexLemmas.{some_mapped}
-use Rattle.key_index_store.proofs.ReadLemmas.{read-then}
+use Rattle.key_index_store.specs.laws.ReadLaws.{read-then}
 use Rattle.key_index_store.proofs.RecordLemmas.{within_found}
 use Rattle.key_index_store.proofs.ReplayLemmas.{one_whole}
 use Rattle.key_index_store.proofs.store.replay.file_one.Goals.{in-Torn, in-Damaged}

@@ -5,7 +5,7 @@ use Rattle.key_index_store.specs.Indexed.{Indexes}
 use Rattle.key_index_store.specs.Record.{Stops, reading}
 use Rattle.key_index_store.specs.Stored.{tail_of}
 use Rattle.key_index_store.proofs.IndexLemmas.{indexes_none}
-use Rattle.key_index_store.proofs.ReadLemmas.{read-then}
+use Rattle.key_index_store.specs.laws.ReadLaws.{read-then}
 use Rattle.key_index_store.proofs.ReplayLemmas.{block-is, told-IsTail}
 use Rattle.key_index_store.proofs.store.replay.replay.Goals as goal
 
