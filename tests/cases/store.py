@@ -38,7 +38,7 @@ def case_of_store(*kinds):
 
     def register_each(function):
         for kind in kinds:
-            register(f"store_{kind}_{function.__name__}", lambda kind=kind: in_folder(function, kind))
+            register(f"store_{kind}_{function.__name__}", lambda kind=kind: in_folder(function, kind), function)
         return function
 
     return register_each

@@ -2,6 +2,9 @@
 
 CASES = {}
 
+# The file of cases that each one stands in.
+FILES = {}
+
 # The words that the program takes for each kind of index that cases are made of.
 KINDS = {
     "unordered": ("unordered",),
@@ -26,10 +29,12 @@ IN_ORDER = [kind for kind in KINDS if "unordered" not in kind]
 BY_ONE = ["punordered", "pordered", "pordered_at_one", "pordered_at_two"]
 
 
-def register(name, function):
+def register(name, function, of=None):
+    """Makes a function a case with a name. If the function only calls another one, that one tells the file."""
     if name in CASES:
         raise ValueError(f"two cases are named {name}")
     CASES[name] = function
+    FILES[name] = (of or getattr(function, "func", function)).__code__.co_filename
 
 
 def case(function):
@@ -44,7 +49,7 @@ def case_of(*kinds):
 
     def register_each(function):
         for kind in kinds:
-            register(f"{kind}_{function.__name__}", lambda words=KINDS[kind]: function(*words))
+            register(f"{kind}_{function.__name__}", lambda words=KINDS[kind]: function(*words), function)
         return function
 
     return register_each
