@@ -71,7 +71,8 @@ abbrev pub cycled_in : Option (List ℕ × Bool) → Bool
 cycled_in None = false
 cycled_in (Some neighbour) = neighbour.1
 
-pub record Shows (ordered : Bool) (neighbour : Option (List ℕ × Bool)) (told : Neighbour) (old new : List ℕ) : Type 0 where
+pub record Shows (ordered : Bool) (neighbour : Option (List ℕ × Bool)) (told : Neighbour) (old new : List ℕ)
+    : Type 0 where
   pub status : told.status ≡ (if ordered then 0 else 4)
   pub count : told.count ≡ length (list_in (if_ordered ordered neighbour))
   pub cycled : told.cycled ≡ cycled_in (if_ordered ordered neighbour)

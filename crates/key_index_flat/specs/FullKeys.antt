@@ -40,7 +40,8 @@ IsLeast {V = V} cmp l (Some v) =
     (before : List V) × (after : List V) × (l ≡ before ++ v ∷ after)
     × All (λ w. cmp v w ≡ Less) before × All (λ w. IsLeBy cmp v w) after
 
-abbrev pub IsLeastRead : {V K : Type 0} → (V → List ℕ) → (K → List ℕ) → (List ℕ → List ℕ → Ordering) → List V → Option (Bor V × K) → Type 0
+abbrev pub IsLeastRead : {V K : Type 0} → (V → List ℕ) → (K → List ℕ) → (List ℕ → List ℕ → Ordering)
+    → List V → Option (Bor V × K) → Type 0
 IsLeastRead full_key items cmp l o =
     IsLeast (on full_key cmp) l (option_map (λ n. n.0.now) o) × IfSome o (λ n. items n.1 ≡ full_key n.0.now)
 

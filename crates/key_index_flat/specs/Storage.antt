@@ -33,7 +33,8 @@ list_of (Some head) tail = head ∷ tail
 abbrev pub list_left : {V : Type 0} → Bool → V → Option V → List V → List V
 list_left head_stays head next tail = list_of (if head_stays then Some head else next) tail
 
-pub record RetainsTail {F V : Type 0} (ask : F → V → Bool → F → Type 0) (f : F) (head : V) (old new : List V) (r : TailRetained V) : Type 0 where
+pub record RetainsTail {F V : Type 0} (ask : F → V → Bool → F → Type 0) (f : F) (head : V) (old new : List V)
+    (r : TailRetained V) : Type 0 where
   pub asked : AsksInTurn ask f true (head ∷ old) (list_left r.head_stays head r.next new) r.stays
   pub had : r.had ≡ length old
   pub left : r.left ≡ length (list_left r.head_stays head r.next new)

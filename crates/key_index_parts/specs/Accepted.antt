@@ -54,7 +54,8 @@ module _ {K V : Type 0} (cmp : K → K → Ordering) (first : Bool) where
   AreAccepted [] [] s = Unit {0}
   AreAccepted [] (o ∷ os) s = ⊥
   AreAccepted (x ∷ xs) [] s = ⊥
-  AreAccepted (x ∷ xs) (o ∷ os) s = IsAccepted x (run_of cmp s (op_key x)) o × AreAccepted xs os (after_op cmp first x s)
+  AreAccepted (x ∷ xs) (o ∷ os) s =
+      IsAccepted x (run_of cmp s (op_key x)) o × AreAccepted xs os (after_op cmp first x s)
 
   abbrev pub HaveSpace : List (Op V) → View K V → Type 0
   HaveSpace [] s = Unit {0}

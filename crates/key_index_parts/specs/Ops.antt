@@ -44,7 +44,8 @@ module _ {V : Type 0} where
 
 module _ {K V : Type 0} (cmp : K → K → Ordering) (first : Bool) where
   abbrev pub after_op_at : K → Op V → View K V → View K V
-  after_op_at k x s = with_pruned (with_run cmp s k (list_after first x (run_at cmp s k))) (taken_after x (run_at cmp s k))
+  after_op_at k x s =
+      with_pruned (with_run cmp s k (list_after first x (run_at cmp s k))) (taken_after x (run_at cmp s k))
 
   abbrev pub after_op : Op V → View K V → View K V
   after_op x s = after_op_at (s.slot (op_key x)) x s

@@ -26,7 +26,8 @@ number_of partition slot b = partition (slot b)
 abbrev pub empty_view : {K V : Type 0} → (List ℕ → K) → (K → Bool) → View K V
 empty_view slot admitted = record { content = []; pruned = 0; slot = slot; admitted = admitted }
 
-module _ {R K V : Type 0} (cmp : K → K → Ordering) (first : Bool) (view : R → View K V) (slot : List ℕ → K) (partition : K → ℕ) where
+module _ {R K V : Type 0} (cmp : K → K → Ordering) (first : Bool) (view : R → View K V) (slot : List ℕ → K)
+    (partition : K → ℕ) where
   pub record IsFilled (ops : List (Op V)) (a b : ℕ) (range : R) : Type 0 where
     pub holds : view range
         ≡ after_ops cmp first (ops_within (number_of partition slot) a b ops)

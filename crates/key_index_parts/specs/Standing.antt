@@ -41,7 +41,8 @@ pub record Standings : Type 0 where
   pub moved : ℕ
 
 abbrev pub standings_of : ℕ → List Standing → ℕ → ℕ → Standings
-standings_of threshold buckets spills moved = record { threshold = threshold; buckets = buckets; spills = spills; moved = moved }
+standings_of threshold buckets spills moved =
+    record { threshold = threshold; buckets = buckets; spills = spills; moved = moved }
 
 abbrev pub standing_in : List Standing → ℕ → Standing
 standing_in buckets n = slice_index_or buckets n (record { entries = 0; spilled = false })

@@ -27,6 +27,7 @@ AddsAtMost old bytes before after = (c : List ℕ) → after c → before c ⊎ 
 abbrev pub IsBegun : List ℕ → List ℕ → List ℕ → Type 0
 IsBegun bytes old new = (n : ℕ) × (new ≡ old ++ take n bytes) × ((n < length bytes) ⊎ (n ≡ 0))
 
-pub record IsRead {D : Type 0} (seen : D → Option (List ℕ)) (may_leave : D → List ℕ → Type 0) (old new : D) : Type 0 where
+pub record IsRead {D : Type 0} (seen : D → Option (List ℕ)) (may_leave : D → List ℕ → Type 0) (old new : D)
+    : Type 0 where
   pub stays : Stays (seen old) (seen new)
   pub crash : NoMore (may_leave old) (may_leave new)

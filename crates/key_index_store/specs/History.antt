@@ -56,4 +56,5 @@ left_by Synced _ old before c = c ≡ old
 
 abbrev pub may_leave_after : List ℕ → List Noted → List ℕ → Type 0
 may_leave_after first [] c = c ≡ first
-may_leave_after first (call ∷ earlier) c = left_by call.0 call.1 (content first earlier) (may_leave_after first earlier) c
+may_leave_after first (call ∷ earlier) c =
+    left_by call.0 call.1 (content first earlier) (may_leave_after first earlier) c

@@ -81,7 +81,8 @@ impl Device for MemoryDevice {
     fn set_len(&mut self, len: u64) -> Result<(), Failed>
         ensures done { IsOk result }
         ensures cut { held self.new ≡ take len (held self.old) }
-        ensures kept { kept self.new ≡ (if nat_lt len (length (held self.old)) then min (kept self.old) len else kept self.old) }
+        ensures kept { kept self.new
+            ≡ (if nat_lt len (length (held self.old)) then min (kept self.old) len else kept self.old) }
     {
         if len < self.bytes.len() as u64 {
             self.bytes.truncate(len as usize);

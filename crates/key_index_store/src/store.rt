@@ -86,7 +86,8 @@ impl<D: Device, I: Unordered<Value = u64>> Model for Store<D, I> {
 
     ghost view = { λ s. s.log.device };
 
-    ghost invariant = { λ s. Sees (D.seen s.log.device) (λ log. Keeps I.Key.cmp log (I.view s.index) s.log.end s.tail) };
+    ghost invariant = { λ s. Sees (D.seen s.log.device)
+        (λ log. Keeps I.Key.cmp log (I.view s.index) s.log.end s.tail) };
 }
 
 /// Files the position of a key's newest record: in the place of the older one, or as a new one; of a deletion removes the older one.

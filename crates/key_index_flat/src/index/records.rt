@@ -244,7 +244,8 @@ pub fn find_record<'a, I: Unordered, R: Records<'a, I::Value>>(
 ) -> Result<Option<&'a I::Value>, R::Error>
     ensures candidate { AsRead (R.agrees records.new) (λ keys. IfOk result (λ o.
         option_copied o ≡ first_with keys key.now (run_of I.Key.cmp (I.view index.now) key.now))) }
-    ensures filed { AsRead (R.agrees records.new) (λ keys. IsFiledIn keys I.Key.cmp (I.view index.now) → IfOk result (λ o.
+    ensures filed { AsRead (R.agrees records.new) (λ keys. IsFiledIn keys I.Key.cmp (I.view index.now)
+        → IfOk result (λ o.
         option_copied o ≡ first_with keys key.now (values_of (I.view index.now).content))) }
     ensures reads { R.reads records.old records.new }
     ensures fault { IfErr result (FailsOn (R.fails records.new) (run_of I.Key.cmp (I.view index.now) key.now)) }
@@ -261,7 +262,8 @@ fn own_or_next<'a, I: Ordered, R: Records<'a, I::Value>>(
     own: Option<&'a I::Value>,
 ) -> Result<Option<&'a I::Value>, R::Error>
     ensures candidate { AsRead (R.agrees records.new) (λ keys.
-        IsLeast (cmp_keys keys) (above keys key.now (run_of I.Key.cmp (I.view index.now) key.now)) (option_copied own.entry)
+        IsLeast (cmp_keys keys) (above keys key.now (run_of I.Key.cmp (I.view index.now) key.now))
+            (option_copied own.entry)
         → IfOk result (λ o. IsNextIn keys I.Key.cmp (I.view index.now) key.now (option_copied o))) }
     ensures reads { R.reads records.old records.new }
     ensures fault { IfErr result (FailsOn (R.fails records.new) (values_of (I.view index.now).content)) }
@@ -304,7 +306,8 @@ fn own_or_prev<'a, I: Ordered, R: Records<'a, I::Value>>(
     own: Option<&'a I::Value>,
 ) -> Result<Option<&'a I::Value>, R::Error>
     ensures candidate { AsRead (R.agrees records.new) (λ keys.
-        IsLeast (flip_args (cmp_keys keys)) (below keys key.now (run_of I.Key.cmp (I.view index.now) key.now)) (option_copied own.entry)
+        IsLeast (flip_args (cmp_keys keys)) (below keys key.now (run_of I.Key.cmp (I.view index.now) key.now))
+            (option_copied own.entry)
         → IfOk result (λ o. IsPrevIn keys I.Key.cmp (I.view index.now) key.now (option_copied o))) }
     ensures reads { R.reads records.old records.new }
     ensures fault { IfErr result (FailsOn (R.fails records.new) (values_of (I.view index.now).content)) }

@@ -27,7 +27,8 @@ fn file<D: Device, I: Unordered<Value = u64>>(
     ensures filed { Sees (D.seen device.new) (λ log. (value : Option (List ℕ)) → has_value ≡ is_some value
         → Fits (record { key = key.now; value = value }) → position ≤ length log
         → Indexes I.Key.cmp (take position log) (I.view index.old) → OnOk result
-        (Indexes I.Key.cmp (take position log ++ encoded (record { key = key.now; value = value })) (I.view index.new))) }
+        (Indexes I.Key.cmp (take position log ++ encoded (record { key = key.now; value = value }))
+            (I.view index.new))) }
     ensures read { IsRead D.seen D.may_leave device.old device.new }
     ensures fault { Sees (D.seen device.new) (λ log. position ≤ length log → position < usize.MAX
         → Indexes I.Key.cmp (take position log) (I.view index.old) → IfErr result MayRead) }
@@ -113,7 +114,8 @@ fn tail_at<D: Device>(
     is_torn: bool,
 ) -> Result<Tail, Fault>
     ensures told { Sees (D.seen device.new) (λ log. len ≡ length log
-        → (reading (drop end log) ≡ (if is_torn then Torn else Damaged)) → IfOk result (λ t. t ≡ tail_of (drop end log))) }
+        → (reading (drop end log) ≡ (if is_torn then Torn else Damaged))
+        → IfOk result (λ t. t ≡ tail_of (drop end log))) }
     ensures read { IsRead D.seen D.may_leave device.old device.new }
     ensures fault { IfErr result MayRead }
 {

@@ -79,11 +79,14 @@ where
     I::Value: Drop,
     requires none { (I.view index.now).content ≡ [] }
     requires cuts { IsCuts cuts.now I.partitions }
-    requires empty { AreFilled I.Key.cmp I.INSERT_FIRST I.Range.view (I.view index.now).slot I.partition [] cuts.now ranges.old }
+    requires empty { AreFilled I.Key.cmp I.INSERT_FIRST I.Range.view (I.view index.now).slot I.partition
+        [] cuts.now ranges.old }
     ensures filled { OnOk result (
-        AreFilled I.Key.cmp I.INSERT_FIRST I.Range.view (I.view index.now).slot I.partition ops.items cuts.now ranges.new) }
+        AreFilled I.Key.cmp I.INSERT_FIRST I.Range.view (I.view index.now).slot I.partition
+            ops.items cuts.now ranges.new) }
     ensures below { OnOk result (AreBelow (number_of I.partition (I.view index.now).slot) I.partitions ops.items) }
-    ensures refused { IfErr result (IsFillingFault I.Key.cmp I.INSERT_FIRST I.partition cuts.now ops.items (I.view index.now)) }
+    ensures refused { IfErr result (IsFillingFault I.Key.cmp I.INSERT_FIRST I.partition
+        cuts.now ops.items (I.view index.now)) }
 {
     let mut rest = ops.into_iter();
     'ops: while let Some(op) = rest.next() {
