@@ -1,4 +1,5 @@
 pub mod NeighbourLemmas
+pub mod WalkLemmas
 pub mod LeastLemmas
 pub mod FullKeyLemmas
 pub mod Nested

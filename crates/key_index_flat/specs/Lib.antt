@@ -17,6 +17,7 @@ pub mod Unordered
 pub mod Ordered
 pub mod Arrays
 pub mod Values
+pub mod Walk
 pub mod FullKeys
 pub mod Retention
 pub mod Visits

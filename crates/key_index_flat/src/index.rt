@@ -18,6 +18,7 @@ mod storage;
 mod traits;
 pub mod unordered;
 mod values;
+mod walk;
 
 pub use apply::run;
 pub use command::{Command, Outcome, Step};
@@ -32,6 +33,7 @@ pub use traits::runs::Runs;
 pub use traits::search::Search;
 pub use traits::unordered::{Factory, Unordered};
 pub use values::Values;
+pub use walk::{OrderedLists, Walk, lists, lists_from};
 
 /// Why a call was refused. A refused call changes no content, nor `keys`, `items` and `pruned`.
 #[derive(Debug, Clone, Copy, PartialEq, Eq)]

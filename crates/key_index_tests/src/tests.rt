@@ -10,3 +10,4 @@ mod room;
 mod slots;
 mod small;
 mod translators;
+mod walks;

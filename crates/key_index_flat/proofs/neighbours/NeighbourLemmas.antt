@@ -4,7 +4,7 @@
 --     first_taken, rest_taken              and one from the start
 --     last_or-map                          the last of what a function makes of entries
 --     content_of-in_order                  newest values in order stand for a content entry by entry
---     first_list-in_order, ..              so its ends and neighbours are theirs
+--     first-in_order, ..                   so its ends and neighbours are theirs
 --     content_of-popped, IsLinked-popped   what is left where the first entry goes
 --     range_below                          the entries that a range up to a key has
 --     lookup-from                          a range from a key on has the value at that key
@@ -28,7 +28,7 @@ use Rattle.std.specs.FinMap.Entries.{by_order}
 use Rattle.key_index_flat.specs.Content.{Content, with_list}
 use Rattle.key_index_flat.specs.Storage.{content_of, value_of, IsLinked}
 use Rattle.key_index_flat.proofs.content.ChainLemmas.{holds_at_every_key}
-use Rattle.key_index_flat.specs.Neighbours.{first_entry, last_entry, entries_above, entries_below, first_list, last_list}
+use Rattle.key_index_flat.specs.Neighbours.{first_entry, last_entry, entries_above, entries_below}
 
 -- ---- the last entry
 
@@ -96,32 +96,22 @@ module _ {K V : Type 0} where
       ap (λ c. with_list cmp c e.0 (e.1 ∷ tail e.0)) (content_of-in_order cmp (f ∷ fs) tail (sorted_tail cmp e.0 _ h))
       ∙ put_in_front cmp e.0 f.0 (e.1 ∷ tail e.0) (f.1 ∷ tail f.0) (map (entry_of tail) fs) (sorted_head cmp e.0 _ h).0
 
-  -- the list of an entry of newest values
-  abbrev pub listed : (K → List V) → K × V → List V
-  listed tail e = e.1 ∷ tail e.0
-
-  lists_entry : (tail : K → List V) (a : Option (K × V)) → option_map (λ e. e.1) (option_map (entry_of tail) a) ≡ option_map (listed tail) a
-  lists_entry tail None = refl
-  lists_entry tail (Some e) = refl
-
   module _ (cmp : K → K → Ordering) (heads : List (K × V)) (tail : K → List V) (h : IsStrictlySortedBy cmp (keys_of heads)) where
-    pub first_list-in_order : first_list (content_of cmp heads tail) ≡ option_map (listed tail) (first_entry heads)
-    first_list-in_order = ap first_list (content_of-in_order cmp heads tail h) ∙ ap (option_map (λ e. e.1)) (first_entry-map (entry_of tail) heads) ∙ lists_entry tail (first_entry heads)
+    pub first-in_order : first_entry (content_of cmp heads tail) ≡ option_map (entry_of tail) (first_entry heads)
+    first-in_order = ap first_entry (content_of-in_order cmp heads tail h) ∙ first_entry-map (entry_of tail) heads
 
-    pub last_list-in_order : last_list (content_of cmp heads tail) ≡ option_map (listed tail) (last_entry heads)
-    last_list-in_order = ap last_list (content_of-in_order cmp heads tail h) ∙ ap (option_map (λ e. e.1)) (last_or-map (entry_of tail) None heads) ∙ lists_entry tail (last_entry heads)
+    pub last-in_order : last_entry (content_of cmp heads tail) ≡ option_map (entry_of tail) (last_entry heads)
+    last-in_order = ap last_entry (content_of-in_order cmp heads tail h) ∙ last_or-map (entry_of tail) None heads
 
-    pub above-in_order : (k : K) → first_list (entries_above cmp (content_of cmp heads tail) k) ≡ option_map (listed tail) (first_entry (entries_above cmp heads k))
+    pub above-in_order : (k : K) → first_entry (entries_above cmp (content_of cmp heads tail) k) ≡ option_map (entry_of tail) (first_entry (entries_above cmp heads k))
     above-in_order k =
-        ap (λ c. first_list (entries_above cmp c k)) (content_of-in_order cmp heads tail h)
-        ∙ ap (option_map (λ e. e.1)) (ap first_entry (filter-map (λ e. is_lt (cmp k e.0)) (entry_of tail) heads) ∙ first_entry-map (entry_of tail) (entries_above cmp heads k))
-        ∙ lists_entry tail (first_entry (entries_above cmp heads k))
+        ap (λ c. first_entry (entries_above cmp c k)) (content_of-in_order cmp heads tail h)
+        ∙ ap first_entry (filter-map (λ e. is_lt (cmp k e.0)) (entry_of tail) heads) ∙ first_entry-map (entry_of tail) (entries_above cmp heads k)
 
-    pub below-in_order : (k : K) → last_list (entries_below cmp (content_of cmp heads tail) k) ≡ option_map (listed tail) (last_entry (entries_below cmp heads k))
+    pub below-in_order : (k : K) → last_entry (entries_below cmp (content_of cmp heads tail) k) ≡ option_map (entry_of tail) (last_entry (entries_below cmp heads k))
     below-in_order k =
-        ap (λ c. last_list (entries_below cmp c k)) (content_of-in_order cmp heads tail h)
-        ∙ ap (option_map (λ e. e.1)) (ap last_entry (filter-map (λ e. is_lt (cmp e.0 k)) (entry_of tail) heads) ∙ last_or-map (entry_of tail) None (entries_below cmp heads k))
-        ∙ lists_entry tail (last_entry (entries_below cmp heads k))
+        ap (λ c. last_entry (entries_below cmp c k)) (content_of-in_order cmp heads tail h)
+        ∙ ap last_entry (filter-map (λ e. is_lt (cmp e.0 k)) (entry_of tail) heads) ∙ last_or-map (entry_of tail) None (entries_below cmp heads k)
 
 -- ---- the first entry goes
 

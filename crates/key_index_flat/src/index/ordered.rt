@@ -6,7 +6,9 @@ ghost use Rattle.key_index_flat.specs.Storage.{view_of};
 use super::implement::{Lists, show_by_key, show_counts, visit_by_key};
 use super::storage::Storage;
 use super::storage::tree_key::TreeMap;
-use super::{Factory, Fault, IndexCursor, Ordered, Refused, Runs, Search, Unordered, Values};
+use super::{
+    Factory, Fault, IndexCursor, Ordered, OrderedLists, Refused, Runs, Search, Unordered, Values,
+};
 use crate::translator::{OrderedTranslator, Translator};
 use std::alloc::Global;
 use std::convert::AsSlice;
@@ -234,12 +236,26 @@ impl<T: OrderedTranslator, V: Drop> Ordered for Index<T, V> {
 
     #[inline]
     fn first_translated_key(&self) -> Option<Values<'_, V>> {
-        self.storage.first()
+        let (_, values) = self.storage.first()?;
+        Some(values)
     }
 
     #[inline]
     fn last_translated_key(&self) -> Option<Values<'_, V>> {
-        self.storage.last()
+        let (_, values) = self.storage.last()?;
+        Some(values)
+    }
+}
+
+impl<T: OrderedTranslator, V: Drop> OrderedLists for Index<T, V> {
+    #[inline]
+    fn first_entry(&self) -> Option<(T::Key, Values<'_, V>)> {
+        self.storage.first()
+    }
+
+    #[inline]
+    fn entry_above(&self, slot: T::Key) -> Option<(T::Key, Values<'_, V>)> {
+        self.storage.above(slot)
     }
 }
 

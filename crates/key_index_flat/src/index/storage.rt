@@ -3,7 +3,7 @@ ghost use Rattle.std.specs.Prelude.{◌≡◌, ◌+◌, ◌<◌, ◌≤◌, [], 
 ghost use Rattle.std.specs.Fn.{CalledAt};
 ghost use Rattle.key_index_flat.specs.Content.{item_count, key_count, list_at, IsLawful};
 ghost use Rattle.key_index_flat.specs.Fault.{growth_fault};
-ghost use Rattle.key_index_flat.specs.Neighbours.{first_list, last_list, next_list, prev_list};
+ghost use Rattle.key_index_flat.specs.Neighbours.{entries_above, first_entry, last_entry, next_list, prev_list};
 ghost use Rattle.key_index_flat.specs.Storage.{Kept, IsCounted, added, view_of};
 ghost use Rattle.key_index_flat.specs.View.{run_at, with_run, with_edit, with_pruned, with_slot, InsertsAndRetains, Retains};
 ghost use Rattle.key_index_flat.specs.Values.{values_of, VisitsEach};
@@ -304,17 +304,24 @@ impl<T: Translator, V: Drop, M: Heads<T::Key, V>> Storage<T, V, M> {
 
 impl<T: Translator, V: Drop, M: OrderedHeads<T::Key, V>> Storage<T, V, M> {
     #[inline]
-    pub(crate) fn first(&self) -> Option<Values<'_, V>>
-        ensures { result ≡ first_list self.now.content }
+    pub(crate) fn first(&self) -> Option<(T::Key, Values<'_, V>)>
+        ensures { result ≡ first_entry self.now.content }
     {
         self.chains.first()
     }
 
     #[inline]
-    pub(crate) fn last(&self) -> Option<Values<'_, V>>
-        ensures { result ≡ last_list self.now.content }
+    pub(crate) fn last(&self) -> Option<(T::Key, Values<'_, V>)>
+        ensures { result ≡ last_entry self.now.content }
     {
         self.chains.last()
+    }
+
+    #[inline]
+    pub(crate) fn above(&self, slot: T::Key) -> Option<(T::Key, Values<'_, V>)>
+        ensures { result ≡ first_entry (entries_above T.Key.cmp self.now.content slot) }
+    {
+        self.chains.above(slot)
     }
 
     #[inline]

@@ -1,16 +1,18 @@
 -- The neighbours of a slot among the buckets of a family, by which of them are filled.
 --     flag_told, flag_at-within               the flag of a bucket, and a flag that is set is of one
---     first_of, first_none                    the first list of the buckets from a number on, by the first of them that is filled, and where none is
+--     at_number                               an entry of a bucket at its slot
+--     first_of, first_none                    the first entry of the buckets from a number on, by the first of them that is filled, and where none is
 --     last_of, last_list-no_flags             the last list of the buckets below a number, by the last of them that is filled, and where none is
---     next_list-gathered, prev_list-gathered  the next list of a slot and the previous one: in its own bucket, in one beyond it, or at the other end
+--     above-in_parts, above-past              the first entry above a slot: in its own bucket, or in one beyond it; and none where it has no bucket
+--     prev_list-gathered                      the previous list of a slot: in its own bucket, in one before it, or at the other end
 use Rattle.std.proofs.Common.{◌≡◌, ℕ, zero, suc, ◌+◌, ◌-◌, ◌<◌, ◌≤◌, nat_lt, true, false, T, List, [], ◌∷◌, ◌++◌, get_or, take, drop, length, Option, Some, None, append-nil, refl, sym, ap, subst, ◌∙◌, add-one, arith}
 use Rattle.std.proofs.lemmas.Bool.{ltb-true, ltb-false}
-use Rattle.std.proofs.lemmas.List.{get_or-drop, get_or-take, get_or_past, length-take}
+use Rattle.std.proofs.lemmas.List.{get_or-drop, get_or-take, get_or_past, length-take, drop_all}
 use Rattle.std.specs.List.{last_or}
 use Rattle.std.specs.Option.{option_map, option_or}
 use Rattle.std.specs.declared.cmp.Ordering.{Ordering}
 use Rattle.key_index_flat.specs.Content.{Content, is_filled}
-use Rattle.key_index_flat.specs.Neighbours.{first_entry, last_entry, or_cycled, entries_above, entries_below, first_list, last_list, next_list, prev_list}
+use Rattle.key_index_flat.specs.Neighbours.{first_entry, last_entry, or_cycled, entries_above, entries_below, last_list, prev_list}
 use Rattle.key_index_parts.specs.Family.{bucket_at, filled_buckets}
 use Rattle.key_index_parts.specs.Bitmap.{IsFirst, IsLast, flag_at}
 use Rattle.key_index_parts.specs.Gathered.{pair_cmp, tagged, gathered_from, gathered}
@@ -20,9 +22,12 @@ last_or-append_more : {E : Type 0} (o : Option E) (xs : List E) (y : E) (ys : Li
 last_or-append_more o [] y ys = refl
 last_or-append_more o (x ∷ xs) y ys = last_or-append_more (Some x) xs y ys
 
-first_list-append : {K V : Type 0} (p : ℕ) (c : Content K V) (d : Content (ℕ × K) V) → first_list (tagged p c ++ d) ≡ option_or (first_list c) (first_list d)
-first_list-append p [] d = refl
-first_list-append p (e ∷ es) d = refl
+abbrev pub at_number : {K V : Type 0} → ℕ → K × List V → (ℕ × K) × List V
+at_number p e = ((p, e.0), e.1)
+
+first_entry-append : {K V : Type 0} (p : ℕ) (c : Content K V) (d : Content (ℕ × K) V) → first_entry (tagged p c ++ d) ≡ option_or (option_map (at_number p) (first_entry c)) (first_entry d)
+first_entry-append p [] d = refl
+first_entry-append p (e ∷ es) d = refl
 
 module _ {K V : Type 0} where
   -- the flag of a bucket
@@ -46,30 +51,30 @@ module _ {K V : Type 0} where
   none_from m [] h = refl
   none_from m (c ∷ cs) h = ap (λ d. tagged m d ++ gathered_from (suc m) cs) (empty-is_filled c (h 0)) ∙ none_from (suc m) cs (λ i. h (suc i))
 
-  first_from : (m : ℕ) (cs : List (Content K V)) (j : ℕ) → is_filled (get_or cs j []) ≡ true → ((i : ℕ) → i < j → is_filled (get_or cs i []) ≡ false)
-      → first_list (gathered_from m cs) ≡ first_list (get_or cs j [])
-  first_from m [] j h before = absurd (subst T (sym h) tt)
-  first_from m ([] ∷ cs) zero h before = absurd (subst T (sym h) tt)
-  first_from m ((e ∷ es) ∷ cs) zero h before = refl
-  first_from m (c ∷ cs) (suc j) h before =
-      ap (λ d. first_list (tagged m d ++ gathered_from (suc m) cs)) (empty-is_filled c (before 0 (omega arith)))
-      ∙ first_from (suc m) cs j h (λ i l. before (suc i) (omega (arith, l)))
+  first_from : (m n : ℕ) (cs : List (Content K V)) (j : ℕ) → m + j ≡ n → is_filled (get_or cs j []) ≡ true → ((i : ℕ) → i < j → is_filled (get_or cs i []) ≡ false)
+      → first_entry (gathered_from m cs) ≡ option_map (at_number n) (first_entry (get_or cs j []))
+  first_from m n [] j is h before = absurd (subst T (sym h) tt)
+  first_from m n ([] ∷ cs) zero is h before = absurd (subst T (sym h) tt)
+  first_from m n ((e ∷ es) ∷ cs) zero is h before = ap (λ p. Some (at_number p e)) (omega (arith, is))
+  first_from m n (c ∷ cs) (suc j) is h before =
+      ap (λ d. first_entry (tagged m d ++ gathered_from (suc m) cs)) (empty-is_filled c (before 0 (omega arith)))
+      ∙ first_from (suc m) n cs j (omega (arith, is)) h (λ i l. before (suc i) (omega (arith, l)))
 
   module _ (buckets : List (Content K V)) (start : ℕ) where
     from_start : (i : ℕ) → get_or (drop start buckets) i [] ≡ bucket_at buckets (start + i)
     from_start i = get_or-drop start buckets i []
 
-    pub first_of : (n : ℕ) → IsFirst (flag_at (filled_buckets buckets)) start n → first_list (gathered_from start (drop start buckets)) ≡ first_list (bucket_at buckets n)
+    pub first_of : (n : ℕ) → IsFirst (flag_at (filled_buckets buckets)) start n → first_entry (gathered_from start (drop start buckets)) ≡ option_map (at_number n) (first_entry (bucket_at buckets n))
     first_of n first =
         let from = first.from in
         let j : (i : ℕ) × (start + i ≡ n) = (n - start, omega (arith, from)) in
         let here = from_start j.0 ∙ ap (λ m. bucket_at buckets m) j.1 in
-        first_from start (drop start buckets) j.0 (ap is_filled here ∙ sym (flag_told buckets n) ∙ first.here)
+        first_from start n (drop start buckets) j.0 j.1 (ap is_filled here ∙ sym (flag_told buckets n) ∙ first.here)
         (λ i l. ap is_filled (from_start i) ∙ sym (flag_told buckets (start + i)) ∙ first.before (start + i) (omega arith) (omega (arith, l, j.1)))
-        ∙ ap (λ c. first_list c) here
+        ∙ ap (λ c. option_map (at_number n) (first_entry c)) here
 
-    pub first_none : ((p : ℕ) → start ≤ p → flag_at (filled_buckets buckets) p ≡ false) → first_list (gathered_from start (drop start buckets)) ≡ None
-    first_none h = ap (λ c. first_list c) (none_from start (drop start buckets) (λ i. ap is_filled (from_start i) ∙ sym (flag_told buckets (start + i)) ∙ h (start + i) (omega arith)))
+    pub first_none : ((p : ℕ) → start ≤ p → flag_at (filled_buckets buckets) p ≡ false) → first_entry (gathered_from start (drop start buckets)) ≡ None
+    first_none h = ap (λ c. first_entry c) (none_from start (drop start buckets) (λ i. ap is_filled (from_start i) ∙ sym (flag_told buckets (start + i)) ∙ h (start + i) (omega arith)))
 
   -- ---- below a number
 
@@ -119,22 +124,27 @@ module _ {K V : Type 0} where
 
 -- ---- neighbours
 
+module _ {K V : Type 0} (cmp : K → K → Ordering) (buckets : List (Content K V)) where
+  -- of a slot whose own bucket holds c: the entry that c has, or else the one that the buckets beyond have
+  pub above-in_parts : (slot : ℕ × K) {c : Content K V} (told : c ≡ bucket_at buckets slot.0) {own : Option (K × List V)} {later : Option ((ℕ × K) × List V)}
+      → own ≡ first_entry (entries_above cmp c slot.1) → later ≡ first_entry (gathered_from (slot.0 + 1) (drop (slot.0 + 1) buckets))
+      → option_or (option_map (at_number slot.0) own) later ≡ first_entry (entries_above (pair_cmp cmp) (gathered buckets) slot)
+  above-in_parts slot told of_own of_later =
+      (λ i. option_or (option_map (at_number slot.0) ((of_own ∙ ap (λ d. first_entry (entries_above cmp d slot.1)) told) i)) ((of_later ∙ ap (λ n. first_entry (gathered_from n (drop n buckets))) (add-one slot.0)) i))
+      ∙ sym (ap (λ d. first_entry d) (above-gathered cmp buckets slot.0 slot.1) ∙ first_entry-append slot.0 _ _)
+
+  pub above-past : (slot : ℕ × K) → length buckets ≤ slot.0 → entries_above (pair_cmp cmp) (gathered buckets) slot ≡ []
+  above-past slot past =
+      above-gathered cmp buckets slot.0 slot.1
+      ∙ (λ i. tagged slot.0 (entries_above cmp (get_or_past buckets slot.0 [] past i) slot.1) ++ gathered_from (suc slot.0) (drop_all (suc slot.0) buckets (omega (arith, past)) i))
+
 or_cycled-lists : {K V : Type 0} (o p : Option (K × List V)) → or_cycled (option_map (λ e. e.1) o) (option_map (λ e. e.1) p) ≡ option_map (λ n. (n.0.1, n.1)) (or_cycled o p)
 or_cycled-lists (Some e) p = refl
 or_cycled-lists None (Some e) = refl
 or_cycled-lists None None = refl
 
--- of a slot whose own bucket holds c: the list that c has, or else the one that the buckets beyond have, or else the one at the other end
+-- of a slot whose own bucket holds c: the list that c has, or else the one that the buckets before have, or else the one at the other end
 module _ {K V : Type 0} (cmp : K → K → Ordering) (buckets : List (Content K V)) (slot : ℕ × K) {c : Content K V} (told : c ≡ bucket_at buckets slot.0) {o p q : Option (List V)} where
-  pub next_list-gathered : o ≡ first_list (entries_above cmp c slot.1) → p ≡ first_list (gathered_from (slot.0 + 1) (drop (slot.0 + 1) buckets)) → q ≡ first_list (gathered buckets)
-      → or_cycled (option_or o p) q ≡ next_list (pair_cmp cmp) (gathered buckets) slot
-  next_list-gathered own later first =
-      let of_own = own ∙ ap (λ d. first_list (entries_above cmp d slot.1)) told in
-      let of_later = later ∙ ap (λ n. first_list (gathered_from n (drop n buckets))) (add-one slot.0) in
-      (λ i. or_cycled (option_or (of_own i) (of_later i)) (first i))
-      ∙ ap (λ r. or_cycled r (first_list (gathered buckets))) (sym (ap (λ d. first_list d) (above-gathered cmp buckets slot.0 slot.1) ∙ first_list-append slot.0 _ _))
-      ∙ or_cycled-lists (first_entry (entries_above (pair_cmp cmp) (gathered buckets) slot)) (first_entry (gathered buckets))
-
   pub prev_list-gathered : o ≡ last_list (entries_below cmp c slot.1) → p ≡ last_list (gathered (take slot.0 buckets)) → q ≡ last_list (gathered buckets)
       → or_cycled (option_or o p) q ≡ prev_list (pair_cmp cmp) (gathered buckets) slot
   prev_list-gathered own earlier last =

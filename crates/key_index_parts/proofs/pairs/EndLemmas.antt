@@ -1,9 +1,10 @@
--- The first list and the last of the content of pairs whose keys never fall.
+-- The first entry and the last list of the content of pairs whose keys never fall.
 --     first_list-list_at, last_list-list_at  of a content, by a key with nothing below it, or above
---     first_run_is, last_run_is              of pairs, by the values of the first key and of the last
+--     first_run_is, last_run_is              of pairs, by the run of the first key and that of the last
 --     above_is, below_is                     the entries above a key and below it, by the places where they begin and end
-use Rattle.std.proofs.Common.{◌≡◌, ℕ, zero, suc, ◌-◌, true, false, cond, T, List, [], ◌∷◌, length, take, drop, Some, None, unwrap_or, slice_get, All, refl, sym, ap, subst, ◌∙◌, arith}
+use Rattle.std.proofs.Common.{◌≡◌, ℕ, zero, suc, ◌+◌, ◌-◌, true, false, cond, T, List, [], ◌∷◌, length, map, take, drop, get_or, Some, None, unwrap_or, slice_get, All, refl, sym, ap, subst, ◌∙◌, arith}
 use Rattle.std.proofs.lemmas.List.{length-drop, take_rest}
+use Rattle.std.proofs.lemmas.Option.{get_or_from_slice_get, slice_get_within}
 use Rattle.std.proofs.lemmas.Map.Made.{keys_of-zip}
 use Rattle.std.specs.List.{filter, zip, slice_range}
 use Rattle.std.specs.List.Sorted.{IsSorted}
@@ -15,15 +16,24 @@ use Rattle.std.specs.declared.cmp.Ordering.TheVariants.{Less, Equal, Greater}
 use Rattle.std.specs.Ordering.{is_lt, is_le, is_eq, eq_by_cmp, ordering_reverse}
 use Rattle.key_index_flat.specs.Content.{Content, IsLawful, is_filled, list_at}
 use Rattle.key_index_flat.specs.laws.Laws.{T-and_first, T-and_second}
-use Rattle.key_index_flat.specs.Neighbours.{entries_above, entries_below, first_list, last_list}
+use Rattle.key_index_flat.specs.Neighbours.{entries_above, entries_below, first_entry, first_list, last_list}
 use Rattle.key_index_flat.proofs.content.ContentLemmas.{list_at-below_all, Less-is_lt}
-use Rattle.key_index_parts.specs.Pairs.{run_of, grouped}
+use Rattle.key_index_parts.specs.Pairs.{run_of, grouped, room_for}
 use Rattle.key_index_parts.proofs.pairs.SearchLemmas.{Rises-IsSorted, first_lowest, last_highest}
 use Rattle.key_index_parts.proofs.pairs.ZipLemmas.{length-zip, values_of-zip, take-zip, drop-zip}
+use Rattle.key_index_parts.proofs.pairs.DrainLemmas.{next_room}
 use Rattle.key_index_parts.proofs.pairs.PairLemmas.{filter-none, length-filter-keys}
 use Rattle.key_index_parts.proofs.pairs.RunLemmas.{all_keys, run_found, above_part, below_part, IsRun-within, IsRun-slice}
 use Rattle.key_index_parts.specs.laws.PairLaws.{IsLawful-grouped}
 use Rattle.key_index_parts.proofs.pairs.GroupLemmas.{list_at-grouped, entries_above-grouped, entries_below-grouped}
+
+-- the first entry, by its list and the room for it
+first_by_room : {K V : Type 0} (c : Content K V) (room : (K × List V) × ℕ) (rest : List ((K × List V) × ℕ)) → map room_for c ≡ room ∷ rest → {l : List V} → first_list c ≡ Some l → first_entry c ≡ Some (room.0.0, l)
+first_by_room [] room rest rooms is = cc
+first_by_room (e ∷ es) room rest rooms {l} is =
+    let first : room_for e ≡ room = cc in
+    let list : e.1 ≡ l = cc in
+    (λ i. Some (ap (λ r. r.0.0) first i, list i))
 
 module _ {K V : Type 0} {cmp : K → K → Ordering} (o : IsTotalOrder cmp) where
   pub first_list-list_at : (c : Content K V) (k : K) → IsLawful cmp c → T (is_filled (list_at cmp c k)) → entries_below cmp c k ≡ [] → first_list c ≡ Some (list_at cmp c k)
@@ -80,8 +90,8 @@ module _ {K V : Type 0} {cmp : K → K → Ordering} (o : IsTotalOrder cmp) wher
     filled_list : (i : ℕ) (k : K) → slice_get ks i ≡ Some k → T (is_filled (list_at cmp (grouped cmp es) k))
     filled_list i k at = subst (λ l. T (is_filled l)) (sym (list_at-grouped o es k)) (is_filled-run_of es i k (ap (λ l. slice_get l i) (sym ks-keys_of) ∙ at))
 
-    pub first_run_is : (k : K) (n : ℕ) → slice_get ks 0 ≡ Some k → n ≡ length (filter (λ x. is_le (cmp x k)) ks) → first_list (grouped cmp es) ≡ Some (take n vs)
-    first_run_is k n at ends =
+    first_values_are : (k : K) (n : ℕ) → slice_get ks 0 ≡ Some k → n ≡ length (filter (λ x. is_le (cmp x k)) ks) → first_list (grouped cmp es) ≡ Some (take n vs)
+    first_values_are k n at ends =
         let none : entries_below cmp es k ≡ [] = filter-none (λ e. is_lt (cmp e.0 k)) es (all_keys (λ x. is_lt (cmp x k) ≡ false) es (subst (λ l. All (λ x. is_lt (cmp x k) ≡ false) l) ks-keys_of (first_lowest o ks k h at))) in
         let run = run_found o ks vs sized k _ n refl ends in
         let begin : length (filter (λ x. is_lt (cmp x k)) ks) ≡ 0 = run.from ∙ ap length none in
@@ -89,6 +99,14 @@ module _ {K V : Type 0} {cmp : K → K → Ordering} (o : IsTotalOrder cmp) wher
         first_list-list_at (grouped cmp es) k (IsLawful-grouped o es) (filled_list 0 k at) (entries_below-grouped o es k ∙ ap (grouped cmp) none)
         ∙ ap Some (list_at-grouped o es k ∙ sym (IsRun-slice o es k _ n (subst (IsSorted cmp) ks-keys_of h) run)
         ∙ (λ i. slice_range (values_of-zip ks vs sized i) (begin i) n) ∙ ap (λ m. take m vs) whole)
+
+    pub first_run_is : (k last : K) (n : ℕ) → slice_get ks 0 ≡ Some k → n ≡ length (filter (λ x. is_le (cmp x k)) ks) → last ≡ get_or ks (n - 1) last
+        → first_entry (grouped cmp es) ≡ Some (last, take n vs)
+    first_run_is k last n at ends stands =
+        let place : 0 + (n - 1) ≡ n - 1 = omega arith in
+        let here = sym (get_or_from_slice_get ks 0 k last at) in
+        first_by_room (grouped cmp es) _ _ (next_room o ks vs sized h 0 n k last (slice_get_within ks 0 k at) here ends) (first_values_are k n at ends)
+        ∙ ap (λ q. Some (q, take n vs)) (ap (λ i. get_or ks i last) place ∙ sym stands)
 
     pub last_run_is : (k : K) (n : ℕ) → slice_get ks (length ks - 1) ≡ Some k → n ≡ length (filter (λ x. is_lt (cmp x k)) ks) → last_list (grouped cmp es) ≡ Some (drop n vs)
     last_run_is k n at begins =

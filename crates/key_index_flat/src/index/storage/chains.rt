@@ -6,7 +6,7 @@ ghost use Rattle.std.specs.List.Retain.{IsFiltered};
 ghost use Rattle.std.specs.Map.Iter.{deref_pair};
 ghost use Rattle.std.specs.Option.{option_map};
 ghost use Rattle.key_index_flat.specs.Content.{key_count, lacks, list_at, with_list, with_list_by, IsLawful};
-ghost use Rattle.key_index_flat.specs.Neighbours.{entries_above, entries_below, first_list, last_list, next_list, prev_list};
+ghost use Rattle.key_index_flat.specs.Neighbours.{entries_above, entries_below, first_entry, last_entry, next_list, prev_list};
 ghost use Rattle.key_index_flat.specs.Retention.{AsksBehind};
 ghost use Rattle.key_index_flat.specs.Storage.{KeptLists, added, content_of, list_of, tail_at, IsLinked};
 ghost use Rattle.key_index_flat.specs.Values.{values_of, VisitsEach};
@@ -326,52 +326,52 @@ fn gone_of(removed: usize, stays: bool) -> usize
     if stays { removed } else { removed - 1 }
 }
 
-/// The list of a key and its first value.
+/// A key with its list, by its first value.
 #[inline]
-fn values_of<'a, K: Ord + Hash + Copy, V, E: End>(
+fn entry_of<'a, K: Ord + Hash + Copy, V, E: End>(
     tails: &'a Tails<K, V, E>,
     head: Option<(&'a K, &'a V)>,
-) -> Option<Values<'a, V>>
+) -> Option<(K, Values<'a, V>)>
     ensures { result
-        ≡ option_map (λ e. e.1 ∷ tail_at E.FIRST K.eq tails.now.map e.0) (option_map deref_pair head.entry) }
+        ≡ option_map (λ e. (e.0, e.1 ∷ tail_at E.FIRST K.eq tails.now.map e.0)) (option_map deref_pair head.entry) }
 {
     match head {
-        Some((key, head)) => Some(tails.list(*key, head)),
+        Some((key, head)) => Some((*key, tails.list(*key, head))),
         None => None,
     }
 }
 
 impl<T: Translator, V: Drop, M: OrderedHeads<T::Key, V>, E: End> Chains<T, V, M, E> {
-    /// The list of the least key.
+    /// The least key, with its list.
     #[inline]
-    pub fn first(&self) -> Option<Values<'_, V>>
-        ensures { result ≡ first_list self.now.content }
+    pub fn first(&self) -> Option<(T::Key, Values<'_, V>)>
+        ensures { result ≡ first_entry self.now.content }
     {
-        values_of(&self.tails, self.heads.first())
+        entry_of(&self.tails, self.heads.first())
     }
 
-    /// The list of the greatest key.
+    /// The greatest key, with its list.
     #[inline]
-    pub fn last(&self) -> Option<Values<'_, V>>
-        ensures { result ≡ last_list self.now.content }
+    pub fn last(&self) -> Option<(T::Key, Values<'_, V>)>
+        ensures { result ≡ last_entry self.now.content }
     {
-        values_of(&self.tails, self.heads.last())
+        entry_of(&self.tails, self.heads.last())
     }
 
-    /// The list of the least key above a key.
+    /// The least key above a key, with its list.
     #[inline]
-    pub fn above(&self, slot: T::Key) -> Option<Values<'_, V>>
-        ensures { result ≡ first_list (entries_above T.Key.cmp self.now.content slot) }
+    pub fn above(&self, slot: T::Key) -> Option<(T::Key, Values<'_, V>)>
+        ensures { result ≡ first_entry (entries_above T.Key.cmp self.now.content slot) }
     {
-        values_of(&self.tails, self.heads.above(&slot))
+        entry_of(&self.tails, self.heads.above(&slot))
     }
 
-    /// The list of the greatest key below a key.
+    /// The greatest key below a key, with its list.
     #[inline]
-    pub fn below(&self, slot: T::Key) -> Option<Values<'_, V>>
-        ensures { result ≡ last_list (entries_below T.Key.cmp self.now.content slot) }
+    pub fn below(&self, slot: T::Key) -> Option<(T::Key, Values<'_, V>)>
+        ensures { result ≡ last_entry (entries_below T.Key.cmp self.now.content slot) }
     {
-        values_of(&self.tails, self.heads.below(&slot))
+        entry_of(&self.tails, self.heads.below(&slot))
     }
 
     #[inline]
@@ -379,9 +379,9 @@ impl<T: Translator, V: Drop, M: OrderedHeads<T::Key, V>, E: End> Chains<T, V, M,
         ensures { result ≡ next_list T.Key.cmp self.now.content slot }
     {
         match self.above(slot) {
-            Some(above) => Some((above, false)),
+            Some((_, above)) => Some((above, false)),
             None => match self.first() {
-                Some(first) => Some((first, true)),
+                Some((_, first)) => Some((first, true)),
                 None => None,
             },
         }
@@ -392,9 +392,9 @@ impl<T: Translator, V: Drop, M: OrderedHeads<T::Key, V>, E: End> Chains<T, V, M,
         ensures { result ≡ prev_list T.Key.cmp self.now.content slot }
     {
         match self.below(slot) {
-            Some(below) => Some((below, false)),
+            Some((_, below)) => Some((below, false)),
             None => match self.last() {
-                Some(last) => Some((last, true)),
+                Some((_, last)) => Some((last, true)),
                 None => None,
             },
         }

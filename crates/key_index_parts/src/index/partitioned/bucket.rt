@@ -3,7 +3,7 @@ ghost use Rattle.std.specs.Prelude.{◌≡◌, ◌+◌, ◌<◌, ◌≤◌, Bool
 ghost use Rattle.std.specs.Fn.{CalledAt};
 ghost use Rattle.std.specs.List.Retain.{IsFiltered};
 ghost use Rattle.key_index_flat.specs.Content.{Content, IsLawful, is_filled, item_count, lacks, list_at, with_list, with_list_by};
-ghost use Rattle.key_index_flat.specs.Neighbours.{first_list, last_list, entries_above, entries_below};
+ghost use Rattle.key_index_flat.specs.Neighbours.{first_entry, last_list, entries_above, entries_below};
 ghost use Rattle.key_index_flat.specs.View.{put_value};
 ghost use Rattle.key_index_flat.specs.Values.{VisitsEach, values_of};
 ghost use Rattle.key_index_parts.specs.Family.{Grows, RetainsWith, inline_in, stays_spilled};
@@ -53,17 +53,17 @@ pub(super) trait ReadBucket<T: Translator, V>: Held<T, V> {
 
 /// A bucket that knows the order of its keys.
 pub(super) trait OrderedBucket<T: Translator, V>: ReadBucket<T, V> {
-    /// The list of the least key.
-    fn first(&self) -> Option<Values<'_, V>>
-        ensures { result ≡ first_list (Self.content self.now) };
+    /// The least key, with its list.
+    fn first(&self) -> Option<(T::Key, Values<'_, V>)>
+        ensures { result ≡ first_entry (Self.content self.now) };
 
     /// The list of the greatest key.
     fn last(&self) -> Option<Values<'_, V>>
         ensures { result ≡ last_list (Self.content self.now) };
 
-    /// The list of the least key above a key.
-    fn above(&self, key: T::Key) -> Option<Values<'_, V>>
-        ensures { result ≡ first_list (entries_above T.Key.cmp (Self.content self.now) key) };
+    /// The least key above a key, with its list.
+    fn above(&self, key: T::Key) -> Option<(T::Key, Values<'_, V>)>
+        ensures { result ≡ first_entry (entries_above T.Key.cmp (Self.content self.now) key) };
 
     /// The list of the greatest key below a key.
     fn below(&self, key: T::Key) -> Option<Values<'_, V>>

@@ -4,7 +4,7 @@ ghost use Rattle.std.specs.Bool.{Decides};
 ghost use Rattle.std.specs.Fn.{CalledAt};
 ghost use Rattle.std.specs.List.Retain.{IsFiltered};
 ghost use Rattle.key_index_flat.specs.Content.{is_filled, item_count};
-ghost use Rattle.key_index_flat.specs.Neighbours.{first_list, last_list, next_list, prev_list};
+ghost use Rattle.key_index_flat.specs.Neighbours.{entries_above, first_entry, last_list, next_list, prev_list};
 ghost use Rattle.key_index_flat.specs.View.{put_value};
 ghost use Rattle.key_index_flat.specs.Values.{VisitsEach, values_of};
 ghost use Rattle.key_index_parts.specs.Family.{AreCounted, Family, RetainsWith, stands, inline_in, bucket_at, list_in, with_list_in, with_edit_in, with_buckets_from, with_items_from, filled_buckets, AreFree};
@@ -464,14 +464,13 @@ impl<T: Translator, V: Drop> Directory<T, V, Spilling<T, V>> {
 }
 
 impl<T: Translator, V: Drop, X: OrderedBucket<T, V> + Drop> Directory<T, V, X> {
-    /// The list of the least key of the first bucket from a number on that holds anything.
-    fn first_from(&self, start: usize) -> Option<Values<'_, V>>
-        ensures { result ≡ first_list (gathered_from start (drop start self.now.contents)) }
+    /// The least slot of the buckets from a number on, with its list.
+    fn first_from(&self, start: usize) -> Option<((usize, T::Key), Values<'_, V>)>
+        ensures { result ≡ first_entry (gathered_from start (drop start self.now.contents)) }
     {
-        match self.filled.first_from(start) {
-            Some(number) => self.buckets[number].first(),
-            None => None,
-        }
+        let number = self.filled.first_from(start)?;
+        let (key, values) = self.buckets[number].first()?;
+        Some(((number, key), values))
     }
 
     /// The list of the greatest key of the last bucket below a number that holds anything.
@@ -484,8 +483,8 @@ impl<T: Translator, V: Drop, X: OrderedBucket<T, V> + Drop> Directory<T, V, X> {
         }
     }
 
-    pub(super) fn first(&self) -> Option<Values<'_, V>>
-        ensures { result ≡ first_list (gathered self.now.contents) }
+    pub(super) fn first(&self) -> Option<((usize, T::Key), Values<'_, V>)>
+        ensures { result ≡ first_entry (gathered self.now.contents) }
     {
         self.first_from(0)
     }
@@ -496,18 +495,27 @@ impl<T: Translator, V: Drop, X: OrderedBucket<T, V> + Drop> Directory<T, V, X> {
         self.last_below(self.buckets.len())
     }
 
+    /// The least slot above one, with its list.
+    #[inline]
+    pub(super) fn above(&self, slot: (usize, T::Key)) -> Option<((usize, T::Key), Values<'_, V>)>
+        requires { slot.0 < length self.now.contents }
+        ensures { result ≡ first_entry (entries_above (pair_cmp T.Key.cmp) (gathered self.now.contents) slot) }
+    {
+        match self.buckets[slot.0].above(slot.1) {
+            Some(entry) => Some(((slot.0, entry.0), entry.1)),
+            None => self.first_from(slot.0 + 1),
+        }
+    }
+
     pub(super) fn next(&self, slot: (usize, T::Key)) -> Option<(Values<'_, V>, bool)>
         requires { slot.0 < length self.now.contents }
         ensures { result ≡ next_list (pair_cmp T.Key.cmp) (gathered self.now.contents) slot }
     {
-        match self.buckets[slot.0].above(slot.1) {
-            Some(values) => Some((values, false)),
-            None => match self.first_from(slot.0 + 1) {
-                Some(values) => Some((values, false)),
-                None => match self.first() {
-                    Some(values) => Some((values, true)),
-                    None => None,
-                },
+        match self.above(slot) {
+            Some((_, values)) => Some((values, false)),
+            None => match self.first() {
+                Some((_, values)) => Some((values, true)),
+                None => None,
             },
         }
     }

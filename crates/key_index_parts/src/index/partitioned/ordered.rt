@@ -16,7 +16,7 @@ use super::{PartitionRange, Partitioned, partition_index_and_sub_key, range};
 pub use ahead::{Ahead, same_visits, show_ahead, visit_ahead};
 use key_index_flat::index::implement::{Lists, probes_by_key, show_counts, visit_by_key};
 use key_index_flat::index::{
-    Factory, Fault, IndexCursor, Ordered, Refused, Runs, Search, Unordered, Values,
+    Factory, Fault, IndexCursor, Ordered, OrderedLists, Refused, Runs, Search, Unordered, Values,
 };
 use key_index_flat::translator::{OrderedTranslator, Translator};
 use std::alloc::Global;
@@ -441,12 +441,25 @@ impl<T: OrderedTranslator, V: Drop, const P: usize> Ordered for Index<T, V, P> {
 
     #[inline]
     fn first_translated_key(&self) -> Option<Values<'_, V>> {
-        self.storage.first()
+        let (_, values) = self.storage.first()?;
+        Some(values)
     }
 
     #[inline]
     fn last_translated_key(&self) -> Option<Values<'_, V>> {
         self.storage.last()
+    }
+}
+
+impl<T: OrderedTranslator, V: Drop, const P: usize> OrderedLists for Index<T, V, P> {
+    #[inline]
+    fn first_entry(&self) -> Option<((usize, T::Key), Values<'_, V>)> {
+        self.storage.first()
+    }
+
+    #[inline]
+    fn entry_above(&self, slot: (usize, T::Key)) -> Option<((usize, T::Key), Values<'_, V>)> {
+        self.storage.above(slot)
     }
 }
 

@@ -4,7 +4,7 @@ ghost use Rattle.std.specs.Bool.{Decides};
 ghost use Rattle.std.specs.Fn.{CalledAt};
 ghost use Rattle.key_index_flat.specs.Content.{IsLawful, item_count, key_count};
 ghost use Rattle.key_index_flat.specs.Fault.{growth_fault, IsWant};
-ghost use Rattle.key_index_flat.specs.Neighbours.{first_list, last_list, next_list, prev_list};
+ghost use Rattle.key_index_flat.specs.Neighbours.{entries_above, first_entry, last_list, next_list, prev_list};
 ghost use Rattle.key_index_flat.specs.View.{put_value, InsertsAndRetains, Retains};
 ghost use Rattle.key_index_flat.specs.Values.{VisitsEach, values_of};
 ghost use Rattle.key_index_parts.specs.Family.{AreCounted, KeepsRange, Kept, IsCounted, IsLeft, KeepsBuckets, Edits, Prunes, GrowsTo, SameContent, held_at, bucket_at, settled_at, view_of, view_from};
@@ -663,8 +663,8 @@ impl<T: Translator, V: Drop, const P: usize> Storage<T, V, Spilling<T, V>, P> {
 
 impl<T: Translator, V: Drop, X: OrderedBucket<T, V> + Drop, const P: usize> Storage<T, V, X, P> {
     #[inline]
-    pub(super) fn first(&self) -> Option<Values<'_, V>>
-        ensures { result ≡ first_list (gathered self.now.buckets) }
+    pub(super) fn first(&self) -> Option<((usize, T::Key), Values<'_, V>)>
+        ensures { result ≡ first_entry (gathered self.now.buckets) }
     {
         self.buckets.first()
     }
@@ -674,6 +674,17 @@ impl<T: Translator, V: Drop, X: OrderedBucket<T, V> + Drop, const P: usize> Stor
         ensures { result ≡ last_list (gathered self.now.buckets) }
     {
         self.buckets.last()
+    }
+
+    /// The least slot above one, with its list. There need be no bucket for the slot.
+    #[inline]
+    pub(super) fn above(&self, slot: (usize, T::Key)) -> Option<((usize, T::Key), Values<'_, V>)>
+        ensures { result ≡ first_entry (entries_above (pair_cmp T.Key.cmp) (gathered self.now.buckets) slot) }
+    {
+        if slot.0 >= self.buckets.len() {
+            return None;
+        }
+        self.buckets.above(slot)
     }
 
     #[inline]

@@ -163,11 +163,9 @@ impl<T: Translator, V: Drop> Form<T, V> for Arrays<T, V> {
 
 impl<T: Translator, V: Drop> OrderedBucket<T, V> for Arrays<T, V> {
     #[inline]
-    fn first(&self) -> Option<Values<'_, V>> {
-        match self.pairs.first_values() {
-            Some(values) => Some(Values::of_slice(values)),
-            None => None,
-        }
+    fn first(&self) -> Option<(T::Key, Values<'_, V>)> {
+        let (key, values) = self.pairs.first_entry()?;
+        Some((key, Values::of_slice(values)))
     }
 
     #[inline]
@@ -179,11 +177,9 @@ impl<T: Translator, V: Drop> OrderedBucket<T, V> for Arrays<T, V> {
     }
 
     #[inline]
-    fn above(&self, key: T::Key) -> Option<Values<'_, V>> {
-        match self.pairs.next_values_after(&key) {
-            Some(values) => Some(Values::of_slice(values)),
-            None => None,
-        }
+    fn above(&self, key: T::Key) -> Option<(T::Key, Values<'_, V>)> {
+        let (key, values) = self.pairs.next_entry_after(&key)?;
+        Some((key, Values::of_slice(values)))
     }
 
     #[inline]

@@ -428,7 +428,7 @@ impl<T: Translator, V: Drop> Bucket<T, V> for Spilling<T, V> {
 
 impl<T: Translator, V: Drop> OrderedBucket<T, V> for Spilling<T, V> {
     #[inline]
-    fn first(&self) -> Option<Values<'_, V>> {
+    fn first(&self) -> Option<(T::Key, Values<'_, V>)> {
         match self.tree() {
             Some(tree) => tree.first(),
             None => self.arrays.first(),
@@ -444,7 +444,7 @@ impl<T: Translator, V: Drop> OrderedBucket<T, V> for Spilling<T, V> {
     }
 
     #[inline]
-    fn above(&self, key: T::Key) -> Option<Values<'_, V>> {
+    fn above(&self, key: T::Key) -> Option<(T::Key, Values<'_, V>)> {
         match self.tree() {
             Some(tree) => tree.above(key),
             None => self.arrays.above(key),

@@ -149,22 +149,24 @@ impl<T: Translator, V: Drop> Form<T, V> for Tree<T, V> {
 
 impl<T: Translator, V: Drop> OrderedBucket<T, V> for Tree<T, V> {
     #[inline]
-    fn first(&self) -> Option<Values<'_, V>> {
+    fn first(&self) -> Option<(T::Key, Values<'_, V>)> {
         self.lists.first()
     }
 
     #[inline]
     fn last(&self) -> Option<Values<'_, V>> {
-        self.lists.last()
+        let (_, values) = self.lists.last()?;
+        Some(values)
     }
 
     #[inline]
-    fn above(&self, key: T::Key) -> Option<Values<'_, V>> {
+    fn above(&self, key: T::Key) -> Option<(T::Key, Values<'_, V>)> {
         self.lists.above(key)
     }
 
     #[inline]
     fn below(&self, key: T::Key) -> Option<Values<'_, V>> {
-        self.lists.below(key)
+        let (_, values) = self.lists.below(key)?;
+        Some(values)
     }
 }

@@ -5,14 +5,14 @@ ghost use Rattle.std.specs.Fn.{CalledAt, ComputesKey};
 ghost use Rattle.std.specs.List.{flat_map, zip, slice_range, remove_range};
 ghost use Rattle.std.specs.List.Sorted.{IsSorted, IsPartitionedBy, IsPartitionPoint};
 ghost use Rattle.std.specs.Map.{keys_of, values_of};
-ghost use Rattle.std.specs.Option.{option_copied};
+ghost use Rattle.std.specs.Option.{option_copied, option_map};
 ghost use Rattle.std.specs.Ordering.{is_lt};
 ghost use Rattle.std.specs.declared.cmp.Ordering.TheVariants.{Equal, Less};
 ghost use Rattle.std.specs.Slice.Iter.{iter_rest};
 ghost use Rattle.std.specs.Vec.{vec_capacity};
 ghost use Rattle.std.specs.Vec.Iter.{into_iter_items};
 ghost use Rattle.key_index_flat.specs.Content.{Content, list_at, with_list};
-ghost use Rattle.key_index_flat.specs.Neighbours.{entries_above, entries_below, first_list, last_list};
+ghost use Rattle.key_index_flat.specs.Neighbours.{entries_above, entries_below, first_entry, last_list};
 ghost use Rattle.key_index_flat.specs.Retention.{AsksInTurn};
 ghost use Rattle.key_index_parts.specs.Spread.{pairs_with};
 ghost use Rattle.key_index_parts.specs.Pairs.{Pairs, Paired, IsFound, IsRun, count_below, count_upto, with_value, run_of, grouped, list_of, room_of, room_for};
@@ -170,14 +170,14 @@ fn last_key<K: Ord + Copy>(keys: &[K]) -> (K, usize)
     (last, last_start(keys, &last))
 }
 
-/// The values of the first of some sorted keys.
-fn first_run<'a, K: Ord, V>(keys: &[K], values: &'a [V]) -> Option<&'a [V]>
+/// The first of some sorted keys, as it stands last in its run, with its values.
+fn first_run<'a, K: Ord + Copy, V>(keys: &[K], values: &'a [V]) -> Option<(K, &'a [V])>
     requires sized { length keys.now ≡ length values.now }
     requires sorted { IsSorted K.cmp keys.now }
-    ensures { option_copied result ≡ first_list (grouped K.cmp (zip keys.now values.now)) }
+    ensures { option_map (λ e. (e.0, e.1.now)) result ≡ first_entry (grouped K.cmp (zip keys.now values.now)) }
 {
     let end = run_end(keys, 1, keys.first()?);
-    Some(part(values, 0..end))
+    Some((keys[end - 1], part(values, 0..end)))
 }
 
 /// The values of the last of some sorted keys.
@@ -557,9 +557,9 @@ impl<K: Ord + Copy, V: Drop> Partition<K, V> {
         (left, stays)
     }
 
-    /// The values of the least key. None where it holds no pair.
-    pub fn first_values(&self) -> Option<&[V]>
-        ensures { option_copied result ≡ first_list (grouped K.cmp self.now.pairs) }
+    /// The least key, with its values. None where it holds no pair.
+    pub fn first_entry(&self) -> Option<(K, &[V])>
+        ensures { option_map (λ e. (e.0, e.1.now)) result ≡ first_entry (grouped K.cmp self.now.pairs) }
     {
         first_run(self.keys.as_slice(), self.values.as_slice())
     }
@@ -571,9 +571,10 @@ impl<K: Ord + Copy, V: Drop> Partition<K, V> {
         last_run(self.keys.as_slice(), self.values.as_slice())
     }
 
-    /// The values of the least key above a key. None where there is no such key.
-    pub fn next_values_after(&self, key: &K) -> Option<&[V]>
-        ensures { option_copied result ≡ first_list (entries_above K.cmp (grouped K.cmp self.now.pairs) key.now) }
+    /// The least key above a key, with its values. None where there is no such key.
+    pub fn next_entry_after(&self, key: &K) -> Option<(K, &[V])>
+        ensures { option_map (λ e. (e.0, e.1.now)) result
+            ≡ first_entry (entries_above K.cmp (grouped K.cmp self.now.pairs) key.now) }
     {
         let (keys, values) = (self.keys.as_slice(), self.values.as_slice());
         let start = upper_bound(keys, key);

@@ -1,23 +1,35 @@
-use Rattle.std.proofs.Common.{◌≡◌, ℕ, ◌≤◌, map, false, refl, sym, ap, subst, ◌∙◌}
-use Rattle.key_index_flat.specs.Neighbours.{first_list}
+use Rattle.std.proofs.Common.{◌≡◌, ℕ, ◌≤◌, map, drop, false, refl, sym, ap, subst, ◌∙◌}
+use Rattle.std.specs.Option.{option_map}
+use Rattle.key_index_flat.specs.Neighbours.{first_entry}
 use Rattle.key_index_parts.specs.Bitmap.{IsFirst, flag_at}
+use Rattle.key_index_parts.specs.Gathered.{gathered_from}
 use Rattle.key_index_parts.proofs.family.FamilyLemmas.{bucket_seen}
-use Rattle.key_index_parts.proofs.family.FamilyNeighbours.{flag_at-within, first_of, first_none}
+use Rattle.key_index_parts.proofs.family.FamilyNeighbours.{at_number, flag_at-within, first_of, first_none}
+use Rattle.key_index_parts.proofs.index.partitioned.directory.Directory.first_from.Given.{Over}
+use Rattle.key_index_parts.proofs.index.partitioned.directory.Directory.first_from.Goals.{After-index}
 use Rattle.key_index_parts.proofs.index.partitioned.directory.Directory.first_from.Goals as goal
 
-pub returns-in-Some : goal.returns-in-Some
-returns-in-Some g c =
+first_here : (g : Over) (c : After-index g) → option_map (at_number c.in_ok-number.number) (first_entry (g.X.Held.content c.index.result.now))
+    ≡ first_entry (gathered_from c.args.start (drop c.args.start (map g.X.Held.content c.self.inside.buckets.items)))
+first_here g c =
     let f = g.X.Held.content in
     let xs = c.self.inside.buckets.items in
-    let n = c.in-Some.number in
-    let found = subst (λ flags. IsFirst (flag_at flags) c.args.start n) c.self.invariant c.in-Some.ensures in
+    let n = c.in_ok-number.number in
+    let found = subst (λ flags. IsFirst (flag_at flags) c.args.start n) c.self.invariant c.in_ok-number.ensures in
     let told = bucket_seen f xs refl (flag_at-within (map f xs) n found.here) c.index.ensures in
-    rw (← c.self.view_is)
-    (c.first.ensures ∙ ap (λ d. first_list d) told ∙ sym (first_of (map f xs) c.args.start n found))
+    ap (λ d. option_map (at_number n) (first_entry d)) told ∙ sym (first_of (map f xs) c.args.start n found)
 
-pub returns-in-None : goal.returns-in-None
-returns-in-None g c =
-    let f = g.X.Held.content in
-    let xs = c.self.inside.buckets.items in
+pub returns-in_err-number : goal.returns-in_err-number
+returns-in_err-number g c =
+    rw (c.from_residual.ensures, ← c.self.view_is)
+    (sym (first_none (map g.X.Held.content c.self.inside.buckets.items) c.args.start (subst (λ flags. (p : ℕ) → c.args.start ≤ p → flag_at flags p ≡ false) c.self.invariant c.in_err-number.ensures)))
+
+pub returns-in_err-key : goal.returns-in_err-key
+returns-in_err-key g c =
+    rw (c.from_residual-in_err-key.ensures, ← c.self.view_is)
+    (ap (option_map (at_number c.in_ok-number.number)) c.in_err-key.ensures ∙ first_here g (goal.at.returns-in_err-key g c).After-index)
+
+pub returns : goal.returns
+returns g c =
     rw (← c.self.view_is)
-    (sym (first_none (map f xs) c.args.start (subst (λ flags. (p : ℕ) → c.args.start ≤ p → flag_at flags p ≡ false) c.self.invariant c.in-None.ensures)))
+    (ap (option_map (at_number c.in_ok-number.number)) c.in_ok-key.ensures ∙ first_here g (goal.at.returns g c).After-index)
