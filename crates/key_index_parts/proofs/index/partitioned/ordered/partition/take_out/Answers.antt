@@ -1,6 +1,22 @@
-use Rattle.std.proofs.Common.{◌<◌, length, refl, ◌∙◌, arith}
-use Rattle.key_index_parts.proofs.pairs.GapLemmas.{closed_first, closed_more, closed_last}
+use Rattle.std.proofs.Common.{◌≡◌, suc, ◌-◌, ◌<◌, length, refl, ap, ◌∙◌, arith}
+use Rattle.std.specs.List.{remove_range}
+use Rattle.key_index_parts.proofs.pairs.GapLemmas.{closed_first, closed_more, closed_last, remove_range-remove}
 use Rattle.key_index_parts.proofs.index.partitioned.ordered.partition.take_out.Goals as goal
+
+pub left-preserved : goal.left-preserved
+left-preserved g c =
+    let at = c.left in
+    let had = at.invariant in
+    let from = c.args.from in
+    let one_more : suc (at.end - 1) ≡ at.end = omega (arith, c.left-test.true) in
+    let inside : from < length at.items.items = omega (arith, had.within, c.left-test.true) in record {
+      rest = ap (λ l. remove_range l from (at.end - 1)) c.remove.ensures.items
+          ∙ remove_range-remove at.items.items from (at.end - 1) inside (omega (arith, c.left-test.true))
+          ∙ ap (λ end. remove_range at.items.items from end) one_more ∙ had.rest;
+      order = omega (arith, c.left-test.true);
+      within = omega (arith, had.within, c.remove.ensures.len, c.left-test.true);
+      capacity = c.remove.ensures.capacity ∙ had.capacity;
+    }
 
 pub items-init : goal.items-init
 items-init g c = record {
