@@ -27,7 +27,7 @@ items-init g c = record {
 pub items-preserved : goal.items-preserved
 items-preserved g c =
     let at = c.items in
-    let inside : at.at < length at.items.items = omega (arith, c.items-test.true, c.len.ensures, at.items.ok.0) in record {
+    let inside : at.at < length at.items.items = omega (arith, c.items-test.true, c.len-in-items.ensures, at.items.ok.0) in record {
       closed = closed_more c.args.items.now.items at.items.items c.args.from c.args.to at.into at.at at.invariant.closed c.swap.new.self.items c.requires.order inside c.swap.ensures.by_index
           (omega (arith, c.swap.ensures.len, c.swap.new.self.ok.0, at.items.ok.0));
       capacity = c.swap.ensures.capacity ∙ at.invariant.capacity;
@@ -36,7 +36,7 @@ items-preserved g c =
 pub returns-clause-items : goal.returns-clause-items
 returns-clause-items g c =
     c.truncate.ensures.items ∙ closed_last c.args.items.now.items c.items.items.items c.args.from c.args.to c.items.into c.items.at c.items.invariant.closed
-    (omega (arith, c.items-test.false, c.len.ensures, c.items.items.ok.0))
+    (omega (arith, c.items-test.false, c.len-in-items.ensures, c.items.items.ok.0))
 
 pub returns-clause-capacity : goal.returns-clause-capacity
 returns-clause-capacity g c = c.truncate.ensures.capacity ∙ c.items.invariant.capacity
