@@ -517,12 +517,32 @@ fn place_of(mut values: Values<'_, u64>, value: u64) -> Option<usize>
     values.position(|held| *held == value)
 }
 
-/// Writes values to a buffer, as many as it has room for, and tells how many there are.
+/// Writes values to a buffer, as many as it has room for, and tells how many there are. Most lists have one value, which is written in
+/// place.
+#[inline(always)]
 fn copy(mut values: Values<'_, u64>, buffer: &mut [u64]) -> usize
     ensures count { result ≡ length values.entry }
     ensures values { buffer.new ≡ filled values.entry buffer.old }
 {
     let count = values.len();
+    let Some((first, rest)) = buffer.split_first_mut() else {
+        return count;
+    };
+    let Some(value) = values.next() else {
+        return count;
+    };
+    *first = *value;
+    if count > 1 {
+        copy_all(values, rest);
+    }
+    count
+}
+
+/// Writes values to a buffer, as many as it has room for.
+#[inline(never)]
+fn copy_all(mut values: Values<'_, u64>, buffer: &mut [u64])
+    ensures { buffer.new ≡ filled values.entry buffer.old }
+{
     let mut place = 0;
     while place < buffer.len() {
         let Some(value) = values.next() else {
@@ -531,5 +551,4 @@ fn copy(mut values: Values<'_, u64>, buffer: &mut [u64]) -> usize
         buffer[place] = *value;
         place += 1;
     }
-    count
 }

@@ -1,11 +1,12 @@
 -- Items behind a gap that go to its front one after another, each by a swap.
 --     Closed                                what a loop has done up to a place
 --     closed_first, closed_more, closed_last  at the start, after one more, and at the end
-use Rattle.std.proofs.Common.{◌≡◌, ℕ, ◌+◌, ◌-◌, ◌<◌, ◌≤◌, List, [], ◌∷◌, ◌++◌, length, take, drop, inl, inr, append-nil, append_assoc, refl, sym, ap, ◌∙◌, arith}
+--     remove_range-remove                   without the first of them, those that are left to go
+use Rattle.std.proofs.Common.{◌≡◌, ℕ, suc, zero, ◌+◌, ◌-◌, ◌<◌, ◌≤◌, List, [], ◌∷◌, ◌++◌, length, take, drop, inl, inr, append-nil, append_assoc, refl, sym, ap, ◌∙◌, arith}
 use Rattle.std.proofs.Math.ListN.{get_or}
 use Rattle.std.proofs.lemmas.List.{get_or-drop, length-drop, take_all}
 use Rattle.std.proofs.lemmas.Option.{slice_get_cases, slice_get_read}
-use Rattle.std.specs.List.{SwappedAt, remove_range}
+use Rattle.std.specs.List.{SwappedAt, remove, remove_range}
 use Rattle.key_index_flat.proofs.asked.Asked.{take-value}
 use Rattle.key_index_flat.proofs.asked.TurnLemmas.{swap_take}
 
@@ -59,3 +60,11 @@ module _ {X : Type 0} where
         let size = c.sized in
         let behind = length-drop to xs in
         c.front ∙ ap (λ l. take from xs ++ l) (take_all (at - to) (drop to xs) (omega (arith, done, size, behind, past)))
+
+pub remove_range-remove : {X : Type 0} (xs : List X) (i k : ℕ) → i < length xs → i ≤ k
+    → remove_range (remove xs i) i k ≡ remove_range xs i (suc k)
+remove_range-remove [] i k inside order = absurd (omega (arith, inside))
+remove_range-remove (x ∷ xs) zero k inside order = refl
+remove_range-remove (x ∷ xs) (suc i) zero inside order = absurd (omega (arith, order))
+remove_range-remove (x ∷ xs) (suc i) (suc k) inside order =
+    ap (λ l. x ∷ l) (remove_range-remove xs i k (omega (arith, inside)) (omega (arith, order)))

@@ -296,8 +296,11 @@ fn push_times<K: Copy>(keys: &mut Vec<K>, key: K, count: usize)
     }
 }
 
-/// Removes the items in a range of places. Each one behind them moves once: by a swap where more than one goes, since `Vec::drain` moves
-/// them through a buffer of its own, which costs more than most of a partition.
+/// From how many items on `Vec::remove` moves them some times over sooner than swaps do once.
+const BLOCK: usize = 64;
+
+/// Removes the items in a range of places. Where a few go from in front of many, these move as a block for each that goes, and else once
+/// each, by a swap: `Vec::drain` moves them through a buffer of its own, which costs more than most of a partition.
 fn take_out<T: Drop>(items: &mut Vec<T>, from: usize, to: usize)
     requires order { from ≤ to }
     requires within { to ≤ length items.old.items }
@@ -305,11 +308,12 @@ fn take_out<T: Drop>(items: &mut Vec<T>, from: usize, to: usize)
     ensures capacity { vec_capacity items.new ≡ vec_capacity items.old }
 {
     let count = to - from;
-    if count == 0 {
-        return;
-    }
-    if count == 1 {
-        items.remove(from);
+    if count <= 1 || count <= 4 && items.len() - to >= BLOCK {
+        let mut end = to;
+        'left: while from < end {
+            items.remove(from);
+            end -= 1;
+        }
         return;
     }
     let mut into = from;

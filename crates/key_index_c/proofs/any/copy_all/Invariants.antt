@@ -1,5 +1,5 @@
 use Rattle.std.proofs.Common.{◌≡◌, ◌-◌, ◌≤◌, ◌++◌, length, take, drop}
-use Rattle.key_index_c.proofs.any.copy.Given as goal
+use Rattle.key_index_c.proofs.any.copy_all.Given as goal
 
 -- what was written is the front of the values, and the rest of the buffer is as it was
 abbrev pub invariant-loop-place : goal.invariant-loop-place
