@@ -7,6 +7,7 @@
 --                                premise of `find_record`, `next_record` and the others
 --     filed_after_remove         after `remove`
 --     filed_after_edit           after an edit that leaves values of the list's index key in it. filed_after_set, filed_after_removal: of one place
+--     FailsOn-run_of             a reader that fails on a value of the key's list, as `find_record` does, fails on one of all, as `absent` does
 use Rattle.std.proofs.Common.{◌≡◌, ℕ, zero, suc, Bool, true, false, cond, List, [], ◌∷◌, length, remove, slice_set, All, refl, sym, ap, subst, ◌∙◌, arith}
 use Rattle.std.proofs.lemmas.List.Elements.{All-nil, All-cons, All-head, All-tail}
 use Rattle.std.specs.declared.cmp.Ordering.{Ordering}
@@ -15,9 +16,11 @@ use Rattle.std.specs.Ordering.{eq_by_cmp, is_eq}
 use Rattle.std.specs.Cmp.{IsTotalOrder, tied_itself}
 use Rattle.key_index_flat.specs.Content.{Content, list_at, with_list}
 use Rattle.key_index_flat.specs.View.{View, IsHeld, after_insert, after_remove, put_value, run_of, with_edit, with_pruned}
-use Rattle.key_index_flat.specs.FullKeys.{IsBytes, IsFiled, IsFiledIn}
+use Rattle.key_index_flat.specs.FullKeys.{FailsOn, IsBytes, IsFiled, IsFiledIn}
+use Rattle.key_index_flat.specs.Values.{values_of}
 use Rattle.key_index_flat.proofs.content.ContentLemmas.{list_at-with_list, Equal-is_eq}
 use Rattle.key_index_flat.proofs.entries.EntryLemmas.{All-put_value, length-put_value, out_all}
+use Rattle.key_index_flat.proofs.neighbours.HeldLemmas.{FailsOn-list_at}
 
 module _ {K V : Type 0} {cmp : K → K → Ordering} (o : IsTotalOrder cmp) where
   -- the list at the index key whose list was replaced, and at another
@@ -94,3 +97,7 @@ module _ {K V : Type 0} {cmp : K → K → Ordering} (o : IsTotalOrder cmp) (exa
 
   pub filed_after_remove : t ≡ after_remove cmp s key → IsFiledIn keys cmp s → IsFiledIn keys cmp t
   filed_after_remove is filed = subst (IsFiledIn keys cmp) (sym is) (filed_with_list [] (All-nil (Under (s.slot key))) filed)
+
+pub FailsOn-run_of : {K V E : Type 0} (fails : V → E → Type 0) (cmp : K → K → Ordering) (s : View K V) (key : List ℕ) (e : E)
+    → FailsOn fails (run_of cmp s key) e → FailsOn fails (values_of s.content) e
+FailsOn-run_of fails cmp s key = FailsOn-list_at fails s.content cmp (s.slot key)
