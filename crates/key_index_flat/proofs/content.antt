@@ -2,6 +2,7 @@ pub mod ChainLemmas
 pub mod ContentLemmas
 pub mod EditLemmas
 pub mod FaultLemmas
+pub mod HeadLemmas
 pub mod InOrderLemmas
 pub mod KeyLemmas
 pub mod PairLemmas

@@ -4,10 +4,13 @@
 --     NoneBefore      no pair before the place has the key
 --     AreTagged       the first sixteen pairs have their keys' tags
 --     AreTaggedBut    the first sixteen have, but for the pair at a place
---     entries_in      the pairs, or those of the hashed map where there is one
-use Rattle.std.specs.Prelude.{Box, ◌≡◌, ◌≢◌, ℕ, ◌/◌, ◌^◌, ◌<◌, Bool, true, false, List, Option, Some, None, slice_get, slice_index, length}
+--     entries_in      the pairs in the array, or in the table
+--     IsFew           they stand in the array
+use Rattle.std.specs.Prelude.{◌≡◌, ◌≢◌, ℕ, ◌/◌, ◌^◌, ◌<◌, Bool, true, false, List, Some, ⊤, slice_get, slice_index, length}
 use Rattle.std.specs.List.{fold}
-use Rattle.key_index_map.specs.Table.{Entries}
+use Rattle.key_index_map.specs.Table.{Cells, pairs}
+use Rattle.key_index_flat.specs.declared.index.storage.small_map.Kept.{Kept}
+use Rattle.key_index_flat.specs.declared.index.storage.small_map.Kept.TheVariants.{Few, Many}
 use Rattle.std.specs.Hash.FoldHasher as hasher
 
 unfoldable pub tag_of : List (List ℕ) → ℕ
@@ -28,6 +31,10 @@ abbrev pub AreTaggedBut : {K V : Type 0} → (K → List (List ℕ)) → List �
 AreTaggedBut {K} {V} input tags pairs place =
     (i : ℕ) (e : K × V) → i < 16 → i ≢ place → slice_get pairs i ≡ Some e → slice_index tags i ≡ tag_of (input e.0)
 
-abbrev pub entries_in : {K V B : Type 0} → List (K × V) → Option (Box (Entries K V) B) → List (K × V)
-entries_in pairs None = pairs
-entries_in pairs (Some map) = map.value.entries
+abbrev pub entries_in : {K V : Type 0} → Kept (List (K × V)) (Cells K V) → List (K × V)
+entries_in (Few pairs) = pairs
+entries_in (Many table) = pairs table
+
+abbrev pub IsFew : {K V : Type 0} → Kept (List (K × V)) (Cells K V) → Type 0
+IsFew (Few pairs) = ⊤
+IsFew (Many table) = ⊥

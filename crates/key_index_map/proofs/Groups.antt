@@ -10,6 +10,10 @@ use Rattle.key_index_map.proofs.Held.{none_held}
 
 module _ {K V : Type 0} {eq : K → K → Bool} {input : K → List (List ℕ)} {tags : List ℕ} {items : List (K × V)} {filled : List Bool} {groups len left : ℕ}
     (are : AreCells eq input tags items filled groups len left) where
+  -- by another name of their number
+  pub in_so_many : (n : ℕ) → n ≡ groups → AreCells eq input tags items filled n len left
+  in_so_many n is = subst (λ m. AreCells eq input tags items filled m len left) (sym is) are
+
   pub in_groups : (i : ℕ) (e : K × V) → slice_get items i ≡ Some e → i < 16 * groups
   in_groups i e at = let within = slice_get_within items i e at in omega (arith, within, are.within)
 

@@ -10,3 +10,5 @@ pub mod New
 pub mod Transfer
 pub mod Moving
 pub mod Deeds
+pub mod Lanes
+pub mod Joined

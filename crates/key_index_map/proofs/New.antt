@@ -1,7 +1,7 @@
 -- On a table without pairs.
-use Rattle.std.proofs.Common.{◌≡◌, ℕ, suc, ◌*◌, ◌/◌, ◌<◌, ◌≤◌, Bool, true, false, cond, nat_le, get_or, List, [], ◌∷◌, length, slice_index, refl, sym, ap, ◌∙◌, ⊎_elim, arith}
+use Rattle.std.proofs.Common.{◌≡◌, ℕ, suc, ◌*◌, ◌/◌, ◌<◌, ◌≤◌, Bool, true, false, cond, nat_le, List, [], ◌∷◌, length, slice_index, refl, sym, ap, ◌∙◌, ⊎_elim, arith}
 use Rattle.std.proofs.lemmas.Bool.{cases_lt}
-use Rattle.std.proofs.lemmas.Option.{slice_get_within, slice_get_read, get_or_from_slice_get}
+use Rattle.std.proofs.lemmas.Option.{slice_get_within}
 use Rattle.key_index_map.specs.Table.{AreCells, AreEmpty, held, limit}
 use Rattle.key_index_map.proofs.Between.{none_differ}
 use Rattle.key_index_map.proofs.Held.{none_first}
@@ -51,7 +51,3 @@ module _ {K V : Type 0} (eq : K → K → Bool) (input : K → List (List ℕ)) 
 
 pub limit_le : (cells : ℕ) → limit cells ≤ cells
 limit_le cells = elim (nat_le cells 16) as (λ b. cond b cells (cells / 8 * 7) ≤ cells) [ true ↦ omega arith | false ↦ omega arith ]
-
--- an element that was read
-pub read_index : (ts : List ℕ) (i x : ℕ) → i < length ts → x ≡ get_or ts i x → slice_index ts i ≡ x
-read_index ts i x below read = get_or_from_slice_get ts i x 0 (slice_get_read ts (length ts) i x refl below read)

@@ -1,7 +1,7 @@
 -- On a table as its functions see it, when a pair comes or goes.
 --     Putting, putting     a pair in the first free cell
 --     Taking, taking       no pair in the cell of a key any more
-use Rattle.std.proofs.Common.{◌≡◌, ℕ, ◌+◌, ◌-◌, ◌*◌, ◌<◌, ◌≤◌, Bool, true, false, cond, nat_eq, slice_index, List, length, get_or, Some, None, slice_get, slice_set, refl, sym, ap, subst, ◌∙◌, ⊎_elim, arith}
+use Rattle.std.proofs.Common.{◌≡◌, ℕ, ◌+◌, ◌-◌, ◌*◌, ◌/◌, ◌<◌, ◌≤◌, Bool, true, false, cond, nat_eq, slice_index, List, length, get_or, Some, None, slice_get, slice_set, refl, sym, ap, subst, ◌∙◌, ⊎_elim, arith}
 use Rattle.std.specs.Cmp.{IsEquivalence}
 use Rattle.std.specs.Map.{lookup}
 use Rattle.std.specs.Option.{IsSome}
@@ -13,33 +13,44 @@ use Rattle.key_index_map.proofs.Places.{element, set_value_at-set}
 
 module _ {K V : Type 0} {eq : K → K → Bool} (laws : IsEquivalence eq) {input : K → List (List ℕ)} {tags : List ℕ} {items : List (K × V)} {filled : List Bool} {groups len left : ℕ}
     (are : AreCells eq input tags items filled groups len left) (cells : Cells K V) (view : record { tags = tags; items = items; spare = left } ≡ cells) (cell t left' : ℕ)
-    (items' : List (K × V)) (filled' : List Bool) where
+    (tags' : List ℕ) (items' : List (K × V)) (filled' : List Bool) where
+  -- the cells in the table's own terms
+  now_cells : (items'' : List (K × V)) (filled'' : List Bool) (len' : ℕ) → AreCells eq input (slice_set tags cell t) items'' filled'' groups len' left'
+      → tags' ≡ slice_set tags cell t → items' ≡ items'' → filled' ≡ filled'' → AreCells eq input tags' items' filled' (length tags' / 16) len' left'
+  now_cells items'' filled'' len' still tags_are items_are filled_are =
+      let many : groups ≡ length tags' / 16 = omega (arith, ap length tags_are, still.sized) in
+      subst (λ n. AreCells eq input tags' items' filled' n len' left') many
+      (subst (λ l. AreCells eq input l items' filled' groups len' left') (sym tags_are)
+      (subst (λ l. AreCells eq input (slice_set tags cell t) l filled' groups len' left') (sym items_are)
+      (subst (λ l. AreCells eq input (slice_set tags cell t) items'' l groups len' left') (sym filled_are) still)))
+
   pub record Putting (k : K) (v : V) : Type 0 where
-    pub still : AreCells eq input (slice_set tags cell t) items' filled' groups (len + 1) left'
-    pub updates : Updates eq (pairs cells) (held (slice_set tags cell t) items') k (Some v)
-    pub longer : length (held (slice_set tags cell t) items') ≡ length (pairs cells) + 1
+    pub still : AreCells eq input tags' items' filled' (length tags' / 16) (len + 1) left'
+    pub updates : Updates eq (pairs cells) (held tags' items') k (Some v)
+    pub longer : length (held tags' items') ≡ length (pairs cells) + 1
 
   module _ (k : K) (v : V) (start : ℕ) (at_home : start ≡ home groups (hash_of (input k))) (first : IsFirstFree cells start cell) (is : t ≡ tag_of (hash_of (input k)))
       (none : lookup (eq k) (pairs cells) ≡ None) (as_many : length items ≡ length filled) (fewer : left' + cond (nat_eq (slice_index cells.tags cell) 0) 1 0 ≡ left)
-      (items_are : items' ≡ slice_set items cell (k, v)) (filled_are : filled' ≡ slice_set filled cell true) where
+      (tags_are : tags' ≡ slice_set tags cell t) (items_are : items' ≡ slice_set items cell (k, v)) (filled_are : filled' ≡ slice_set filled cell true) where
+    held_are : held tags' items' ≡ held (slice_set tags cell t) (slice_set items cell (k, v))
+    held_are = ap (λ l. held l items') tags_are ∙ ap (held (slice_set tags cell t)) items_are
+
     pub putting : Putting k v
     putting =
         let now : Cells K V = record { tags = tags; items = items; spare = left } in
         let f : IsFirstFree now (home groups (hash_of (input k))) cell = subst (λ c. IsFirstFree c (home groups (hash_of (input k))) cell) (sym view) (subst (λ n. IsFirstFree cells n cell) at_home first) in
         let p = put laws are cell f.within t left' k v f.free is (omega (arith, is)) (f.reached groups are.sized) (ap (λ c. lookup (eq k) (pairs c)) view ∙ none) (omega (arith, f.within, as_many)) (subst (λ (c : Cells K V). left' + cond (nat_eq (slice_index c.tags cell) 0) 1 0 ≡ left) (sym view) fewer) in
         record {
-          still = subst (λ l. AreCells eq input (slice_set tags cell t) l filled' groups (len + 1) left') (sym items_are)
-              (subst (λ l. AreCells eq input (slice_set tags cell t) (slice_set items cell (k, v)) l groups (len + 1) left') (sym filled_are) p.cells);
-          updates = subst (λ c. Updates eq (pairs c) (held (slice_set tags cell t) items') k (Some v)) view
-              (subst (λ l. Updates eq (held tags items) (held (slice_set tags cell t) l) k (Some v)) (sym items_are) p.updates);
-          longer = ap (λ l. length (held (slice_set tags cell t) l)) items_are ∙ sym p.cells.counted ∙ ap (λ n. n + 1) are.counted ∙ ap (λ c. length (pairs c) + 1) view;
+          still = now_cells (slice_set items cell (k, v)) (slice_set filled cell true) (len + 1) p.cells tags_are items_are filled_are;
+          updates = subst (λ c. Updates eq (pairs c) (held tags' items') k (Some v)) view (subst (λ l. Updates eq (held tags items) l k (Some v)) (sym held_are) p.updates);
+          longer = ap length held_are ∙ sym p.cells.counted ∙ ap (λ n. n + 1) are.counted ∙ ap (λ c. length (pairs c) + 1) view;
         }
 
   pub record Taking (k : K) (v : V) : Type 0 where
-    pub still : AreCells eq input (slice_set tags cell t) items' filled' groups (len - 1) left'
+    pub still : AreCells eq input tags' items' filled' (length tags' / 16) (len - 1) left'
     pub value : Some v ≡ lookup (eq k) (pairs cells)
-    pub updates : Updates eq (pairs cells) (held (slice_set tags cell t) items') k None
-    pub shorter : length (held (slice_set tags cell t) items') + 1 ≡ length (pairs cells)
+    pub updates : Updates eq (pairs cells) (held tags' items') k None
+    pub shorter : length (held tags' items') + 1 ≡ length (pairs cells)
 
   module _ (k : K) (stands : IsAt eq cells cell k) where
     in_cell : IsAt eq (record { tags = tags; items = items; spare = left }) cell k
@@ -49,18 +60,20 @@ module _ {K V : Type 0} {eq : K → K → Bool} (laws : IsEquivalence eq) {input
       at_it : slice_get items cell ≡ Some e
       at_it = slice_get_read items (length items) cell e refl in_cell.within read
 
-      module _ (without : IsTagWithout cells cell t) (some : 1 ≤ len) (more : left' ≡ left + cond (nat_eq t 0) 1 0) (items_are : items' ≡ items) (filled_are : filled' ≡ slice_set filled cell false) where
+      module _ (without : IsTagWithout cells cell t) (some : 1 ≤ len) (more : left' ≡ left + cond (nat_eq t 0) 1 0)
+          (tags_are : tags' ≡ slice_set tags cell t) (items_are : items' ≡ items) (filled_are : filled' ≡ slice_set filled cell false) where
+        left_are : held tags' items' ≡ held (slice_set tags cell t) items
+        left_are = ap (λ l. held l items') tags_are ∙ ap (held (slice_set tags cell t)) items_are
+
         pub taking : Taking k e.1
         taking =
             let keeps = subst (λ (c : Cells K V). IsTagWithout c cell t) (sym view) without in
             let p = taken laws are cell in_cell.within t left' e at_it in_cell.holds k (in_cell.pair e at_it) keeps.0 (λ g from to full zero_tag. keeps.1 zero_tag g from to full) (len - 1) (omega (arith, some)) more in
             record {
-              still = subst (λ l. AreCells eq input (slice_set tags cell t) l filled' groups (len - 1) left') (sym items_are)
-                  (subst (λ l. AreCells eq input (slice_set tags cell t) items l groups (len - 1) left') (sym filled_are) p.cells);
+              still = now_cells items (slice_set filled cell false) (len - 1) p.cells tags_are items_are filled_are;
               value = sym (looked_at laws are cell e at_it in_cell.holds k (in_cell.pair e at_it)) ∙ ap (λ c. lookup (eq k) (pairs c)) view;
-              updates = subst (λ c. Updates eq (pairs c) (held (slice_set tags cell t) items') k None) view
-                  (subst (λ l. Updates eq (held tags items) (held (slice_set tags cell t) l) k None) (sym items_are) p.updates);
-              shorter = ap (λ l. length (held (slice_set tags cell t) l) + 1) items_are ∙ (let less : length (held (slice_set tags cell t) items) + 1 ≡ length (held tags items) = omega (arith, some, p.cells.counted, are.counted) in less) ∙ ap (λ c. length (pairs c)) view;
+              updates = subst (λ c. Updates eq (pairs c) (held tags' items') k None) view (subst (λ l. Updates eq (held tags items) l k None) (sym left_are) p.updates);
+              shorter = ap (λ l. length l + 1) left_are ∙ (let less : length (held (slice_set tags cell t) items) + 1 ≡ length (held tags items) = omega (arith, some, p.cells.counted, are.counted) in less) ∙ ap (λ c. length (pairs c)) view;
             }
 
 module _ {K V : Type 0} {eq : K → K → Bool} (laws : IsEquivalence eq) {input : K → List (List ℕ)} {tags : List ℕ} {items : List (K × V)} {filled : List Bool} {groups len left : ℕ}

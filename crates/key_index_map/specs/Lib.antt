@@ -1,3 +1,4 @@
 pub mod Table
 pub mod TableLent
+pub mod Tags
 pub mod MapLent

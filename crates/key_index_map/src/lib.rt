@@ -3,4 +3,5 @@
 
 pub mod map;
 pub(crate) mod room;
-pub(crate) mod table;
+pub mod table;
+pub(crate) mod tags;

@@ -1,9 +1,9 @@
 //! A map from keys to values, found by their hashes.
-ghost use Rattle.std.specs.Prelude.{◌≡◌, ◌+◌, ◌<◌, ◌≤◌, List, [], Option, Some, None, IfOk, IfErr, IsOk, OnOk, OnErr, length, is_some, unwrap_or, if◌then◌else◌};
+ghost use Rattle.std.specs.Prelude.{◌≡◌, ◌+◌, ◌<◌, ◌≤◌, List, [], Option, Some, None, IfOk, IfErr, IfSome, IfNone, IsOk, OnOk, OnErr, length, is_some, unwrap_or, if◌then◌else◌};
 ghost use Rattle.std.specs.Borrow.{sem};
 ghost use Rattle.std.specs.Map.{lookup};
 ghost use Rattle.std.specs.Option.{IsSome, option_copied, option_copied_mut};
-ghost use Rattle.key_index_map.specs.Table.{IsUnfilled, Updates, entries_of, hash_of};
+ghost use Rattle.key_index_map.specs.Table.{IsUnfilled, Updates, entries_of, hash_of, pairs};
 
 use crate::table::{Iter, Room, Table, hash_of};
 use std::alloc::{AllocError, Global};
@@ -223,6 +223,18 @@ impl<K: Ord + Hash + Copy, V> Map<K, V> {
     {
         match &mut self.contents {
             Contents::Filled(table) => table.remove(key),
+            _ => None,
+        }
+    }
+
+    /// The table of the pairs, if there ever was one.
+    #[inline]
+    pub fn into_table(self) -> Option<Table<K, V>>
+        ensures some { IfSome result (λ table. pairs table ≡ self.entries) }
+        ensures none { IfNone result (self.entries ≡ []) }
+    {
+        match self.contents {
+            Contents::Filled(table) => Some(table),
             _ => None,
         }
     }

@@ -7,18 +7,13 @@ ghost use Rattle.std.specs.Option.{IsSome, option_copied, option_copied_mut};
 ghost use Rattle.key_index_map.specs.Table.{Cells, IsAt, IsFreeIn, IsFirstFree, IsTagWithout, IsPlace, NoneIn, Found, Seen, Stopped, Updates, hash_of, tag_of, home, home_in, held, is_held, limit, pairs, with_value};
 
 use crate::room::{Block, Deed, free, release, row_of, try_allocate};
+use crate::tags::{EMPTY, GROUP, Tags};
 use core::slots::Slots;
 use std::alloc::{AllocError, Global};
 use std::hash::{BuildHasher, BuildHasherDefault, FoldHasher, Hash};
 use std::marker::Model;
 use std::mem::{replace, swap};
-use std::simd::prelude::*;
 
-/// How many places a group has.
-const GROUP: usize = 16;
-
-/// The tag of an empty cell.
-const EMPTY: u8 = 0;
 /// The tag of a cell whose pair was removed while its group had no empty one.
 const REMOVED: u8 = 1;
 /// The tag of a place of the one group that has no cell.
@@ -54,24 +49,6 @@ fn home_of(hash: u64, groups: usize) -> usize
     hash as usize & (groups - 1)
 }
 
-/// A place of the group that has a tag, if there is one. All are compared at once.
-#[inline(always)]
-fn place_with(tags: &[u8], start: usize, tag: u8) -> Option<usize>
-    requires { start + 16 ≤ length tags.now }
-    ensures found { IfSome result (λ place.
-        (start ≤ place) × (place < start + 16) × (slice_index tags.now place ≡ tag)) }
-    ensures none { IfNone result ((place : ℕ) → start ≤ place → place < start + 16
-        → slice_index tags.now place ≢ tag) }
-{
-    let same = u8x16::from_slice(&tags[start..])
-        .simd_eq(u8x16::splat(tag))
-        .to_bitmask();
-    if same == 0 {
-        return None;
-    }
-    Some(start + same.trailing_zeros() as usize)
-}
-
 /// How many pairs so many cells may have, so that a search meets an empty cell soon.
 #[inline]
 fn limit(cells: usize) -> usize
@@ -81,14 +58,14 @@ fn limit(cells: usize) -> usize
 }
 
 /// Gives all places from one on a tag.
-fn fill(tags: &mut Vec<u8>, from: usize, tag: u8)
-    ensures long { length tags.new.items ≡ length tags.old.items }
-    ensures before { (i : ℕ) → i < from → slice_index tags.new.items i ≡ slice_index tags.old.items i }
-    ensures behind { (i : ℕ) → from ≤ i → i < length tags.old.items → slice_index tags.new.items i ≡ tag }
+fn fill(tags: &mut Tags, from: usize, tag: u8)
+    ensures long { length tags.new ≡ length tags.old }
+    ensures before { (i : ℕ) → i < from → slice_index tags.new i ≡ slice_index tags.old i }
+    ensures behind { (i : ℕ) → from ≤ i → i < length tags.old → slice_index tags.new i ≡ tag }
 {
     let mut place = from;
     while place < tags.len() {
-        tags[place] = tag;
+        tags.set(place, tag);
         place += 1;
     }
 }
@@ -146,22 +123,21 @@ enum Place {
 
 /// Cells for pairs, before the first one comes.
 pub(crate) struct Room<K, V> {
-    tags: Vec<u8>,
+    tags: Tags,
     block: Block<(K, V), Global>,
-    groups: usize,
     cells: usize,
 }
 
 // How many pairs there is room for.
 impl<K, V> Model for Room<K, V> {
-    ghost use Rattle.std.specs.Prelude.{◌≡◌, ℕ};
+    ghost use Rattle.std.specs.Prelude.{◌≡◌, ℕ, length, ◌/◌};
     ghost use Rattle.key_index_map.specs.Table.{AreEmpty, limit};
 
     ghost Value = { ℕ };
 
     ghost view = { λ r. limit r.cells };
 
-    ghost invariant = { λ r. AreEmpty r.tags.items r.groups r.cells × (r.block.len ≡ r.cells) };
+    ghost invariant = { λ r. AreEmpty r.tags (length r.tags / 16) r.cells × (r.block.len ≡ r.cells) };
 }
 
 impl<K, V> Room<K, V> {
@@ -171,18 +147,10 @@ impl<K, V> Room<K, V> {
         ensures { IfOk result (λ room. room ≡ limit cells) }
     {
         let groups = (cells - 1) / GROUP + 1;
-        let Some(places) = groups.checked_mul(GROUP) else {
-            return Err(AllocError);
-        };
-        let mut tags = vec![in alloc; EMPTY; places]?;
+        let mut tags = Tags::empty(alloc, groups)?;
         fill(&mut tags, cells, NO_CELL);
         let block = try_allocate(&alloc, cells)?;
-        Ok(Room {
-            tags,
-            block,
-            groups,
-            cells,
-        })
+        Ok(Room { tags, block, cells })
     }
 
     /// The fewest cells.
@@ -213,7 +181,6 @@ impl<K, V> Drop for Room<K, V> {
         let Room {
             tags,
             block,
-            groups: _,
             cells: _,
         } = self;
         free(tags.allocator(), block);
@@ -224,24 +191,23 @@ impl<K, V> Drop for Room<K, V> {
 pub struct Table<K: Ord + Hash + Copy, V> {
     // What a look-up reads stands together.
     row: Slots<(K, V)>,
-    groups: usize,
-    tags: Vec<u8>,
+    tags: Tags,
     deed: Deed<(K, V), Global>,
     len: usize,
     left: usize,
 }
 
 impl<K: Ord + Hash + Copy, V> Model for Table<K, V> {
-    ghost use Rattle.std.specs.Prelude.{◌≡◌};
+    ghost use Rattle.std.specs.Prelude.{◌≡◌, length, ◌/◌};
     ghost use Rattle.core.specs.Mem.Slots.{slots_items, slots_filled, slots_len, slots_ptr};
     ghost use Rattle.key_index_map.specs.Table.{Cells, AreCells};
 
     ghost Value = { Cells K V };
 
-    ghost view = { λ t. record { tags = t.tags.items; items = slots_items t.row; spare = t.left } };
+    ghost view = { λ t. record { tags = t.tags; items = slots_items t.row; spare = t.left } };
 
-    ghost invariant = { λ t. AreCells K.eq K.hash_input t.tags.items (slots_items t.row) (slots_filled t.row)
-        t.groups t.len t.left × (t.deed.at ≡ slots_ptr t.row) × (t.deed.len ≡ slots_len t.row) };
+    ghost invariant = { λ t. AreCells K.eq K.hash_input t.tags (slots_items t.row) (slots_filled t.row)
+        (length t.tags / 16) t.len t.left × (t.deed.at ≡ slots_ptr t.row) × (t.deed.len ≡ slots_len t.row) };
 }
 
 impl<K: Ord + Hash + Copy, V> Table<K, V> {
@@ -256,15 +222,18 @@ impl<K: Ord + Hash + Copy, V> Table<K, V> {
 
     /// The cell of the group that has the key, by one tag after another.
     #[inline(never)]
-    fn scan(&self, start: usize, tag: u8, key: &K) -> Option<usize>
-        requires group { start + 16 ≤ length self.now.tags }
+    fn scan(&self, group: usize, tag: u8, key: &K) -> Option<usize>
+        requires group { 16 * group + 16 ≤ length self.now.tags }
         requires tag { tag ≡ tag_of (hash_of (K.hash_input key.now)) }
         ensures found { IfSome result (λ cell. IsAt K.eq self.now cell key.now) }
-        ensures none { IfNone result (NoneIn K.eq self.now start (start + 16) key.now) }
+        ensures none { IfNone result (NoneIn K.eq self.now (16 * group) (16 * group + 16) key.now) }
     {
-        let mut cell = start;
-        while cell < start + GROUP {
-            if self.tags[cell] == tag && *key == self.row.get(cell).0 {
+        // Its contract says that the places can be counted.
+        let _places = self.tags.len();
+        let mut cell = GROUP * group;
+        let end = cell + GROUP;
+        while cell < end {
+            if self.tags.at(cell) == tag && *key == self.row.get(cell).0 {
                 return Some(cell);
             }
             cell += 1;
@@ -274,17 +243,17 @@ impl<K: Ord + Hash + Copy, V> Table<K, V> {
 
     /// The cell of the group that has the key.
     #[inline(always)]
-    fn cell_in(&self, start: usize, tag: u8, key: &K) -> Option<usize>
-        requires group { start + 16 ≤ length self.now.tags }
+    fn cell_in(&self, group: usize, tag: u8, key: &K) -> Option<usize>
+        requires group { 16 * group + 16 ≤ length self.now.tags }
         requires tag { tag ≡ tag_of (hash_of (K.hash_input key.now)) }
         ensures found { IfSome result (λ cell. IsAt K.eq self.now cell key.now) }
-        ensures none { IfNone result (NoneIn K.eq self.now start (start + 16) key.now) }
+        ensures none { IfNone result (NoneIn K.eq self.now (16 * group) (16 * group + 16) key.now) }
     {
-        let cell = place_with(&self.tags, start, tag)?;
+        let cell = self.tags.place_with(group, tag)?;
         if *key == self.row.get(cell).0 {
             return Some(cell);
         }
-        self.scan(start, tag, key)
+        self.scan(group, tag, key)
     }
 
     /// Searches some groups in a row for a key.
@@ -296,10 +265,10 @@ impl<K: Ord + Hash + Copy, V> Table<K, V> {
     {
         let mut group = from;
         while group < to {
-            if let Some(cell) = self.cell_in(GROUP * group, tag, key) {
+            if let Some(cell) = self.cell_in(group, tag, key) {
                 return Search::Found(cell);
             }
-            if let Some(empty) = place_with(&self.tags, GROUP * group, EMPTY) {
+            if let Some(empty) = self.tags.place_with(group, EMPTY) {
                 return Search::Absent(empty);
             }
             group += 1;
@@ -316,8 +285,9 @@ impl<K: Ord + Hash + Copy, V> Table<K, V> {
         ensures none { IfNone result (lookup (K.eq key) (pairs self.now) ≡ None) }
     {
         let tag = tag_of(hash);
-        let home = home_of(hash, self.groups);
-        match self.search(home, self.groups, tag, &key) {
+        let groups = self.tags.groups();
+        let home = home_of(hash, groups);
+        match self.search(home, groups, tag, &key) {
             Search::Found(cell) => Some(cell),
             Search::Absent(_) => None,
             Search::Onward => match self.search(0, home, tag, &key) {
@@ -333,15 +303,15 @@ impl<K: Ord + Hash + Copy, V> Table<K, V> {
         requires { hash ≡ hash_of (K.hash_input key.now) }
         ensures { Seen K.eq self.now hash key.now result }
     {
-        let start = GROUP * home_of(hash, self.groups);
-        match place_with(&self.tags, start, tag_of(hash)) {
+        let home = home_of(hash, self.tags.groups());
+        match self.tags.place_with(home, tag_of(hash)) {
             Some(first) => {
                 if *key == self.row.get(first).0 {
                     return Search::Found(first);
                 }
                 Search::Onward
             }
-            None => match place_with(&self.tags, start, EMPTY) {
+            None => match self.tags.place_with(home, EMPTY) {
                 Some(cell) => Search::Absent(cell),
                 None => Search::Onward,
             },
@@ -393,10 +363,10 @@ impl<K: Ord + Hash + Copy, V> Table<K, V> {
     {
         let mut group = from;
         while group < to {
-            if let Some(cell) = place_with(&self.tags, GROUP * group, EMPTY) {
+            if let Some(cell) = self.tags.place_with(group, EMPTY) {
                 return Some(cell);
             }
-            if let Some(cell) = place_with(&self.tags, GROUP * group, REMOVED) {
+            if let Some(cell) = self.tags.place_with(group, REMOVED) {
                 return Some(cell);
             }
             group += 1;
@@ -411,7 +381,7 @@ impl<K: Ord + Hash + Copy, V> Table<K, V> {
         requires room { length (pairs self.now) < length self.now.items }
         ensures { IsFirstFree self.now home result }
     {
-        if let Some(cell) = self.free_in(home, self.groups) {
+        if let Some(cell) = self.free_in(home, self.tags.groups()) {
             return cell;
         }
         let Some(cell) = self.free_in(0, home) else {
@@ -426,8 +396,8 @@ impl<K: Ord + Hash + Copy, V> Table<K, V> {
         requires { 0 < self.now.spare }
         ensures { IsFirstFree self.now (home_in self.now hash) result }
     {
-        let home = home_of(hash, self.groups);
-        if let Some(cell) = place_with(&self.tags, GROUP * home, EMPTY) {
+        let home = home_of(hash, self.tags.groups());
+        if let Some(cell) = self.tags.place_with(home, EMPTY) {
             return cell;
         }
         self.free_from(home)
@@ -444,9 +414,9 @@ impl<K: Ord + Hash + Copy, V> Table<K, V> {
         ensures len { length (pairs self.new) ≡ length (pairs self.old) + 1 }
         ensures room { self.old.spare ≤ self.new.spare + 1 }
     {
-        let left = left_with(self.tags[cell], self.left);
+        let left = left_with(self.tags.at(cell), self.left);
         self.left = left;
-        self.tags[cell] = tag_of(hash);
+        self.tags.set(cell, tag_of(hash));
         self.row.put(cell, pair);
         self.len += 1;
     }
@@ -471,7 +441,7 @@ impl<K: Ord + Hash + Copy, V> Table<K, V> {
         requires { cell < length self.now.items }
         ensures { IsTagWithout self.now cell result }
     {
-        match place_with(&self.tags, cell / GROUP * GROUP, EMPTY) {
+        match self.tags.place_with(cell / GROUP, EMPTY) {
             Some(_) => EMPTY,
             None => REMOVED,
         }
@@ -490,7 +460,7 @@ impl<K: Ord + Hash + Copy, V> Table<K, V> {
         let left = left_without(tag, self.left);
         self.left = left;
         self.len -= 1;
-        self.tags[cell] = tag;
+        self.tags.set(cell, tag);
         let (_, value) = self.row.take(cell);
         value
     }
@@ -507,13 +477,12 @@ impl<K: Ord + Hash + Copy, V> Table<K, V> {
             tags,
             mut row,
             deed,
-            groups: _,
             len: _,
             left: _,
         } = self;
         let mut cell = 0;
         while cell < row.len() {
-            if tags[cell] < LEAST {
+            if tags.at(cell) < LEAST {
                 cell += 1;
                 continue;
             }
@@ -662,7 +631,7 @@ impl<K: Ord + Hash + Copy, V> Table<K, V> {
     /// Puts a value at a key, and answers the one that stood there. A refusal, which comes at an absent key alone, hands the value
     /// back.
     #[inline(always)]
-    pub(crate) fn insert(&mut self, key: K, value: V) -> Result<Option<V>, V>
+    pub fn insert(&mut self, key: K, value: V) -> Result<Option<V>, V>
         ensures old { IfOk result (λ old. old ≡ lookup (K.eq key) (pairs self.old)) }
         ensures updates { OnOk result (Updates K.eq (pairs self.old) (pairs self.new) key (Some value)) }
         ensures len { IfOk result (λ old.
@@ -687,7 +656,7 @@ impl<K: Ord + Hash + Copy, V> Table<K, V> {
     /// Puts a value at a key that has none. The value of a key that has one stays, and the other comes back, as it does with a refusal,
     /// which comes at an absent key alone.
     #[inline(always)]
-    pub(crate) fn insert_absent(&mut self, key: K, value: V) -> Result<Option<V>, V>
+    pub fn insert_absent(&mut self, key: K, value: V) -> Result<Option<V>, V>
         ensures back { IfOk result (λ back.
             back ≡ (if is_some (lookup (K.eq key) (pairs self.old)) then Some value else None)) }
         ensures updates { OnOk result (Updates K.eq (pairs self.old) (pairs self.new) key
@@ -713,7 +682,7 @@ impl<K: Ord + Hash + Copy, V> Table<K, V> {
 
     /// Removes a key.
     #[inline(always)]
-    pub(crate) fn remove(&mut self, key: &K) -> Option<V>
+    pub fn remove(&mut self, key: &K) -> Option<V>
         ensures value { result ≡ lookup (K.eq key.now) (pairs self.old) }
         ensures updates { Updates K.eq (pairs self.old) (pairs self.new) key.now None }
         ensures len { length (pairs self.new) + (if is_some result then 1 else 0) ≡ length (pairs self.old) }
@@ -725,7 +694,7 @@ impl<K: Ord + Hash + Copy, V> Table<K, V> {
 
     /// The value of a key.
     #[inline(always)]
-    pub(crate) fn get_mut(&mut self, key: &K) -> Option<&mut V>
+    pub fn get_mut(&mut self, key: &K) -> Option<&mut V>
         ensures* lends { sem 𝓛 (lends_get K.row V.row K.Ord K.Hash self.entry key.now result) }
         ensures value { option_copied_mut result ≡ lookup (K.eq key.now) (pairs self.old) }
     {
@@ -736,11 +705,11 @@ impl<K: Ord + Hash + Copy, V> Table<K, V> {
     }
 
     /// The pairs, in the order of their cells.
-    pub(crate) fn iter(&self) -> Iter<'_, K, V>
+    pub fn iter(&self) -> Iter<'_, K, V>
         ensures { result ≡ pairs self.now }
     {
         Iter {
-            tags: self.tags.as_slice(),
+            tags: &self.tags,
             row: &self.row,
             next: 0,
         }
@@ -755,18 +724,12 @@ impl<K: Ord + Hash + Copy, V> Room<K, V> {
         ensures room { result.spare ≡ self }
         ensures some { 0 < result.spare }
     {
-        let Room {
-            tags,
-            block,
-            groups,
-            cells,
-        } = self;
+        let Room { tags, block, cells } = self;
         let (row, deed) = row_of(block);
         Table {
             tags,
             row,
             deed,
-            groups,
             len: 0,
             left: limit(cells),
         }
@@ -774,7 +737,7 @@ impl<K: Ord + Hash + Copy, V> Room<K, V> {
 }
 
 /// The first cell from one on that has a pair, or the end.
-fn next_held(tags: &[u8], from: usize, end: usize) -> usize
+fn next_held(tags: &Tags, from: usize, end: usize) -> usize
     requires { end ≤ length tags.now }
     ensures after { from ≤ result }
     ensures within { from ≤ end → result ≤ end }
@@ -782,7 +745,7 @@ fn next_held(tags: &[u8], from: usize, end: usize) -> usize
     ensures none { (i : ℕ) → from ≤ i → i < result → slice_index tags.now i < 3 }
 {
     let mut cell = from;
-    while cell < end && tags[cell] < LEAST {
+    while cell < end && tags.at(cell) < LEAST {
         cell += 1;
     }
     cell
@@ -791,7 +754,7 @@ fn next_held(tags: &[u8], from: usize, end: usize) -> usize
 /// The pairs of a table, in the order of their cells.
 #[derive(Drop)]
 pub struct Iter<'a, K, V> {
-    tags: &'a [u8],
+    tags: &'a Tags,
     row: &'a Slots<(K, V)>,
     next: usize,
 }
@@ -832,13 +795,12 @@ impl<K: Ord + Hash + Copy, V: Drop> Drop for Table<K, V> {
             tags,
             mut row,
             deed,
-            groups: _,
             len: _,
             left: _,
         } = self;
         let mut cell = 0;
         while cell < row.len() {
-            if LEAST <= tags[cell] {
+            if LEAST <= tags.at(cell) {
                 drop(row.take(cell));
             }
             cell += 1;

@@ -13,7 +13,7 @@ ghost use Rattle.key_index_flat.specs.Values.{values_of, VisitsEach};
 ghost use Rattle.key_index_flat.specs.View.{put_value};
 
 use super::heads::{Heads, OrderedHeads, pop_least};
-use super::small_map::SmallMap;
+use super::small_map::{Kept, SmallMap};
 use super::tails::{Back, End, Tails};
 use super::tree_key::TreeMap;
 use crate::index::Values;
@@ -21,6 +21,7 @@ use crate::index::retain::Retained;
 use crate::index::values::visit_in_turn;
 use crate::translator::Translator;
 use key_index_map::map::Map;
+use key_index_map::table::Iter;
 use std::alloc::{AllocError, Global};
 use std::hash::Hash;
 use std::marker::Model;
@@ -403,20 +404,17 @@ impl<T: Translator, V: Drop, M: OrderedHeads<T::Key, V>, E: End> Chains<T, V, M,
 
 /// Calls a closure once on each value, those of an index key one after another.
 fn visit_all<K: Ord + Hash + Copy, V, F: FnMut(&V), E: End>(
-    heads: &Map<K, V>,
+    heads: Iter<'_, K, V>,
     tails: &Tails<K, V, E>,
     visit: &mut F,
 )
     requires callable { F.IsAlwaysCallable visit.old }
-    requires linked { IsLinked K.cmp heads.now.entries (tail_at E.FIRST K.eq tails.now.map) }
+    requires linked { IsLinked K.cmp heads (tail_at E.FIRST K.eq tails.now.map) }
     ensures visits { VisitsEach (CalledAt F.FnMut) visit.old
-        (values_of (content_of K.cmp heads.now.entries (tail_at E.FIRST K.eq tails.now.map))) visit.new }
+        (values_of (content_of K.cmp heads.entry (tail_at E.FIRST K.eq tails.now.map))) visit.new }
     ensures callable { F.IsAlwaysCallable visit.new }
 {
-    let Some(pairs) = heads.iter() else {
-        return;
-    };
-    for pair in pairs {
+    for pair in heads {
         visit_in_turn(tails.list(pair.0, &pair.1), visit);
     }
 }
@@ -513,7 +511,9 @@ impl<T: Translator, V: Drop, E: End> Chains<T, V, Map<T::Key, V>, E> {
         ensures visits { VisitsEach (CalledAt F.FnMut) visit.old (values_of self.now.content) visit.new }
         ensures callable { F.IsAlwaysCallable visit.new }
     {
-        visit_all(&self.heads, &self.tails, visit);
+        if let Some(heads) = self.heads.iter() {
+            visit_all(heads, &self.tails, visit);
+        }
     }
 }
 
@@ -524,9 +524,9 @@ impl<T: Translator, V: Drop, E: End> Chains<T, V, SmallMap<T::Key, V>, E> {
         ensures visits { VisitsEach (CalledAt F.FnMut) visit.old (values_of self.now.content) visit.new }
         ensures callable { F.IsAlwaysCallable visit.new }
     {
-        match &self.heads.many {
-            Some(map) => visit_all(map, &self.tails, visit),
-            None => visit_few(self.heads.few.as_slice(), &self.tails, visit),
+        match &self.heads.kept {
+            Kept::Many(table) => visit_all(table.iter(), &self.tails, visit),
+            Kept::Few(pairs) => visit_few(pairs.as_slice(), &self.tails, visit),
         }
     }
 }

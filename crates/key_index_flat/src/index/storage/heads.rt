@@ -6,9 +6,11 @@ ghost use Rattle.std.specs.Map.Iter.{deref_pair};
 ghost use Rattle.std.specs.Option.{option_copied, option_map};
 ghost use Rattle.key_index_flat.specs.Neighbours.{first_entry, last_entry, entries_above, entries_below};
 ghost use Rattle.key_index_flat.specs.Storage.{value_of, SameBut, Sets};
+ghost use Rattle.key_index_map.specs.Table.{pairs};
 
 use super::tree_key::{TreeKey, TreeMap};
 use key_index_map::map::Map;
+use key_index_map::table::Table;
 use std::collections::{BTreeMap, btree_map};
 use std::hash::Hash;
 use std::mem::replace;
@@ -113,6 +115,48 @@ impl<K: Ord + Hash + Copy, V> Heads<K, V> for Map<K, V> {
     #[inline(always)]
     fn remove(&mut self, key: &K) -> Option<V> {
         Map::remove(self, key)
+    }
+}
+
+impl<K: Ord + Hash + Copy, V> Heads<K, V> for Table<K, V> {
+    ghost entries = { λ table. pairs table };
+
+    ghost spare = { λ table. table.spare };
+
+    #[inline(always)]
+    fn len(&self) -> usize {
+        Table::len(self)
+    }
+
+    #[inline(always)]
+    fn get(&self, key: &K) -> Option<&V> {
+        Table::get(self, key)
+    }
+
+    #[inline(always)]
+    fn insert(&mut self, key: K, value: V) -> Result<Option<V>, V>
+    where
+        V: Drop,
+    {
+        Table::insert(self, key, value)
+    }
+
+    #[inline(always)]
+    fn insert_absent(&mut self, key: K, value: V) -> Result<Option<V>, V>
+    where
+        V: Drop,
+    {
+        Table::insert_absent(self, key, value)
+    }
+
+    #[inline(always)]
+    fn replace(&mut self, key: &K, value: V) -> V {
+        replace(self.get_mut(key).unwrap(), value)
+    }
+
+    #[inline(always)]
+    fn remove(&mut self, key: &K) -> Option<V> {
+        Table::remove(self, key)
     }
 }
 

@@ -4,11 +4,13 @@ ghost use Rattle.std.specs.Borrow.{sem};
 ghost use Rattle.std.specs.List.{IsDistinct};
 ghost use Rattle.std.specs.Map.{keys_of, lookup};
 ghost use Rattle.std.specs.Option.{option_copied, option_copied_mut};
-ghost use Rattle.key_index_flat.specs.SmallMap.{tag_of, IsAt, AreTagged, AreTaggedBut, NoneBefore, entries_in};
+ghost use Rattle.key_index_flat.specs.SmallMap.{tag_of, IsAt, IsFew, AreTagged, AreTaggedBut, NoneBefore, entries_in};
+ghost use Rattle.key_index_map.specs.Table.{pairs as held_pairs};
 ghost use Rattle.key_index_flat.specs.Storage.{value_of, Sets};
 
 use super::heads::Heads;
 use key_index_map::map::Map;
+use key_index_map::table::Table;
 use std::alloc::Global;
 use std::hash::{BuildHasher, BuildHasherDefault, FoldHasher, Hash};
 use std::marker::Model;
@@ -224,46 +226,50 @@ impl<K: Ord + Hash + Copy, V> Pairs<K, V> {
         Some(value)
     }
 
-    /// The pairs, and the value of a key that has none, in a hashed map. All its memory is taken before the first pair moves.
+    /// The pairs, and the value of a key that has none, in a table. All its memory is taken before the first pair moves.
     #[inline(never)]
-    fn spill(&mut self, key: K, value: V) -> Result<Box<Map<K, V>>, V>
+    fn spill(&mut self, key: K, value: V) -> Result<Table<K, V>, V>
     where
         V: Drop,
         requires { value_of K.cmp self.old key ≡ None }
-        ensures sets { IfOk result (λ map. Sets K.cmp self.old map.value.entries key (Some value)) }
-        ensures len { IfOk result (λ map. length map.value.entries ≡ length self.old + 1) }
+        ensures sets { IfOk result (λ table. Sets K.cmp self.old (held_pairs table) key (Some value)) }
+        ensures len { IfOk result (λ table. length (held_pairs table) ≡ length self.old + 1) }
         ensures refused { OnErr result (self.new ≡ self.old) }
         ensures returned { IfErr result (λ back. back ≡ value) }
     {
-        let alloc = *self.pairs.allocator();
-        let Ok(map) = Map::with_capacity(alloc, 2 * MOST) else {
-            return Err(value);
-        };
-        let Ok(mut map) = Box::new(alloc, map) else {
+        let Ok(mut map) = Map::with_capacity(*self.pairs.allocator(), 2 * MOST) else {
             return Err(value);
         };
         move_into(&mut self.pairs, &mut map);
         let Ok(()) = map.add(key, value) else {
             unreachable!()
         };
-        Ok(map)
+        let Some(table) = map.into_table() else {
+            unreachable!()
+        };
+        Ok(table)
     }
 }
 
-/// Keys that differ with a value each: in one array while they are few, and then in a hashed map.
+/// What a small map has.
+#[derive(Drop)]
+pub(super) enum Kept<P, T> {
+    Few(P),
+    Many(T),
+}
+
+/// Keys that differ with a value each: in one array while they are few, and then in a table in its place.
 #[derive(Drop)]
 pub struct SmallMap<K: Ord + Hash + Copy, V> {
-    pub(super) few: Pairs<K, V>,
-    pub(super) many: Option<Box<Map<K, V>>>,
+    pub(super) kept: Kept<Pairs<K, V>, Table<K, V>>,
 }
 
 impl<K: Ord + Hash + Copy, V> SmallMap<K, V> {
     pub fn new(alloc: Global) -> SmallMap<K, V>
-        ensures { entries_in result.few result.many ≡ [] }
+        ensures { entries_in result.kept ≡ [] }
     {
         SmallMap {
-            few: Pairs::new(alloc),
-            many: None,
+            kept: Kept::Few(Pairs::new(alloc)),
         }
     }
 
@@ -272,18 +278,21 @@ impl<K: Ord + Hash + Copy, V> SmallMap<K, V> {
     pub(super) fn put(&mut self, key: K, value: V) -> Result<(), V>
     where
         V: Drop,
-        requires few { self.old.many ≡ None }
-        requires absent { value_of K.cmp self.old.few key ≡ None }
-        ensures sets { OnOk result (Sets K.cmp self.old.few (entries_in self.new.few self.new.many) key (Some value)) }
-        ensures len { OnOk result (length (entries_in self.new.few self.new.many) ≡ length self.old.few + 1) }
-        ensures refused { OnErr result (entries_in self.new.few self.new.many ≡ self.old.few) }
+        requires few { IsFew self.old.kept }
+        requires absent { value_of K.cmp (entries_in self.old.kept) key ≡ None }
+        ensures sets { OnOk result (Sets K.cmp (entries_in self.old.kept) (entries_in self.new.kept) key (Some value)) }
+        ensures len { OnOk result (length (entries_in self.new.kept) ≡ length (entries_in self.old.kept) + 1) }
+        ensures refused { OnErr result (entries_in self.new.kept ≡ entries_in self.old.kept) }
         ensures returned { IfErr result (λ back. back ≡ value) }
     {
-        if self.few.len() < MOST {
-            return self.few.push(key, value);
+        let Kept::Few(pairs) = &mut self.kept else {
+            unreachable!()
+        };
+        if pairs.len() < MOST {
+            return pairs.push(key, value);
         }
-        let map = self.few.spill(key, value)?;
-        self.many = Some(map);
+        let table = pairs.spill(key, value)?;
+        self.kept = Kept::Many(table);
         Ok(())
     }
 
@@ -291,17 +300,20 @@ impl<K: Ord + Hash + Copy, V> SmallMap<K, V> {
     fn insert_few(&mut self, key: K, value: V) -> Result<Option<V>, V>
     where
         V: Drop,
-        requires { self.old.many ≡ None }
-        ensures old { IfOk result (λ old. old ≡ value_of K.cmp self.old.few key) }
-        ensures sets { OnOk result (Sets K.cmp self.old.few (entries_in self.new.few self.new.many) key (Some value)) }
-        ensures len { IfOk result (λ old. length (entries_in self.new.few self.new.many)
-            ≡ length self.old.few + (if is_some old then 0 else 1)) }
-        ensures absent { OnErr result (value_of K.cmp self.old.few key ≡ None) }
-        ensures refused { OnErr result (entries_in self.new.few self.new.many ≡ self.old.few) }
+        requires { IsFew self.old.kept }
+        ensures old { IfOk result (λ old. old ≡ value_of K.cmp (entries_in self.old.kept) key) }
+        ensures sets { OnOk result (Sets K.cmp (entries_in self.old.kept) (entries_in self.new.kept) key (Some value)) }
+        ensures len { IfOk result (λ old. length (entries_in self.new.kept)
+            ≡ length (entries_in self.old.kept) + (if is_some old then 0 else 1)) }
+        ensures absent { OnErr result (value_of K.cmp (entries_in self.old.kept) key ≡ None) }
+        ensures refused { OnErr result (entries_in self.new.kept ≡ entries_in self.old.kept) }
         ensures returned { IfErr result (λ back. back ≡ value) }
     {
-        if let Some(place) = self.few.place_of(&key) {
-            return Ok(Some(self.few.set(place, key, value)));
+        let Kept::Few(pairs) = &mut self.kept else {
+            unreachable!()
+        };
+        if let Some(place) = pairs.place_of(&key) {
+            return Ok(Some(pairs.set(place, key, value)));
         }
         match self.put(key, value) {
             Ok(()) => Ok(None),
@@ -311,23 +323,23 @@ impl<K: Ord + Hash + Copy, V> SmallMap<K, V> {
 }
 
 impl<K: Ord + Hash + Copy, V> Heads<K, V> for SmallMap<K, V> {
-    ghost entries = { λ map. entries_in map.few map.many };
+    ghost entries = { λ map. entries_in map.kept };
 
     ghost spare = { λ _. 0 };
 
     #[inline(always)]
     fn len(&self) -> usize {
-        match &self.many {
-            Some(map) => map.len(),
-            None => self.few.len(),
+        match &self.kept {
+            Kept::Many(table) => table.len(),
+            Kept::Few(pairs) => pairs.len(),
         }
     }
 
     #[inline(always)]
     fn get(&self, key: &K) -> Option<&V> {
-        match &self.many {
-            Some(map) => Heads::get(&**map, key),
-            None => self.few.get(key),
+        match &self.kept {
+            Kept::Many(table) => Heads::get(table, key),
+            Kept::Few(pairs) => pairs.get(key),
         }
     }
 
@@ -336,8 +348,8 @@ impl<K: Ord + Hash + Copy, V> Heads<K, V> for SmallMap<K, V> {
     where
         V: Drop,
     {
-        if let Some(map) = &mut self.many {
-            return Heads::insert(&mut **map, key, value);
+        if let Kept::Many(table) = &mut self.kept {
+            return Heads::insert(table, key, value);
         }
         self.insert_few(key, value)
     }
@@ -347,10 +359,10 @@ impl<K: Ord + Hash + Copy, V> Heads<K, V> for SmallMap<K, V> {
     where
         V: Drop,
     {
-        if let Some(map) = &mut self.many {
-            return Heads::insert_absent(&mut **map, key, value);
+        if let Kept::Many(table) = &mut self.kept {
+            return Heads::insert_absent(table, key, value);
         }
-        if self.few.get(&key).is_some() {
+        if self.get(&key).is_some() {
             return Ok(Some(value));
         }
         match self.put(key, value) {
@@ -361,17 +373,17 @@ impl<K: Ord + Hash + Copy, V> Heads<K, V> for SmallMap<K, V> {
 
     #[inline(always)]
     fn replace(&mut self, key: &K, value: V) -> V {
-        match &mut self.many {
-            Some(map) => Heads::replace(&mut **map, key, value),
-            None => self.few.replace(key, value),
+        match &mut self.kept {
+            Kept::Many(table) => Heads::replace(table, key, value),
+            Kept::Few(pairs) => pairs.replace(key, value),
         }
     }
 
     #[inline(always)]
     fn remove(&mut self, key: &K) -> Option<V> {
-        match &mut self.many {
-            Some(map) => Heads::remove(&mut **map, key),
-            None => self.few.remove(key),
+        match &mut self.kept {
+            Kept::Many(table) => Heads::remove(table, key),
+            Kept::Few(pairs) => pairs.remove(key),
         }
     }
 }

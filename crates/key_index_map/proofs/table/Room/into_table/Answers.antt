@@ -1,13 +1,13 @@
-use Rattle.std.proofs.Common.{sym, ◌∙◌, arith}
+use Rattle.std.proofs.Common.{sym, ◌∙◌, arith, length, ◌/◌}
 use Rattle.core.specs.Mem.Slots.{slots_items, slots_filled}
 use Rattle.key_index_map.proofs.New.{New, new, limit_le}
 use Rattle.key_index_map.proofs.table.Room.into_table.Given.{Over}
 use Rattle.key_index_map.proofs.table.Room.into_table.Goals as goal
 use Rattle.key_index_map.proofs.table.Room.into_table.Goals.{After-limit}
 
-made : (g : Over) (c : After-limit g) → New g.K.PartialEq.eq g.K.Hash.hash_input c.self.inside.tags.items (slots_items c.row_of-row.result.0) (slots_filled c.row_of-row.result.0) c.self.inside.groups c.limit.result
+made : (g : Over) (c : After-limit g) → New g.K.PartialEq.eq g.K.Hash.hash_input c.self.inside.tags (slots_items c.row_of-row.result.0) (slots_filled c.row_of-row.result.0) (length c.self.inside.tags / 16) c.limit.result
 made g c =
-    new g.K.PartialEq.eq g.K.Hash.hash_input c.self.inside.tags.items (slots_items c.row_of-row.result.0) (slots_filled c.row_of-row.result.0) c.self.inside.groups c.self.inside.cells c.limit.result
+    new g.K.PartialEq.eq g.K.Hash.hash_input c.self.inside.tags (slots_items c.row_of-row.result.0) (slots_filled c.row_of-row.result.0) (length c.self.inside.tags / 16) c.self.inside.cells c.limit.result
     c.self.invariant.0 (sym c.row_of-row.result.0.ok.0 ∙ c.row_of-row.ensures.0 ∙ c.self.invariant.1) (let most = limit_le c.self.inside.cells in omega (arith, most, c.limit.ensures))
 
 pub invariant_of-result : goal.invariant_of-result

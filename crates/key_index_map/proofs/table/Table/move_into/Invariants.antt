@@ -7,7 +7,7 @@ use Rattle.key_index_map.proofs.table.Table.move_into.Given as goal
 -- the pairs of the cells so far have moved
 abbrev pub invariant-loop-cell : goal.invariant-loop-cell
 invariant-loop-cell g l =
-    Through g.met.K.Eq.laws l.tags.items (slots_items l.initial.row) (slots_items l.row) (slots_filled l.row) l.cell (pairs l.new) l.initial.new.spare l.new.spare
+    Through g.met.K.Eq.laws l.tags (slots_items l.initial.row) (slots_items l.row) (slots_filled l.row) l.cell (pairs l.new) l.initial.new.spare l.new.spare
     × (l.deed.at ≡ slots_ptr l.row) × (l.deed.len ≡ slots_len l.row)
 
 abbrev pub decreases-loop-cell : goal.decreases-loop-cell

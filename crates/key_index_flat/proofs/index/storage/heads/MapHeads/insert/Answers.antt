@@ -1,11 +1,10 @@
-use Rattle.std.proofs.Common.{◌≡◌, Bool, IfOk, subst}
-use Rattle.std.specs.Map.{lookup}
 use Rattle.std.proofs.lemmas.Result.{on_ok_weaker}
-use Rattle.key_index_flat.proofs.content.KeyLemmas.{same_test, Sets_by_eq}
+use Rattle.key_index_flat.proofs.content.HeadLemmas.{told}
+use Rattle.key_index_flat.proofs.content.KeyLemmas.{Sets_by_eq}
 use Rattle.key_index_flat.proofs.index.storage.heads.MapHeads.insert.Goals as goal
 
 pub returns-clause-old : goal.returns-clause-old
-returns-clause-old g c = subst (λ (test : g.row.K.Denot → g.row.K.Denot → Bool). IfOk c.insert.result (λ old. old ≡ lookup (test c.args.key) c.args.self.now.entries)) (same_test g.K.PartialEq.eq g.K.Ord.cmp g.met.K.Ord.matches_eq) c.insert.ensures.old
+returns-clause-old g c = told g.K.PartialEq.eq g.K.Ord.cmp g.met.K.Ord.matches_eq _ _ c.insert.result c.insert.ensures.old
 
 pub returns-clause-sets : goal.returns-clause-sets
 returns-clause-sets g c =
