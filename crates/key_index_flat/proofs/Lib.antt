@@ -1,7 +1,7 @@
 pub mod content
 pub mod entries
 pub mod neighbours
-pub mod asked
+pub mod closures
 pub mod keys
 pub mod runs
 pub mod CallerLemmas

@@ -7,10 +7,12 @@ use Rattle.std.specs.HashMap.Lent.{HashMembers}
 use Rattle.std.specs.Map.{set_value}
 use Rattle.key_index_flat.specs.contracts.index.storage.small_map.Pairs.{the_row}
 
-module _ (K V : RattleType) (ord : OrdMembers K.Denot) (hash : HashMembers K.Denot) (s : MutBor (List (K.Denot × V.Denot))) where
+module _ (K V : RattleType) (ord : OrdMembers K.Denot) (hash : HashMembers K.Denot)
+    (s : MutBor (List (K.Denot × V.Denot))) where
   abbrev pairs_row : RattleType
   pairs_row =
-      the_row K V (record { cmp = ord.cmp }) (record { eq = ord.eq }) (record { partial_cmp = ord.partial_cmp }) (record { hash_input = hash.hash_input })
+      the_row K V (record { cmp = ord.cmp }) (record { eq = ord.eq }) (record { partial_cmp = ord.partial_cmp })
+      (record { hash_input = hash.hash_input })
 
   abbrev pub lends_value : (K.Denot → Bool) → MutBor V.Denot → Fml
   lends_value test r = Lends pairs_row V s r (set_value test s.now)

@@ -17,8 +17,8 @@ module _ {X : Type 0} where
   pub held_first : (t : ℕ) (x : X) (l : List X) → 3 ≤ t → cond (is_held t) (x ∷ l) l ≡ x ∷ l
   held_first t x l had = ap (λ b. cond b (x ∷ l) l) (le-leb 3 t had)
 
-  pub none_first : (t : ℕ) (x : X) (l : List X) → t < 3 → cond (is_held t) (x ∷ l) l ≡ l
-  none_first t x l low = ap (λ b. cond b (x ∷ l) l) (lt-leb 3 t low)
+  pub without_first : (t : ℕ) (x : X) (l : List X) → t < 3 → cond (is_held t) (x ∷ l) l ≡ l
+  without_first t x l low = ap (λ b. cond b (x ∷ l) l) (lt-leb 3 t low)
 
   pub record Cut (ts : List ℕ) (xs : List X) (i : ℕ) : Type 0 where
     pub others : List X
@@ -38,7 +38,7 @@ module _ {X : Type 0} where
   cut (t ∷ ts) (x ∷ xs) zero below long = record {
     others = held ts xs;
     with_one = λ u y had. subst (λ l. IsPermutation l (y ∷ held ts xs)) (sym (held_first u y (held ts xs) had)) (IsPermutation-refl (y ∷ held ts xs));
-    with_none = λ u y low. none_first u y (held ts xs) low;
+    with_none = λ u y low. without_first u y (held ts xs) low;
   }
   cut (t ∷ ts) (x ∷ xs) (suc i) below long =
       let c = cut ts xs i (omega (arith, below)) (omega (arith, long)) in

@@ -10,7 +10,7 @@ use Rattle.std.proofs.lemmas.Bool.{cases_lt}
 use Rattle.std.proofs.lemmas.List.{get_or-set_other, drop_all, at_drop_more}
 use Rattle.std.proofs.lemmas.Option.{get_or_from_slice_get, slice_get_read, slice_get_within}
 use Rattle.key_index_map.specs.Table.{Updates, held, is_held}
-use Rattle.key_index_map.proofs.Held.{held_first, none_first}
+use Rattle.key_index_map.proofs.Held.{held_first, without_first}
 use Rattle.key_index_map.proofs.Places.{element}
 use Rattle.key_index_map.proofs.Transfer.{Moving, new_key, one_less, all_moved}
 
@@ -38,7 +38,7 @@ module _ {X : Type 0} (ts : List ℕ) (xs : List X) where
     pair_at i x at had = at_cell i x at ∙ held_first (slice_index ts i) x (from_on (i + 1)) had
 
     pub none_at : (i : ℕ) → i < length xs → slice_index ts i < 3 → held (drop i ts) (drop i xs) ≡ held (drop (i + 1) ts) (drop (i + 1) xs)
-    none_at i below low = let it = element xs i below in at_cell i it.0 it.1 ∙ none_first (slice_index ts i) it.0 (from_on (i + 1)) low
+    none_at i below low = let it = element xs i below in at_cell i it.0 it.1 ∙ without_first (slice_index ts i) it.0 (from_on (i + 1)) low
 
     skips : (d a : ℕ) → a + d ≤ length xs → ((i : ℕ) → a ≤ i → i < a + d → slice_index ts i < 3) → from_on a ≡ from_on (a + d)
     skips zero a within low = ap from_on (let e : a ≡ a + 0 = omega arith in e)

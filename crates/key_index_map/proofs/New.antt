@@ -4,14 +4,14 @@ use Rattle.std.proofs.lemmas.Bool.{cases_lt}
 use Rattle.std.proofs.lemmas.Option.{slice_get_within}
 use Rattle.key_index_map.specs.Table.{AreCells, AreEmpty, held, limit}
 use Rattle.key_index_map.proofs.Between.{none_differ}
-use Rattle.key_index_map.proofs.Held.{none_first}
+use Rattle.key_index_map.proofs.Held.{without_first}
 use Rattle.key_index_map.proofs.Marks.{no_marks}
 
 pub none_are_held : {X : Type 0} (ts : List ℕ) (xs : List X) → ((i : ℕ) → i < length xs → slice_index ts i < 3) → held ts xs ≡ []
 none_are_held [] xs low = refl
 none_are_held (t ∷ ts) [] low = refl
 none_are_held (t ∷ ts) (x ∷ xs) low =
-    none_first t x (held ts xs) (low 0 (omega arith)) ∙ none_are_held ts xs (λ i below. low (suc i) (omega (arith, below)))
+    without_first t x (held ts xs) (low 0 (omega arith)) ∙ none_are_held ts xs (λ i below. low (suc i) (omega (arith, below)))
 
 pub record New {K V : Type 0} (eq : K → K → Bool) (input : K → List (List ℕ)) (tags : List ℕ) (items : List (K × V)) (filled : List Bool) (groups left : ℕ) : Type 0 where
   pub cells : AreCells eq input tags items filled groups 0 left

@@ -110,7 +110,8 @@ pub record AreEmpty (tags : List ℕ) (groups cells : ℕ) : Type 0 where
   pub empty : (i : ℕ) → i < cells → slice_index tags i ≡ 0
   pub beyond : (i : ℕ) → cells ≤ i → i < length tags → slice_index tags i ≡ 2
 
-pub record AreCells {K V : Type 0} (eq : K → K → Bool) (input : K → List (List ℕ)) (tags : List ℕ) (items : List (K × V)) (filled : List Bool)
+pub record AreCells {K V : Type 0} (eq : K → K → Bool) (input : K → List (List ℕ)) (tags : List ℕ)
+    (items : List (K × V)) (filled : List Bool)
     (groups len left : ℕ) : Type 0 where
   pub some : 0 < groups
   pub sized : length tags ≡ 16 * groups
@@ -119,8 +120,10 @@ pub record AreCells {K V : Type 0} (eq : K → K → Bool) (input : K → List (
   pub beyond : (i : ℕ) → length items ≤ i → i < 16 * groups → slice_index tags i ≡ 2
   pub cells : (i : ℕ) → i < length items → slice_index tags i ≢ 2
   pub taken : (i : ℕ) → i < length items → 3 ≤ slice_index tags i → slice_index_or filled i false ≡ true
-  pub tagged : (i : ℕ) (e : K × V) → slice_get items i ≡ Some e → 3 ≤ slice_index tags i → slice_index tags i ≡ tag_of (hash_of (input e.0))
-  pub reached : (i : ℕ) (e : K × V) → slice_get items i ≡ Some e → 3 ≤ slice_index tags i → (group : ℕ) → 16 * group ≤ i → i < 16 * group + 16
+  pub tagged : (i : ℕ) (e : K × V) → slice_get items i ≡ Some e → 3 ≤ slice_index tags i
+      → slice_index tags i ≡ tag_of (hash_of (input e.0))
+  pub reached : (i : ℕ) (e : K × V) → slice_get items i ≡ Some e → 3 ≤ slice_index tags i
+      → (group : ℕ) → 16 * group ≤ i → i < 16 * group + 16
       → Reaches tags groups (home groups (hash_of (input e.0))) group
   pub distinct : IsDistinct eq (keys_of (held tags items))
   pub counted : len ≡ length (held tags items)
@@ -139,7 +142,9 @@ pub record IsAt {K V : Type 0} (eq : K → K → Bool) (c : Cells K V) (cell : �
 
 -- no cell of a range has a pair with the key
 abbrev pub NoneIn : {K V : Type 0} → (K → K → Bool) → Cells K V → ℕ → ℕ → K → Type 0
-NoneIn {K} {V} eq c from to k = (i : ℕ) (e : K × V) → from ≤ i → i < to → slice_get c.items i ≡ Some e → 3 ≤ slice_index c.tags i → eq k e.0 ≡ false
+NoneIn {K} {V} eq c from to k =
+    (i : ℕ) (e : K × V) → from ≤ i → i < to → slice_get c.items i ≡ Some e → 3 ≤ slice_index c.tags i
+    → eq k e.0 ≡ false
 
 -- a search through some groups ended at one with an empty cell, the place, and found no pair with the key so far
 pub record Stopped {K V : Type 0} (eq : K → K → Bool) (c : Cells K V) (from to : ℕ) (k : K) (place : ℕ) : Type 0 where
@@ -177,7 +182,8 @@ IsFreeIn c from to None = NoneFree c (16 * from) (16 * to)
 pub record IsFirstFree {K V : Type 0} (c : Cells K V) (home cell : ℕ) : Type 0 where
   pub within : cell < length c.items
   pub free : slice_index c.tags cell < 2
-  pub reached : (groups : ℕ) → length c.tags ≡ 16 * groups → (group : ℕ) → 16 * group ≤ cell → cell < 16 * group + 16 → Reaches c.tags groups home group
+  pub reached : (groups : ℕ) → length c.tags ≡ 16 * groups → (group : ℕ) → 16 * group ≤ cell → cell < 16 * group + 16
+      → Reaches c.tags groups home group
 
 -- what a look at the first group of a search tells
 abbrev pub Seen : {K V : Type 0} → (K → K → Bool) → Cells K V → ℕ → K → Search → Type 0
@@ -192,7 +198,8 @@ IsPlace eq c hash k (Free cell) = (lookup (eq k) (pairs c) ≡ None) × IsFirstF
 
 -- the tag that a cell without its pair has: 0 only where its group has another empty cell
 abbrev pub IsTagWithout : {K V : Type 0} → Cells K V → ℕ → ℕ → Type 0
-IsTagWithout c cell tag = (tag < 2) × (tag ≡ 0 → (group : ℕ) → 16 * group ≤ cell → cell < 16 * group + 16 → IsFull c.tags group → ⊥)
+IsTagWithout c cell tag =
+    (tag < 2) × (tag ≡ 0 → (group : ℕ) → 16 * group ≤ cell → cell < 16 * group + 16 → IsFull c.tags group → ⊥)
 
 -- new has w at the key k (None: nothing), and what old has at each other one
 pub record Updates {K V : Type 0} (eq : K → K → Bool) (old new : List (K × V)) (k : K) (w : Option V) : Type 0 where

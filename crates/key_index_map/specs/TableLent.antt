@@ -9,13 +9,17 @@ use Rattle.std.specs.Option.{OnSome}
 use Rattle.key_index_map.specs.Table.{Cells, Writes, pairs, with_value}
 use Rattle.key_index_map.specs.contracts.table.Table.{the_row}
 
-module _ (K V : RattleType) (ord : OrdMembers K.Denot) (hash : HashMembers K.Denot) (s : MutBor (Cells K.Denot V.Denot)) where
+module _ (K V : RattleType) (ord : OrdMembers K.Denot) (hash : HashMembers K.Denot)
+    (s : MutBor (Cells K.Denot V.Denot)) where
   abbrev table_row : RattleType
   table_row =
-      the_row K V (record { cmp = ord.cmp }) (record { eq = ord.eq }) (record { partial_cmp = ord.partial_cmp }) (record { hash_input = hash.hash_input })
+      the_row K V (record { cmp = ord.cmp }) (record { eq = ord.eq }) (record { partial_cmp = ord.partial_cmp })
+      (record { hash_input = hash.hash_input })
 
   abbrev pub lends_cell : ℕ → MutBor V.Denot → Fml
   lends_cell cell r = Lends table_row V s r (λ w. with_value s.now cell w)
 
   abbrev pub lends_get : K.Denot → Option (MutBor V.Denot) → Fml
-  lends_get k r = LendsSo table_row V s r (λ n w. OnSome r (Writes ord.eq (pairs s.now) (pairs n) k w) × (n.spare ≡ s.now.spare)) (λ n. n ≡ s.now)
+  lends_get k r =
+      LendsSo table_row V s r (λ n w. OnSome r (Writes ord.eq (pairs s.now) (pairs n) k w) × (n.spare ≡ s.now.spare))
+      (λ n. n ≡ s.now)

@@ -1,7 +1,7 @@
 pub mod pairs
-pub mod family
+pub mod buckets
 pub mod standing
 pub mod bitmap
 pub mod keys
-pub mod asked
+pub mod closures
 pub mod builds

@@ -1,5 +1,5 @@
 pub mod StandingLemmas
-pub mod SpillingLemmas
+pub mod SortedBucketLemmas
 pub mod LiftLemmas
 pub mod MoveLemmas
 pub mod PaidLemmas

@@ -6,7 +6,7 @@ use Rattle.std.specs.declared.cmp.PartialOrd as partial
 use Rattle.std.specs.declared.hash.Hash as hash
 use Rattle.key_index_flat.specs.declared.translator.Translator as translator
 use Rattle.key_index_flat.specs.View.{View}
-use Rattle.key_index_parts.specs.declared.index.partitioned.bucket.Held as buckets
+use Rattle.key_index_parts.specs.declared.index.partitioned.bucket.Contents as buckets
 use Rattle.key_index_parts.specs.declared.index.partitioned.range.RangeIndex.{RangeIndex}
 use Rattle.key_index_parts.specs.Family.{view_from}
 use Rattle.key_index_parts.specs.Joined.{is_between}

@@ -115,10 +115,10 @@ module _ {K : Type 0} {cmp : K → K → Ordering} (o : IsTotalOrder cmp) (exact
   suc-moves_left l m n e = omega (arith, e)
 
   module _ (slot : List ℕ → K) where
-    counted_in : (e : K × List Record) (es : Content K Record) (h : T (is_sorted cmp (e ∷ es))) → IsFiled key_of cmp slot es → len (positions_of (values_of es)) ≡ item_count es
+    counted_entry : (e : K × List Record) (es : Content K Record) (h : T (is_sorted cmp (e ∷ es))) → IsFiled key_of cmp slot es → len (positions_of (values_of es)) ≡ item_count es
         → (l : List Record) → All (λ r. IsBytes (key_of r) × (slot (key_of r) ≡ e.0)) l → Distinct l → len (positions_of (l ++ values_of es)) ≡ length l + item_count es
-    counted_in e es h f rest [] under d = omega (arith, rest)
-    counted_in e es h f rest (r ∷ rs) under d =
+    counted_entry e es h f rest [] under d = omega (arith, rest)
+    counted_entry e es h f rest (r ∷ rs) under d =
         let k = key_of r in
         let P : Record → Type 0 = λ r. IsBytes (key_of r) × (slot (key_of r) ≡ e.0) in
         let others = rs ++ values_of es in
@@ -127,7 +127,7 @@ module _ {K : Type 0} {cmp : K → K → Ordering} (o : IsTotalOrder cmp) (exact
         ∙ ap (position_in k) (list_at-below_all o e.0 e.0 es (λ y q. q) (T-and_first _ _ h)) in
         let none : get (positions_of others) k ≡ None =
         get-from_entries nat_list_cmp_total (map entry_of others) k ∙ look-behind entry_of k rs (values_of es) (apart_none entry_of k rs (IsDistinct-head same k (map key_of rs) d)) ∙ elsewhere in
-        let tail : len (positions_of others) ≡ length rs + item_count es = counted_in e es h f rest rs (All-tail P r rs under) (IsDistinct-tail same k (map key_of rs) d) in
+        let tail : len (positions_of others) ≡ length rs + item_count es = counted_entry e es h f rest rs (All-tail P r rs under) (IsDistinct-tail same k (map key_of rs) d) in
         len-insert nat_list_cmp_total (positions_of others) k r.position
         ∙ ap (λ o. cond (is_some o) (len (positions_of others)) (len (positions_of others) + 1)) none
         ∙ suc-moves_left (len (positions_of others)) (length rs) (item_count es) tail
@@ -143,7 +143,7 @@ module _ {K : Type 0} {cmp : K → K → Ordering} (o : IsTotalOrder cmp) (exact
           | Greater ↦ λ p d. d
         ] refl (once k) in
         let here : Distinct e.1 = subst (λ r. Distinct (unwrap_or (cond (is_eq r) (Some e.1) (find cmp e.0 es)) [])) (tied_itself o e.0) (once e.0) in
-        counted_in e es h rest_filed (counted_all es (T-and_second _ _ h) rest_filed rest_once) e.1 (filed_first o key_of slot e es f) here
+        counted_entry e es h rest_filed (counted_all es (T-and_second _ _ h) rest_filed rest_once) e.1 (filed_first o key_of slot e es f) here
 
   pub len-positions_in : (s : View K Record) → IsLawful cmp s.content → IsKept cmp s → len (positions_in s) ≡ items_in s
   len-positions_in s h kept = counted_all s.slot s.content h.0 kept.filed kept.once

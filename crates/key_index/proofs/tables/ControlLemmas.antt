@@ -59,8 +59,8 @@ byte_own : (g : ℕ) → 2 ≤ g → byte_of g ≡ g
 byte_own g l = ap (λ b. cond b 2 g) (le-ltb g 2 l)
 
 -- a fingerprint whose byte is not that of three
-own_of : (g : ℕ) → byte_of g ≢ 2 → 3 ≤ g
-own_of g n =
+unshared_from_three : (g : ℕ) → byte_of g ≢ 2 → 3 ≤ g
+unshared_from_three g n =
     elim (nat_lt g 3) as (λ b. nat_lt g 3 ≡ b → 3 ≤ g) [
       | true ↦ λ t. absurd (n (byte_low g (let few = ltb-true g 3 t in omega (arith, few))))
       | false ↦ λ t. ltb-false g 3 t
@@ -75,7 +75,7 @@ module _ (byte f g : ℕ) where
 
   pub control_of_own : byte ≡ byte_of g → byte_of g ≢ 2 → control_by byte f ≡ g + 2
   control_of_own e n =
-      let three = own_of g n in
+      let three = unshared_from_three g n in
       let same = e ∙ byte_own g (omega (arith, three)) in
       control_own byte f (omega (arith, same, three)) ∙ ap (λ m. m + 2) same
 

@@ -20,7 +20,7 @@ pub record Copied (cs ps ds qs : List ℕ) (n : ℕ) : Type 0 where
   pub full : count_by is_full ds ≡ count_by is_full (take n cs)
   pub used : count_by is_used ds ≡ count_by is_full (take n cs)
   pub clean : (j : ℕ) → slice_index ds j ≢ 1
-  pub origin : (j : ℕ) → 2 ≤ slice_index ds j → (i : ℕ) × (i < n) × (2 ≤ slice_index cs i) × (slice_index ps i ≡ slice_index qs j)
+  pub copied_from : (j : ℕ) → 2 ≤ slice_index ds j → (i : ℕ) × (i < n) × (2 ≤ slice_index cs i) × (slice_index ps i ≡ slice_index qs j)
   pub target : (i : ℕ) → i < n → 2 ≤ slice_index cs i → (j : ℕ) × (2 ≤ slice_index ds j) × (slice_index qs j ≡ slice_index ps i)
 
 slice_index-zeros : (n i : ℕ) → slice_index (replicate n 0) i ≡ 0
@@ -43,7 +43,7 @@ Copied-past cs ps ds qs n b f s =
       full = s.full ∙ sym same;
       used = s.used ∙ sym same;
       clean = s.clean;
-      origin = λ j g. let r = s.origin j g in (r.0, omega arith, r.2, r.3);
+      copied_from = λ j g. let r = s.copied_from j g in (r.0, omega arith, r.2, r.3);
       target = λ i l g. elim (nat_eq i n) as (λ t. nat_eq i n ≡ t → (j : ℕ) × (2 ≤ slice_index ds j) × (slice_index qs j ≡ slice_index ps i)) [
         | true ↦ λ t. let e = ap (slice_index cs) (eqb-true _ _ t) in absurd (omega (arith, e, f, g))
         | false ↦ λ t. let ne = eqb-false _ _ t in s.target i (omega (arith, ne)) g
@@ -74,12 +74,12 @@ module _ (cs ps ds qs : List ℕ) (n h p cell : ℕ) (s : Copied cs ps ds qs n) 
           | true ↦ λ t. let e = ap (slice_index (slice_set ds cell (control_of h))) (eqb-true _ _ t) ∙ control_at_cell in omega (arith, e, z)
           | false ↦ λ t. s.clean j (sym (get_or-set_other ds cell j (control_of h) 0 (eqb-false _ _ t)) ∙ z)
         ] refl;
-        origin = λ j g. elim (nat_eq j cell) as (λ t. nat_eq j cell ≡ t → (i : ℕ) × (i < n + 1) × (2 ≤ slice_index cs i) × (slice_index ps i ≡ slice_index (slice_set qs cell p) j)) [
+        copied_from = λ j g. elim (nat_eq j cell) as (λ t. nat_eq j cell ≡ t → (i : ℕ) × (i < n + 1) × (2 ≤ slice_index cs i) × (slice_index ps i ≡ slice_index (slice_set qs cell p) j)) [
           | true ↦ λ t. (n, omega arith, f, sym at ∙ sym place_at_cell ∙ ap (slice_index (slice_set qs cell p)) (sym (eqb-true _ _ t)))
           | false ↦ λ t.
               let ne = eqb-false _ _ t in
               let e = get_or-set_other ds cell j (control_of h) 0 ne in
-              let r = s.origin j (omega (arith, e, g)) in
+              let r = s.copied_from j (omega (arith, e, g)) in
               (r.0, omega arith, r.2, r.3 ∙ sym (get_or-set_other qs cell j p 0 ne))
         ] refl;
         target = λ i l g. elim (nat_eq i n) as (λ t. nat_eq i n ≡ t → (j : ℕ) × (2 ≤ slice_index (slice_set ds cell (control_of h)) j) × (slice_index (slice_set qs cell p) j ≡ slice_index ps i)) [
@@ -97,7 +97,7 @@ module _ (cs ps ds qs : List ℕ) (n h p cell : ℕ) (s : Copied cs ps ds qs n) 
       → Keeps ds qs m → Keeps (slice_set ds cell (control_of h)) (slice_set qs cell p) m
   copied_keeps m a e first k =
       put_keeps ds qs h p cell s.sized first free within m m k e
-      (λ j g z. let r = s.origin j g in let same = a.apart r.0 n r.2 f (r.3 ∙ z ∙ at) in let l = r.1 in omega (arith, same, l))
+      (λ j g z. let r = s.copied_from j g in let same = a.apart r.0 n r.2 f (r.3 ∙ z ∙ at) in let l = r.1 in omega (arith, same, l))
       (λ q _. refl)
 
 pub copied_files : (cs ps ds qs : List ℕ) (m : ℕ → Option ℕ) → Files cs ps m → Copied cs ps ds qs (length cs) → Keeps ds qs m → Files ds qs m

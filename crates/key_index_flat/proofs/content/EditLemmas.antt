@@ -54,9 +54,9 @@ pub first_removed_of : {V : Type 0} (t : List V) (x : V) → slice_get t 0 ≡ S
 first_removed_of [] x at = absurd (subst T (ap is_some (sym at)) tt)
 first_removed_of (y ∷ t) x at = let e : x ≡ y = cc in ap (λ z. z ∷ t) e
 
-pub none_first : {V : Type 0} (t : List V) → slice_get t 0 ≡ None → t ≡ []
-none_first [] at = refl
-none_first (y ∷ t) at = absurd (subst T (ap is_some at) tt)
+pub empty_without_first : {V : Type 0} (t : List V) → slice_get t 0 ≡ None → t ≡ []
+empty_without_first [] at = refl
+empty_without_first (y ∷ t) at = absurd (subst T (ap is_some at) tt)
 
 -- where there is a value, its removal returns one
 pub removed_some : {V : Type 0} (r : Option (V × ℕ)) (t : List V) (place : ℕ) → option_map (λ removed. removed.0) r ≡ slice_get t place → place < length t → is_some r ≡ true
@@ -181,7 +181,7 @@ module _ {K V : Type 0} {cmp : K → K → Ordering} (o : IsTotalOrder cmp) (exa
         → slice_get (tail k) 0 ≡ None → later k ≡ remove (tail k) 0 → Others
         → StandsFor o exact news later (with_list cmp (content_of cmp heads tail) k (remove list place))
     only_removed place d p some sets less is at others =
-        let none = none_first (tail k) is in
+        let none = empty_without_first (tail k) is in
         subst (λ (m : List V). StandsFor o exact news later (with_list cmp (content_of cmp heads tail) k m))
         (sym (ap (λ n. remove list n) p ∙ ap (λ l. remove l 0) (list-first_and_tail d some ∙ ap (λ l. d ∷ l) none)))
         (StandsFor-taken_out o exact heads news tail later k linked sets less (at ∙ ap (λ l. remove l 0) none) others)

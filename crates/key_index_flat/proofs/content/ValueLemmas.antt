@@ -15,7 +15,7 @@ use Rattle.key_index_flat.specs.Content.{Content, is_filled, all_filled, list_at
 use Rattle.key_index_flat.specs.laws.Laws.{IsLawful-content_of, T-and_first, T-and_second}
 use Rattle.key_index_flat.specs.Storage.{content_of}
 use Rattle.key_index_flat.specs.Values.{values_of, VisitsInTurn}
-use Rattle.key_index_flat.proofs.asked.VisitLemmas.{folds_append}
+use Rattle.key_index_flat.proofs.closures.VisitLemmas.{folds_append}
 use Rattle.key_index_flat.proofs.content.ContentLemmas.{key_count-with_list, entries_for}
 
 module _ {K V : Type 0} (tail : K → List V) where

@@ -5,7 +5,7 @@ pub use super::batch::{
 pub use super::records::{Above, Below, Side};
 pub use super::retain::{Retained, keep_in_front, retain_in_turn};
 pub use super::show::show_counts;
-pub use super::storage::chains::Chains;
+pub use super::storage::list_map::ListMap;
 pub use super::storage::small_map::SmallMap;
 pub use super::storage::tails::{Back, End, Front};
 pub use super::storage::tree_key::TreeMap;

@@ -263,7 +263,7 @@ fn own_or_next<'a, I: Ordered, R: Records<'a, I::Value>>(
 ) -> Result<Option<&'a I::Value>, R::Error>
     ensures candidate { AsRead (R.agrees records.new) (λ keys.
         IsLeast (cmp_keys keys) (above keys key.now (run_of I.Key.cmp (I.view index.now) key.now))
-            (option_copied own.entry)
+        (option_copied own.entry)
         → IfOk result (λ o. IsNextIn keys I.Key.cmp (I.view index.now) key.now (option_copied o))) }
     ensures reads { R.reads records.old records.new }
     ensures fault { IfErr result (FailsOn (R.fails records.new) (values_of (I.view index.now).content)) }
@@ -307,7 +307,7 @@ fn own_or_prev<'a, I: Ordered, R: Records<'a, I::Value>>(
 ) -> Result<Option<&'a I::Value>, R::Error>
     ensures candidate { AsRead (R.agrees records.new) (λ keys.
         IsLeast (flip_args (cmp_keys keys)) (below keys key.now (run_of I.Key.cmp (I.view index.now) key.now))
-            (option_copied own.entry)
+        (option_copied own.entry)
         → IfOk result (λ o. IsPrevIn keys I.Key.cmp (I.view index.now) key.now (option_copied o))) }
     ensures reads { R.reads records.old records.new }
     ensures fault { IfErr result (FailsOn (R.fails records.new) (values_of (I.view index.now).content)) }

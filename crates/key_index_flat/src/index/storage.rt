@@ -8,8 +8,8 @@ ghost use Rattle.key_index_flat.specs.Storage.{Kept, IsCounted, added, view_of};
 ghost use Rattle.key_index_flat.specs.View.{run_at, with_run, with_edit, with_pruned, with_slot, InsertsAndRetains, Retains};
 ghost use Rattle.key_index_flat.specs.Values.{values_of, VisitsEach};
 
-pub mod chains;
-pub mod heads;
+pub mod list_map;
+pub mod maps;
 pub mod small_map;
 pub mod tails;
 pub mod tree_key;
@@ -17,37 +17,37 @@ pub mod tree_key;
 use super::implement::Retained;
 use super::{Fault, Refused, Values};
 use crate::translator::Translator;
-use chains::Chains;
-use heads::{Heads, OrderedHeads};
 use key_index_map::map::Map;
+use list_map::ListMap;
+use maps::{AnyMap, OrderedMap};
 use std::alloc::Global;
 use std::marker::Model;
 use tails::Front;
 
-/// A flat index over any map of first values: a translator, the chains, and the counts. Contracts see all of it but the count of
+/// A flat index over any map of first values: a translator, the lists, and the counts. Contracts see all of it but the count of
 /// values, which is that of the content.
 #[derive(Drop)]
-pub(crate) struct Storage<T: Translator, V, M: Heads<T::Key, V>> {
+pub(crate) struct Storage<T: Translator, V, M: AnyMap<T::Key, V>> {
     translator: T,
-    chains: Chains<T, V, M, Front>,
+    lists: ListMap<T, V, M, Front>,
     items: usize,
     pruned: u64,
 }
 
-impl<T: Translator, V, M: Heads<T::Key, V>> Model for Storage<T, V, M> {
+impl<T: Translator, V, M: AnyMap<T::Key, V>> Model for Storage<T, V, M> {
     ghost Value = { Kept T T.Key V };
 
     ghost view = { λ s. record {
       translator = s.translator;
-      content = s.chains.content;
+      content = s.lists.content;
       pruned = s.pruned;
-      spare = s.chains.spare;
+      spare = s.lists.spare;
     } };
 
-    ghost invariant = { λ s. IsCounted T.Key.cmp s.chains.content s.items };
+    ghost invariant = { λ s. IsCounted T.Key.cmp s.lists.content s.items };
 }
 
-impl<T: Translator, V: Drop, M: Heads<T::Key, V>> Storage<T, V, M> {
+impl<T: Translator, V: Drop, M: AnyMap<T::Key, V>> Storage<T, V, M> {
     /// No values, over an empty map of first values.
     pub(crate) fn new(alloc: Global, translator: T, heads: M) -> Storage<T, V, M>
         requires { M.entries heads ≡ [] }
@@ -58,7 +58,7 @@ impl<T: Translator, V: Drop, M: Heads<T::Key, V>> Storage<T, V, M> {
     {
         Storage {
             translator,
-            chains: Chains::new(alloc, heads),
+            lists: ListMap::new(alloc, heads),
             items: 0,
             pruned: 0,
         }
@@ -75,7 +75,7 @@ impl<T: Translator, V: Drop, M: Heads<T::Key, V>> Storage<T, V, M> {
     pub(crate) fn run_len(&self, slot: T::Key) -> usize
         ensures { result ≡ length (list_at T.Key.cmp self.now.content slot) }
     {
-        self.chains.run_len(slot)
+        self.lists.run_len(slot)
     }
 
     #[inline]
@@ -83,20 +83,20 @@ impl<T: Translator, V: Drop, M: Heads<T::Key, V>> Storage<T, V, M> {
         requires { place < length (list_at T.Key.cmp self.now.content slot) }
         ensures { slice_get (list_at T.Key.cmp self.now.content slot) place ≡ Some result.now }
     {
-        self.chains.value_at(slot, place)
+        self.lists.value_at(slot, place)
     }
 
     #[inline(always)]
     pub(crate) fn list_at(&self, slot: T::Key) -> Values<'_, V>
         ensures { result ≡ list_at T.Key.cmp self.now.content slot }
     {
-        self.chains.get(slot)
+        self.lists.get(slot)
     }
 
     /// Where the lists take their memory.
     #[inline]
     pub(crate) fn alloc(&self) -> Global {
-        self.chains.alloc()
+        self.lists.alloc()
     }
 
     /// Puts a value in front of the list at an index key.
@@ -115,7 +115,7 @@ impl<T: Translator, V: Drop, M: Heads<T::Key, V>> Storage<T, V, M> {
         if self.items == usize::MAX {
             return Err(Refused::full(value));
         }
-        match self.chains.insert(slot, value) {
+        match self.lists.insert(slot, value) {
             Ok(_) => {
                 self.items += 1;
                 Ok(())
@@ -131,7 +131,7 @@ impl<T: Translator, V: Drop, M: Heads<T::Key, V>> Storage<T, V, M> {
             ≡ with_edit T.Key.cmp (view_of T.translated self.old) slot (λ l. slice_set l place value) }
         ensures lawful { IsLawful T.Key.cmp self.new.content }
     {
-        self.chains.set_at(slot, place, value);
+        self.lists.set_at(slot, place, value);
     }
 
     pub(crate) fn insert_at(
@@ -152,7 +152,7 @@ impl<T: Translator, V: Drop, M: Heads<T::Key, V>> Storage<T, V, M> {
         if self.items == usize::MAX {
             return Err(Refused::full(value));
         }
-        match self.chains.insert_at(slot, place, value) {
+        match self.lists.insert_at(slot, place, value) {
             Ok(_) => {
                 self.items += 1;
                 Ok(())
@@ -177,7 +177,7 @@ impl<T: Translator, V: Drop, M: Heads<T::Key, V>> Storage<T, V, M> {
         if self.items == usize::MAX {
             return Err(Refused::full(value));
         }
-        match self.chains.insert_absent(slot, value) {
+        match self.lists.insert_absent(slot, value) {
             Ok(0) => {
                 self.items += 1;
                 Ok(0)
@@ -196,7 +196,7 @@ impl<T: Translator, V: Drop, M: Heads<T::Key, V>> Storage<T, V, M> {
         ensures left { result.1 + 1 ≡ length (list_at T.Key.cmp self.old.content slot) }
         ensures lawful { IsLawful T.Key.cmp self.new.content }
     {
-        let (value, left) = self.chains.remove_at(slot, place);
+        let (value, left) = self.lists.remove_at(slot, place);
         self.items -= 1;
         self.pruned = self.pruned.saturating_add(1);
         (value, left)
@@ -216,7 +216,7 @@ impl<T: Translator, V: Drop, M: Heads<T::Key, V>> Storage<T, V, M> {
         ensures left { result.1 ≡ length (run_at T.Key.cmp (view_of T.translated self.new) slot) }
         ensures lawful { IsLawful T.Key.cmp self.new.content }
     {
-        let (had, left) = self.chains.retain(slot, should_retain);
+        let (had, left) = self.lists.retain(slot, should_retain);
         let taken = had - left;
         self.items -= taken;
         self.pruned = self.pruned.saturating_add(taken as u64);
@@ -247,7 +247,7 @@ impl<T: Translator, V: Drop, M: Heads<T::Key, V>> Storage<T, V, M> {
         if self.items == usize::MAX {
             return Err(Refused::full(value));
         }
-        match self.chains.insert_and_retain(slot, value, should_retain) {
+        match self.lists.insert_and_retain(slot, value, should_retain) {
             Ok(told) => {
                 self.items = self.items - told.had + told.left;
                 self.pruned = self.pruned.saturating_add(told.taken as u64);
@@ -265,7 +265,7 @@ impl<T: Translator, V: Drop, M: Heads<T::Key, V>> Storage<T, V, M> {
         ensures taken { result ≡ length (run_at T.Key.cmp (view_of T.translated self.old) slot) }
         ensures lawful { IsLawful T.Key.cmp self.new.content }
     {
-        let taken = self.chains.remove(slot);
+        let taken = self.lists.remove(slot);
         self.items -= taken;
         self.pruned = self.pruned.saturating_add(taken as u64);
         taken
@@ -284,7 +284,7 @@ impl<T: Translator, V: Drop, M: Heads<T::Key, V>> Storage<T, V, M> {
     pub(crate) fn keys(&self) -> usize
         ensures { result ≡ key_count self.now.content }
     {
-        self.chains.keys()
+        self.lists.keys()
     }
 
     #[inline]
@@ -302,40 +302,40 @@ impl<T: Translator, V: Drop, M: Heads<T::Key, V>> Storage<T, V, M> {
     }
 }
 
-impl<T: Translator, V: Drop, M: OrderedHeads<T::Key, V>> Storage<T, V, M> {
+impl<T: Translator, V: Drop, M: OrderedMap<T::Key, V>> Storage<T, V, M> {
     #[inline]
     pub(crate) fn first(&self) -> Option<(T::Key, Values<'_, V>)>
         ensures { result ≡ first_entry self.now.content }
     {
-        self.chains.first()
+        self.lists.first()
     }
 
     #[inline]
     pub(crate) fn last(&self) -> Option<(T::Key, Values<'_, V>)>
         ensures { result ≡ last_entry self.now.content }
     {
-        self.chains.last()
+        self.lists.last()
     }
 
     #[inline]
     pub(crate) fn above(&self, slot: T::Key) -> Option<(T::Key, Values<'_, V>)>
         ensures { result ≡ first_entry (entries_above T.Key.cmp self.now.content slot) }
     {
-        self.chains.above(slot)
+        self.lists.above(slot)
     }
 
     #[inline]
     pub(crate) fn next(&self, slot: T::Key) -> Option<(Values<'_, V>, bool)>
         ensures { result ≡ next_list T.Key.cmp self.now.content slot }
     {
-        self.chains.next(slot)
+        self.lists.next(slot)
     }
 
     #[inline]
     pub(crate) fn prev(&self, slot: T::Key) -> Option<(Values<'_, V>, bool)>
         ensures { result ≡ prev_list T.Key.cmp self.now.content slot }
     {
-        self.chains.prev(slot)
+        self.lists.prev(slot)
     }
 }
 
@@ -348,7 +348,7 @@ impl<T: Translator, V: Drop> Storage<T, V, Map<T::Key, V>> {
         ensures succeeds { additional ≤ self.old.spare → IsOk result }
         ensures fault { IfErr result (λ f. f ≡ Fault.Memory) }
     {
-        match self.chains.reserve(additional) {
+        match self.lists.reserve(additional) {
             Ok(()) => Ok(()),
             Err(_) => Err(Fault::Memory),
         }
@@ -361,6 +361,6 @@ impl<T: Translator, V: Drop> Storage<T, V, Map<T::Key, V>> {
         ensures visits { VisitsEach (CalledAt F.FnMut) visit.old (values_of self.now.content) visit.new }
         ensures callable { F.IsAlwaysCallable visit.new }
     {
-        self.chains.for_each_value(visit);
+        self.lists.for_each_value(visit);
     }
 }

@@ -120,8 +120,8 @@ module _ (words : List ℕ) (summary : ℕ → Bool) (exact : (place : ℕ) → 
       last_is_none empty p below = none_behind p (λ before. empty (p / 64) before) below
 
 module _ (words : List ℕ) (place word : ℕ) (inside : place / 64 < length words) where
-  pub set_here : (fills : Bool) → word_has word (place % 64) ≡ fills → words_have (slice_set words (place / 64) word) place ≡ fills
-  set_here fills here =
+  pub words_have-slice_set : (fills : Bool) → word_has word (place % 64) ≡ fills → words_have (slice_set words (place / 64) word) place ≡ fills
+  words_have-slice_set fills here =
       in_word (slice_set words (place / 64) word) place (place / 64) refl
       ∙ ap (λ w. word_has w (place % 64)) (get_or-set_same words (place / 64) word 0 inside) ∙ here
 

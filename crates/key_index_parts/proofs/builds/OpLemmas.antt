@@ -14,7 +14,7 @@ use Rattle.key_index_parts.specs.Joined.{joined, joined_view, IsFree, is_between
 use Rattle.key_index_parts.specs.Ops.{op_key, list_after, taken_after, after_op_at, after_op, after_ops, ops_within, ops_below}
 use Rattle.key_index_parts.specs.Ranges.{number_of}
 use Rattle.key_index_parts.specs.declared.index.partitioned.builds.op.Op.{Op}
-use Rattle.key_index_parts.proofs.family.JoinedLemmas.{list_at-joined, joined-with_list, with_list-joined, IsFree-with_list}
+use Rattle.key_index_parts.proofs.buckets.JoinedLemmas.{list_at-joined, joined-with_list, with_list-joined, IsFree-with_list}
 
 pub pruned_left : (p q n : ℕ) → pruned_after (pruned_after p n) q ≡ pruned_after (pruned_after p q) n
 pruned_left p q n = omega arith

@@ -25,7 +25,7 @@ use Rattle.key_index_parts.specs.Ops.{IsCuts, op_key, edit_held, list_after, aft
 use Rattle.key_index_parts.specs.Ranges.{number_of, empty_view, IsFilled, AreFilled, installed, CanInstall, StopsAt, filled_by, built_upto, IsFillingFault, RefusesBuild}
 use Rattle.key_index_parts.specs.declared.index.partitioned.builds.op.Op.{Op}
 use Rattle.key_index_parts.specs.declared.index.partitioned.builds.op.Op.TheVariants as op
-use Rattle.key_index_parts.proofs.family.JoinedLemmas.{joined-empty}
+use Rattle.key_index_parts.proofs.buckets.JoinedLemmas.{joined-empty}
 use Rattle.key_index_parts.proofs.builds.DoneLemmas.{take_whole}
 use Rattle.key_index_parts.proofs.builds.OpLemmas.{join_ops, free_above}
 use Rattle.key_index_parts.specs.laws.RangeLaws.{is_between-within}

@@ -30,7 +30,7 @@ use Rattle.key_index_flat.specs.View.{put_value}
 use Rattle.key_index_flat.specs.Neighbours.{entries_above, entries_below}
 use Rattle.key_index_flat.specs.Retention.{AsksInTurn}
 use Rattle.key_index_flat.proofs.content.ContentLemmas.{list_at-with_list, with_list-twice}
-use Rattle.key_index_flat.proofs.asked.TurnLemmas.{held_answers, kept_few}
+use Rattle.key_index_flat.proofs.closures.TurnLemmas.{held_answers, kept_few}
 use Rattle.key_index_parts.specs.Family.{RetainsWith}
 use Rattle.key_index_parts.specs.laws.PairLaws.{IsLawful-grouped}
 use Rattle.key_index_parts.specs.Pairs.{run_of, grouped, with_value, IsFound}

@@ -7,8 +7,8 @@ use Rattle.std.proofs.Math.ListN.{get_or}
 use Rattle.std.proofs.lemmas.List.{get_or-drop, length-drop, take_all}
 use Rattle.std.proofs.lemmas.Option.{slice_get_cases, slice_get_read}
 use Rattle.std.specs.List.{SwappedAt, remove, remove_range}
-use Rattle.key_index_flat.proofs.asked.Asked.{take-value}
-use Rattle.key_index_flat.proofs.asked.TurnLemmas.{swap_take}
+use Rattle.key_index_flat.proofs.closures.Asked.{take-value}
+use Rattle.key_index_flat.proofs.closures.TurnLemmas.{swap_take}
 
 module _ {X : Type 0} where
   -- xs at the start, ys now; those from `to` up to `at` stand from `from` up to `into`

@@ -16,7 +16,7 @@ use Rattle.std.specs.declared.cmp.Ordering.TheVariants.{Less, Equal, Greater}
 use Rattle.std.specs.Ordering.{is_lt, ordering_reverse}
 use Rattle.key_index_parts.specs.Pairs.{count_below, Paired}
 use Rattle.key_index_parts.specs.Spread.{pairs_with}
-use Rattle.key_index_parts.proofs.family.SpreadLemmas.{zip-more}
+use Rattle.key_index_parts.proofs.buckets.SpreadLemmas.{zip-more}
 use Rattle.key_index_parts.proofs.pairs.SearchLemmas.{Rises, Rises-IsSorted, Rises-take, IsSorted-Rises, last_highest, last_uncounted}
 
 -- k is the last of keys that never fall, and its run begins at `start`
@@ -58,11 +58,11 @@ module _ {K : Type 0} {cmp : K → K → Ordering} (o : IsTotalOrder cmp) where
           | Greater ↦ λ e _. absurd (subst T (sym (ap is_lt (o.antisymm k x ∙ ap ordering_reverse e)) ∙ high) tt)
         ] refl low
 
-    all_last : (ks : List K) → All (λ x. is_lt (cmp x k) ≡ false) ks → All (λ x. is_lt (cmp k x) ≡ false) ks → (count_below cmp ks k ≡ 0) × (ks ≡ replicate (length ks) k)
-    all_last [] low high = (refl, refl)
-    all_last (x ∷ xs) low high =
+    all_equal : (ks : List K) → All (λ x. is_lt (cmp x k) ≡ false) ks → All (λ x. is_lt (cmp k x) ≡ false) ks → (count_below cmp ks k ≡ 0) × (ks ≡ replicate (length ks) k)
+    all_equal [] low high = (refl, refl)
+    all_equal (x ∷ xs) low high =
         let at = All-head (λ x. is_lt (cmp x k) ≡ false) x xs low in
-        let rest = all_last xs (All-tail (λ x. is_lt (cmp x k) ≡ false) x xs low) (All-tail (λ x. is_lt (cmp k x) ≡ false) x xs high) in (
+        let rest = all_equal xs (All-tail (λ x. is_lt (cmp x k) ≡ false) x xs low) (All-tail (λ x. is_lt (cmp k x) ≡ false) x xs high) in (
           ap (λ b. length (cond b (x ∷ filter (λ y. is_lt (cmp y k)) xs) (filter (λ y. is_lt (cmp y k)) xs))) at ∙ rest.0,
           (λ i. is_last x at (All-head (λ x. is_lt (cmp k x) ≡ false) x xs high) i ∷ rest.1 i),
         )
@@ -83,7 +83,7 @@ module _ {K : Type 0} {cmp : K → K → Ordering} (o : IsTotalOrder cmp) where
               (rest.0 ∙ ap (λ n. replicate n k) left, All-cons (λ x. cmp x k ≡ Less) x (take (count_below cmp xs k) xs) e rest.1)
           | Equal ↦ λ e.
               let same = exact x k e in
-              let all = all_last xs (subst (λ y. All (λ z. is_lt (cmp z y) ≡ false) xs) same h.0) high_rest in
+              let all = all_equal xs (subst (λ y. All (λ z. is_lt (cmp z y) ≡ false) xs) same h.0) high_rest in
               let whole : suc (length xs) ≡ suc (length xs) - 0 = omega arith in
               subst (λ n. Ends (x ∷ xs) n) (sym all.0) ((λ i. same i ∷ all.1 i) ∙ ap (λ n. replicate n k) whole, All-nil _)
           | Greater ↦ λ e. absurd (subst T (sym (ap is_lt (o.antisymm k x ∙ ap ordering_reverse e)) ∙ high_at) tt)

@@ -17,7 +17,7 @@ use Rattle.key_index_flat.specs.laws.Laws.{T-and, T-and_first, T-and_second}
 use Rattle.key_index_flat.proofs.content.ContentLemmas.{list_at-below_all, Less-is_lt}
 use Rattle.key_index_parts.specs.Pairs.{grouped}
 use Rattle.key_index_parts.specs.Spread.{AreBelow, pairs_with, spread}
-use Rattle.key_index_parts.proofs.family.SpreadLemmas.{grouped-spread, put-front}
+use Rattle.key_index_parts.proofs.buckets.SpreadLemmas.{grouped-spread, put-front}
 
 module _ {K : Type 0} {cmp : K → K → Ordering} (o : IsTotalOrder cmp) where
   Less-turned : (x k : K) → cmp x k ≡ Less → is_lt (cmp k x) ≡ false

@@ -23,7 +23,7 @@ use Rattle.key_index_parts.specs.Moves.{IsPaid, IsRangeWithin, IsWithin}
 use Rattle.key_index_parts.specs.Standing.{GrowsIn, LeavesIn, Standing, Standings, standing_in}
 use Rattle.key_index_parts.proofs.standing.StandingLemmas.{grows_to}
 use Rattle.key_index_parts.proofs.standing.MoveLemmas.{Pays, credit_pays, grows_paid, leaves_paid, range_pays}
-use Rattle.key_index_parts.proofs.family.StorageLemmas.{length-with_list_in}
+use Rattle.key_index_parts.proofs.buckets.StorageLemmas.{length-with_list_in}
 
 module _ {K V : Type 0} (contents : List (Content K V)) (standing : List Standing) (told : AreCounted contents standing) where
   pub counted_size : length standing ≡ length contents

@@ -8,7 +8,7 @@ ghost use Rattle.key_index_flat.specs.SmallMap.{tag_of, IsAt, IsFew, AreTagged, 
 ghost use Rattle.key_index_map.specs.Table.{pairs as held_pairs};
 ghost use Rattle.key_index_flat.specs.Storage.{value_of, Sets};
 
-use super::heads::Heads;
+use super::maps::AnyMap;
 use key_index_map::map::Map;
 use key_index_map::table::Table;
 use std::alloc::Global;
@@ -322,7 +322,7 @@ impl<K: Ord + Hash + Copy, V> SmallMap<K, V> {
     }
 }
 
-impl<K: Ord + Hash + Copy, V> Heads<K, V> for SmallMap<K, V> {
+impl<K: Ord + Hash + Copy, V> AnyMap<K, V> for SmallMap<K, V> {
     ghost entries = { λ map. entries_in map.kept };
 
     ghost spare = { λ _. 0 };
@@ -338,7 +338,7 @@ impl<K: Ord + Hash + Copy, V> Heads<K, V> for SmallMap<K, V> {
     #[inline(always)]
     fn get(&self, key: &K) -> Option<&V> {
         match &self.kept {
-            Kept::Many(table) => Heads::get(table, key),
+            Kept::Many(table) => AnyMap::get(table, key),
             Kept::Few(pairs) => pairs.get(key),
         }
     }
@@ -349,7 +349,7 @@ impl<K: Ord + Hash + Copy, V> Heads<K, V> for SmallMap<K, V> {
         V: Drop,
     {
         if let Kept::Many(table) = &mut self.kept {
-            return Heads::insert(table, key, value);
+            return AnyMap::insert(table, key, value);
         }
         self.insert_few(key, value)
     }
@@ -360,7 +360,7 @@ impl<K: Ord + Hash + Copy, V> Heads<K, V> for SmallMap<K, V> {
         V: Drop,
     {
         if let Kept::Many(table) = &mut self.kept {
-            return Heads::insert_absent(table, key, value);
+            return AnyMap::insert_absent(table, key, value);
         }
         if self.get(&key).is_some() {
             return Ok(Some(value));
@@ -374,7 +374,7 @@ impl<K: Ord + Hash + Copy, V> Heads<K, V> for SmallMap<K, V> {
     #[inline(always)]
     fn replace(&mut self, key: &K, value: V) -> V {
         match &mut self.kept {
-            Kept::Many(table) => Heads::replace(table, key, value),
+            Kept::Many(table) => AnyMap::replace(table, key, value),
             Kept::Few(pairs) => pairs.replace(key, value),
         }
     }
@@ -382,7 +382,7 @@ impl<K: Ord + Hash + Copy, V> Heads<K, V> for SmallMap<K, V> {
     #[inline(always)]
     fn remove(&mut self, key: &K) -> Option<V> {
         match &mut self.kept {
-            Kept::Many(table) => Heads::remove(table, key),
+            Kept::Many(table) => AnyMap::remove(table, key),
             Kept::Few(pairs) => pairs.remove(key),
         }
     }

@@ -5,7 +5,7 @@ ghost use Rattle.std.specs.Option.{option_map};
 ghost use Rattle.key_index_flat.specs.Storage.{at_key, index_in, list_of, tail_at, value_of, vector_at, RetainsTail, SameBut};
 ghost use Rattle.key_index_flat.specs.Values.{in_order};
 
-use super::heads::Heads;
+use super::maps::AnyMap;
 use crate::index::Values;
 use crate::index::implement::retain_in_turn;
 use key_index_map::map::Map;
@@ -79,7 +79,7 @@ fn values_in<K: Ord + Hash + Copy, V>(map: &Map<K, Vec<V>>, key: K) -> &[V]
     ensures values { result.now ≡ at_key K.eq map.now key }
     ensures small { length result.now < usize.MAX }
 {
-    match Heads::get(map, &key) {
+    match AnyMap::get(map, &key) {
         Some(values) => values.as_slice(),
         None => &[],
     }
@@ -97,7 +97,7 @@ fn put_in<K: Ord + Hash + Copy, V: Drop>(
     ensures refused { OnErr result (at_key K.eq map.new key ≡ at_key K.eq map.old key) }
     ensures returned { IfErr result (λ back. back ≡ values) }
 {
-    match Heads::insert(map, key, values) {
+    match AnyMap::insert(map, key, values) {
         Ok(_) => Ok(()),
         Err(values) => Err(values),
     }
@@ -111,12 +111,12 @@ fn remove_in<K: Ord + Hash + Copy, V: Drop>(map: &mut Map<K, Vec<V>>, key: K) ->
     ensures at { at_key K.eq map.new key ≡ [] }
     ensures others { SameBut K.cmp (at_key K.eq map.old) (at_key K.eq map.new) key }
 {
-    Heads::remove(map, &key)
+    AnyMap::remove(map, &key)
 }
 
 /// Removes the vector at a key, of which so many values are left, where that is none.
 #[tactic(auto, using(crate::proofs::content::VectorLemmas::others_set))]
-fn remove_empty<K: Ord + Hash + Copy, V: Drop, M: Heads<K, Vec<V>>>(
+fn remove_empty<K: Ord + Hash + Copy, V: Drop, M: AnyMap<K, Vec<V>>>(
     map: &mut M,
     key: K,
     left: usize,

@@ -8,9 +8,9 @@ ghost use Rattle.key_index_flat.specs.View.{put_value};
 ghost use Rattle.key_index_flat.specs.Values.{VisitsEach, values_of};
 ghost use Rattle.key_index_parts.specs.Family.{Grows, RetainsWith, inline_in, stays_spilled};
 
-mod arrays;
-pub(super) mod chained;
-pub(super) mod spilling;
+pub(super) mod hash_bucket;
+mod sorted_arrays;
+pub(super) mod sorted_bucket;
 mod tree;
 
 use key_index_flat::index::Values;
@@ -19,7 +19,7 @@ use key_index_flat::translator::Translator;
 use std::alloc::{AllocError, Global};
 
 /// What holds a map from a bucket's keys to lists. `spilled` tells whether that is a tree, which a bucket without values never is.
-pub(super) trait Held<T: Translator, V> {
+pub(super) trait Contents<T: Translator, V> {
     ghost content: { Self → Content T.Key V };
 
     ghost spilled: { Self → Bool };
@@ -30,7 +30,7 @@ pub(super) trait Held<T: Translator, V> {
 }
 
 /// A bucket as it is read.
-pub(super) trait ReadBucket<T: Translator, V>: Held<T, V> {
+pub(super) trait ReadBucket<T: Translator, V>: Contents<T, V> {
     fn is_empty(&self) -> bool
         ensures { result ≡ not (is_filled (Self.content self.now)) };
 
@@ -118,7 +118,7 @@ pub(super) trait EditBucket<T: Translator, V>: ReadBucket<T, V> {
 }
 
 /// One of the two forms of a bucket that spills: arrays, or a tree.
-pub(super) trait Form<T: Translator, V>: EditBucket<T, V> {
+pub(super) trait Representation<T: Translator, V>: EditBucket<T, V> {
     /// Puts a value in behind those of the key, and tells whether the key had none.
     fn insert(&mut self, key: T::Key, value: V) -> Result<bool, V>
         ensures accepted { IfOk result (λ absent.

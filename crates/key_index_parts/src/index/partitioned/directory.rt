@@ -13,8 +13,8 @@ ghost use Rattle.key_index_parts.specs.Prefix.{partition_count};
 ghost use Rattle.key_index_parts.specs.Standing.{GrowsIn, LeavesIn, SpillsIn, is_reached_by, is_small_by, spilled_in, standing_in, with_inline};
 
 use super::bitmap::Bitmap;
-use super::bucket::spilling::Spilling;
-use super::bucket::{Bucket, EditBucket, Held, OrderedBucket, ReadBucket};
+use super::bucket::sorted_bucket::SortedBucket;
+use super::bucket::{Bucket, Contents, EditBucket, OrderedBucket, ReadBucket};
 use key_index_flat::index::implement::Retained;
 use key_index_flat::index::{Fault, Values};
 use key_index_flat::translator::Translator;
@@ -23,13 +23,13 @@ use std::marker::{Model, PhantomData};
 
 /// The buckets, and which of them hold anything. Contracts see what each bucket holds.
 #[derive(Drop)]
-pub(super) struct Directory<T: Translator, V, X: Held<T, V>> {
+pub(super) struct Directory<T: Translator, V, X: Contents<T, V>> {
     buckets: Vec<X>,
     filled: Bitmap,
     lists: PhantomData<(T, V)>,
 }
 
-impl<T: Translator, V, X: Held<T, V>> Model for Directory<T, V, X> {
+impl<T: Translator, V, X: Contents<T, V>> Model for Directory<T, V, X> {
     ghost Value = { Family T.Key V };
 
     ghost view = { λ p. record {
@@ -40,7 +40,7 @@ impl<T: Translator, V, X: Held<T, V>> Model for Directory<T, V, X> {
     ghost invariant = { λ p. p.filled ≡ filled_buckets (map X.content p.buckets.items) };
 }
 
-impl<T: Translator, V: Drop, X: Held<T, V> + Drop> Directory<T, V, X> {
+impl<T: Translator, V: Drop, X: Contents<T, V> + Drop> Directory<T, V, X> {
     /// How many buckets there are.
     #[inline]
     pub(super) fn len(&self) -> usize
@@ -308,7 +308,11 @@ impl<T: Translator, V: Drop, X: Bucket<T, V> + Drop> Directory<T, V, X> {
 
     /// Spills a bucket of which a spill would move `limit` values or more, and tells how many values it moved.
     #[inline]
-    pub(super) fn settle(&mut self, number: usize, limit: usize) -> Result<usize, AllocError>
+    pub(super) fn spill_if_reached(
+        &mut self,
+        number: usize,
+        limit: usize,
+    ) -> Result<usize, AllocError>
         requires within { number < length self.old.contents }
         requires least { 1 ≤ limit }
         ensures contents { self.new.contents ≡ self.old.contents }
@@ -439,7 +443,7 @@ impl<T: Translator, V: Drop, X: Bucket<T, V> + Drop> Directory<T, V, X> {
     }
 }
 
-impl<T: Translator, V: Drop> Directory<T, V, Spilling<T, V>> {
+impl<T: Translator, V: Drop> Directory<T, V, SortedBucket<T, V>> {
     /// A guess where the slot's values stand in their bucket, which has so many in arrays.
     #[inline(always)]
     pub(super) fn guess(&self, slot: (usize, T::Key), seen: usize) -> usize

@@ -10,7 +10,7 @@ mod ahead;
 pub mod partition;
 mod together;
 
-use super::bucket::spilling::Spilling;
+use super::bucket::sorted_bucket::SortedBucket;
 use super::storage::Storage;
 use super::{PartitionRange, Partitioned, partition_index_and_sub_key, range};
 pub use ahead::{Ahead, same_visits, show_ahead, visit_ahead};
@@ -38,7 +38,7 @@ const THRESHOLD: usize = 512;
 /// neighbours of a key, however many empty partitions lie between.
 #[derive(Drop)]
 pub struct Index<T: Translator, V: Drop, const P: usize> {
-    storage: Storage<T, V, Spilling<T, V>, P>,
+    storage: Storage<T, V, SortedBucket<T, V>, P>,
     ghost is_index: { IsIndex T.Key.cmp P storage.buckets },
 }
 
@@ -173,7 +173,7 @@ impl<T: Translator, V: Drop, const P: usize> Index<T, V, P> {
 }
 
 /// Some neighbouring partitions of a partitioned ordered index, apart from it.
-pub type RangeIndex<T, V, const P: usize> = range::RangeIndex<T, V, Spilling<T, V>, P>;
+pub type RangeIndex<T, V, const P: usize> = range::RangeIndex<T, V, SortedBucket<T, V>, P>;
 
 impl<T: Translator, V: Drop, const P: usize> RangeIndex<T, V, P> {
     ghost use Rattle.std.specs.Prelude.{◌≡◌, ◌+◌, ◌-◌, ◌*◌, ◌<◌, ◌≤◌, IsTrue};
@@ -300,7 +300,7 @@ impl<T: Translator, V: Drop, const P: usize> Search for Index<T, V, P> {
 
     fn reach(&mut self, key: &[u8]) -> Result<((usize, T::Key), usize), Fault> {
         let slot = self.slot_of(key);
-        match self.storage.settle(slot.0) {
+        match self.storage.spill_if_reached(slot.0) {
             Ok(()) => Ok((slot, self.run_len(slot))),
             Err(fault) => Err(fault),
         }

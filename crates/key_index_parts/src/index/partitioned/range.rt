@@ -8,7 +8,7 @@ ghost use Rattle.key_index_parts.specs.Moves.{IsRangeWithin};
 ghost use Rattle.key_index_parts.specs.laws.RangeLaws.{shift};
 ghost use Rattle.key_index_parts.specs.Standing.{LeavesSome, Refuses, Settles, is_reached};
 
-use super::bucket::{Bucket, EditBucket, Held};
+use super::bucket::{Bucket, Contents, EditBucket};
 use super::storage::Storage;
 use super::{PartitionRange, partition_index_and_sub_key};
 use key_index_flat::index::{Fault, IndexCursor, Refused, Runs, Search};
@@ -17,14 +17,14 @@ use key_index_flat::translator::Translator;
 /// Some neighbouring partitions of an index, apart from it, with room for these alone. Its buckets are numbered from
 /// 0, and its index keys are those of the index.
 #[derive(Drop)]
-pub struct RangeIndex<T: Translator, V: Drop, X: Held<T, V> + Drop, const P: usize> {
+pub struct RangeIndex<T: Translator, V: Drop, X: Contents<T, V> + Drop, const P: usize> {
     pub(super) offset: usize,
     pub(super) storage: Storage<T, V, X, P>,
     ghost is_range: { IsRange T.Key.cmp P offset storage.buckets },
     ghost within: { IsRangeWithin storage.standings storage.pruned },
 }
 
-impl<T: Translator, V: Drop, X: Held<T, V> + Drop, const P: usize> RangeIndex<T, V, X, P> {
+impl<T: Translator, V: Drop, X: Contents<T, V> + Drop, const P: usize> RangeIndex<T, V, X, P> {
     /// Whether the range covers a partition.
     #[inline]
     fn covers(&self, partition: usize) -> bool
@@ -126,7 +126,7 @@ impl<T: Translator, V: Drop, X: Bucket<T, V> + Drop, const P: usize> Search
     fn reach(&mut self, key: &[u8]) -> Result<((usize, T::Key), usize), Fault> {
         let slot = self.slot_of(key);
         let own = self.own(slot);
-        match self.storage.settle(own.0) {
+        match self.storage.spill_if_reached(own.0) {
             Ok(()) => Ok((slot, self.run_len(slot))),
             Err(fault) => Err(fault),
         }

@@ -14,8 +14,8 @@ ghost use Rattle.key_index_parts.specs.Moves.{IsRangeWithin, IsWithin, entries_i
 ghost use Rattle.key_index_parts.specs.Prefix.{partition_count, slot_by};
 ghost use Rattle.key_index_parts.specs.Standing.{Leaves, MovesBack, Resettles, Settles, entries_at, inline_len, is_reached, joined_standings, new_standings, spilled_in, standing_at, standings_of};
 
-use super::bucket::spilling::Spilling;
-use super::bucket::{Bucket, EditBucket, Held, OrderedBucket, ReadBucket};
+use super::bucket::sorted_bucket::SortedBucket;
+use super::bucket::{Bucket, Contents, EditBucket, OrderedBucket, ReadBucket};
 use super::counts::{Counts, Moves};
 use super::directory::Directory;
 use super::partition_index_and_sub_key;
@@ -32,7 +32,7 @@ use std::marker::Model;
 /// that, are `set_at`, `insert_at` and `remove_at` for cursors, and what the calls by key are made of: `put`, `put_absent`,
 /// `put_and_retain`, `retain_in_bucket` and `take`. The calls that remove values move a bucket that they leave small back to arrays last.
 #[derive(Drop)]
-pub(super) struct Storage<T: Translator, V, X: Held<T, V>, const P: usize> {
+pub(super) struct Storage<T: Translator, V, X: Contents<T, V>, const P: usize> {
     translator: T,
     buckets: Directory<T, V, X>,
     counts: Counts,
@@ -43,7 +43,7 @@ pub(super) struct Storage<T: Translator, V, X: Held<T, V>, const P: usize> {
     ghost within: { IsWithin (standings_of threshold buckets.standing moves.spills moves.moved) counts.pruned },
 }
 
-impl<T: Translator, V, X: Held<T, V>, const P: usize> Model for Storage<T, V, X, P> {
+impl<T: Translator, V, X: Contents<T, V>, const P: usize> Model for Storage<T, V, X, P> {
     ghost Value = { Kept T T.Key V };
 
     ghost view = { λ s. record {
@@ -56,7 +56,7 @@ impl<T: Translator, V, X: Held<T, V>, const P: usize> Model for Storage<T, V, X,
     ghost invariant = { λ s. IsCounted T.Key.cmp P s.buckets.contents s.counts.items s.counts.keys };
 }
 
-impl<T: Translator, V: Drop, X: Held<T, V> + Drop, const P: usize> Storage<T, V, X, P> {
+impl<T: Translator, V: Drop, X: Contents<T, V> + Drop, const P: usize> Storage<T, V, X, P> {
     /// How many buckets there are.
     #[inline]
     pub(super) fn len(&self) -> usize
@@ -391,7 +391,7 @@ impl<T: Translator, V: Drop, X: Bucket<T, V> + Drop, const P: usize> Storage<T, 
 
     /// Spills a bucket that has reached the threshold.
     #[inline]
-    pub(super) fn settle(&mut self, number: usize) -> Result<(), Fault>
+    pub(super) fn spill_if_reached(&mut self, number: usize) -> Result<(), Fault>
         requires { number < length self.old.buckets }
         ensures settled { OnOk result (self.new ≡ settled_at X.SPILLS self.old number) }
         ensures settles { OnOk result (IsTrue X.SPILLS → Settles self.old.standings number self.new.standings) }
@@ -403,7 +403,7 @@ impl<T: Translator, V: Drop, X: Bucket<T, V> + Drop, const P: usize> Storage<T, 
         ensures least { 1 ≤ self.old.standings.threshold }
         ensures range_bound { KeepsRange self.old self.new }
     {
-        match self.buckets.settle(number, self.threshold) {
+        match self.buckets.spill_if_reached(number, self.threshold) {
             Ok(moved) => {
                 self.moves.spill(moved);
                 Ok(())
@@ -521,7 +521,7 @@ impl<T: Translator, V: Drop, X: Bucket<T, V> + Drop, const P: usize> Storage<T, 
         if self.is_full() {
             return Err(Refused::full(value));
         }
-        let Ok(()) = self.settle(slot.0) else {
+        let Ok(()) = self.spill_if_reached(slot.0) else {
             return Err(Refused::memory(value));
         };
         match self.put(slot, value) {
@@ -553,7 +553,7 @@ impl<T: Translator, V: Drop, X: Bucket<T, V> + Drop, const P: usize> Storage<T, 
         if self.is_full() {
             return Err(Refused::full(value));
         }
-        let Ok(()) = self.settle(slot.0) else {
+        let Ok(()) = self.spill_if_reached(slot.0) else {
             return Err(Refused::memory(value));
         };
         match self.put_absent(slot, value) {
@@ -585,7 +585,7 @@ impl<T: Translator, V: Drop, X: Bucket<T, V> + Drop, const P: usize> Storage<T, 
         if self.is_full() {
             return Err(Refused::full(value));
         }
-        let Ok(()) = self.settle(slot.0) else {
+        let Ok(()) = self.spill_if_reached(slot.0) else {
             return Err(Refused::memory(value));
         };
         match self.put_and_retain(slot, value, should_retain) {
@@ -612,7 +612,7 @@ impl<T: Translator, V: Drop, X: Bucket<T, V> + Drop, const P: usize> Storage<T, 
         ensures want { IfErr result (λ f. IsWant f (X.SPILLS && is_reached self.old.standings slot.0)) }
         ensures kept { KeepsBuckets T.Key.cmp self.old.buckets self.new.buckets }
     {
-        match self.settle(slot.0) {
+        match self.spill_if_reached(slot.0) {
             Ok(()) => {
                 self.retain_in_bucket(slot, should_retain);
                 self.move_back(slot.0);
@@ -632,7 +632,7 @@ impl<T: Translator, V: Drop, X: Bucket<T, V> + Drop, const P: usize> Storage<T, 
         ensures want { IfErr result (λ f. IsWant f (X.SPILLS && is_reached self.old.standings slot.0)) }
         ensures kept { KeepsBuckets T.Key.cmp self.old.buckets self.new.buckets }
     {
-        match self.settle(slot.0) {
+        match self.spill_if_reached(slot.0) {
             Ok(()) => {
                 self.take(slot);
                 self.move_back(slot.0);
@@ -643,7 +643,7 @@ impl<T: Translator, V: Drop, X: Bucket<T, V> + Drop, const P: usize> Storage<T, 
     }
 }
 
-impl<T: Translator, V: Drop, const P: usize> Storage<T, V, Spilling<T, V>, P> {
+impl<T: Translator, V: Drop, const P: usize> Storage<T, V, SortedBucket<T, V>, P> {
     /// A guess where the slot's values stand in their bucket, which has so many in arrays.
     #[inline(always)]
     pub(super) fn guess(&self, slot: (usize, T::Key), seen: usize) -> usize

@@ -4,7 +4,7 @@ ghost use Rattle.key_index_parts.specs.Family.{IsIndex, view_of};
 ghost use Rattle.key_index_parts.specs.Gathered.{pair_cmp};
 ghost use Rattle.key_index_parts.specs.Prefix.{partition_count, partition_by, slot_by};
 
-use super::bucket::chained::Chained;
+use super::bucket::hash_bucket::HashBucket;
 use super::storage::Storage;
 use super::{Partitioned, partition_index_and_sub_key, range};
 use key_index_flat::index::implement::{Lists, show_by_place, show_counts, visit_by_place};
@@ -23,7 +23,7 @@ use std::fmt;
 /// up among those of one partition.
 #[derive(Drop)]
 pub struct Index<T: Translator, V: Drop, const P: usize> {
-    storage: Storage<T, V, Chained<T, V>, P>,
+    storage: Storage<T, V, HashBucket<T, V>, P>,
     ghost is_index: { IsIndex T.Key.cmp P storage.buckets },
 }
 
@@ -53,7 +53,7 @@ impl<T: Translator, V: Drop, const P: usize> Index<T, V, P> {
 }
 
 /// Some neighbouring partitions of a partitioned unordered index, apart from it.
-pub type RangeIndex<T, V, const P: usize> = range::RangeIndex<T, V, Chained<T, V>, P>;
+pub type RangeIndex<T, V, const P: usize> = range::RangeIndex<T, V, HashBucket<T, V>, P>;
 
 impl<T: Translator, V: Drop, const P: usize> Runs for Index<T, V, P> {
     ghost use Rattle.std.proofs.lemmas.Map.Lookups.{exact_pairs, exact_unsigned};

@@ -2,7 +2,7 @@ use Rattle.std.proofs.Common.{◌≡◌, List, refl, ap, sym, subst, arith}
 use Rattle.std.specs.Fn.{CalledAt}
 use Rattle.key_index_flat.specs.Content.{list_at, item_count}
 use Rattle.key_index_flat.specs.Retention.{AsksBehind}
-use Rattle.key_index_flat.proofs.asked.TurnLemmas.{few_kept}
+use Rattle.key_index_flat.proofs.closures.TurnLemmas.{few_kept}
 use Rattle.key_index_flat.proofs.runs.ViewLemmas.{same_view}
 use Rattle.key_index_plain.specs.Entries.{listed, content_of}
 use Rattle.key_index_plain.proofs.EntryLemmas.{content_of-listed}

@@ -3,7 +3,7 @@ use Rattle.key_index_flat.specs.Content.{IsLawful, list_at}
 use Rattle.key_index_flat.specs.laws.Laws.{IsLawful-with_list}
 use Rattle.key_index_plain.specs.Entries.{listed}
 use Rattle.std.specs.Fn.{CalledAt}
-use Rattle.key_index_flat.proofs.asked.PutLemmas.{asks_put, one_went, taken_put}
+use Rattle.key_index_flat.proofs.closures.PutLemmas.{asks_put, one_went, taken_put}
 use Rattle.key_index_plain.proofs.entries.insert_and_retain.Goals.{then-stays, else-stays}
 use Rattle.key_index_plain.proofs.entries.insert_and_retain.Goals as goal
 

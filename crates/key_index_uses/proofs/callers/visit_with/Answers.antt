@@ -5,7 +5,7 @@ use Rattle.std.proofs.lemmas.Iterator.{items_from_drains, YieldsList-from_slice}
 use Rattle.std.specs.List.{FoldsTo}
 use Rattle.key_index_flat.specs.View.{run_at}
 use Rattle.key_index_flat.specs.Visits.{VisitsAt, probes_from, visits_of}
-use Rattle.key_index_flat.proofs.asked.VisitLemmas.{folds_through}
+use Rattle.key_index_flat.proofs.closures.VisitLemmas.{folds_through}
 use Rattle.key_index_uses.proofs.VisitLemmas.{FoldsTo-inside}
 use Rattle.key_index_uses.proofs.callers.visit_with.Goals as goal
 

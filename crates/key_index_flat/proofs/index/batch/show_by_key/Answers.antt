@@ -1,6 +1,6 @@
 use Rattle.std.proofs.Common.{refl, rules, of_calls}
 use denote.Param.Always.{always_mut, mut_by}
-use Rattle.key_index_flat.proofs.asked.VisitLemmas.{visits_through}
+use Rattle.key_index_flat.proofs.closures.VisitLemmas.{visits_through}
 use Rattle.key_index_flat.proofs.index.batch.show_by_key.Goals as goal
 
 pub visit_probes-requires : goal.visit_probes-requires

@@ -1,6 +1,6 @@
 use Rattle.std.proofs.Common.{refl, rules, of_calls}
 use denote.Param.Always.{always_mut, mut_by}
-use Rattle.key_index_flat.proofs.asked.VisitLemmas.{visits_through}
+use Rattle.key_index_flat.proofs.closures.VisitLemmas.{visits_through}
 use Rattle.key_index_flat.proofs.index.batch.show_by_place.Goals as goal
 
 pub visit_by_place-requires : goal.visit_by_place-requires

@@ -1,6 +1,6 @@
 use Rattle.std.proofs.Common.{◌∷◌, [], ◌++◌, sym, ap, ◌∙◌, arith}
 use Rattle.std.proofs.lemmas.List.{length_push}
-use Rattle.key_index_flat.proofs.asked.VisitLemmas.{probes_key}
+use Rattle.key_index_flat.proofs.closures.VisitLemmas.{probes_key}
 use Rattle.key_index_flat.proofs.index.batch.take_probes.Goals as goal
 
 pub loop-key-preserved : goal.loop-key-preserved

@@ -2,7 +2,7 @@ use Rattle.std.proofs.Common.{ap, ◌∙◌, arith}
 use Rattle.std.proofs.lemmas.List.{length_push}
 use Rattle.key_index_flat.specs.View.{run_at}
 use Rattle.key_index_flat.specs.Visits.{VisitsAt}
-use Rattle.key_index_flat.proofs.asked.VisitLemmas.{folds_key}
+use Rattle.key_index_flat.proofs.closures.VisitLemmas.{folds_key}
 use Rattle.key_index_flat.proofs.index.batch.visit_by_place.Goals as goal
 
 pub loop-key-preserved : goal.loop-key-preserved

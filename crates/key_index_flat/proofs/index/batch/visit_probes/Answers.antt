@@ -1,6 +1,6 @@
 use Rattle.key_index_flat.specs.View.{run_at}
 use Rattle.key_index_flat.specs.Visits.{VisitsAt}
-use Rattle.key_index_flat.proofs.asked.VisitLemmas.{folds_probe}
+use Rattle.key_index_flat.proofs.closures.VisitLemmas.{folds_probe}
 use Rattle.key_index_flat.proofs.index.batch.visit_probes.Goals as goal
 
 pub probes-preserved : goal.probes-preserved

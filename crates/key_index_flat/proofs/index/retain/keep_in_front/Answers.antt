@@ -3,7 +3,7 @@ use Rattle.std.proofs.Math.ListN.{get_or}
 use Rattle.std.specs.Fn.{CalledAt}
 use Rattle.std.proofs.lemmas.Fn.{called_at}
 use borrow.Author.Rules.{of_calls}
-use Rattle.key_index_flat.proofs.asked.TurnLemmas.{turned_first, turned_more, turned_less, turned_is, turned_last}
+use Rattle.key_index_flat.proofs.closures.TurnLemmas.{turned_first, turned_more, turned_less, turned_is, turned_last}
 use Rattle.key_index_flat.proofs.index.retain.keep_in_front.Goals.{then-stays, else-stays}
 use Rattle.key_index_flat.proofs.index.retain.keep_in_front.Goals as goal
 

@@ -1,7 +1,7 @@
 use Rattle.std.proofs.Common.{◌-◌, ◌≤◌, length}
 use Rattle.std.specs.Fn.{CalledAt}
 use denote.Param.Always.{always_mut}
-use Rattle.key_index_flat.proofs.asked.TurnLemmas.{Turned}
+use Rattle.key_index_flat.proofs.closures.TurnLemmas.{Turned}
 use Rattle.key_index_flat.proofs.index.retain.keep_in_front.Given as goal
 
 abbrev pub invariant-values : goal.invariant-values

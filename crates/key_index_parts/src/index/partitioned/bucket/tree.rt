@@ -3,16 +3,16 @@ ghost use Rattle.std.specs.Prelude.{◌≡◌, false, []};
 ghost use Rattle.key_index_flat.specs.Content.{IsLawful, item_count};
 ghost use Rattle.key_index_flat.specs.Storage.{IsCounted};
 
-use super::{EditBucket, Form, Held, OrderedBucket, ReadBucket};
+use super::{Contents, EditBucket, OrderedBucket, ReadBucket, Representation};
 use key_index_flat::index::Values;
-use key_index_flat::index::implement::{Back, Chains, Retained, TreeMap};
+use key_index_flat::index::implement::{Back, ListMap, Retained, TreeMap};
 use key_index_flat::translator::Translator;
 use std::alloc::Global;
 
 /// A bucket as lists whose first values stand in an ordered map, and how many values there are: `usize::MAX` at most.
 #[derive(Drop)]
 pub struct Tree<T: Translator, V> {
-    lists: Chains<T, V, TreeMap<T::Key, V>, Back>,
+    lists: ListMap<T, V, TreeMap<T::Key, V>, Back>,
     len: usize,
     ghost counted: { IsCounted T.Key.cmp lists.content len },
 }
@@ -22,11 +22,11 @@ impl<T: Translator, V: Drop> Tree<T, V> {
     pub(super) fn new(alloc: Global) -> Tree<T, V>
         ensures { result.lists.content ≡ [] }
     {
-        Tree::of_lists(Chains::new(alloc, TreeMap::new(alloc)), 0)
+        Tree::of_lists(ListMap::new(alloc, TreeMap::new(alloc)), 0)
     }
 
     /// The bucket that some lists are, with so many values in them.
-    pub(super) fn of_lists(lists: Chains<T, V, TreeMap<T::Key, V>, Back>, len: usize) -> Tree<T, V>
+    pub(super) fn of_lists(lists: ListMap<T, V, TreeMap<T::Key, V>, Back>, len: usize) -> Tree<T, V>
         requires { IsCounted T.Key.cmp lists.content len }
         ensures { result.lists ≡ lists }
     {
@@ -34,7 +34,7 @@ impl<T: Translator, V: Drop> Tree<T, V> {
     }
 
     /// The lists of the bucket.
-    pub(super) fn into_lists(self) -> Chains<T, V, TreeMap<T::Key, V>, Back>
+    pub(super) fn into_lists(self) -> ListMap<T, V, TreeMap<T::Key, V>, Back>
         ensures { result ≡ self.lists }
     {
         self.lists
@@ -49,7 +49,7 @@ impl<T: Translator, V: Drop> Tree<T, V> {
     }
 }
 
-impl<T: Translator, V> Held<T, V> for Tree<T, V> {
+impl<T: Translator, V> Contents<T, V> for Tree<T, V> {
     ghost use Rattle.key_index_parts.specs.laws.StandingLaws.{inline_filled};
 
     ghost content = { λ bucket. bucket.lists.content };
@@ -122,7 +122,7 @@ impl<T: Translator, V: Drop> EditBucket<T, V> for Tree<T, V> {
     }
 }
 
-impl<T: Translator, V: Drop> Form<T, V> for Tree<T, V> {
+impl<T: Translator, V: Drop> Representation<T, V> for Tree<T, V> {
     fn insert(&mut self, key: T::Key, value: V) -> Result<bool, V> {
         if self.len == usize::MAX {
             return Err(value);

@@ -83,7 +83,7 @@ where
         [] cuts.now ranges.old }
     ensures filled { OnOk result (
         AreFilled I.Key.cmp I.INSERT_FIRST I.Range.view (I.view index.now).slot I.partition
-            ops.items cuts.now ranges.new) }
+        ops.items cuts.now ranges.new) }
     ensures below { OnOk result (AreBelow (number_of I.partition (I.view index.now).slot) I.partitions ops.items) }
     ensures refused { IfErr result (IsFillingFault I.Key.cmp I.INSERT_FIRST I.partition
         cuts.now ops.items (I.view index.now)) }

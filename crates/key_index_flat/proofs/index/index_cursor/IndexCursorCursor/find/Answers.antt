@@ -5,7 +5,7 @@ use borrow.Author.Rules.{of_calls}
 use Rattle.key_index_flat.specs.Content.{list_at}
 use Rattle.key_index_flat.specs.Cursor.{next_place, place_from}
 use Rattle.key_index_flat.specs.IndexCursor.{cursor_list, cursor_place}
-use Rattle.key_index_flat.proofs.asked.Asked.{asked_more, Finds-by_asking, FindsNone-by_asking}
+use Rattle.key_index_flat.proofs.closures.Asked.{asked_more, Finds-by_asking, FindsNone-by_asking}
 use Rattle.key_index_flat.proofs.index.index_cursor.IndexCursorCursor.find.Goals as goal
 use Rattle.key_index_flat.proofs.index.index_cursor.IndexCursorCursor.find.Goals.{then-loop-place-test+else-not-predicate, else-loop-place-test}
 

@@ -3,7 +3,7 @@ use Rattle.std.specs.Fn.{CalledAt}
 use denote.Param.Always.{always_mut}
 use Rattle.key_index_flat.specs.Cursor.{next_place}
 use Rattle.key_index_flat.specs.IndexCursor.{cursor_list, cursor_place, StaysAt}
-use Rattle.key_index_flat.proofs.asked.Asked.{AskedTo}
+use Rattle.key_index_flat.proofs.closures.Asked.{AskedTo}
 use Rattle.key_index_flat.proofs.index.index_cursor.IndexCursorCursor.find.Given as goal
 
 abbrev pub invariant-loop-place : goal.invariant-loop-place

@@ -8,7 +8,7 @@ use borrow.Author.Rules.{of_calls}
 use Rattle.key_index_flat.specs.Cursor.{next_place}
 use Rattle.key_index_flat.specs.IndexCursor.{cursor_list, cursor_place}
 use Rattle.key_index_flat.specs.declared.index.traits.cursor.CursorState.TheVariants.{Done}
-use Rattle.key_index_flat.proofs.asked.Asked.{drop-value, take-value, drop-remove, take-remove, kept_first, kept_more, kept_less, kept_parts, Retains-KeptTo}
+use Rattle.key_index_flat.proofs.closures.Asked.{drop-value, take-value, drop-remove, take-remove, kept_first, kept_more, kept_less, kept_parts, Retains-KeptTo}
 use Rattle.key_index_flat.proofs.runs.CursorLemmas.{list_at_edit, edited_none, edited_more}
 use Rattle.key_index_flat.proofs.runs.ViewLemmas.{content-same_view, same_admitted}
 use Rattle.key_index_flat.proofs.index.index_cursor.IndexCursorCursor.retain.Goals as goal

@@ -4,7 +4,7 @@ use denote.Param.Always.{always_mut}
 use Rattle.key_index_flat.specs.Cursor.{next_place}
 use Rattle.key_index_flat.specs.IndexCursor.{cursor_list, cursor_place}
 use Rattle.key_index_flat.specs.declared.index.traits.cursor.CursorState.TheVariants.{Done}
-use Rattle.key_index_flat.proofs.asked.Asked.{KeptTo}
+use Rattle.key_index_flat.proofs.closures.Asked.{KeptTo}
 use Rattle.key_index_flat.proofs.runs.CursorLemmas.{EditedTo}
 use Rattle.key_index_flat.proofs.index.index_cursor.IndexCursorCursor.retain.Given as goal
 

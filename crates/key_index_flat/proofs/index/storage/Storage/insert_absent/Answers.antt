@@ -1,5 +1,5 @@
 use Rattle.std.proofs.Common.{[], ◌∷◌, ◌∙◌, sym, arith}
-use Rattle.key_index_flat.proofs.asked.KeptLemmas.{lawful_edit, IsCounted-with_list}
+use Rattle.key_index_flat.proofs.closures.KeptLemmas.{lawful_edit, IsCounted-with_list}
 use Rattle.key_index_flat.proofs.index.storage.Storage.insert_absent.Goals as goal
 
 pub invariant_of-self : goal.invariant_of-self

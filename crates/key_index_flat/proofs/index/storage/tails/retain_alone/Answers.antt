@@ -1,6 +1,6 @@
 use Rattle.std.proofs.Common.{rules, [], true, None, refl}
 use Rattle.std.specs.Fn.{CalledAt}
-use Rattle.key_index_flat.proofs.asked.TurnLemmas.{asked_first, asked_same, AsksInTurn-none}
+use Rattle.key_index_flat.proofs.closures.TurnLemmas.{asked_first, asked_same, AsksInTurn-none}
 use Rattle.key_index_flat.proofs.content.EditLemmas.{left_by_first}
 use Rattle.key_index_flat.proofs.index.storage.tails.retain_alone.Goals as goal
 

@@ -2,7 +2,7 @@ use Rattle.std.proofs.Common.{rules, ◌≡◌, ◌∷◌, T, true, None, length
 use Rattle.std.specs.Fn.{CalledAt}
 use Rattle.key_index_flat.specs.Storage.{list_left}
 use Rattle.key_index_flat.specs.Values.{in_order}
-use Rattle.key_index_flat.proofs.asked.TurnLemmas.{asked_first, asked_same}
+use Rattle.key_index_flat.proofs.closures.TurnLemmas.{asked_first, asked_same}
 use Rattle.key_index_flat.proofs.content.EditLemmas.{left_by_first}
 use Rattle.key_index_flat.proofs.content.InOrderLemmas.{in_order-twice, length-in_order, none_left}
 use Rattle.key_index_flat.proofs.index.storage.tails.retain_behind.Given.{Over}

@@ -2,13 +2,13 @@ use Rattle.std.proofs.Common.{length, ap, ◌∙◌, ◌/◌, ◌<◌, arith}
 use Rattle.std.proofs.Math.ListN.{length-set}
 use Rattle.std.proofs.lemmas.List.{get_or_default}
 use Rattle.key_index_parts.specs.Bitmap.{word_has}
-use Rattle.key_index_parts.proofs.bitmap.BitmapLemmas.{set_here, set_already, set_elsewhere, set_summary}
+use Rattle.key_index_parts.proofs.bitmap.BitmapLemmas.{words_have-slice_set, set_already, set_elsewhere, set_summary}
 use Rattle.key_index_parts.proofs.index.partitioned.bitmap.LayerPlaces.set.Goals as goal
 
 pub returns-clause-here : goal.returns-clause-here
 returns-clause-here g c =
     let sized = ap length c.self.view_is in
-    set_here c.self.inside.words.items c.args.place c.set.new.self (omega arith) c.args.fills c.set.ensures.here
+    words_have-slice_set c.self.inside.words.items c.args.place c.set.new.self (omega arith) c.args.fills c.set.ensures.here
 
 pub returns-then-word-before-clause-here : goal.returns-then-word-before-clause-here
 returns-then-word-before-clause-here g c =

@@ -3,16 +3,16 @@ use Rattle.std.specs.Option.{option_map}
 use Rattle.key_index_flat.specs.Neighbours.{first_entry}
 use Rattle.key_index_parts.specs.Bitmap.{IsFirst, flag_at}
 use Rattle.key_index_parts.specs.Gathered.{gathered_from}
-use Rattle.key_index_parts.proofs.family.FamilyLemmas.{bucket_seen}
-use Rattle.key_index_parts.proofs.family.FamilyNeighbours.{at_number, flag_at-within, first_of, first_none}
+use Rattle.key_index_parts.proofs.buckets.FamilyLemmas.{bucket_seen}
+use Rattle.key_index_parts.proofs.buckets.FamilyNeighbours.{at_number, flag_at-within, first_of, first_none}
 use Rattle.key_index_parts.proofs.index.partitioned.directory.Directory.first_from.Given.{Over}
 use Rattle.key_index_parts.proofs.index.partitioned.directory.Directory.first_from.Goals.{After-index}
 use Rattle.key_index_parts.proofs.index.partitioned.directory.Directory.first_from.Goals as goal
 
-first_here : (g : Over) (c : After-index g) → option_map (at_number c.in_ok-number.number) (first_entry (g.X.Held.content c.index.result.now))
-    ≡ first_entry (gathered_from c.args.start (drop c.args.start (map g.X.Held.content c.self.inside.buckets.items)))
+first_here : (g : Over) (c : After-index g) → option_map (at_number c.in_ok-number.number) (first_entry (g.X.Contents.content c.index.result.now))
+    ≡ first_entry (gathered_from c.args.start (drop c.args.start (map g.X.Contents.content c.self.inside.buckets.items)))
 first_here g c =
-    let f = g.X.Held.content in
+    let f = g.X.Contents.content in
     let xs = c.self.inside.buckets.items in
     let n = c.in_ok-number.number in
     let found = subst (λ flags. IsFirst (flag_at flags) c.args.start n) c.self.invariant c.in_ok-number.ensures in
@@ -22,7 +22,7 @@ first_here g c =
 pub returns-in_err-number : goal.returns-in_err-number
 returns-in_err-number g c =
     rw (c.from_residual.ensures, ← c.self.view_is)
-    (sym (first_none (map g.X.Held.content c.self.inside.buckets.items) c.args.start (subst (λ flags. (p : ℕ) → c.args.start ≤ p → flag_at flags p ≡ false) c.self.invariant c.in_err-number.ensures)))
+    (sym (first_none (map g.X.Contents.content c.self.inside.buckets.items) c.args.start (subst (λ flags. (p : ℕ) → c.args.start ≤ p → flag_at flags p ≡ false) c.self.invariant c.in_err-number.ensures)))
 
 pub returns-in_err-key : goal.returns-in_err-key
 returns-in_err-key g c =

@@ -3,16 +3,16 @@ use Rattle.std.proofs.lemmas.List.{length-map, length-set, nil_from_length}
 use Rattle.std.specs.Vec.Iter.{into_iter_items}
 use Rattle.key_index_parts.specs.Family.{stands, with_items_from}
 use Rattle.key_index_parts.specs.Standing.{Standing}
-use Rattle.key_index_parts.proofs.family.InstallLemmas.{put_more, put_none}
+use Rattle.key_index_parts.proofs.buckets.InstallLemmas.{put_more, put_none}
 use Rattle.key_index_parts.proofs.index.partitioned.directory.Directory.install.Goals as goal
 
 pub loop-bucket-init : goal.loop-bucket-init
 loop-bucket-init g c =
     let items = c.into_iter-rest.ensures.rest in
-    let all = ap (λ xs. map g.X.Held.content xs) items ∙ ap (λ s. s.contents) c.others.view_is in
-    let how = ap (λ xs. map (λ x. stands (g.X.Held.content x) (g.X.Held.spilled x)) xs) items ∙ ap (λ s. s.standing) c.others.view_is in
+    let all = ap (λ xs. map g.X.Contents.content xs) items ∙ ap (λ s. s.contents) c.others.view_is in
+    let how = ap (λ xs. map (λ x. stands (g.X.Contents.content x) (g.X.Contents.spilled x)) xs) items ∙ ap (λ s. s.standing) c.others.view_is in
     let size = ap (λ cs. length cs) all in
-    let same = length-map (into_iter_items c.into_iter-rest.result) g.X.Held.content in (
+    let same = length-map (into_iter_items c.into_iter-rest.result) g.X.Contents.content in (
       refl,
       omega (arith, c.requires.fits, size, same),
       ap (λ cs. with_items_from c.args.self.now.contents c.args.first cs) all,
@@ -32,8 +32,8 @@ overflow_add-number g c =
 
 pub loop-bucket-preserved : goal.loop-bucket-preserved
 loop-bucket-preserved g c =
-    let f = g.X.Held.content in
-    let how : g.row.X.Denot → Standing = λ x. stands (g.X.Held.content x) (g.X.Held.spilled x) in
+    let f = g.X.Contents.content in
+    let how : g.row.X.Denot → Standing = λ x. stands (g.X.Contents.content x) (g.X.Contents.spilled x) in
     let buckets = c.loop-bucket.self.contents in
     let standing = c.loop-bucket.self.standing in
     let n = c.loop-bucket.number in
@@ -53,12 +53,12 @@ loop-bucket-preserved g c =
 
 pub returns-clause-buckets : goal.returns-clause-buckets
 returns-clause-buckets g c =
-    let f = g.X.Held.content in
+    let f = g.X.Contents.content in
     let none : into_iter_items c.loop-bucket.rest ≡ [] = nil_from_length (into_iter_items c.loop-bucket.rest) (sym c.loop-bucket.rest.rest.ok.0 ∙ c.in_default.ensures.cases.0) in
     sym (put_none c.loop-bucket.self.contents c.loop-bucket.number) ∙ ap (λ xs. with_items_from c.loop-bucket.self.contents c.loop-bucket.number (map f xs)) (sym none) ∙ c.loop-bucket.invariant.2
 
 pub returns-clause-standing : goal.returns-clause-standing
 returns-clause-standing g c =
-    let how : g.row.X.Denot → Standing = λ x. stands (g.X.Held.content x) (g.X.Held.spilled x) in
+    let how : g.row.X.Denot → Standing = λ x. stands (g.X.Contents.content x) (g.X.Contents.spilled x) in
     let none : into_iter_items c.loop-bucket.rest ≡ [] = nil_from_length (into_iter_items c.loop-bucket.rest) (sym c.loop-bucket.rest.rest.ok.0 ∙ c.in_default.ensures.cases.0) in
     sym (put_none c.loop-bucket.self.standing c.loop-bucket.number) ∙ ap (λ xs. with_items_from c.loop-bucket.self.standing c.loop-bucket.number (map how xs)) (sym none) ∙ c.loop-bucket.invariant.3

@@ -6,9 +6,9 @@ use Rattle.key_index_parts.proofs.index.partitioned.directory.Directory.install.
 abbrev pub invariant-loop-bucket : goal.invariant-loop-bucket
 invariant-loop-bucket g l =
     (length l.self.contents ≡ length l.fn.self.contents) × (l.number + length (into_iter_items l.rest) ≤ length l.self.contents)
-    × (with_items_from l.self.contents l.number (map g.X.Held.content (into_iter_items l.rest))
+    × (with_items_from l.self.contents l.number (map g.X.Contents.content (into_iter_items l.rest))
     ≡ with_items_from l.fn.self.contents l.fn.first l.fn.others.contents)
-    × (with_items_from l.self.standing l.number (map (λ x. stands (g.X.Held.content x) (g.X.Held.spilled x)) (into_iter_items l.rest))
+    × (with_items_from l.self.standing l.number (map (λ x. stands (g.X.Contents.content x) (g.X.Contents.spilled x)) (into_iter_items l.rest))
     ≡ with_items_from l.fn.self.standing l.fn.first l.fn.others.standing)
 
 abbrev pub decreases-loop-bucket : goal.decreases-loop-bucket

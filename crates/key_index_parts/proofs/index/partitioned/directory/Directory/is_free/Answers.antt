@@ -2,7 +2,7 @@ use Rattle.std.proofs.Common.{None, ap, refl, subst, ◌∙◌}
 use Rattle.std.proofs.lemmas.Bool.{le-leb, leb-true}
 use Rattle.key_index_parts.specs.Family.{filled_buckets}
 use Rattle.key_index_parts.specs.Bitmap.{IsFirst, IsFirstFrom, flag_at}
-use Rattle.key_index_parts.proofs.family.InstallLemmas.{free_none, free_far, free_near}
+use Rattle.key_index_parts.proofs.buckets.InstallLemmas.{free_none, free_far, free_near}
 use Rattle.key_index_parts.proofs.index.partitioned.directory.Directory.is_free.Goals as goal
 
 pub returns-in-Some : goal.returns-in-Some

@@ -4,5 +4,5 @@ use Rattle.key_index_parts.proofs.index.partitioned.directory.Directory.new.Give
 
 abbrev pub invariant-loop : goal.invariant-loop
 invariant-loop g l =
-    (length l.buckets.items ≡ l.counter) × (l.count ≤ vec_capacity l.buckets) × All (λ bucket. g.X.Held.content bucket ≡ []) l.buckets.items
-    × All (λ bucket. stands (g.X.Held.content bucket) (g.X.Held.spilled bucket) ≡ record { entries = 0; spilled = false }) l.buckets.items
+    (length l.buckets.items ≡ l.counter) × (l.count ≤ vec_capacity l.buckets) × All (λ bucket. g.X.Contents.content bucket ≡ []) l.buckets.items
+    × All (λ bucket. stands (g.X.Contents.content bucket) (g.X.Contents.spilled bucket) ≡ record { entries = 0; spilled = false }) l.buckets.items

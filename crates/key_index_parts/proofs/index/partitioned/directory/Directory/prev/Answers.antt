@@ -1,13 +1,13 @@
 use Rattle.std.proofs.Common.{◌≡◌, refl, ap}
 use Rattle.key_index_parts.specs.Family.{bucket_at}
-use Rattle.key_index_parts.proofs.family.FamilyLemmas.{bucket_seen}
-use Rattle.key_index_parts.proofs.family.FamilyNeighbours.{prev_list-gathered}
+use Rattle.key_index_parts.proofs.buckets.FamilyLemmas.{bucket_seen}
+use Rattle.key_index_parts.proofs.buckets.FamilyNeighbours.{prev_list-gathered}
 use Rattle.key_index_parts.proofs.index.partitioned.directory.Directory.prev.Given.{Over}
 use Rattle.key_index_parts.proofs.index.partitioned.directory.Directory.prev.Goals.{After-index}
 use Rattle.key_index_parts.proofs.index.partitioned.directory.Directory.prev.Goals as goal
 
-slot_bucket : (g : Over) (c : After-index g) → g.X.Held.content c.index.result.now ≡ bucket_at c.args.self.now.contents c.args.slot.0
-slot_bucket g c = bucket_seen g.X.Held.content c.self.inside.buckets.items (ap (λ s. s.contents) c.self.view_is) c.requires c.index.ensures
+slot_bucket : (g : Over) (c : After-index g) → g.X.Contents.content c.index.result.now ≡ bucket_at c.args.self.now.contents c.args.slot.0
+slot_bucket g c = bucket_seen g.X.Contents.content c.self.inside.buckets.items (ap (λ s. s.contents) c.self.view_is) c.requires c.index.ensures
 
 pub returns-in-Some : goal.returns-in-Some
 returns-in-Some g c = prev_list-gathered g.T.Key.Ord.cmp c.args.self.now.contents c.args.slot (slot_bucket g (goal.at.returns-in-Some g c).After-index) c.in-Some.ensures refl refl

@@ -5,7 +5,7 @@ use Rattle.key_index_parts.proofs.index.partitioned.directory.Directory.spilled_
 
 abbrev pub invariant-loop-bucket : goal.invariant-loop-bucket
 invariant-loop-bucket g l =
-    (l.count + spilled_in (map (λ x. stands (g.X.Held.content x) (g.X.Held.spilled x)) l.rest) ≡ spilled_in l.fn.self.standing)
+    (l.count + spilled_in (map (λ x. stands (g.X.Contents.content x) (g.X.Contents.spilled x)) l.rest) ≡ spilled_in l.fn.self.standing)
     × (l.count + length l.rest ≤ length l.fn.self.standing)
 
 abbrev pub decreases-loop-bucket : goal.decreases-loop-bucket

@@ -1,5 +1,5 @@
 use Rattle.std.proofs.Common.{◌<◌, subst, sym}
-use Rattle.key_index_parts.proofs.family.EntriesLemmas.{item_count-entries_of}
+use Rattle.key_index_parts.proofs.buckets.EntriesLemmas.{item_count-entries_of}
 use Rattle.key_index_parts.proofs.index.partitioned.ordered.Index.is_spilled.Goals as goal
 
 pub returns-clause-filled : goal.returns-clause-filled

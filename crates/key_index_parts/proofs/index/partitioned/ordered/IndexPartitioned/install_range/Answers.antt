@@ -2,8 +2,8 @@ use Rattle.std.proofs.Common.{rules, ◌+◌, ◌-◌, ◌^◌, ◌<◌, ◌≤�
 use Rattle.key_index_flat.specs.Content.{item_count}
 use Rattle.key_index_parts.specs.Gathered.{gathered}
 use Rattle.key_index_parts.specs.Joined.{install_fault}
-use Rattle.key_index_parts.proofs.family.InstallLemmas.{refused_fault}
-use Rattle.key_index_parts.proofs.family.ShiftedLemmas.{items_from}
+use Rattle.key_index_parts.proofs.buckets.InstallLemmas.{refused_fault}
+use Rattle.key_index_parts.proofs.buckets.ShiftedLemmas.{items_from}
 use Rattle.key_index_parts.proofs.index.partitioned.ordered.IndexPartitioned.install_range.Goals as goal
 
 pub returns-then-not-has_room-clause-fault : goal.returns-then-not-has_room-clause-fault

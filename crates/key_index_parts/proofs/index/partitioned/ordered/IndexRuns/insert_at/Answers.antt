@@ -1,5 +1,5 @@
 use Rattle.std.proofs.Common.{ap}
-use Rattle.key_index_parts.proofs.family.ShiftedLemmas.{OnErr-implied}
+use Rattle.key_index_parts.proofs.buckets.ShiftedLemmas.{OnErr-implied}
 use Rattle.key_index_parts.proofs.standing.StandingLemmas.{leaves_either}
 use Rattle.key_index_parts.proofs.index.partitioned.ordered.IndexRuns.insert_at.Goals as goal
 

@@ -3,7 +3,7 @@ use Rattle.key_index_flat.specs.View.{with_edit, with_pruned}
 use Rattle.key_index_parts.specs.Family.{held_at, view_of}
 use Rattle.key_index_parts.specs.Gathered.{pair_cmp}
 use Rattle.key_index_parts.specs.Standing.{Resettles}
-use Rattle.key_index_parts.proofs.family.ShiftedLemmas.{OnOk-implied}
+use Rattle.key_index_parts.proofs.buckets.ShiftedLemmas.{OnOk-implied}
 use Rattle.key_index_parts.proofs.index.partitioned.ordered.IndexUnordered.remove.Goals as goal
 
 pub returns-clause-accepted : goal.returns-clause-accepted

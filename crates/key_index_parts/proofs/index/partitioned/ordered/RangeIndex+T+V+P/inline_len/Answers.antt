@@ -1,8 +1,8 @@
 use Rattle.std.proofs.Common.{◌≡◌, ◌+◌, ◌-◌, length, ap, sym, ◌∙◌, arith}
 use Rattle.key_index_flat.specs.Content.{item_count}
 use Rattle.key_index_parts.specs.Gathered.{gathered_from, entries_of}
-use Rattle.key_index_parts.proofs.family.EntriesLemmas.{item_count-entries_of_from}
-use Rattle.key_index_parts.proofs.family.InstallLemmas.{is_between-bounds}
+use Rattle.key_index_parts.proofs.buckets.EntriesLemmas.{item_count-entries_of_from}
+use Rattle.key_index_parts.proofs.buckets.InstallLemmas.{is_between-bounds}
 use Rattle.key_index_parts.proofs.index.partitioned.ordered.RangeIndex+T+V+P.inline_len.Goals as goal
 
 pub returns-clause-entries : goal.returns-clause-entries

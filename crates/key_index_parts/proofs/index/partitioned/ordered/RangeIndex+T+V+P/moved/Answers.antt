@@ -1,5 +1,5 @@
 use Rattle.std.proofs.Common.{arith}
-use Rattle.key_index_parts.proofs.family.ShiftedLemmas.{items_from}
+use Rattle.key_index_parts.proofs.buckets.ShiftedLemmas.{items_from}
 use Rattle.key_index_parts.proofs.index.partitioned.ordered.RangeIndex+T+V+P.moved.Goals as goal
 
 pub returns-clause-bound : goal.returns-clause-bound

@@ -5,10 +5,10 @@ use denote.Param.Always.{always_mut}
 use Rattle.std.specs.List.{FoldsTo}
 use Rattle.std.specs.Slice.Iter.{iter_rest}
 use Rattle.std.specs.Option.{option_map}
-use Rattle.key_index_flat.proofs.asked.VisitLemmas.{folds_append}
+use Rattle.key_index_flat.proofs.closures.VisitLemmas.{folds_append}
 use Rattle.key_index_flat.specs.View.{run_at}
 use Rattle.key_index_parts.specs.Ahead.{TellsAt, events_from, found_at, visits_at}
-use Rattle.key_index_parts.proofs.asked.AheadLemmas.{Waits, waits_next, waits_turn, folds_found, folds_step}
+use Rattle.key_index_parts.proofs.closures.AheadLemmas.{Waits, waits_next, waits_turn, folds_found, folds_step}
 use Rattle.key_index_parts.proofs.index.partitioned.ordered.ahead.look_ahead.Goals as goal
 use Rattle.key_index_parts.proofs.index.partitioned.ordered.ahead.look_ahead.Goals.{in-Some, in_default}
 

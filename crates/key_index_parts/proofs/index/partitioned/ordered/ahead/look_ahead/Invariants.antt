@@ -4,7 +4,7 @@ use Rattle.std.specs.Slice.Iter.{iter_rest}
 use Rattle.std.specs.List.{FoldsTo}
 use Rattle.key_index_flat.specs.View.{run_at}
 use Rattle.key_index_parts.specs.Ahead.{TellsAt, events_from, events_of, found_at}
-use Rattle.key_index_parts.proofs.asked.AheadLemmas.{Waits}
+use Rattle.key_index_parts.proofs.closures.AheadLemmas.{Waits}
 use Rattle.key_index_parts.proofs.index.partitioned.ordered.ahead.look_ahead.Given as goal
 
 abbrev pub invariant-loop-cell : goal.invariant-loop-cell

@@ -1,7 +1,7 @@
 use Rattle.std.proofs.Common.{refl, sym, subst, rules, of_calls}
 use denote.Param.Always.{always_mut, mut_by}
 use Rattle.key_index_flat.specs.Visits.{AreProbes, ByKey}
-use Rattle.key_index_parts.proofs.asked.AheadLemmas.{tells_through}
+use Rattle.key_index_parts.proofs.closures.AheadLemmas.{tells_through}
 use Rattle.key_index_parts.proofs.index.partitioned.ordered.ahead.show_ahead.Goals as goal
 
 pub look_ahead-requires : goal.look_ahead-requires

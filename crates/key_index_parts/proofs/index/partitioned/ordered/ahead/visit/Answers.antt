@@ -1,6 +1,6 @@
 use Rattle.std.proofs.Common.{refl}
 use borrow.Author.Rules.{of_calls}
-use Rattle.key_index_flat.proofs.asked.VisitLemmas.{folds_shown}
+use Rattle.key_index_flat.proofs.closures.VisitLemmas.{folds_shown}
 use Rattle.key_index_parts.specs.Ahead.{TellsAt, Visit}
 use Rattle.key_index_parts.proofs.index.partitioned.ordered.ahead.visit.Goals as goal
 

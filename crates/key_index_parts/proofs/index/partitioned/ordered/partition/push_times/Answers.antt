@@ -1,5 +1,5 @@
 use Rattle.std.proofs.Common.{◌∷◌, ◌++◌, [], ap, ◌∙◌, arith}
-use Rattle.key_index_parts.proofs.family.SpreadLemmas.{replicate-more}
+use Rattle.key_index_parts.proofs.buckets.SpreadLemmas.{replicate-more}
 use Rattle.key_index_parts.proofs.index.partitioned.ordered.partition.push_times.Goals as goal
 
 pub loop-done-preserved : goal.loop-done-preserved

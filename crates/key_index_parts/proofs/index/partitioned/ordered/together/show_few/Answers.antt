@@ -3,7 +3,7 @@ use Rattle.std.proofs.lemmas.List.{take_more, take_all}
 use Rattle.std.specs.List.{FoldsTo}
 use Rattle.key_index_flat.specs.View.{run_at}
 use Rattle.key_index_flat.specs.Visits.{VisitsAt, visits_of}
-use Rattle.key_index_flat.proofs.asked.VisitLemmas.{folds_probe}
+use Rattle.key_index_flat.proofs.closures.VisitLemmas.{folds_probe}
 use Rattle.key_index_parts.specs.Gathered.{pair_cmp}
 use Rattle.key_index_parts.specs.Ordered.{view}
 use Rattle.key_index_parts.proofs.index.partitioned.ordered.together.show_few.Goals as goal

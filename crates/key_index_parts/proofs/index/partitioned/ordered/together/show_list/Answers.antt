@@ -1,7 +1,7 @@
 use Rattle.std.proofs.Common.{refl}
 use borrow.Author.Rules.{of_calls}
 use Rattle.key_index_flat.specs.Visits.{VisitsAt}
-use Rattle.key_index_flat.proofs.asked.VisitLemmas.{folds_shown}
+use Rattle.key_index_flat.proofs.closures.VisitLemmas.{folds_shown}
 use Rattle.key_index_parts.proofs.index.partitioned.ordered.together.show_list.Goals as goal
 
 pub loop-value-preserved : goal.loop-value-preserved

@@ -2,7 +2,7 @@ use Rattle.std.proofs.Common.{sym, subst, ◌∙◌, ap}
 use Rattle.std.specs.List.{FoldsTo}
 use Rattle.key_index_flat.specs.View.{run_at}
 use Rattle.key_index_flat.specs.Visits.{VisitsAt, visits_of}
-use Rattle.key_index_flat.proofs.asked.VisitLemmas.{folds_append, visits_append}
+use Rattle.key_index_flat.proofs.closures.VisitLemmas.{folds_append, visits_append}
 use Rattle.key_index_parts.specs.Gathered.{pair_cmp}
 use Rattle.key_index_parts.specs.Ordered.{view}
 use Rattle.key_index_parts.proofs.index.partitioned.ordered.together.show_together.Goals as goal

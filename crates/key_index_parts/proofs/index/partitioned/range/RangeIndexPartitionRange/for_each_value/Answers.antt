@@ -1,5 +1,5 @@
 use Rattle.std.proofs.Common.{IsPermutation, subst, sym, ◌∙◌}
-use Rattle.key_index_parts.proofs.asked.VisitLemmas.{values-gathered}
+use Rattle.key_index_parts.proofs.closures.VisitLemmas.{values-gathered}
 use Rattle.key_index_parts.proofs.index.partitioned.range.RangeIndexPartitionRange.for_each_value.Goals as goal
 
 pub returns : goal.returns

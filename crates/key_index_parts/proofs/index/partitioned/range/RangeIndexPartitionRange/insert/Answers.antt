@@ -5,7 +5,7 @@ use Rattle.key_index_flat.specs.View.{put_value}
 use Rattle.key_index_parts.specs.Family.{view_from}
 use Rattle.key_index_parts.specs.Gathered.{gathered}
 use Rattle.key_index_parts.specs.Standing.{Refuses, Settles}
-use Rattle.key_index_parts.proofs.family.ShiftedLemmas.{items_from, seen_edited}
+use Rattle.key_index_parts.proofs.buckets.ShiftedLemmas.{items_from, seen_edited}
 use Rattle.key_index_parts.proofs.standing.StandingLemmas.{left_standing}
 use Rattle.key_index_parts.proofs.index.partitioned.range.RangeIndexPartitionRange.insert.Goals as goal
 

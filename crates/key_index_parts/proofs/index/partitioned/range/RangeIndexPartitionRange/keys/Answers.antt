@@ -1,5 +1,5 @@
 use Rattle.std.proofs.Common.{◌∙◌}
-use Rattle.key_index_parts.proofs.family.ShiftedLemmas.{keys_from}
+use Rattle.key_index_parts.proofs.buckets.ShiftedLemmas.{keys_from}
 use Rattle.key_index_parts.proofs.index.partitioned.range.RangeIndexPartitionRange.keys.Goals as goal
 
 pub returns : goal.returns

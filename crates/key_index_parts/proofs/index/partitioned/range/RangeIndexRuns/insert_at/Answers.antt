@@ -1,7 +1,7 @@
 use Rattle.std.proofs.Common.{refl, rules, arith, ◌+◌, ◌≤◌, ◌<◌, ◌^◌, ◌-◌, length, insert, ap, subst, sym, ◌∙◌}
 use Rattle.key_index_flat.specs.Fault.{growth_fault}
-use Rattle.key_index_parts.proofs.family.InstallLemmas.{is_between-bounds}
-use Rattle.key_index_parts.proofs.family.ShiftedLemmas.{IfErr-implied, OnOk-implied, OnErr-implied, items_from, read_from, seen_edited}
+use Rattle.key_index_parts.proofs.buckets.InstallLemmas.{is_between-bounds}
+use Rattle.key_index_parts.proofs.buckets.ShiftedLemmas.{IfErr-implied, OnOk-implied, OnErr-implied, items_from, read_from, seen_edited}
 use Rattle.key_index_parts.proofs.standing.StandingLemmas.{leaves_either}
 use Rattle.key_index_parts.proofs.index.partitioned.range.RangeIndexRuns.insert_at.Goals as goal
 

@@ -1,5 +1,5 @@
 use Rattle.std.proofs.Common.{length, ap, sym, ◌∙◌}
-use Rattle.key_index_parts.proofs.family.ShiftedLemmas.{below_from, read_from}
+use Rattle.key_index_parts.proofs.buckets.ShiftedLemmas.{below_from, read_from}
 use Rattle.key_index_parts.proofs.index.partitioned.range.RangeIndexRuns.run_len.Goals as goal
 
 pub returns-then-slot-self : goal.returns-then-slot-self

@@ -1,5 +1,5 @@
 use Rattle.std.proofs.Common.{refl, rules, ◌<◌, length, slice_set, subst, sym}
-use Rattle.key_index_parts.proofs.family.ShiftedLemmas.{held_from, read_from, seen_edited}
+use Rattle.key_index_parts.proofs.buckets.ShiftedLemmas.{held_from, read_from, seen_edited}
 use Rattle.key_index_parts.proofs.index.partitioned.range.RangeIndexRuns.set_at.Goals as goal
 
 pub own-own-requires : goal.own-own-requires

@@ -1,5 +1,5 @@
 use Rattle.std.proofs.Common.{rules, ◌≡◌, ◌<◌, Some, length, slice_get, subst, sym}
-use Rattle.key_index_parts.proofs.family.ShiftedLemmas.{held_from, read_from}
+use Rattle.key_index_parts.proofs.buckets.ShiftedLemmas.{held_from, read_from}
 use Rattle.key_index_parts.proofs.index.partitioned.range.RangeIndexRuns.value_at.Goals as goal
 
 pub own-requires : goal.own-requires

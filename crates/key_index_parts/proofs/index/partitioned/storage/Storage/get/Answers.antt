@@ -1,5 +1,5 @@
 use Rattle.std.proofs.Common.{sym, ◌∙◌}
-use Rattle.key_index_parts.proofs.family.StorageLemmas.{list_at-gathered_buckets, within_buckets}
+use Rattle.key_index_parts.proofs.buckets.StorageLemmas.{list_at-gathered_buckets, within_buckets}
 use Rattle.key_index_parts.proofs.index.partitioned.storage.Storage.get.Goals as goal
 
 pub get-requires : goal.get-requires

@@ -28,4 +28,4 @@ returns-in-Ok-put-clause-settled g c = λ is.
     (c.in-Ok-put.ensures.standing ∙ (λ i. settled_in (is i) (with_entries (mid i) n (entries_at new n)) n))
 
 pub returns-in-Ok-put-clause-range_bound : goal.returns-in-Ok-put-clause-range_bound
-returns-in-Ok-put-clause-range_bound g c = λ before. c.put.ensures.range_bound (c.settle.ensures.range_bound before)
+returns-in-Ok-put-clause-range_bound g c = λ before. c.put.ensures.range_bound (c.spill_if_reached.ensures.range_bound before)

@@ -24,11 +24,11 @@ returns-in-Ok-put_absent-clause-settled g c = λ is.
     let n = c.args.slot.0 in
     let new = c.put_absent.new.self in
     let mid = ap (λ s. s.standings) c.in-Ok.ensures.settled ∙ ap (λ b. settled_in b old n) is in
-    elim c.in-Ok-put_absent.len as (λ len. (0 < len → new ≡ c.settle.new.self) → (len ≡ 0 → GrowsTo g.X.Bucket.SPILLS c.settle.new.self n new) → Settles old n new.standings) [
+    elim c.in-Ok-put_absent.len as (λ len. (0 < len → new ≡ c.spill_if_reached.new.self) → (len ≡ 0 → GrowsTo g.X.Bucket.SPILLS c.spill_if_reached.new.self n new) → Settles old n new.standings) [
       | zero ↦ λ found grown. settles_by old new.standings n c.in-Ok.ensures.within c.in-Ok.ensures.least
           (grown refl ∙ (λ i. settled_in (is i) (with_entries (mid i) n (entries_at new.standings n)) n))
       | suc len ↦ λ found grown. subst (λ s. Settles old n s.standings) (sym (found (omega arith))) (c.in-Ok.ensures.settles is)
     ] c.in-Ok-put_absent.ensures.found c.in-Ok-put_absent.ensures.standing
 
 pub returns-in-Ok-put_absent-clause-range_bound : goal.returns-in-Ok-put_absent-clause-range_bound
-returns-in-Ok-put_absent-clause-range_bound g c = λ before. c.put_absent.ensures.range_bound (c.settle.ensures.range_bound before)
+returns-in-Ok-put_absent-clause-range_bound g c = λ before. c.put_absent.ensures.range_bound (c.spill_if_reached.ensures.range_bound before)

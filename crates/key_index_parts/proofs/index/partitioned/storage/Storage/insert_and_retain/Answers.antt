@@ -6,7 +6,7 @@ use Rattle.key_index_parts.specs.Gathered.{pair_cmp}
 use Rattle.key_index_parts.specs.Standing.{entries_at, with_entries}
 use Rattle.key_index_parts.proofs.standing.StandingLemmas.{Resettles-MovesBack}
 use Rattle.key_index_flat.proofs.content.FaultLemmas.{growth_fault-memory}
-use Rattle.key_index_parts.proofs.family.StorageLemmas.{kept_twice}
+use Rattle.key_index_parts.proofs.buckets.StorageLemmas.{kept_twice}
 use Rattle.key_index_parts.proofs.index.partitioned.storage.Storage.insert_and_retain.Goals as goal
 
 pub returns-then-is_full-clause-kept : goal.returns-then-is_full-clause-kept
@@ -43,4 +43,4 @@ returns-in-Ok-put_and_retain-clause-settled g c = λ is.
 pub returns-in-Ok-put_and_retain-clause-kept : goal.returns-in-Ok-put_and_retain-clause-kept
 returns-in-Ok-put_and_retain-clause-kept g c =
     let cmp = g.T.Key.Ord.cmp in
-    kept_twice cmp _ _ _ (kept_twice cmp _ _ _ c.settle.ensures.kept c.put_and_retain.ensures.kept) c.move_back.ensures.kept
+    kept_twice cmp _ _ _ (kept_twice cmp _ _ _ c.spill_if_reached.ensures.kept c.put_and_retain.ensures.kept) c.move_back.ensures.kept

@@ -3,7 +3,7 @@ use Rattle.std.proofs.lemmas.List.Edits.{length-insert}
 use Rattle.key_index_flat.specs.Content.{item_count}
 use Rattle.key_index_parts.specs.Gathered.{gathered}
 use Rattle.key_index_parts.specs.Family.{held_at, list_in}
-use Rattle.key_index_parts.proofs.family.StorageLemmas.{list_at-gathered_buckets, within_buckets, keys_below, counted_gain, KeepsBuckets-edited, keeps_all, view_edited}
+use Rattle.key_index_parts.proofs.buckets.StorageLemmas.{list_at-gathered_buckets, within_buckets, keys_below, counted_gain, KeepsBuckets-edited, keeps_all, view_edited}
 use Rattle.key_index_parts.proofs.standing.PaidLemmas.{StaysPaid, StaysPaid-LeavesIn}
 use Rattle.key_index_parts.proofs.standing.StandingLemmas.{pruned_after-zero}
 use Rattle.key_index_parts.specs.Standing.{standings_of}

@@ -3,10 +3,10 @@ use Rattle.key_index_flat.specs.Content.{item_count}
 use Rattle.key_index_flat.specs.View.{pruned_after}
 use Rattle.key_index_parts.specs.Moves.{IsRangeWithin, IsWithin}
 use Rattle.key_index_parts.specs.Standing.{Standing, Standings, standing_in, standings_of}
-use Rattle.key_index_parts.proofs.family.InstallLemmas as put
+use Rattle.key_index_parts.proofs.buckets.InstallLemmas as put
 use Rattle.key_index_parts.proofs.standing.MoveLemmas.{install_within}
 use Rattle.key_index_parts.proofs.standing.PaidLemmas.{counted_joined, counted_size, entries-AreFree}
-use Rattle.key_index_parts.proofs.family.StorageLemmas as of_storage
+use Rattle.key_index_parts.proofs.buckets.StorageLemmas as of_storage
 use Rattle.key_index_parts.proofs.index.partitioned.storage.Storage.install.Goals as goal
 
 pub join-requires : goal.join-requires

@@ -1,4 +1,4 @@
-use Rattle.key_index_parts.proofs.family.InstallLemmas.{free_in, free_buckets}
+use Rattle.key_index_parts.proofs.buckets.InstallLemmas.{free_in, free_buckets}
 use Rattle.key_index_parts.proofs.index.partitioned.storage.Storage.is_free.Goals as goal
 
 pub returns : goal.returns

@@ -2,7 +2,7 @@ use Rattle.std.proofs.Common.{rules, ◌<◌, ◌^◌, refl, ap, lt_of_not-le, �
 use Rattle.std.proofs.lemmas.Bool.{eqb-true, eq-eqb}
 use Rattle.key_index_flat.specs.Content.{item_count}
 use Rattle.key_index_parts.specs.Gathered.{gathered}
-use Rattle.key_index_parts.proofs.family.StorageLemmas.{keeps_all}
+use Rattle.key_index_parts.proofs.buckets.StorageLemmas.{keeps_all}
 use Rattle.key_index_parts.proofs.index.partitioned.storage.Storage.is_full.Goals as goal
 
 pub returns-clause-full : goal.returns-clause-full

@@ -1,5 +1,5 @@
 use Rattle.std.proofs.Common.{sym, ◌∙◌}
-use Rattle.key_index_parts.proofs.family.StorageLemmas.{list_at-gathered_buckets}
+use Rattle.key_index_parts.proofs.buckets.StorageLemmas.{list_at-gathered_buckets}
 use Rattle.key_index_parts.proofs.index.partitioned.storage.Storage.list_at.Goals as goal
 
 pub returns : goal.returns

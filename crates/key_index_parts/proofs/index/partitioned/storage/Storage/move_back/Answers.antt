@@ -1,6 +1,6 @@
 use Rattle.std.proofs.Common.{arith}
 use Rattle.key_index_parts.specs.Standing.{Standings, standings_of}
-use Rattle.key_index_parts.proofs.family.StorageLemmas.{within_buckets, keeps_all, same_but}
+use Rattle.key_index_parts.proofs.buckets.StorageLemmas.{within_buckets, keeps_all, same_but}
 use Rattle.key_index_parts.proofs.standing.StandingLemmas.{moved_back}
 use Rattle.key_index_parts.proofs.standing.MoveLemmas.{back_within}
 use Rattle.key_index_parts.proofs.standing.PaidLemmas.{counted_size}

@@ -1,5 +1,5 @@
 use Rattle.std.proofs.Common.{sym, ◌∙◌}
-use Rattle.key_index_parts.proofs.family.GatheredLemmas.{item_count-gathered_from}
+use Rattle.key_index_parts.proofs.buckets.GatheredLemmas.{item_count-gathered_from}
 use Rattle.key_index_parts.proofs.standing.PaidLemmas.{entries_sum}
 use Rattle.key_index_parts.proofs.index.partitioned.storage.Storage.moved.Goals as goal
 

@@ -3,7 +3,7 @@ use Rattle.std.proofs.lemmas.List.{length-replicate}
 use Rattle.key_index_flat.specs.Content.{IsLawful}
 use Rattle.key_index_parts.specs.Gathered.{pair_cmp}
 use Rattle.key_index_parts.specs.Standing.{standings_of}
-use Rattle.key_index_parts.proofs.family.StorageLemmas.{at_most_three, none_held, none_counted}
+use Rattle.key_index_parts.proofs.buckets.StorageLemmas.{at_most_three, none_held, none_counted}
 use Rattle.key_index_parts.proofs.standing.MoveLemmas.{new_within}
 use Rattle.key_index_parts.proofs.index.partitioned.storage.Storage.new.Goals as goal
 

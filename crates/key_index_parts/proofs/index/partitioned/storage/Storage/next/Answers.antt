@@ -1,7 +1,7 @@
 use Rattle.std.proofs.Common.{ap, ◌∙◌}
 use Rattle.key_index_flat.specs.Neighbours.{next_list}
 use Rattle.key_index_parts.specs.Gathered.{pair_cmp, gathered}
-use Rattle.key_index_parts.proofs.family.StorageLemmas.{within_buckets}
+use Rattle.key_index_parts.proofs.buckets.StorageLemmas.{within_buckets}
 use Rattle.key_index_parts.proofs.index.partitioned.storage.Storage.next.Goals as goal
 
 pub next-requires : goal.next-requires

@@ -1,7 +1,7 @@
 use Rattle.std.proofs.Common.{ap, ◌∙◌}
 use Rattle.key_index_flat.specs.Neighbours.{prev_list}
 use Rattle.key_index_parts.specs.Gathered.{pair_cmp, gathered}
-use Rattle.key_index_parts.proofs.family.StorageLemmas.{within_buckets}
+use Rattle.key_index_parts.proofs.buckets.StorageLemmas.{within_buckets}
 use Rattle.key_index_parts.proofs.index.partitioned.storage.Storage.prev.Goals as goal
 
 pub prev-requires : goal.prev-requires

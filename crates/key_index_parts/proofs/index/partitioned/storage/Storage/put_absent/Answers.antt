@@ -4,7 +4,7 @@ use Rattle.key_index_flat.specs.Content.{is_filled}
 use Rattle.key_index_parts.specs.Family.{list_in}
 use Rattle.key_index_flat.specs.Content.{item_count}
 use Rattle.key_index_parts.specs.Gathered.{gathered}
-use Rattle.key_index_parts.proofs.family.StorageLemmas.{list_at-gathered_buckets, within_buckets, keys_below, counted_gain, KeepsBuckets-edited, keeps_all, view_edited}
+use Rattle.key_index_parts.proofs.buckets.StorageLemmas.{list_at-gathered_buckets, within_buckets, keys_below, counted_gain, KeepsBuckets-edited, keeps_all, view_edited}
 use Rattle.key_index_parts.proofs.standing.StandingLemmas.{grows_to, pruned_after-zero}
 use Rattle.key_index_parts.proofs.standing.PaidLemmas.{StaysPaid, StaysPaid-GrowsIn, listed_by}
 use Rattle.key_index_parts.specs.Standing.{standings_of}

@@ -1,11 +1,11 @@
 use Rattle.std.proofs.Common.{true, length, refl, subst, sym, arith, ap}
 use Rattle.std.specs.Fn.{CalledAt}
 use Rattle.key_index_flat.specs.Retention.{AsksBehind}
-use Rattle.key_index_flat.proofs.asked.TurnLemmas.{few_kept, held_answers}
+use Rattle.key_index_flat.proofs.closures.TurnLemmas.{few_kept, held_answers}
 use Rattle.key_index_flat.specs.Content.{item_count}
 use Rattle.key_index_parts.specs.Family.{list_in}
 use Rattle.key_index_parts.specs.Gathered.{gathered}
-use Rattle.key_index_parts.proofs.family.StorageLemmas.{list_at-gathered_buckets, within_buckets, can_change, counted_change, KeepsBuckets-edited, keeps_all, view_pruned}
+use Rattle.key_index_parts.proofs.buckets.StorageLemmas.{list_at-gathered_buckets, within_buckets, can_change, counted_change, KeepsBuckets-edited, keeps_all, view_pruned}
 use Rattle.key_index_parts.proofs.standing.StandingLemmas.{grows_to}
 use Rattle.key_index_parts.proofs.standing.PaidLemmas.{StaysPaid-GrowsIn, listed_by}
 use Rattle.key_index_parts.specs.Standing.{standings_of}

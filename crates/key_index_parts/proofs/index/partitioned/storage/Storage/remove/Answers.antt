@@ -4,7 +4,7 @@ use Rattle.key_index_parts.specs.Family.{Kept, settled_in, held_at, view_of}
 use Rattle.key_index_parts.specs.Gathered.{pair_cmp}
 use Rattle.key_index_parts.specs.Standing.{Leaves, entries_at}
 use Rattle.key_index_parts.proofs.standing.StandingLemmas.{Resettles-MovesBack, settles_edit}
-use Rattle.key_index_parts.proofs.family.StorageLemmas.{kept_twice}
+use Rattle.key_index_parts.proofs.buckets.StorageLemmas.{kept_twice}
 use Rattle.key_index_parts.proofs.index.partitioned.storage.Storage.remove.Goals as goal
 
 pub returns-in-Ok-clause-removed : goal.returns-in-Ok-clause-removed
@@ -30,4 +30,4 @@ returns-in-Ok-clause-settled g c = λ is.
 pub returns-in-Ok-clause-kept : goal.returns-in-Ok-clause-kept
 returns-in-Ok-clause-kept g c =
     let cmp = g.T.Key.Ord.cmp in
-    kept_twice cmp _ _ _ (kept_twice cmp _ _ _ c.settle.ensures.kept c.take.ensures.kept) c.move_back.ensures.kept
+    kept_twice cmp _ _ _ (kept_twice cmp _ _ _ c.spill_if_reached.ensures.kept c.take.ensures.kept) c.move_back.ensures.kept

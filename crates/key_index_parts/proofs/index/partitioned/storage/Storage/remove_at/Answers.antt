@@ -2,7 +2,7 @@ use Rattle.std.proofs.Common.{rules, ◌≡◌, ◌+◌, ◌<◌, ◌^◌, Some,
 use Rattle.std.proofs.lemmas.List.Edits.{length-remove}
 use Rattle.key_index_parts.specs.Family.{held_at, list_in}
 use Rattle.key_index_parts.specs.Standing.{standings_of}
-use Rattle.key_index_parts.proofs.family.StorageLemmas.{list_at-gathered_buckets, held_inside, items_within, can_change, counted_change, KeepsBuckets-edited, view_pruned}
+use Rattle.key_index_parts.proofs.buckets.StorageLemmas.{list_at-gathered_buckets, held_inside, items_within, can_change, counted_change, KeepsBuckets-edited, view_pruned}
 use Rattle.key_index_parts.proofs.standing.PaidLemmas.{StaysPaid, StaysPaid-LeavesIn}
 use Rattle.key_index_parts.proofs.index.partitioned.storage.Storage.remove_at.Given.{Over}
 use Rattle.key_index_parts.proofs.index.partitioned.storage.Storage.remove_at.Goals.{After-self, After-change}

@@ -3,8 +3,8 @@ use Rattle.std.specs.Fn.{CalledAt}
 use Rattle.std.specs.List.Retain.{IsFiltered}
 use Rattle.key_index_flat.specs.View.{pruned_after}
 use Rattle.key_index_parts.specs.Family.{held_at, list_in}
-use Rattle.key_index_parts.proofs.family.BucketLemmas.{kept_at_most}
-use Rattle.key_index_parts.proofs.family.StorageLemmas.{list_at-gathered_buckets, within_buckets, can_change, counted_change, KeepsBuckets-edited, view_pruned}
+use Rattle.key_index_parts.proofs.buckets.BucketLemmas.{kept_at_most}
+use Rattle.key_index_parts.proofs.buckets.StorageLemmas.{list_at-gathered_buckets, within_buckets, can_change, counted_change, KeepsBuckets-edited, view_pruned}
 use Rattle.key_index_parts.proofs.standing.PaidLemmas.{StaysPaid-LeavesIn}
 use Rattle.key_index_parts.proofs.index.partitioned.storage.Storage.retain_in_bucket.Goals as goal
 

@@ -1,5 +1,5 @@
 use Rattle.std.proofs.Common.{length, ap, sym, ◌∙◌}
-use Rattle.key_index_parts.proofs.family.StorageLemmas.{list_at-gathered_buckets}
+use Rattle.key_index_parts.proofs.buckets.StorageLemmas.{list_at-gathered_buckets}
 use Rattle.key_index_parts.proofs.index.partitioned.storage.Storage.run_len.Goals as goal
 
 pub returns : goal.returns

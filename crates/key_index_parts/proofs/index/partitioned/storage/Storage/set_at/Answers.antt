@@ -2,8 +2,8 @@ use Rattle.std.proofs.Common.{◌<◌, length, slice_set, refl, subst, sym, arit
 use Rattle.std.proofs.lemmas.List.{length-set}
 use Rattle.key_index_parts.specs.Family.{held_at, list_in}
 use Rattle.key_index_parts.specs.Standing.{standings_of}
-use Rattle.key_index_parts.proofs.family.BucketLemmas.{as_many_entries}
-use Rattle.key_index_parts.proofs.family.StorageLemmas.{list_at-gathered_buckets, held_inside, IsCounted-edited, KeepsBuckets-edited, view_edited}
+use Rattle.key_index_parts.proofs.buckets.BucketLemmas.{as_many_entries}
+use Rattle.key_index_parts.proofs.buckets.StorageLemmas.{list_at-gathered_buckets, held_inside, IsCounted-edited, KeepsBuckets-edited, view_edited}
 use Rattle.key_index_parts.proofs.standing.PaidLemmas.{StaysPaid, StaysPaid-LeavesIn}
 use Rattle.key_index_parts.proofs.index.partitioned.storage.Storage.set_at.Given.{Over}
 use Rattle.key_index_parts.proofs.index.partitioned.storage.Storage.set_at.Goals.{After-self, After-set_at}

@@ -1,6 +1,6 @@
 use Rattle.std.proofs.Common.{rules, ◌<◌, ◌^◌, [], length, refl, ap, sym, ◌∙◌, arith}
 use Rattle.key_index_flat.specs.View.{pruned_after}
-use Rattle.key_index_parts.proofs.family.StorageLemmas.{list_at-gathered_buckets, within_buckets, can_change, counted_change, KeepsBuckets-edited, view_pruned}
+use Rattle.key_index_parts.proofs.buckets.StorageLemmas.{list_at-gathered_buckets, within_buckets, can_change, counted_change, KeepsBuckets-edited, view_pruned}
 use Rattle.key_index_parts.proofs.standing.PaidLemmas.{StaysPaid-LeavesIn}
 use Rattle.key_index_parts.proofs.index.partitioned.storage.Storage.take.Goals as goal
 

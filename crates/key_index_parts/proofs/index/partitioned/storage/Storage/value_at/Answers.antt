@@ -1,7 +1,7 @@
 use Rattle.std.proofs.Common.{◌≡◌, ◌<◌, Some, length, slice_get, subst, sym}
 use Rattle.key_index_flat.specs.Content.{list_at}
 use Rattle.key_index_parts.specs.Gathered.{pair_cmp, gathered}
-use Rattle.key_index_parts.proofs.family.StorageLemmas.{list_at-gathered_buckets}
+use Rattle.key_index_parts.proofs.buckets.StorageLemmas.{list_at-gathered_buckets}
 use Rattle.key_index_parts.proofs.index.partitioned.storage.Storage.value_at.Goals as goal
 
 pub value_at-requires : goal.value_at-requires

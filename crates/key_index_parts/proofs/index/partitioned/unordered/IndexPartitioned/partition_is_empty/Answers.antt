@@ -1,5 +1,5 @@
 use Rattle.std.proofs.Common.{sym, ◌∙◌}
-use Rattle.key_index_parts.proofs.family.InstallLemmas.{is_between-one}
+use Rattle.key_index_parts.proofs.buckets.InstallLemmas.{is_between-one}
 use Rattle.key_index_parts.proofs.index.partitioned.unordered.IndexPartitioned.partition_is_empty.Goals as goal
 
 pub returns : goal.returns

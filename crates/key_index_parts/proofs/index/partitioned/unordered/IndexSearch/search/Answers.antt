@@ -1,5 +1,5 @@
 use Rattle.key_index_parts.specs.Gathered.{pair_cmp}
-use Rattle.key_index_parts.proofs.family.ReachLemmas.{run_reached}
+use Rattle.key_index_parts.proofs.buckets.ReachLemmas.{run_reached}
 use Rattle.key_index_parts.proofs.index.partitioned.unordered.IndexSearch.search.Goals as goal
 
 pub with_len-requires-clause-known : goal.with_len-requires-clause-known

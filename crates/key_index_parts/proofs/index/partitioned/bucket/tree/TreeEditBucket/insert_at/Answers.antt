@@ -1,7 +1,7 @@
 use Rattle.std.proofs.Common.{arith}
 use Rattle.std.proofs.lemmas.List.Edits.{length-insert}
 use Rattle.key_index_flat.specs.Content.{list_at}
-use Rattle.key_index_flat.proofs.asked.KeptLemmas.{IsCounted-with_list}
+use Rattle.key_index_flat.proofs.closures.KeptLemmas.{IsCounted-with_list}
 use Rattle.key_index_parts.proofs.index.partitioned.bucket.tree.TreeEditBucket.insert_at.Goals as goal
 
 pub invariant_of-self-2 : goal.invariant_of-self-2

@@ -1,7 +1,7 @@
 use Rattle.std.proofs.Common.{arith}
 use Rattle.std.proofs.lemmas.List.Edits.{length-remove}
 use Rattle.key_index_flat.specs.Content.{list_at}
-use Rattle.key_index_flat.proofs.asked.KeptLemmas.{IsCounted-with_list, within_count}
+use Rattle.key_index_flat.proofs.closures.KeptLemmas.{IsCounted-with_list, within_count}
 use Rattle.key_index_parts.proofs.index.partitioned.bucket.tree.TreeEditBucket.remove_at.Goals as goal
 
 pub overflow_sub-self : goal.overflow_sub-self

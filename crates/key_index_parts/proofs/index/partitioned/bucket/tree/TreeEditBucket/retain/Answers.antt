@@ -1,5 +1,5 @@
 use Rattle.std.proofs.Common.{arith}
-use Rattle.key_index_flat.proofs.asked.KeptLemmas.{IsCounted-with_list, within_count}
+use Rattle.key_index_flat.proofs.closures.KeptLemmas.{IsCounted-with_list, within_count}
 use Rattle.key_index_parts.proofs.index.partitioned.bucket.tree.TreeEditBucket.retain.Goals as goal
 
 pub overflow_sub-self-2 : goal.overflow_sub-self-2

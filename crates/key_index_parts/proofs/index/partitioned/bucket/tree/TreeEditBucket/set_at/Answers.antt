@@ -1,6 +1,6 @@
 use Rattle.std.proofs.Common.{length-set, arith}
 use Rattle.key_index_flat.specs.Content.{list_at}
-use Rattle.key_index_flat.proofs.asked.KeptLemmas.{IsCounted-with_list}
+use Rattle.key_index_flat.proofs.closures.KeptLemmas.{IsCounted-with_list}
 use Rattle.key_index_parts.proofs.index.partitioned.bucket.tree.TreeEditBucket.set_at.Goals as goal
 
 pub invariant_of-self : goal.invariant_of-self

@@ -6,7 +6,7 @@ use Rattle.std.specs.List.Sorted.{IsSorted}
 use Rattle.std.specs.Map.{keys_of}
 use Rattle.std.specs.Ordering.{is_lt}
 use Rattle.key_index_parts.specs.Spread.{pairs_with}
-use Rattle.key_index_parts.proofs.family.SpreadLemmas.{zip-more}
+use Rattle.key_index_parts.proofs.buckets.SpreadLemmas.{zip-more}
 use Rattle.key_index_parts.proofs.pairs.LastRun.{Rises-more}
 use Rattle.key_index_parts.proofs.pairs.SearchLemmas.{Rises-IsSorted, IsSorted-Rises}
 use Rattle.key_index_parts.proofs.index.partitioned.ordered.partition.Partition.push_run.Goals as goal

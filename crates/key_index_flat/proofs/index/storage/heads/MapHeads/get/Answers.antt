@@ -1,5 +1,0 @@
-use Rattle.key_index_flat.proofs.content.KeyLemmas.{value_by_eq}
-use Rattle.key_index_flat.proofs.index.storage.heads.MapHeads.get.Goals as goal
-
-pub returns : goal.returns
-returns g c = value_by_eq g.K.PartialEq.eq g.K.Ord.cmp g.met.K.Ord.matches_eq _ _ _ c.get.ensures

@@ -1,0 +1,13 @@
+pub mod FamilyLemmas
+pub mod FamilyNeighbours
+pub mod GatheredLemmas
+pub mod GatheredNeighbours
+pub mod EntriesLemmas
+pub mod JoinedLemmas
+pub mod ShiftedLemmas
+pub mod ReachLemmas
+pub mod InstallLemmas
+pub mod BucketLemmas
+pub mod StorageLemmas
+pub mod SpreadLemmas
+pub mod HashBucketLemmas

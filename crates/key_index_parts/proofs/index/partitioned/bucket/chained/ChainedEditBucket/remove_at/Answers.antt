@@ -1,5 +1,0 @@
-use Rattle.key_index_flat.proofs.asked.KeptLemmas.{lawful_edit}
-use Rattle.key_index_parts.proofs.index.partitioned.bucket.chained.ChainedEditBucket.remove_at.Goals as goal
-
-pub invariant_of-self : goal.invariant_of-self
-invariant_of-self g c = record { lawful = lawful_edit g.met.T.Key.Ord.total _ _ _ _ c.args.self.now.lawful c.remove_at.ensures.content }

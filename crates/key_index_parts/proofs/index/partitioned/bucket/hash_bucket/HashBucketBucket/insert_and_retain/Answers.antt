@@ -1,0 +1,16 @@
+use Rattle.std.proofs.lemmas.Result.{IfOk-weaker}
+use Rattle.key_index_parts.proofs.buckets.HashBucketLemmas.{lawful_kept}
+use Rattle.key_index_parts.proofs.index.partitioned.bucket.hash_bucket.HashBucketBucket.insert_and_retain.Goals as goal
+
+pub invariant_of-self : goal.invariant_of-self
+invariant_of-self g c =
+    let told = c.insert_and_retain.ensures in
+    record {
+      lawful = lawful_kept g.met.T.Key.Ord.total c.args.self.now.lists.content c.insert_and_retain.new.self.content c.args.key c.insert_and_retain.result c.args.self.now.lawful
+          (IfOk-weaker c.insert_and_retain.result _ _ (λ told h. (h.0, h.2)) told.accepted) told.refused;
+    }
+
+pub returns-clause-accepted : goal.returns-clause-accepted
+returns-clause-accepted g c =
+    let said = c.in_ok-told.ensures.accepted in
+    (said.0, said.1, said.2, c.in_ok-told.ensures.had, said.3)

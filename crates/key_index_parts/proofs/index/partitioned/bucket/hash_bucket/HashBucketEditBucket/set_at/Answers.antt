@@ -1,0 +1,5 @@
+use Rattle.key_index_flat.proofs.closures.KeptLemmas.{lawful_edit}
+use Rattle.key_index_parts.proofs.index.partitioned.bucket.hash_bucket.HashBucketEditBucket.set_at.Goals as goal
+
+pub invariant_of-self : goal.invariant_of-self
+invariant_of-self g c = record { lawful = lawful_edit g.met.T.Key.Ord.total _ _ _ _ c.args.self.now.lawful c.set_at.ensures.content }

@@ -1,0 +1,69 @@
+-- How a bucket that spills stands after an edit, by how many values it has.
+--     some_left, item_count-one_more                   a content where a key has no fewer values, and where it has one more
+--     item_count-stays_positive                        the same after an insertion that may be refused
+--     item_count-retained                              an insertion with retention leaves at most one value more
+--     in_tree, Grows-below_limit, Grows-limit_reached  how a tree stands after an insertion, arrays below the limit, and a tree that arrays became
+--     held_by-tree, held_now                           what a bucket with a tree holds, which is something
+--     none_beside                                      and its arrays hold nothing
+use Rattle.std.proofs.Common.{◌≡◌, ℕ, zero, suc, ◌+◌, ◌<◌, ◌≤◌, Bool, true, false, not, ◌&&◌, ◌||◌, nat_lt, nat_le, if◌then◌else◌, List, length, Option, Some, is_some, Result, Ok, Err, IfOk, OnErr, Box, refl, sym, ap, subst, ◌∙◌, arith}
+use Rattle.std.proofs.lemmas.Bool.{lt-leb, le-leb, lt-ltb}
+use Rattle.std.specs.Cmp.{IsTotalOrder}
+use Rattle.std.specs.declared.cmp.Ordering.{Ordering}
+use Rattle.key_index_flat.specs.Content.{Content, item_count, list_at, with_list, with_list_by, IsLawful}
+use Rattle.key_index_flat.proofs.content.ContentLemmas.{item_count-with_list}
+use Rattle.key_index_parts.specs.Family.{Grows, RetainsWith, stands}
+use Rattle.key_index_parts.specs.Spilled.{HoldsSome, held_by}
+use Rattle.key_index_flat.proofs.closures.TurnLemmas.{few_kept}
+
+module _ {K V : Type 0} where
+  -- a tree that is left with some values or none, arrays below the limit, and arrays that reached it
+  pub in_tree : (limit : ℕ) (c : Content K V) (is : Bool) → 1 ≤ limit → is ≡ nat_lt 0 (item_count c) → Grows true limit true 0 c is
+  in_tree limit c is least told = (none (item_count c), ap (λ b. stands c b) told)
+    where
+      none : (n : ℕ) → 0 ≡ (if not (nat_lt 0 n) && nat_le limit n then n else 0)
+      none zero = ap (λ b. if b then 0 else 0) (sym (lt-leb limit 0 least))
+      none (suc n) = ap (λ b. if not b && nat_le limit (suc n) then suc n else 0) (sym (lt-ltb 0 (suc n) (omega arith)))
+
+  pub Grows-below_limit : (limit : ℕ) (c : Content K V) → item_count c < limit → Grows true limit false 0 c false
+  Grows-below_limit limit c few = (ap (λ b. if b then item_count c else 0) (sym (lt-leb limit (item_count c) few)), refl)
+
+  pub Grows-limit_reached : (limit moved : ℕ) (c : Content K V) → 1 ≤ limit → limit ≤ moved → moved ≡ item_count c → Grows true limit false moved c true
+  Grows-limit_reached limit moved c least many told = (
+    told ∙ ap (λ b. if b then item_count c else 0) (sym (le-leb limit (item_count c) (omega (arith, told, many)))),
+    ap (λ b. stands c (b || false)) (sym (lt-ltb 0 moved (omega (arith, least, many)))),
+  )
+
+  pub held_by-tree : {X A : Type 0} (tree : Option (Box X A)) (f : X → Content K V) (b : Box X A) (x : X) (arrays : Content K V) → tree ≡ Some b → x ≡ b.value
+      → held_by f tree arrays ≡ f x
+  held_by-tree tree f b x arrays is now = ap (λ t. held_by f t arrays) is ∙ ap f (sym now)
+
+  pub held_now : {X A : Type 0} (tree : Option (Box X A)) (f : X → Content K V) (b : Box X A) (x : X) → tree ≡ Some b → x ≡ b.value → HoldsSome f tree
+      → 0 < item_count (f x)
+  held_now tree f b x is now h = subst (λ y. 0 < item_count (f y)) (sym now) (subst (λ o. HoldsSome f o) is h)
+
+pub none_beside : {X : Type 0} (tree : Option X) (x : X) (some : Bool) → tree ≡ Some x → (is_some tree && some) ≡ false → some ≡ false
+none_beside tree x some is alone = subst (λ o. (is_some o && some) ≡ false) is alone
+
+module _ {K V : Type 0} {cmp : K → K → Ordering} (o : IsTotalOrder cmp) where
+  pub some_left : (c new : Content K V) (k : K) (l : List V) → IsLawful cmp c → 0 < item_count c → length (list_at cmp c k) ≤ length l
+      → new ≡ with_list cmp c k l → 0 < item_count new
+  some_left c new k l h some least is = let e = item_count-with_list o c k l h in let same = ap item_count is in omega (arith, e, same, some, least)
+
+  pub item_count-one_more : (c new : Content K V) (k : K) (l : List V) → IsLawful cmp c → length l ≡ length (list_at cmp c k) + 1
+      → new ≡ with_list cmp c k l → item_count new ≡ item_count c + 1
+  item_count-one_more c new k l h more is = let e = item_count-with_list o c k l h in let same = ap item_count is in omega (arith, e, same, more)
+
+  pub item_count-stays_positive : {E : Type 0} (r : Result Bool E) (c new : Content K V) (k : K) (f : List V → List V) (told : Bool) → IsLawful cmp c → 0 < item_count c
+      → length (list_at cmp c k) ≤ length (f (list_at cmp c k)) → IfOk r (λ absent. (new ≡ with_list_by cmp c k f) × (absent ≡ told)) → OnErr r (new ≡ c)
+      → 0 < item_count new
+  item_count-stays_positive (Ok absent) c new k f told h some least accepted refused = some_left c new k (f (list_at cmp c k)) h some least accepted.0
+  item_count-stays_positive (Err e) c new k f told h some least accepted refused = subst (λ d. 0 < item_count d) (sym refused) some
+
+  -- an insertion with retention
+  pub item_count-retained : {F : Type 0} (ask : F → V → Bool → F → Type 0) (p : F) (c new : Content K V) (k : K) (v : V) (had left taken : ℕ) → IsLawful cmp c
+      → RetainsWith ask p (list_at cmp c k) v had left taken (λ l. new ≡ with_list cmp c k l) → item_count new ≤ item_count c + 1
+  item_count-retained ask p c new k v had left taken h told =
+      let e = item_count-with_list o c k told.0 h in
+      let same = ap item_count told.2 in
+      let few = few_kept told.1 in
+      omega (arith, e, same, few)
