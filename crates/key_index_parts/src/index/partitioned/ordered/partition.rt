@@ -12,7 +12,7 @@ ghost use Rattle.std.specs.Slice.Iter.{iter_rest};
 ghost use Rattle.std.specs.Vec.{vec_capacity};
 ghost use Rattle.std.specs.Vec.Iter.{into_iter_items};
 ghost use Rattle.key_index_flat.specs.Content.{Content, list_at, with_list};
-ghost use Rattle.key_index_flat.specs.Neighbours.{entries_above, entries_below, first_entry, last_list};
+ghost use Rattle.key_index_flat.specs.Neighbours.{entries_above, entries_below, first_entry, first_list, last_list};
 ghost use Rattle.key_index_flat.specs.Retention.{AsksInTurn};
 ghost use Rattle.key_index_parts.specs.Spread.{pairs_with};
 ghost use Rattle.key_index_parts.specs.Pairs.{Pairs, Paired, IsFound, IsRun, count_below, count_upto, with_value, run_of, grouped, list_of, room_of, room_for};
@@ -561,6 +561,14 @@ impl<K: Ord + Copy, V: Drop> Partition<K, V> {
         (left, stays)
     }
 
+    /// The values of the least key. None where it holds no pair.
+    pub fn first_values(&self) -> Option<&[V]>
+        ensures { option_copied result ≡ first_list (grouped K.cmp self.now.pairs) }
+    {
+        let (_, values) = self.first_entry()?;
+        Some(values)
+    }
+
     /// The least key, with its values. None where it holds no pair.
     pub fn first_entry(&self) -> Option<(K, &[V])>
         ensures { option_map (λ e. (e.0, e.1.now)) result ≡ first_entry (grouped K.cmp self.now.pairs) }
@@ -573,6 +581,14 @@ impl<K: Ord + Copy, V: Drop> Partition<K, V> {
         ensures { option_copied result ≡ last_list (grouped K.cmp self.now.pairs) }
     {
         last_run(self.keys.as_slice(), self.values.as_slice())
+    }
+
+    /// The values of the least key above a key. None where there is no such key.
+    pub fn next_values_after(&self, key: &K) -> Option<&[V]>
+        ensures { option_copied result ≡ first_list (entries_above K.cmp (grouped K.cmp self.now.pairs) key.now) }
+    {
+        let (_, values) = self.next_entry_after(key)?;
+        Some(values)
     }
 
     /// The least key above a key, with its values. None where there is no such key.
