@@ -28,7 +28,7 @@ fn file<D: Device, I: Unordered<Value = u64>>(
         → Fits (record { key = key.now; value = value }) → position ≤ length log
         → Indexes I.Key.cmp (take position log) (I.view index.old) → OnOk result
         (Indexes I.Key.cmp (take position log ++ encoded (record { key = key.now; value = value }))
-            (I.view index.new))) }
+        (I.view index.new))) }
     ensures read { IsRead D.seen D.may_leave device.old device.new }
     ensures fault { Sees (D.seen device.new) (λ log. position ≤ length log → position < usize.MAX
         → Indexes I.Key.cmp (take position log) (I.view index.old) → IfErr result MayRead) }
