@@ -129,16 +129,16 @@ impl<T: Translator, V> Contents<T, V> for SortedBucket<T, V> {
     ghost use Rattle.key_index_parts.specs.Spilled.{IsLawful-held_by, filled-held_by};
 
     ghost content = { λ bucket. held_by (λ t. t.lists.content) bucket.tree
-        (grouped T.Key.cmp bucket.sorted_arrays.pairs.pairs) };
+        (grouped T.Key.cmp bucket.arrays.pairs.pairs) };
 
     ghost spilled = { λ bucket. is_some bucket.tree };
 
     ghost lawful = { λ bucket. IsLawful-held_by (λ t. t.lists.content) T.Key.cmp
-        (λ t. t.counted.lawful) bucket.tree (grouped T.Key.cmp bucket.sorted_arrays.pairs.pairs)
-        (IsLawful-grouped T.Key.total bucket.sorted_arrays.pairs.pairs) };
+        (λ t. t.counted.lawful) bucket.tree (grouped T.Key.cmp bucket.arrays.pairs.pairs)
+        (IsLawful-grouped T.Key.total bucket.arrays.pairs.pairs) };
 
     ghost filled = { λ bucket h. filled-held_by (λ t. t.lists.content) bucket.tree
-        (grouped T.Key.cmp bucket.sorted_arrays.pairs.pairs) bucket.filled h };
+        (grouped T.Key.cmp bucket.arrays.pairs.pairs) bucket.filled h };
 }
 
 impl<T: Translator, V: Drop> SortedBucket<T, V> {
