@@ -308,7 +308,14 @@ fn take_out<T: Drop>(items: &mut Vec<T>, from: usize, to: usize)
     ensures capacity { vec_capacity items.new ≡ vec_capacity items.old }
 {
     let count = to - from;
-    if count <= 1 || count <= 4 && items.len() - to >= BLOCK {
+    if count == 0 {
+        return;
+    }
+    if count == 1 {
+        items.remove(from);
+        return;
+    }
+    if count <= 4 && items.len() - to >= BLOCK {
         let mut end = to;
         'left: while from < end {
             items.remove(from);

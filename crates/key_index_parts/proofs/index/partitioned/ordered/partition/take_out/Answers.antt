@@ -10,12 +10,12 @@ left-preserved g c =
     let from = c.args.from in
     let one_more : suc (at.end - 1) ≡ at.end = omega (arith, c.left-test.true) in
     let inside : from < length at.items.items = omega (arith, had.within, c.left-test.true) in record {
-      rest = ap (λ l. remove_range l from (at.end - 1)) c.remove.ensures.items
+      rest = ap (λ l. remove_range l from (at.end - 1)) c.remove-in-left.ensures.items
           ∙ remove_range-remove at.items.items from (at.end - 1) inside (omega (arith, c.left-test.true))
           ∙ ap (λ end. remove_range at.items.items from end) one_more ∙ had.rest;
       order = omega (arith, c.left-test.true);
-      within = omega (arith, had.within, c.remove.ensures.len, c.left-test.true);
-      capacity = c.remove.ensures.capacity ∙ had.capacity;
+      within = omega (arith, had.within, c.remove-in-left.ensures.len, c.left-test.true);
+      capacity = c.remove-in-left.ensures.capacity ∙ had.capacity;
     }
 
 pub items-init : goal.items-init
