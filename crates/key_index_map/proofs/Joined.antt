@@ -1,7 +1,7 @@
 -- On groups of sixteen tags, joined.
 --     joined_length, joined_at, joined_set    how many there are, the tag of a place, and with another tag at a place
 --     all_empty                               every tag is that of an empty cell
---     shown_length, shown_at, shown_set       the same of what a table's tags show
+--     shown_length, shown_in, shown_set       the same of what a table's tags show
 --     still_groups                            the groups after another tag
 --     new_groups                              groups of empty cells
 use Rattle.std.proofs.Common.{◌≡◌, ℕ, zero, suc, ◌+◌, ◌*◌, ◌-◌, ◌/◌, ◌%◌, ◌<◌, Bool, List, [], ◌∷◌, ◌++◌, length, replicate, get_or, Some, slice_get, slice_set, slice_index, slice_index_or, true, false, refl, sym, ap, ◌∙◌, ⊎_elim, arith}
@@ -73,30 +73,22 @@ module _ (groups : List (List ℕ)) (filled : List Bool) (are : AreGroups groups
   pub shown_length : length now ≡ 16 * length groups
   shown_length = ap length (sym view) ∙ joined_length groups are.sixteen
 
-  module _ (place : ℕ) (below : place < length now) (tags : List ℕ) (read : tags ≡ get_or groups (place / 16) tags) where
-    group_at : slice_get groups (place / 16) ≡ Some tags
-    group_at = slice_get_read groups (length groups) (place / 16) tags refl (omega (arith, below, shown_length)) read
-
-    parts : place ≡ 16 * (place / 16) + place % 16
-    parts = omega arith
-
-    pub shown_at : slice_index tags (place % 16) ≡ slice_index now place
-    shown_at = sym (joined_at groups are.sixteen (place / 16) (place % 16) place tags parts group_at (omega arith)) ∙ ap (λ l. slice_index l place) view
-
-    pub shown_set : (t : ℕ) → concat (slice_set groups (place / 16) (slice_set tags (place % 16) t)) ≡ slice_set now place t
-    shown_set t = joined_set groups are.sixteen (place / 16) (place % 16) place t tags parts group_at (omega arith) ∙ ap (λ l. slice_set l place t) view
-
-    pub still_groups : (t : ℕ) → AreGroups (slice_set groups (place / 16) (slice_set tags (place % 16) t)) filled
-    still_groups t = record {
-      sixteen = λ i x there.
-          at_set groups (place / 16) i (slice_set tags (place % 16) t) x there
-          (λ _ is. ap length (sym is) ∙ length-set tags (place % 16) t ∙ are.sixteen (place / 16) tags group_at)
-          (λ _ at. are.sixteen i x at);
-      full = λ i within. let long = length-set groups (place / 16) (slice_set tags (place % 16) t) in are.full i (omega (arith, within, long));
-    }
-
   -- the tags of a group
-  module _ (g : ℕ) (below : g < length groups) (tags : List ℕ) (read : tags ≡ get_or groups g tags) where
-    pub shown_in : (i place : ℕ) → i < 16 → place ≡ 16 * g + i → slice_index now place ≡ slice_index tags i
-    shown_in i place within is =
-        ap (λ l. slice_index l place) (sym view) ∙ joined_at groups are.sixteen g i place tags is (slice_get_read groups (length groups) g tags refl below read) within
+  module _ (g : ℕ) (below : g < length groups) (tags : List ℕ) (read : tags ≡ get_or groups g tags) (i place : ℕ) (within : i < 16) (is : place ≡ 16 * g + i) where
+    group_at : slice_get groups g ≡ Some tags
+    group_at = slice_get_read groups (length groups) g tags refl below read
+
+    pub shown_in : slice_index now place ≡ slice_index tags i
+    shown_in = ap (λ l. slice_index l place) (sym view) ∙ joined_at groups are.sixteen g i place tags is group_at within
+
+    pub shown_set : (t : ℕ) → concat (slice_set groups g (slice_set tags i t)) ≡ slice_set now place t
+    shown_set t = joined_set groups are.sixteen g i place t tags is group_at within ∙ ap (λ l. slice_set l place t) view
+
+    pub still_groups : (t : ℕ) → AreGroups (slice_set groups g (slice_set tags i t)) filled
+    still_groups t = record {
+      sixteen = λ j x there.
+          at_set groups g j (slice_set tags i t) x there
+          (λ _ same. ap length (sym same) ∙ length-set tags i t ∙ are.sixteen g tags group_at)
+          (λ _ at. are.sixteen j x at);
+      full = λ j inside. let long = length-set groups g (slice_set tags i t) in are.full j (omega (arith, inside, long));
+    }

@@ -14,8 +14,7 @@
 --     AreCells        what stands where: each pair's tag is that of its key, and a search for its key comes to its group; keys differ
 --     IsAt, NoneIn    the pair with a key stands in a cell; in none of a range
 --     Found, Seen     what a search through groups answers, and a look at the first of them alone
---     IsPlace         the cell of a key's pair, or a free one for it
---     IsFirstFree, IsTagWithout    which cell is taken, which tag is left behind
+--     IsFirstFree, IsEmptyIn, IsTagWithout    which cell is taken, an empty place, which tag is left behind
 --     Updates, Writes    what a call does to the pairs
 use Rattle.std.specs.Prelude.{◌≡◌, ◌≢◌, ℕ, zero, suc, ◌+◌, ◌*◌, ◌-◌, ◌/◌, ◌^◌, ◌<◌, ◌≤◌, Bool, true, false, nat_le, if◌then◌else◌, max, List, [], ◌∷◌, length, Option, Some, None, slice_get, slice_index, slice_index_or, bit_and, nat_eq, ⊤}
 use Rattle.std.specs.List.{fold, count_by, IsDistinct}
@@ -24,8 +23,6 @@ use Rattle.std.specs.Option.{IsSome}
 use Rattle.std.specs.Hash.FoldHasher as hasher
 use Rattle.key_index_map.specs.declared.map.Contents.{Contents}
 use Rattle.key_index_map.specs.declared.map.Contents.TheVariants.{Nothing, Reserved, Filled}
-use Rattle.key_index_map.specs.declared.table.Place.{Place}
-use Rattle.key_index_map.specs.declared.table.Place.TheVariants.{Held, Free}
 use Rattle.key_index_map.specs.declared.table.Search.{Search}
 use Rattle.key_index_map.specs.declared.table.Search.TheVariants.{Found as Here, Absent, Onward}
 
@@ -185,16 +182,16 @@ pub record IsFirstFree {K V : Type 0} (c : Cells K V) (home cell : ℕ) : Type 0
   pub reached : (groups : ℕ) → length c.tags ≡ 16 * groups → (group : ℕ) → 16 * group ≤ cell → cell < 16 * group + 16
       → Reaches c.tags groups home group
 
+-- an empty place of a group
+abbrev pub IsEmptyIn : {K V : Type 0} → Cells K V → ℕ → ℕ → Type 0
+IsEmptyIn c group place = (16 * group ≤ place) × (place < 16 * group + 16) × (slice_index c.tags place ≡ 0)
+
 -- what a look at the first group of a search tells
 abbrev pub Seen : {K V : Type 0} → (K → K → Bool) → Cells K V → ℕ → K → Search → Type 0
 Seen eq c hash k (Here cell) = IsAt eq c cell k × IsSome (lookup (eq k) (pairs c))
-Seen eq c hash k (Absent cell) = (lookup (eq k) (pairs c) ≡ None) × IsFirstFree c (home_in c hash) cell
+Seen eq c hash k (Absent cell) =
+    (lookup (eq k) (pairs c) ≡ None) × IsFirstFree c (home_in c hash) cell × IsEmptyIn c (home_in c hash) cell
 Seen eq c hash k Onward = ⊤
-
--- where the pair of a key stands, or a free cell for it, for which there is room
-abbrev pub IsPlace : {K V : Type 0} → (K → K → Bool) → Cells K V → ℕ → K → Place → Type 0
-IsPlace eq c hash k (Held cell) = IsAt eq c cell k × IsSome (lookup (eq k) (pairs c))
-IsPlace eq c hash k (Free cell) = (lookup (eq k) (pairs c) ≡ None) × IsFirstFree c (home_in c hash) cell × (0 < c.spare)
 
 -- the tag that a cell without its pair has: 0 only where its group has another empty cell
 abbrev pub IsTagWithout : {K V : Type 0} → Cells K V → ℕ → ℕ → Type 0

@@ -4,7 +4,7 @@ ghost use Rattle.std.specs.Borrow.{sem};
 ghost use Rattle.std.specs.Iterator.{YieldsFirstRef, item_count};
 ghost use Rattle.std.specs.Map.{lookup};
 ghost use Rattle.std.specs.Option.{IsSome, option_copied, option_copied_mut};
-ghost use Rattle.key_index_map.specs.Table.{Cells, IsAt, IsFreeIn, IsFirstFree, IsTagWithout, IsPlace, NoneIn, Found, Seen, Stopped, Updates, hash_of, tag_of, home, home_in, held, is_held, limit, pairs, with_value};
+ghost use Rattle.key_index_map.specs.Table.{Cells, IsAt, IsEmptyIn, IsFreeIn, IsFirstFree, IsTagWithout, NoneIn, Found, Seen, Stopped, Updates, hash_of, tag_of, home, home_in, held, is_held, limit, pairs, with_value};
 
 use crate::room::{Block, Deed, free, release, row_of, try_allocate};
 use crate::tags::{EMPTY, GROUP, Tags};
@@ -110,15 +110,6 @@ enum Search {
     Absent(usize),
     /// Behind the last of them.
     Onward,
-}
-
-/// Where the pair of a key stands or may stand.
-#[derive(Drop)]
-enum Place {
-    /// In this cell.
-    Held(usize),
-    /// No cell has it. This one is free.
-    Free(usize),
 }
 
 /// Cells for pairs, before the first one comes.
@@ -233,7 +224,7 @@ impl<K: Ord + Hash + Copy, V> Table<K, V> {
         let mut cell = GROUP * group;
         let end = cell + GROUP;
         while cell < end {
-            if self.tags.at(cell) == tag && *key == self.row.get(cell).0 {
+            if self.tags.at_in(group, cell) == tag && *key == self.row.get(cell).0 {
                 return Some(cell);
             }
             cell += 1;
@@ -390,49 +381,74 @@ impl<K: Ord + Hash + Copy, V> Table<K, V> {
         cell
     }
 
-    /// The first free cell that a search for a hash meets.
+    /// Puts the pair of a key that has none in a free cell of a group that a search for it comes to. So much room is left then.
     #[inline(always)]
-    fn free_for(&self, hash: u64) -> usize
-        requires { 0 < self.now.spare }
-        ensures { IsFirstFree self.now (home_in self.now hash) result }
-    {
-        let home = home_of(hash, self.tags.groups());
-        if let Some(cell) = self.tags.place_with(home, EMPTY) {
-            return cell;
-        }
-        self.free_from(home)
-    }
-
-    /// Puts the pair of a key that has none in the first free cell of a search for it.
-    #[inline(always)]
-    fn put_at(&mut self, cell: usize, hash: u64, pair: (K, V))
-        requires free { IsFirstFree self.old (home_in self.old hash) cell }
-        requires hash { hash ≡ hash_of (K.hash_input pair.0) }
-        requires absent { lookup (K.eq pair.0) (pairs self.old) ≡ None }
+    fn put_at(&mut self, group: usize, cell: usize, tag: u8, left: usize, pair: (K, V))
+        requires group { (16 * group ≤ cell) × (cell < 16 * group + 16) }
+        requires free { IsFirstFree self.old (home_in self.old (hash_of (K.hash_input pair.0))) cell }
+        requires tag { tag ≡ tag_of (hash_of (K.hash_input pair.0)) }
+        requires left { left + (if nat_eq (slice_index self.old.tags cell) 0 then 1 else 0) ≡ self.old.spare }
         requires room { 0 < self.old.spare }
+        requires absent { lookup (K.eq pair.0) (pairs self.old) ≡ None }
         ensures updates { Updates K.eq (pairs self.old) (pairs self.new) pair.0 (Some pair.1) }
         ensures len { length (pairs self.new) ≡ length (pairs self.old) + 1 }
         ensures room { self.old.spare ≤ self.new.spare + 1 }
     {
-        let left = left_with(self.tags.at(cell), self.left);
         self.left = left;
-        self.tags.set(cell, tag_of(hash));
+        self.tags.set_in(group, cell, tag);
         self.row.put(cell, pair);
         self.len += 1;
     }
 
-    /// Puts in the pair of a key that has none.
-    #[inline(always)]
-    pub(crate) fn put(&mut self, hash: u64, pair: (K, V))
-        requires hash { hash ≡ hash_of (K.hash_input pair.0) }
+    /// `put`, in the first free cell that a search from a group meets.
+    #[inline(never)]
+    fn put_from(&mut self, home: usize, tag: u8, pair: (K, V))
+        requires within { 16 * home < length self.old.tags }
+        requires home { home ≡ home_in self.old (hash_of (K.hash_input pair.0)) }
+        requires tag { tag ≡ tag_of (hash_of (K.hash_input pair.0)) }
         requires absent { lookup (K.eq pair.0) (pairs self.old) ≡ None }
         requires room { 0 < self.old.spare }
         ensures updates { Updates K.eq (pairs self.old) (pairs self.new) pair.0 (Some pair.1) }
         ensures len { length (pairs self.new) ≡ length (pairs self.old) + 1 }
         ensures room { self.old.spare ≤ self.new.spare + 1 }
     {
-        let cell = self.free_for(hash);
-        self.put_at(cell, hash, pair);
+        let cell = self.free_from(home);
+        let left = left_with(self.tags.at(cell), self.left);
+        self.put_at(cell / GROUP, cell, tag, left, pair);
+    }
+
+    /// Puts in the pair of a key that has none, whose cell gets this tag.
+    #[inline(always)]
+    fn put(&mut self, hash: u64, tag: u8, pair: (K, V))
+        requires hash { hash ≡ hash_of (K.hash_input pair.0) }
+        requires tag { tag ≡ tag_of hash }
+        requires absent { lookup (K.eq pair.0) (pairs self.old) ≡ None }
+        requires room { 0 < self.old.spare }
+        ensures updates { Updates K.eq (pairs self.old) (pairs self.new) pair.0 (Some pair.1) }
+        ensures len { length (pairs self.new) ≡ length (pairs self.old) + 1 }
+        ensures room { self.old.spare ≤ self.new.spare + 1 }
+    {
+        let home = home_of(hash, self.tags.groups());
+        match self.tags.place_with(home, EMPTY) {
+            Some(cell) => self.put_at(home, cell, tag, self.left - 1, pair),
+            None => self.put_from(home, tag, pair),
+        }
+    }
+
+    /// Puts the pair of a key that has none in the cell at which a look for it ended.
+    #[inline(always)]
+    fn put_seen(&mut self, hash: u64, cell: usize, pair: (K, V))
+        requires hash { hash ≡ hash_of (K.hash_input pair.0) }
+        requires absent { lookup (K.eq pair.0) (pairs self.old) ≡ None }
+        requires free { IsFirstFree self.old (home_in self.old hash) cell }
+        requires empty { IsEmptyIn self.old (home_in self.old hash) cell }
+        requires room { 0 < self.old.spare }
+        ensures updates { Updates K.eq (pairs self.old) (pairs self.new) pair.0 (Some pair.1) }
+        ensures len { length (pairs self.new) ≡ length (pairs self.old) + 1 }
+        ensures room { self.old.spare ≤ self.new.spare + 1 }
+    {
+        let home = home_of(hash, self.tags.groups());
+        self.put_at(home, cell, tag_of(hash), self.left - 1, pair);
     }
 
     /// The tag of a cell whose pair goes. No search comes to further groups than before.
@@ -480,15 +496,21 @@ impl<K: Ord + Hash + Copy, V> Table<K, V> {
             len: _,
             left: _,
         } = self;
+        let mut group = 0;
         let mut cell = 0;
         while cell < row.len() {
-            if tags.at(cell) < LEAST {
+            let end = cell + GROUP.min(row.len() - cell);
+            while cell < end {
+                let tag = tags.at_in(group, cell);
+                if tag < LEAST {
+                    cell += 1;
+                    continue;
+                }
+                let pair = row.take(cell);
+                new.put(hash_of(pair.0), tag, pair);
                 cell += 1;
-                continue;
             }
-            let pair = row.take(cell);
-            new.put(hash_of(pair.0), pair);
-            cell += 1;
+            group += 1;
         }
         release(tags.allocator(), row, deed);
     }
@@ -546,7 +568,7 @@ impl<K: Ord + Hash + Copy, V> Table<K, V> {
     }
 
     /// Puts in the value of a key that has none.
-    #[inline(always)]
+    #[inline(never)]
     pub(crate) fn add(&mut self, hash: u64, key: K, value: V) -> Result<(), V>
         requires hash { hash ≡ hash_of (K.hash_input key) }
         requires absent { lookup (K.eq key) (pairs self.old) ≡ None }
@@ -560,7 +582,7 @@ impl<K: Ord + Hash + Copy, V> Table<K, V> {
         if self.make_room().is_err() {
             return Err(value);
         }
-        self.put(hash, (key, value));
+        self.put(hash, tag_of(hash), (key, value));
         Ok(())
     }
 
@@ -573,7 +595,7 @@ impl<K: Ord + Hash + Copy, V> Table<K, V> {
         ensures room { room ≤ result.spare + 1 }
     {
         let mut table = room.into_table();
-        table.put(hash, (key, value));
+        table.put(hash, tag_of(hash), (key, value));
         table
     }
 
@@ -587,45 +609,6 @@ impl<K: Ord + Hash + Copy, V> Table<K, V> {
         ensures room { self.new.spare ≡ self.old.spare }
     {
         replace(self.value_mut(cell, key), value)
-    }
-
-    /// `place_for`, by a search through all groups.
-    #[inline(never)]
-    fn place_by_search(&mut self, hash: u64, key: K) -> Result<Place, AllocError>
-        requires { hash ≡ hash_of (K.hash_input key) }
-        ensures values { (q : K) → lookup (K.eq q) (pairs self.new) ≡ lookup (K.eq q) (pairs self.old) }
-        ensures len { length (pairs self.new) ≡ length (pairs self.old) }
-        ensures place { IfOk result (λ place. IsPlace K.eq self.new hash key place) }
-        ensures room { self.old.spare ≤ self.new.spare }
-        ensures absent { OnErr result (lookup (K.eq key) (pairs self.old) ≡ None) }
-        ensures refused { OnErr result (self.new ≡ self.old) }
-        ensures succeeds { 0 < self.old.spare → IsOk result }
-    {
-        if let Some(cell) = self.find_in_all(hash, key) {
-            return Ok(Place::Held(cell));
-        }
-        self.make_room()?;
-        Ok(Place::Free(self.free_for(hash)))
-    }
-
-    /// Where the pair of a key stands, or else a free cell for it, for which there is room then. A refusal, which comes at an absent key
-    /// alone, changes nothing.
-    #[inline(always)]
-    fn place_for(&mut self, hash: u64, key: &K) -> Result<Place, AllocError>
-        requires { hash ≡ hash_of (K.hash_input key.now) }
-        ensures values { (q : K) → lookup (K.eq q) (pairs self.new) ≡ lookup (K.eq q) (pairs self.old) }
-        ensures len { length (pairs self.new) ≡ length (pairs self.old) }
-        ensures place { IfOk result (λ place. IsPlace K.eq self.new hash key.now place) }
-        ensures room { self.old.spare ≤ self.new.spare }
-        ensures absent { OnErr result (lookup (K.eq key.now) (pairs self.old) ≡ None) }
-        ensures refused { OnErr result (self.new ≡ self.old) }
-        ensures succeeds { 0 < self.old.spare → IsOk result }
-    {
-        match self.look(hash, key) {
-            Search::Found(cell) => Ok(Place::Held(cell)),
-            Search::Absent(cell) if 0 < self.left => Ok(Place::Free(cell)),
-            _ => self.place_by_search(hash, *key),
-        }
     }
 
     /// Puts a value at a key, and answers the one that stood there. A refusal, which comes at an absent key alone, hands the value
@@ -643,14 +626,19 @@ impl<K: Ord + Hash + Copy, V> Table<K, V> {
         ensures succeeds { 0 < self.old.spare → IsOk result }
     {
         let hash = hash_of(key);
-        match self.place_for(hash, &key) {
-            Ok(Place::Held(cell)) => Ok(Some(self.set(cell, key, value))),
-            Ok(Place::Free(cell)) => {
-                self.put_at(cell, hash, (key, value));
-                Ok(None)
+        match self.look(hash, &key) {
+            Search::Found(cell) => return Ok(Some(self.set(cell, key, value))),
+            Search::Absent(cell) if 0 < self.left => {
+                self.put_seen(hash, cell, (key, value));
+                return Ok(None);
             }
-            Err(_) => Err(value),
+            _ => {}
         }
+        if let Some(cell) = self.find_in_all(hash, key) {
+            return Ok(Some(self.set(cell, key, value)));
+        }
+        self.add(hash, key, value)?;
+        Ok(None)
     }
 
     /// Puts a value at a key that has none. The value of a key that has one stays, and the other comes back, as it does with a refusal,
@@ -670,14 +658,19 @@ impl<K: Ord + Hash + Copy, V> Table<K, V> {
         ensures succeeds { 0 < self.old.spare → IsOk result }
     {
         let hash = hash_of(key);
-        match self.place_for(hash, &key) {
-            Ok(Place::Held(_)) => Ok(Some(value)),
-            Ok(Place::Free(cell)) => {
-                self.put_at(cell, hash, (key, value));
-                Ok(None)
+        match self.look(hash, &key) {
+            Search::Found(_) => return Ok(Some(value)),
+            Search::Absent(cell) if 0 < self.left => {
+                self.put_seen(hash, cell, (key, value));
+                return Ok(None);
             }
-            Err(_) => Err(value),
+            _ => {}
         }
+        if self.find_in_all(hash, key).is_some() {
+            return Ok(Some(value));
+        }
+        self.add(hash, key, value)?;
+        Ok(None)
     }
 
     /// Removes a key.

@@ -91,13 +91,33 @@ impl Tags {
         self.groups.len()
     }
 
+    /// The tag of a place of a group.
+    #[inline(always)]
+    pub(crate) fn at_in(&self, group: usize, place: usize) -> u8
+        requires group { (16 * group ≤ place) × (place < 16 * group + 16) }
+        requires place { place < length self.now }
+        ensures { result ≡ slice_index self.now place }
+    {
+        self.groups.get(group)[place - GROUP * group]
+    }
+
+    /// Gives a place of a group another tag.
+    #[inline(always)]
+    pub(crate) fn set_in(&mut self, group: usize, place: usize, tag: u8)
+        requires group { (16 * group ≤ place) × (place < 16 * group + 16) }
+        requires place { place < length self.old }
+        ensures { self.new ≡ slice_set self.old place tag }
+    {
+        self.groups.get_mut(group)[place - GROUP * group] = tag;
+    }
+
     /// The tag of a place.
     #[inline(always)]
     pub(crate) fn at(&self, place: usize) -> u8
         requires { place < length self.now }
         ensures { result ≡ slice_index self.now place }
     {
-        self.groups.get(place / GROUP)[place % GROUP]
+        self.at_in(place / GROUP, place)
     }
 
     /// Gives a place another tag.
@@ -106,7 +126,7 @@ impl Tags {
         requires { place < length self.old }
         ensures { self.new ≡ slice_set self.old place tag }
     {
-        self.groups.get_mut(place / GROUP)[place % GROUP] = tag;
+        self.set_in(place / GROUP, place, tag);
     }
 
     /// A place of a group that has a tag, if there is one.

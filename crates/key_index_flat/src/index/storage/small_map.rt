@@ -148,6 +148,19 @@ impl<K: Ord + Hash + Copy, V> Pairs<K, V> {
         place_from(&self.pairs, first_tagged(&self.tags, tag_of(*key)), key)
     }
 
+    /// The place of a key that has one.
+    #[inline(always)]
+    fn held_place_of(&self, key: &K) -> usize
+        requires { IsSome (value_of K.cmp self.now key.now) }
+        ensures { IsAt K.eq self.now result key.now }
+    {
+        let mut place = first_tagged(&self.tags, tag_of(*key));
+        while *key != self.pairs[place].0 {
+            place += 1;
+        }
+        place
+    }
+
     #[inline(always)]
     fn get(&self, key: &K) -> Option<&V>
         ensures { option_copied result ≡ value_of K.cmp self.now key.now }
@@ -186,8 +199,7 @@ impl<K: Ord + Hash + Copy, V> Pairs<K, V> {
         ensures sets { Sets K.cmp self.old self.new key.now (Some value) }
         ensures len { length self.new ≡ length self.old }
     {
-        let place = self.place_of(key).unwrap();
-        self.set(place, *key, value)
+        self.set(self.held_place_of(key), *key, value)
     }
 
     /// Puts in the value of a key that has none.
