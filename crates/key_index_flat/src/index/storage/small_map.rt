@@ -64,6 +64,23 @@ fn place_from<K: Hash + Copy, V>(pairs: &[(K, V)], start: usize, key: &K) -> Opt
     None
 }
 
+/// `place_from`, of a key that has a place, so that the program has no end to look for.
+#[inline(always)]
+fn held_place_from<K: Hash + Copy, V>(pairs: &[(K, V)], start: usize, key: &K) -> usize
+    requires before { NoneBefore K.eq pairs.now start key.now }
+    requires held { IsSome (lookup (K.eq key.now) pairs.now) }
+    ensures { IsAt K.eq pairs.now result key.now }
+{
+    let mut held = start;
+    while held < pairs.len() {
+        if *key == pairs[held].0 {
+            return held;
+        }
+        held += 1;
+    }
+    unreachable!()
+}
+
 /// Gives the pair at a place its tag, where it is one of the first sixteen.
 #[inline(always)]
 fn retag<K: Hash + Copy, V>(tags: &mut [u8; 16], pairs: &[(K, V)], place: usize)
@@ -154,11 +171,7 @@ impl<K: Ord + Hash + Copy, V> Pairs<K, V> {
         requires { IsSome (value_of K.cmp self.now key.now) }
         ensures { IsAt K.eq self.now result key.now }
     {
-        let mut place = first_tagged(&self.tags, tag_of(*key));
-        while *key != self.pairs[place].0 {
-            place += 1;
-        }
-        place
+        held_place_from(&self.pairs, first_tagged(&self.tags, tag_of(*key)), key)
     }
 
     #[inline(always)]
