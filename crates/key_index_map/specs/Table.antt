@@ -21,6 +21,7 @@ use Rattle.std.specs.List.{fold, count_by, IsDistinct}
 use Rattle.std.specs.Map.{keys_of, lookup}
 use Rattle.std.specs.Option.{IsSome}
 use Rattle.std.specs.Hash.FoldHasher as hasher
+use Rattle.key_index_map.specs.Tags.{IsIn}
 use Rattle.key_index_map.specs.declared.map.Contents.{Contents}
 use Rattle.key_index_map.specs.declared.map.Contents.TheVariants.{Nothing, Reserved, Filled}
 use Rattle.key_index_map.specs.declared.table.Search.{Search}
@@ -184,19 +185,18 @@ pub record IsFirstFree {K V : Type 0} (c : Cells K V) (home cell : ℕ) : Type 0
 
 -- an empty place of a group
 abbrev pub IsEmptyIn : {K V : Type 0} → Cells K V → ℕ → ℕ → Type 0
-IsEmptyIn c group place = (16 * group ≤ place) × (place < 16 * group + 16) × (slice_index c.tags place ≡ 0)
+IsEmptyIn c group place = IsIn group place × (slice_index c.tags place ≡ 0)
 
 -- what a look at the first group of a search tells
 abbrev pub Seen : {K V : Type 0} → (K → K → Bool) → Cells K V → ℕ → K → Search → Type 0
-Seen eq c hash k (Here cell) = IsAt eq c cell k × IsSome (lookup (eq k) (pairs c))
+Seen eq c hash k (Here cell) = IsAt eq c cell k × IsSome (lookup (eq k) (pairs c)) × IsIn (home_in c hash) cell
 Seen eq c hash k (Absent cell) =
     (lookup (eq k) (pairs c) ≡ None) × IsFirstFree c (home_in c hash) cell × IsEmptyIn c (home_in c hash) cell
 Seen eq c hash k Onward = ⊤
 
--- the tag that a cell without its pair has: 0 only where its group has another empty cell
+-- the tag that a cell of a group has without its pair: 0 only where the group has another empty cell
 abbrev pub IsTagWithout : {K V : Type 0} → Cells K V → ℕ → ℕ → Type 0
-IsTagWithout c cell tag =
-    (tag < 2) × (tag ≡ 0 → (group : ℕ) → 16 * group ≤ cell → cell < 16 * group + 16 → IsFull c.tags group → ⊥)
+IsTagWithout c group tag = (tag < 2) × (tag ≡ 0 → IsFull c.tags group → ⊥)
 
 -- new has w at the key k (None: nothing), and what old has at each other one
 pub record Updates {K V : Type 0} (eq : K → K → Bool) (old new : List (K × V)) (k : K) (w : Option V) : Type 0 where

@@ -4,6 +4,7 @@ ghost use Rattle.std.specs.Borrow.{sem};
 ghost use Rattle.std.specs.Iterator.{YieldsFirstRef, item_count};
 ghost use Rattle.std.specs.Map.{lookup};
 ghost use Rattle.std.specs.Option.{IsSome, option_copied, option_copied_mut};
+ghost use Rattle.key_index_map.specs.Tags.{IsIn};
 ghost use Rattle.key_index_map.specs.Table.{Cells, IsAt, IsEmptyIn, IsFreeIn, IsFirstFree, IsTagWithout, NoneIn, Found, Seen, Stopped, Updates, hash_of, tag_of, home, home_in, held, is_held, limit, pairs, with_value};
 
 use crate::room::{Block, Deed, free, release, row_of, try_allocate};
@@ -384,7 +385,7 @@ impl<K: Ord + Hash + Copy, V> Table<K, V> {
     /// Puts the pair of a key that has none in a free cell of a group that a search for it comes to. So much room is left then.
     #[inline(always)]
     fn put_at(&mut self, group: usize, cell: usize, tag: u8, left: usize, pair: (K, V))
-        requires group { (16 * group ≤ cell) × (cell < 16 * group + 16) }
+        requires group { IsIn group cell }
         requires free { IsFirstFree self.old (home_in self.old (hash_of (K.hash_input pair.0))) cell }
         requires tag { tag ≡ tag_of (hash_of (K.hash_input pair.0)) }
         requires left { left + (if nat_eq (slice_index self.old.tags cell) 0 then 1 else 0) ≡ self.old.spare }
@@ -451,13 +452,13 @@ impl<K: Ord + Hash + Copy, V> Table<K, V> {
         self.put_at(home, cell, tag_of(hash), self.left - 1, pair);
     }
 
-    /// The tag of a cell whose pair goes. No search comes to further groups than before.
+    /// The tag of a cell of a group, whose pair goes. No search comes to further groups than before.
     #[inline(always)]
-    fn tag_without(&self, cell: usize) -> u8
-        requires { cell < length self.now.items }
-        ensures { IsTagWithout self.now cell result }
+    fn tag_without(&self, group: usize) -> u8
+        requires { 16 * group + 16 ≤ length self.now.tags }
+        ensures { IsTagWithout self.now group result }
     {
-        match self.tags.place_with(cell / GROUP, EMPTY) {
+        match self.tags.place_with(group, EMPTY) {
             Some(_) => EMPTY,
             None => REMOVED,
         }
@@ -465,18 +466,19 @@ impl<K: Ord + Hash + Copy, V> Table<K, V> {
 
     /// Takes the pair out of the cell of a key.
     #[inline(always)]
-    pub(crate) fn take(&mut self, cell: usize, key: K) -> V
-        requires { IsAt K.eq self.old cell key }
+    fn take(&mut self, group: usize, cell: usize, key: K) -> V
+        requires group { IsIn group cell }
+        requires at { IsAt K.eq self.old cell key }
         ensures value { Some result ≡ lookup (K.eq key) (pairs self.old) }
         ensures updates { Updates K.eq (pairs self.old) (pairs self.new) key None }
         ensures len { length (pairs self.new) + 1 ≡ length (pairs self.old) }
         ensures room { self.old.spare ≤ self.new.spare }
     {
-        let tag = self.tag_without(cell);
+        let tag = self.tag_without(group);
         let left = left_without(tag, self.left);
         self.left = left;
         self.len -= 1;
-        self.tags.set(cell, tag);
+        self.tags.set_in(group, cell, tag);
         let (_, value) = self.row.take(cell);
         value
     }
@@ -673,6 +675,19 @@ impl<K: Ord + Hash + Copy, V> Table<K, V> {
         Ok(None)
     }
 
+    /// `remove`, by a search through all groups.
+    #[inline(never)]
+    fn remove_by_search(&mut self, hash: u64, key: K) -> Option<V>
+        requires { hash ≡ hash_of (K.hash_input key) }
+        ensures value { result ≡ lookup (K.eq key) (pairs self.old) }
+        ensures updates { Updates K.eq (pairs self.old) (pairs self.new) key None }
+        ensures len { length (pairs self.new) + (if is_some result then 1 else 0) ≡ length (pairs self.old) }
+        ensures room { self.old.spare ≤ self.new.spare }
+    {
+        let cell = self.find_in_all(hash, key)?;
+        Some(self.take(cell / GROUP, cell, key))
+    }
+
     /// Removes a key.
     #[inline(always)]
     pub fn remove(&mut self, key: &K) -> Option<V>
@@ -681,8 +696,15 @@ impl<K: Ord + Hash + Copy, V> Table<K, V> {
         ensures len { length (pairs self.new) + (if is_some result then 1 else 0) ≡ length (pairs self.old) }
         ensures room { self.old.spare ≤ self.new.spare }
     {
-        let cell = self.find(hash_of(*key), key)?;
-        Some(self.take(cell, *key))
+        let hash = hash_of(*key);
+        match self.look(hash, key) {
+            Search::Found(cell) => {
+                let home = home_of(hash, self.tags.groups());
+                Some(self.take(home, cell, *key))
+            }
+            Search::Absent(_) => None,
+            Search::Onward => self.remove_by_search(hash, *key),
+        }
     }
 
     /// The value of a key.

@@ -1,5 +1,6 @@
 //! The tags of a table's places, sixteen to a group, which are compared at once.
 ghost use Rattle.std.specs.Prelude.{◌≡◌, ◌≢◌, ℕ, ◌+◌, ◌*◌, ◌/◌, ◌<◌, ◌≤◌, IfOk, IfSome, IfNone, length, slice_index, slice_set};
+ghost use Rattle.key_index_map.specs.Tags.{IsIn};
 
 use crate::room::{Deed, release, row_of, try_allocate};
 use core::slots::Slots;
@@ -94,7 +95,7 @@ impl Tags {
     /// The tag of a place of a group.
     #[inline(always)]
     pub(crate) fn at_in(&self, group: usize, place: usize) -> u8
-        requires group { (16 * group ≤ place) × (place < 16 * group + 16) }
+        requires group { IsIn group place }
         requires place { place < length self.now }
         ensures { result ≡ slice_index self.now place }
     {
@@ -104,7 +105,7 @@ impl Tags {
     /// Gives a place of a group another tag.
     #[inline(always)]
     pub(crate) fn set_in(&mut self, group: usize, place: usize, tag: u8)
-        requires group { (16 * group ≤ place) × (place < 16 * group + 16) }
+        requires group { IsIn group place }
         requires place { place < length self.old }
         ensures { self.new ≡ slice_set self.old place tag }
     {

@@ -1,4 +1,5 @@
 use Rattle.std.proofs.Common.{ap, subst, sym, slice_index, ◌∙◌, arith}
+use Rattle.key_index_map.specs.Tags.{IsIn}
 use Rattle.key_index_map.specs.Table.{home, tag_of, IsEmptyIn, IsFirstFree}
 use Rattle.key_index_map.proofs.Groups.{in_so_many, absent_at_home, begins}
 use Rattle.key_index_map.proofs.Free.{empty_home}
@@ -13,7 +14,8 @@ returns-then-eq g c =
     let stands =
     stands_at are c.args.self.now c.self.view_is cell c.args.key.now c.get.result.now c.get.ensures (sym c.eq.ensures ∙ c.if-eq.true)
     (omega (arith, found.1, c.home_of-home.ensures.within)) (omega (arith, found.2, c.tag_of.ensures)) in
-    (stands, some_value g.met.K.Eq.laws are c.args.self.now c.self.view_is c.in-Some.first c.args.key.now stands)
+    let shown = c.home_of-home.ensures.home ∙ sym (begins are c.self.inside.left c.args.self.now c.self.view_is c.args.hash) in
+    (stands, some_value g.met.K.Eq.laws are c.args.self.now c.self.view_is c.in-Some.first c.args.key.now stands, subst (λ n. IsIn n cell) shown (found.0, found.1))
 
 pub returns-in-Some-place_with : goal.returns-in-Some-place_with
 returns-in-Some-place_with g c =
@@ -27,5 +29,5 @@ returns-in-Some-place_with g c =
       subst (λ n. IsFirstFree c.args.self.now n cell) shown
           (empty_home are c.self.inside.left c.args.self.now c.self.view_is c.home_of-home.result cell c.home_of-home.ensures.within found.0 found.1
           (ap (λ x. slice_index x.tags cell) (sym c.self.view_is) ∙ found.2)),
-      subst (λ n. IsEmptyIn c.args.self.now n cell) shown (found.0, found.1, ap (λ x. slice_index x.tags cell) (sym c.self.view_is) ∙ found.2),
+      subst (λ n. IsEmptyIn c.args.self.now n cell) shown ((found.0, found.1), ap (λ x. slice_index x.tags cell) (sym c.self.view_is) ∙ found.2),
     )
