@@ -1,4 +1,4 @@
-use Rattle.std.proofs.Common.{◌≡◌, ap, sym, ◌∙◌, arith}
+use Rattle.std.proofs.Common.{ap, sym, ◌∙◌, arith}
 use Rattle.core.specs.Mem.Slots.{slots_items, slots_filled}
 use Rattle.key_index_map.specs.Table.{hash_of, home_in}
 use Rattle.key_index_map.proofs.Groups.{begins}

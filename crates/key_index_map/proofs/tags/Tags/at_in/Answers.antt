@@ -1,4 +1,4 @@
-use Rattle.std.proofs.Common.{◌*◌, ◌+◌, ◌-◌, ◌<◌, length, sym, arith}
+use Rattle.std.proofs.Common.{◌*◌, ◌-◌, ◌<◌, length, sym, arith}
 use Rattle.core.specs.Mem.Slots.{slots_items, slots_filled}
 use Rattle.key_index_map.proofs.Joined.{shown_length, shown_in}
 use Rattle.key_index_map.proofs.tags.Tags.at_in.Goals as goal

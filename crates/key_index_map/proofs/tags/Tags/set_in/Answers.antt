@@ -1,4 +1,4 @@
-use Rattle.std.proofs.Common.{◌*◌, ◌+◌, ◌-◌, ◌<◌, length, arith}
+use Rattle.std.proofs.Common.{◌*◌, ◌-◌, ◌<◌, length, arith}
 use Rattle.core.specs.Mem.Slots.{slots_items, slots_filled}
 use Rattle.key_index_map.proofs.Joined.{shown_length, shown_set, still_groups}
 use Rattle.key_index_map.proofs.tags.Tags.set_in.Goals as goal

@@ -1,4 +1,4 @@
-use Rattle.std.proofs.Common.{[], ◌∷◌, Bor, map, sym, subst, ◌∙◌}
+use Rattle.std.proofs.Common.{[], ◌∷◌, Bor, map, sym, subst}
 use Rattle.std.proofs.lemmas.Iterator.Consumers.{YieldsList-end, YieldsList-from_first}
 use Rattle.std.proofs.lemmas.List.{map-append}
 use Rattle.std.specs.Fn.{CalledAt}
