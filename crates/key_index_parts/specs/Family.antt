@@ -1,14 +1,11 @@
 -- A family of buckets by what each holds, listed by their numbers. A slot is a bucket's number and a key of that bucket.
 --     bucket_at                     what the bucket of a number holds, and nothing past the last one
---     list_in                     the list at a slot
---     with_list_in, with_edit_in  with this list at a slot, and with what f makes of the list there
 --     filled_buckets                of each bucket, whether it holds anything
 --     held_at                     the list at a slot of the whole
 --     KeepsBuckets                  other buckets are as many, and a map of lists that are not empty
 --     IsIndex, IsRange            buckets for all partitions of p bytes, and for some from a first one on
---     Family                      what each bucket holds, and how it stands
---     AreCounted                  each bucket stands with as many values as it holds
---     stands, stays_spilled       how a bucket stands, and whether a spilled one that is left with this content is spilled still
+--     stands, standing_of_all     how a bucket stands, and how each of them does
+--     stays_spilled               whether a spilled one that is left with this content is spilled still
 --     Grows                       what an insertion that moved so many values to a tree leaves of a bucket that was spilled or not
 --     inline_in                   how many values of a bucket a spill would move
 --     Kept, IsCounted             what the storage of an index keeps, and its counts
@@ -22,11 +19,11 @@
 --     Edits, Prunes               another view has what f makes of the list at a slot, and with n values more taken out
 --     view_from                  the same of a range's storage, whose buckets are numbered from `first`
 --     with_items_from             with other items in the place of those from a number on
---     with_buckets_from, AreFree    the same of buckets; so many from there hold nothing
-use Rattle.std.specs.Prelude.{◌≡◌, ◌⊎◌, ℕ, ◌+◌, ◌-◌, ◌^◌, ◌<◌, ◌≤◌, Bool, not, ◌&&◌, if◌then◌else◌, nat_lt, List, [], ◌++◌, length, map, take, drop, All, slice_index_or, slice_set}
+--     AreFree                     so many buckets from there hold nothing
+use Rattle.std.specs.Prelude.{◌≡◌, ◌⊎◌, ℕ, ◌+◌, ◌-◌, ◌^◌, ◌<◌, ◌≤◌, Bool, not, ◌&&◌, if◌then◌else◌, nat_lt, List, [], ◌++◌, length, map, take, drop, All, slice_index_or}
 use Rattle.std.specs.declared.cmp.Ordering.{Ordering}
 use Rattle.key_index_flat.specs.Retention.{AsksBehind}
-use Rattle.key_index_flat.specs.Content.{Content, is_filled, IsLawful, list_at, with_list, item_count, key_count}
+use Rattle.key_index_flat.specs.Content.{Content, is_filled, IsLawful, list_at, item_count, key_count}
 use Rattle.key_index_flat.specs.View.{View, with_edit, with_pruned}
 use Rattle.key_index_parts.specs.Gathered.{gathered, gathered_from, pair_cmp}
 use Rattle.key_index_parts.specs.Joined.{is_between}
@@ -41,9 +38,6 @@ module _ {K V : Type 0} where
   abbrev pub bucket_at : List (Content K V) → ℕ → Content K V
   bucket_at buckets n = slice_index_or buckets n []
 
-  abbrev pub with_buckets_from : List (Content K V) → ℕ → List (Content K V) → List (Content K V)
-  with_buckets_from buckets n others = with_items_from buckets n others
-
   abbrev pub AreFree : List (Content K V) → ℕ → ℕ → Type 0
   AreFree buckets first count = (n : ℕ) → first ≤ n → n < first + count → bucket_at buckets n ≡ []
 
@@ -51,15 +45,6 @@ module _ {K V : Type 0} where
   filled_buckets buckets = map is_filled buckets
 
 module _ {K V : Type 0} (cmp : K → K → Ordering) where
-  abbrev pub list_in : List (Content K V) → ℕ × K → List V
-  list_in buckets slot = list_at cmp (bucket_at buckets slot.0) slot.1
-
-  abbrev pub with_list_in : List (Content K V) → ℕ × K → List V → List (Content K V)
-  with_list_in buckets slot l = slice_set buckets slot.0 (with_list cmp (bucket_at buckets slot.0) slot.1 l)
-
-  abbrev pub with_edit_in : List (Content K V) → ℕ × K → (List V → List V) → List (Content K V)
-  with_edit_in buckets slot f = with_list_in buckets slot (f (list_in buckets slot))
-
   abbrev pub held_at : List (Content K V) → ℕ × K → List V
   held_at buckets slot = list_at (pair_cmp cmp) (gathered buckets) slot
 
@@ -79,16 +64,12 @@ module _ {K V : Type 0} (cmp : K → K → Ordering) where
     pub lawful : IsLawful (pair_cmp cmp) (gathered buckets)
     pub within : first + length buckets ≤ partition_count p
 
-pub record Family (K V : Type 0) : Type 0 where
-  pub contents : List (Content K V)
-  pub standing : List Standing
-
 module _ {K V : Type 0} where
-  abbrev pub AreCounted : List (Content K V) → List Standing → Type 0
-  AreCounted contents standing = map (λ p. p.entries) standing ≡ map (λ c. item_count c) contents
-
   abbrev pub stands : Content K V → Bool → Standing
   stands c spilled = record { entries = item_count c; spilled = spilled }
+
+  abbrev pub standing_of_all : {X : Type 0} → (X → Content K V) → (X → Bool) → List X → List Standing
+  standing_of_all content spilled buckets = map (λ x. stands (content x) (spilled x)) buckets
 
   abbrev pub stays_spilled : Bool → Content K V → Bool
   stays_spilled spilled c = spilled && nat_lt 0 (item_count c)

@@ -11,15 +11,14 @@
 --     with_left             the partitions after that
 --     due_in                how many values of a bucket are due to spill, of a kind that spills at so many values or doesn't
 --     spilled_by            a bucket once so many of its values were moved to a tree
---     Spills, SpillsIn      it spills where it is due, and so one of the buckets; what that moved
---     LeavesIn, GrowsIn     what a call that spills none leaves of the buckets, and an insertion, with how many values that moved
+--     Spills                it spills where it is due, and what that moved
 --     with_entries          `with_left`, of the whole
 --     with_spill            a partition's values moved into a tree, and counted
 --     spilled_if_reached    that, where it has reached the threshold
 --     after_call            a call by key that leaves m values in a partition
 --     IsBelow               a partition has fewer values in arrays than the threshold
 --     Settles, Refuses      what an accepted and a refused call by key leave, of an index of so many values
---     is_small              a partition is spilled with fewer than half as many values as the threshold (is_small_by: as a limit)
+--     is_small              a partition is spilled with fewer than half as many values as the threshold
 --     with_return           its values moved back to arrays, and counted
 --     MovesBack, Resettles  that, of a small one, where there is memory for it; what a call by key leaves that does it last
 --     Leaves, LeavesSome    what a cursor edit leaves, in a partition, and in some partition
@@ -77,26 +76,12 @@ spilled_by moved p = record { entries = p.entries; spilled = nat_lt 0 moved || p
 abbrev pub Spills : Bool → ℕ → Standing → ℕ → Standing → Type 0
 Spills spills limit old moved new = (moved ≡ due_in spills limit old) × (new ≡ spilled_by moved old)
 
-abbrev pub SpillsIn : Bool → ℕ → List Standing → ℕ → ℕ → List Standing → Type 0
-SpillsIn spills limit old n moved new =
-    (moved ≡ due_in spills limit (standing_in old n)) × (new ≡ slice_set old n (spilled_by moved (standing_in old n)))
-
-abbrev pub LeavesIn : List Standing → ℕ → List Standing → Type 0
-LeavesIn old n new = new ≡ with_left old n (standing_in new n).entries
-
--- an insertion: the bucket is left with more, or with fewer where it asks a closure, and spills where that is due
-abbrev pub GrowsIn : Bool → ℕ → List Standing → ℕ → ℕ → List Standing → Type 0
-GrowsIn spills limit old n moved new = SpillsIn spills limit (with_left old n (standing_in new n).entries) n moved new
-
 abbrev pub with_entries : Standings → ℕ → ℕ → Standings
 with_entries s n m = record s { buckets = with_left s.buckets n m }
 
-abbrev pub with_spilled : List Standing → ℕ → List Standing
-with_spilled buckets n = slice_set buckets n (record { entries = (standing_in buckets n).entries; spilled = true })
-
 abbrev pub with_spill : Standings → ℕ → Standings
 with_spill s n = record s {
-  buckets = with_spilled s.buckets n;
+  buckets = slice_set s.buckets n (record { entries = entries_at s n; spilled = true });
   spills = pruned_after s.spills 1;
   moved = pruned_after s.moved (entries_at s n);
 }
@@ -114,17 +99,14 @@ IsBelow s n = inline_len s n < s.threshold
 abbrev pub Settles : Standings → ℕ → Standings → Type 0
 Settles old n new = (new ≡ after_call old n (entries_at new n)) × IsBelow new n
 
-abbrev pub is_small_by : ℕ → Standing → Bool
-is_small_by limit p = p.spilled && nat_lt (2 * p.entries) limit
-
 abbrev pub is_small : Standings → ℕ → Bool
-is_small s n = is_small_by s.threshold (standing_at s n)
-
-abbrev pub with_inline : List Standing → ℕ → List Standing
-with_inline buckets n = slice_set buckets n (record { entries = (standing_in buckets n).entries; spilled = false })
+is_small s n = (standing_at s n).spilled && nat_lt (2 * entries_at s n) s.threshold
 
 abbrev pub with_return : Standings → ℕ → Standings
-with_return s n = record s { buckets = with_inline s.buckets n; moved = pruned_after s.moved (entries_at s n) }
+with_return s n = record s {
+  buckets = slice_set s.buckets n (record { entries = entries_at s n; spilled = false });
+  moved = pruned_after s.moved (entries_at s n);
+}
 
 -- where the memory for its arrays is refused, it stays as it is
 abbrev pub MovesBack : Standings → ℕ → Standings → Type 0

@@ -1,5 +1,4 @@
 -- On a family of buckets, by what each holds.
---     held_within                       a slot that has a value is of some bucket
 --     is_filled-with_list, filled_held  what holds a value is filled
 --     filled_positive                   a list that is filled has a value
 --     IsBucket, bucket_taken            a bucket that was taken from its place
@@ -9,23 +8,24 @@
 --     all_alike, none_filled            buckets that are all alike, and that hold nothing
 --     flags_edited, flags_stay          which buckets are filled after such a call
 --     flags_emptied, flags_filled       and where a bit is written only if it changes
+--     flag_within                       there is a bit for it
 --     filled_before                     what is filled with a list no longer than it was, was filled
---     standing_in-map, within_mapped      how a bucket stands is what the family tells of it
---     LeavesIn-set, GrowsIn-set         how the buckets stand after a call that says it of one
---     spills_to                         how they stand where one spilled if it was due
---     family_stays                      the family after a call that changed nothing
---     family_back                       how the buckets stand after one was moved back
---     none_refused, refused_so          what is said of a refusal, of an outcome that is known
---     on_refusal                        and of any outcome
+--     standing_in-map, standing_new     how a bucket stands is what the family tells of it, also after an edit
+--     within_mapped                     it is among those that stand
+--     standing_left, standing_grown     how the buckets stand after a call that says it of one
+--     kept_stays                        what is kept after a call that changed nothing of a bucket
+--     standing_stays, standing_moved    how the buckets stand then, and after its values were moved
+--     inline_told, spilled_told         how many values a spill would move, and a return
+--     filled_told                       a spilled one has values
 --     spills_so                         a bucket of which a spill would move values is of a kind that spills
---     due_told, due_none                how many values are due to spill, by how many a spill would move
---     counted_buckets                   each bucket stands with as many values as it holds
+--     due_told, due_none                whether a bucket is due to spill, by how many values a spill would move
+--     small_told                        whether it is small, by how many a return would move
 --     left_fewer                        no more values of a bucket once its list became no longer
-use Rattle.std.proofs.Common.{◌≡◌, ℕ, zero, suc, ◌<◌, Bool, true, false, not, T, nat_le, List, [], ◌∷◌, ◌++◌, map, insert, take, drop, replicate, All, set, length, refl, sym, ap, subst, ◌∙◌, ◌≤◌, ◌&&◌, ◌||◌, nat_lt, arith, lt_of_not-le, slice_index_or}
-use Rattle.std.proofs.lemmas.Bool.{le-leb, lt-leb}
+use Rattle.std.proofs.Common.{◌≡◌, ℕ, zero, suc, ◌-◌, ◌*◌, ◌<◌, Bool, true, false, not, T, nat_le, List, [], ◌∷◌, ◌++◌, map, insert, take, drop, replicate, All, set, length, refl, sym, ap, subst, ◌∙◌, ◌≤◌, ◌&&◌, ◌||◌, nat_lt, arith, lt_of_not-le, slice_index_or}
+use Rattle.std.proofs.lemmas.Bool.{le-leb, lt-leb, lt-ltb}
 use Rattle.std.proofs.lemmas.List.{get_or-map, get_or-set_same, set-set, map-set, get_or_past, length-map}
 use Rattle.std.specs.Cmp.{IsTotalOrder}
-use Rattle.std.specs.Prelude.{if◌then◌else◌, Result, Ok, Err, OnErr}
+use Rattle.std.specs.Prelude.{IsTrue, if◌then◌else◌}
 use Rattle.std.proofs.lemmas.List.Elements.{All-head, All-tail}
 use Rattle.std.proofs.Math.Seq.{map-set_same}
 use Rattle.std.specs.declared.cmp.Ordering.{Ordering}
@@ -35,8 +35,9 @@ use Rattle.std.specs.FinMap.Entries.{by_order}
 use Rattle.key_index_flat.specs.Content.{Content, IsLawful, is_filled, item_count, list_at, with_list}
 use Rattle.key_index_flat.specs.View.{put_value}
 use Rattle.key_index_flat.proofs.content.ContentLemmas.{item_count-with_list}
-use Rattle.key_index_parts.specs.Family.{AreCounted, inline_in, Family, Grows, stands, stays_spilled, bucket_at, list_in, with_list_in, filled_buckets}
-use Rattle.key_index_parts.specs.Standing.{Standing, LeavesIn, GrowsIn, SpillsIn, due_in, left_with, spilled_by, standing_in, with_inline, with_left}
+use Rattle.key_index_parts.specs.Family.{Kept, inline_in, Grows, stands, stays_spilled, bucket_at, filled_buckets}
+use Rattle.key_index_parts.specs.Standing.{Standing, due_in, left_with, spilled_by, standing_in, standings_of, with_left}
+use Rattle.key_index_parts.proofs.standing.StandingLemmas.{GrowsIn}
 
 some_among : {V : Type 0} (xs ys : List V) (v : V) → 0 < length (xs ++ v ∷ ys)
 some_among [] ys v = omega arith
@@ -55,11 +56,6 @@ filled_positive [] e = absurd (subst T (sym e) tt)
 filled_positive (v ∷ vs) e = omega arith
 
 module _ {K V : Type 0} (cmp : K → K → Ordering) where
-  pub held_within : (buckets : List (Content K V)) (slot : ℕ × K) (place : ℕ) → place < length (list_in cmp buckets slot) → slot.0 < length buckets
-  held_within buckets slot place h = lt_of_not-le (λ past.
-      let none : length (list_in cmp buckets slot) ≡ 0 = ap (λ c. length (list_at cmp c slot.1)) (get_or_past buckets slot.0 [] past) in
-      omega (arith, h, none))
-
   pub filled_with : (c : Content K V) (k : K) (v : V) (vs : List V) → is_filled (with_list cmp c k (v ∷ vs)) ≡ true
   filled_with [] k v vs = refl
   filled_with (e ∷ es) k v vs =
@@ -106,13 +102,11 @@ pub bucket_seen : {X K V : Type 0} (f : X → Content K V) (xs : List X) {bucket
 bucket_seen f xs {p = p} e h at = bucket_told (bucket_taken f xs e h at) ∙ ap (λ cs. bucket_at cs p) e
 
 module _ {X K V : Type 0} (cmp : K → K → Ordering) {f : X → Content K V} {xs : List X} {p : ℕ} {x : X} (bucket : IsBucket f xs p x) where
-  pub list_told : (k : K) → list_at cmp (f x) k ≡ list_in cmp (map f xs) (p, k)
+  pub list_told : (k : K) → list_at cmp (f x) k ≡ list_at cmp (bucket_at (map f xs) p) k
   list_told k = ap (λ c. list_at cmp c k) (bucket_told bucket)
 
-  pub bucket_edited : (y : X) (k : K) (L : List V → List V) → f y ≡ with_list cmp (f x) k (L (list_at cmp (f x) k))
-      → map f (set xs p y) ≡ with_list_in cmp (map f xs) (p, k) (L (list_in cmp (map f xs) (p, k)))
-  bucket_edited y k L e =
-      map-set f xs p y ∙ ap (λ c. set (map f xs) p c) (e ∙ ap (λ c. with_list cmp c k (L (list_at cmp c k))) (bucket_told bucket))
+  pub bucket_edited : (y : X) (k : K) (l : List V) → f y ≡ with_list cmp (f x) k l → map f (set xs p y) ≡ set (map f xs) p (with_list cmp (bucket_at (map f xs) p) k l)
+  bucket_edited y k l e = map-set f xs p y ∙ ap (λ c. set (map f xs) p c) (e ∙ ap (λ c. with_list cmp c k l) (bucket_told bucket))
 
   pub bucket_stays : (y : X) → f y ≡ f x → map f (set xs p y) ≡ map f xs
   bucket_stays y e = map-set_same f xs p y x (e ∙ ap f bucket.at)
@@ -124,6 +118,14 @@ module _ {X K V : Type 0} (cmp : K → K → Ordering) {f : X → Content K V} {
   pub flags_stay : (flags : List Bool) (y : X) → flags ≡ filled_buckets (map f xs) → is_filled (f y) ≡ is_filled (f x) → flags ≡ filled_buckets (map f (set xs p y))
   flags_stay flags y told e =
       told ∙ sym (ap (λ cs. filled_buckets cs) (map-set f xs p y) ∙ map-set_same is_filled (map f xs) p (f y) (f x) (e ∙ ap is_filled (ap f bucket.at ∙ sym (get_or-map f xs p x (f x) bucket.inside))))
+
+  pub flag_within : (flags : List Bool) → flags ≡ filled_buckets (map f xs) → p < length flags
+  flag_within flags told =
+      let sized = ap (λ l. length l) told in
+      let as_many = length-map (map f xs) is_filled in
+      let same = length-map xs f in
+      let inside = bucket.inside in
+      omega (arith, sized, as_many, same, inside)
 
   -- where a bit is written only if it changes
   pub flags_emptied : (flags : List Bool) (y : X) (b : Bool) → flags ≡ filled_buckets (map f xs) → (is_filled (f y) ≡ true → is_filled (f x) ≡ true) → b ≡ not (is_filled (f y))
@@ -169,13 +171,13 @@ module _ {X K V : Type 0} {f : X → Content K V} {xs : List X} {p : ℕ} {x : X
   map-set_standing y after e =
       map-set how xs p y ∙ ap (λ z. set (map how xs) p z) (e ∙ (λ i. after (standing_in-map i) (sym (standing_new y) i).entries))
 
-  pub LeavesIn-set : (y : X) → s y ≡ stays_spilled (s x) (f y) → LeavesIn (map how xs) p (map how (set xs p y))
-  LeavesIn-set y e = map-set_standing y left_with (ap (λ b. stands (f y) b) e)
+  pub standing_left : (y : X) → s y ≡ stays_spilled (s x) (f y) → map how (set xs p y) ≡ with_left (map how xs) p (standing_in (map how (set xs p y)) p).entries
+  standing_left y e = map-set_standing y left_with (ap (λ b. stands (f y) b) e)
 
   -- a bucket that y stands for, once it was left with what y holds, and so many values of it moved
-  pub GrowsIn-set : (spills : Bool) (limit moved : ℕ) (y : X) → Grows spills limit (s x) moved (f y) (s y)
+  pub standing_grown : (spills : Bool) (limit moved : ℕ) (y : X) → Grows spills limit (s x) moved (f y) (s y)
       → GrowsIn spills limit (map how xs) p moved (map how (set xs p y))
-  GrowsIn-set spills limit moved y told =
+  standing_grown spills limit moved y told =
       let m = (standing_in (map how (set xs p y)) p).entries in
       let left = left_with (standing_in (map how xs) p) m in
       let at : stands (f y) (stays_spilled (s x) (f y)) ≡ standing_in (with_left (map how xs) p m) p =
@@ -185,25 +187,36 @@ module _ {X K V : Type 0} {f : X → Content K V} {xs : List X} {p : ℕ} {x : X
         map-set how xs p y ∙ ap (λ z. set (map how xs) p z) (told.1 ∙ ap (λ z. spilled_by moved z) at) ∙ sym (set-set (map how xs) p left _),
       )
 
-  pub spills_to : (spills : Bool) (limit moved : ℕ) (y : X) → f y ≡ f x → moved ≡ due_in spills limit (how x) → s y ≡ (nat_lt 0 moved || s x)
-      → SpillsIn spills limit (map how xs) p moved (map how (set xs p y))
-  spills_to spills limit moved y e due so = (
-    due ∙ ap (λ z. due_in spills limit z) standing_in-map,
-    map-set how xs p y ∙ ap (λ z. set (map how xs) p z) ((λ i. stands (e i) (so i)) ∙ ap (λ z. spilled_by moved z) standing_in-map),
-  )
+  pub standing_stays : (y : X) → f y ≡ f x → s y ≡ s x → map how (set xs p y) ≡ map how xs
+  standing_stays y e b = map-set_same how xs p y x ((λ j. stands (e j) (b j)) ∙ ap how bucket.at)
 
-  pub family_stays : (y : X) → f y ≡ f x → s y ≡ s x
-      → ◌≡◌ {A = Family K V} (record { contents = map f (set xs p y); standing = map how (set xs p y) })
-      (record { contents = map f xs; standing = map how xs })
-  family_stays y e b = λ i. record {
-    contents = map-set_same f xs p y x (e ∙ ap f bucket.at) i;
-    standing = map-set_same how xs p y x ((λ j. stands (e j) (b j)) ∙ ap how bucket.at) i;
+  pub kept_stays : {T : Type 0} {t : T} {threshold pruned spills moved : ℕ} (y : X) → f y ≡ f x → s y ≡ s x
+      → ◌≡◌ {A = Kept T K V} (record { translator = t; buckets = map f (set xs p y); pruned = pruned; standings = standings_of threshold (map how (set xs p y)) spills moved })
+      (record { translator = t; buckets = map f xs; pruned = pruned; standings = standings_of threshold (map how xs) spills moved })
+  kept_stays {t = t} {threshold = threshold} {pruned = pruned} {spills = spills} {moved = moved} y e b = λ i. record {
+    translator = t;
+    buckets = map-set_same f xs p y x (e ∙ ap f bucket.at) i;
+    pruned = pruned;
+    standings = standings_of threshold (standing_stays y e b i) spills moved;
   }
 
-  pub family_back : (y : X) → f y ≡ f x → s y ≡ false → map how (set xs p y) ≡ with_inline (map how xs) p
-  family_back y e b =
+  -- its values were moved, to a tree or back
+  pub standing_moved : (b : Bool) (y : X) → f y ≡ f x → s y ≡ b
+      → map how (set xs p y) ≡ set (map how xs) p (record { entries = (standing_in (map how xs) p).entries; spilled = b })
+  standing_moved b y e is =
       map-set how xs p y
-      ∙ ap (λ z. set (map how xs) p z) ((λ i. stands (e i) (b i)) ∙ ap (λ z. record { entries = z.entries; spilled = false }) standing_in-map)
+      ∙ ap (λ z. set (map how xs) p z) ((λ i. stands (e i) (is i)) ∙ ap (λ z. record { entries = z.entries; spilled = b }) standing_in-map)
+
+  -- how many values a spill would move, and a return
+  pub inline_told : (spills : Bool) {n : ℕ} → n ≡ inline_in spills (s x) (f x)
+      → let z = standing_in (map how xs) p in n ≡ (if spills && not z.spilled then z.entries else 0)
+  inline_told spills e = e ∙ ap (λ z. if spills && not z.spilled then z.entries else 0) standing_in-map
+
+  pub spilled_told : {n : ℕ} → n ≡ (if s x then item_count (f x) else 0) → let z = standing_in (map how xs) p in n ≡ (if z.spilled then z.entries else 0)
+  spilled_told e = e ∙ ap (λ z. if z.spilled then z.entries else 0) standing_in-map
+
+  pub filled_told : (IsTrue (s x) → 0 < item_count (f x)) → let z = standing_in (map how xs) p in IsTrue z.spilled → 0 < z.entries
+  filled_told some = subst (λ z. IsTrue z.spilled → 0 < z.entries) standing_in-map some
 
   pub left_fewer : {cmp : K → K → Ordering} (o : IsTotalOrder cmp) → IsLawful cmp (f x) → (y : X) (k : K) (l : List V)
       → f y ≡ with_list cmp (f x) k l → length l ≤ length (list_at cmp (f x) k)
@@ -215,37 +228,25 @@ module _ {X K V : Type 0} {f : X → Content K V} {xs : List X} {p : ℕ} {x : X
       let now = ap (λ z. z.entries) (standing_new y) in
       omega (arith, sum, is, was, now, few)
 
--- what an outcome says where it is known
-pub none_refused : {A E : Type 0} (Q : Type 0) (r : Result A E) (x : A) → r ≡ Ok x → OnErr r Q
-none_refused Q r x e = subst (λ s. OnErr s Q) (sym e) tt
-
-pub on_refusal : {A E Q : Type 0} (r : Result A E) → Q → OnErr r Q
-on_refusal (Ok x) q = tt
-on_refusal (Err x) q = q
-
-pub refused_so : {A E Q : Type 0} (r : Result A E) (x : E) → r ≡ Err x → Q → OnErr r Q
-refused_so {Q = Q} r x e q = subst (λ s. OnErr s Q) (sym e) q
-
 pub spills_so : (spills spilled : Bool) {K V : Type 0} (c : Content K V) {n : ℕ} → n ≡ inline_in spills spilled c → 0 < n → spills ≡ true
 spills_so true spilled c is some = refl
 spills_so false spilled c is some = absurd (omega (arith, is, some))
 
--- how many values are due to spill, by how many a spill would move
+-- whether a bucket is due to spill, by how many values a spill would move
 pub due_told : (spills spilled : Bool) (limit entries values : ℕ) → values ≡ (if spills && not spilled then entries else 0) → limit ≤ values → 1 ≤ limit
-    → values ≡ (if spills && (not spilled && nat_le limit entries) then entries else 0)
-due_told true false limit entries values is many least =
-    is ∙ ap (λ b. if b then entries else 0) (sym (le-leb limit entries (omega (arith, is, many))))
+    → ((spills && (not spilled && nat_le limit entries)) ≡ true) × (values ≡ entries)
+due_told true false limit entries values is many least = (le-leb limit entries (omega (arith, is, many)), is)
 due_told true true limit entries values is many least = absurd (omega (arith, is, many, least))
 due_told false spilled limit entries values is many least = absurd (omega (arith, is, many, least))
 
 pub due_none : (spills spilled : Bool) (limit entries values : ℕ) → values ≡ (if spills && not spilled then entries else 0) → values < limit
-    → 0 ≡ (if spills && (not spilled && nat_le limit entries) then entries else 0)
-due_none true false limit entries values is few =
-    ap (λ b. if b then entries else 0) (sym (lt-leb limit entries (omega (arith, is, few))))
+    → (spills && (not spilled && nat_le limit entries)) ≡ false
+due_none true false limit entries values is few = lt-leb limit entries (omega (arith, is, few))
 due_none true true limit entries values is few = refl
 due_none false spilled limit entries values is few = refl
 
--- each bucket stands with as many values as it holds
-pub counted_buckets : {X K V : Type 0} (f : X → Content K V) (s : X → Bool) (xs : List X) → AreCounted (map f xs) (map (λ x. stands (f x) (s x)) xs)
-counted_buckets f s [] = refl
-counted_buckets f s (x ∷ xs) = ap (λ l. item_count (f x) ∷ l) (counted_buckets f s xs)
+-- whether it is small, by how many values a return would move
+pub small_told : (spilled : Bool) (limit entries values : ℕ) → values ≡ (if spilled then entries else 0) → 0 < values → values < limit - values
+    → ((spilled && nat_lt (2 * entries) limit) ≡ true) × (values ≡ entries)
+small_told true limit entries values is some few = (lt-ltb (2 * entries) limit (omega (arith, is, few)), is)
+small_told false limit entries values is some few = absurd (omega (arith, is, some))

@@ -18,7 +18,7 @@ use Rattle.key_index_flat.specs.declared.index.Fault.TheVariants.{Memory, Full}
 use Rattle.key_index_flat.specs.Content.{Content, is_filled, IsLawful, list_at, item_count, key_count}
 use Rattle.key_index_flat.proofs.content.ContentLemmas.{same_content}
 use Rattle.key_index_flat.specs.View.{pruned_after}
-use Rattle.key_index_parts.specs.Family.{Kept, IsCounted, KeepsBuckets, AreFree, bucket_at, with_items_from, with_buckets_from, filled_buckets, view_of, view_from}
+use Rattle.key_index_parts.specs.Family.{Kept, IsCounted, KeepsBuckets, AreFree, bucket_at, with_items_from, filled_buckets, view_of, view_from}
 use Rattle.key_index_parts.specs.Bitmap.{IsFirst, flag_at}
 use Rattle.key_index_parts.specs.Standing.{new_standings}
 use Rattle.key_index_parts.specs.Gathered.{pair_cmp, gathered_from, gathered}
@@ -112,7 +112,7 @@ module _ {K V : Type 0} {cmp : K → K → Ordering} (o : IsTotalOrder cmp) (exa
       (start : ℕ) (fits : start + length other ≤ length own)
       (free : IsFree (pair_cmp cmp) (λ slot. is_between start (start + length other) slot.0) (gathered own)) where
     abbrev new : List (Content K V)
-    new = with_buckets_from own start other
+    new = with_items_from own start other
 
     abbrev behind : List (Content K V)
     behind = drop (start + length other) own
@@ -120,8 +120,8 @@ module _ {K V : Type 0} {cmp : K → K → Ordering} (o : IsTotalOrder cmp) (exa
     front_size : length (take start own) ≡ start
     front_size = length-take-le start own (omega (arith, fits))
 
-    length-with_buckets_from : length (with_buckets_from own start other) ≡ length own
-    length-with_buckets_from =
+    length-with_items_from : length (with_items_from own start other) ≡ length own
+    length-with_items_from =
         let front = front_size in
         let all = length-append (take start own) (other ++ behind) in
         let rest = length-append other behind in
@@ -132,8 +132,8 @@ module _ {K V : Type 0} {cmp : K → K → Ordering} (o : IsTotalOrder cmp) (exa
         All-append (IsLawful cmp) (take start own) (other ++ behind) (All-take (IsLawful cmp) start own h.each)
         (All-append (IsLawful cmp) other behind k.each (All-drop (IsLawful cmp) (start + length other) own h.each))
 
-    IsLawful-with_buckets_from : IsLawful (pair_cmp cmp) (gathered (with_buckets_from own start other))
-    IsLawful-with_buckets_from = IsLawful-gathered cmp new each_new
+    IsLawful-with_items_from : IsLawful (pair_cmp cmp) (gathered (with_items_from own start other))
+    IsLawful-with_items_from = IsLawful-gathered cmp new each_new
 
     lawful_own : IsLawful (pair_cmp cmp) (gathered own)
     lawful_own = IsLawful-gathered cmp own h.each
@@ -181,9 +181,9 @@ module _ {K V : Type 0} {cmp : K → K → Ordering} (o : IsTotalOrder cmp) (exa
     IsApart-gathered : IsApart (pair_cmp cmp) (gathered own) (gathered_from start other)
     IsApart-gathered = apart_by (pair_cmp cmp) (λ slot. is_between start (start + length other) slot.0) (gathered own) (gathered_from start other) free (gathered_from-covers cmp start other)
 
-    joined_by : gathered (with_buckets_from own start other) ≡ joined (pair_cmp cmp) (gathered own) (gathered_from start other)
+    joined_by : gathered (with_items_from own start other) ≡ joined (pair_cmp cmp) (gathered own) (gathered_from start other)
     joined_by =
-        same_content (pair_total o) pair_exact _ _ IsLawful-with_buckets_from (IsLawful-joined (pair_total o) (gathered own) (gathered_from start other) lawful_other) (λ slot.
+        same_content (pair_total o) pair_exact _ _ IsLawful-with_items_from (IsLawful-joined (pair_total o) (gathered own) (gathered_from start other) lawful_other) (λ slot.
         list_at-gathered cmp new slot.0 slot.1
         ∙ elim (is_between start (start + length other) slot.0) as (λ b. is_between start (start + length other) slot.0 ≡ b
         → list_at cmp (bucket_at new slot.0) slot.1 ≡ list_at (pair_cmp cmp) (gathered own) slot ++ list_at (pair_cmp cmp) (gathered_from start other) slot) [
@@ -194,13 +194,13 @@ module _ {K V : Type 0} {cmp : K → K → Ordering} (o : IsTotalOrder cmp) (exa
         ] refl
         ∙ sym (list_at-joined (pair_total o) pair_exact (gathered own) (gathered_from start other) slot lawful_own))
 
-    module _ (buckets : List (Content K V)) (is : buckets ≡ with_buckets_from own start other) where
+    module _ (buckets : List (Content K V)) (is : buckets ≡ with_items_from own start other) where
       pub KeepsBuckets-installed : KeepsBuckets cmp own buckets
-      KeepsBuckets-installed = record { lawful = subst (λ cs. IsLawful (pair_cmp cmp) (gathered cs)) (sym is) IsLawful-with_buckets_from; sized = ap (λ cs. length cs) is ∙ length-with_buckets_from }
+      KeepsBuckets-installed = record { lawful = subst (λ cs. IsLawful (pair_cmp cmp) (gathered cs)) (sym is) IsLawful-with_items_from; sized = ap (λ cs. length cs) is ∙ length-with_items_from }
 
       pub IsCounted-installed : (a b : ℕ) → a ≡ items + more_items → b ≡ keys + more_keys → IsCounted cmp p buckets a b
       IsCounted-installed a b items_told keys_told =
-          let size = ap (λ cs. length cs) is ∙ length-with_buckets_from in
+          let size = ap (λ cs. length cs) is ∙ length-with_items_from in
           let most = h.sized in
           let of_items = ap (λ cs. item_count (gathered cs)) is ∙ ap (λ c. item_count c) joined_by ∙ item_count-joined (pair_total o) (gathered own) (gathered_from start other) lawful_other in
           let of_keys = ap (λ cs. key_count (gathered cs)) is ∙ ap (λ c. key_count c) joined_by ∙ key_count-joined (pair_total o) pair_exact (gathered own) (gathered_from start other) lawful_own lawful_other IsApart-gathered in

@@ -3,9 +3,9 @@
 --     raised, at_raised                a partition that was spilled if it had reached the threshold
 --     settles_edit                     a call by key that puts nothing in: a partition is spilled if due, and then left with no more values
 --     settles_alone                    one that changes no value
---     settled_so                       a partition that was spilled if it was due
---     moved_back, Resettles-MovesBack  a small one that was moved back or not, and a call by key that does that last
---     grows_to                         an insertion into a partition as it stands
+--     settled_none, settled_due        a partition that was not due to spill, and one that was
+--     GrowsIn, grows_to                an insertion, with how many values it moved: it spills where that is due
+--     Resettles-MovesBack              a call by key that moves a small one back last, or doesn't
 --     settles_grown                    a call by key that puts a value in: a partition is spilled if due, and then grows
 --     leaves_some, leaves_either       an edit that was refused; one that was done or refused
 --     left_standing                    a refused insertion
@@ -19,7 +19,7 @@ use Rattle.key_index_flat.specs.Content.{item_count}
 use Rattle.key_index_parts.specs.Family.{Kept, IsLeft, settled_in}
 use Rattle.key_index_parts.specs.Gathered.{gathered}
 use Rattle.key_index_parts.specs.laws.StandingLaws.{settles_by, resettles_by}
-use Rattle.key_index_parts.specs.Standing.{Standing, Standings, GrowsIn, Leaves, LeavesSome, MovesBack, Refuses, Resettles, Settles, SpillsIn, after_call, entries_at, is_reached, is_reached_by, is_small, left_with, spilled_if_reached, standing_at, standing_in, with_entries, with_inline, with_spill}
+use Rattle.key_index_parts.specs.Standing.{Standing, Standings, Leaves, LeavesSome, MovesBack, Refuses, Resettles, Settles, after_call, due_in, entries_at, is_reached, is_reached_by, left_with, spilled_by, spilled_if_reached, standing_at, standing_in, with_entries, with_left, with_spill}
 
 pub pruned_after-zero : (n : ℕ) → pruned_after n 0 ≡ n
 pruned_after-zero n = omega arith
@@ -129,12 +129,26 @@ settled_by : (spills : Bool) (s : Standings) (n : ℕ) → settled_in spills s n
 settled_by true s n = refl
 settled_by false s n = refl
 
+pub settled_none : (spills : Bool) (s : Standings) (n : ℕ) → (spills && is_reached s n) ≡ false → s ≡ settled_in spills s n
+settled_none spills s n e = sym (settled_by spills s n ∙ ap (λ b. if b then with_spill s n else s) e)
+
+pub settled_due : (spills : Bool) (s : Standings) (n : ℕ) → (spills && is_reached s n) ≡ true → with_spill s n ≡ settled_in spills s n
+settled_due spills s n e = sym (settled_by spills s n ∙ ap (λ b. if b then with_spill s n else s) e)
+
+-- a partition spills where it is due, and so many values move
+abbrev SpillsIn : Bool → ℕ → List Standing → ℕ → ℕ → List Standing → Type 0
+SpillsIn spills limit old n moved new = (moved ≡ due_in spills limit (standing_in old n)) × (new ≡ set old n (spilled_by moved (standing_in old n)))
+
+-- an insertion: it is left with more values, or with fewer where that asks a closure, and then spills where that is due
+abbrev pub GrowsIn : Bool → ℕ → List Standing → ℕ → ℕ → List Standing → Type 0
+GrowsIn spills limit old n moved new = SpillsIn spills limit (with_left old n (standing_in new n).entries) n moved new
+
 -- a count of values that is none exactly where it is not said
 some_if : (c : Bool) (n : ℕ) → (c ≡ true → 0 < n) → nat_lt 0 (if c then n else 0) ≡ c
 some_if true n some = lt-ltb 0 n (some refl)
 some_if false n some = refl
 
-pub settled_so : (spills : Bool) (s : Standings) (n moved : ℕ) → n < length s.buckets → 1 ≤ s.threshold
+settled_so : (spills : Bool) (s : Standings) (n moved : ℕ) → n < length s.buckets → 1 ≤ s.threshold
     → (buckets : List Standing) → SpillsIn spills s.threshold s.buckets n moved buckets
     → {a b : ℕ} → a ≡ pruned_after s.spills (one_if (nat_lt 0 moved)) → b ≡ pruned_after s.moved moved
     → record { threshold = s.threshold; buckets = buckets; spills = a; moved = b } ≡ settled_in spills s n
@@ -174,24 +188,6 @@ grows_to spills s n moved inside least buckets is one more =
     let m = (standing_in buckets n).entries in
     let same = length-set s.buckets n (left_with (standing_at s n) m) in
     settled_so spills (with_entries s n m) n moved (omega (arith, same, inside)) least buckets is one more
-
-pub moved_back : (s : Standings) (n moved : ℕ) → (0 < moved → IsTrue (is_small s n)) → (0 < moved → moved ≡ entries_at s n)
-    → (buckets : List Standing) → buckets ≡ (if nat_lt 0 moved then with_inline s.buckets n else s.buckets)
-    → {a b : ℕ} → a ≡ s.spills → b ≡ pruned_after s.moved moved
-    → MovesBack s n (record { threshold = s.threshold; buckets = buckets; spills = a; moved = b })
-moved_back s n zero small all buckets is same more =
-    inl (λ i. record { threshold = s.threshold; buckets = is i; spills = same i; moved = (more ∙ pruned_after-zero s.moved) i })
-moved_back s n (suc m) small all buckets is same more =
-    let some : 0 < suc m = omega arith in
-    inr (
-      small some,
-      λ i. record {
-        threshold = s.threshold;
-        buckets = (is ∙ ap (λ f. if f then with_inline s.buckets n else s.buckets) (lt-ltb 0 (suc m) some)) i;
-        spills = same i;
-        moved = (more ∙ ap (λ k. pruned_after s.moved k) (all some)) i;
-      },
-    )
 
 call_size : (s : Standings) (n m : ℕ) → n < length s.buckets → n < length (after_call s n m).buckets
 call_size s n m inside =

@@ -12,7 +12,6 @@ mod bitmap;
 mod bucket;
 mod builds;
 mod counts;
-mod directory;
 pub mod ordered;
 mod range;
 mod storage;

@@ -1,5 +1,5 @@
 //! What an index over partitions keeps, over any kind of bucket. A call goes by slot: a bucket's number and a key of that bucket.
-ghost use Rattle.std.specs.Prelude.{◌≡◌, ◌↔◌, ℕ, ◌+◌, ◌<◌, ◌≤◌, ◌&&◌, IsTrue, false, nat_lt, [], ◌∷◌, length, slice_get, slice_set, insert, remove, Some, IfOk, IfErr, OnOk, OnErr};
+ghost use Rattle.std.specs.Prelude.{◌≡◌, ◌↔◌, ℕ, ◌+◌, ◌<◌, ◌≤◌, ◌&&◌, IsTrue, false, nat_lt, [], ◌∷◌, length, map, take, drop, slice_get, slice_set, insert, remove, Some, IfOk, IfErr, OnOk, OnErr};
 ghost use Rattle.std.specs.Bool.{Decides};
 ghost use Rattle.std.specs.Fn.{CalledAt};
 ghost use Rattle.key_index_flat.specs.Content.{IsLawful, item_count, key_count};
@@ -7,26 +7,26 @@ ghost use Rattle.key_index_flat.specs.Fault.{growth_fault, IsWant};
 ghost use Rattle.key_index_flat.specs.Neighbours.{entries_above, first_entry, last_list, next_list, prev_list};
 ghost use Rattle.key_index_flat.specs.View.{put_value, InsertsAndRetains, Retains};
 ghost use Rattle.key_index_flat.specs.Values.{VisitsEach, values_of};
-ghost use Rattle.key_index_parts.specs.Family.{AreCounted, KeepsRange, Kept, IsCounted, IsLeft, KeepsBuckets, Edits, Prunes, GrowsTo, SameContent, held_at, bucket_at, settled_at, view_of, view_from};
-ghost use Rattle.key_index_parts.specs.Gathered.{gathered, pair_cmp};
+ghost use Rattle.key_index_parts.specs.Family.{KeepsRange, Kept, IsCounted, IsLeft, KeepsBuckets, Edits, Prunes, GrowsTo, SameContent, held_at, bucket_at, filled_buckets, settled_at, standing_of_all, view_of, view_from, with_items_from};
+ghost use Rattle.key_index_parts.specs.Gathered.{gathered, gathered_from, pair_cmp};
 ghost use Rattle.key_index_parts.specs.Joined.{IsFree, is_between, joined_view};
 ghost use Rattle.key_index_parts.specs.Moves.{IsRangeWithin, IsWithin, entries_in};
 ghost use Rattle.key_index_parts.specs.Prefix.{partition_count, slot_by};
 ghost use Rattle.key_index_parts.specs.Standing.{Leaves, MovesBack, Resettles, Settles, entries_at, inline_len, is_reached, joined_standings, new_standings, spilled_in, standing_at, standings_of};
 
+use super::bitmap::Bitmap;
 use super::bucket::sorted_bucket::SortedBucket;
 use super::bucket::{Bucket, Contents, EditBucket, OrderedBucket, ReadBucket};
 use super::counts::{Counts, Moves};
-use super::directory::Directory;
 use super::partition_index_and_sub_key;
 use key_index_flat::index::implement::Retained;
 use key_index_flat::index::{Fault, Refused, Values};
 use key_index_flat::translator::Translator;
 use std::alloc::Global;
-use std::marker::Model;
+use std::marker::{Model, PhantomData};
 
-/// An index over `256^P` buckets: a translator, the buckets, the counts of them all, from how many values on a bucket spills, and the
-/// counts of spills and of moved values. Contracts see all of it but the counts of them all, which are those of what the buckets hold.
+/// An index over `256^P` buckets: a translator, the buckets and which of them hold anything, the counts of them all, from how many values
+/// on a bucket spills, and the counts of spills and of moved values. Contracts see all of it but what follows from what the buckets hold.
 ///
 /// A call by key spills its bucket first where that is due, and then does its edit in the bucket as it stands. The edits alone, without
 /// that, are `set_at`, `insert_at` and `remove_at` for cursors, and what the calls by key are made of: `put`, `put_absent`,
@@ -34,13 +34,15 @@ use std::marker::Model;
 #[derive(Drop)]
 pub(super) struct Storage<T: Translator, V, X: Contents<T, V>, const P: usize> {
     translator: T,
-    buckets: Directory<T, V, X>,
+    buckets: Vec<X>,
+    filled: Bitmap,
     counts: Counts,
     threshold: usize,
     moves: Moves,
+    lists: PhantomData<V>,
     ghost least: { 1 ≤ threshold },
-    ghost told: { AreCounted buckets.contents buckets.standing },
-    ghost within: { IsWithin (standings_of threshold buckets.standing moves.spills moves.moved) counts.pruned },
+    ghost within: { IsWithin (standings_of threshold (standing_of_all X.content X.spilled buckets.items) moves.spills moves.moved)
+        counts.pruned },
 }
 
 impl<T: Translator, V, X: Contents<T, V>, const P: usize> Model for Storage<T, V, X, P> {
@@ -48,12 +50,13 @@ impl<T: Translator, V, X: Contents<T, V>, const P: usize> Model for Storage<T, V
 
     ghost view = { λ s. record {
       translator = s.translator;
-      buckets = s.buckets.contents;
+      buckets = map X.content s.buckets.items;
       pruned = s.counts.pruned;
-      standings = standings_of s.threshold s.buckets.standing s.moves.spills s.moves.moved;
+      standings = standings_of s.threshold (standing_of_all X.content X.spilled s.buckets.items) s.moves.spills s.moves.moved;
     } };
 
-    ghost invariant = { λ s. IsCounted T.Key.cmp P s.buckets.contents s.counts.items s.counts.keys };
+    ghost invariant = { λ s. IsCounted T.Key.cmp P (map X.content s.buckets.items) s.counts.items s.counts.keys
+        × (s.filled ≡ filled_buckets (map X.content s.buckets.items)) };
 }
 
 impl<T: Translator, V: Drop, X: Contents<T, V> + Drop, const P: usize> Storage<T, V, X, P> {
@@ -70,7 +73,10 @@ impl<T: Translator, V: Drop, X: Contents<T, V> + Drop, const P: usize> Storage<T
         ensures { IsTrue result ↔ IsFree (pair_cmp T.Key.cmp) (λ slot. is_between first (first + count) slot.0)
             (gathered self.now.buckets) }
     {
-        self.buckets.is_free(first, count)
+        match self.filled.first_from(first) {
+            Some(number) => number - first >= count,
+            None => true,
+        }
     }
 
     /// Whether it holds as many values as it can.
@@ -136,7 +142,7 @@ impl<T: Translator, V: Drop, X: Contents<T, V> + Drop, const P: usize> Storage<T
     /// Where the buckets take their memory.
     #[inline]
     pub(super) fn alloc(&self) -> Global {
-        self.buckets.alloc()
+        *self.buckets.allocator()
     }
 
     #[inline]
@@ -161,6 +167,28 @@ impl<T: Translator, V: Drop, X: Contents<T, V> + Drop, const P: usize> Storage<T
     }
 }
 
+/// Puts buckets, as they stand, in the place of those from a number on.
+fn install_buckets<T: Translator, V: Drop, X: ReadBucket<T, V> + Drop>(
+    buckets: &mut Vec<X>,
+    filled: &mut Bitmap,
+    first: usize,
+    others: Vec<X>,
+)
+    requires fits { first + length others.items ≤ length buckets.old.items }
+    requires most { length buckets.old.items ≤ partition_count 3 }
+    requires filled { filled.old ≡ filled_buckets (map X.content buckets.old.items) }
+    ensures buckets { buckets.new.items ≡ with_items_from buckets.old.items first others.items }
+    ensures filled { filled.new ≡ filled_buckets (map X.content buckets.new.items) }
+{
+    let mut rest = others.into_iter();
+    let mut number = first;
+    while let Some(bucket) = rest.next() {
+        filled.set(number, !bucket.is_empty());
+        buckets[number] = bucket;
+        number += 1;
+    }
+}
+
 impl<T: Translator, V: Drop, X: ReadBucket<T, V> + Drop, const P: usize> Storage<T, V, X, P> {
     /// Puts the buckets of a range, as they stand, in the place of those from a number on, which hold nothing, and adds its counts.
     pub(super) fn install(&mut self, first: usize, range: Storage<T, V, X, P>)
@@ -176,7 +204,7 @@ impl<T: Translator, V: Drop, X: ReadBucket<T, V> + Drop, const P: usize> Storage
     {
         self.counts.join(range.counts);
         self.moves.join(range.moves);
-        self.buckets.install(first, range.buckets);
+        install_buckets::<T, V, X>(&mut self.buckets, &mut self.filled, first, range.buckets);
     }
 
     /// Visits each value once, in no certain order.
@@ -184,14 +212,21 @@ impl<T: Translator, V: Drop, X: ReadBucket<T, V> + Drop, const P: usize> Storage
         requires { F.IsAlwaysCallable visit.old }
         ensures { VisitsEach (CalledAt F.FnMut) visit.old (values_of (gathered self.now.buckets)) visit.new }
     {
-        self.buckets.for_each_value(visit);
+        let mut rest = self.buckets.as_slice();
+        while let Some((bucket, behind)) = rest.split_first() {
+            bucket.for_each_value(visit);
+            rest = behind;
+        }
     }
 
     #[inline(always)]
     pub(super) fn run_len(&self, slot: (usize, T::Key)) -> usize
         ensures { result ≡ length (held_at T.Key.cmp self.now.buckets slot) }
     {
-        self.buckets.run_len(slot)
+        match self.buckets.get(slot.0) {
+            Some(bucket) => bucket.run_len(slot.1),
+            None => 0,
+        }
     }
 
     #[inline(always)]
@@ -199,15 +234,18 @@ impl<T: Translator, V: Drop, X: ReadBucket<T, V> + Drop, const P: usize> Storage
         requires { place < length (held_at T.Key.cmp self.now.buckets slot) }
         ensures { slice_get (held_at T.Key.cmp self.now.buckets slot) place ≡ Some result.now }
     {
-        self.buckets.value_at(slot, place)
+        self.buckets[slot.0].value_at(slot.1, place)
     }
 
     /// The list at a slot, empty where there is no bucket for it.
-    #[inline]
+    #[inline(always)]
     pub(super) fn list_at(&self, slot: (usize, T::Key)) -> Values<'_, V>
         ensures { result ≡ held_at T.Key.cmp self.now.buckets slot }
     {
-        self.buckets.list_at(slot)
+        match self.buckets.get(slot.0) {
+            Some(bucket) => bucket.get(slot.1),
+            None => Values::of_slice(&[]),
+        }
     }
 
     #[inline(always)]
@@ -215,7 +253,7 @@ impl<T: Translator, V: Drop, X: ReadBucket<T, V> + Drop, const P: usize> Storage
         requires { slot.0 < length self.now.buckets }
         ensures { result ≡ held_at T.Key.cmp self.now.buckets slot }
     {
-        self.buckets.get(slot)
+        self.buckets[slot.0].get(slot.1)
     }
 }
 
@@ -228,7 +266,7 @@ impl<T: Translator, V: Drop, X: EditBucket<T, V> + Drop, const P: usize> Storage
         ensures kept { KeepsBuckets T.Key.cmp self.old.buckets self.new.buckets }
         ensures range_bound { KeepsRange self.old self.new }
     {
-        self.buckets.set_at(slot, place, value);
+        self.buckets[slot.0].set_at(slot.1, place, value);
     }
 
     pub(super) fn insert_at(
@@ -252,8 +290,9 @@ impl<T: Translator, V: Drop, X: EditBucket<T, V> + Drop, const P: usize> Storage
         if self.is_full() {
             return Err(Refused::full(value));
         }
-        match self.buckets.insert_at(slot, place, value) {
+        match self.buckets[slot.0].insert_at(slot.1, place, value) {
             Ok(absent) => {
+                self.filled.set_if(absent, slot.0, true);
                 self.counts.gain(absent);
                 Ok(())
             }
@@ -269,7 +308,10 @@ impl<T: Translator, V: Drop, X: EditBucket<T, V> + Drop, const P: usize> Storage
         ensures kept { KeepsBuckets T.Key.cmp self.old.buckets self.new.buckets }
         ensures range_bound { KeepsRange self.old self.new }
     {
-        let (value, left) = self.buckets.remove_at(slot, place);
+        let bucket = &mut self.buckets[slot.0];
+        let (value, left) = bucket.remove_at(slot.1, place);
+        let emptied = bucket.is_empty();
+        self.filled.set_if(emptied, slot.0, false);
         let had = left + 1;
         let taken = 1;
         self.counts.change(Retained { had, left, taken });
@@ -287,7 +329,10 @@ impl<T: Translator, V: Drop, X: EditBucket<T, V> + Drop, const P: usize> Storage
         ensures fewer { entries_at self.new.standings slot.0 ≤ entries_at self.old.standings slot.0 }
         ensures kept { KeepsBuckets T.Key.cmp self.old.buckets self.new.buckets }
     {
-        let (had, left) = self.buckets.retain(slot, should_retain);
+        let bucket = &mut self.buckets[slot.0];
+        let (had, left) = bucket.retain(slot.1, should_retain);
+        let emptied = bucket.is_empty();
+        self.filled.set_if(emptied, slot.0, false);
         let taken = had - left;
         self.counts.change(Retained { had, left, taken });
     }
@@ -301,7 +346,10 @@ impl<T: Translator, V: Drop, X: EditBucket<T, V> + Drop, const P: usize> Storage
         ensures fewer { entries_at self.new.standings slot.0 ≤ entries_at self.old.standings slot.0 }
         ensures kept { KeepsBuckets T.Key.cmp self.old.buckets self.new.buckets }
     {
-        let had = self.buckets.remove(slot);
+        let bucket = &mut self.buckets[slot.0];
+        let had = bucket.remove(slot.1);
+        let none_left = bucket.is_empty();
+        self.filled.set_if(none_left, slot.0, false);
         let left = 0;
         let taken = had;
         self.counts.change(Retained { had, left, taken });
@@ -328,23 +376,31 @@ impl<T: Translator, V: Drop, X: Bucket<T, V> + Drop, const P: usize> Storage<T, 
         ensures standing { IfOk result (λ s. s.standings ≡ new_standings threshold count) }
         ensures fault { IfErr result (λ fault. fault ≡ Fault.Memory) }
     {
-        match Directory::new(alloc, translator, count) {
-            Ok(buckets) => Ok(Storage {
-                translator,
-                buckets,
-                counts: Counts {
-                    items: 0,
-                    keys: 0,
-                    pruned: 0,
-                },
-                threshold,
-                moves: Moves {
-                    spills: 0,
-                    moved: 0,
-                },
-            }),
-            Err(fault) => Err(fault),
+        let (Ok(mut buckets), Ok(filled)) = (
+            Vec::with_capacity(alloc, count),
+            Bitmap::new(alloc, count),
+        ) else {
+            return Err(Fault::Memory);
+        };
+        for _ in 0..count {
+            buckets.push_reserved(X::new(alloc, translator));
         }
+        Ok(Storage {
+            translator,
+            buckets,
+            filled,
+            counts: Counts {
+                items: 0,
+                keys: 0,
+                pruned: 0,
+            },
+            threshold,
+            moves: Moves {
+                spills: 0,
+                moved: 0,
+            },
+            lists: PhantomData,
+        })
     }
 
     /// Another one with the same translator and threshold, over so many buckets that hold nothing. Takes their room at once.
@@ -358,7 +414,7 @@ impl<T: Translator, V: Drop, X: Bucket<T, V> + Drop, const P: usize> Storage<T, 
         ensures standing { IfOk result (λ s. s.standings ≡ new_standings self.now.standings.threshold count) }
         ensures fault { IfErr result (λ fault. fault ≡ Fault.Memory) }
     {
-        Storage::new(self.buckets.alloc(), self.translator, count, self.threshold)
+        Storage::new(self.alloc(), self.translator, count, self.threshold)
     }
 
     /// How many values a spill of a bucket would move.
@@ -369,7 +425,7 @@ impl<T: Translator, V: Drop, X: Bucket<T, V> + Drop, const P: usize> Storage<T, 
         ensures entries { entries_at self.now.standings number ≡ item_count (bucket_at self.now.buckets number) }
         ensures listed { number < length self.now.standings.buckets }
     {
-        self.buckets.inline_len(number)
+        self.buckets[number].inline_len()
     }
 
     #[inline]
@@ -379,14 +435,20 @@ impl<T: Translator, V: Drop, X: Bucket<T, V> + Drop, const P: usize> Storage<T, 
         ensures filled { IsTrue result → 0 < item_count (bucket_at self.now.buckets number) }
         ensures listed { number < length self.now.standings.buckets }
     {
-        self.buckets.is_spilled(number)
+        self.buckets[number].is_spilled()
     }
 
     /// How many buckets are spilled. It looks at each.
     pub(super) fn spilled_count(&self) -> usize
         ensures { result ≡ spilled_in self.now.standings.buckets }
     {
-        self.buckets.spilled_count()
+        let mut rest = self.buckets.as_slice();
+        let mut count = 0;
+        while let Some((bucket, behind)) = rest.split_first() {
+            count += usize::from(bucket.is_spilled());
+            rest = behind;
+        }
+        count
     }
 
     /// Spills a bucket that has reached the threshold.
@@ -403,16 +465,20 @@ impl<T: Translator, V: Drop, X: Bucket<T, V> + Drop, const P: usize> Storage<T, 
         ensures least { 1 ≤ self.old.standings.threshold }
         ensures range_bound { KeepsRange self.old self.new }
     {
-        match self.buckets.spill_if_reached(number, self.threshold) {
-            Ok(moved) => {
-                self.moves.spill(moved);
+        let values = self.buckets[number].inline_len();
+        if values < self.threshold {
+            return Ok(());
+        }
+        match self.buckets[number].spill() {
+            Ok(()) => {
+                self.moves.spill(values);
                 Ok(())
             }
             Err(_) => Err(Fault::Memory),
         }
     }
 
-    /// Moves a bucket that is small back to arrays, where there is memory for it.
+    /// Moves a bucket that is spilled with fewer than half as many values as the threshold back to arrays, where there is memory for it.
     #[inline]
     fn move_back(&mut self, number: usize)
         requires { number < length self.old.buckets }
@@ -420,8 +486,14 @@ impl<T: Translator, V: Drop, X: Bucket<T, V> + Drop, const P: usize> Storage<T, 
         ensures same { SameContent self.old self.new }
         ensures kept { KeepsBuckets T.Key.cmp self.old.buckets self.new.buckets }
     {
-        let moved = self.buckets.move_back(number, self.threshold);
-        self.moves.move_back(moved);
+        let values = self.buckets[number].spilled_len();
+        if values == 0 || values >= self.threshold.saturating_sub(values) {
+            return;
+        }
+        match self.buckets[number].move_back() {
+            Ok(()) => self.moves.move_back(values),
+            Err(_) => {}
+        }
     }
 
     /// Puts a value in at its end of a slot's list, in its bucket as that stands, which spills where it is left with `threshold` values or
@@ -437,8 +509,9 @@ impl<T: Translator, V: Drop, X: Bucket<T, V> + Drop, const P: usize> Storage<T, 
         ensures returned { IfErr result (λ back. back ≡ value) }
         ensures range_bound { KeepsRange self.old self.new }
     {
-        match self.buckets.insert(slot, value, self.threshold) {
+        match self.buckets[slot.0].insert(slot.1, value, self.threshold) {
             Ok((absent, moved)) => {
+                self.filled.set_if(absent, slot.0, true);
                 self.counts.gain(absent);
                 self.moves.spill(moved);
                 Ok(())
@@ -462,8 +535,9 @@ impl<T: Translator, V: Drop, X: Bucket<T, V> + Drop, const P: usize> Storage<T, 
         ensures returned { IfErr result (λ back. back ≡ value) }
         ensures range_bound { KeepsRange self.old self.new }
     {
-        match self.buckets.insert_absent(slot, value, self.threshold) {
+        match self.buckets[slot.0].insert_absent(slot.1, value, self.threshold) {
             Ok((0, moved)) => {
+                self.filled.set(slot.0, true);
                 self.counts.gain(true);
                 self.moves.spill(moved);
                 Ok(0)
@@ -491,11 +565,11 @@ impl<T: Translator, V: Drop, X: Bucket<T, V> + Drop, const P: usize> Storage<T, 
         ensures kept { KeepsBuckets T.Key.cmp self.old.buckets self.new.buckets }
         ensures returned { IfErr result (λ back. back ≡ value) }
     {
-        match self
-            .buckets
-            .insert_and_retain(slot, value, should_retain, self.threshold)
-        {
+        let bucket = &mut self.buckets[slot.0];
+        match bucket.insert_and_retain(slot.1, value, should_retain, self.threshold) {
             Ok((told, moved)) => {
+                let holds = !bucket.is_empty();
+                self.filled.set(slot.0, holds);
                 self.counts.change(told);
                 self.moves.spill(moved);
                 Ok(())
@@ -649,7 +723,10 @@ impl<T: Translator, V: Drop, const P: usize> Storage<T, V, SortedBucket<T, V>, P
     pub(super) fn guess(&self, slot: (usize, T::Key), seen: usize) -> usize
         ensures { result ≤ seen }
     {
-        self.buckets.guess(slot, seen)
+        match self.buckets.get(slot.0) {
+            Some(bucket) => bucket.guess(slot.1, seen),
+            None => 0,
+        }
     }
 
     /// `list_at`, by a guess.
@@ -657,23 +734,45 @@ impl<T: Translator, V: Drop, const P: usize> Storage<T, V, SortedBucket<T, V>, P
     pub(super) fn list_near(&self, slot: (usize, T::Key), guess: usize) -> Values<'_, V>
         ensures { result ≡ held_at T.Key.cmp self.now.buckets slot }
     {
-        self.buckets.list_near(slot, guess)
+        match self.buckets.get(slot.0) {
+            Some(bucket) => bucket.get_near(slot.1, guess),
+            None => Values::of_slice(&[]),
+        }
     }
 }
 
 impl<T: Translator, V: Drop, X: OrderedBucket<T, V> + Drop, const P: usize> Storage<T, V, X, P> {
+    /// The least slot of the buckets from a number on, with its list.
+    fn first_from(&self, start: usize) -> Option<((usize, T::Key), Values<'_, V>)>
+        ensures { result ≡ first_entry (gathered_from start (drop start self.now.buckets)) }
+    {
+        let number = self.filled.first_from(start)?;
+        let (key, values) = self.buckets[number].first()?;
+        Some(((number, key), values))
+    }
+
+    /// The list of the greatest key of the last bucket below a number that holds anything.
+    fn last_below(&self, end: usize) -> Option<Values<'_, V>>
+        ensures { result ≡ last_list (gathered (take end self.now.buckets)) }
+    {
+        match self.filled.last_below(end) {
+            Some(number) => self.buckets[number].last(),
+            None => None,
+        }
+    }
+
     #[inline]
     pub(super) fn first(&self) -> Option<((usize, T::Key), Values<'_, V>)>
         ensures { result ≡ first_entry (gathered self.now.buckets) }
     {
-        self.buckets.first()
+        self.first_from(0)
     }
 
     #[inline]
     pub(super) fn last(&self) -> Option<Values<'_, V>>
         ensures { result ≡ last_list (gathered self.now.buckets) }
     {
-        self.buckets.last()
+        self.last_below(self.buckets.len())
     }
 
     /// The least slot above one, with its list. There need be no bucket for the slot.
@@ -684,22 +783,38 @@ impl<T: Translator, V: Drop, X: OrderedBucket<T, V> + Drop, const P: usize> Stor
         if slot.0 >= self.buckets.len() {
             return None;
         }
-        self.buckets.above(slot)
+        match self.buckets[slot.0].above(slot.1) {
+            Some(entry) => Some(((slot.0, entry.0), entry.1)),
+            None => self.first_from(slot.0 + 1),
+        }
     }
 
-    #[inline]
     pub(super) fn next(&self, slot: (usize, T::Key)) -> Option<(Values<'_, V>, bool)>
         requires { slot.0 < length self.now.buckets }
         ensures { result ≡ next_list (pair_cmp T.Key.cmp) (gathered self.now.buckets) slot }
     {
-        self.buckets.next(slot)
+        match self.above(slot) {
+            Some((_, values)) => Some((values, false)),
+            None => match self.first() {
+                Some((_, values)) => Some((values, true)),
+                None => None,
+            },
+        }
     }
 
-    #[inline]
     pub(super) fn prev(&self, slot: (usize, T::Key)) -> Option<(Values<'_, V>, bool)>
         requires { slot.0 < length self.now.buckets }
         ensures { result ≡ prev_list (pair_cmp T.Key.cmp) (gathered self.now.buckets) slot }
     {
-        self.buckets.prev(slot)
+        match self.buckets[slot.0].below(slot.1) {
+            Some(values) => Some((values, false)),
+            None => match self.last_below(slot.0) {
+                Some(values) => Some((values, false)),
+                None => match self.last() {
+                    Some(values) => Some((values, true)),
+                    None => None,
+                },
+            },
+        }
     }
 }

@@ -1,9 +1,10 @@
-use Rattle.std.proofs.Common.{sym, ◌∙◌}
-use Rattle.key_index_parts.proofs.buckets.StorageLemmas.{list_at-gathered_buckets, within_buckets}
+use Rattle.std.proofs.Common.{ap, ◌∙◌}
+use Rattle.key_index_parts.specs.Family.{held_at}
+use Rattle.key_index_parts.proofs.buckets.FamilyLemmas.{bucket_taken}
+use Rattle.key_index_parts.proofs.buckets.StorageLemmas.{held_told}
 use Rattle.key_index_parts.proofs.index.partitioned.storage.Storage.get.Goals as goal
 
-pub get-requires : goal.get-requires
-get-requires g c = within_buckets c.self.view_is c.args.slot.0 c.requires
-
 pub returns : goal.returns
-returns g c = rw (← c.self.view_is) (c.get.ensures ∙ sym (list_at-gathered_buckets c.self.invariant c.args.slot))
+returns g c =
+    let bucket = bucket_taken g.X.Contents.content c.self.inside.buckets.items (ap (λ s. s.buckets) c.self.view_is) c.requires c.index.ensures in
+    c.get.ensures ∙ held_told g.T.Key.Ord.cmp bucket c.args.slot.1 ∙ ap (λ s. held_at g.T.Key.Ord.cmp s.buckets c.args.slot) c.self.view_is

@@ -1,81 +1,89 @@
-use Rattle.std.proofs.Common.{◌≡◌, ℕ, ◌+◌, ◌<◌, ◌≤◌, List, map, length, ap, subst, sym, ◌∙◌, arith}
-use Rattle.key_index_flat.specs.Content.{item_count}
+use Rattle.std.proofs.Common.{◌≡◌, map, length, sym, ap, subst, ◌∙◌, arith}
+use Rattle.std.proofs.lemmas.List.{length-map}
 use Rattle.key_index_flat.specs.View.{pruned_after}
+use Rattle.key_index_parts.specs.Family.{stands, standing_of_all, with_items_from}
 use Rattle.key_index_parts.specs.Moves.{IsRangeWithin, IsWithin}
-use Rattle.key_index_parts.specs.Standing.{Standing, Standings, standing_in, standings_of}
-use Rattle.key_index_parts.proofs.buckets.InstallLemmas as put
+use Rattle.key_index_parts.specs.Standing.{Standing, Standings, standings_of}
+use Rattle.key_index_parts.proofs.buckets.StorageLemmas.{at_most_three, keys_below}
+use Rattle.key_index_parts.proofs.standing.PaidLemmas.{entries-AreFree, map-with_items_from}
 use Rattle.key_index_parts.proofs.standing.MoveLemmas.{install_within}
-use Rattle.key_index_parts.proofs.standing.PaidLemmas.{counted_joined, counted_size, entries-AreFree}
-use Rattle.key_index_parts.proofs.buckets.StorageLemmas as of_storage
+use Rattle.key_index_parts.proofs.index.partitioned.storage.Storage.install.Given.{Over}
+use Rattle.key_index_parts.proofs.index.partitioned.storage.Storage.install.Goals.{After-install_buckets}
+use Rattle.key_index_parts.proofs.buckets.InstallLemmas as put
 use Rattle.key_index_parts.proofs.index.partitioned.storage.Storage.install.Goals as goal
 
-pub join-requires : goal.join-requires
-join-requires g c =
-    let own = of_storage.keys_below c.self.invariant in
-    let other = of_storage.keys_below c.range.invariant in
+pub join-requires-clause-keys : goal.join-requires-clause-keys
+join-requires-clause-keys g c =
+    let own = keys_below c.self.invariant.0 in
+    let other = keys_below c.range.invariant.0 in
     let room = put.room_inside g.T.Key.Ord.cmp c.args.first c.self.view_is c.range.view_is c.requires.room in
-    let was = c.self.invariant.counted in
-    let more = c.range.invariant.counted in
-    record { items = omega (arith, was, more, room); keys = omega (arith, own, other, was, more, room) }
+    let was = c.self.invariant.0.counted in
+    let more = c.range.invariant.0.counted in
+    omega (arith, own, other, was, more, room)
 
-pub install-requires-clause-most : goal.install-requires-clause-most
-install-requires-clause-most g c =
-    let most = of_storage.at_most_three g.row.P c.self.invariant.greatest in
-    let sized = c.self.invariant.sized in omega (arith, most, sized)
+pub install_buckets-requires-clause-most : goal.install_buckets-requires-clause-most
+install_buckets-requires-clause-most g c =
+    let most = at_most_three g.row.P c.self.invariant.0.greatest in
+    let same = length-map c.self.inside.buckets.items g.X.Contents.content in
+    let sized = c.self.invariant.0.sized in omega (arith, most, sized, same)
+
+contents_now : (g : Over) (c : After-install_buckets g) → map g.X.Contents.content c.install_buckets.new.buckets.items ≡ with_items_from (map g.X.Contents.content c.self.inside.buckets.items) c.args.first (map g.X.Contents.content c.range.inside.buckets.items)
+contents_now g c = ap (λ xs. map g.X.Contents.content xs) c.install_buckets.ensures.buckets ∙ map-with_items_from g.X.Contents.content c.self.inside.buckets.items c.range.inside.buckets.items c.args.first
+
+standing_now : (g : Over) (c : After-install_buckets g) → standing_of_all g.X.Contents.content g.X.Contents.spilled c.install_buckets.new.buckets.items ≡ with_items_from (standing_of_all g.X.Contents.content g.X.Contents.spilled c.self.inside.buckets.items) c.args.first (standing_of_all g.X.Contents.content g.X.Contents.spilled c.range.inside.buckets.items)
+standing_now g c =
+    let how : g.row.X.Denot → Standing = λ x. stands (g.X.Contents.content x) (g.X.Contents.spilled x) in
+    ap (λ xs. map how xs) c.install_buckets.ensures.buckets ∙ map-with_items_from how c.self.inside.buckets.items c.range.inside.buckets.items c.args.first
 
 pub invariant_of-self-inside : goal.invariant_of-self-inside
 invariant_of-self-inside g c =
-    let joined = counted_joined c.self.inside.buckets.contents c.range.inside.buckets.contents c.self.inside.buckets.standing c.range.inside.buckets.standing c.args.first c.self.inside.told c.range.inside.told in
-    let entries : List Standing → List ℕ = λ ps. map (λ p. p.entries) ps in
-    let cmp = g.T.Key.Ord.cmp in
-    let start = c.args.first in
     let own = c.self.inside in
     let other = c.range.inside in
-    let fits = put.fits_inside cmp start c.self.view_is c.range.view_is c.requires.fits in
-    let free = put.free_inside cmp start c.self.view_is c.range.view_is c.requires.free in
-    let gap = put.free_buckets g.met.T.Key.Ord.total g.met.T.Translator.exact own.buckets.contents start (length other.buckets.contents) c.self.invariant.each free in
-    let size = counted_size own.buckets.contents own.buckets.standing own.told in
-    let more = counted_size other.buckets.contents other.buckets.standing other.told in
-    let old : Standings = record { threshold = own.threshold; buckets = own.buckets.standing; spills = own.moves.spills; moved = own.moves.moved } in
-    let range : Standings = record { threshold = other.threshold; buckets = other.buckets.standing; spills = other.moves.spills; moved = other.moves.moved } in
-    let none : (n : ℕ) → start ≤ n → n < start + length other.buckets.standing → (standing_in own.buckets.standing n).entries ≡ 0 = λ n from upto.
-    entries-AreFree own.buckets.contents own.buckets.standing own.told start (length other.buckets.contents) fits gap n from (omega (arith, upto, more)) in
-    let apart = subst (λ k. IsRangeWithin k.standings k.pruned) (sym c.range.view_is) c.requires.within in (
+    let first = c.args.first in
+    let fits = put.fits_inside g.T.Key.Ord.cmp c.args.first c.self.view_is c.range.view_is c.requires.fits in
+    let free = put.free_inside g.T.Key.Ord.cmp c.args.first c.self.view_is c.range.view_is c.requires.free in
+    let size = length-map own.buckets.items g.X.Contents.content in
+    let more = length-map other.buckets.items g.X.Contents.content in
+    let stand = length-map own.buckets.items (λ x. stands (g.X.Contents.content x) (g.X.Contents.spilled x)) in
+    let range_stand = length-map other.buckets.items (λ x. stands (g.X.Contents.content x) (g.X.Contents.spilled x)) in
+    let gap = put.free_buckets g.met.T.Key.Ord.total g.met.T.Translator.exact (map g.X.Contents.content own.buckets.items) first (length (map g.X.Contents.content other.buckets.items)) c.self.invariant.0.each free in
+    let old : Standings = standings_of own.threshold (standing_of_all g.X.Contents.content g.X.Contents.spilled own.buckets.items) own.moves.spills own.moves.moved in
+    let range : Standings = standings_of other.threshold (standing_of_all g.X.Contents.content g.X.Contents.spilled other.buckets.items) other.moves.spills other.moves.moved in
+    let apart = subst (λ k. IsRangeWithin k.standings k.pruned) (sym c.range.view_is) c.requires.within in
+    let joined = install_within old range first own.counts.pruned other.counts.pruned (omega (arith, fits, size, more, stand, range_stand))
+    (λ n from upto. entries-AreFree g.X.Contents.content g.X.Contents.spilled own.buckets.items first (length (map g.X.Contents.content other.buckets.items)) gap n from (omega (arith, upto, more, range_stand))) own.within apart in (
       own.least,
       (
-        ap entries c.install.ensures.standing ∙ joined ∙ ap (λ cs. map (λ d. item_count d) cs) (sym c.install.ensures.buckets),
-        (
-          subst (λ q. IsWithin (standings_of own.threshold c.install.new.self.standing c.join-2.new.self.spills c.join-2.new.self.moved) q) (sym c.join.ensures.pruned)
-              (subst (λ s. IsWithin s (pruned_after own.counts.pruned other.counts.pruned))
-              (sym (λ i. standings_of own.threshold (c.install.ensures.standing i) (c.join-2.ensures.spills i) (c.join-2.ensures.moved i)))
-              (install_within old range start own.counts.pruned other.counts.pruned (omega (arith, fits, size, more)) none own.within apart)),
-          tt,
-        ),
+        subst (λ q. IsWithin (standings_of own.threshold (standing_of_all g.X.Contents.content g.X.Contents.spilled c.install_buckets.new.buckets.items) c.join-2.new.self.spills c.join-2.new.self.moved) q) (sym c.join.ensures.pruned)
+            (subst (λ s. IsWithin s (pruned_after own.counts.pruned other.counts.pruned))
+            (sym (λ i. standings_of own.threshold (standing_now g (goal.at.invariant_of-self-inside g c).After-install_buckets i) (c.join-2.ensures.spills i) (c.join-2.ensures.moved i))) joined),
+        tt,
       ),
     )
 
 pub invariant_of-self : goal.invariant_of-self
 invariant_of-self g c =
-    let cmp = g.T.Key.Ord.cmp in
-    let start = c.args.first in
-    let fits = put.fits_inside cmp start c.self.view_is c.range.view_is c.requires.fits in
-    let free = put.free_inside cmp start c.self.view_is c.range.view_is c.requires.free in
-    put.IsCounted-installed g.met.T.Key.Ord.total g.met.T.Translator.exact c.self.invariant c.range.invariant start fits free c.install.new.self.contents c.install.ensures.buckets _ _ c.join.ensures.items c.join.ensures.keys
+    let fits = put.fits_inside g.T.Key.Ord.cmp c.args.first c.self.view_is c.range.view_is c.requires.fits in
+    let free = put.free_inside g.T.Key.Ord.cmp c.args.first c.self.view_is c.range.view_is c.requires.free in
+    (put.IsCounted-installed g.met.T.Key.Ord.total g.met.T.Translator.exact c.self.invariant.0 c.range.invariant.0 c.args.first fits free (map g.X.Contents.content c.install_buckets.new.buckets.items) (contents_now g (goal.at.invariant_of-self g c).After-install_buckets) _ _ c.join.ensures.items c.join.ensures.keys, c.install_buckets.ensures.filled)
 
 pub returns-clause-joined : goal.returns-clause-joined
 returns-clause-joined g c =
-    let cmp = g.T.Key.Ord.cmp in
-    let start = c.args.first in
-    let fits = put.fits_inside cmp start c.self.view_is c.range.view_is c.requires.fits in
-    let free = put.free_inside cmp start c.self.view_is c.range.view_is c.requires.free in
+    let fits = put.fits_inside g.T.Key.Ord.cmp c.args.first c.self.view_is c.range.view_is c.requires.fits in
+    let free = put.free_inside g.T.Key.Ord.cmp c.args.first c.self.view_is c.range.view_is c.requires.free in
+    let told = contents_now g (goal.at.returns-clause-joined g c).After-install_buckets in
     rw (← c.self.view_is) (rw (← c.range.view_is) (
-    put.seen_joined g.met.T.Key.Ord.total g.met.T.Translator.exact c.self.invariant c.range.invariant start fits free c.install.new.self.contents c.install.ensures.buckets g.T.Translator.translated c.self.inside.translator c.range.inside.translator _ _ _ c.join.ensures.pruned
+    put.seen_joined g.met.T.Key.Ord.total g.met.T.Translator.exact c.self.invariant.0 c.range.invariant.0 c.args.first fits free (map g.X.Contents.content c.install_buckets.new.buckets.items) told g.T.Translator.translated c.self.inside.translator c.range.inside.translator _ _ _ c.join.ensures.pruned
     ))
 
 pub returns-clause-kept : goal.returns-clause-kept
 returns-clause-kept g c =
-    let cmp = g.T.Key.Ord.cmp in
-    let start = c.args.first in
-    let fits = put.fits_inside cmp start c.self.view_is c.range.view_is c.requires.fits in
-    let free = put.free_inside cmp start c.self.view_is c.range.view_is c.requires.free in
-    rw (← c.self.view_is) (put.KeepsBuckets-installed g.met.T.Key.Ord.total g.met.T.Translator.exact c.self.invariant c.range.invariant start fits free c.install.new.self.contents c.install.ensures.buckets)
+    let fits = put.fits_inside g.T.Key.Ord.cmp c.args.first c.self.view_is c.range.view_is c.requires.fits in
+    let free = put.free_inside g.T.Key.Ord.cmp c.args.first c.self.view_is c.range.view_is c.requires.free in
+    let told = contents_now g (goal.at.returns-clause-kept g c).After-install_buckets in
+    rw (← c.self.view_is) (put.KeepsBuckets-installed g.met.T.Key.Ord.total g.met.T.Translator.exact c.self.invariant.0 c.range.invariant.0 c.args.first fits free (map g.X.Contents.content c.install_buckets.new.buckets.items) told)
+
+pub returns-clause-standing : goal.returns-clause-standing
+returns-clause-standing g c =
+    let now = standing_now g (goal.at.returns-clause-standing g c).After-install_buckets in
+    rw (← c.self.view_is) (rw (← c.range.view_is) (λ i. standings_of c.self.inside.threshold (now i) (c.join-2.ensures.spills i) (c.join-2.ensures.moved i)))

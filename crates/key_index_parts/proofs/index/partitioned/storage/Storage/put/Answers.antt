@@ -1,68 +1,109 @@
-use Rattle.std.proofs.Common.{sym, ◌∙◌, refl, arith, ap}
+use Rattle.std.proofs.Common.{set, insert, refl, sym, ap, subst, ◌∙◌, arith}
+use Rattle.key_index_flat.specs.Content.{is_filled, item_count, list_at}
 use Rattle.key_index_flat.specs.View.{put_value}
-use Rattle.key_index_parts.specs.Family.{list_in}
-use Rattle.key_index_flat.specs.Content.{item_count}
 use Rattle.key_index_flat.proofs.entries.EntryLemmas.{length-put_value}
+use Rattle.key_index_parts.specs.Family.{stands, standing_of_all}
 use Rattle.key_index_parts.specs.Gathered.{gathered}
-use Rattle.key_index_parts.proofs.buckets.StorageLemmas.{within_buckets, keys_below, counted_gain, KeepsBuckets-edited, keeps_all, view_edited}
-use Rattle.key_index_parts.proofs.standing.StandingLemmas.{grows_to, pruned_after-zero}
-use Rattle.key_index_parts.proofs.standing.PaidLemmas.{StaysPaid, StaysPaid-GrowsIn, listed_by}
+use Rattle.key_index_parts.specs.Moves.{IsRangeWithin, IsWithin}
 use Rattle.key_index_parts.specs.Standing.{standings_of}
+use Rattle.key_index_parts.proofs.buckets.FamilyLemmas.{IsBucket, bucket_taken, bucket_stays, flags_stay, flags_filled, filled_held, filled_positive, is_filled-with_put, kept_stays, standing_grown, within_mapped, standing_stays}
+use Rattle.key_index_parts.proofs.buckets.StorageLemmas.{keeps_all, counted_as, keys_below, counted_gain, KeepsBuckets-edited, view_edited}
+use Rattle.key_index_parts.proofs.standing.PaidLemmas.{StaysPaid, StaysPaid-grown}
+use Rattle.key_index_parts.proofs.standing.StandingLemmas.{grows_to, pruned_after-zero}
 use Rattle.key_index_parts.proofs.index.partitioned.storage.Storage.put.Given.{Over}
-use Rattle.key_index_parts.proofs.index.partitioned.storage.Storage.put.Goals.{After-spill}
+use Rattle.key_index_parts.proofs.index.partitioned.storage.Storage.put.Goals.{After-index_mut, After-spill}
 use Rattle.key_index_parts.proofs.index.partitioned.storage.Storage.put.Goals as goal
 
+bucket_here : (g : Over) (c : After-index_mut g) → IsBucket g.X.Contents.content c.self.inside.buckets.items c.args.slot.0 c.index_mut.result.now
+bucket_here g c = bucket_taken g.X.Contents.content c.self.inside.buckets.items (ap (λ s. s.buckets) c.self.view_is) c.requires.within c.index_mut.ensures.value
+
 pub insert-requires : goal.insert-requires
-insert-requires g c = record { within = within_buckets c.self.view_is c.args.slot.0 c.requires.within; limit = c.self.inside.least }
+insert-requires g c = c.self.inside.least
 
 pub gain-requires : goal.gain-requires
 gain-requires g c =
-    let few = keys_below c.self.invariant in
+    let few = keys_below c.self.invariant.0 in
     let full = ap (λ s. item_count (gathered s.buckets)) c.self.view_is in
-    let was = c.self.invariant.counted in
+    let was = c.self.invariant.0.counted in
     record { items = omega (arith, full, was, c.requires.room); keys = omega (arith, few, full, was, c.requires.room) }
 
 pub invariant_of-self : goal.invariant_of-self
 invariant_of-self g c =
-    let list = list_in g.T.Key.Ord.cmp c.self.inside.buckets.contents c.args.slot in
-    let inside = within_buckets c.self.view_is c.args.slot.0 c.requires.within in
-    let told = c.in-Ok.ensures.accepted in
-    counted_gain c.self.invariant g.met.T.Key.Ord.total g.met.T.Translator.exact c.args.slot (put_value g.X.Bucket.FIRST c.args.value list) c.insert.new.self.contents inside told.0 _ _ c.in-Ok.absent told.1
-    (length-put_value g.X.Bucket.FIRST c.args.value list) c.gain.ensures.items c.gain.ensures.keys
+    let cmp = g.T.Key.Ord.cmp in
+    let d = g.X.Contents.content c.index_mut.result.now in
+    let k = c.args.slot.1 in
+    let bucket = bucket_here g (goal.at.invariant_of-self g c).After-index_mut in
+    let list = list_at cmp d k in
+    let told = c.in-Ok.ensures.accepted in (
+      counted_gain c.self.invariant.0 g.met.T.Key.Ord.total bucket c.args.slot.1 g.met.T.Translator.exact (put_value g.X.Bucket.FIRST c.args.value list) c.insert.new.self told.0 _ _ c.in-Ok.absent told.1 (length-put_value g.X.Bucket.FIRST c.args.value list) c.gain.ensures.items c.gain.ensures.keys,
+      c.set_if.ensures ∙ flags_filled cmp bucket c.self.inside.filled c.insert.new.self _ c.self.invariant.1
+          (ap is_filled told.0 ∙ is_filled-with_put cmp d k list g.X.Bucket.FIRST c.args.value) (λ b. filled_held cmp d k (filled_positive _ (sym b ∙ told.1))),
+    )
+
+pub invariant_of-self-in-Err : goal.invariant_of-self-in-Err
+invariant_of-self-in-Err g c =
+    let bucket = bucket_here g (goal.at.invariant_of-self-in-Err g c).After-index_mut in (
+      counted_as c.self.invariant.0 _ (bucket_stays g.T.Key.Ord.cmp bucket c.insert.new.self c.in-Err.ensures.refused),
+      flags_stay g.T.Key.Ord.cmp bucket c.self.inside.filled c.insert.new.self c.self.invariant.1 (ap is_filled c.in-Err.ensures.refused),
+    )
+
+pub invariant_of-self-inside-in-Err-1 : goal.invariant_of-self-inside-in-Err-1
+invariant_of-self-inside-in-Err-1 g c =
+    let s = c.self.inside in
+    let bucket = bucket_here g (goal.at.invariant_of-self-inside-in-Err-1 g c).After-index_mut in
+    (s.least, (subst (λ ps. IsWithin (standings_of s.threshold ps s.moves.spills s.moves.moved) s.counts.pruned) (sym (standing_stays bucket g.X.Contents.spilled c.insert.new.self c.in-Err.ensures.refused c.in-Err.ensures.stands)) s.within, tt))
+
+pub returns-in-Err-clause-refused : goal.returns-in-Err-clause-refused
+returns-in-Err-clause-refused g c =
+    let bucket = bucket_here g (goal.at.returns-in-Err-clause-refused g c).After-index_mut in
+    kept_stays bucket g.X.Contents.spilled c.insert.new.self c.in-Err.ensures.refused c.in-Err.ensures.stands ∙ c.self.view_is
+
+pub returns-in-Err-clause-kept : goal.returns-in-Err-clause-kept
+returns-in-Err-clause-kept g c =
+    let bucket = bucket_here g (goal.at.returns-in-Err-clause-kept g c).After-index_mut in
+    rw (← c.self.view_is) (keeps_all c.self.invariant.0 _ (bucket_stays g.T.Key.Ord.cmp bucket c.insert.new.self c.in-Err.ensures.refused))
+
+pub returns-in-Err-clause-range_bound : goal.returns-in-Err-clause-range_bound
+returns-in-Err-clause-range_bound g c =
+    let s = c.self.inside in
+    let bucket = bucket_here g (goal.at.returns-in-Err-clause-range_bound g c).After-index_mut in
+    rw (← c.self.view_is)
+    (λ before. subst (λ ps. IsRangeWithin (standings_of s.threshold ps s.moves.spills s.moves.moved) s.counts.pruned) (sym (standing_stays bucket g.X.Contents.spilled c.insert.new.self c.in-Err.ensures.refused c.in-Err.ensures.stands)) before)
 
 pub returns-in-Ok-clause-accepted : goal.returns-in-Ok-clause-accepted
 returns-in-Ok-clause-accepted g c =
-    let inside = within_buckets c.self.view_is c.args.slot.0 c.requires.within in
-    rw (← c.self.view_is) (
-    view_edited c.self.invariant g.met.T.Key.Ord.total g.met.T.Translator.exact c.args.slot _ c.insert.new.self.contents inside c.in-Ok.ensures.accepted.0 g.T.Translator.translated c.self.inside.translator _ _ (put_value g.X.Bucket.FIRST c.args.value) refl c.gain.ensures.pruned
-    )
+    let bucket = bucket_here g (goal.at.returns-in-Ok-clause-accepted g c).After-index_mut in
+    rw (← c.self.view_is)
+    (view_edited c.self.invariant.0 g.met.T.Key.Ord.total bucket c.args.slot.1 g.met.T.Translator.exact _ c.insert.new.self c.in-Ok.ensures.accepted.0 g.T.Translator.translated c.self.inside.translator _ _ (put_value g.X.Bucket.FIRST c.args.value) refl c.gain.ensures.pruned)
 
 pub returns-in-Ok-clause-kept : goal.returns-in-Ok-clause-kept
 returns-in-Ok-clause-kept g c =
-    let inside = within_buckets c.self.view_is c.args.slot.0 c.requires.within in
-    rw (← c.self.view_is) (KeepsBuckets-edited c.self.invariant g.met.T.Key.Ord.total g.met.T.Translator.exact c.args.slot _ c.insert.new.self.contents inside c.in-Ok.ensures.accepted.0)
-
-pub returns-in-Err-clause-kept : goal.returns-in-Err-clause-kept
-returns-in-Err-clause-kept g c = rw (← c.self.view_is) (keeps_all c.self.invariant _ (ap (λ s. s.contents) c.in-Err.ensures.refused))
+    let bucket = bucket_here g (goal.at.returns-in-Ok-clause-kept g c).After-index_mut in
+    rw (← c.self.view_is) (KeepsBuckets-edited c.self.invariant.0 g.met.T.Key.Ord.total bucket c.args.slot.1 g.met.T.Translator.exact _ c.insert.new.self c.in-Ok.ensures.accepted.0)
 
 pub returns-in-Ok-clause-standing : goal.returns-in-Ok-clause-standing
 returns-in-Ok-clause-standing g c =
-    rw (← c.self.view_is) (grows_to g.X.Bucket.SPILLS (standings_of c.self.inside.threshold c.self.inside.buckets.standing c.self.inside.moves.spills c.self.inside.moves.moved) c.args.slot.0 _ (listed_by _ _ c.self.inside.told c.args.slot.0 (within_buckets c.self.view_is c.args.slot.0 c.requires.within)) c.self.inside.least _ c.in-Ok.ensures.standing c.spill.ensures.spills c.spill.ensures.moved)
-
-grown_paid : (g : Over) (c : After-spill g) → let s = c.self.inside in
-    StaysPaid (standings_of s.threshold s.buckets.standing s.moves.spills s.moves.moved) (standings_of s.threshold c.insert.new.self.standing c.spill.new.self.spills c.spill.new.self.moved) s.counts.pruned c.gain.new.self.pruned
-grown_paid g c =
     let s = c.self.inside in
-    let list = list_in g.T.Key.Ord.cmp s.buckets.contents c.args.slot in
-    let more = length-put_value g.X.Bucket.FIRST c.args.value list in
-    StaysPaid-GrowsIn c.self.invariant g.met.T.Key.Ord.total c.args.slot (put_value g.X.Bucket.FIRST c.args.value list) c.insert.new.self.contents (within_buckets c.self.view_is c.args.slot.0 c.requires.within) c.in-Ok.ensures.accepted.0
-    s.buckets.standing _ s.told c.insert.ensures.counted s.threshold s.moves.spills s.moves.moved s.counts.pruned _ 0 (omega (arith, more)) (c.gain.ensures.pruned ∙ sym (pruned_after-zero s.counts.pruned))
+    let bucket = bucket_here g (goal.at.returns-in-Ok-clause-standing g c).After-index_mut in
+    rw (← c.self.view_is)
+    (grows_to g.X.Bucket.SPILLS (standings_of s.threshold (standing_of_all g.X.Contents.content g.X.Contents.spilled s.buckets.items) s.moves.spills s.moves.moved) c.args.slot.0 _ (within_mapped bucket g.X.Contents.spilled) s.least _ (standing_grown bucket g.X.Contents.spilled g.X.Bucket.SPILLS s.threshold _ c.insert.new.self c.in-Ok.ensures.standing) c.spill.ensures.spills c.spill.ensures.moved)
+
+grown_paid : (g : Over) (c : After-spill g) → IsBucket g.X.Contents.content c.self.inside.buckets.items c.args.slot.0 c.index_mut.result.now → let s = c.self.inside in
+    StaysPaid (standings_of s.threshold (standing_of_all g.X.Contents.content g.X.Contents.spilled s.buckets.items) s.moves.spills s.moves.moved) (standings_of s.threshold (standing_of_all g.X.Contents.content g.X.Contents.spilled (set s.buckets.items c.args.slot.0 c.insert.new.self)) c.spill.new.self.spills c.spill.new.self.moved) s.counts.pruned c.gain.new.self.pruned
+grown_paid g c bucket =
+    let s = c.self.inside in
+    let more = length-put_value g.X.Bucket.FIRST c.args.value (list_at g.T.Key.Ord.cmp (g.X.Contents.content c.index_mut.result.now) c.args.slot.1) in
+    StaysPaid-grown g.X.Contents.spilled g.met.T.Key.Ord.total (g.met.X.Contents.lawful c.index_mut.result.now) bucket c.insert.new.self c.args.slot.1 _ c.in-Ok.ensures.accepted.0
+    s.threshold s.moves.spills s.moves.moved s.counts.pruned _ 0 (omega (arith, more)) (c.gain.ensures.pruned ∙ sym (pruned_after-zero s.counts.pruned))
     g.X.Bucket.SPILLS s.least c.in-Ok.ensures.standing c.spill.ensures.spills c.spill.ensures.moved
 
 pub invariant_of-self-inside : goal.invariant_of-self-inside
-invariant_of-self-inside g c = (c.self.inside.least, (c.insert.ensures.counted, ((grown_paid g c).within c.self.inside.within, tt)))
+invariant_of-self-inside g c =
+    let at = goal.at.invariant_of-self-inside g c in
+    (c.self.inside.least, ((grown_paid g at.After-spill (bucket_here g at.After-index_mut)).within c.self.inside.within, tt))
 
 pub returns-in-Ok-clause-range_bound : goal.returns-in-Ok-clause-range_bound
 returns-in-Ok-clause-range_bound g c =
-    let stays = grown_paid g (goal.at.returns-in-Ok-clause-range_bound g c).After-spill in
+    let at = goal.at.returns-in-Ok-clause-range_bound g c in
+    let stays = grown_paid g at.After-spill (bucket_here g at.After-index_mut) in
     rw (← c.self.view_is) stays.range_bound

@@ -1,6 +1,6 @@
 use Rattle.std.proofs.Common.{◌≡◌, false, ◌≤◌, [], length, All, vec_capacity}
 use Rattle.key_index_parts.specs.Family.{stands}
-use Rattle.key_index_parts.proofs.index.partitioned.directory.Directory.new.Given as goal
+use Rattle.key_index_parts.proofs.index.partitioned.storage.Storage.new.Given as goal
 
 abbrev pub invariant-loop : goal.invariant-loop
 invariant-loop g l =
