@@ -21,9 +21,9 @@
 --     due_told, due_none                whether a bucket is due to spill, by how many values a spill would move
 --     small_told                        whether it is small, by how many a return would move
 --     left_fewer                        no more values of a bucket once its list became no longer
-use Rattle.std.proofs.Common.{◌≡◌, ℕ, zero, suc, ◌-◌, ◌*◌, ◌<◌, Bool, true, false, not, T, nat_le, List, [], ◌∷◌, ◌++◌, map, insert, take, drop, replicate, All, set, length, refl, sym, ap, subst, ◌∙◌, ◌≤◌, ◌&&◌, ◌||◌, nat_lt, arith, lt_of_not-le, slice_index_or}
+use Rattle.std.proofs.Common.{◌≡◌, ℕ, zero, suc, ◌-◌, ◌*◌, ◌<◌, Bool, true, false, not, T, nat_le, List, [], ◌∷◌, ◌++◌, map, insert, take, drop, replicate, All, set, length, refl, sym, ap, subst, ◌∙◌, ◌≤◌, ◌&&◌, nat_lt, arith, slice_index_or}
 use Rattle.std.proofs.lemmas.Bool.{le-leb, lt-leb, lt-ltb}
-use Rattle.std.proofs.lemmas.List.{get_or-map, get_or-set_same, set-set, map-set, get_or_past, length-map}
+use Rattle.std.proofs.lemmas.List.{get_or-map, get_or-set_same, set-set, map-set, length-map}
 use Rattle.std.specs.Cmp.{IsTotalOrder}
 use Rattle.std.specs.Prelude.{IsTrue, if◌then◌else◌}
 use Rattle.std.proofs.lemmas.List.Elements.{All-head, All-tail}

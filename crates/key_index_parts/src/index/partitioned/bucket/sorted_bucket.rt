@@ -450,7 +450,7 @@ impl<T: Translator, V: Drop> OrderedBucket<T, V> for SortedBucket<T, V> {
         }
     }
 
-    #[inline]
+    #[inline(always)]
     fn above(&self, key: T::Key) -> Option<(T::Key, Values<'_, V>)> {
         match self.tree() {
             Some(tree) => tree.above(key),
