@@ -1,9 +1,9 @@
-use Rattle.std.proofs.Common.{true, set, length, refl, sym, ap, subst, ◌∙◌, arith}
+use Rattle.std.proofs.Common.{true, length, refl, sym, ap, subst, ◌∙◌, arith}
 use Rattle.std.specs.Fn.{CalledAt}
 use Rattle.key_index_flat.specs.Content.{is_filled, item_count, list_at}
 use Rattle.key_index_flat.specs.Retention.{AsksBehind}
 use Rattle.key_index_flat.proofs.closures.TurnLemmas.{few_kept, held_answers}
-use Rattle.key_index_parts.specs.Family.{stands, standing_of_all}
+use Rattle.key_index_parts.specs.Family.{standing_of_all}
 use Rattle.key_index_parts.specs.Gathered.{gathered}
 use Rattle.key_index_parts.specs.Moves.{IsWithin}
 use Rattle.key_index_parts.specs.Standing.{standings_of}
