@@ -75,7 +75,7 @@ module _ {K V : Type 0} where
   stays_spilled spilled c = spilled && nat_lt 0 (item_count c)
 
   abbrev pub Grows : Bool → ℕ → Bool → ℕ → Content K V → Bool → Type 0
-  Grows spills limit was moved c is = Spills spills limit (stands c (stays_spilled was c)) moved (stands c is)
+  Grows spills threshold was moved c is = Spills spills threshold (stands c (stays_spilled was c)) moved (stands c is)
 
   abbrev pub inline_in : Bool → Bool → Content K V → ℕ
   inline_in spills spilled c = if spills && not spilled then item_count c else 0

@@ -6,7 +6,7 @@
 --     standings_of          the four of them
 --     standing_in           a partition; past the last one, one that holds nothing
 --     inline_len            how many values of a partition stand in arrays: all of them, or none where it is spilled
---     is_reached            it stands inline with as many values as the threshold or more (is_reached_by: as a limit)
+--     is_reached            it stands inline with as many values as the threshold or more (is_reached_by: at any)
 --     left_with             a partition once a call has left m values there; without values it isn't spilled
 --     with_left             the partitions after that
 --     due_in                how many values of a bucket are due to spill, of a kind that spills at so many values or doesn't
@@ -56,10 +56,10 @@ abbrev pub inline_len : Standings → ℕ → ℕ
 inline_len s n = if (standing_at s n).spilled then 0 else entries_at s n
 
 abbrev pub is_reached_by : ℕ → Standing → Bool
-is_reached_by limit p = not p.spilled && nat_le limit p.entries
+is_reached_by threshold p = not p.spilled && nat_le threshold p.entries
 
 abbrev pub due_in : Bool → ℕ → Standing → ℕ
-due_in spills limit p = if spills && is_reached_by limit p then p.entries else 0
+due_in spills threshold p = if spills && is_reached_by threshold p then p.entries else 0
 
 abbrev pub is_reached : Standings → ℕ → Bool
 is_reached s n = is_reached_by s.threshold (standing_at s n)
@@ -74,7 +74,7 @@ abbrev pub spilled_by : ℕ → Standing → Standing
 spilled_by moved p = record { entries = p.entries; spilled = nat_lt 0 moved || p.spilled }
 
 abbrev pub Spills : Bool → ℕ → Standing → ℕ → Standing → Type 0
-Spills spills limit old moved new = (moved ≡ due_in spills limit old) × (new ≡ spilled_by moved old)
+Spills spills threshold old moved new = (moved ≡ due_in spills threshold old) × (new ≡ spilled_by moved old)
 
 abbrev pub with_entries : Standings → ℕ → ℕ → Standings
 with_entries s n m = record s { buckets = with_left s.buckets n m }

@@ -21,9 +21,9 @@
 --     due_told, due_none                whether a bucket is due to spill, by how many values a spill would move
 --     small_told                        whether it is small, by how many a return would move
 --     left_fewer                        no more values of a bucket once its list became no longer
-use Rattle.std.proofs.Common.{◌≡◌, ℕ, zero, suc, ◌-◌, ◌*◌, ◌<◌, Bool, true, false, not, T, nat_le, List, [], ◌∷◌, ◌++◌, map, insert, take, drop, replicate, All, set, length, refl, sym, ap, subst, ◌∙◌, ◌≤◌, ◌&&◌, ◌||◌, nat_lt, arith, lt_of_not-le, slice_index_or}
+use Rattle.std.proofs.Common.{◌≡◌, ℕ, zero, suc, ◌-◌, ◌*◌, ◌<◌, Bool, true, false, not, T, nat_le, List, [], ◌∷◌, ◌++◌, map, insert, take, drop, replicate, All, set, length, refl, sym, ap, subst, ◌∙◌, ◌≤◌, ◌&&◌, nat_lt, arith, slice_index_or}
 use Rattle.std.proofs.lemmas.Bool.{le-leb, lt-leb, lt-ltb}
-use Rattle.std.proofs.lemmas.List.{get_or-map, get_or-set_same, set-set, map-set, get_or_past, length-map}
+use Rattle.std.proofs.lemmas.List.{get_or-map, get_or-set_same, set-set, map-set, length-map}
 use Rattle.std.specs.Cmp.{IsTotalOrder}
 use Rattle.std.specs.Prelude.{IsTrue, if◌then◌else◌}
 use Rattle.std.proofs.lemmas.List.Elements.{All-head, All-tail}
@@ -175,15 +175,15 @@ module _ {X K V : Type 0} {f : X → Content K V} {xs : List X} {p : ℕ} {x : X
   standing_left y e = map-set_standing y left_with (ap (λ b. stands (f y) b) e)
 
   -- a bucket that y stands for, once it was left with what y holds, and so many values of it moved
-  pub standing_grown : (spills : Bool) (limit moved : ℕ) (y : X) → Grows spills limit (s x) moved (f y) (s y)
-      → GrowsIn spills limit (map how xs) p moved (map how (set xs p y))
-  standing_grown spills limit moved y told =
+  pub standing_grown : (spills : Bool) (threshold moved : ℕ) (y : X) → Grows spills threshold (s x) moved (f y) (s y)
+      → GrowsIn spills threshold (map how xs) p moved (map how (set xs p y))
+  standing_grown spills threshold moved y told =
       let m = (standing_in (map how (set xs p y)) p).entries in
       let left = left_with (standing_in (map how xs) p) m in
       let at : stands (f y) (stays_spilled (s x) (f y)) ≡ standing_in (with_left (map how xs) p m) p =
       (λ i. left_with (standing_in-map i) (sym (standing_new y) i).entries)
       ∙ sym (get_or-set_same (map how xs) p left (record { entries = 0; spilled = false }) within_mapped) in (
-        told.0 ∙ ap (λ z. due_in spills limit z) at,
+        told.0 ∙ ap (λ z. due_in spills threshold z) at,
         map-set how xs p y ∙ ap (λ z. set (map how xs) p z) (told.1 ∙ ap (λ z. spilled_by moved z) at) ∙ sym (set-set (map how xs) p left _),
       )
 
@@ -233,20 +233,20 @@ spills_so true spilled c is some = refl
 spills_so false spilled c is some = absurd (omega (arith, is, some))
 
 -- whether a bucket is due to spill, by how many values a spill would move
-pub due_told : (spills spilled : Bool) (limit entries values : ℕ) → values ≡ (if spills && not spilled then entries else 0) → limit ≤ values → 1 ≤ limit
-    → ((spills && (not spilled && nat_le limit entries)) ≡ true) × (values ≡ entries)
-due_told true false limit entries values is many least = (le-leb limit entries (omega (arith, is, many)), is)
-due_told true true limit entries values is many least = absurd (omega (arith, is, many, least))
-due_told false spilled limit entries values is many least = absurd (omega (arith, is, many, least))
+pub due_told : (spills spilled : Bool) (threshold entries values : ℕ) → values ≡ (if spills && not spilled then entries else 0) → threshold ≤ values → 1 ≤ threshold
+    → ((spills && (not spilled && nat_le threshold entries)) ≡ true) × (values ≡ entries)
+due_told true false threshold entries values is many least = (le-leb threshold entries (omega (arith, is, many)), is)
+due_told true true threshold entries values is many least = absurd (omega (arith, is, many, least))
+due_told false spilled threshold entries values is many least = absurd (omega (arith, is, many, least))
 
-pub due_none : (spills spilled : Bool) (limit entries values : ℕ) → values ≡ (if spills && not spilled then entries else 0) → values < limit
-    → (spills && (not spilled && nat_le limit entries)) ≡ false
-due_none true false limit entries values is few = lt-leb limit entries (omega (arith, is, few))
-due_none true true limit entries values is few = refl
-due_none false spilled limit entries values is few = refl
+pub due_none : (spills spilled : Bool) (threshold entries values : ℕ) → values ≡ (if spills && not spilled then entries else 0) → values < threshold
+    → (spills && (not spilled && nat_le threshold entries)) ≡ false
+due_none true false threshold entries values is few = lt-leb threshold entries (omega (arith, is, few))
+due_none true true threshold entries values is few = refl
+due_none false spilled threshold entries values is few = refl
 
 -- whether it is small, by how many values a return would move
-pub small_told : (spilled : Bool) (limit entries values : ℕ) → values ≡ (if spilled then entries else 0) → 0 < values → values < limit - values
-    → ((spilled && nat_lt (2 * entries) limit) ≡ true) × (values ≡ entries)
-small_told true limit entries values is some few = (lt-ltb (2 * entries) limit (omega (arith, is, few)), is)
-small_told false limit entries values is some few = absurd (omega (arith, is, some))
+pub small_told : (spilled : Bool) (threshold entries values : ℕ) → values ≡ (if spilled then entries else 0) → 0 < values → values < threshold - values
+    → ((spilled && nat_lt (2 * entries) threshold) ≡ true) × (values ≡ entries)
+small_told true threshold entries values is some few = (lt-ltb (2 * entries) threshold (omega (arith, is, few)), is)
+small_told false threshold entries values is some few = absurd (omega (arith, is, some))

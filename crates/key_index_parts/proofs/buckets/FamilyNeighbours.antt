@@ -4,6 +4,7 @@
 --     first_of, first_none                    the first entry of the buckets from a number on, by the first of them that is filled, and where none is
 --     last_of, last_list-no_flags             the last list of the buckets below a number, by the last of them that is filled, and where none is
 --     above-in_parts, above-past              the first entry above a slot: in its own bucket, or in one beyond it; and none where it has no bucket
+--     next_list-gathered                      the next list of a slot, by these
 --     prev_list-gathered                      the previous list of a slot: in its own bucket, in one before it, or at the other end
 use Rattle.std.proofs.Common.{◌≡◌, ℕ, zero, suc, ◌+◌, ◌-◌, ◌<◌, ◌≤◌, nat_lt, true, false, T, List, [], ◌∷◌, ◌++◌, get_or, take, drop, length, Option, Some, None, append-nil, refl, sym, ap, subst, ◌∙◌, add-one, arith}
 use Rattle.std.proofs.lemmas.Bool.{ltb-true, ltb-false}
@@ -12,7 +13,7 @@ use Rattle.std.specs.List.{last_or}
 use Rattle.std.specs.Option.{option_map, option_or}
 use Rattle.std.specs.declared.cmp.Ordering.{Ordering}
 use Rattle.key_index_flat.specs.Content.{Content, is_filled}
-use Rattle.key_index_flat.specs.Neighbours.{first_entry, last_entry, or_cycled, entries_above, entries_below, last_list, prev_list}
+use Rattle.key_index_flat.specs.Neighbours.{first_entry, last_entry, or_cycled, entries_above, entries_below, last_list, next_list, prev_list}
 use Rattle.key_index_parts.specs.Family.{bucket_at, filled_buckets}
 use Rattle.key_index_parts.specs.Bitmap.{IsFirst, IsLast, flag_at}
 use Rattle.key_index_parts.specs.Gathered.{pair_cmp, tagged, gathered_from, gathered}
@@ -132,6 +133,13 @@ module _ {K V : Type 0} (cmp : K → K → Ordering) (buckets : List (Content K 
   above-in_parts slot told of_own of_later =
       (λ i. option_or (option_map (at_number slot.0) ((of_own ∙ ap (λ d. first_entry (entries_above cmp d slot.1)) told) i)) ((of_later ∙ ap (λ n. first_entry (gathered_from n (drop n buckets))) (add-one slot.0)) i))
       ∙ sym (ap (λ d. first_entry d) (above-gathered cmp buckets slot.0 slot.1) ∙ first_entry-append slot.0 _ _)
+
+  -- and the list next to it, where first is the entry that all buckets have
+  pub next_list-gathered : (slot : ℕ × K) {c : Content K V} (told : c ≡ bucket_at buckets slot.0) {own : Option (K × List V)} {later first : Option ((ℕ × K) × List V)}
+      → own ≡ first_entry (entries_above cmp c slot.1) → later ≡ first_entry (gathered_from (slot.0 + 1) (drop (slot.0 + 1) buckets)) → first ≡ first_entry (gathered buckets)
+      → option_map (λ n. (n.0.1, n.1)) (or_cycled (option_or (option_map (at_number slot.0) own) later) first) ≡ next_list (pair_cmp cmp) (gathered buckets) slot
+  next_list-gathered slot told of_own of_later of_first =
+      λ i. option_map (λ n. (n.0.1, n.1)) (or_cycled (above-in_parts slot told of_own of_later i) (of_first i))
 
   pub above-past : (slot : ℕ × K) → length buckets ≤ slot.0 → entries_above (pair_cmp cmp) (gathered buckets) slot ≡ []
   above-past slot past =

@@ -2,7 +2,7 @@
 --     some_left, item_count-one_more                   a content where a key has no fewer values, and where it has one more
 --     item_count-stays_positive                        the same after an insertion that may be refused
 --     item_count-retained                              an insertion with retention leaves at most one value more
---     in_tree, Grows-below_limit, Grows-limit_reached  how a tree stands after an insertion, arrays below the limit, and a tree that arrays became
+--     in_tree, Grows-below_threshold, Grows-threshold_reached  how a tree stands after an insertion, arrays below the threshold, and a tree that arrays became
 --     held_by-tree, held_now                           what a bucket with a tree holds, which is something
 --     none_beside                                      and its arrays hold nothing
 use Rattle.std.proofs.Common.{◌≡◌, ℕ, zero, suc, ◌+◌, ◌<◌, ◌≤◌, Bool, true, false, not, ◌&&◌, ◌||◌, nat_lt, nat_le, if◌then◌else◌, List, length, Option, Some, is_some, Result, Ok, Err, IfOk, OnErr, Box, refl, sym, ap, subst, ◌∙◌, arith}
@@ -16,20 +16,20 @@ use Rattle.key_index_parts.specs.Spilled.{HoldsSome, held_by}
 use Rattle.key_index_flat.proofs.closures.TurnLemmas.{few_kept}
 
 module _ {K V : Type 0} where
-  -- a tree that is left with some values or none, arrays below the limit, and arrays that reached it
-  pub in_tree : (limit : ℕ) (c : Content K V) (is : Bool) → 1 ≤ limit → is ≡ nat_lt 0 (item_count c) → Grows true limit true 0 c is
-  in_tree limit c is least told = (none (item_count c), ap (λ b. stands c b) told)
+  -- a tree that is left with some values or none, arrays below the threshold, and arrays that reached it
+  pub in_tree : (threshold : ℕ) (c : Content K V) (is : Bool) → 1 ≤ threshold → is ≡ nat_lt 0 (item_count c) → Grows true threshold true 0 c is
+  in_tree threshold c is least told = (none (item_count c), ap (λ b. stands c b) told)
     where
-      none : (n : ℕ) → 0 ≡ (if not (nat_lt 0 n) && nat_le limit n then n else 0)
-      none zero = ap (λ b. if b then 0 else 0) (sym (lt-leb limit 0 least))
-      none (suc n) = ap (λ b. if not b && nat_le limit (suc n) then suc n else 0) (sym (lt-ltb 0 (suc n) (omega arith)))
+      none : (n : ℕ) → 0 ≡ (if not (nat_lt 0 n) && nat_le threshold n then n else 0)
+      none zero = ap (λ b. if b then 0 else 0) (sym (lt-leb threshold 0 least))
+      none (suc n) = ap (λ b. if not b && nat_le threshold (suc n) then suc n else 0) (sym (lt-ltb 0 (suc n) (omega arith)))
 
-  pub Grows-below_limit : (limit : ℕ) (c : Content K V) → item_count c < limit → Grows true limit false 0 c false
-  Grows-below_limit limit c few = (ap (λ b. if b then item_count c else 0) (sym (lt-leb limit (item_count c) few)), refl)
+  pub Grows-below_threshold : (threshold : ℕ) (c : Content K V) → item_count c < threshold → Grows true threshold false 0 c false
+  Grows-below_threshold threshold c few = (ap (λ b. if b then item_count c else 0) (sym (lt-leb threshold (item_count c) few)), refl)
 
-  pub Grows-limit_reached : (limit moved : ℕ) (c : Content K V) → 1 ≤ limit → limit ≤ moved → moved ≡ item_count c → Grows true limit false moved c true
-  Grows-limit_reached limit moved c least many told = (
-    told ∙ ap (λ b. if b then item_count c else 0) (sym (le-leb limit (item_count c) (omega (arith, told, many)))),
+  pub Grows-threshold_reached : (threshold moved : ℕ) (c : Content K V) → 1 ≤ threshold → threshold ≤ moved → moved ≡ item_count c → Grows true threshold false moved c true
+  Grows-threshold_reached threshold moved c least many told = (
+    told ∙ ap (λ b. if b then item_count c else 0) (sym (le-leb threshold (item_count c) (omega (arith, told, many)))),
     ap (λ b. stands c (b || false)) (sym (lt-ltb 0 moved (omega (arith, least, many)))),
   )
 

@@ -137,11 +137,11 @@ settled_due spills s n e = sym (settled_by spills s n ∙ ap (λ b. if b then wi
 
 -- a partition spills where it is due, and so many values move
 abbrev SpillsIn : Bool → ℕ → List Standing → ℕ → ℕ → List Standing → Type 0
-SpillsIn spills limit old n moved new = (moved ≡ due_in spills limit (standing_in old n)) × (new ≡ set old n (spilled_by moved (standing_in old n)))
+SpillsIn spills threshold old n moved new = (moved ≡ due_in spills threshold (standing_in old n)) × (new ≡ set old n (spilled_by moved (standing_in old n)))
 
 -- an insertion: it is left with more values, or with fewer where that asks a closure, and then spills where that is due
 abbrev pub GrowsIn : Bool → ℕ → List Standing → ℕ → ℕ → List Standing → Type 0
-GrowsIn spills limit old n moved new = SpillsIn spills limit (with_left old n (standing_in new n).entries) n moved new
+GrowsIn spills threshold old n moved new = SpillsIn spills threshold (with_left old n (standing_in new n).entries) n moved new
 
 -- a count of values that is none exactly where it is not said
 some_if : (c : Bool) (n : ℕ) → (c ≡ true → 0 < n) → nat_lt 0 (if c then n else 0) ≡ c

@@ -154,13 +154,13 @@ module _ (s : Standings) (n m : ℕ) (inside : n < length s.buckets) (least : 1 
 
   pub call_inline : IsBelow (after_call s n m) n
   call_inline =
-      subst (λ t. (if (standing_at (after_call s n m) n).spilled then 0 else entries_at (after_call s n m) n) < t) (sym same_limit)
+      subst (λ t. (if (standing_at (after_call s n m) n).spilled then 0 else entries_at (after_call s n m) n) < t) (sym kept_threshold)
       (subst (λ p. (if p.spilled then 0 else p.entries) < s.threshold) (sym call_stands)
       (subst (λ b. (if b && nat_lt 0 m then 0 else m) < s.threshold) (or-assoc (standing_at s n).spilled (nat_le s.threshold (entries_at s n)) (nat_le s.threshold m))
       (entries-below_threshold ((standing_at s n).spilled || nat_le s.threshold (entries_at s n)))))
     where
-      same_limit : (after_call s n m).threshold ≡ s.threshold
-      same_limit = same_threshold (with_entries (spilled_if_reached s n) n m) n ∙ same_threshold s n
+      kept_threshold : (after_call s n m).threshold ≡ s.threshold
+      kept_threshold = same_threshold (with_entries (spilled_if_reached s n) n m) n ∙ same_threshold s n
 
       or-assoc : (a b c : Bool) → ((a || b) || c) ≡ (a || b || c)
       or-assoc true b c = refl
@@ -230,9 +230,9 @@ module _ (s new : Standings) (n : ℕ) (told : MovesBack (after_call s n (entrie
 
     pub back_inline : IsBelow new n
     back_inline = below_threshold told where
-      few_left : (spilled : Bool) (limit m : ℕ) → IsTrue (spilled && nat_lt (2 * m) limit) → m < limit
-      few_left true limit m small = grind (arith, nat_tests)
-      few_left false limit m small = grind (arith, nat_tests)
+      few_left : (spilled : Bool) (threshold m : ℕ) → IsTrue (spilled && nat_lt (2 * m) threshold) → m < threshold
+      few_left true threshold m small = grind (arith, nat_tests)
+      few_left false threshold m small = grind (arith, nat_tests)
 
       below_threshold : MovesBack called n new → IsBelow new n
       below_threshold (inl same) = subst (λ x. IsBelow x n) (sym same) (call_inline s n (entries_at new n) inside least)

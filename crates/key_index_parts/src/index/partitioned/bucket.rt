@@ -143,8 +143,8 @@ pub(super) trait Representation<T: Translator, V>: EditBucket<T, V> {
         ensures returned { IfErr result (λ back. back ≡ value) };
 }
 
-/// A bucket of an index. A refusal is an allocation failure, and leaves the bucket as it was. `SPILLS` tells whether buckets of this
-/// kind ever spill: a call that puts a value in moves the values of such a bucket from arrays to a tree where it is left with `limit`
+/// A bucket of an index. A refusal is an allocation failure, and leaves the bucket as it was. `SPILLS` tells whether buckets of this kind
+/// ever spill: a call that puts a value in moves the values of such a bucket from arrays to a tree where it is left with `threshold`
 /// values or more, and tells how many that moved. No other call but `spill` does so, and `move_back` alone moves values back.
 pub(super) trait Bucket<T: Translator, V>: EditBucket<T, V> {
     ghost FIRST: { Bool };
@@ -182,25 +182,30 @@ pub(super) trait Bucket<T: Translator, V>: EditBucket<T, V> {
         ensures stands { OnErr result (Self.spilled self.new ≡ Self.spilled self.old) };
 
     /// Puts a value in at its end of the key's list, and tells whether the key had none, and how many values moved.
-    fn insert(&mut self, key: T::Key, value: V, limit: usize) -> Result<(bool, usize), V>
-        requires { 1 ≤ limit }
+    fn insert(&mut self, key: T::Key, value: V, threshold: usize) -> Result<(bool, usize), V>
+        requires { 1 ≤ threshold }
         ensures accepted { IfOk result (λ told.
             (Self.content self.new ≡ with_list_by T.Key.cmp (Self.content self.old) key (put_value FIRST value))
             × (told.0 ≡ lacks T.Key.cmp (Self.content self.old) key)) }
-        ensures standing { IfOk result (λ told. Grows SPILLS limit
+        ensures standing { IfOk result (λ told. Grows SPILLS threshold
             (Self.spilled self.old) told.1 (Self.content self.new) (Self.spilled self.new)) }
         ensures refused { OnErr result (Self.content self.new ≡ Self.content self.old) }
         ensures stands { OnErr result (Self.spilled self.new ≡ Self.spilled self.old) }
         ensures returned { IfErr result (λ back. back ≡ value) };
 
     /// Puts a value under a key that has none, and tells how many values the key had, and how many moved.
-    fn insert_absent(&mut self, key: T::Key, value: V, limit: usize) -> Result<(usize, usize), V>
-        requires { 1 ≤ limit }
+    fn insert_absent(
+        &mut self,
+        key: T::Key,
+        value: V,
+        threshold: usize,
+    ) -> Result<(usize, usize), V>
+        requires { 1 ≤ threshold }
         ensures found { IfOk result (λ told. 0 < told.0 → Self.content self.new ≡ Self.content self.old) }
         ensures found_stands { IfOk result (λ told. 0 < told.0 → Self.spilled self.new ≡ Self.spilled self.old) }
         ensures inserted { IfOk result (λ told. told.0 ≡ 0 →
             Self.content self.new ≡ with_list T.Key.cmp (Self.content self.old) key (value ∷ [])) }
-        ensures standing { IfOk result (λ told. told.0 ≡ 0 → Grows SPILLS limit
+        ensures standing { IfOk result (λ told. told.0 ≡ 0 → Grows SPILLS threshold
             (Self.spilled self.old) told.1 (Self.content self.new) (Self.spilled self.new)) }
         ensures len { IfOk result (λ told. told.0 ≡ length (list_at T.Key.cmp (Self.content self.old) key)) }
         ensures refused { OnErr result (Self.content self.new ≡ Self.content self.old) }
@@ -214,14 +219,14 @@ pub(super) trait Bucket<T: Translator, V>: EditBucket<T, V> {
         key: T::Key,
         value: V,
         should_retain: F,
-        limit: usize,
+        threshold: usize,
     ) -> Result<(Retained, usize), V>
         requires callable { F.IsAlwaysCallable should_retain }
-        requires limit { 1 ≤ limit }
+        requires threshold { 1 ≤ threshold }
         ensures accepted { IfOk result (λ told. RetainsWith (CalledAt F.FnMut) should_retain
             (list_at T.Key.cmp (Self.content self.old) key) value told.0.had told.0.left told.0.taken
             (λ l. Self.content self.new ≡ with_list T.Key.cmp (Self.content self.old) key l)) }
-        ensures standing { IfOk result (λ told. Grows SPILLS limit
+        ensures standing { IfOk result (λ told. Grows SPILLS threshold
             (Self.spilled self.old) told.1 (Self.content self.new) (Self.spilled self.new)) }
         ensures refused { OnErr result (Self.content self.new ≡ Self.content self.old) }
         ensures stands { OnErr result (Self.spilled self.new ≡ Self.spilled self.old) }

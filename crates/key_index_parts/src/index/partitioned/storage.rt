@@ -793,7 +793,10 @@ impl<T: Translator, V: Drop, X: OrderedBucket<T, V> + Drop, const P: usize> Stor
         requires { slot.0 < length self.now.buckets }
         ensures { result ≡ next_list (pair_cmp T.Key.cmp) (gathered self.now.buckets) slot }
     {
-        match self.above(slot) {
+        if let Some((_, values)) = self.buckets[slot.0].above(slot.1) {
+            return Some((values, false));
+        }
+        match self.first_from(slot.0 + 1) {
             Some((_, values)) => Some((values, false)),
             None => match self.first() {
                 Some((_, values)) => Some((values, true)),

@@ -112,12 +112,17 @@ impl<T: Translator, V: Drop> Bucket<T, V> for HashBucket<T, V> {
     }
 
     #[inline]
-    fn insert(&mut self, key: T::Key, value: V, _limit: usize) -> Result<(bool, usize), V> {
+    fn insert(&mut self, key: T::Key, value: V, _threshold: usize) -> Result<(bool, usize), V> {
         let absent = self.lists.insert(key, value)?;
         Ok((absent, 0))
     }
 
-    fn insert_absent(&mut self, key: T::Key, value: V, _limit: usize) -> Result<(usize, usize), V> {
+    fn insert_absent(
+        &mut self,
+        key: T::Key,
+        value: V,
+        _threshold: usize,
+    ) -> Result<(usize, usize), V> {
         let len = self.lists.insert_absent(key, value)?;
         Ok((len, 0))
     }
@@ -127,7 +132,7 @@ impl<T: Translator, V: Drop> Bucket<T, V> for HashBucket<T, V> {
         key: T::Key,
         value: V,
         should_retain: F,
-        _limit: usize,
+        _threshold: usize,
     ) -> Result<(Retained, usize), V> {
         let told = self.lists.insert_and_retain(key, value, should_retain)?;
         Ok((told, 0))

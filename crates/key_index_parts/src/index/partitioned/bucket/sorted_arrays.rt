@@ -176,7 +176,7 @@ impl<T: Translator, V: Drop> OrderedBucket<T, V> for SortedArrays<T, V> {
         }
     }
 
-    #[inline]
+    #[inline(always)]
     fn above(&self, key: T::Key) -> Option<(T::Key, Values<'_, V>)> {
         let (key, values) = self.pairs.next_entry_after(&key)?;
         Some((key, Values::of_slice(values)))

@@ -347,7 +347,7 @@ impl<T: Translator, V: Drop> Bucket<T, V> for SortedBucket<T, V> {
         Ok(())
     }
 
-    fn insert(&mut self, key: T::Key, value: V, limit: usize) -> Result<(bool, usize), V> {
+    fn insert(&mut self, key: T::Key, value: V, threshold: usize) -> Result<(bool, usize), V> {
         if !self.is_inline() {
             let Some(tree) = &mut self.tree else {
                 unreachable!()
@@ -355,7 +355,7 @@ impl<T: Translator, V: Drop> Bucket<T, V> for SortedBucket<T, V> {
             let absent = tree.insert(key, value)?;
             return Ok((absent, 0));
         }
-        if self.arrays.len() < limit - 1 {
+        if self.arrays.len() < threshold - 1 {
             let absent = self.arrays.insert(key, value)?;
             return Ok((absent, 0));
         }
@@ -376,22 +376,27 @@ impl<T: Translator, V: Drop> Bucket<T, V> for SortedBucket<T, V> {
         }
     }
 
-    fn insert_absent(&mut self, key: T::Key, value: V, limit: usize) -> Result<(usize, usize), V> {
+    fn insert_absent(
+        &mut self,
+        key: T::Key,
+        value: V,
+        threshold: usize,
+    ) -> Result<(usize, usize), V> {
         let len = self.run_len(key);
         if len > 0 {
             return Ok((len, 0));
         }
-        let (_, moved) = self.insert(key, value, limit)?;
+        let (_, moved) = self.insert(key, value, threshold)?;
         Ok((0, moved))
     }
 
-    /// Where the arrays would reach the limit, it calls the closure over a tree, and moves what is left back where that is fewer.
+    /// Where the arrays would reach the threshold, it calls the closure over a tree, and moves what is left back where that is fewer.
     fn insert_and_retain<F: FnMut(&V) -> bool>(
         &mut self,
         key: T::Key,
         value: V,
         should_retain: F,
-        limit: usize,
+        threshold: usize,
     ) -> Result<(Retained, usize), V> {
         if !self.is_inline() {
             let Some(tree) = &mut self.tree else {
@@ -402,7 +407,7 @@ impl<T: Translator, V: Drop> Bucket<T, V> for SortedBucket<T, V> {
             return Ok((told, 0));
         }
         let len = self.arrays.len();
-        if len < limit - 1 {
+        if len < threshold - 1 {
             let told = self.arrays.insert_and_retain(key, value, should_retain)?;
             return Ok((told, 0));
         }
@@ -412,7 +417,7 @@ impl<T: Translator, V: Drop> Bucket<T, V> for SortedBucket<T, V> {
         match tree.insert_and_retain(key, value, should_retain) {
             Ok(told) => {
                 let left = tree.len();
-                if left < limit {
+                if left < threshold {
                     into_arrays(tree, &mut self.arrays);
                     return Ok((told, 0));
                 }
@@ -445,7 +450,7 @@ impl<T: Translator, V: Drop> OrderedBucket<T, V> for SortedBucket<T, V> {
         }
     }
 
-    #[inline]
+    #[inline(always)]
     fn above(&self, key: T::Key) -> Option<(T::Key, Values<'_, V>)> {
         match self.tree() {
             Some(tree) => tree.above(key),

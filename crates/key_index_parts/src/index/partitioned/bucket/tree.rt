@@ -159,7 +159,7 @@ impl<T: Translator, V: Drop> OrderedBucket<T, V> for Tree<T, V> {
         Some(values)
     }
 
-    #[inline]
+    #[inline(always)]
     fn above(&self, key: T::Key) -> Option<(T::Key, Values<'_, V>)> {
         self.lists.above(key)
     }

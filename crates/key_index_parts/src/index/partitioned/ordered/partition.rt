@@ -599,6 +599,7 @@ impl<K: Ord + Copy, V: Drop> Partition<K, V> {
     }
 
     /// The least key above a key, with its values. None where there is no such key.
+    #[inline(always)]
     pub fn next_entry_after(&self, key: &K) -> Option<(K, &[V])>
         ensures { option_map (λ e. (e.0, e.1.now)) result
             ≡ first_entry (entries_above K.cmp (grouped K.cmp self.now.pairs) key.now) }

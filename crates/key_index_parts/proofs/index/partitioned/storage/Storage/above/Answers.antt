@@ -1,4 +1,4 @@
-use Rattle.std.proofs.Common.{◌≡◌, ◌≤◌, true, false, map, length, refl, sym, ap, arith}
+use Rattle.std.proofs.Common.{◌≡◌, ◌≤◌, map, length, refl, sym, ap, arith}
 use Rattle.std.proofs.lemmas.List.{length-map}
 use Rattle.key_index_flat.specs.Neighbours.{first_entry}
 use Rattle.key_index_parts.specs.Family.{bucket_at}

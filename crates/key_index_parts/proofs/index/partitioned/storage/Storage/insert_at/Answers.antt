@@ -1,7 +1,7 @@
-use Rattle.std.proofs.Common.{◌≤◌, false, set, length, insert, refl, sym, ap, subst, ◌∙◌, arith}
+use Rattle.std.proofs.Common.{◌≤◌, set, length, insert, refl, sym, ap, subst, ◌∙◌, arith}
 use Rattle.std.proofs.lemmas.List.Edits.{length-insert}
 use Rattle.key_index_flat.specs.Content.{is_filled, item_count, list_at}
-use Rattle.key_index_parts.specs.Family.{held_at, stands, standing_of_all}
+use Rattle.key_index_parts.specs.Family.{held_at, standing_of_all}
 use Rattle.key_index_parts.specs.Gathered.{gathered}
 use Rattle.key_index_parts.specs.Moves.{IsRangeWithin, IsWithin}
 use Rattle.key_index_parts.specs.Standing.{standings_of}

@@ -1,8 +1,8 @@
-use Rattle.std.proofs.Common.{set, insert, refl, sym, ap, subst, ◌∙◌, arith}
+use Rattle.std.proofs.Common.{set, refl, sym, ap, subst, ◌∙◌, arith}
 use Rattle.key_index_flat.specs.Content.{is_filled, item_count, list_at}
 use Rattle.key_index_flat.specs.View.{put_value}
 use Rattle.key_index_flat.proofs.entries.EntryLemmas.{length-put_value}
-use Rattle.key_index_parts.specs.Family.{stands, standing_of_all}
+use Rattle.key_index_parts.specs.Family.{standing_of_all}
 use Rattle.key_index_parts.specs.Gathered.{gathered}
 use Rattle.key_index_parts.specs.Moves.{IsRangeWithin, IsWithin}
 use Rattle.key_index_parts.specs.Standing.{standings_of}

@@ -1,7 +1,7 @@
-use Rattle.std.proofs.Common.{◌≡◌, true, not, [], ◌∷◌, set, length, refl, sym, ap, subst, ◌∙◌, arith, zero}
+use Rattle.std.proofs.Common.{◌≡◌, true, not, [], ◌∷◌, set, length, refl, sym, ap, subst, ◌∙◌, arith}
 use Rattle.std.proofs.lemmas.List.{nil_from_length}
 use Rattle.key_index_flat.specs.Content.{is_filled, item_count, list_at}
-use Rattle.key_index_parts.specs.Family.{stands, standing_of_all}
+use Rattle.key_index_parts.specs.Family.{standing_of_all}
 use Rattle.key_index_parts.specs.Gathered.{gathered}
 use Rattle.key_index_parts.specs.Moves.{IsRangeWithin, IsWithin}
 use Rattle.key_index_parts.specs.Standing.{standings_of}

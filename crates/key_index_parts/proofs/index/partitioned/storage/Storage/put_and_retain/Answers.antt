@@ -1,9 +1,9 @@
-use Rattle.std.proofs.Common.{true, set, length, refl, sym, ap, subst, ◌∙◌, arith}
+use Rattle.std.proofs.Common.{true, length, refl, sym, ap, subst, ◌∙◌, arith}
 use Rattle.std.specs.Fn.{CalledAt}
 use Rattle.key_index_flat.specs.Content.{is_filled, item_count, list_at}
 use Rattle.key_index_flat.specs.Retention.{AsksBehind}
 use Rattle.key_index_flat.proofs.closures.TurnLemmas.{few_kept, held_answers}
-use Rattle.key_index_parts.specs.Family.{stands, standing_of_all}
+use Rattle.key_index_parts.specs.Family.{standing_of_all}
 use Rattle.key_index_parts.specs.Gathered.{gathered}
 use Rattle.key_index_parts.specs.Moves.{IsWithin}
 use Rattle.key_index_parts.specs.Standing.{standings_of}
@@ -18,8 +18,8 @@ use Rattle.key_index_parts.proofs.index.partitioned.storage.Storage.put_and_reta
 bucket_here : (g : Over) (c : After-index_mut-bucket g) → IsBucket g.X.Contents.content c.self.inside.buckets.items c.args.slot.0 c.index_mut-bucket.result.now
 bucket_here g c = bucket_taken g.X.Contents.content c.self.inside.buckets.items (ap (λ s. s.buckets) c.self.view_is) c.requires.within c.index_mut-bucket.ensures.value
 
-pub insert_and_retain-requires-clause-limit : goal.insert_and_retain-requires-clause-limit
-insert_and_retain-requires-clause-limit g c = c.self.inside.least
+pub insert_and_retain-requires-clause-threshold : goal.insert_and_retain-requires-clause-threshold
+insert_and_retain-requires-clause-threshold g c = c.self.inside.least
 
 pub change-requires : goal.change-requires
 change-requires g c =

@@ -1,6 +1,3 @@
-use Rattle.std.proofs.Common.{insert, arith}
-use Rattle.std.proofs.lemmas.List.Edits.{length-insert}
-use Rattle.key_index_flat.specs.Content.{list_at}
 use Rattle.key_index_parts.proofs.buckets.HashBucketLemmas.{absent_too, lawful_put}
 use Rattle.key_index_parts.proofs.index.partitioned.bucket.hash_bucket.HashBucketEditBucket.insert_at.Goals as goal
 

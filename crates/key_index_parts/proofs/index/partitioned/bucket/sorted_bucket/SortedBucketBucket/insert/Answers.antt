@@ -4,7 +4,7 @@ use Rattle.key_index_flat.specs.Content.{is_filled, item_count, list_at}
 use Rattle.key_index_flat.specs.View.{put_value}
 use Rattle.key_index_parts.specs.Pairs.{grouped}
 use Rattle.key_index_parts.specs.laws.PairLaws.{IsLawful-grouped}
-use Rattle.key_index_parts.proofs.standing.SortedBucketLemmas.{Grows-below_limit, held_now, none_beside, item_count-stays_positive, item_count-one_more, Grows-limit_reached}
+use Rattle.key_index_parts.proofs.standing.SortedBucketLemmas.{Grows-below_threshold, held_now, none_beside, item_count-stays_positive, item_count-one_more, Grows-threshold_reached}
 use Rattle.key_index_parts.proofs.index.partitioned.bucket.sorted_bucket.SortedBucketBucket.insert.Goals as goal
 
 pub invariant_of-self : goal.invariant_of-self
@@ -20,14 +20,14 @@ invariant_of-self g c =
           (not (is_filled l)) tree.counted.lawful some (omega (arith, long)) c.insert.ensures.accepted c.insert.ensures.refused;
     }
 
-pub returns-then-len-limit-clause-standing : goal.returns-then-len-limit-clause-standing
-returns-then-len-limit-clause-standing g c =
+pub returns-then-len-threshold-clause-standing : goal.returns-then-len-threshold-clause-standing
+returns-then-len-threshold-clause-standing g c =
     let pairs = c.args.self.now.arrays.pairs.pairs in
     let held = grouped g.T.Key.Ord.cmp pairs in
     let l = list_at g.T.Key.Ord.cmp held c.args.key in
-    let more = item_count-one_more g.met.T.Key.Ord.total held (grouped g.T.Key.Ord.cmp c.insert-then-len-limit.new.self.pairs.pairs) c.args.key _ (IsLawful-grouped g.met.T.Key.Ord.total pairs)
+    let more = item_count-one_more g.met.T.Key.Ord.total held (grouped g.T.Key.Ord.cmp c.insert-then-len-threshold.new.self.pairs.pairs) c.args.key _ (IsLawful-grouped g.met.T.Key.Ord.total pairs)
     (length-append l (c.args.value ∷ [])) c.in_ok-absent-2.ensures.accepted.0 in
-    rw (OnTrue_at c.if-not-is_inline.false c.is_inline.ensures.inline) (Grows-below_limit c.args.limit _ (omega (arith, more, c.len.ensures, c.if-len-limit.true)))
+    rw (OnTrue_at c.if-not-is_inline.false c.is_inline.ensures.inline) (Grows-below_threshold c.args.threshold _ (omega (arith, more, c.len.ensures, c.if-len-threshold.true)))
 
 pub invariant_of-self-in-Ok-insert : goal.invariant_of-self-in-Ok-insert
 invariant_of-self-in-Ok-insert g c =
@@ -47,8 +47,8 @@ returns-in-Ok-insert-clause-standing g c =
     c.in-Ok-insert.ensures.accepted.0 in
     let same = ap (λ t. item_count (t.lists.content)) c.deref_mut-2.ensures.value ∙ ap item_count c.in-Ok.ensures.tree in
     let told = c.len-moved.ensures ∙ ap (λ t. item_count (t.lists.content)) c.deref.ensures in
-    rw (OnTrue_at c.if-not-is_inline.false c.is_inline.ensures.inline) (Grows-limit_reached c.args.limit _ c.insert-2.new.self.lists.content c.requires
-    (omega (arith, told, more, same, c.len.ensures, c.if-len-limit.false, c.requires)) told)
+    rw (OnTrue_at c.if-not-is_inline.false c.is_inline.ensures.inline) (Grows-threshold_reached c.args.threshold _ c.insert-2.new.self.lists.content c.requires
+    (omega (arith, told, more, same, c.len.ensures, c.if-len-threshold.false, c.requires)) told)
 
 pub into_arrays-requires-clause-room : goal.into_arrays-requires-clause-room
 into_arrays-requires-clause-room g c =

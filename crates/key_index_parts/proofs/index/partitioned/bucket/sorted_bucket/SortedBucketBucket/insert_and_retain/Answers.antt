@@ -4,40 +4,40 @@ use Rattle.std.specs.Fn.{CalledAt}
 use Rattle.key_index_flat.specs.Content.{is_filled, item_count}
 use Rattle.key_index_parts.specs.Pairs.{grouped}
 use Rattle.key_index_parts.specs.laws.PairLaws.{IsLawful-grouped}
-use Rattle.key_index_parts.proofs.standing.SortedBucketLemmas.{Grows-below_limit, in_tree, Grows-limit_reached, item_count-retained, none_beside}
+use Rattle.key_index_parts.proofs.standing.SortedBucketLemmas.{Grows-below_threshold, in_tree, Grows-threshold_reached, item_count-retained, none_beside}
 use Rattle.key_index_parts.proofs.index.partitioned.bucket.sorted_bucket.SortedBucketBucket.insert_and_retain.Goals as goal
 
 pub returns-then-not-is_inline-clause-standing : goal.returns-then-not-is_inline-clause-standing
-returns-then-not-is_inline-clause-standing g c = rw c.in-Some.is (in_tree c.args.limit _ _ c.requires.limit c.drop_emptied.ensures.standing)
+returns-then-not-is_inline-clause-standing g c = rw c.in-Some.is (in_tree c.args.threshold _ _ c.requires.threshold c.drop_emptied.ensures.standing)
 
-pub returns-then-len-limit-clause-standing : goal.returns-then-len-limit-clause-standing
-returns-then-len-limit-clause-standing g c =
+pub returns-then-len-threshold-clause-standing : goal.returns-then-len-threshold-clause-standing
+returns-then-len-threshold-clause-standing g c =
     let pairs = c.args.self.now.arrays.pairs.pairs in
     let told = c.in_ok-told-2.told in
-    let few = item_count-retained g.met.T.Key.Ord.total (CalledAt g.F.FnMut) c.args.should_retain (grouped g.T.Key.Ord.cmp pairs) (grouped g.T.Key.Ord.cmp c.insert_and_retain-then-len-limit.new.self.pairs.pairs)
+    let few = item_count-retained g.met.T.Key.Ord.total (CalledAt g.F.FnMut) c.args.should_retain (grouped g.T.Key.Ord.cmp pairs) (grouped g.T.Key.Ord.cmp c.insert_and_retain-then-len-threshold.new.self.pairs.pairs)
     c.args.key c.args.value told.had told.left told.taken (IsLawful-grouped g.met.T.Key.Ord.total pairs) c.in_ok-told-2.ensures.accepted in
-    rw (OnTrue_at c.if-not-is_inline.false c.is_inline.ensures.inline) (Grows-below_limit c.args.limit _ (omega (arith, few, c.len-len.ensures, c.if-len-limit.true)))
+    rw (OnTrue_at c.if-not-is_inline.false c.is_inline.ensures.inline) (Grows-below_threshold c.args.threshold _ (omega (arith, few, c.len-len.ensures, c.if-len-threshold.true)))
 
 pub into_arrays-requires-clause-room : goal.into_arrays-requires-clause-room
 into_arrays-requires-clause-room g c =
     let told = c.len-left.ensures ∙ ap (λ t. item_count (t.lists.content)) c.deref.ensures in
-    omega (arith, told, c.len-len.ensures, c.if-len-limit.false, c.if-left-limit.true, c.in-Ok.ensures.room)
+    omega (arith, told, c.len-len.ensures, c.if-len-threshold.false, c.if-left-threshold.true, c.in-Ok.ensures.room)
 
-pub returns-then-left-limit-clause-standing : goal.returns-then-left-limit-clause-standing
-returns-then-left-limit-clause-standing g c =
+pub returns-then-left-threshold-clause-standing : goal.returns-then-left-threshold-clause-standing
+returns-then-left-threshold-clause-standing g c =
     let told = c.len-left.ensures ∙ ap (λ t. item_count (t.lists.content)) c.deref.ensures in
     let same = ap item_count c.into_arrays.ensures in
-    rw (OnTrue_at c.if-not-is_inline.false c.is_inline.ensures.inline) (Grows-below_limit c.args.limit _ (omega (arith, told, same, c.if-left-limit.true)))
+    rw (OnTrue_at c.if-not-is_inline.false c.is_inline.ensures.inline) (Grows-below_threshold c.args.threshold _ (omega (arith, told, same, c.if-left-threshold.true)))
 
 pub invariant_of-self-in-Ok-insert_and_retain : goal.invariant_of-self-in-Ok-insert_and_retain
 invariant_of-self-in-Ok-insert_and_retain g c =
     let told = c.len-left.ensures ∙ ap (λ t. item_count (t.lists.content)) c.deref.ensures in
-    record { filled = omega (arith, told, c.requires.limit, c.if-left-limit.false); alone = ap (λ ps. is_filled (grouped g.T.Key.Ord.cmp ps)) c.new.ensures.pairs }
+    record { filled = omega (arith, told, c.requires.threshold, c.if-left-threshold.false); alone = ap (λ ps. is_filled (grouped g.T.Key.Ord.cmp ps)) c.new.ensures.pairs }
 
-pub returns-else-left-limit-clause-standing : goal.returns-else-left-limit-clause-standing
-returns-else-left-limit-clause-standing g c =
+pub returns-else-left-threshold-clause-standing : goal.returns-else-left-threshold-clause-standing
+returns-else-left-threshold-clause-standing g c =
     let told = c.len-left.ensures ∙ ap (λ t. item_count (t.lists.content)) c.deref.ensures in
-    rw (OnTrue_at c.if-not-is_inline.false c.is_inline.ensures.inline) (Grows-limit_reached c.args.limit _ c.insert_and_retain-2.new.self.lists.content c.requires.limit (omega (arith, c.if-left-limit.false)) told)
+    rw (OnTrue_at c.if-not-is_inline.false c.is_inline.ensures.inline) (Grows-threshold_reached c.args.threshold _ c.insert_and_retain-2.new.self.lists.content c.requires.threshold (omega (arith, c.if-left-threshold.false)) told)
 
 pub into_arrays-requires-in-Err-clause-room : goal.into_arrays-requires-in-Err-clause-room
 into_arrays-requires-in-Err-clause-room g c =
