@@ -212,14 +212,14 @@ impl Any {
     }
 
     /// How many values a key has, and the first one. A flat unordered index is the one whose look-ups cost least, so this is inlined with
-    /// that of its look-up, and calls those of the others.
+    /// that of its look-up for keys that aren't padded, and calls those of the others.
     #[inline(always)]
     pub(crate) fn find(&self, key: &[u8]) -> Found
         requires { HasLists (kind_of self.now) }
         ensures { result ≡ found_in (held_under self.now key.now) }
     {
         match self {
-            Any::Unordered(index) => front(index, key),
+            Any::Unordered(index) if key.len() >= 8 => front(index, key),
             other => other.find_apart(key),
         }
     }
