@@ -187,7 +187,7 @@ impl<T: Translator, V: Drop, M: AnyMap<T::Key, V>, E: End> ListMap<T, V, M, E> {
     }
 
     /// Puts another value at a place of the index key's list.
-    #[inline]
+    #[inline(always)]
     pub fn set_at(&mut self, slot: T::Key, place: usize, value: V)
         requires place { place < length (list_at T.Key.cmp self.old.content slot) }
         ensures content { self.new.content

@@ -185,7 +185,7 @@ impl<K: Ord + Hash + Copy, V> Pairs<K, V> {
     }
 
     /// Puts another value at the place of a key.
-    #[inline]
+    #[inline(always)]
     fn set(&mut self, place: usize, key: K, value: V) -> V
         requires { IsAt K.eq self.old place key }
         ensures old { Some result ≡ value_of K.cmp self.old key }
@@ -206,6 +206,7 @@ impl<K: Ord + Hash + Copy, V> Pairs<K, V> {
     }
 
     /// Puts another value at a key that has one.
+    #[inline(always)]
     fn replace(&mut self, key: &K, value: V) -> V
         requires { IsSome (value_of K.cmp self.old key.now) }
         ensures old { value_of K.cmp self.old key.now ≡ Some result }

@@ -54,7 +54,7 @@ impl<T: Translator, V: Drop> ReadBucket<T, V> for HashBucket<T, V> {
 }
 
 impl<T: Translator, V: Drop> EditBucket<T, V> for HashBucket<T, V> {
-    #[inline]
+    #[inline(always)]
     fn set_at(&mut self, key: T::Key, place: usize, value: V) {
         self.lists.set_at(key, place, value);
     }
