@@ -203,6 +203,7 @@ impl<T: Translator, V: Drop, M: AnyMap<T::Key, V>> Storage<T, V, M> {
 
     /// Inserts a new value, if there is one, behind those of an index key, calls the closure once for each of them, in list order, and
     /// removes those for which it returns false.
+    #[inline(always)]
     pub(crate) fn retain<F: FnMut(&V) -> bool>(
         &mut self,
         slot: T::Key,

@@ -255,6 +255,7 @@ impl<T: Translator, V: Drop, M: AnyMap<T::Key, V>, E: End> ListMap<T, V, M, E> {
 
     /// Inserts a new value, if there is one, behind those of the index key, which allocates all the memory that the call may need. Then
     /// calls the closure once for each of them, in list order, and removes those for which it returns false.
+    #[inline(always)]
     pub fn retain<F: FnMut(&V) -> bool>(
         &mut self,
         slot: T::Key,

@@ -335,6 +335,8 @@ fn retain_alone<V, F: FnMut(&V) -> bool>(head: &V, mut should_retain: F) -> Tail
 
 /// Inserts a new value, if there is one, behind the last one of a tail, which allocates all the memory that the call may need, and then
 /// `retain_behind`. Where there is no tail and the new value does not stay in one, none is made.
+// This and what calls it are inlined, so that a retention with no new value has no code for one.
+#[inline(always)]
 fn retain_in<K: Ord + Hash + Copy, V: Drop, F: FnMut(&V) -> bool, E: End>(
     alloc: Global,
     map: &mut Map<K, Vec<V>>,
