@@ -1,6 +1,7 @@
 -- What edits at the places of a run that was found make of the content, whose list at the key it is.
 --     run_list, run_count                                   the list at the key is the run
 --     none_there                                            it is empty where the run is
+--     within_keys, own_values                               the run ends among the keys, and the values there are the list
 --     place_within                                          a place of the list is one of the pairs
 --     slice_get-values_of                                   the value there
 --     may_insert, grouped-inserted, grouped-inserted_last   a value put in at a place of the list
@@ -31,8 +32,8 @@ use Rattle.key_index_flat.specs.Retention.{AsksBehind, AsksInTurn}
 use Rattle.key_index_flat.proofs.closures.TurnLemmas.{held_answers, kept_few}
 use Rattle.key_index_parts.specs.Pairs.{run_of, grouped, with_value, IsFound}
 use Rattle.key_index_parts.proofs.pairs.SearchLemmas.{Rises, Rises-IsSorted}
-use Rattle.key_index_parts.proofs.pairs.RunLemmas.{below_part, run_within}
-use Rattle.key_index_parts.proofs.pairs.ZipLemmas.{length-zip, drop-zip, zip-append, zip-parts, zip-pairs_with}
+use Rattle.key_index_parts.proofs.pairs.RunLemmas.{below_part, run_within, IsRun-slice}
+use Rattle.key_index_parts.proofs.pairs.ZipLemmas.{length-zip, drop-zip, values_of-zip, zip-append, zip-parts, zip-pairs_with}
 use Rattle.key_index_parts.proofs.pairs.GroupLemmas.{list_at-grouped}
 use Rattle.key_index_parts.proofs.pairs.PairEdits.{slice_get-run_of, IsSorted-insert, grouped-insert, grouped-set, grouped-remove, grouped-remove_run, grouped-set_run, keys_in_run, above_part}
 
@@ -100,6 +101,15 @@ module _ {K V : Type 0} {cmp : K → K → Ordering} (o : IsTotalOrder cmp) (exa
 
   pub grouped-removed_all : grouped cmp (remove_range es start end) ≡ with_list cmp (grouped cmp es) k []
   grouped-removed_all = grouped-remove_run o es k Rises-found exact start end found.run
+
+  -- by the keys and the values
+  module _ (ks : List K) (vs : List V) (is : zip ks vs ≡ es) (sized : length ks ≡ length vs) where
+    pub within_keys : end ≤ length ks
+    within_keys = let pairs = length-zip ks vs sized in let all = ap (λ l. length l) is in let inside = found.within in omega (arith, pairs, all, inside)
+
+    pub own_values : slice_range vs start end ≡ list
+    own_values =
+        ap (λ l. slice_range l start end) (sym (values_of-zip ks vs sized) ∙ ap (λ fs. values_of fs) is) ∙ IsRun-slice o es k start end found.sorted found.run ∙ sym run_list
 
   -- other values in the place of the run, beside as many keys, each of which is k
   grouped-run : (ks : List K) (vs : List V) → zip ks vs ≡ es → length ks ≡ length vs → (own : List K) (kept : List V)

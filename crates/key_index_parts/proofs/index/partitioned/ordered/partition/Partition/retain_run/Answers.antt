@@ -2,25 +2,19 @@ use Rattle.std.proofs.Common.{◌≡◌, ◌+◌, ◌-◌, ◌≤◌, ◌++◌, 
 use Rattle.std.proofs.lemmas.List.{length-drop, length-take-le, take-append-le, take_all}
 use Rattle.std.specs.Fn.{CalledAt}
 use Rattle.std.specs.List.{slice_range, remove_range, zip}
-use Rattle.std.specs.Map.{values_of}
 use Rattle.key_index_flat.specs.Content.{list_at, with_list}
 use Rattle.key_index_flat.specs.Retention.{AsksInTurn}
 use Rattle.key_index_parts.specs.Pairs.{grouped}
-use Rattle.key_index_parts.proofs.pairs.FoundRun.{grouped-kept, run_list}
-use Rattle.key_index_parts.proofs.pairs.RunLemmas.{IsRun-slice}
+use Rattle.key_index_parts.proofs.pairs.FoundRun.{grouped-kept, within_keys, own_values}
 use Rattle.key_index_parts.proofs.pairs.SearchLemmas.{IsSorted-remove_range}
-use Rattle.key_index_parts.proofs.pairs.ZipLemmas.{length-zip, length-remove_range, values_of-zip}
+use Rattle.key_index_parts.proofs.pairs.ZipLemmas.{length-remove_range}
 use Rattle.key_index_parts.proofs.index.partitioned.ordered.partition.Partition.retain_run.Given.{Over}
 use Rattle.key_index_parts.proofs.index.partitioned.ordered.partition.Partition.retain_run.Goals.{After-self, After-as_mut_slice, After-keep_in_run-left}
 use Rattle.key_index_parts.proofs.index.partitioned.ordered.partition.Partition.retain_run.Goals as goal
 
 -- the run ends at a key, or behind the last
 run_end_within : (g : Over) (c : After-self g) → c.args.run.end ≤ length c.self.inside.keys.items
-run_end_within g c =
-    let len = length-zip _ _ c.self.invariant.sized in
-    let pairs = ap (λ s. length s.pairs) c.self.view_is in
-    let within = c.requires.found.within in
-    omega (arith, len, pairs, within)
+run_end_within g c = within_keys g.met.K.Ord.total c.requires.exact c.requires.found c.self.inside.keys.items c.self.inside.values.items (ap (λ s. s.pairs) c.self.view_is) c.self.invariant.sized
 
 pub keep_in_run-left-requires-clause-end : goal.keep_in_run-left-requires-clause-end
 keep_in_run-left-requires-clause-end g c =
@@ -93,8 +87,7 @@ kept_run g c within =
     let sized = c.self.invariant.sized in
     let few = c.keep_in_run-left.ensures.within in
     let is : zip keys old ≡ c.args.self.now.pairs = ap (λ s. s.pairs) c.self.view_is in
-    let run = ap (λ l. slice_range l start end) (c.as_mut_slice.ensures.value ∙ sym (values_of-zip keys old sized) ∙ ap (λ es. values_of es) is)
-    ∙ IsRun-slice o c.args.self.now.pairs c.args.key start end found.sorted found.run ∙ sym (run_list o c.requires.exact found) in
+    let run = ap (λ l. slice_range l start end) c.as_mut_slice.ensures.value ∙ own_values o c.requires.exact found keys old is sized in
     let behind = length-drop start new in
     let order = found.run.upto in
     let count = length-take-le (end - start) (drop start new) (omega (arith, behind, within, long, sized, order)) in (

@@ -3,26 +3,21 @@ use Rattle.std.proofs.lemmas.List.{length-append, length-drop, length-take-le}
 use Rattle.std.proofs.lemmas.List.Edits.{length-insert}
 use Rattle.std.proofs.lemmas.Map.Made.{keys_of-zip}
 use Rattle.std.specs.Fn.{CalledAt}
-use Rattle.std.specs.List.{slice_range, zip}
-use Rattle.std.specs.Map.{keys_of, values_of}
+use Rattle.std.specs.List.{zip}
+use Rattle.std.specs.Map.{keys_of}
 use Rattle.key_index_flat.specs.Content.{list_at}
 use Rattle.key_index_flat.specs.Retention.{AsksInTurn}
 use Rattle.key_index_parts.specs.Pairs.{grouped}
-use Rattle.key_index_parts.proofs.pairs.FoundRun.{grouped-fewer, grouped-more, may_append, run_list}
-use Rattle.key_index_parts.proofs.pairs.RunLemmas.{IsRun-slice}
+use Rattle.key_index_parts.proofs.pairs.FoundRun.{grouped-fewer, grouped-more, may_append, within_keys, own_values}
 use Rattle.key_index_parts.proofs.pairs.SearchLemmas.{IsSorted-remove_range}
-use Rattle.key_index_parts.proofs.pairs.ZipLemmas.{length-zip, length-remove_range, values_of-zip}
+use Rattle.key_index_parts.proofs.pairs.ZipLemmas.{length-remove_range}
 use Rattle.key_index_parts.proofs.index.partitioned.ordered.partition.Partition.retain_run_with.Given.{Over}
 use Rattle.key_index_parts.proofs.index.partitioned.ordered.partition.Partition.retain_run_with.Goals.{After-self, After-keep_with-left}
 use Rattle.key_index_parts.proofs.index.partitioned.ordered.partition.Partition.retain_run_with.Goals as goal
 
 -- the run ends at a key, or behind the last
 run_end_within : (g : Over) (c : After-self g) → c.args.run.end ≤ length c.self.inside.keys.items
-run_end_within g c =
-    let len = length-zip _ _ c.self.invariant.sized in
-    let pairs = ap (λ s. length s.pairs) c.self.view_is in
-    let within = c.requires.found.within in
-    omega (arith, len, pairs, within)
+run_end_within g c = within_keys g.met.K.Ord.total c.requires.exact c.requires.found c.self.inside.keys.items c.self.inside.values.items (ap (λ s. s.pairs) c.self.view_is) c.self.invariant.sized
 
 pub keep_with-left-requires-clause-end : goal.keep_with-left-requires-clause-end
 keep_with-left-requires-clause-end g c =
@@ -58,14 +53,8 @@ module _ (g : Over) (c : After-keep_with-left g) (within : c.args.run.end ≤ le
   asked : AsksInTurn (CalledAt g.F.FnMut) c.args.should_retain true (list_at g.K.Ord.cmp (grouped g.K.Ord.cmp c.args.self.now.pairs) c.args.key ++ c.args.value ∷ [])
       kept c.keep_with-left.result.1
   asked =
-      let o = g.met.K.Ord.total in
-      let found = c.requires.found in
-      let start = c.args.run.start in
-      let end = c.args.run.end in
-      let sized = c.self.invariant.sized in
-      let run = ap (λ l. slice_range l start end) (sym (values_of-zip c.self.inside.keys.items c.self.inside.values.items sized) ∙ ap (λ es. values_of es) is)
-      ∙ IsRun-slice o c.args.self.now.pairs c.args.key start end found.sorted found.run ∙ sym (run_list o c.requires.exact found) in
-      subst (λ l. AsksInTurn (CalledAt g.F.FnMut) c.args.should_retain true (l ++ c.args.value ∷ []) kept c.keep_with-left.result.1) run c.keep_with-left.ensures.kept.1
+      subst (λ l. AsksInTurn (CalledAt g.F.FnMut) c.args.should_retain true (l ++ c.args.value ∷ []) kept c.keep_with-left.result.1)
+      (own_values g.met.K.Ord.total c.requires.exact c.requires.found c.self.inside.keys.items c.self.inside.values.items is c.self.invariant.sized) c.keep_with-left.ensures.kept.1
 
 pub invariant_of-self : goal.invariant_of-self
 invariant_of-self g c =
