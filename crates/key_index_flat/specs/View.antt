@@ -14,12 +14,13 @@
 --     Retains                     after the values at an index key of which f said false were taken out; RetainsAt: of those at a key
 --     InsertsAndRetains           after a value was put behind those of an index key, f was asked on all of these, the new one last, and
 --                                 those that f said false of were taken out; InsertsAndRetainsAt: of those at a key
+--     RetainsWith                 after one or the other, by whether there is a new value
 --     Admits                      whether it can hold values under the index key of a key
 --     growth_fault_in             why it refuses one more value
 --     AlsoAt, IsWantAt            what else a call leaves, told by `also` of the index key of a key; want of memory, at a key where a
 --                                 call that inserts nothing may have it
 --     StaysBut, InsertsBut        the view stays, or gains a key with one value; what else is left is told by `also`
-use Rattle.std.specs.Prelude.{◌≡◌, ℕ, ◌<◌, ◌+◌, ◌-◌, ◌^◌, min, Bool, true, false, IsTrue, List, [], ◌∷◌, ◌++◌, length}
+use Rattle.std.specs.Prelude.{◌≡◌, ℕ, ◌<◌, ◌+◌, ◌-◌, ◌^◌, min, Bool, true, false, IsTrue, List, [], ◌∷◌, ◌++◌, length, Option, Some, None}
 use Rattle.std.specs.List.Retain.{IsFiltered}
 use Rattle.std.specs.declared.cmp.Ordering.{Ordering}
 use Rattle.key_index_flat.specs.declared.index.Fault.{Fault}
@@ -98,6 +99,10 @@ module _ {K V : Type 0} (cmp : K → K → Ordering) where
   abbrev pub InsertsAndRetainsAt : {F : Type 0} → (F → V → Bool → F → Type 0) → F → View K V → List ℕ → V
       → View K V → Type 0
   InsertsAndRetainsAt ask f s b v t = (taken : ℕ) × InsertsAndRetains ask f s (s.slot b) v taken t
+
+  abbrev pub RetainsWith : {F : Type 0} → (F → V → Bool → F → Type 0) → F → View K V → K → Option V → View K V → Type 0
+  RetainsWith ask f s k None t = Retains ask f s k t
+  RetainsWith ask f s k (Some v) t = (taken : ℕ) × InsertsAndRetains ask f s k v taken t
 
 module _ {I K V : Type 0} (view : I → View K V) where
   abbrev pub AlsoAt : (I → K → I → Type 0) → I → List ℕ → I → Type 0

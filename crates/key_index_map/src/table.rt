@@ -537,7 +537,8 @@ impl<K: Ord + Hash + Copy, V> Table<K, V> {
         Ok(())
     }
 
-    /// Makes room for so many more pairs. A refusal changes nothing.
+    /// Makes room for so many more pairs. Where the pairs have to move for it, there is room for an eighth of them more at least, so that
+    /// they move seldom. A refusal changes nothing.
     #[inline(always)]
     pub(crate) fn reserve(&mut self, additional: usize) -> Result<(), AllocError>
         ensures values { (q : K) → lookup (K.eq q) (pairs self.new) ≡ lookup (K.eq q) (pairs self.old) }
@@ -550,23 +551,7 @@ impl<K: Ord + Hash + Copy, V> Table<K, V> {
         if additional <= self.left {
             return Ok(());
         }
-        self.grow(additional)
-    }
-
-    /// Makes room for one more pair. A refusal changes nothing.
-    #[inline(always)]
-    fn make_room(&mut self) -> Result<(), AllocError>
-        ensures values { OnOk result ((q : K) → lookup (K.eq q) (pairs self.new) ≡ lookup (K.eq q) (pairs self.old)) }
-        ensures len { OnOk result (length (pairs self.new) ≡ length (pairs self.old)) }
-        ensures room { OnOk result (0 < self.new.spare) }
-        ensures spare { self.old.spare ≤ self.new.spare }
-        ensures refused { OnErr result (self.new ≡ self.old) }
-        ensures succeeds { 0 < self.old.spare → IsOk result }
-    {
-        if 0 < self.left {
-            return Ok(());
-        }
-        self.grow(self.len / 8 + 1)
+        self.grow(additional.max(self.len / 8 + 1))
     }
 
     /// Puts in the value of a key that has none.
@@ -581,7 +566,7 @@ impl<K: Ord + Hash + Copy, V> Table<K, V> {
         ensures room { self.old.spare ≤ self.new.spare + 1 }
         ensures succeeds { 0 < self.old.spare → IsOk result }
     {
-        if self.make_room().is_err() {
+        if self.reserve(1).is_err() {
             return Err(value);
         }
         self.put(hash, tag_of(hash), (key, value));

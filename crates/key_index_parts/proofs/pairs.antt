@@ -9,3 +9,4 @@ pub mod ZipLemmas
 pub mod SearchLemmas
 pub mod LastRun
 pub mod GapLemmas
+pub mod BehindLemmas

@@ -5,7 +5,6 @@
 --     turned_first, ..                  at the start, after a value that stays, after one that goes, of the same, and at the end
 --     asked_first, AsksInTurn-none      a list with one value more in front, and an empty one
 --     asked_same                        where the lists are known by other names
---     asked_few                         no more are left than there were
 --     asks_behind, some_taken           a value that was put behind others, where all of these were asked on then
 --     few_kept                          how many values are left then
 use Rattle.std.proofs.Common.{◌≡◌, ℕ, suc, ◌+◌, ◌<◌, ◌≤◌, Bool, true, false, nat_lt, cond, List, [], ◌∷◌, ◌++◌, length, take, refl, sym, ap, subst, ◌∙◌, arith, append-nil, length-append}
@@ -143,10 +142,6 @@ module _ {F V : Type 0} (step : F → V → Bool → F → Type 0) where
   -- and of no value
   pub AsksInTurn-none : (f : F) (before : Bool) → AsksInTurn step f before [] [] before
   AsksInTurn-none f before = ([], f, refl, refl, refl, refl)
-
-  -- no more are left than there were
-  pub asked_few : (f : F) (before : Bool) (xs ys : List V) (stays : Bool) → AsksInTurn step f before xs ys stays → length ys ≤ length xs
-  asked_few f before xs ys stays h = let few = kept_few h.0 xs in let same = ap (λ l. length l) h.4 in omega (arith, few, same)
 
 -- of answers on a list and one value more, those on the list alone
 module _ {V : Type 0} where

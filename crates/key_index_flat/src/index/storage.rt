@@ -1,11 +1,11 @@
 //! What a flat index keeps, over any map of first values.
-ghost use Rattle.std.specs.Prelude.{◌≡◌, ◌+◌, ◌<◌, ◌≤◌, [], ◌∷◌, length, slice_get, slice_set, insert, remove, Some, IfOk, IfErr, IsOk, OnOk, OnErr};
+ghost use Rattle.std.specs.Prelude.{◌≡◌, ◌+◌, ◌<◌, ◌≤◌, [], ◌∷◌, length, slice_get, slice_set, insert, remove, Some, IfOk, IfErr, IfSome, IsOk, OnOk, OnErr};
 ghost use Rattle.std.specs.Fn.{CalledAt};
 ghost use Rattle.key_index_flat.specs.Content.{item_count, key_count, list_at, IsLawful};
 ghost use Rattle.key_index_flat.specs.Fault.{growth_fault};
 ghost use Rattle.key_index_flat.specs.Neighbours.{entries_above, first_entry, last_entry, next_list, prev_list};
 ghost use Rattle.key_index_flat.specs.Storage.{Kept, IsCounted, added, view_of};
-ghost use Rattle.key_index_flat.specs.View.{run_at, with_run, with_edit, with_pruned, with_slot, InsertsAndRetains, Retains};
+ghost use Rattle.key_index_flat.specs.View.{run_at, with_run, with_edit, with_pruned, with_slot, RetainsWith};
 ghost use Rattle.key_index_flat.specs.Values.{values_of, VisitsEach};
 
 pub mod list_map;
@@ -14,7 +14,6 @@ pub mod small_map;
 pub mod tails;
 pub mod tree_key;
 
-use super::implement::Retained;
 use super::{Fault, Refused, Values};
 use crate::translator::Translator;
 use key_index_map::map::Map;
@@ -202,56 +201,32 @@ impl<T: Translator, V: Drop, M: AnyMap<T::Key, V>> Storage<T, V, M> {
         (value, left)
     }
 
-    /// Calls the closure once for each value of an index key, in list order, and removes those for which it returns false. Returns how
-    /// many values the index key had, and how many it has left.
+    /// Inserts a new value, if there is one, behind those of an index key, calls the closure once for each of them, in list order, and
+    /// removes those for which it returns false.
+    #[inline(always)]
     pub(crate) fn retain<F: FnMut(&V) -> bool>(
         &mut self,
         slot: T::Key,
+        new: Option<V>,
         should_retain: F,
-    ) -> (usize, usize)
-        requires callable { F.IsAlwaysCallable should_retain }
-        ensures kept { Retains T.Key.cmp (CalledAt F.FnMut) should_retain
-            (view_of T.translated self.old) slot (view_of T.translated self.new) }
-        ensures had { result.0 ≡ length (run_at T.Key.cmp (view_of T.translated self.old) slot) }
-        ensures left { result.1 ≡ length (run_at T.Key.cmp (view_of T.translated self.new) slot) }
-        ensures lawful { IsLawful T.Key.cmp self.new.content }
-    {
-        let (had, left) = self.lists.retain(slot, should_retain);
-        let taken = had - left;
-        self.items -= taken;
-        self.pruned = self.pruned.saturating_add(taken as u64);
-        (had, left)
-    }
-
-    /// Inserts a value behind those of an index key, calls the closure once for each of them, in list order, and removes those for which
-    /// it returns false.
-    pub(crate) fn insert_and_retain<F: FnMut(&V) -> bool>(
-        &mut self,
-        slot: T::Key,
-        value: V,
-        should_retain: F,
-    ) -> Result<Retained, Refused<V>>
-        requires callable { F.IsAlwaysCallable should_retain }
-        ensures accepted { IfOk result (λ told. InsertsAndRetains T.Key.cmp (CalledAt F.FnMut) should_retain
-            (view_of T.translated self.old) slot value told.taken (view_of T.translated self.new)) }
-        ensures had { IfOk result (λ told. told.had
-            ≡ length (run_at T.Key.cmp (view_of T.translated self.old) slot)) }
-        ensures left { IfOk result (λ told. told.left
-            ≡ length (run_at T.Key.cmp (view_of T.translated self.new) slot)) }
-        ensures room { OnOk result (item_count self.old.content < usize.MAX) }
+    ) -> Result<(), Refused<V>>
+        requires { F.IsAlwaysCallable should_retain }
+        ensures accepted { OnOk result (RetainsWith T.Key.cmp (CalledAt F.FnMut) should_retain
+            (view_of T.translated self.old) slot new (view_of T.translated self.new)) }
+        ensures room { OnOk result (IfSome new (λ _. item_count self.old.content < usize.MAX)) }
         ensures refused { OnErr result (view_of T.translated self.new ≡ view_of T.translated self.old) }
         ensures lawful { IsLawful T.Key.cmp self.new.content }
-        ensures returned { IfErr result (λ r. r.value ≡ value) }
+        ensures returned { IfErr result (λ r. new ≡ Some r.value) }
         ensures fault { IfErr result (λ r. r.fault ≡ growth_fault (item_count self.old.content)) }
     {
-        if self.items == usize::MAX {
-            return Err(Refused::full(value));
+        if new.is_some() && self.items == usize::MAX {
+            return Err(Refused::full(new.unwrap()));
         }
-        match self.lists.insert_and_retain(slot, value, should_retain) {
+        match self.lists.retain(slot, new, should_retain) {
             Ok(told) => {
                 self.items = self.items - told.had + told.left;
                 self.pruned = self.pruned.saturating_add(told.taken as u64);
-                Ok(told)
+                Ok(())
             }
             Err(value) => Err(Refused::memory(value)),
         }

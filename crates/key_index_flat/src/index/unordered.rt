@@ -221,7 +221,9 @@ impl<T: Translator, V: Drop> Unordered for Index<T, V> {
     #[inline]
     fn retain<F: FnMut(&V) -> bool>(&mut self, key: &[u8], should_retain: F) -> Result<(), Fault> {
         let slot = self.slot_of(key);
-        self.storage.retain(slot, should_retain);
+        let Ok(()) = self.storage.retain(slot, None, should_retain) else {
+            unreachable!()
+        };
         Ok(())
     }
 
@@ -232,8 +234,7 @@ impl<T: Translator, V: Drop> Unordered for Index<T, V> {
         should_retain: F,
     ) -> Result<(), Refused<V>> {
         let slot = self.slot_of(key);
-        self.storage.insert_and_retain(slot, value, should_retain)?;
-        Ok(())
+        self.storage.retain(slot, Some(value), should_retain)
     }
 
     #[inline]

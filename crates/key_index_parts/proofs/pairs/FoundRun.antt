@@ -5,42 +5,36 @@
 --     slice_get-values_of                                   the value there
 --     may_insert, grouped-inserted, grouped-inserted_last   a value put in at a place of the list
 --     grouped-set_in, grouped-removed, grouped-removed_all  one in the place of another, one taken out, and the whole run
+--     grouped-fewer, grouped-more                           others in the place of the whole run: no more than there were, and one more
 --     grouped-kept                                          some in the place of the first, and the rest taken out
---     may_append                                            behind the last of the run
---     found_appended, ..                                    where the run stands after a pair was put behind it
---     length-kept_of_run, few_of_run, RetainsWith-run       what is left, where each value was asked on then
+--     may_append                                            a key behind the last of the run
+--     length-kept_of_run, few_of_run, asks_behind_run       what is left, where each value was asked on, and one more
 use Rattle.std.proofs.Common.{◌≡◌, ℕ, ◌+◌, ◌-◌, ◌<◌, ◌≤◌, Bool, cond, true, false, not, nat_eq, List, [], ◌∷◌, ◌++◌, length, insert, remove, slice_set, slice_get, take, drop, take-take, All, append_assoc, length-append, sym, ap, subst, ◌∙◌, arith}
 use Rattle.std.proofs.lemmas.Bool.{eq-eqb, ne_eqb}
 use Rattle.std.proofs.Math.Seq.{take-add}
 use Rattle.std.proofs.lemmas.List.{length-drop, length-take-le}
 use Rattle.std.proofs.lemmas.Map.Made.{keys_of-zip}
-use Rattle.std.proofs.lemmas.List.Edits.{length-insert, insert_end}
+use Rattle.std.proofs.lemmas.List.Edits.{insert_end}
+use Rattle.std.proofs.lemmas.List.Elements.{All-append, All-cons, All-nil}
 use Rattle.std.proofs.lemmas.Option.{slice_get-map}
 use Rattle.std.specs.List.{items_where_true, remove_range, slice_range, zip}
-use Rattle.std.specs.List.Retain.{ReturnsInTurn}
 use Rattle.std.specs.List.Sorted.{IsSorted}
 use Rattle.std.specs.Map.{keys_of, values_of}
 use Rattle.std.specs.Option.{option_map}
-use Rattle.std.specs.Cmp.{IsTotalOrder, tied_itself}
+use Rattle.std.specs.Cmp.{IsTotalOrder}
 use Rattle.std.specs.declared.cmp.Ordering.{Ordering}
 use Rattle.std.specs.declared.cmp.Ordering.TheVariants.{Equal}
-use Rattle.std.specs.Ordering.{is_lt, is_eq}
 use Rattle.key_index_flat.specs.Content.{is_filled, list_at, with_list, with_list_by}
 use Rattle.key_index_flat.specs.View.{put_value}
 use Rattle.key_index_flat.specs.Neighbours.{entries_above, entries_below}
-use Rattle.key_index_flat.specs.Retention.{AsksInTurn}
-use Rattle.key_index_flat.proofs.content.ContentLemmas.{list_at-with_list, with_list-twice}
+use Rattle.key_index_flat.specs.Retention.{AsksBehind, AsksInTurn}
 use Rattle.key_index_flat.proofs.closures.TurnLemmas.{held_answers, kept_few}
-use Rattle.key_index_parts.specs.Family.{RetainsWith}
-use Rattle.key_index_parts.specs.laws.PairLaws.{IsLawful-grouped}
 use Rattle.key_index_parts.specs.Pairs.{run_of, grouped, with_value, IsFound}
 use Rattle.key_index_parts.proofs.pairs.SearchLemmas.{Rises, Rises-IsSorted}
-use Rattle.key_index_parts.proofs.pairs.PairLemmas.{place_among, filter-insert}
-use Rattle.key_index_parts.specs.Spread.{pairs_with}
 use Rattle.key_index_parts.proofs.pairs.RunLemmas.{below_part, run_within}
-use Rattle.key_index_parts.proofs.pairs.ZipLemmas.{length-zip, take-zip, drop-zip, zip-parts, zip-pairs_with}
+use Rattle.key_index_parts.proofs.pairs.ZipLemmas.{length-zip, drop-zip, zip-append, zip-parts, zip-pairs_with}
 use Rattle.key_index_parts.proofs.pairs.GroupLemmas.{list_at-grouped}
-use Rattle.key_index_parts.proofs.pairs.PairEdits.{map-insert, slice_get-run_of, IsSorted-insert, grouped-insert, grouped-set, grouped-remove, grouped-remove_run, grouped-set_run, keys_in_run, above_part}
+use Rattle.key_index_parts.proofs.pairs.PairEdits.{slice_get-run_of, IsSorted-insert, grouped-insert, grouped-set, grouped-remove, grouped-remove_run, grouped-set_run, keys_in_run, above_part}
 
 module _ {K V : Type 0} {cmp : K → K → Ordering} (o : IsTotalOrder cmp) (exact : (x y : K) → cmp x y ≡ Equal → x ≡ y) {es : List (K × V)} {k : K}
     {start end : ℕ} (found : IsFound cmp es k start end) where
@@ -107,101 +101,94 @@ module _ {K V : Type 0} {cmp : K → K → Ordering} (o : IsTotalOrder cmp) (exa
   pub grouped-removed_all : grouped cmp (remove_range es start end) ≡ with_list cmp (grouped cmp es) k []
   grouped-removed_all = grouped-remove_run o es k Rises-found exact start end found.run
 
+  -- other values in the place of the run, beside as many keys, each of which is k
+  grouped-run : (ks : List K) (vs : List V) → zip ks vs ≡ es → length ks ≡ length vs → (own : List K) (kept : List V)
+      → All (λ x. x ≡ k) own → length own ≡ length kept
+      → grouped cmp (zip (take start ks ++ own ++ drop end ks) (take start vs ++ kept ++ drop end vs)) ≡ with_list cmp (grouped cmp es) k kept
+  grouped-run ks vs is sized own kept one beside =
+      let rises = Rises-found in
+      let ahead : take start (zip ks vs) ≡ entries_below cmp es k = ap (take start) is ∙ ap (λ m. take m es) found.run.from ∙ below_part o es k rises in
+      let rest : zip (drop end ks) (drop end vs) ≡ entries_above cmp es k = sym (drop-zip end ks vs) ∙ ap (drop end) is ∙ above_part o es k rises exact start end found.run in
+      ap (grouped cmp)
+      ((λ j. zip (append_assoc (take start ks) own (drop end ks) j) (append_assoc (take start vs) kept (drop end vs) j))
+      ∙ zip-parts start ks (own ++ drop end ks) vs (kept ++ drop end vs) sized
+      ∙ ap (λ l. take start (zip ks vs) ++ l) (zip-append own (drop end ks) kept (drop end vs) beside)
+      ∙ (λ j. ahead j ++ (zip-pairs_with k own kept beside one j ++ rest j)))
+      ∙ grouped-set_run o es k rises exact kept
+
+  -- the first keys of the run
+  own_keys : (ks : List K) (vs : List V) → zip ks vs ≡ es → length ks ≡ length vs → (n : ℕ) → n ≤ end - start
+      → All (λ x. x ≡ k) (take n (drop start ks)) × (length (take n (drop start ks)) ≡ n)
+  own_keys ks vs is sized n l =
+      let few : n ≤ length (run_of cmp es k) = let u = found.run.upto in omega (arith, u, l) in
+      let keys_are : take n (drop start ks) ≡ take n (drop (length (entries_below cmp es k)) (keys_of es)) =
+      (λ j. take n (drop (found.run.from j) (sym (keys_of-zip ks vs (sym sized)) j)))
+      ∙ ap (λ fs. take n (drop (length (entries_below cmp es k)) (keys_of fs))) is in
+      let long = length-drop start ks in
+      let pairs = length-zip ks vs sized in
+      let all = ap (λ l. length l) is in
+      let inside = found.within in
+      let u = found.run.upto in (
+        subst (λ xs. All (λ x. x ≡ k) xs) (sym keys_are) (keys_in_run o es k Rises-found exact n few),
+        length-take-le n (drop start ks) (omega (arith, long, pairs, all, inside, l, u)),
+      )
+
+  -- as many as there were or fewer, and one more
+  pub grouped-fewer : (ks : List K) (vs : List V) → zip ks vs ≡ es → length ks ≡ length vs → (n : ℕ) (kept : List V) → n ≤ end - start → n ≡ length kept
+      → grouped cmp (zip (remove_range ks (start + n) end) (take start vs ++ kept ++ drop end vs)) ≡ with_list cmp (grouped cmp es) k kept
+  grouped-fewer ks vs is sized n kept l count =
+      let own = own_keys ks vs is sized n l in
+      ap (λ m. grouped cmp (zip (m ++ drop end ks) (take start vs ++ kept ++ drop end vs))) (take-add start n ks)
+      ∙ grouped-run ks vs is sized (take n (drop start ks)) kept own.0 (own.1 ∙ count)
+
+  pub grouped-more : (ks : List K) (vs : List V) → zip ks vs ≡ es → length ks ≡ length vs → (kept : List V) → length kept ≡ end - start + 1
+      → grouped cmp (zip (insert ks end k) (take start vs ++ kept ++ drop end vs)) ≡ with_list cmp (grouped cmp es) k kept
+  grouped-more ks vs is sized kept count =
+      let run = end - start in
+      let whole : run ≤ end - start = omega arith in
+      let own = own_keys ks vs is sized run whole in
+      let upto : end ≡ start + run = let u = found.run.upto in omega (arith, u) in
+      let ahead : take end ks ≡ take start ks ++ take run (drop start ks) = ap (λ n. take n ks) upto ∙ take-add start run ks in
+      let one = length-append (take run (drop start ks)) (k ∷ []) in
+      ap (λ m. grouped cmp (zip m (take start vs ++ kept ++ drop end vs)))
+      (ap (λ l. l ++ k ∷ drop end ks) ahead ∙ sym (append_assoc (take start ks ++ take run (drop start ks)) (k ∷ []) (drop end ks))
+      ∙ ap (λ l. l ++ drop end ks) (append_assoc (take start ks) (take run (drop start ks)) (k ∷ [])))
+      ∙ grouped-run ks vs is sized (take run (drop start ks) ++ k ∷ []) kept (All-append (λ x. x ≡ k) (take run (drop start ks)) (k ∷ []) own.0 (All-cons (λ x. x ≡ k) k [] (λ i. k) (All-nil (λ x. x ≡ k))))
+      (omega (arith, one, own.1, count))
+
   -- some values in the place of the first of the run, and the rest of it taken out
   pub grouped-kept : (ks : List K) (vs ws : List V) (n : ℕ) → zip ks vs ≡ es → length ks ≡ length vs → length ws ≡ length vs → n ≤ end - start
       → take start ws ≡ take start vs → drop end ws ≡ drop end vs
       → grouped cmp (zip (remove_range ks (start + n) end) (remove_range ws (start + n) end)) ≡ with_list cmp (grouped cmp es) k (take n (slice_range ws start end))
   grouped-kept ks vs ws n is sized long l front back =
-      let rises = Rises-found in
-      let below = entries_below cmp es k in
-      let few : n ≤ length (run_of cmp es k) = let u = found.run.upto in omega (arith, u, l) in
       let kept = take n (slice_range ws start end) in
-      let whole = length-zip ks vs sized in
+      let kept_is : take n (drop start ws) ≡ kept = sym (take-take n (end - start) (drop start ws) l) in
+      let behind = length-drop start ws in
+      let pairs = length-zip ks vs sized in
       let all = ap (λ l. length l) is in
       let inside = found.within in
-      let room : n ≤ length (drop start ws) = let u = found.run.upto in let d = length-drop start ws in omega (arith, d, long, sized, whole, all, inside, l, u) in
-      let kept_is : take n (drop start ws) ≡ kept = sym (take-take n (end - start) (drop start ws) l) in
-      let keys_are : take n (drop start ks) ≡ take n (drop (length below) (keys_of es)) =
-      (λ j. take n (drop (found.run.from j) (sym (keys_of-zip ks vs (sym sized)) j))) ∙ ap (λ fs. take n (drop (length below) (keys_of fs))) is in
-      let one : All (λ x. x ≡ k) (take n (drop start ks)) = subst (λ xs. All (λ x. x ≡ k) xs) (sym keys_are) (keys_in_run o es k rises exact n few) in
-      let beside : length (take n (drop start ks)) ≡ length (take n (drop start ws)) =
-      let a = length-take-le n (drop start ws) room in
-      let d = length-drop start ks in
-      let e = length-drop start ws in
-      let b = length-take-le n (drop start ks) (omega (arith, d, e, long, sized, room)) in
-      omega (arith, a, b) in
-      let ahead : take start (zip ks ws) ≡ below = take-zip start ks ws ∙ ap (zip (take start ks)) front ∙ sym (take-zip start ks vs) ∙ ap (take start) is
-      ∙ ap (λ m. take m es) found.run.from ∙ below_part o es k rises in
-      let own : take n (drop start (zip ks ws)) ≡ pairs_with k kept = ap (take n) (drop-zip start ks ws) ∙ take-zip n (drop start ks) (drop start ws)
-      ∙ zip-pairs_with k (take n (drop start ks)) (take n (drop start ws)) beside one ∙ ap (pairs_with k) kept_is in
-      let rest : zip (drop end ks) (drop end ws) ≡ entries_above cmp es k = ap (zip (drop end ks)) back ∙ sym (drop-zip end ks vs) ∙ ap (drop end) is ∙ above_part o es k rises exact start end found.run in
-      ap (grouped cmp)
-      (zip-parts (start + n) ks (drop end ks) ws (drop end ws) (sized ∙ sym long)
-      ∙ (λ j. (take-add start n (zip ks ws) ∙ (λ i. ahead i ++ own i)) j ++ rest j)
-      ∙ append_assoc below (pairs_with k kept) (entries_above cmp es k))
-      ∙ grouped-set_run o es k rises exact kept
+      let u = found.run.upto in
+      let count : length (take n (drop start ws)) ≡ n = length-take-le n (drop start ws) (omega (arith, behind, long, sized, pairs, all, inside, l, u)) in
+      ap (λ m. grouped cmp (zip (remove_range ks (start + n) end) m)) ((λ j. (take-add start n ws ∙ (λ i. front i ++ kept_is i)) j ++ back j))
+      ∙ grouped-fewer ks vs is sized n kept l (sym count ∙ ap (λ m. length m) kept_is)
 
-  -- where a pair is put behind it
-  module _ (v : V) (new : List (K × V)) (is : new ≡ insert es end (k, v)) where
-    abbrev more : List (K × V)
-    more = insert es end (k, v)
+  -- each of its values and one more was asked on
+  module _ {F : Type 0} (ask : F → V → Bool → F → Type 0) (f : F) (v : V) {kept : List V} {stays : Bool} (asked : AsksInTurn ask f true (list ++ v ∷ []) kept stays) where
+    length-asked_run : length asked.0 ≡ length list + 1
+    length-asked_run = asked.2 ∙ length-append list (v ∷ [])
 
-    grouped-appended : grouped cmp new ≡ with_list cmp (grouped cmp es) k (list ++ v ∷ [])
-    grouped-appended = ap (grouped cmp) is ∙ grouped-inserted_last v
+    pub length-kept_of_run : length kept ≡ length (items_where_true asked.0 list) + cond stays 1 0
+    length-kept_of_run = ap (λ l. length l) asked.4 ∙ held_answers true asked.0 list v length-asked_run ∙ ap (λ b. length (items_where_true asked.0 list) + cond b 1 0) (sym asked.5)
 
-    list_appended : list_at cmp (grouped cmp new) k ≡ list ++ v ∷ []
-    list_appended =
-        ap (λ c. list_at cmp c k) grouped-appended ∙ list_at-with_list o (grouped cmp es) k (list ++ v ∷ []) k
-        ∙ ap (λ r. cond (is_eq r) (list ++ v ∷ []) list) (tied_itself o k)
+    pub few_of_run : length (items_where_true asked.0 list) ≤ length list
+    few_of_run = kept_few asked.0 list
 
-    pub length_appended : length new ≡ length es + 1
-    length_appended = let size = ap (λ l. length l) is in let one = length-insert es end (k, v) found.within in omega (arith, size, one)
-
-    pub found_appended : IsFound cmp new k start (end + 1)
-    found_appended =
-        let below : entries_below cmp more k ≡ entries_below cmp es k =
-        filter-insert (λ f. is_lt (cmp f.0 k)) es end (k, v)
-        ∙ ap (λ r. cond (is_lt r) (insert (entries_below cmp es k) (place_among (λ f. is_lt (cmp f.0 k)) es end) (k, v)) (entries_below cmp es k)) (tied_itself o k) in
-        let left = ap (λ m. length m) (sym (list_at-grouped o new k) ∙ list_appended) in
-        let one = length-append list (v ∷ []) in
-        let whole = run_count in
-        let all = found.within in
-        let size = length_appended in
-        record {
-          run = record { from = found.run.from ∙ ap (λ m. length m) (sym (ap (λ fs. entries_below cmp fs k) is ∙ below)); upto = omega (arith, left, one, whole) };
-          within = omega (arith, size, all);
-          sorted = subst (λ ks. IsSorted cmp ks) (sym (ap (λ fs. keys_of fs) is ∙ map-insert (λ e. e.0) es end (k, v))) may_append;
-        }
-
-    -- and each value of it was asked on
-    module _ {F : Type 0} (ask : F → V → Bool → F → Type 0) (f : F) {kept : List V} {stays : Bool}
-        (asked : AsksInTurn ask f true (list_at cmp (grouped cmp new) k) kept stays) where
-      length-asked_run : length asked.0 ≡ length list + 1
-      length-asked_run = asked.2 ∙ ap (λ l. length l) list_appended ∙ length-append list (v ∷ [])
-
-      kept-of_run : kept ≡ items_where_true asked.0 (list ++ v ∷ [])
-      kept-of_run = asked.4 ∙ ap (λ l. items_where_true asked.0 l) list_appended
-
-      pub length-kept_of_run : length kept ≡ length (items_where_true asked.0 list) + cond stays 1 0
-      length-kept_of_run = ap (λ l. length l) kept-of_run ∙ held_answers true asked.0 list v length-asked_run ∙ ap (λ b. length (items_where_true asked.0 list) + cond b 1 0) (sym asked.5)
-
-      pub few_of_run : length (items_where_true asked.0 list) ≤ length list
-      few_of_run = kept_few asked.0 list
-
-      pub RetainsWith-run : (last : List (K × V)) (had left taken : ℕ) → grouped cmp last ≡ with_list cmp (grouped cmp new) k kept → had ≡ length list → left ≡ length kept
-          → taken + length (items_where_true asked.0 list) ≡ length list
-          → RetainsWith ask f list v had left taken (λ l. grouped cmp last ≡ with_list cmp (grouped cmp es) k l)
-      RetainsWith-run last had left taken now had_is left_is taken_is = (
-        kept,
-        record {
-          answers = asked.0;
-          last = asked.1;
-          long = length-asked_run;
-          asked = subst (λ l. ReturnsInTurn ask f asked.0 l asked.1) list_appended asked.3;
-          kept = kept-of_run;
-          taken = taken_is;
-        },
-        now ∙ ap (λ c. with_list cmp c k kept) grouped-appended ∙ with_list-twice o exact (grouped cmp es) k (list ++ v ∷ []) kept (IsLawful-grouped o es),
-        had_is,
-        left_is,
-      )
+    pub asks_behind_run : (taken : ℕ) → taken + length (items_where_true asked.0 list) ≡ length list → AsksBehind ask f list v kept taken
+    asks_behind_run taken is = record {
+      answers = asked.0;
+      last = asked.1;
+      long = length-asked_run;
+      asked = asked.3;
+      kept = asked.4;
+      taken = is;
+    }

@@ -2,6 +2,7 @@
 --     length-zip, values_of-zip            what zip has
 --     length-remove_range                  how many are left
 --     take-zip, drop-zip                   a part of both is one of the pairs
+--     zip-append                           two after two others
 --     zip-insert, zip-remove, zip-remove_range     an edit of both is one of the pairs
 --     zip-pairs_with                       values beside keys that are one
 use Rattle.std.proofs.Common.{◌≡◌, ℕ, zero, suc, ◌+◌, ◌-◌, ◌≤◌, List, [], ◌∷◌, ◌++◌, length, take, drop, insert, remove, All, refl, sym, ap, ◌∙◌, arith}
@@ -56,6 +57,12 @@ module _ {K V : Type 0} where
 
     pub zip-remove : (i : ℕ) → zip (remove ks i) (remove vs i) ≡ remove (zip ks vs) i
     zip-remove i = zip-remove_range i (suc i)
+
+  pub zip-append : (ks js : List K) (vs ws : List V) → length ks ≡ length vs → zip (ks ++ js) (vs ++ ws) ≡ zip ks vs ++ zip js ws
+  zip-append [] js [] ws h = refl
+  zip-append [] js (v ∷ vs) ws h = absurd (omega (arith, h))
+  zip-append (k ∷ ks) js [] ws h = absurd (omega (arith, h))
+  zip-append (k ∷ ks) js (v ∷ vs) ws h = ap (λ l. (k, v) ∷ l) (zip-append ks js vs ws (omega (arith, h)))
 
   -- beside keys that are one
   pub zip-pairs_with : (k : K) (ks : List K) (vs : List V) → length ks ≡ length vs → All (λ x. x ≡ k) ks → zip ks vs ≡ pairs_with k vs

@@ -2,12 +2,11 @@
 //! whose key has one value then costs that key and that value alone.
 ghost use Rattle.std.specs.Prelude.{◌≡◌, ◌+◌, ◌<◌, ◌≤◌, true, false, if◌then◌else◌, List, [], ◌∷◌, ◌++◌, length, slice_get, slice_set, insert, remove, Some, IfOk, IfErr, IfSome, IfNone, IsOk, OnOk, OnErr};
 ghost use Rattle.std.specs.Fn.{CalledAt};
-ghost use Rattle.std.specs.List.Retain.{IsFiltered};
 ghost use Rattle.std.specs.Map.Iter.{deref_pair};
 ghost use Rattle.std.specs.Option.{option_map};
 ghost use Rattle.key_index_flat.specs.Content.{key_count, lacks, list_at, with_list, with_list_by, IsLawful};
 ghost use Rattle.key_index_flat.specs.Neighbours.{entries_above, entries_below, first_entry, last_entry, next_list, prev_list};
-ghost use Rattle.key_index_flat.specs.Retention.{AsksBehind};
+ghost use Rattle.key_index_flat.specs.Retention.{AsksWith};
 ghost use Rattle.key_index_flat.specs.Storage.{KeptLists, added, content_of, list_of, tail_at, IsLinked};
 ghost use Rattle.key_index_flat.specs.Values.{values_of, VisitsEach};
 ghost use Rattle.key_index_flat.specs.View.{put_value};
@@ -254,58 +253,52 @@ impl<T: Translator, V: Drop, M: AnyMap<T::Key, V>, E: End> ListMap<T, V, M, E> {
         self.heads.remove(&slot);
     }
 
-    /// Calls the closure once for each value of the index key, in list order, and removes those for which it returns false. Returns how
-    /// many there were, and how many are left.
-    pub fn retain<F: FnMut(&V) -> bool>(&mut self, slot: T::Key, should_retain: F) -> (usize, usize)
-        requires callable { F.IsAlwaysCallable should_retain }
-        ensures kept { (kept : List V)
-            × IsFiltered (CalledAt F.FnMut) should_retain (list_at T.Key.cmp self.old.content slot) kept
-            × (self.new.content ≡ with_list T.Key.cmp self.old.content slot kept)
-            × (result.1 ≡ length kept)
-            × (result.0 ≡ length (list_at T.Key.cmp self.old.content slot)) × (result.1 ≤ result.0) }
-    {
-        let Some(head) = self.heads.get(&slot) else {
-            return (0, 0);
-        };
-        let tail = self.tails.retain(slot, head, should_retain);
-        self.set_first(slot, tail.head_stays, tail.next);
-        (tail.had + 1, tail.left)
-    }
-
-    /// Inserts a value behind those of the index key, which allocates all the memory that the call may need. Then calls the closure once
-    /// for each of them, in list order, and removes those for which it returns false.
-    pub fn insert_and_retain<F: FnMut(&V) -> bool>(
+    /// Inserts a new value, if there is one, behind those of the index key, which allocates all the memory that the call may need. Then
+    /// calls the closure once for each of them, in list order, and removes those for which it returns false.
+    #[inline(always)]
+    pub fn retain<F: FnMut(&V) -> bool>(
         &mut self,
         slot: T::Key,
-        value: V,
-        should_retain: F,
+        new: Option<V>,
+        mut should_retain: F,
     ) -> Result<Retained, V>
         requires { F.IsAlwaysCallable should_retain }
         ensures accepted { IfOk result (λ told. (kept : List V)
-            × AsksBehind (CalledAt F.FnMut) should_retain (list_at T.Key.cmp self.old.content slot)
-            value kept told.taken
+            × AsksWith (CalledAt F.FnMut) should_retain (list_at T.Key.cmp self.old.content slot)
+            new kept told.taken
             × (self.new.content ≡ with_list T.Key.cmp self.old.content slot kept) × (told.left ≡ length kept)) }
         ensures had { IfOk result (λ told. told.had ≡ length (list_at T.Key.cmp self.old.content slot)) }
         ensures refused { OnErr result (self.new.content ≡ self.old.content) }
-        ensures returned { IfErr result (λ back. back ≡ value) }
+        ensures returned { IfErr result (λ back. new ≡ Some back) }
     {
         let Some(head) = self.heads.get(&slot) else {
+            let Some(value) = new else {
+                return Ok(Retained {
+                    had: 0,
+                    left: 0,
+                    taken: 0,
+                });
+            };
             self.insert_first(slot, value)?;
-            let (_, left) = self.retain(slot, should_retain);
+            let stays = should_retain(self.value_at(slot, 0));
+            self.set_first(slot, stays, None);
             return Ok(Retained {
                 had: 0,
-                left,
+                left: usize::from(stays),
                 taken: 0,
             });
         };
+        let has_new = new.is_some();
         let tail = self
             .tails
-            .insert_and_retain(self.alloc, slot, head, value, should_retain)?;
+            .retain(self.alloc, slot, head, new, should_retain)?;
         self.set_first(slot, tail.head_stays, tail.next);
+        let had = tail.had + usize::from(!has_new);
+        let held_left = tail.left - usize::from(has_new && tail.stays);
         Ok(Retained {
-            had: tail.had,
+            had,
             left: tail.left,
-            taken: gone_of(tail.had + 1 - tail.left, tail.stays),
+            taken: had - held_left,
         })
     }
 
@@ -316,15 +309,6 @@ impl<T: Translator, V: Drop, M: AnyMap<T::Key, V>, E: End> ListMap<T, V, M, E> {
     {
         self.heads.len()
     }
-}
-
-/// How many of the held values are removed, where so many of them and of a new value are, and the new one stays or not.
-#[inline]
-fn gone_of(removed: usize, stays: bool) -> usize
-    requires { stays ≡ false → 1 ≤ removed }
-    ensures { removed ≡ result + (if stays then 0 else 1) }
-{
-    if stays { removed } else { removed - 1 }
 }
 
 /// A key with its list, by its first value.

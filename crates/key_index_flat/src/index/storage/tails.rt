@@ -1,5 +1,5 @@
 //! The tails of lists: of each list that has more than one value, all of them but the first.
-ghost use Rattle.std.specs.Prelude.{◌≡◌, ◌+◌, ◌∷◌, ◌++◌, IfOk, Bool, true, false, ◌-◌, ◌<◌, ◌≤◌, List, length, slice_get, slice_set, insert, remove, unwrap_or, [], IfErr, IfNone, IfSome, None, OnErr, OnOk};
+ghost use Rattle.std.specs.Prelude.{◌≡◌, ◌+◌, ◌∷◌, ◌++◌, IfOk, Bool, true, false, ◌-◌, ◌<◌, ◌≤◌, List, length, slice_get, slice_set, insert, remove, unwrap_or, [], IfErr, IfNone, IfSome, None, Some, OnErr, OnOk};
 ghost use Rattle.std.specs.Fn.{CalledAt};
 ghost use Rattle.std.specs.Option.{option_map};
 ghost use Rattle.key_index_flat.specs.Storage.{at_key, index_in, list_of, tail_at, value_of, vector_at, RetainsTail, SameBut};
@@ -154,6 +154,20 @@ fn insert_value<V, E: End>(values: &mut Vec<V>, place: Option<usize>, value: V) 
     match values.insert(index_of::<E>(len, place.unwrap_or(len)), value) {
         Ok(()) => Ok(()),
         Err(failed) => Err(failed.value),
+    }
+}
+
+/// Inserts a new value, if there is one, behind the last one of the list that a vector has.
+#[inline]
+fn insert_new<V, E: End>(values: &mut Vec<V>, new: Option<V>) -> Result<(), V>
+    ensures at { OnOk result (in_order E.FIRST values.new.items
+        ≡ in_order E.FIRST values.old.items ++ list_of new []) }
+    ensures refused { OnErr result (values.new.items ≡ values.old.items) }
+    ensures returned { IfErr result (λ back. new ≡ Some back) }
+{
+    match new {
+        Some(value) => insert_value::<V, E>(values, None, value),
+        None => Ok(()),
     }
 }
 
@@ -319,56 +333,47 @@ fn retain_alone<V, F: FnMut(&V) -> bool>(head: &V, mut should_retain: F) -> Tail
     }
 }
 
-/// `retain_behind`, of the tail of a key.
+/// Inserts a new value, if there is one, behind the last one of a tail, which allocates all the memory that the call may need, and then
+/// `retain_behind`. Where there is no tail and the new value does not stay in one, none is made.
+// This and what calls it are inlined, so that a retention with no new value has no code for one.
+#[inline(always)]
 fn retain_in<K: Ord + Hash + Copy, V: Drop, F: FnMut(&V) -> bool, E: End>(
-    map: &mut Map<K, Vec<V>>,
-    key: K,
-    head: &V,
-    should_retain: F,
-) -> TailRetained<V>
-    requires { F.IsAlwaysCallable should_retain }
-    ensures retained { RetainsTail (CalledAt F.FnMut) should_retain head.now
-        (in_order E.FIRST (at_key K.eq map.old key)) (in_order E.FIRST (at_key K.eq map.new key)) result }
-    ensures fits { result.had < usize.MAX }
-    ensures others { SameBut K.cmp (at_key K.eq map.old) (at_key K.eq map.new) key }
-{
-    let Some(values) = map.get_mut(&key) else {
-        return retain_alone(head, should_retain);
-    };
-    let retained = retain_behind::<V, F, E>(head, values, should_retain);
-    let left = values.len();
-    remove_empty(map, key, left);
-    retained
-}
-
-/// Inserts a value behind the last one of a tail, which allocates all the memory that the call may need, and then `retain_behind`.
-fn insert_and_retain_in<K: Ord + Hash + Copy, V: Drop, F: FnMut(&V) -> bool, E: End>(
     alloc: Global,
     map: &mut Map<K, Vec<V>>,
     key: K,
     head: &V,
-    value: V,
+    new: Option<V>,
     should_retain: F,
 ) -> Result<TailRetained<V>, V>
     requires { F.IsAlwaysCallable should_retain }
     ensures retained { IfOk result (λ r. RetainsTail (CalledAt F.FnMut) should_retain head.now
-        (in_order E.FIRST (at_key K.eq map.old key) ++ value ∷ []) (in_order E.FIRST (at_key K.eq map.new key)) r) }
+        (in_order E.FIRST (at_key K.eq map.old key) ++ list_of new []) (in_order E.FIRST (at_key K.eq map.new key)) r) }
     ensures fits { IfOk result (λ r. r.had < usize.MAX) }
     ensures others { SameBut K.cmp (at_key K.eq map.old) (at_key K.eq map.new) key }
     ensures refused { OnErr result (at_key K.eq map.new key ≡ at_key K.eq map.old key) }
-    ensures returned { IfErr result (λ back. back ≡ value) }
+    ensures returned { IfErr result (λ back. new ≡ Some back) }
 {
-    if let Some(tail) = map.get_mut(&key) {
-        insert_value::<V, E>(tail, None, value)?;
-        let retained = retain_behind::<V, F, E>(head, tail, should_retain);
-        let left = tail.len();
+    if let Some(values) = map.get_mut(&key) {
+        insert_new::<V, E>(values, new)?;
+        let retained = retain_behind::<V, F, E>(head, values, should_retain);
+        let left = values.len();
         remove_empty(map, key, left);
         return Ok(retained);
     }
-    let values = vector_of(alloc, value)?;
+    let Some(value) = new else {
+        return Ok(retain_alone(head, should_retain));
+    };
+    let mut values = vector_of(alloc, value)?;
+    if map.reserve(1).is_err() {
+        return Err(values.pop().unwrap());
+    }
+    let retained = retain_behind::<V, F, E>(head, &mut values, should_retain);
+    if values.is_empty() {
+        return Ok(retained);
+    }
     match map.add(key, values) {
-        Ok(()) => Ok(retain_in::<K, V, F, E>(map, key, head, should_retain)),
-        Err(mut values) => Err(values.pop().unwrap()),
+        Ok(()) => Ok(retained),
+        Err(_) => unreachable!(),
     }
 }
 
@@ -533,63 +538,45 @@ impl<K: Ord + Hash + Copy, V, E: End> Tails<K, V, E> {
         remove_in(map, key)
     }
 
-    /// `retain_behind`, of the tail of a key.
-    pub(super) fn retain<F: FnMut(&V) -> bool>(
-        &mut self,
-        key: K,
-        head: &V,
-        should_retain: F,
-    ) -> TailRetained<V>
-    where
-        V: Drop,
-        requires { F.IsAlwaysCallable should_retain }
-        ensures retained { RetainsTail (CalledAt F.FnMut) should_retain head.now
-            (tail_at E.FIRST K.eq self.old.map key) (tail_at E.FIRST K.eq self.new.map key) result }
-        ensures fits { result.had < usize.MAX }
-        ensures others { SameBut K.cmp (tail_at E.FIRST K.eq self.old.map) (tail_at E.FIRST K.eq self.new.map) key }
-    {
-        let Some(map) = &mut self.map else {
-            return retain_alone(head, should_retain);
-        };
-        if map.len() == 0 {
-            return retain_alone(head, should_retain);
-        }
-        retain_in::<K, V, F, E>(map, key, head, should_retain)
-    }
-
-    /// Inserts a value behind the last one, which allocates all the memory that the call may need, and then `retain_behind`. A refusal
-    /// hands the value back and changes nothing.
+    /// Inserts a new value, if there is one, behind the last one of a tail, which allocates all the memory that the call may need, and
+    /// then `retain_behind`. A refusal hands the value back and changes nothing.
     #[inline(always)]
-    pub(super) fn insert_and_retain<F: FnMut(&V) -> bool>(
+    pub(super) fn retain<F: FnMut(&V) -> bool>(
         &mut self,
         alloc: Global,
         key: K,
         head: &V,
-        value: V,
+        new: Option<V>,
         should_retain: F,
     ) -> Result<TailRetained<V>, V>
     where
         V: Drop,
         requires { F.IsAlwaysCallable should_retain }
         ensures retained { IfOk result (λ r. RetainsTail (CalledAt F.FnMut) should_retain head.now
-            (tail_at E.FIRST K.eq self.old.map key ++ value ∷ []) (tail_at E.FIRST K.eq self.new.map key) r) }
+            (tail_at E.FIRST K.eq self.old.map key ++ list_of new []) (tail_at E.FIRST K.eq self.new.map key) r) }
         ensures fits { IfOk result (λ r. r.had < usize.MAX) }
         ensures others { SameBut K.cmp (tail_at E.FIRST K.eq self.old.map) (tail_at E.FIRST K.eq self.new.map) key }
         ensures refused { OnErr result (tail_at E.FIRST K.eq self.new.map key ≡ tail_at E.FIRST K.eq self.old.map key) }
-        ensures returned { IfErr result (λ back. back ≡ value) }
+        ensures returned { IfErr result (λ back. new ≡ Some back) }
     {
         if let Some(map) = &mut self.map {
-            return insert_and_retain_in::<K, V, F, E>(alloc, map, key, head, value, should_retain);
+            if new.is_none() && map.len() == 0 {
+                return Ok(retain_alone(head, should_retain));
+            }
+            return retain_in::<K, V, F, E>(alloc, map, key, head, new, should_retain);
         }
+        let Some(value) = new else {
+            return Ok(retain_alone(head, should_retain));
+        };
         let Ok(mut map) = Box::new(alloc, Map::new(alloc)) else {
             return Err(value);
         };
-        let retained = insert_and_retain_in::<K, V, F, E>(
+        let retained = retain_in::<K, V, F, E>(
             alloc,
             &mut map,
             key,
             head,
-            value,
+            Some(value),
             should_retain,
         )?;
         self.map = Some(map);

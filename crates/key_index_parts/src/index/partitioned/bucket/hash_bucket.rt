@@ -69,7 +69,10 @@ impl<T: Translator, V: Drop> EditBucket<T, V> for HashBucket<T, V> {
     }
 
     fn retain<F: FnMut(&V) -> bool>(&mut self, key: T::Key, should_retain: F) -> (usize, usize) {
-        self.lists.retain(key, should_retain)
+        let Ok(told) = self.lists.retain(key, None, should_retain) else {
+            unreachable!()
+        };
+        (told.had, told.left)
     }
 
     fn remove(&mut self, key: T::Key) -> usize {
@@ -134,7 +137,7 @@ impl<T: Translator, V: Drop> Bucket<T, V> for HashBucket<T, V> {
         should_retain: F,
         _threshold: usize,
     ) -> Result<(Retained, usize), V> {
-        let told = self.lists.insert_and_retain(key, value, should_retain)?;
+        let told = self.lists.retain(key, Some(value), should_retain)?;
         Ok((told, 0))
     }
 }

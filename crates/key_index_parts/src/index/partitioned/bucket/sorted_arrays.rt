@@ -147,17 +147,13 @@ impl<T: Translator, V: Drop> Representation<T, V> for SortedArrays<T, V> {
         should_retain: F,
     ) -> Result<Retained, V> {
         let run = self.pairs.run_range(&key);
-        let (start, had) = (run.start, run.end - run.start);
-        let behind = self.pairs.len() - run.end;
-        match self.pairs.insert_at(run.end, key, value) {
-            Ok(()) => {
-                let run = start..self.pairs.len() - behind;
-                let (left, stays) = self.pairs.retain_run(key, run, should_retain);
-                let taken = had + usize::from(stays) - left;
-                Ok(Retained { had, left, taken })
-            }
-            Err(refused) => Err(refused.value),
+        let had = run.end - run.start;
+        if self.pairs.reserve(1).is_err() {
+            return Err(value);
         }
+        let (left, stays) = self.pairs.retain_run_with(key, run, value, should_retain);
+        let taken = had - (left - usize::from(stays));
+        Ok(Retained { had, left, taken })
     }
 }
 

@@ -110,9 +110,11 @@ impl<T: Translator, V: Drop> EditBucket<T, V> for Tree<T, V> {
     }
 
     fn retain<F: FnMut(&V) -> bool>(&mut self, key: T::Key, should_retain: F) -> (usize, usize) {
-        let (had, left) = self.lists.retain(key, should_retain);
-        self.len -= had - left;
-        (had, left)
+        let Ok(told) = self.lists.retain(key, None, should_retain) else {
+            unreachable!()
+        };
+        self.len -= told.taken;
+        (told.had, told.left)
     }
 
     fn remove(&mut self, key: T::Key) -> usize {
@@ -141,7 +143,7 @@ impl<T: Translator, V: Drop> Representation<T, V> for Tree<T, V> {
         if self.len == usize::MAX {
             return Err(value);
         }
-        let told = self.lists.insert_and_retain(key, value, should_retain)?;
+        let told = self.lists.retain(key, Some(value), should_retain)?;
         self.len = self.len - told.had + told.left;
         Ok(told)
     }

@@ -352,6 +352,46 @@ fn keep_in_run<V, F: FnMut(&V) -> bool>(
     keep_in_front(&mut values[run], should_retain, true)
 }
 
+/// `keep_in_run`, of the values at a range of places and of a new one behind them, and then no more than those stay there that are kept.
+/// The new value takes the place of the one behind the run meanwhile, so that what stands there moves only if the run's length changes.
+fn keep_with<V: Drop, F: FnMut(&V) -> bool>(
+    values: &mut Vec<V>,
+    run: Range<usize>,
+    value: V,
+    should_retain: F,
+) -> (usize, bool)
+    requires callable { F.IsAlwaysCallable should_retain }
+    requires start { run.start ≤ run.end }
+    requires end { run.end ≤ length values.old.items }
+    requires room { vec_len values.old + 1 ≤ vec_capacity values.old }
+    ensures kept { (kept : List V)
+        × AsksInTurn (CalledAt F.FnMut) should_retain true
+        (slice_range values.old.items run.start run.end ++ value ∷ []) kept result.1
+        × (values.new.items ≡ take run.start values.old.items ++ kept ++ drop run.end values.old.items)
+        × (result.0 ≡ length kept) }
+    ensures within { result.0 ≤ run.end - run.start + 1 }
+{
+    let end = run.end;
+    if end == values.len() {
+        values.push_reserved(value);
+        let (left, stays) = keep_in_run(values.as_mut_slice(), run.start..end + 1, should_retain);
+        values.truncate(run.start + left);
+        return (left, stays);
+    }
+    let behind = replace(&mut values[end], value);
+    let (left, stays) = keep_in_run(values.as_mut_slice(), run.start..end + 1, should_retain);
+    let from = run.start + left;
+    if from > end {
+        let Ok(()) = values.insert(from, behind) else {
+            unreachable!()
+        };
+        return (left, stays);
+    }
+    values[end] = behind;
+    take_out(values, from, end);
+    (left, stays)
+}
+
 /// The keys in order, and beside each of them a value. Pairs of one key stand in a run, one behind another.
 #[derive(Drop)]
 pub struct Partition<K: Ord + Copy, V> {
@@ -565,6 +605,36 @@ impl<K: Ord + Copy, V: Drop> Partition<K, V> {
         let from = run.start + left;
         take_out(&mut self.keys, from, run.end);
         take_out(&mut self.values, from, run.end);
+        (left, stays)
+    }
+
+    /// `retain_run`, with a new value behind those of the key. It has room for one pair more, so it takes no memory.
+    pub(crate) fn retain_run_with<F: FnMut(&V) -> bool>(
+        &mut self,
+        key: K,
+        run: Range<usize>,
+        value: V,
+        should_retain: F,
+    ) -> (usize, bool)
+        requires callable { F.IsAlwaysCallable should_retain }
+        requires found { IsFound K.cmp self.old.pairs key run.start run.end }
+        requires exact { (a b : K) → K.cmp a b ≡ Equal → a ≡ b }
+        requires room { 0 < self.old.room }
+        ensures kept { (kept : List V)
+            × AsksInTurn (CalledAt F.FnMut) should_retain true
+            (list_at K.cmp (grouped K.cmp self.old.pairs) key ++ value ∷ []) kept result.1
+            × (grouped K.cmp self.new.pairs ≡ with_list K.cmp (grouped K.cmp self.old.pairs) key kept)
+            × (result.0 ≡ length kept) }
+    {
+        let (start, end) = (run.start, run.end);
+        let (left, stays) = keep_with(&mut self.values, run, value, should_retain);
+        if left > end - start {
+            let Ok(()) = self.keys.insert(end, key) else {
+                unreachable!()
+            };
+            return (left, stays);
+        }
+        take_out(&mut self.keys, start + left, end);
         (left, stays)
     }
 

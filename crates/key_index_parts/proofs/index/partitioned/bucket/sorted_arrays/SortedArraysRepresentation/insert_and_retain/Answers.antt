@@ -1,50 +1,60 @@
-use Rattle.std.proofs.Common.{rules, ◌≡◌, ◌+◌, ◌-◌, ◌<◌, ◌≤◌, ◌^◌, true, false, Bool, cond, refl, sym, subst, arith}
+use Rattle.std.proofs.Common.{◌≡◌, ◌+◌, ◌-◌, ◌≤◌, true, false, Bool, cond, length, refl, sym, subst, arith}
 use Rattle.std.specs.Fn.{CalledAt}
+use Rattle.std.specs.List.{items_where_true}
 use mir.Val.{bool_byte}
-use Rattle.key_index_parts.specs.Pairs.{IsFound}
-use Rattle.key_index_parts.proofs.pairs.FoundRun.{run_count, may_append, length_appended, found_appended, length-kept_of_run, few_of_run, RetainsWith-run}
+use Rattle.key_index_flat.specs.Content.{list_at, with_list}
+use Rattle.key_index_parts.specs.Family.{RetainsWith}
+use Rattle.key_index_parts.specs.Pairs.{IsFound, grouped}
+use Rattle.key_index_parts.proofs.pairs.FoundRun.{run_count, length-kept_of_run, few_of_run, asks_behind_run}
+use Rattle.key_index_parts.proofs.index.partitioned.bucket.sorted_arrays.SortedArraysRepresentation.insert_and_retain.Given.{Over}
+use Rattle.key_index_parts.proofs.index.partitioned.bucket.sorted_arrays.SortedArraysRepresentation.insert_and_retain.Goals.{After-from}
 use Rattle.key_index_parts.proofs.index.partitioned.bucket.sorted_arrays.SortedArraysRepresentation.insert_and_retain.Goals as goal
 
 as_byte : (b : Bool) → cond b 1 0 ≡ bool_byte b
 as_byte true = refl
 as_byte false = refl
 
-pub insert_at-requires-clause-sorted : goal.insert_at-requires-clause-sorted
-insert_at-requires-clause-sorted g c = may_append g.met.T.Key.Ord.total g.met.T.Translator.exact c.run_range-run.ensures
+module _ (g : Over) (c : After-from g) where
+  found : IsFound g.T.Key.Ord.cmp c.reserve.new.self.pairs c.args.key c.run_range-run.result.start c.run_range-run.result.end
+  found = subst (λ es. IsFound g.T.Key.Ord.cmp es c.args.key c.run_range-run.result.start c.run_range-run.result.end) (sym c.reserve.ensures.pairs) c.run_range-run.ensures
 
-pub retain_run-left-requires-clause-found : goal.retain_run-left-requires-clause-found
-retain_run-left-requires-clause-found g c =
-    let long = length_appended g.met.T.Key.Ord.total g.met.T.Translator.exact c.run_range-run.ensures c.args.value c.insert_at.new.self.pairs c.in-Ok.ensures.accepted in
-    let end = c.run_range-run.result.end in
-    let within = c.run_range-run.ensures.within in
-    let upto : c.len-in-Ok.result - (c.len.result - end) ≡ end + 1 = omega (arith, long, within, c.len-in-Ok.ensures, c.len.ensures) in
-    subst (λ n. IsFound g.T.Key.Ord.cmp c.insert_at.new.self.pairs c.args.key c.run_range-run.result.start n) (sym upto)
-    (found_appended g.met.T.Key.Ord.total g.met.T.Translator.exact c.run_range-run.ensures c.args.value c.insert_at.new.self.pairs c.in-Ok.ensures.accepted)
+  count : c.run_range-run.result.end ≡ c.run_range-run.result.start + length (list_at g.T.Key.Ord.cmp (grouped g.T.Key.Ord.cmp c.reserve.new.self.pairs) c.args.key)
+  count = run_count g.met.T.Key.Ord.total g.met.T.Translator.exact found
 
-pub overflow_add-taken : goal.overflow_add-taken
-overflow_add-taken g c =
-    let long = length_appended g.met.T.Key.Ord.total g.met.T.Translator.exact c.run_range-run.ensures c.args.value c.insert_at.new.self.pairs c.in-Ok.ensures.accepted in
-    let within = c.run_range-run.ensures.within in
-    let small : c.len-in-Ok.result < 2 ^ 64 = search rules in
-    let one : c.from.result ≤ 1 = search rules in
-    omega (arith, long, within, c.len-in-Ok.ensures, small, one)
+  -- how many of the held values stay, and the new one
+  left : c.retain_run_with-left.result.0 ≡ length (items_where_true c.retain_run_with-left.ensures.kept.1.0 (list_at g.T.Key.Ord.cmp (grouped g.T.Key.Ord.cmp c.reserve.new.self.pairs) c.args.key)) + c.from.result
+  left =
+      let told = length-kept_of_run g.met.T.Key.Ord.total g.met.T.Translator.exact found (CalledAt g.F.FnMut) c.args.should_retain c.args.value c.retain_run_with-left.ensures.kept.1 in
+      let one = as_byte c.retain_run_with-left.result.1 in
+      omega (arith, told, one, c.from.ensures, c.retain_run_with-left.ensures.kept.3)
+
+  few : length (items_where_true c.retain_run_with-left.ensures.kept.1.0 (list_at g.T.Key.Ord.cmp (grouped g.T.Key.Ord.cmp c.reserve.new.self.pairs) c.args.key))
+      ≤ length (list_at g.T.Key.Ord.cmp (grouped g.T.Key.Ord.cmp c.reserve.new.self.pairs) c.args.key)
+  few = few_of_run g.met.T.Key.Ord.total g.met.T.Translator.exact found (CalledAt g.F.FnMut) c.args.should_retain c.args.value c.retain_run_with-left.ensures.kept.1
 
 pub overflow_sub-taken : goal.overflow_sub-taken
-overflow_sub-taken g c =
-    let count = run_count g.met.T.Key.Ord.total g.met.T.Translator.exact c.run_range-run.ensures in
-    let new = c.in-Ok.ensures.accepted in
-    let left = length-kept_of_run g.met.T.Key.Ord.total g.met.T.Translator.exact c.run_range-run.ensures c.args.value c.insert_at.new.self.pairs new (CalledAt g.F.FnMut) c.args.should_retain c.retain_run-left.ensures.kept.1 in
-    let few = few_of_run g.met.T.Key.Ord.total g.met.T.Translator.exact c.run_range-run.ensures c.args.value c.insert_at.new.self.pairs new (CalledAt g.F.FnMut) c.args.should_retain c.retain_run-left.ensures.kept.1 in
-    let last = as_byte c.retain_run-left.result.1 in
-    omega (arith, count, left, few, last, c.from.ensures, c.retain_run-left.ensures.kept.3)
+overflow_sub-taken g c = let stay = left g c in omega (arith, stay)
 
-pub returns-in-Ok-clause-accepted : goal.returns-in-Ok-clause-accepted
-returns-in-Ok-clause-accepted g c =
-    let count = run_count g.met.T.Key.Ord.total g.met.T.Translator.exact c.run_range-run.ensures in
-    let new = c.in-Ok.ensures.accepted in
-    let kept = c.retain_run-left.ensures.kept in
-    let left = length-kept_of_run g.met.T.Key.Ord.total g.met.T.Translator.exact c.run_range-run.ensures c.args.value c.insert_at.new.self.pairs new (CalledAt g.F.FnMut) c.args.should_retain c.retain_run-left.ensures.kept.1 in
-    let few = few_of_run g.met.T.Key.Ord.total g.met.T.Translator.exact c.run_range-run.ensures c.args.value c.insert_at.new.self.pairs new (CalledAt g.F.FnMut) c.args.should_retain c.retain_run-left.ensures.kept.1 in
-    let last = as_byte c.retain_run-left.result.1 in
-    RetainsWith-run g.met.T.Key.Ord.total g.met.T.Translator.exact c.run_range-run.ensures c.args.value c.insert_at.new.self.pairs new (CalledAt g.F.FnMut) c.args.should_retain c.retain_run-left.ensures.kept.1 c.retain_run-left.new.self.pairs _ _ _ kept.2 (omega (arith, count)) kept.3
-    (omega (arith, count, left, few, last, c.from.ensures, kept.3))
+pub overflow_sub-taken-2 : goal.overflow_sub-taken-2
+overflow_sub-taken-2 g c =
+    let at = (goal.at.overflow_sub-taken-2 g c).After-from in
+    let stay = left g at in let within = few g at in let all = count g at in omega (arith, stay, within, all)
+
+pub returns-clause-accepted : goal.returns-clause-accepted
+returns-clause-accepted g c =
+    let cmp = g.T.Key.Ord.cmp in
+    let at = (goal.at.returns-clause-accepted g c).After-from in
+    let kept = c.retain_run_with-left.ensures.kept in
+    let had = c.run_range-run.result.end - c.run_range-run.result.start in
+    let taken = had - (c.retain_run_with-left.result.0 - c.from.result) in
+    let stay = left g at in
+    let within = few g at in
+    let all = count g at in
+    subst (λ es. RetainsWith (CalledAt g.F.FnMut) c.args.should_retain (list_at cmp (grouped cmp es) c.args.key) c.args.value had c.retain_run_with-left.result.0 taken
+    (λ l. grouped cmp c.retain_run_with-left.new.self.pairs ≡ with_list cmp (grouped cmp es) c.args.key l)) c.reserve.ensures.pairs (
+      kept.0,
+      asks_behind_run g.met.T.Key.Ord.total g.met.T.Translator.exact (found g at) (CalledAt g.F.FnMut) c.args.should_retain c.args.value kept.1 taken (omega (arith, stay, within, all)),
+      kept.2,
+      omega (arith, all),
+      kept.3,
+    )
