@@ -14,15 +14,16 @@
 --     SameContent                 how its partitions stand may differ, and nothing else
 --     IsLeft                      what a refused insertion leaves
 --     KeepsRange                  the bound on moved values still holds of a range
---     RetainsWith                 what an insertion with retention makes of a list
+--     RetainsList                 what a retention makes of a list
 --     view_of                     the view of it, by what its translator makes of a key
 --     Edits, Prunes               another view has what f makes of the list at a slot, and with n values more taken out
 --     view_from                  the same of a range's storage, whose buckets are numbered from `first`
 --     with_items_from             with other items in the place of those from a number on
 --     AreFree                     so many buckets from there hold nothing
-use Rattle.std.specs.Prelude.{◌≡◌, ◌⊎◌, ℕ, ◌+◌, ◌-◌, ◌^◌, ◌<◌, ◌≤◌, Bool, not, ◌&&◌, if◌then◌else◌, nat_lt, List, [], ◌++◌, length, map, take, drop, All, slice_index_or}
+use Rattle.std.specs.Prelude.{◌≡◌, ◌⊎◌, ℕ, ◌+◌, ◌-◌, ◌^◌, ◌<◌, ◌≤◌, Bool, not, ◌&&◌, if◌then◌else◌, nat_lt, Option, List, [], ◌++◌, length, map, take, drop, All, slice_index_or}
 use Rattle.std.specs.declared.cmp.Ordering.{Ordering}
-use Rattle.key_index_flat.specs.Retention.{AsksBehind}
+use Rattle.key_index_flat.specs.Retention.{AsksWith}
+use Rattle.key_index_flat.specs.declared.index.retain.Retained.{Retained}
 use Rattle.key_index_flat.specs.Content.{Content, is_filled, IsLawful, list_at, item_count, key_count}
 use Rattle.key_index_flat.specs.View.{View, with_edit, with_pruned}
 use Rattle.key_index_parts.specs.Gathered.{gathered, gathered_from, pair_cmp}
@@ -142,9 +143,10 @@ module _ {T K V : Type 0} (cmp : K → K → Ordering) (p : ℕ) (translated : T
   Prunes old slot f n new =
       view_of p translated new ≡ with_pruned (with_edit (pair_cmp cmp) (view_of p translated old) slot f) n
 
--- f was asked on each of `held` and on v last, the list is now what it said true of, and the counts tell how many values it had, how
--- many it has, and how many of those that were held are gone
-abbrev pub RetainsWith : {F V : Type 0} → (F → V → Bool → F → Type 0) → F → List V → V → ℕ → ℕ → ℕ → (List V → Type 0)
+-- f was asked on each of `held` and on a new value last, if there is one; the list is now what it said true of; and `told` has how many
+-- values it had, how many it has, and how many of those that were held are gone
+abbrev pub RetainsList : {F V : Type 0} → (F → V → Bool → F → Type 0) → F → List V → Option V → Retained → (List V → Type 0)
     → Type 0
-RetainsWith {V = V} ask f held v had left taken Becomes =
-    (kept : List V) × AsksBehind ask f held v kept taken × Becomes kept × (had ≡ length held) × (left ≡ length kept)
+RetainsList {V = V} ask f held new told Becomes =
+    (kept : List V) × AsksWith ask f held new kept told.taken × Becomes kept
+    × (told.had ≡ length held) × (told.left ≡ length kept)

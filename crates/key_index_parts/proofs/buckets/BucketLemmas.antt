@@ -1,12 +1,13 @@
 -- On how many keys and values there are.
 --     keys_at_most                          a map of lists that are not empty has no more keys than values
 --     as_many_entries                       lists of one length take as many entries
---     where_true_at_most, kept_at_most      what was kept of a list is no longer
-use Rattle.std.proofs.Common.{◌≡◌, ℕ, ◌+◌, ◌≤◌, true, false, Bool, T, List, [], ◌∷◌, length, refl, ap, arith}
-use Rattle.std.specs.List.{items_where_true}
-use Rattle.std.specs.List.Retain.{IsFiltered}
+--     fits_with                             a count that gains one or none
+--     left_and_gone                         of a list whose values were asked on, no others are missing
+use Rattle.std.proofs.Common.{◌≡◌, ℕ, ◌+◌, ◌^◌, ◌<◌, ◌≤◌, true, false, Bool, cond, T, List, [], ◌∷◌, length, Option, Some, None, refl, ap, arith}
 use Rattle.key_index_flat.specs.Content.{Content, is_filled, all_filled, item_count, key_count}
+use Rattle.key_index_flat.specs.Retention.{AsksWith}
 use Rattle.key_index_flat.specs.laws.Laws.{T-and_first, T-and_second}
+use Rattle.key_index_flat.proofs.closures.TurnLemmas.{held_answers}
 use Rattle.key_index_flat.proofs.content.ContentLemmas.{entries_for}
 
 one_at_least : {V : Type 0} (l : List V) (n : ℕ) → T (is_filled l) → 1 + n ≤ length l + n
@@ -25,11 +26,16 @@ as_many_entries [] (v ∷ vs) e = absurd (omega (arith, e))
 as_many_entries (v ∷ vs) [] e = absurd (omega (arith, e))
 as_many_entries (v ∷ vs) (w ∷ ws) e = refl
 
-pub where_true_at_most : {V : Type 0} (bs : List Bool) (l : List V) → length (items_where_true bs l) ≤ length l
-where_true_at_most [] l = omega arith
-where_true_at_most (b ∷ bs) [] = omega arith
-where_true_at_most (true ∷ bs) (v ∷ vs) = let rest = where_true_at_most bs vs in omega (arith, rest)
-where_true_at_most (false ∷ bs) (v ∷ vs) = let rest = where_true_at_most bs vs in omega (arith, rest)
+-- a count that gains one where that is said
+pub fits_with : (more : Bool) (n : ℕ) → (more ≡ true → n + 1 < 2 ^ 64) → n < 2 ^ 64 → n + cond more 1 0 < 2 ^ 64
+fits_with true n room small = room refl
+fits_with false n room small = omega (arith, small)
 
-pub kept_at_most : {F V : Type 0} (step : F → V → Bool → F → Type 0) (f : F) (l kept : List V) → IsFiltered step f l kept → length kept ≤ length l
-kept_at_most step f l kept h = let few = where_true_at_most h.0 l in let same = ap (λ m. length m) h.4 in omega (arith, few, same)
+-- where the values of a list were asked on, and a new one, if there is one
+pub left_and_gone : {F V : Type 0} (ask : F → V → Bool → F → Type 0) (f : F) (held : List V) (new : Option V) (kept : List V) (gone : ℕ)
+    → AsksWith ask f held new kept gone → length held ≤ length kept + gone
+left_and_gone ask f held None kept gone asks = let all = asks.1 in omega (arith, all)
+left_and_gone ask f held (Some v) kept gone asks =
+    let all = held_answers true asks.answers held v asks.long in
+    let same = ap (λ l. length l) asks.kept in
+    let taken = asks.taken in omega (arith, all, same, taken)

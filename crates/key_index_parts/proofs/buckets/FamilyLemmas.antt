@@ -8,6 +8,7 @@
 --     all_alike, none_filled            buckets that are all alike, and that hold nothing
 --     flags_edited, flags_stay          which buckets are filled after such a call
 --     flags_emptied, flags_filled       and where a bit is written only if it changes
+--     flags_written                     and where it is also written if that is told
 --     flag_within                       there is a bit for it
 --     filled_before                     what is filled with a list no longer than it was, was filled
 --     standing_in-map, standing_new     how a bucket stands is what the family tells of it, also after an edit
@@ -20,8 +21,9 @@
 --     spills_so                         a bucket of which a spill would move values is of a kind that spills
 --     due_told, due_none                whether a bucket is due to spill, by how many values a spill would move
 --     small_told                        whether it is small, by how many a return would move
---     left_fewer                        no more values of a bucket once its list became no longer
-use Rattle.std.proofs.Common.{◌≡◌, ℕ, zero, suc, ◌-◌, ◌*◌, ◌<◌, Bool, true, false, not, T, nat_le, List, [], ◌∷◌, ◌++◌, map, insert, take, drop, replicate, All, set, length, refl, sym, ap, subst, ◌∙◌, ◌≤◌, ◌&&◌, nat_lt, arith, slice_index_or}
+--     left_with_more                    a bucket has at most so many values more once its list became longer by no more
+--     left_fewer                        and no more once it became no longer
+use Rattle.std.proofs.Common.{◌≡◌, ℕ, zero, suc, ◌-◌, ◌*◌, ◌<◌, Bool, true, false, not, T, nat_le, List, [], ◌∷◌, ◌++◌, map, insert, take, drop, replicate, All, set, length, refl, sym, ap, subst, ◌∙◌, ◌≤◌, ◌+◌, ◌&&◌, ◌||◌, nat_lt, arith, slice_index_or}
 use Rattle.std.proofs.lemmas.Bool.{le-leb, lt-leb, lt-ltb}
 use Rattle.std.proofs.lemmas.List.{get_or-map, get_or-set_same, set-set, map-set, length-map}
 use Rattle.std.specs.Cmp.{IsTotalOrder}
@@ -135,6 +137,12 @@ module _ {X K V : Type 0} (cmp : K → K → Ordering) {f : X → Content K V} {
       let holds = sym (not_not _ _ e) in
       flags_stay flags y told (holds ∙ sym (held holds))
 
+  pub flags_written : (flags : List Bool) (y : X) (told_to emptied : Bool) → flags ≡ filled_buckets (map f xs) → (told_to ≡ false → is_filled (f y) ≡ true → is_filled (f x) ≡ true)
+      → emptied ≡ not (is_filled (f y)) → (if told_to || emptied then set flags p (not emptied) else flags) ≡ filled_buckets (map f (set xs p y))
+  flags_written flags y true emptied told held e = flags_edited flags y (not emptied) told (not_not _ _ e)
+  flags_written flags y false true told held e = flags_edited flags y false told (not_not _ _ e)
+  flags_written flags y false false told held e = flags_emptied flags y false told (held refl) e
+
   pub flags_filled : (flags : List Bool) (y : X) (b : Bool) → flags ≡ filled_buckets (map f xs) → is_filled (f y) ≡ true → (b ≡ false → is_filled (f x) ≡ true)
       → (if b then set flags p true else flags) ≡ filled_buckets (map f (set xs p y))
   flags_filled flags y true told holds held = flags_edited flags y true told (sym holds)
@@ -218,15 +226,20 @@ module _ {X K V : Type 0} {f : X → Content K V} {xs : List X} {p : ℕ} {x : X
   pub filled_told : (IsTrue (s x) → 0 < item_count (f x)) → let z = standing_in (map how xs) p in IsTrue z.spilled → 0 < z.entries
   filled_told some = subst (λ z. IsTrue z.spilled → 0 < z.entries) standing_in-map some
 
-  pub left_fewer : {cmp : K → K → Ordering} (o : IsTotalOrder cmp) → IsLawful cmp (f x) → (y : X) (k : K) (l : List V)
-      → f y ≡ with_list cmp (f x) k l → length l ≤ length (list_at cmp (f x) k)
-      → (standing_in (map how (set xs p y)) p).entries ≤ (standing_in (map how xs) p).entries
-  left_fewer {cmp = cmp} o lawful y k l e few =
+  pub left_with_more : {cmp : K → K → Ordering} (o : IsTotalOrder cmp) → IsLawful cmp (f x) → (y : X) (k : K) (l : List V) (more : ℕ)
+      → f y ≡ with_list cmp (f x) k l → length l ≤ length (list_at cmp (f x) k) + more
+      → (standing_in (map how (set xs p y)) p).entries ≤ (standing_in (map how xs) p).entries + more
+  left_with_more {cmp = cmp} o lawful y k l more e few =
       let sum = item_count-with_list o (f x) k l lawful in
       let is = ap (λ c. item_count c) e in
       let was = ap (λ z. z.entries) standing_in-map in
       let now = ap (λ z. z.entries) (standing_new y) in
       omega (arith, sum, is, was, now, few)
+
+  pub left_fewer : {cmp : K → K → Ordering} (o : IsTotalOrder cmp) → IsLawful cmp (f x) → (y : X) (k : K) (l : List V)
+      → f y ≡ with_list cmp (f x) k l → length l ≤ length (list_at cmp (f x) k)
+      → (standing_in (map how (set xs p y)) p).entries ≤ (standing_in (map how xs) p).entries
+  left_fewer o lawful y k l e few = let none = left_with_more o lawful y k l 0 e (omega (arith, few)) in omega (arith, none)
 
 pub spills_so : (spills spilled : Bool) {K V : Type 0} (c : Content K V) {n : ℕ} → n ≡ inline_in spills spilled c → 0 < n → spills ≡ true
 spills_so true spilled c is some = refl

@@ -16,7 +16,8 @@
 --     view_edited, view_pruned                   and the index as it is seen
 --     same_but                                   the buckets as before, however they stand
 --     kept_twice                                 one change after another
-use Rattle.std.proofs.Common.{◌≡◌, ℕ, zero, suc, ◌+◌, ◌-◌, ◌^◌, ◌<◌, ◌≤◌, Bool, true, false, not, nat_lt, List, [], ◌∷◌, map, set, replicate, length, slice_index_or, All, refl, sym, ap, subst, ◌∙◌, arith, lt_of_not-le}
+--     retains_with                               a retention with a new value or none
+use Rattle.std.proofs.Common.{◌≡◌, ℕ, zero, suc, ◌+◌, ◌-◌, ◌^◌, ◌<◌, ◌≤◌, Bool, true, false, not, nat_lt, List, [], ◌∷◌, map, set, replicate, length, slice_index_or, All, Option, Some, None, refl, sym, ap, subst, ◌∙◌, arith, lt_of_not-le}
 use Rattle.std.proofs.lemmas.Bool.{lt-ltb, ltb-false, ltb-true}
 use Rattle.std.proofs.lemmas.List.{length-map, length-set, length-replicate}
 use Rattle.std.proofs.lemmas.List.Elements.{All-get_or, All-set, All-nil, All-cons}
@@ -25,7 +26,8 @@ use Rattle.std.specs.declared.cmp.Ordering.TheVariants.{Equal}
 use Rattle.std.specs.Cmp.{IsTotalOrder}
 use Rattle.key_index_flat.specs.Content.{Content, is_filled, IsLawful, list_at, with_list, with_list_by, item_count, key_count}
 use Rattle.key_index_flat.specs.laws.Laws.{IsLawful-with_list}
-use Rattle.key_index_flat.specs.View.{pruned_after}
+use Rattle.key_index_flat.specs.Retention.{AsksWith}
+use Rattle.key_index_flat.specs.View.{View, RetainsWith, pruned_after, run_at, with_pruned, with_run}
 use Rattle.key_index_flat.proofs.content.ContentLemmas.{item_count-with_list, key_count-with_list, entries_for}
 use Rattle.key_index_parts.specs.Counts.{one_if, keys_for, CanChange}
 use Rattle.key_index_parts.specs.Family.{Kept, IsCounted, KeepsBuckets, Edits, Prunes, SameContent, bucket_at, held_at, view_of}
@@ -248,3 +250,11 @@ same_but {t = t} {pruned = pruned} {b = b} a same = λ i. record { translator = 
 
 pub kept_twice : {K V : Type 0} (cmp : K → K → Ordering) (old between new : List (Content K V)) → KeepsBuckets cmp old between → KeepsBuckets cmp between new → KeepsBuckets cmp old new
 kept_twice cmp old between new a b = record { lawful = b.lawful; sized = b.sized ∙ a.sized }
+
+-- a retention, by whether there is a new value
+pub retains_with : {F K V : Type 0} (cmp : K → K → Ordering) (ask : F → V → Bool → F → Type 0) (f : F) (s t : View K V) (k : K) (new : Option V) (kept : List V) (taken : ℕ)
+    → AsksWith ask f (run_at cmp s k) new kept taken → t ≡ with_pruned (with_run cmp s k kept) taken → RetainsWith cmp ask f s k new t
+retains_with cmp ask f s t k None kept taken asks is =
+    let all = asks.1 in
+    (kept, asks.0, is ∙ ap (λ n. with_pruned (with_run cmp s k kept) n) (omega (arith, all)))
+retains_with cmp ask f s t k (Some v) kept taken asks is = (taken, (kept, asks, is))

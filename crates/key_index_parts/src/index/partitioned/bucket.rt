@@ -1,12 +1,11 @@
 //! The bucket of a partition: what it holds, by the translated keys there.
-ghost use Rattle.std.specs.Prelude.{◌≡◌, ◌+◌, ◌<◌, ◌≤◌, Bool, false, IsTrue, if◌then◌else◌, List, [], ◌∷◌, length, not, slice_get, slice_set, insert, remove, Some, IfOk, IfErr, OnOk, OnErr};
+ghost use Rattle.std.specs.Prelude.{◌≡◌, ◌+◌, ◌<◌, ◌≤◌, ◌&&◌, Bool, false, IsTrue, if◌then◌else◌, [], ◌∷◌, length, not, slice_get, slice_set, insert, remove, Some, None, is_some, IfOk, IfErr, OnOk, OnErr};
 ghost use Rattle.std.specs.Fn.{CalledAt};
-ghost use Rattle.std.specs.List.Retain.{IsFiltered};
 ghost use Rattle.key_index_flat.specs.Content.{Content, IsLawful, is_filled, item_count, lacks, list_at, with_list, with_list_by};
 ghost use Rattle.key_index_flat.specs.Neighbours.{first_entry, last_list, entries_above, entries_below};
 ghost use Rattle.key_index_flat.specs.View.{put_value};
 ghost use Rattle.key_index_flat.specs.Values.{VisitsEach, values_of};
-ghost use Rattle.key_index_parts.specs.Family.{Grows, RetainsWith, inline_in, stays_spilled};
+ghost use Rattle.key_index_parts.specs.Family.{Grows, RetainsList, inline_in, stays_spilled};
 
 pub(super) mod hash_bucket;
 mod sorted_arrays;
@@ -99,17 +98,6 @@ pub(super) trait EditBucket<T: Translator, V>: ReadBucket<T, V> {
         ensures standing { Self.spilled self.new ≡ stays_spilled (Self.spilled self.old) (Self.content self.new) }
         ensures left { result.1 + 1 ≡ length (list_at T.Key.cmp (Self.content self.old) key) };
 
-    /// Calls the closure once for each value of the key, in list order, removes those for which it returns false, and tells how many values
-    /// the key had, and how many it has left.
-    fn retain<F: FnMut(&V) -> bool>(&mut self, key: T::Key, should_retain: F) -> (usize, usize)
-        requires { F.IsAlwaysCallable should_retain }
-        ensures kept { (kept : List V)
-            × IsFiltered (CalledAt F.FnMut) should_retain (list_at T.Key.cmp (Self.content self.old) key) kept
-            × (Self.content self.new ≡ with_list T.Key.cmp (Self.content self.old) key kept)
-            × (result.1 ≡ length kept) }
-        ensures standing { Self.spilled self.new ≡ stays_spilled (Self.spilled self.old) (Self.content self.new) }
-        ensures had { result.0 ≡ length (list_at T.Key.cmp (Self.content self.old) key) };
-
     /// Removes the key, and tells how many values it had.
     fn remove(&mut self, key: T::Key) -> usize
         ensures content { Self.content self.new ≡ with_list T.Key.cmp (Self.content self.old) key [] }
@@ -127,20 +115,21 @@ pub(super) trait Representation<T: Translator, V>: EditBucket<T, V> {
         ensures refused { OnErr result (Self.content self.new ≡ Self.content self.old) }
         ensures returned { IfErr result (λ back. back ≡ value) };
 
-    /// Puts a value in behind those of the key, then calls the closure once for each of them, in list order, and removes those for which it
-    /// returns false.
-    fn insert_and_retain<F: FnMut(&V) -> bool>(
+    /// Takes a new value, if there is one, in behind those of the key, then calls the closure once for each of them, in list order, and
+    /// removes those for which it returns false.
+    fn retain<F: FnMut(&V) -> bool>(
         &mut self,
         key: T::Key,
-        value: V,
+        new: &mut Option<V>,
         should_retain: F,
     ) -> Result<Retained, V>
         requires { F.IsAlwaysCallable should_retain }
-        ensures accepted { IfOk result (λ told. RetainsWith (CalledAt F.FnMut) should_retain
-            (list_at T.Key.cmp (Self.content self.old) key) value told.had told.left told.taken
+        ensures accepted { IfOk result (λ told. RetainsList (CalledAt F.FnMut) should_retain
+            (list_at T.Key.cmp (Self.content self.old) key) new.old told
             (λ l. Self.content self.new ≡ with_list T.Key.cmp (Self.content self.old) key l)) }
         ensures refused { OnErr result (Self.content self.new ≡ Self.content self.old) }
-        ensures returned { IfErr result (λ back. back ≡ value) };
+        ensures taken { new.new ≡ None }
+        ensures returned { IfErr result (λ back. new.old ≡ Some back) };
 }
 
 /// A bucket of an index. A refusal is an allocation failure, and leaves the bucket as it was. `SPILLS` tells whether buckets of this kind
@@ -212,23 +201,25 @@ pub(super) trait Bucket<T: Translator, V>: EditBucket<T, V> {
         ensures stands { OnErr result (Self.spilled self.new ≡ Self.spilled self.old) }
         ensures returned { IfErr result (λ back. back ≡ value) };
 
-    /// Puts a value in behind those of the key, which takes all the memory that the call may need, a spill's with it, then calls the
-    /// closure once for each of them, in list order, and removes those for which it returns false. Tells how many values moved, too.
-    fn insert_and_retain<F: FnMut(&V) -> bool>(
+    /// Takes a new value, if there is one, in behind those of the key, which takes all the memory that the call may need, a spill's with it.
+    /// Then calls the closure once for each of them, in list order, and removes those for which it returns false. Tells how many values
+    /// moved, too: none where there is no new value.
+    fn retain<F: FnMut(&V) -> bool>(
         &mut self,
         key: T::Key,
-        value: V,
+        new: &mut Option<V>,
         should_retain: F,
         threshold: usize,
     ) -> Result<(Retained, usize), V>
         requires callable { F.IsAlwaysCallable should_retain }
         requires threshold { 1 ≤ threshold }
-        ensures accepted { IfOk result (λ told. RetainsWith (CalledAt F.FnMut) should_retain
-            (list_at T.Key.cmp (Self.content self.old) key) value told.0.had told.0.left told.0.taken
+        ensures accepted { IfOk result (λ told. RetainsList (CalledAt F.FnMut) should_retain
+            (list_at T.Key.cmp (Self.content self.old) key) new.old told.0
             (λ l. Self.content self.new ≡ with_list T.Key.cmp (Self.content self.old) key l)) }
-        ensures standing { IfOk result (λ told. Grows SPILLS threshold
+        ensures standing { IfOk result (λ told. Grows (is_some new.old && SPILLS) threshold
             (Self.spilled self.old) told.1 (Self.content self.new) (Self.spilled self.new)) }
         ensures refused { OnErr result (Self.content self.new ≡ Self.content self.old) }
         ensures stands { OnErr result (Self.spilled self.new ≡ Self.spilled self.old) }
-        ensures returned { IfErr result (λ back. back ≡ value) };
+        ensures taken { new.new ≡ None }
+        ensures returned { IfErr result (λ back. new.old ≡ Some back) };
 }

@@ -1,12 +1,13 @@
 //! What an index over partitions keeps, over any kind of bucket. A call goes by slot: a bucket's number and a key of that bucket.
-ghost use Rattle.std.specs.Prelude.{◌≡◌, ◌↔◌, ℕ, ◌+◌, ◌<◌, ◌≤◌, ◌&&◌, IsTrue, false, nat_lt, [], ◌∷◌, length, map, take, drop, slice_get, slice_set, insert, remove, Some, IfOk, IfErr, OnOk, OnErr};
+ghost use Rattle.std.specs.Prelude.{◌≡◌, ◌↔◌, ℕ, ◌+◌, ◌<◌, ◌≤◌, ◌&&◌, IsTrue, false, nat_lt, [], ◌∷◌, length, map, take, drop, slice_get, slice_set, insert, remove, Some, is_some, IfSome, IfOk, IfErr, OnOk, OnErr};
 ghost use Rattle.std.specs.Bool.{Decides};
 ghost use Rattle.std.specs.Fn.{CalledAt};
 ghost use Rattle.key_index_flat.specs.Content.{IsLawful, item_count, key_count};
 ghost use Rattle.key_index_flat.specs.Fault.{growth_fault, IsWant};
 ghost use Rattle.key_index_flat.specs.Neighbours.{entries_above, first_entry, last_list, next_list, prev_list};
-ghost use Rattle.key_index_flat.specs.View.{put_value, InsertsAndRetains, Retains};
+ghost use Rattle.key_index_flat.specs.View.{put_value, InsertsAndRetains, Retains, RetainsWith};
 ghost use Rattle.key_index_flat.specs.Values.{VisitsEach, values_of};
+ghost use Rattle.key_index_parts.specs.Counts.{one_if};
 ghost use Rattle.key_index_parts.specs.Family.{KeepsRange, Kept, IsCounted, IsLeft, KeepsBuckets, Edits, Prunes, GrowsTo, SameContent, held_at, bucket_at, filled_buckets, settled_at, standing_of_all, view_of, view_from, with_items_from};
 ghost use Rattle.key_index_parts.specs.Gathered.{gathered, gathered_from, pair_cmp};
 ghost use Rattle.key_index_parts.specs.Joined.{IsFree, is_between, joined_view};
@@ -30,7 +31,7 @@ use std::marker::{Model, PhantomData};
 ///
 /// A call by key spills its bucket first where that is due, and then does its edit in the bucket as it stands. The edits alone, without
 /// that, are `set_at`, `insert_at` and `remove_at` for cursors, and what the calls by key are made of: `put`, `put_absent`,
-/// `put_and_retain`, `retain_in_bucket` and `take`. The calls that remove values move a bucket that they leave small back to arrays last.
+/// `retain_in_bucket` and `take`. The calls that remove values move a bucket that they leave small back to arrays last.
 #[derive(Drop)]
 pub(super) struct Storage<T: Translator, V, X: Contents<T, V>, const P: usize> {
     translator: T,
@@ -318,25 +319,6 @@ impl<T: Translator, V: Drop, X: EditBucket<T, V> + Drop, const P: usize> Storage
         value
     }
 
-    /// Calls the closure once for each value of a slot, in list order, and removes those for which it returns false, in its bucket as that
-    /// stands.
-    fn retain_in_bucket<F: FnMut(&V) -> bool>(&mut self, slot: (usize, T::Key), should_retain: F)
-        requires within { slot.0 < length self.old.buckets }
-        requires callable { F.IsAlwaysCallable should_retain }
-        ensures retained { Retains (pair_cmp T.Key.cmp) (CalledAt F.FnMut) should_retain
-            (view_of P T.translated self.old) slot (view_of P T.translated self.new) }
-        ensures standing { Leaves self.old.standings slot.0 self.new.standings }
-        ensures fewer { entries_at self.new.standings slot.0 ≤ entries_at self.old.standings slot.0 }
-        ensures kept { KeepsBuckets T.Key.cmp self.old.buckets self.new.buckets }
-    {
-        let bucket = &mut self.buckets[slot.0];
-        let (had, left) = bucket.retain(slot.1, should_retain);
-        let emptied = bucket.is_empty();
-        self.filled.set_if(emptied, slot.0, false);
-        let taken = had - left;
-        self.counts.change(Retained { had, left, taken });
-    }
-
     /// Removes a slot, in its bucket as that stands.
     fn take(&mut self, slot: (usize, T::Key))
         requires { slot.0 < length self.old.buckets }
@@ -547,35 +529,35 @@ impl<T: Translator, V: Drop, X: Bucket<T, V> + Drop, const P: usize> Storage<T, 
         }
     }
 
-    /// Puts a value in behind those of a slot, calls the closure once for each of them, in list order, and removes those for which it
-    /// returns false, in its bucket as that stands, which spills as in `put`.
-    fn put_and_retain<F: FnMut(&V) -> bool>(
+    /// Puts a new value, if there is one, in behind those of a slot, calls the closure once for each of them, in list order, and removes
+    /// those for which it returns false, in its bucket as that stands, which spills by a new value as in `put`.
+    #[inline(always)]
+    fn retain_in_bucket<F: FnMut(&V) -> bool>(
         &mut self,
         slot: (usize, T::Key),
-        value: V,
+        mut new: Option<V>,
         should_retain: F,
     ) -> Result<(), V>
         requires within { slot.0 < length self.old.buckets }
-        requires room { item_count (gathered self.old.buckets) < usize.MAX }
+        requires room { IfSome new (λ _. item_count (gathered self.old.buckets) < usize.MAX) }
         requires callable { F.IsAlwaysCallable should_retain }
-        ensures accepted { OnOk result ((taken : ℕ) × InsertsAndRetains (pair_cmp T.Key.cmp) (CalledAt F.FnMut)
-            should_retain (view_of P T.translated self.old) slot value taken (view_of P T.translated self.new)) }
-        ensures standing { OnOk result (GrowsTo X.SPILLS self.old slot.0 self.new) }
+        ensures accepted { OnOk result (RetainsWith (pair_cmp T.Key.cmp) (CalledAt F.FnMut) should_retain
+            (view_of P T.translated self.old) slot new (view_of P T.translated self.new)) }
+        ensures standing { OnOk result (GrowsTo (is_some new && X.SPILLS) self.old slot.0 self.new) }
+        ensures entries { OnOk result (
+            entries_at self.new.standings slot.0 ≤ entries_at self.old.standings slot.0 + one_if (is_some new)) }
         ensures refused { OnErr result (self.new ≡ self.old) }
         ensures kept { KeepsBuckets T.Key.cmp self.old.buckets self.new.buckets }
-        ensures returned { IfErr result (λ back. back ≡ value) }
+        ensures returned { IfErr result (λ back. new ≡ Some back) }
     {
         let bucket = &mut self.buckets[slot.0];
-        match bucket.insert_and_retain(slot.1, value, should_retain, self.threshold) {
-            Ok((told, moved)) => {
-                let holds = !bucket.is_empty();
-                self.filled.set(slot.0, holds);
-                self.counts.change(told);
-                self.moves.spill(moved);
-                Ok(())
-            }
-            Err(value) => Err(value),
-        }
+        let has_new = new.is_some();
+        let (told, moved) = bucket.retain(slot.1, &mut new, should_retain, self.threshold)?;
+        let emptied = bucket.is_empty();
+        self.filled.set_if(has_new | emptied, slot.0, !emptied);
+        self.counts.change(told);
+        self.moves.spill(moved);
+        Ok(())
     }
 
     /// Puts a value in at its end of a slot's list.
@@ -662,7 +644,7 @@ impl<T: Translator, V: Drop, X: Bucket<T, V> + Drop, const P: usize> Storage<T, 
         let Ok(()) = self.spill_if_reached(slot.0) else {
             return Err(Refused::memory(value));
         };
-        match self.put_and_retain(slot, value, should_retain) {
+        match self.retain_in_bucket(slot, Some(value), should_retain) {
             Ok(()) => {
                 self.move_back(slot.0);
                 Ok(())
@@ -686,14 +668,12 @@ impl<T: Translator, V: Drop, X: Bucket<T, V> + Drop, const P: usize> Storage<T, 
         ensures want { IfErr result (λ f. IsWant f (X.SPILLS && is_reached self.old.standings slot.0)) }
         ensures kept { KeepsBuckets T.Key.cmp self.old.buckets self.new.buckets }
     {
-        match self.spill_if_reached(slot.0) {
-            Ok(()) => {
-                self.retain_in_bucket(slot, should_retain);
-                self.move_back(slot.0);
-                Ok(())
-            }
-            Err(fault) => Err(fault),
-        }
+        self.spill_if_reached(slot.0)?;
+        let Ok(()) = self.retain_in_bucket(slot, None, should_retain) else {
+            unreachable!()
+        };
+        self.move_back(slot.0);
+        Ok(())
     }
 
     /// Removes a slot.

@@ -68,13 +68,6 @@ impl<T: Translator, V: Drop> EditBucket<T, V> for HashBucket<T, V> {
         self.lists.remove_at(key, place)
     }
 
-    fn retain<F: FnMut(&V) -> bool>(&mut self, key: T::Key, should_retain: F) -> (usize, usize) {
-        let Ok(told) = self.lists.retain(key, None, should_retain) else {
-            unreachable!()
-        };
-        (told.had, told.left)
-    }
-
     fn remove(&mut self, key: T::Key) -> usize {
         self.lists.remove(key)
     }
@@ -130,14 +123,15 @@ impl<T: Translator, V: Drop> Bucket<T, V> for HashBucket<T, V> {
         Ok((len, 0))
     }
 
-    fn insert_and_retain<F: FnMut(&V) -> bool>(
+    #[inline(always)]
+    fn retain<F: FnMut(&V) -> bool>(
         &mut self,
         key: T::Key,
-        value: V,
+        new: &mut Option<V>,
         should_retain: F,
         _threshold: usize,
     ) -> Result<(Retained, usize), V> {
-        let told = self.lists.retain(key, Some(value), should_retain)?;
+        let told = self.lists.retain(key, new.take(), should_retain)?;
         Ok((told, 0))
     }
 }

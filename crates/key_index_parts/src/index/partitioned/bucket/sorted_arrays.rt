@@ -115,13 +115,6 @@ impl<T: Translator, V: Drop> EditBucket<T, V> for SortedArrays<T, V> {
         (value, run.end - run.start - 1)
     }
 
-    fn retain<F: FnMut(&V) -> bool>(&mut self, key: T::Key, should_retain: F) -> (usize, usize) {
-        let run = self.pairs.run_range(&key);
-        let had = run.end - run.start;
-        let (left, _) = self.pairs.retain_run(key, run, should_retain);
-        (had, left)
-    }
-
     fn remove(&mut self, key: T::Key) -> usize {
         let run = self.pairs.run_range(&key);
         let taken = run.end - run.start;
@@ -140,14 +133,20 @@ impl<T: Translator, V: Drop> Representation<T, V> for SortedArrays<T, V> {
         }
     }
 
-    fn insert_and_retain<F: FnMut(&V) -> bool>(
+    #[inline(always)]
+    fn retain<F: FnMut(&V) -> bool>(
         &mut self,
         key: T::Key,
-        value: V,
+        new: &mut Option<V>,
         should_retain: F,
     ) -> Result<Retained, V> {
         let run = self.pairs.run_range(&key);
         let had = run.end - run.start;
+        let Some(value) = new.take() else {
+            let (left, _) = self.pairs.retain_run(key, run, should_retain);
+            let taken = had - left;
+            return Ok(Retained { had, left, taken });
+        };
         if self.pairs.reserve(1).is_err() {
             return Err(value);
         }

@@ -269,18 +269,6 @@ impl<T: Translator, V: Drop> EditBucket<T, V> for SortedBucket<T, V> {
         removed
     }
 
-    fn retain<F: FnMut(&V) -> bool>(&mut self, key: T::Key, should_retain: F) -> (usize, usize) {
-        if self.is_inline() {
-            return self.arrays.retain(key, should_retain);
-        }
-        let Some(tree) = &mut self.tree else {
-            unreachable!()
-        };
-        let counts = tree.retain(key, should_retain);
-        drop_emptied(&mut self.arrays, &mut self.tree);
-        counts
-    }
-
     fn remove(&mut self, key: T::Key) -> usize {
         if self.is_inline() {
             return self.arrays.remove(key);
@@ -390,11 +378,13 @@ impl<T: Translator, V: Drop> Bucket<T, V> for SortedBucket<T, V> {
         Ok((0, moved))
     }
 
-    /// Where the arrays would reach the threshold, it calls the closure over a tree, and moves what is left back where that is fewer.
-    fn insert_and_retain<F: FnMut(&V) -> bool>(
+    /// Where the arrays would reach the threshold by a new value, it calls the closure over a tree, and moves what is left back where that
+    /// is fewer.
+    #[inline(always)]
+    fn retain<F: FnMut(&V) -> bool>(
         &mut self,
         key: T::Key,
-        value: V,
+        new: &mut Option<V>,
         should_retain: F,
         threshold: usize,
     ) -> Result<(Retained, usize), V> {
@@ -402,19 +392,18 @@ impl<T: Translator, V: Drop> Bucket<T, V> for SortedBucket<T, V> {
             let Some(tree) = &mut self.tree else {
                 unreachable!()
             };
-            let told = tree.insert_and_retain(key, value, should_retain)?;
+            let told = tree.retain(key, new, should_retain)?;
             drop_emptied(&mut self.arrays, &mut self.tree);
             return Ok((told, 0));
         }
-        let len = self.arrays.len();
-        if len < threshold - 1 {
-            let told = self.arrays.insert_and_retain(key, value, should_retain)?;
+        if new.is_none() || self.arrays.len() < threshold - 1 {
+            let told = self.arrays.retain(key, new, should_retain)?;
             return Ok((told, 0));
         }
         let Ok(mut tree) = into_tree(&mut self.arrays) else {
-            return Err(value);
+            return Err(new.take().unwrap());
         };
-        match tree.insert_and_retain(key, value, should_retain) {
+        match tree.retain(key, new, should_retain) {
             Ok(told) => {
                 let left = tree.len();
                 if left < threshold {

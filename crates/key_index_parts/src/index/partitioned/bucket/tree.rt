@@ -109,14 +109,6 @@ impl<T: Translator, V: Drop> EditBucket<T, V> for Tree<T, V> {
         removed
     }
 
-    fn retain<F: FnMut(&V) -> bool>(&mut self, key: T::Key, should_retain: F) -> (usize, usize) {
-        let Ok(told) = self.lists.retain(key, None, should_retain) else {
-            unreachable!()
-        };
-        self.len -= told.taken;
-        (told.had, told.left)
-    }
-
     fn remove(&mut self, key: T::Key) -> usize {
         let taken = self.lists.remove(key);
         self.len -= taken;
@@ -134,16 +126,17 @@ impl<T: Translator, V: Drop> Representation<T, V> for Tree<T, V> {
         Ok(absent)
     }
 
-    fn insert_and_retain<F: FnMut(&V) -> bool>(
+    #[inline(always)]
+    fn retain<F: FnMut(&V) -> bool>(
         &mut self,
         key: T::Key,
-        value: V,
+        new: &mut Option<V>,
         should_retain: F,
     ) -> Result<Retained, V> {
-        if self.len == usize::MAX {
-            return Err(value);
+        if new.is_some() && self.len == usize::MAX {
+            return Err(new.take().unwrap());
         }
-        let told = self.lists.retain(key, Some(value), should_retain)?;
+        let told = self.lists.retain(key, new.take(), should_retain)?;
         self.len = self.len - told.had + told.left;
         Ok(told)
     }

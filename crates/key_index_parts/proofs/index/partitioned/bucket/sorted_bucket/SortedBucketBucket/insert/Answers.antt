@@ -1,4 +1,4 @@
-use Rattle.std.proofs.Common.{false, [], ◌∷◌, not, length-append, ap, ◌∙◌, arith}
+use Rattle.std.proofs.Common.{true, false, [], ◌∷◌, not, length-append, refl, ap, ◌∙◌, arith}
 use Rattle.std.proofs.lemmas.Bool.{OnTrue_at}
 use Rattle.key_index_flat.specs.Content.{is_filled, item_count, list_at}
 use Rattle.key_index_flat.specs.View.{put_value}
@@ -27,7 +27,7 @@ returns-then-len-threshold-clause-standing g c =
     let l = list_at g.T.Key.Ord.cmp held c.args.key in
     let more = item_count-one_more g.met.T.Key.Ord.total held (grouped g.T.Key.Ord.cmp c.insert-then-len-threshold.new.self.pairs.pairs) c.args.key _ (IsLawful-grouped g.met.T.Key.Ord.total pairs)
     (length-append l (c.args.value ∷ [])) c.in_ok-absent-2.ensures.accepted.0 in
-    rw (OnTrue_at c.if-not-is_inline.false c.is_inline.ensures.inline) (Grows-below_threshold c.args.threshold _ (omega (arith, more, c.len.ensures, c.if-len-threshold.true)))
+    rw (OnTrue_at c.if-not-is_inline.false c.is_inline.ensures.inline) (Grows-below_threshold true c.args.threshold _ (λ _. omega (arith, more, c.len.ensures, c.if-len-threshold.true)))
 
 pub invariant_of-self-in-Ok-insert : goal.invariant_of-self-in-Ok-insert
 invariant_of-self-in-Ok-insert g c =
@@ -47,7 +47,7 @@ returns-in-Ok-insert-clause-standing g c =
     c.in-Ok-insert.ensures.accepted.0 in
     let same = ap (λ t. item_count (t.lists.content)) c.deref_mut-2.ensures.value ∙ ap item_count c.in-Ok.ensures.tree in
     let told = c.len-moved.ensures ∙ ap (λ t. item_count (t.lists.content)) c.deref.ensures in
-    rw (OnTrue_at c.if-not-is_inline.false c.is_inline.ensures.inline) (Grows-threshold_reached c.args.threshold _ c.insert-2.new.self.lists.content c.requires
+    rw (OnTrue_at c.if-not-is_inline.false c.is_inline.ensures.inline) (Grows-threshold_reached true c.args.threshold _ c.insert-2.new.self.lists.content refl c.requires
     (omega (arith, told, more, same, c.len.ensures, c.if-len-threshold.false, c.requires)) told)
 
 pub into_arrays-requires-clause-room : goal.into_arrays-requires-clause-room

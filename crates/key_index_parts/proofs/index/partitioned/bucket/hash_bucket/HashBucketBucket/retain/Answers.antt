@@ -1,6 +1,6 @@
 use Rattle.std.proofs.lemmas.Result.{IfOk-weaker}
 use Rattle.key_index_parts.proofs.buckets.HashBucketLemmas.{lawful_kept}
-use Rattle.key_index_parts.proofs.index.partitioned.bucket.hash_bucket.HashBucketEditBucket.retain.Goals as goal
+use Rattle.key_index_parts.proofs.index.partitioned.bucket.hash_bucket.HashBucketBucket.retain.Goals as goal
 
 pub invariant_of-self : goal.invariant_of-self
 invariant_of-self g c =
