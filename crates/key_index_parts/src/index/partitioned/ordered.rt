@@ -68,10 +68,8 @@ impl<T: Translator, V: Drop, const P: usize> Index<T, V, P> {
         ensures standing { IfOk result (λ index. standings index ≡ new_standings threshold (partition_count P)) }
         ensures fault { IfErr result (λ f. f ≡ Fault.Memory) }
     {
-        match Storage::new(alloc, translator, 1 << (8 * P), threshold) {
-            Ok(storage) => Ok(Index { storage }),
-            Err(fault) => Err(fault),
-        }
+        let storage = Storage::new(alloc, translator, 1 << (8 * P), threshold)?;
+        Ok(Index { storage })
     }
 
     /// At how many values a partition spills, at least 1.
@@ -300,10 +298,8 @@ impl<T: Translator, V: Drop, const P: usize> Search for Index<T, V, P> {
 
     fn reach(&mut self, key: &[u8]) -> Result<((usize, T::Key), usize), Fault> {
         let slot = self.slot_of(key);
-        match self.storage.spill_if_reached(slot.0) {
-            Ok(()) => Ok((slot, self.run_len(slot))),
-            Err(fault) => Err(fault),
-        }
+        self.storage.spill_if_reached(slot.0)?;
+        Ok((slot, self.run_len(slot)))
     }
 
     fn reach_or_insert(
@@ -549,10 +545,8 @@ impl<T: Translator, V: Drop, const P: usize> Partitioned for Index<T, V, P> {
         ensures standing { IfOk result (λ r. range_standings r ≡ new_standings (standings self.now).threshold count) }
         ensures fault { IfErr result (λ f. f ≡ Fault.Memory) }
     {
-        match self.storage.new_range(count) {
-            Ok(storage) => Ok(range::RangeIndex { offset, storage }),
-            Err(fault) => Err(fault),
-        }
+        let storage = self.storage.new_range(count)?;
+        Ok(range::RangeIndex { offset, storage })
     }
 
     fn can_install(&self, range: &RangeIndex<T, V, P>) -> bool {

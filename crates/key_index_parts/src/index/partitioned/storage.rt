@@ -686,14 +686,10 @@ impl<T: Translator, V: Drop, X: Bucket<T, V> + Drop, const P: usize> Storage<T, 
         ensures want { IfErr result (λ f. IsWant f (X.SPILLS && is_reached self.old.standings slot.0)) }
         ensures kept { KeepsBuckets T.Key.cmp self.old.buckets self.new.buckets }
     {
-        match self.spill_if_reached(slot.0) {
-            Ok(()) => {
-                self.take(slot);
-                self.move_back(slot.0);
-                Ok(())
-            }
-            Err(fault) => Err(fault),
-        }
+        self.spill_if_reached(slot.0)?;
+        self.take(slot);
+        self.move_back(slot.0);
+        Ok(())
     }
 }
 

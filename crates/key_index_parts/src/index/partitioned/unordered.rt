@@ -251,10 +251,8 @@ impl<T: Translator, V: Drop, const P: usize> Factory for Index<T, V, P> {
 
     /// Takes the room of all partitions at once, and answers `Memory` where that is refused.
     fn new(alloc: Global, translator: T) -> Result<Index<T, V, P>, Fault> {
-        match Storage::new(alloc, translator, 1 << (8 * P), usize::MAX) {
-            Ok(storage) => Ok(Index { storage }),
-            Err(fault) => Err(fault),
-        }
+        let storage = Storage::new(alloc, translator, 1 << (8 * P), usize::MAX)?;
+        Ok(Index { storage })
     }
 }
 
@@ -302,10 +300,8 @@ impl<T: Translator, V: Drop, const P: usize> Partitioned for Index<T, V, P> {
     }
 
     fn new_range(&self, offset: usize, count: usize) -> Result<RangeIndex<T, V, P>, Fault> {
-        match self.storage.new_range(count) {
-            Ok(storage) => Ok(range::RangeIndex { offset, storage }),
-            Err(fault) => Err(fault),
-        }
+        let storage = self.storage.new_range(count)?;
+        Ok(range::RangeIndex { offset, storage })
     }
 
     fn can_install(&self, range: &RangeIndex<T, V, P>) -> bool {

@@ -10,7 +10,7 @@ invariant_of-result g c = record {
   is_index = record {
     least = c.requires.0;
     greatest = c.requires.1;
-    lawful = c.in-Ok.ensures.lawful;
-    whole = c.in-Ok.ensures.sized ∙ partition_count-power g.row.P c.requires.1;
+    lawful = c.in_ok-storage.ensures.lawful;
+    whole = c.in_ok-storage.ensures.sized ∙ partition_count-power g.row.P c.requires.1;
   };
 }
