@@ -14,8 +14,8 @@ ghost use Rattle.key_index_uses.specs.Exclusion.{has_key, Excludes};
 use key_index_flat::index::implement::{Lists, visit_by_place};
 use key_index_flat::index::unordered::Index;
 use key_index_flat::index::{
-    Command, Cursor, Factory, Fault, IndexCursor, Keyed, Ordered, Outcome, Refused, Runs, Search,
-    Unordered, Values, resolve_next, resolve_prev, run,
+    Command, Cursor, Factory, Fault, IndexCursor, Keyed, Ordered, OrderedLists, Outcome, Refused,
+    Runs, Search, Unordered, Values, lists_from, resolve_next, resolve_prev, run,
 };
 use key_index_flat::translator::{OneCap, TwoCap};
 use key_index_parts::index::partitioned::{self, grouping_and_order};
@@ -232,4 +232,27 @@ where
         below: resolve_prev(index, key),
         above: resolve_next(index, key),
     })
+}
+
+/// The positions from a key on, list by list, until there are so many. A `for` over the walk itself would get no proof over any index.
+pub fn page<I: OrderedLists<Value = u64>>(
+    alloc: Global,
+    index: &I,
+    from: &[u8],
+    len: usize,
+) -> Result<Vec<u64>, Fault> {
+    let mut page = Vec::new(alloc);
+    let mut walk = lists_from(index, from);
+    for _ in 0..index.keys() {
+        let Some(positions) = walk.next() else {
+            break;
+        };
+        for position in positions {
+            page.push(*position)?;
+        }
+        if page.len() >= len {
+            break;
+        }
+    }
+    Ok(page)
 }
