@@ -234,7 +234,7 @@ where
     })
 }
 
-/// The positions from a key on, list by list, until there are so many. A `for` over the walk itself would get no proof over any index.
+/// The positions from a key on, list by list, until there are so many. Over an `I`, a `for` over the walk itself gets no proof.
 pub fn page<I: OrderedLists<Value = u64>>(
     alloc: Global,
     index: &I,

@@ -115,7 +115,7 @@ pub(super) trait Representation<T: Translator, V>: EditBucket<T, V> {
         ensures refused { OnErr result (Self.content self.new ≡ Self.content self.old) }
         ensures returned { IfErr result (λ back. back ≡ value) };
 
-    /// Takes a new value, if there is one, in behind those of the key, then calls the closure once for each of them, in list order, and
+    /// Puts a new value in, if there is one, behind those of the key, then calls the closure once for each of them, in list order, and
     /// removes those for which it returns false.
     fn retain<F: FnMut(&V) -> bool>(
         &mut self,
@@ -201,7 +201,7 @@ pub(super) trait Bucket<T: Translator, V>: EditBucket<T, V> {
         ensures stands { OnErr result (Self.spilled self.new ≡ Self.spilled self.old) }
         ensures returned { IfErr result (λ back. back ≡ value) };
 
-    /// Takes a new value, if there is one, in behind those of the key, which takes all the memory that the call may need, a spill's with it.
+    /// Puts a new value in, if there is one, behind those of the key, which takes all the memory that the call may need, a spill's with it.
     /// Then calls the closure once for each of them, in list order, and removes those for which it returns false. Tells how many values
     /// moved, too: none where there is no new value.
     fn retain<F: FnMut(&V) -> bool>(

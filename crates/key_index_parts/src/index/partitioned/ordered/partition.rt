@@ -352,8 +352,8 @@ fn keep_in_run<V, F: FnMut(&V) -> bool>(
     keep_in_front(&mut values[run], should_retain, true)
 }
 
-/// `keep_in_run`, of the values at a range of places and of a new one behind them, and then no more than those stay there that are kept.
-/// The new value takes the place of the one behind the run meanwhile, so that what stands there moves only if the run's length changes.
+/// Asks on the values at a range of places and on a new one behind them, as `keep_in_run` does, and leaves there those that are kept.
+/// Meanwhile the new value has the place of the one behind the run, so that what stands there moves only if the run's length changes.
 fn keep_with<V: Drop, F: FnMut(&V) -> bool>(
     values: &mut Vec<V>,
     run: Range<usize>,
