@@ -1,5 +1,5 @@
-pub mod FamilyLemmas
-pub mod FamilyNeighbours
+pub mod BucketLemmas
+pub mod BucketNeighbours
 pub mod GatheredLemmas
 pub mod GatheredNeighbours
 pub mod EntriesLemmas
@@ -7,7 +7,7 @@ pub mod JoinedLemmas
 pub mod ShiftedLemmas
 pub mod ReachLemmas
 pub mod InstallLemmas
-pub mod BucketLemmas
+pub mod CountLemmas
 pub mod StorageLemmas
 pub mod SpreadLemmas
 pub mod HashBucketLemmas

@@ -8,5 +8,4 @@ pub mod DrainLemmas
 pub mod ZipLemmas
 pub mod SearchLemmas
 pub mod LastRun
-pub mod GapLemmas
 pub mod BehindLemmas

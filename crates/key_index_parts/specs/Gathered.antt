@@ -1,4 +1,4 @@
--- The content of a family of buckets, which are listed by their numbers.
+-- The content of buckets that are listed by their numbers.
 --     pair_cmp      pairs of a bucket's number and a key of its own, ordered as pairs
 --     tagged        the entries of the bucket of number p, at such pairs
 --     gathered      the content of the whole: the entries of each bucket in turn

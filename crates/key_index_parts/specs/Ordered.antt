@@ -7,7 +7,7 @@ use Rattle.std.specs.declared.hash.Hash as hash
 use Rattle.key_index_flat.specs.declared.translator.Translator as translator
 use Rattle.key_index_flat.specs.View.{View}
 use Rattle.key_index_parts.specs.declared.index.partitioned.ordered.Index.{Index}
-use Rattle.key_index_parts.specs.Family.{view_of}
+use Rattle.key_index_parts.specs.Buckets.{view_of}
 use Rattle.key_index_parts.specs.Standing.{Standings}
 
 module _ {T V K : Type 0} {P : ℕ} {t : translator.Ghosts T K} {o : ord.Ghosts K} {e : eq.Ghosts K}

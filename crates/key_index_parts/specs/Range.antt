@@ -8,7 +8,7 @@ use Rattle.key_index_flat.specs.declared.translator.Translator as translator
 use Rattle.key_index_flat.specs.View.{View}
 use Rattle.key_index_parts.specs.declared.index.partitioned.bucket.Contents as buckets
 use Rattle.key_index_parts.specs.declared.index.partitioned.range.RangeIndex.{RangeIndex}
-use Rattle.key_index_parts.specs.Family.{view_from}
+use Rattle.key_index_parts.specs.Buckets.{view_from}
 use Rattle.key_index_parts.specs.Joined.{is_between}
 use Rattle.key_index_parts.specs.Standing.{Standings}
 

@@ -4,15 +4,15 @@
 --     Standings             the threshold, the partitions by their numbers, how many spills there ever were, and how many values were
 --                           ever moved by spills and by returns to arrays
 --     standings_of          the four of them
---     standing_in           a partition; past the last one, one that holds nothing
+--     nth_standing          a partition; past the last one, one that holds nothing
 --     inline_len            how many values of a partition stand in arrays: all of them, or none where it is spilled
 --     is_reached            it stands inline with as many values as the threshold or more (is_reached_by: at any)
---     left_with             a partition once a call has left m values there; without values it isn't spilled
---     with_left             the partitions after that
+--     holding               a partition once a call has left m values there; without values it isn't spilled
+--     entries_set           the partitions after that
 --     due_in                how many values of a bucket are due to spill, of a kind that spills at so many values or doesn't
 --     spilled_by            a bucket once so many of its values were moved to a tree
 --     Spills                it spills where it is due, and what that moved
---     with_entries          `with_left`, of the whole
+--     with_entries          `entries_set`, of the whole
 --     with_spill            a partition's values moved into a tree, and counted
 --     spilled_if_reached    that, where it has reached the threshold
 --     after_call            a call by key that leaves m values in a partition
@@ -43,11 +43,11 @@ abbrev pub standings_of : ℕ → List Standing → ℕ → ℕ → Standings
 standings_of threshold buckets spills moved =
     record { threshold = threshold; buckets = buckets; spills = spills; moved = moved }
 
-abbrev pub standing_in : List Standing → ℕ → Standing
-standing_in buckets n = slice_index_or buckets n (record { entries = 0; spilled = false })
+abbrev pub nth_standing : List Standing → ℕ → Standing
+nth_standing buckets n = slice_index_or buckets n (record { entries = 0; spilled = false })
 
 abbrev pub standing_at : Standings → ℕ → Standing
-standing_at s n = standing_in s.buckets n
+standing_at s n = nth_standing s.buckets n
 
 abbrev pub entries_at : Standings → ℕ → ℕ
 entries_at s n = (standing_at s n).entries
@@ -64,11 +64,11 @@ due_in spills threshold p = if spills && is_reached_by threshold p then p.entrie
 abbrev pub is_reached : Standings → ℕ → Bool
 is_reached s n = is_reached_by s.threshold (standing_at s n)
 
-abbrev pub left_with : Standing → ℕ → Standing
-left_with p m = record { entries = m; spilled = p.spilled && nat_lt 0 m }
+abbrev pub holding : Standing → ℕ → Standing
+holding p m = record { entries = m; spilled = p.spilled && nat_lt 0 m }
 
-abbrev pub with_left : List Standing → ℕ → ℕ → List Standing
-with_left buckets n m = slice_set buckets n (left_with (standing_in buckets n) m)
+abbrev pub entries_set : List Standing → ℕ → ℕ → List Standing
+entries_set buckets n m = slice_set buckets n (holding (nth_standing buckets n) m)
 
 abbrev pub spilled_by : ℕ → Standing → Standing
 spilled_by moved p = record { entries = p.entries; spilled = nat_lt 0 moved || p.spilled }
@@ -77,7 +77,7 @@ abbrev pub Spills : Bool → ℕ → Standing → ℕ → Standing → Type 0
 Spills spills threshold old moved new = (moved ≡ due_in spills threshold old) × (new ≡ spilled_by moved old)
 
 abbrev pub with_entries : Standings → ℕ → ℕ → Standings
-with_entries s n m = record s { buckets = with_left s.buckets n m }
+with_entries s n m = record s { buckets = entries_set s.buckets n m }
 
 abbrev pub with_spill : Standings → ℕ → Standings
 with_spill s n = record s {

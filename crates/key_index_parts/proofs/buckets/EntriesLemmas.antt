@@ -4,7 +4,7 @@
 use Rattle.std.proofs.Common.{◌≡◌, ℕ, zero, suc, ◌+◌, ◌<◌, cond, List, [], ◌∷◌, ◌++◌, get_or, length, add-zero, zero-add, refl, sym, ap, ◌∙◌, arith}
 use Rattle.std.proofs.lemmas.Bool.{eq-eqb, ne_eqb}
 use Rattle.key_index_flat.specs.Content.{Content, item_count}
-use Rattle.key_index_parts.specs.Family.{bucket_at}
+use Rattle.key_index_parts.specs.Buckets.{bucket_at}
 use Rattle.key_index_parts.specs.Gathered.{tagged, gathered_from, gathered, entries_of}
 
 module _ {K V : Type 0} where

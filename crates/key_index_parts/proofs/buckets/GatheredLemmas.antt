@@ -1,4 +1,4 @@
--- On the content of a family of buckets.
+-- On the content of buckets that are listed by their numbers.
 --     list_at-gathered       a pair's list is that of the bucket at its key
 --     list_at-past         and empty past the last bucket
 --     with_list-gathered     one bucket with another list at a key is the whole with it at the pair

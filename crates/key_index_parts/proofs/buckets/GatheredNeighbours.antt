@@ -1,4 +1,4 @@
--- What stands above and below a pair in the content of a family of buckets: for the neighbours of a key in an ordered index over buckets.
+-- What stands above and below a pair in the content of buckets: for the neighbours of a key in an ordered index over buckets.
 --     gathered_from-parts    the earlier buckets, one bucket, and the later ones
 --     filter-gathered        of a test by keys: what passes of each of these parts
 --     above-gathered         what a pair's own bucket has above its key, and then the later buckets

@@ -18,14 +18,14 @@ use Rattle.key_index_flat.specs.declared.index.Fault.TheVariants.{Memory, Full}
 use Rattle.key_index_flat.specs.Content.{Content, is_filled, IsLawful, list_at, item_count, key_count}
 use Rattle.key_index_flat.proofs.content.ContentLemmas.{same_content}
 use Rattle.key_index_flat.specs.View.{pruned_after}
-use Rattle.key_index_parts.specs.Family.{Kept, IsCounted, KeepsBuckets, AreFree, bucket_at, with_items_from, filled_buckets, view_of, view_from}
+use Rattle.key_index_parts.specs.Buckets.{Kept, IsCounted, KeepsBuckets, AreFree, bucket_at, with_items_from, filled_buckets, view_of, view_from}
 use Rattle.key_index_parts.specs.Bitmap.{IsFirst, flag_at}
 use Rattle.key_index_parts.specs.Standing.{new_standings}
 use Rattle.key_index_parts.specs.Gathered.{pair_cmp, gathered_from, gathered}
 use Rattle.key_index_parts.specs.laws.GatheredLaws.{pair_total, IsLawful-gathered}
 use Rattle.key_index_parts.specs.Joined.{joined, joined_view, IsFree, is_between, install_fault}
 use Rattle.key_index_parts.specs.laws.RangeLaws.{IsLawful-gathered_from, gathered_from-covers, is_between-within}
-use Rattle.key_index_parts.proofs.buckets.FamilyNeighbours.{flag_told, empty-is_filled}
+use Rattle.key_index_parts.proofs.buckets.BucketNeighbours.{flag_told, empty-is_filled}
 use Rattle.key_index_parts.proofs.buckets.GatheredLemmas.{list_at-gathered, item_count-gathered_from, key_count-gathered_from, item_count-gathered, key_count-gathered}
 use Rattle.key_index_parts.proofs.buckets.JoinedLemmas.{IsApart, apart_by, list_at-joined, IsLawful-joined, item_count-joined, key_count-joined}
 use Rattle.key_index_parts.proofs.buckets.ShiftedLemmas.{list_from}

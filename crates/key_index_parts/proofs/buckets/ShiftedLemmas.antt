@@ -15,7 +15,7 @@ use Rattle.std.specs.FinMap.Entries.{by_order}
 use Rattle.key_index_flat.specs.Content.{Content, item_count, key_count, list_at, with_list, with_list_by}
 use Rattle.key_index_flat.specs.View.{with_edit, with_pruned}
 use Rattle.key_index_flat.proofs.runs.ViewLemmas.{content-same_view, same_pruned, same_slot, same_view}
-use Rattle.key_index_parts.specs.Family.{Kept, view_of, view_from}
+use Rattle.key_index_parts.specs.Buckets.{Kept, view_of, view_from}
 use Rattle.key_index_parts.specs.Gathered.{pair_cmp, gathered_from, gathered}
 use Rattle.key_index_parts.specs.Joined.{is_between}
 use Rattle.key_index_parts.proofs.buckets.GatheredLemmas.{item_count-gathered, item_count-gathered_from, key_count-gathered, key_count-gathered_from}

@@ -30,14 +30,14 @@ use Rattle.key_index_flat.specs.Retention.{AsksWith}
 use Rattle.key_index_flat.specs.View.{View, RetainsWith, pruned_after, run_at, with_pruned, with_run}
 use Rattle.key_index_flat.proofs.content.ContentLemmas.{item_count-with_list, key_count-with_list, entries_for}
 use Rattle.key_index_parts.specs.Counts.{one_if, keys_for, CanChange}
-use Rattle.key_index_parts.specs.Family.{Kept, IsCounted, KeepsBuckets, Edits, Prunes, SameContent, bucket_at, held_at, view_of}
+use Rattle.key_index_parts.specs.Buckets.{Kept, IsCounted, KeepsBuckets, Edits, Prunes, SameContent, bucket_at, held_at, view_of}
 use Rattle.key_index_parts.specs.Gathered.{pair_cmp, gathered_from, gathered}
 use Rattle.key_index_parts.specs.laws.GatheredLaws.{pair_total, IsLawful-gathered}
 use Rattle.key_index_parts.specs.Prefix.{partition_count}
 use Rattle.key_index_parts.specs.Standing.{Standings, new_standings}
 use Rattle.key_index_parts.proofs.buckets.GatheredLemmas.{list_at-gathered, list_at-past, with_list-gathered}
-use Rattle.key_index_parts.proofs.buckets.BucketLemmas.{keys_at_most}
-use Rattle.key_index_parts.proofs.buckets.FamilyLemmas.{IsBucket, bucket_edited, list_told}
+use Rattle.key_index_parts.proofs.buckets.CountLemmas.{keys_at_most}
+use Rattle.key_index_parts.proofs.buckets.BucketLemmas.{IsBucket, bucket_edited, list_told}
 
 pub keys_for-length : {V : Type 0} (l : List V) → keys_for (length l) ≡ entries_for l
 keys_for-length [] = refl

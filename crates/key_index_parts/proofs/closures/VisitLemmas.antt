@@ -4,7 +4,7 @@
 --     Continues-visited, some_more       after a call on one value, and after one on each of some
 --     VisitsEach-ended                   at the end
 --     values_flat                        all values of a content, as one list
---     values-gathered, length-no_values  and of a family of buckets, which has none where there is no bucket
+--     values-gathered, length-no_values  and of buckets by their numbers, which have none where there is no bucket
 use Rattle.std.proofs.Common.{◌≡◌, ℕ, suc, length, map, List, [], ◌∷◌, ◌++◌, append_assoc, refl, sym, ap, subst, ◌∙◌, arith}
 use Rattle.std.proofs.lemmas.List.Sorted.{IsPermutation-refl, IsPermutation-append}
 use Rattle.std.specs.List.{flat_map}

@@ -14,7 +14,7 @@ use Rattle.std.proofs.lemmas.List.{length-set}
 use Rattle.std.proofs.lemmas.List.Sums.{sum_by-set, sum_by-append, sum_by-take-drop, sum_by-drop_more, sum_by-cons}
 use Rattle.std.specs.List.{sum_by}
 use Rattle.key_index_flat.specs.View.{pruned_after}
-use Rattle.key_index_parts.specs.Family.{settled_in}
+use Rattle.key_index_parts.specs.Buckets.{settled_standings}
 use Rattle.key_index_parts.specs.Moves.{IsPaid, IsRangeWithin, IsWithin, credit, range_credit}
 use Rattle.key_index_parts.specs.Standing.{Standing, Standings, Leaves, MovesBack, entries_at, is_reached, joined_standings, standing_at, with_entries, with_spill}
 
@@ -70,9 +70,9 @@ back_pays t n false small = grind (arith, nat_tests)
 
 module _ {owed : ℕ → Standing → ℕ} (pays : Pays owed) where
   pub settled_paid : (spills : Bool) (s : Standings) (n pruned : ℕ) → n < length s.buckets → IsPaid (owed s.threshold) s pruned
-      → IsPaid (owed (settled_in spills s n).threshold) (settled_in spills s n) pruned
+      → IsPaid (owed (settled_standings spills s n).threshold) (settled_standings spills s n) pruned
   settled_paid spills s n pruned inside before =
-      elim spills as (λ b. IsPaid (owed (settled_in b s n).threshold) (settled_in b s n) pruned) [
+      elim spills as (λ b. IsPaid (owed (settled_standings b s n).threshold) (settled_standings b s n) pruned) [
         | true ↦ elim (is_reached s n) as (λ b. is_reached s n ≡ b → IsPaid (owed (if b then with_spill s n else s).threshold) (if b then with_spill s n else s) pruned) [
           | true ↦ λ e. let cheap = pays.spill s.threshold (entries_at s n) (standing_at s n).spilled e in
               step_keeps (owed s.threshold) s.buckets n (record { entries = entries_at s n; spilled = true }) s.moved (pruned_after s.moved (entries_at s n)) pruned pruned 0 (entries_at s n)
@@ -94,7 +94,7 @@ module _ {owed : ℕ → Standing → ℕ} (pays : Pays owed) where
     pub leaves_paid : Leaves old n new → IsPaid (owed new.threshold) new after
     leaves_paid is = subst (λ s. IsPaid (owed s.threshold) s after) (sym is) IsPaid-with_entries
 
-    pub grows_paid : (spills : Bool) → new ≡ settled_in spills (with_entries old n (entries_at new n)) n → IsPaid (owed new.threshold) new after
+    pub grows_paid : (spills : Bool) → new ≡ settled_standings spills (with_entries old n (entries_at new n)) n → IsPaid (owed new.threshold) new after
     grows_paid spills is =
         let same = length-set old.buckets n (record { entries = entries_at new n; spilled = (standing_at old n).spilled && nat_lt 0 (entries_at new n) }) in
         subst (λ s. IsPaid (owed s.threshold) s after) (sym is)

@@ -15,15 +15,15 @@ use Rattle.key_index_flat.specs.Content.{Content, IsLawful, item_count, list_at,
 use Rattle.key_index_flat.specs.View.{pruned_after}
 use Rattle.key_index_flat.proofs.content.ContentLemmas.{item_count-with_list}
 use Rattle.key_index_parts.specs.Counts.{one_if}
-use Rattle.key_index_parts.specs.Family.{AreFree, Grows, bucket_at, standing_of_all, stays_spilled, with_items_from}
+use Rattle.key_index_parts.specs.Buckets.{AreFree, Grows, bucket_at, standing_of_all, stays_spilled, with_items_from}
 use Rattle.key_index_parts.specs.Moves.{IsPaid, IsRangeWithin, IsWithin}
-use Rattle.key_index_parts.specs.Standing.{Standing, Standings, entries_at, standing_in, standings_of}
-use Rattle.key_index_parts.proofs.buckets.FamilyLemmas.{IsBucket, standing_left, standing_grown, standing_in-map, standing_new, within_mapped}
+use Rattle.key_index_parts.specs.Standing.{Standing, Standings, entries_at, nth_standing, standings_of}
+use Rattle.key_index_parts.proofs.buckets.BucketLemmas.{IsBucket, standing_left, standing_grown, nth_standing-map, standing_new, within_mapped}
 use Rattle.key_index_parts.proofs.standing.StandingLemmas.{grows_to}
 use Rattle.key_index_parts.proofs.standing.MoveLemmas.{Pays, credit_pays, grows_paid, leaves_paid, range_pays}
 
 module _ {X K V : Type 0} (f : X → Content K V) (s : X → Bool) where
-  entries_told : (xs : List X) (n : ℕ) → (standing_in (standing_of_all f s xs) n).entries ≡ item_count (bucket_at (map f xs) n)
+  entries_told : (xs : List X) (n : ℕ) → (nth_standing (standing_of_all f s xs) n).entries ≡ item_count (bucket_at (map f xs) n)
   entries_told [] n = refl
   entries_told (x ∷ xs) zero = refl
   entries_told (x ∷ xs) (suc n) = entries_told xs n
@@ -35,7 +35,7 @@ module _ {X K V : Type 0} (f : X → Content K V) (s : X → Bool) where
       omega (arith, rest, sum_by-cons (λ (p : Standing). p.entries) (record { entries = item_count (f x); spilled = s x }) (standing_of_all f s xs), sum_by-cons (λ c. item_count c) (f x) (map f xs))
 
   pub entries-AreFree : (xs : List X) (start count : ℕ) → AreFree (map f xs) start count
-      → (n : ℕ) → start ≤ n → n < start + count → (standing_in (standing_of_all f s xs) n).entries ≡ 0
+      → (n : ℕ) → start ≤ n → n < start + count → (nth_standing (standing_of_all f s xs) n).entries ≡ 0
   entries-AreFree xs start count free n from upto = entries_told xs n ∙ ap (λ c. item_count c) (free n from upto)
 
 pub map-with_items_from : {A B : Type 0} (f : A → B) (xs ys : List A) (n : ℕ) → map f (with_items_from xs n ys) ≡ with_items_from (map f xs) n (map f ys)
@@ -62,7 +62,7 @@ module _ {X K V : Type 0} {cmp : K → K → Ordering} {f : X → Content K V} (
   entries-left_and_taken =
       let sum = item_count-with_list o (f x) k l lawful in
       let counts = ap (λ c. item_count c) is in
-      let was = ap (λ z. z.entries) (standing_in-map bucket s) in
+      let was = ap (λ z. z.entries) (nth_standing-map bucket s) in
       let now = ap (λ z. z.entries) (standing_new bucket s y) in
       omega (arith, sum, counts, was, now, fits)
 

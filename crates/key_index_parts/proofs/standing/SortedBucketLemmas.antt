@@ -13,7 +13,7 @@ use Rattle.std.specs.declared.cmp.Ordering.{Ordering}
 use Rattle.key_index_flat.specs.declared.index.retain.Retained.{Retained}
 use Rattle.key_index_flat.specs.Content.{Content, item_count, list_at, with_list, with_list_by, IsLawful}
 use Rattle.key_index_flat.proofs.content.ContentLemmas.{item_count-with_list}
-use Rattle.key_index_parts.specs.Family.{Grows, RetainsList, stands}
+use Rattle.key_index_parts.specs.Buckets.{Grows, RetainsList, stands}
 use Rattle.key_index_parts.specs.Spilled.{HoldsSome, held_by}
 use Rattle.key_index_flat.proofs.closures.PutLemmas.{few_with}
 

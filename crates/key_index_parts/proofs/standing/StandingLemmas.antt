@@ -16,10 +16,10 @@ use Rattle.std.proofs.lemmas.List.{get_or-set_same, set-get_or, set_past, length
 use Rattle.key_index_flat.specs.View.{pruned_after}
 use Rattle.key_index_parts.specs.Counts.{one_if}
 use Rattle.key_index_flat.specs.Content.{item_count}
-use Rattle.key_index_parts.specs.Family.{Kept, IsLeft, settled_in}
+use Rattle.key_index_parts.specs.Buckets.{Kept, IsLeft, settled_standings}
 use Rattle.key_index_parts.specs.Gathered.{gathered}
 use Rattle.key_index_parts.specs.laws.StandingLaws.{settles_by, resettles_by}
-use Rattle.key_index_parts.specs.Standing.{Standing, Standings, Leaves, LeavesSome, MovesBack, Refuses, Resettles, Settles, after_call, due_in, entries_at, is_reached, is_reached_by, left_with, spilled_by, spilled_if_reached, standing_at, standing_in, with_entries, with_left, with_spill}
+use Rattle.key_index_parts.specs.Standing.{Standing, Standings, Leaves, LeavesSome, MovesBack, Refuses, Resettles, Settles, after_call, due_in, entries_at, is_reached, is_reached_by, holding, spilled_by, spilled_if_reached, standing_at, nth_standing, with_entries, entries_set, with_spill}
 
 pub pruned_after-zero : (n : ℕ) → pruned_after n 0 ≡ n
 pruned_after-zero n = omega arith
@@ -66,8 +66,8 @@ module _ (s : Standings) (n : ℕ) (inside : n < length s.buckets) where
         | false ↦ refl
       ]
 
-  pub at_left : (m : ℕ) → standing_at (with_entries s n m) n ≡ left_with (standing_at s n) m
-  at_left m = get_or-set_same s.buckets n (left_with (standing_at s n) m) nothing inside
+  pub at_left : (m : ℕ) → standing_at (with_entries s n m) n ≡ holding (standing_at s n) m
+  at_left m = get_or-set_same s.buckets n (holding (standing_at s n) m) nothing inside
 
 both_true : (a b : Bool) → (a && b) ≡ true → b ≡ true
 both_true true b e = e
@@ -78,11 +78,11 @@ spilled_left t zero least = lt-leb t 0 (omega (arith, least))
 spilled_left t (suc m) least = ap (λ b. not b && nat_le t (suc m)) (lt-ltb 0 (suc m) (omega arith))
 
 -- a partition that was spilled if it had reached the threshold doesn't reach it by having no more values
-is_reached_by-left_with : (t e m : ℕ) (b u : Bool) → 1 ≤ t → m ≤ e → nat_le t e ≡ u
-    → is_reached_by t (left_with (if not b && u then record { entries = e; spilled = true } else record { entries = e; spilled = b }) m) ≡ false
-is_reached_by-left_with t e m true u least few told = spilled_left t m least
-is_reached_by-left_with t e m false true least few told = spilled_left t m least
-is_reached_by-left_with t e m false false least few told = let below = leb-false t e told in lt-leb t m (omega (arith, below, few))
+is_reached_by-holding : (t e m : ℕ) (b u : Bool) → 1 ≤ t → m ≤ e → nat_le t e ≡ u
+    → is_reached_by t (holding (if not b && u then record { entries = e; spilled = true } else record { entries = e; spilled = b }) m) ≡ false
+is_reached_by-holding t e m true u least few told = spilled_left t m least
+is_reached_by-holding t e m false true least few told = spilled_left t m least
+is_reached_by-holding t e m false false least few told = let below = leb-false t e told in lt-leb t m (omega (arith, below, few))
 
 module _ (s : Standings) (n : ℕ) (inside : n < length s.buckets) (least : 1 ≤ s.threshold) where
   abbrev pub mid : Standings
@@ -92,16 +92,16 @@ module _ (s : Standings) (n : ℕ) (inside : n < length s.buckets) (least : 1 �
   stays_below m few =
       let size = raised_size s n inside in
       ap (λ t. is_reached_by t (standing_at (with_entries mid n m) n)) (raised_threshold s n inside)
-      ∙ ap (λ p. is_reached_by s.threshold p) (at_left mid n (omega (arith, inside, size)) m ∙ ap (λ p. left_with p m) (at_raised s n inside))
-      ∙ is_reached_by-left_with s.threshold (entries_at s n) m (standing_at s n).spilled (nat_le s.threshold (entries_at s n)) least few refl
+      ∙ ap (λ p. is_reached_by s.threshold p) (at_left mid n (omega (arith, inside, size)) m ∙ ap (λ p. holding p m) (at_raised s n inside))
+      ∙ is_reached_by-holding s.threshold (entries_at s n) m (standing_at s n).spilled (nat_le s.threshold (entries_at s n)) least few refl
 
   pub settles_edit : (new : Standings) → Leaves mid n new → entries_at new n ≤ entries_at mid n → Settles s n new
   settles_edit new left fewer =
       let same : entries_at mid n ≡ entries_at s n = ap (λ p. p.entries) (at_raised s n inside) ∙ raised_entries s.threshold (standing_at s n) in
       settles_by s new n inside least (left ∙ sym (spilled_if_reached-not_reached (with_entries mid n (entries_at new n)) n (stays_below (entries_at new n) (omega (arith, fewer, same)))))
 
-  left_with-own_entries : (p : Standing) → (IsTrue p.spilled → 0 < p.entries) → left_with p p.entries ≡ p
-  left_with-own_entries p some =
+  holding-own_entries : (p : Standing) → (IsTrue p.spilled → 0 < p.entries) → holding p p.entries ≡ p
+  holding-own_entries p some =
       elim p.spilled as (λ b. (IsTrue b → 0 < p.entries) → ◌≡◌ {A = Standing} (record { entries = p.entries; spilled = b && nat_lt 0 p.entries }) (record { entries = p.entries; spilled = b })) [
         | true ↦ λ h. ap (λ b. record { entries = p.entries; spilled = b }) (lt-ltb 0 p.entries (h refl))
         | false ↦ λ h. refl
@@ -120,28 +120,28 @@ module _ (s : Standings) (n : ℕ) (inside : n < length s.buckets) (least : 1 �
   pub settles_alone : (IsTrue (standing_at s n).spilled → 0 < entries_at s n) → (new : Standings) → new ≡ mid → Settles s n new
   settles_alone some new is =
       let at = at_raised s n inside in
-      let same = left_with-own_entries (standing_at mid n) (subst (λ p. IsTrue p.spilled → 0 < p.entries) (sym at) (filled_raised some)) in
+      let same = holding-own_entries (standing_at mid n) (subst (λ p. IsTrue p.spilled → 0 < p.entries) (sym at) (filled_raised some)) in
       let kept : with_entries mid n (entries_at mid n) ≡ mid =
       (λ i. record mid { buckets = set mid.buckets n (same i) }) ∙ (λ i. record mid { buckets = set-get_or mid.buckets n nothing i }) in
       settles_edit new (is ∙ sym kept ∙ ap (λ x. with_entries mid n (entries_at x n)) (sym is)) (let e = ap (λ x. entries_at x n) is in omega (arith, e))
 
-settled_by : (spills : Bool) (s : Standings) (n : ℕ) → settled_in spills s n ≡ (if spills && is_reached s n then with_spill s n else s)
+settled_by : (spills : Bool) (s : Standings) (n : ℕ) → settled_standings spills s n ≡ (if spills && is_reached s n then with_spill s n else s)
 settled_by true s n = refl
 settled_by false s n = refl
 
-pub settled_none : (spills : Bool) (s : Standings) (n : ℕ) → (spills && is_reached s n) ≡ false → s ≡ settled_in spills s n
+pub settled_none : (spills : Bool) (s : Standings) (n : ℕ) → (spills && is_reached s n) ≡ false → s ≡ settled_standings spills s n
 settled_none spills s n e = sym (settled_by spills s n ∙ ap (λ b. if b then with_spill s n else s) e)
 
-pub settled_due : (spills : Bool) (s : Standings) (n : ℕ) → (spills && is_reached s n) ≡ true → with_spill s n ≡ settled_in spills s n
+pub settled_due : (spills : Bool) (s : Standings) (n : ℕ) → (spills && is_reached s n) ≡ true → with_spill s n ≡ settled_standings spills s n
 settled_due spills s n e = sym (settled_by spills s n ∙ ap (λ b. if b then with_spill s n else s) e)
 
 -- a partition spills where it is due, and so many values move
 abbrev SpillsIn : Bool → ℕ → List Standing → ℕ → ℕ → List Standing → Type 0
-SpillsIn spills threshold old n moved new = (moved ≡ due_in spills threshold (standing_in old n)) × (new ≡ set old n (spilled_by moved (standing_in old n)))
+SpillsIn spills threshold old n moved new = (moved ≡ due_in spills threshold (nth_standing old n)) × (new ≡ set old n (spilled_by moved (nth_standing old n)))
 
 -- an insertion: it is left with more values, or with fewer where that asks a closure, and then spills where that is due
 abbrev pub GrowsIn : Bool → ℕ → List Standing → ℕ → ℕ → List Standing → Type 0
-GrowsIn spills threshold old n moved new = SpillsIn spills threshold (with_left old n (standing_in new n).entries) n moved new
+GrowsIn spills threshold old n moved new = SpillsIn spills threshold (entries_set old n (nth_standing new n).entries) n moved new
 
 -- a count of values that is none exactly where it is not said
 some_if : (c : Bool) (n : ℕ) → (c ≡ true → 0 < n) → nat_lt 0 (if c then n else 0) ≡ c
@@ -151,7 +151,7 @@ some_if false n some = refl
 settled_so : (spills : Bool) (s : Standings) (n moved : ℕ) → n < length s.buckets → 1 ≤ s.threshold
     → (buckets : List Standing) → SpillsIn spills s.threshold s.buckets n moved buckets
     → {a b : ℕ} → a ≡ pruned_after s.spills (one_if (nat_lt 0 moved)) → b ≡ pruned_after s.moved moved
-    → record { threshold = s.threshold; buckets = buckets; spills = a; moved = b } ≡ settled_in spills s n
+    → record { threshold = s.threshold; buckets = buckets; spills = a; moved = b } ≡ settled_standings spills s n
 settled_so spills s n moved inside least buckets is {a} {b} one more =
     let c = spills && is_reached s n in
     let some : c ≡ true → 0 < entries_at s n = λ e.
@@ -183,16 +183,16 @@ settled_so spills s n moved inside least buckets is {a} {b} one more =
 pub grows_to : (spills : Bool) (s : Standings) (n moved : ℕ) → n < length s.buckets → 1 ≤ s.threshold
     → (buckets : List Standing) → GrowsIn spills s.threshold s.buckets n moved buckets
     → {a b : ℕ} → a ≡ pruned_after s.spills (one_if (nat_lt 0 moved)) → b ≡ pruned_after s.moved moved
-    → record { threshold = s.threshold; buckets = buckets; spills = a; moved = b } ≡ settled_in spills (with_entries s n (standing_in buckets n).entries) n
+    → record { threshold = s.threshold; buckets = buckets; spills = a; moved = b } ≡ settled_standings spills (with_entries s n (nth_standing buckets n).entries) n
 grows_to spills s n moved inside least buckets is one more =
-    let m = (standing_in buckets n).entries in
-    let same = length-set s.buckets n (left_with (standing_at s n) m) in
+    let m = (nth_standing buckets n).entries in
+    let same = length-set s.buckets n (holding (standing_at s n) m) in
     settled_so spills (with_entries s n m) n moved (omega (arith, same, inside)) least buckets is one more
 
 call_size : (s : Standings) (n m : ℕ) → n < length s.buckets → n < length (after_call s n m).buckets
 call_size s n m inside =
     let first = raised_size s n inside in
-    let left = length-set (spilled_if_reached s n).buckets n (left_with (standing_at (spilled_if_reached s n) n) m) in
+    let left = length-set (spilled_if_reached s n).buckets n (holding (standing_at (spilled_if_reached s n) n) m) in
     let last = raised_size (with_entries (spilled_if_reached s n) n m) n (omega (arith, first, left, inside)) in
     omega (arith, first, left, last, inside)
 
@@ -209,7 +209,7 @@ Resettles-MovesBack old between new n inside least settles back =
         ∙ ap (λ p. p.entries) (get_or-set_same between.buckets n (record { entries = entries_at between n; spilled = false }) nothing size)
 
 pub leaves_some : (s : Standings) → LeavesSome s s
-leaves_some s = (length s.buckets, λ i. record s { buckets = sym (set_past s.buckets (length s.buckets) (left_with (standing_in s.buckets (length s.buckets)) (entries_at s (length s.buckets))) (omega arith)) i })
+leaves_some s = (length s.buckets, λ i. record s { buckets = sym (set_past s.buckets (length s.buckets) (holding (nth_standing s.buckets (length s.buckets)) (entries_at s (length s.buckets))) (omega arith)) i })
 
 -- an edit that was done or refused
 pub leaves_either : {A E : Type 0} (r : Result A E) (n : ℕ) (old new : Standings) → OnOk r (Leaves old n new) → OnErr r (new ≡ old) → LeavesSome old new
@@ -223,4 +223,4 @@ left_standing spills n old new left is =
     by_case left where
       by_case : IsLeft spills old n new → Refuses (item_count (gathered old.buckets)) old.standings n new.standings
       by_case (inl same) = inl (ap (λ s. s.standings) same)
-      by_case (inr told) = inr (told.0, ap (λ s. s.standings) told.1 ∙ ap (λ b. settled_in b old.standings n) is)
+      by_case (inr told) = inr (told.0, ap (λ s. s.standings) told.1 ∙ ap (λ b. settled_standings b old.standings n) is)

@@ -5,7 +5,7 @@ ghost use Rattle.key_index_flat.specs.Content.{Content, IsLawful, is_filled, ite
 ghost use Rattle.key_index_flat.specs.Neighbours.{first_entry, last_list, entries_above, entries_below};
 ghost use Rattle.key_index_flat.specs.View.{put_value};
 ghost use Rattle.key_index_flat.specs.Values.{VisitsEach, values_of};
-ghost use Rattle.key_index_parts.specs.Family.{Grows, RetainsList, inline_in, stays_spilled};
+ghost use Rattle.key_index_parts.specs.Buckets.{Grows, RetainsList, spillable, stays_spilled};
 
 pub(super) mod hash_bucket;
 mod sorted_arrays;
@@ -147,7 +147,7 @@ pub(super) trait Bucket<T: Translator, V>: EditBucket<T, V> {
 
     /// How many values a spill would move: all of an inline bucket, and none of a spilled one.
     fn inline_len(&self) -> usize
-        ensures { result ≡ inline_in SPILLS (Self.spilled self.now) (Self.content self.now) };
+        ensures { result ≡ spillable SPILLS (Self.spilled self.now) (Self.content self.now) };
 
     fn is_spilled(&self) -> bool
         ensures { result ≡ Self.spilled self.now };
@@ -155,7 +155,7 @@ pub(super) trait Bucket<T: Translator, V>: EditBucket<T, V> {
     /// Moves the values from the arrays to a tree, all or none: after an allocation failure those that moved are back in the arrays. A
     /// bucket of a kind that never spills stays as it is.
     fn spill(&mut self) -> Result<(), AllocError>
-        requires { IsTrue SPILLS → 0 < inline_in SPILLS (Self.spilled self.old) (Self.content self.old) }
+        requires { IsTrue SPILLS → 0 < spillable SPILLS (Self.spilled self.old) (Self.content self.old) }
         ensures content { Self.content self.new ≡ Self.content self.old }
         ensures standing { OnOk result (Self.spilled self.new ≡ SPILLS) }
         ensures stands { OnErr result (Self.spilled self.new ≡ Self.spilled self.old) };

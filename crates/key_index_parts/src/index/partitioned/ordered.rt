@@ -1,7 +1,7 @@
 //! The partitioned ordered index.
 ghost use Rattle.std.specs.Prelude.{◌≡◌, ◌<◌, ◌≤◌, false, length, IfErr};
 ghost use Rattle.key_index_flat.specs.Content.{item_count};
-ghost use Rattle.key_index_parts.specs.Family.{IsIndex, view_of};
+ghost use Rattle.key_index_parts.specs.Buckets.{IsIndex, view_of};
 ghost use Rattle.key_index_parts.specs.Gathered.{gathered, pair_cmp, entries_of};
 ghost use Rattle.key_index_parts.specs.Prefix.{partition_count, partition_by, slot_by};
 ghost use Rattle.key_index_parts.specs.Standing.{LeavesSome, Refuses, Resettles, Settles, is_reached};

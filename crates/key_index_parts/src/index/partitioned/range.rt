@@ -1,7 +1,7 @@
 //! Ranges of an index in partitions, over any kind of bucket.
 ghost use Rattle.std.specs.Prelude.{◌≡◌, ◌+◌, ◌-◌, ◌≤◌, ◌&&◌, length, IsTrue};
 ghost use Rattle.key_index_flat.specs.Content.{item_count};
-ghost use Rattle.key_index_parts.specs.Family.{IsRange, view_from};
+ghost use Rattle.key_index_parts.specs.Buckets.{IsRange, view_from};
 ghost use Rattle.key_index_parts.specs.Gathered.{gathered};
 ghost use Rattle.key_index_parts.specs.Joined.{IsSpanKept, is_between};
 ghost use Rattle.key_index_parts.specs.Moves.{IsRangeWithin};

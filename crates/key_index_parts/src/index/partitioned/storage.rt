@@ -8,7 +8,7 @@ ghost use Rattle.key_index_flat.specs.Neighbours.{entries_above, first_entry, la
 ghost use Rattle.key_index_flat.specs.View.{put_value, InsertsAndRetains, Retains, RetainsWith};
 ghost use Rattle.key_index_flat.specs.Values.{VisitsEach, values_of};
 ghost use Rattle.key_index_parts.specs.Counts.{one_if};
-ghost use Rattle.key_index_parts.specs.Family.{KeepsRange, Kept, IsCounted, IsLeft, KeepsBuckets, Edits, Prunes, GrowsTo, SameContent, held_at, bucket_at, filled_buckets, settled_at, standing_of_all, view_of, view_from, with_items_from};
+ghost use Rattle.key_index_parts.specs.Buckets.{KeepsRange, Kept, IsCounted, IsLeft, KeepsBuckets, Edits, Prunes, GrowsTo, SameContent, held_at, bucket_at, filled_buckets, settled_at, standing_of_all, view_of, view_from, with_items_from};
 ghost use Rattle.key_index_parts.specs.Gathered.{gathered, gathered_from, pair_cmp};
 ghost use Rattle.key_index_parts.specs.Joined.{IsFree, is_between, joined_view};
 ghost use Rattle.key_index_parts.specs.Moves.{IsRangeWithin, IsWithin, entries_in};

@@ -1,6 +1,6 @@
 //! The partitioned unordered index.
 ghost use Rattle.std.specs.Prelude.{◌≡◌, ◌≤◌, true};
-ghost use Rattle.key_index_parts.specs.Family.{IsIndex, view_of};
+ghost use Rattle.key_index_parts.specs.Buckets.{IsIndex, view_of};
 ghost use Rattle.key_index_parts.specs.Gathered.{pair_cmp};
 ghost use Rattle.key_index_parts.specs.Prefix.{partition_count, partition_by, slot_by};
 

@@ -2,7 +2,7 @@
 ghost use Rattle.std.specs.Prelude.{◌≡◌, ◌≤◌, ◌<◌, ◌++◌, ◌&&◌, true, false, not, is_some, None, MatchOption, [], IfOk, OnOk, OnErr};
 ghost use Rattle.std.specs.Bool.{OnTrue};
 ghost use Rattle.key_index_flat.specs.Content.{IsLawful, is_filled, item_count, list_at};
-ghost use Rattle.key_index_parts.specs.Family.{stays_spilled};
+ghost use Rattle.key_index_parts.specs.Buckets.{stays_spilled};
 ghost use Rattle.key_index_parts.specs.Pairs.{grouped};
 ghost use Rattle.key_index_parts.specs.Spread.{AreBelow, spread};
 ghost use Rattle.key_index_parts.specs.Spilled.{HoldsSome, HoldsSome-prop, held_by};

@@ -2,8 +2,8 @@ use Rattle.std.proofs.Common.{◌≡◌, [], map, length, refl, sym, ap, ◌∙�
 use Rattle.std.proofs.lemmas.List.{length-map, length-set, nil_from_length}
 use Rattle.std.specs.Vec.Iter.{into_iter_items}
 use Rattle.key_index_flat.specs.Content.{is_filled}
-use Rattle.key_index_parts.specs.Family.{with_items_from}
-use Rattle.key_index_parts.proofs.buckets.FamilyLemmas.{IsBucket, flags_edited, not_not}
+use Rattle.key_index_parts.specs.Buckets.{with_items_from}
+use Rattle.key_index_parts.proofs.buckets.BucketLemmas.{IsBucket, flags_edited, not_not}
 use Rattle.key_index_parts.proofs.buckets.InstallLemmas.{put_more, put_none}
 use Rattle.key_index_parts.proofs.index.partitioned.storage.install_buckets.Goals as goal
 

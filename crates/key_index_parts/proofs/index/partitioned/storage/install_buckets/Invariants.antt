@@ -1,6 +1,6 @@
 use Rattle.std.proofs.Common.{◌≡◌, ◌+◌, ◌≤◌, length, map}
 use Rattle.std.specs.Vec.Iter.{into_iter_items}
-use Rattle.key_index_parts.specs.Family.{filled_buckets, with_items_from}
+use Rattle.key_index_parts.specs.Buckets.{filled_buckets, with_items_from}
 use Rattle.key_index_parts.proofs.index.partitioned.storage.install_buckets.Given as goal
 
 abbrev pub invariant-loop-bucket : goal.invariant-loop-bucket

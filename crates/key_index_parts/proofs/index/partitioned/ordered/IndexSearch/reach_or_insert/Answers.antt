@@ -1,6 +1,6 @@
 use Rattle.std.proofs.Common.{◌≡◌, [], ◌∷◌, length, refl, ap, subst, ◌∙◌}
 use Rattle.key_index_flat.specs.View.{with_run}
-use Rattle.key_index_parts.specs.Family.{held_at, view_of}
+use Rattle.key_index_parts.specs.Buckets.{held_at, view_of}
 use Rattle.key_index_parts.specs.Gathered.{pair_cmp}
 use Rattle.key_index_parts.specs.Standing.{Settles}
 use Rattle.key_index_parts.proofs.index.partitioned.ordered.IndexSearch.reach_or_insert.Goals as goal

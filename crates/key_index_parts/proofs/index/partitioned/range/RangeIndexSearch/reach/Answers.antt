@@ -1,7 +1,7 @@
 use Rattle.std.proofs.Common.{◌-◌, ◌&&◌, length, refl, inl, ap, subst, ◌∙◌}
 use Rattle.key_index_flat.specs.Fault.{IsWant}
 use Rattle.key_index_flat.specs.View.{run_at}
-use Rattle.key_index_parts.specs.Family.{view_from}
+use Rattle.key_index_parts.specs.Buckets.{view_from}
 use Rattle.key_index_parts.specs.Gathered.{pair_cmp}
 use Rattle.key_index_parts.specs.Standing.{Settles, is_reached}
 use Rattle.key_index_parts.proofs.index.partitioned.range.RangeIndexSearch.reach.Goals as goal

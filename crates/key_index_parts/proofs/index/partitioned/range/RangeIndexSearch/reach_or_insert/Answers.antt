@@ -1,7 +1,7 @@
 use Rattle.std.proofs.Common.{◌-◌, ◌<◌, ◌^◌, ◌∷◌, [], length, refl, ap, subst, ◌∙◌}
 use Rattle.key_index_flat.specs.Content.{item_count}
 use Rattle.key_index_flat.specs.Fault.{growth_fault}
-use Rattle.key_index_parts.specs.Family.{view_from}
+use Rattle.key_index_parts.specs.Buckets.{view_from}
 use Rattle.key_index_parts.specs.Gathered.{gathered}
 use Rattle.key_index_parts.specs.Standing.{Refuses, Settles}
 use Rattle.key_index_parts.proofs.buckets.ShiftedLemmas.{items_from, read_from, seen_edited}

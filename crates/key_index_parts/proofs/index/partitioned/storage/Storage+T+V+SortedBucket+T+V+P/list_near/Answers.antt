@@ -1,6 +1,6 @@
 use Rattle.std.proofs.Common.{◌≡◌, sym, ap, ◌∙◌}
 use Rattle.key_index_flat.specs.Content.{list_at}
-use Rattle.key_index_parts.specs.Family.{held_at}
+use Rattle.key_index_parts.specs.Buckets.{held_at}
 use Rattle.key_index_parts.specs.Spilled.{held_by}
 use Rattle.key_index_parts.specs.Pairs.{grouped}
 use Rattle.key_index_parts.proofs.buckets.StorageLemmas.{bucket_got, held_told, held_past}

@@ -1,9 +1,9 @@
 use Rattle.std.proofs.Common.{◌≡◌, ◌≤◌, map, length, refl, sym, ap, arith}
 use Rattle.std.proofs.lemmas.List.{length-map}
 use Rattle.key_index_flat.specs.Neighbours.{first_entry}
-use Rattle.key_index_parts.specs.Family.{bucket_at}
-use Rattle.key_index_parts.proofs.buckets.FamilyLemmas.{bucket_seen}
-use Rattle.key_index_parts.proofs.buckets.FamilyNeighbours.{above-in_parts, above-past}
+use Rattle.key_index_parts.specs.Buckets.{bucket_at}
+use Rattle.key_index_parts.proofs.buckets.BucketLemmas.{bucket_seen}
+use Rattle.key_index_parts.proofs.buckets.BucketNeighbours.{above-in_parts, above-past}
 use Rattle.key_index_parts.proofs.index.partitioned.storage.Storage.above.Given.{Over}
 use Rattle.key_index_parts.proofs.index.partitioned.storage.Storage.above.Goals.{After-index}
 use Rattle.key_index_parts.proofs.index.partitioned.storage.Storage.above.Goals as goal

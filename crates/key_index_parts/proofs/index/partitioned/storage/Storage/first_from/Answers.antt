@@ -3,8 +3,8 @@ use Rattle.std.specs.Option.{option_map}
 use Rattle.key_index_flat.specs.Neighbours.{first_entry}
 use Rattle.key_index_parts.specs.Bitmap.{IsFirst, flag_at}
 use Rattle.key_index_parts.specs.Gathered.{gathered_from}
-use Rattle.key_index_parts.proofs.buckets.FamilyLemmas.{bucket_seen}
-use Rattle.key_index_parts.proofs.buckets.FamilyNeighbours.{at_number, flag_at-within, first_of, first_none}
+use Rattle.key_index_parts.proofs.buckets.BucketLemmas.{bucket_seen}
+use Rattle.key_index_parts.proofs.buckets.BucketNeighbours.{at_number, flag_at-within, first_of, first_none}
 use Rattle.key_index_parts.proofs.index.partitioned.storage.Storage.first_from.Given.{Over}
 use Rattle.key_index_parts.proofs.index.partitioned.storage.Storage.first_from.Goals.{After-index}
 use Rattle.key_index_parts.proofs.index.partitioned.storage.Storage.first_from.Goals as goal

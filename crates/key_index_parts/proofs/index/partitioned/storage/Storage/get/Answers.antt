@@ -1,6 +1,6 @@
 use Rattle.std.proofs.Common.{ap, ◌∙◌}
-use Rattle.key_index_parts.specs.Family.{held_at}
-use Rattle.key_index_parts.proofs.buckets.FamilyLemmas.{bucket_taken}
+use Rattle.key_index_parts.specs.Buckets.{held_at}
+use Rattle.key_index_parts.proofs.buckets.BucketLemmas.{bucket_taken}
 use Rattle.key_index_parts.proofs.buckets.StorageLemmas.{held_told}
 use Rattle.key_index_parts.proofs.index.partitioned.storage.Storage.get.Goals as goal
 

@@ -1,5 +1,5 @@
 use Rattle.std.proofs.Common.{inr, ap, ◌∙◌, arith}
-use Rattle.key_index_parts.specs.Family.{settled_in}
+use Rattle.key_index_parts.specs.Buckets.{settled_standings}
 use Rattle.key_index_parts.specs.Standing.{entries_at, with_entries}
 use Rattle.key_index_parts.specs.laws.StandingLaws.{settles_by}
 use Rattle.key_index_flat.proofs.content.FaultLemmas.{growth_fault-memory}
@@ -23,9 +23,9 @@ returns-in-Ok-put-clause-settled g c = λ is.
     let old = c.args.self.now.standings in
     let new = c.put.new.self.standings in
     let n = c.args.slot.0 in
-    let mid = ap (λ s. s.standings) c.in-Ok.ensures.settled ∙ ap (λ b. settled_in b old n) is in
+    let mid = ap (λ s. s.standings) c.in-Ok.ensures.settled ∙ ap (λ b. settled_standings b old n) is in
     settles_by old new n c.in-Ok.ensures.within c.in-Ok.ensures.least
-    (c.in-Ok-put.ensures.standing ∙ (λ i. settled_in (is i) (with_entries (mid i) n (entries_at new n)) n))
+    (c.in-Ok-put.ensures.standing ∙ (λ i. settled_standings (is i) (with_entries (mid i) n (entries_at new n)) n))
 
 pub returns-in-Ok-put-clause-range_bound : goal.returns-in-Ok-put-clause-range_bound
 returns-in-Ok-put-clause-range_bound g c = λ before. c.put.ensures.range_bound (c.spill_if_reached.ensures.range_bound before)

@@ -1,5 +1,5 @@
 use Rattle.std.proofs.Common.{inr, zero, suc, subst, sym, ◌≡◌, ◌<◌, refl, ap, ◌∙◌, arith}
-use Rattle.key_index_parts.specs.Family.{GrowsTo, settled_in}
+use Rattle.key_index_parts.specs.Buckets.{GrowsTo, settled_standings}
 use Rattle.key_index_parts.specs.Standing.{Settles, entries_at, with_entries}
 use Rattle.key_index_parts.specs.laws.StandingLaws.{settles_by}
 use Rattle.key_index_flat.proofs.content.FaultLemmas.{growth_fault-memory}
@@ -23,10 +23,10 @@ returns-in-Ok-put_absent-clause-settled g c = λ is.
     let old = c.args.self.now.standings in
     let n = c.args.slot.0 in
     let new = c.put_absent.new.self in
-    let mid = ap (λ s. s.standings) c.in-Ok.ensures.settled ∙ ap (λ b. settled_in b old n) is in
+    let mid = ap (λ s. s.standings) c.in-Ok.ensures.settled ∙ ap (λ b. settled_standings b old n) is in
     elim c.in-Ok-put_absent.len as (λ len. (0 < len → new ≡ c.spill_if_reached.new.self) → (len ≡ 0 → GrowsTo g.X.Bucket.SPILLS c.spill_if_reached.new.self n new) → Settles old n new.standings) [
       | zero ↦ λ found grown. settles_by old new.standings n c.in-Ok.ensures.within c.in-Ok.ensures.least
-          (grown refl ∙ (λ i. settled_in (is i) (with_entries (mid i) n (entries_at new.standings n)) n))
+          (grown refl ∙ (λ i. settled_standings (is i) (with_entries (mid i) n (entries_at new.standings n)) n))
       | suc len ↦ λ found grown. subst (λ s. Settles old n s.standings) (sym (found (omega arith))) (c.in-Ok.ensures.settles is)
     ] c.in-Ok-put_absent.ensures.found c.in-Ok-put_absent.ensures.standing
 

@@ -1,7 +1,7 @@
 use Rattle.std.proofs.Common.{inr, ◌≡◌, ℕ, subst, sym, ap, ◌∙◌, arith}
 use Rattle.std.specs.Fn.{CalledAt}
 use Rattle.key_index_flat.specs.View.{View, InsertsAndRetains}
-use Rattle.key_index_parts.specs.Family.{Kept, settled_in, view_of}
+use Rattle.key_index_parts.specs.Buckets.{Kept, settled_standings, view_of}
 use Rattle.key_index_parts.specs.Gathered.{pair_cmp}
 use Rattle.key_index_parts.specs.Standing.{entries_at, with_entries}
 use Rattle.key_index_parts.proofs.standing.StandingLemmas.{Resettles-MovesBack}
@@ -35,9 +35,9 @@ returns-in-Ok-retain_in_bucket-clause-settled g c = λ is.
     let old = c.args.self.now.standings in
     let left = c.retain_in_bucket.new.self.standings in
     let n = c.args.slot.0 in
-    let raised = ap (λ s. s.standings) c.in-Ok.ensures.settled ∙ ap (λ b. settled_in b old n) is in
+    let raised = ap (λ s. s.standings) c.in-Ok.ensures.settled ∙ ap (λ b. settled_standings b old n) is in
     Resettles-MovesBack old left c.move_back.new.self.standings n c.in-Ok.ensures.within c.in-Ok.ensures.least
-    (c.in-Ok-retain_in_bucket.ensures.standing ∙ (λ i. settled_in (is i) (with_entries (raised i) n (entries_at left n)) n))
+    (c.in-Ok-retain_in_bucket.ensures.standing ∙ (λ i. settled_standings (is i) (with_entries (raised i) n (entries_at left n)) n))
     c.move_back.ensures.back
 
 pub returns-in-Ok-retain_in_bucket-clause-kept : goal.returns-in-Ok-retain_in_bucket-clause-kept

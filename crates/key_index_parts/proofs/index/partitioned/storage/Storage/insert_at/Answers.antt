@@ -1,11 +1,11 @@
 use Rattle.std.proofs.Common.{◌≤◌, set, length, insert, refl, sym, ap, subst, ◌∙◌, arith}
 use Rattle.std.proofs.lemmas.List.Edits.{length-insert}
 use Rattle.key_index_flat.specs.Content.{is_filled, item_count, list_at}
-use Rattle.key_index_parts.specs.Family.{held_at, standing_of_all}
+use Rattle.key_index_parts.specs.Buckets.{held_at, standing_of_all}
 use Rattle.key_index_parts.specs.Gathered.{gathered}
 use Rattle.key_index_parts.specs.Moves.{IsRangeWithin, IsWithin}
 use Rattle.key_index_parts.specs.Standing.{standings_of}
-use Rattle.key_index_parts.proofs.buckets.FamilyLemmas.{IsBucket, bucket_taken, bucket_stays, flags_stay, flags_filled, filled_held, filled_insert, filled_positive, kept_stays, standing_left, standing_stays}
+use Rattle.key_index_parts.proofs.buckets.BucketLemmas.{IsBucket, bucket_taken, bucket_stays, flags_stay, flags_filled, filled_held, filled_insert, filled_positive, kept_stays, standing_left, standing_stays}
 use Rattle.key_index_parts.proofs.buckets.StorageLemmas.{held_told, keeps_all, counted_as, keys_below, counted_gain, KeepsBuckets-edited, view_edited}
 use Rattle.key_index_parts.proofs.standing.PaidLemmas.{StaysPaid, StaysPaid-left}
 use Rattle.key_index_parts.proofs.standing.StandingLemmas.{pruned_after-zero}

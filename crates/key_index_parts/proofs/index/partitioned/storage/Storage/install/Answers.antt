@@ -1,7 +1,7 @@
 use Rattle.std.proofs.Common.{◌≡◌, map, length, sym, ap, subst, ◌∙◌, arith}
 use Rattle.std.proofs.lemmas.List.{length-map}
 use Rattle.key_index_flat.specs.View.{pruned_after}
-use Rattle.key_index_parts.specs.Family.{stands, standing_of_all, with_items_from}
+use Rattle.key_index_parts.specs.Buckets.{stands, standing_of_all, with_items_from}
 use Rattle.key_index_parts.specs.Moves.{IsRangeWithin, IsWithin}
 use Rattle.key_index_parts.specs.Standing.{Standing, Standings, standings_of}
 use Rattle.key_index_parts.proofs.buckets.StorageLemmas.{at_most_three, keys_below}

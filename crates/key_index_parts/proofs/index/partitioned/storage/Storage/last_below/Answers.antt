@@ -1,8 +1,8 @@
 use Rattle.std.proofs.Common.{◌≡◌, ℕ, ◌<◌, map, false, refl, sym, ap, subst, ◌∙◌}
 use Rattle.key_index_flat.specs.Neighbours.{last_list}
 use Rattle.key_index_parts.specs.Bitmap.{IsLast, flag_at}
-use Rattle.key_index_parts.proofs.buckets.FamilyLemmas.{bucket_seen}
-use Rattle.key_index_parts.proofs.buckets.FamilyNeighbours.{flag_at-within, last_of, last_list-no_flags}
+use Rattle.key_index_parts.proofs.buckets.BucketLemmas.{bucket_seen}
+use Rattle.key_index_parts.proofs.buckets.BucketNeighbours.{flag_at-within, last_of, last_list-no_flags}
 use Rattle.key_index_parts.proofs.index.partitioned.storage.Storage.last_below.Goals as goal
 
 pub returns-in-Some : goal.returns-in-Some

@@ -1,10 +1,10 @@
 use Rattle.std.proofs.Common.{◌-◌, ◌<◌, false, set, inl, inr, refl, sym, ap, subst, ◌∙◌, arith}
 use Rattle.key_index_flat.specs.Content.{is_filled}
 use Rattle.key_index_flat.specs.View.{pruned_after}
-use Rattle.key_index_parts.specs.Family.{standing_of_all}
+use Rattle.key_index_parts.specs.Buckets.{standing_of_all}
 use Rattle.key_index_parts.specs.Moves.{IsWithin}
 use Rattle.key_index_parts.specs.Standing.{MovesBack, standings_of}
-use Rattle.key_index_parts.proofs.buckets.FamilyLemmas.{IsBucket, bucket_taken, bucket_stays, flags_stay, within_mapped, small_told, spilled_told, standing_moved, not_zero-positive, standing_stays}
+use Rattle.key_index_parts.proofs.buckets.BucketLemmas.{IsBucket, bucket_taken, bucket_stays, flags_stay, within_mapped, small_told, spilled_told, standing_moved, not_zero-positive, standing_stays}
 use Rattle.key_index_parts.proofs.buckets.StorageLemmas.{keeps_all, counted_as, same_but}
 use Rattle.key_index_parts.proofs.standing.MoveLemmas.{back_within}
 use Rattle.key_index_parts.proofs.index.partitioned.storage.Storage.move_back.Given.{Over}

@@ -2,10 +2,10 @@ use Rattle.std.proofs.Common.{◌≡◌, false, [], ◌∷◌, map, length, repl
 use Rattle.std.proofs.lemmas.List.{length-replicate}
 use Rattle.std.proofs.lemmas.List.Elements.{All-push}
 use Rattle.key_index_flat.specs.Content.{IsLawful}
-use Rattle.key_index_parts.specs.Family.{filled_buckets, stands, standing_of_all}
+use Rattle.key_index_parts.specs.Buckets.{filled_buckets, stands, standing_of_all}
 use Rattle.key_index_parts.specs.Gathered.{pair_cmp}
 use Rattle.key_index_parts.specs.Standing.{Standing, standings_of}
-use Rattle.key_index_parts.proofs.buckets.FamilyLemmas.{all_alike, none_filled}
+use Rattle.key_index_parts.proofs.buckets.BucketLemmas.{all_alike, none_filled}
 use Rattle.key_index_parts.proofs.buckets.StorageLemmas.{at_most_three, none_held, none_counted}
 use Rattle.key_index_parts.proofs.standing.MoveLemmas.{new_within}
 use Rattle.key_index_parts.proofs.index.partitioned.storage.Storage.new.Given.{Over}

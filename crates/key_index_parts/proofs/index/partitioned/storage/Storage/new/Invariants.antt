@@ -1,5 +1,5 @@
 use Rattle.std.proofs.Common.{◌≡◌, false, ◌≤◌, [], length, All, vec_capacity}
-use Rattle.key_index_parts.specs.Family.{stands}
+use Rattle.key_index_parts.specs.Buckets.{stands}
 use Rattle.key_index_parts.proofs.index.partitioned.storage.Storage.new.Given as goal
 
 abbrev pub invariant-loop : goal.invariant-loop

@@ -1,7 +1,7 @@
 use Rattle.std.proofs.Common.{◌≡◌, refl, ap}
-use Rattle.key_index_parts.specs.Family.{bucket_at}
-use Rattle.key_index_parts.proofs.buckets.FamilyLemmas.{bucket_seen}
-use Rattle.key_index_parts.proofs.buckets.FamilyNeighbours.{next_list-gathered}
+use Rattle.key_index_parts.specs.Buckets.{bucket_at}
+use Rattle.key_index_parts.proofs.buckets.BucketLemmas.{bucket_seen}
+use Rattle.key_index_parts.proofs.buckets.BucketNeighbours.{next_list-gathered}
 use Rattle.key_index_parts.proofs.index.partitioned.storage.Storage.next.Given.{Over}
 use Rattle.key_index_parts.proofs.index.partitioned.storage.Storage.next.Goals.{After-index}
 use Rattle.key_index_parts.proofs.index.partitioned.storage.Storage.next.Goals as goal

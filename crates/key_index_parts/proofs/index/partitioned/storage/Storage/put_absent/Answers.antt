@@ -1,11 +1,11 @@
 use Rattle.std.proofs.Common.{◌≡◌, true, not, [], ◌∷◌, set, length, refl, sym, ap, subst, ◌∙◌, arith}
 use Rattle.std.proofs.lemmas.List.{nil_from_length}
 use Rattle.key_index_flat.specs.Content.{is_filled, item_count, list_at}
-use Rattle.key_index_parts.specs.Family.{standing_of_all}
+use Rattle.key_index_parts.specs.Buckets.{standing_of_all}
 use Rattle.key_index_parts.specs.Gathered.{gathered}
 use Rattle.key_index_parts.specs.Moves.{IsRangeWithin, IsWithin}
 use Rattle.key_index_parts.specs.Standing.{standings_of}
-use Rattle.key_index_parts.proofs.buckets.FamilyLemmas.{IsBucket, bucket_taken, bucket_stays, flags_edited, flags_stay, filled_with, kept_stays, standing_grown, within_mapped, not_zero-positive, standing_stays}
+use Rattle.key_index_parts.proofs.buckets.BucketLemmas.{IsBucket, bucket_taken, bucket_stays, flags_edited, flags_stay, filled_with, kept_stays, standing_grown, within_mapped, not_zero-positive, standing_stays}
 use Rattle.key_index_parts.proofs.buckets.StorageLemmas.{held_told, keeps_all, counted_as, keys_below, counted_gain, KeepsBuckets-edited, view_edited}
 use Rattle.key_index_parts.proofs.standing.PaidLemmas.{StaysPaid, StaysPaid-grown}
 use Rattle.key_index_parts.proofs.standing.StandingLemmas.{grows_to, pruned_after-zero}

@@ -1,6 +1,6 @@
 use Rattle.std.proofs.Common.{◌≡◌, ◌≤◌, [], length, ap, subst, ◌∙◌}
 use Rattle.key_index_flat.specs.View.{View, with_edit, with_pruned}
-use Rattle.key_index_parts.specs.Family.{Kept, settled_in, held_at, view_of}
+use Rattle.key_index_parts.specs.Buckets.{Kept, settled_standings, held_at, view_of}
 use Rattle.key_index_parts.specs.Gathered.{pair_cmp}
 use Rattle.key_index_parts.specs.Standing.{Leaves, entries_at}
 use Rattle.key_index_parts.proofs.standing.StandingLemmas.{Resettles-MovesBack, settles_edit}
@@ -20,7 +20,7 @@ returns-clause-settled g c = λ is.
     let old = c.args.self.now.standings in
     let left = c.take.new.self.standings in
     let n = c.args.slot.0 in
-    let raised = ap (λ s. s.standings) c.in_ok-spill_if_reached.ensures.settled ∙ ap (λ b. settled_in b old n) is in
+    let raised = ap (λ s. s.standings) c.in_ok-spill_if_reached.ensures.settled ∙ ap (λ b. settled_standings b old n) is in
     Resettles-MovesBack old left c.move_back.new.self.standings n c.in_ok-spill_if_reached.ensures.within c.in_ok-spill_if_reached.ensures.least
     (settles_edit old n c.in_ok-spill_if_reached.ensures.within c.in_ok-spill_if_reached.ensures.least left
     (subst (λ s. Leaves s n left) raised c.take.ensures.standing)

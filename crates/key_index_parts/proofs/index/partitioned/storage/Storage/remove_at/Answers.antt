@@ -1,9 +1,9 @@
 use Rattle.std.proofs.Common.{rules, ◌≡◌, ◌+◌, ◌^◌, ◌<◌, Some, map, set, length, slice_get, remove, refl, sym, subst, ◌∙◌, arith}
 use Rattle.std.proofs.lemmas.List.Edits.{length-remove}
 use Rattle.key_index_flat.specs.Content.{list_at}
-use Rattle.key_index_parts.specs.Family.{held_at, standing_of_all}
+use Rattle.key_index_parts.specs.Buckets.{held_at, standing_of_all}
 use Rattle.key_index_parts.specs.Standing.{standings_of}
-use Rattle.key_index_parts.proofs.buckets.FamilyLemmas.{IsBucket, flags_emptied, flag_within, filled_held, standing_left}
+use Rattle.key_index_parts.proofs.buckets.BucketLemmas.{IsBucket, flags_emptied, flag_within, filled_held, standing_left}
 use Rattle.key_index_parts.proofs.buckets.StorageLemmas.{held_told, held_inside, items_within, can_change, counted_change, KeepsBuckets-edited, view_pruned}
 use Rattle.key_index_parts.proofs.standing.PaidLemmas.{StaysPaid, StaysPaid-left}
 use Rattle.key_index_parts.proofs.index.partitioned.storage.Storage.remove_at.Given.{Over}

@@ -1,7 +1,7 @@
 use Rattle.std.proofs.Common.{◌≡◌, ◌≤◌, ap, subst, sym, ◌∙◌, arith}
 use Rattle.std.specs.Fn.{CalledAt}
 use Rattle.key_index_flat.specs.View.{View, Retains}
-use Rattle.key_index_parts.specs.Family.{Kept, settled_in, view_of}
+use Rattle.key_index_parts.specs.Buckets.{Kept, settled_standings, view_of}
 use Rattle.key_index_parts.specs.Gathered.{pair_cmp}
 use Rattle.key_index_parts.specs.Standing.{Leaves, entries_at}
 use Rattle.key_index_parts.proofs.standing.StandingLemmas.{Resettles-MovesBack, settles_edit}
@@ -21,7 +21,7 @@ returns-clause-settled g c = λ is.
     let old = c.args.self.now.standings in
     let left = c.retain_in_bucket.new.self.standings in
     let n = c.args.slot.0 in
-    let raised = ap (λ s. s.standings) c.in_ok-spill_if_reached.ensures.settled ∙ ap (λ b. settled_in b old n) is in
+    let raised = ap (λ s. s.standings) c.in_ok-spill_if_reached.ensures.settled ∙ ap (λ b. settled_standings b old n) is in
     let no_more = c.in-Ok.ensures.entries in
     Resettles-MovesBack old left c.move_back.new.self.standings n c.in_ok-spill_if_reached.ensures.within c.in_ok-spill_if_reached.ensures.least
     (settles_edit old n c.in_ok-spill_if_reached.ensures.within c.in_ok-spill_if_reached.ensures.least left

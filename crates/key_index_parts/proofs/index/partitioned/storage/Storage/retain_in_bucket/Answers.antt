@@ -5,12 +5,12 @@ use Rattle.std.specs.Fn.{CalledAt}
 use Rattle.key_index_flat.specs.Content.{is_filled, item_count, list_at}
 use Rattle.key_index_flat.specs.Retention.{AsksWith}
 use Rattle.key_index_flat.proofs.closures.PutLemmas.{few_with}
-use Rattle.key_index_parts.specs.Family.{standing_of_all}
+use Rattle.key_index_parts.specs.Buckets.{standing_of_all}
 use Rattle.key_index_parts.specs.Gathered.{gathered, pair_cmp}
 use Rattle.key_index_parts.specs.Moves.{IsWithin}
 use Rattle.key_index_parts.specs.Standing.{standings_of}
-use Rattle.key_index_parts.proofs.buckets.BucketLemmas.{fits_with, left_and_gone}
-use Rattle.key_index_parts.proofs.buckets.FamilyLemmas.{IsBucket, bucket_taken, bucket_stays, filled_before, flags_written, flags_stay, kept_stays, left_with_more, standing_grown, within_mapped, standing_stays}
+use Rattle.key_index_parts.proofs.buckets.CountLemmas.{fits_with, left_and_gone}
+use Rattle.key_index_parts.proofs.buckets.BucketLemmas.{IsBucket, bucket_taken, bucket_stays, filled_before, flags_written, flags_stay, kept_stays, left_with_more, standing_grown, within_mapped, standing_stays}
 use Rattle.key_index_parts.proofs.buckets.StorageLemmas.{held_told, keeps_all, counted_as, can_change, counted_change, KeepsBuckets-edited, retains_with, view_pruned}
 use Rattle.key_index_parts.proofs.standing.PaidLemmas.{StaysPaid-grown}
 use Rattle.key_index_parts.proofs.standing.StandingLemmas.{grows_to}

@@ -1,10 +1,10 @@
 use Rattle.std.proofs.Common.{◌<◌, map, set, length, slice_set, refl, sym, ap, subst, ◌∙◌, arith}
 use Rattle.std.proofs.lemmas.List.{length-set}
 use Rattle.key_index_flat.specs.Content.{is_filled, list_at}
-use Rattle.key_index_parts.specs.Family.{held_at, standing_of_all}
+use Rattle.key_index_parts.specs.Buckets.{held_at, standing_of_all}
 use Rattle.key_index_parts.specs.Standing.{standings_of}
-use Rattle.key_index_parts.proofs.buckets.BucketLemmas.{as_many_entries}
-use Rattle.key_index_parts.proofs.buckets.FamilyLemmas.{IsBucket, flags_stay, filled_held, is_filled-with_list, standing_left}
+use Rattle.key_index_parts.proofs.buckets.CountLemmas.{as_many_entries}
+use Rattle.key_index_parts.proofs.buckets.BucketLemmas.{IsBucket, flags_stay, filled_held, is_filled-with_list, standing_left}
 use Rattle.key_index_parts.proofs.buckets.StorageLemmas.{held_told, held_inside, IsCounted-edited, KeepsBuckets-edited, view_edited}
 use Rattle.key_index_parts.proofs.standing.PaidLemmas.{StaysPaid, StaysPaid-left}
 use Rattle.key_index_parts.proofs.standing.StandingLemmas.{pruned_after-zero}

@@ -2,10 +2,10 @@ use Rattle.std.proofs.Common.{◌≡◌, ◌<◌, true, set, refl, sym, ap, subs
 use Rattle.std.proofs.lemmas.Bool.{lt-ltb}
 use Rattle.key_index_flat.specs.Content.{is_filled}
 use Rattle.key_index_flat.specs.View.{pruned_after}
-use Rattle.key_index_parts.specs.Family.{standing_of_all, settled_in}
+use Rattle.key_index_parts.specs.Buckets.{standing_of_all, settled_standings}
 use Rattle.key_index_parts.specs.Moves.{IsRangeWithin, IsWithin}
 use Rattle.key_index_parts.specs.Standing.{standings_of}
-use Rattle.key_index_parts.proofs.buckets.FamilyLemmas.{IsBucket, bucket_taken, bucket_stays, flags_stay, kept_stays, within_mapped, due_told, due_none, inline_told, filled_told, standing_moved, spills_so, standing_stays}
+use Rattle.key_index_parts.proofs.buckets.BucketLemmas.{IsBucket, bucket_taken, bucket_stays, flags_stay, kept_stays, within_mapped, due_told, due_none, inline_told, filled_told, standing_moved, spills_so, standing_stays}
 use Rattle.key_index_parts.proofs.buckets.StorageLemmas.{keeps_all, counted_as, same_but}
 use Rattle.key_index_parts.proofs.standing.StandingLemmas.{settled_none, settled_due, settles_alone}
 use Rattle.key_index_parts.proofs.standing.MoveLemmas.{credit_pays, range_pays, settled_paid}
@@ -27,13 +27,13 @@ returns-then-values-self-clause-settles g c =
     let some = filled_told bucket g.X.Contents.spilled (g.X.Contents.filled c.index.result.now) in
     let none = due_none g.X.Bucket.SPILLS _ s.threshold _ _ (inline_told bucket g.X.Contents.spilled g.X.Bucket.SPILLS c.inline_len-values.ensures) (omega (arith, c.if-values-self.true)) in
     rw (← c.self.view_is)
-    (λ is. settles_alone (standings_of s.threshold (standing_of_all g.X.Contents.content g.X.Contents.spilled s.buckets.items) s.moves.spills s.moves.moved) c.args.number (within_mapped bucket g.X.Contents.spilled) s.least some _ (settled_none g.X.Bucket.SPILLS (standings_of s.threshold (standing_of_all g.X.Contents.content g.X.Contents.spilled s.buckets.items) s.moves.spills s.moves.moved) c.args.number none ∙ ap (λ b. settled_in b (standings_of s.threshold (standing_of_all g.X.Contents.content g.X.Contents.spilled s.buckets.items) s.moves.spills s.moves.moved) c.args.number) is))
+    (λ is. settles_alone (standings_of s.threshold (standing_of_all g.X.Contents.content g.X.Contents.spilled s.buckets.items) s.moves.spills s.moves.moved) c.args.number (within_mapped bucket g.X.Contents.spilled) s.least some _ (settled_none g.X.Bucket.SPILLS (standings_of s.threshold (standing_of_all g.X.Contents.content g.X.Contents.spilled s.buckets.items) s.moves.spills s.moves.moved) c.args.number none ∙ ap (λ b. settled_standings b (standings_of s.threshold (standing_of_all g.X.Contents.content g.X.Contents.spilled s.buckets.items) s.moves.spills s.moves.moved) c.args.number) is))
 
 pub returns-then-values-self-clause-kept : goal.returns-then-values-self-clause-kept
 returns-then-values-self-clause-kept g c = rw (← c.self.view_is) (keeps_all c.self.invariant.0 _ refl)
 
 settled_now : (g : Over) (c : After-spill-in-Ok g) → IsBucket g.X.Contents.content c.self.inside.buckets.items c.args.number c.index.result.now → IsBucket g.X.Contents.content c.self.inside.buckets.items c.args.number c.index_mut.result.now → let s = c.self.inside in
-    standings_of s.threshold (standing_of_all g.X.Contents.content g.X.Contents.spilled (set s.buckets.items c.args.number c.spill.new.self)) c.spill-in-Ok.new.self.spills c.spill-in-Ok.new.self.moved ≡ settled_in g.X.Bucket.SPILLS (standings_of s.threshold (standing_of_all g.X.Contents.content g.X.Contents.spilled s.buckets.items) s.moves.spills s.moves.moved) c.args.number
+    standings_of s.threshold (standing_of_all g.X.Contents.content g.X.Contents.spilled (set s.buckets.items c.args.number c.spill.new.self)) c.spill-in-Ok.new.self.spills c.spill-in-Ok.new.self.moved ≡ settled_standings g.X.Bucket.SPILLS (standings_of s.threshold (standing_of_all g.X.Contents.content g.X.Contents.spilled s.buckets.items) s.moves.spills s.moves.moved) c.args.number
 settled_now g c seen bucket =
     let s = c.self.inside in
     let values = c.inline_len-values.result in
@@ -89,7 +89,7 @@ returns-in-Ok-clause-settles g c =
     let seen = bucket_seen_here g at.After-index in
     let now = settled_now g at.After-spill-in-Ok seen bucket in
     let some = filled_told seen g.X.Contents.spilled (g.X.Contents.filled c.index.result.now) in
-    rw (← c.self.view_is) (λ is. settles_alone (standings_of s.threshold (standing_of_all g.X.Contents.content g.X.Contents.spilled s.buckets.items) s.moves.spills s.moves.moved) c.args.number (within_mapped bucket g.X.Contents.spilled) s.least some _ (now ∙ ap (λ b. settled_in b (standings_of s.threshold (standing_of_all g.X.Contents.content g.X.Contents.spilled s.buckets.items) s.moves.spills s.moves.moved) c.args.number) is))
+    rw (← c.self.view_is) (λ is. settles_alone (standings_of s.threshold (standing_of_all g.X.Contents.content g.X.Contents.spilled s.buckets.items) s.moves.spills s.moves.moved) c.args.number (within_mapped bucket g.X.Contents.spilled) s.least some _ (now ∙ ap (λ b. settled_standings b (standings_of s.threshold (standing_of_all g.X.Contents.content g.X.Contents.spilled s.buckets.items) s.moves.spills s.moves.moved) c.args.number) is))
 
 pub returns-in-Ok-clause-same : goal.returns-in-Ok-clause-same
 returns-in-Ok-clause-same g c =

@@ -1,5 +1,5 @@
 use Rattle.std.proofs.Common.{◌≡◌, ◌+◌, ◌≤◌, length, map}
-use Rattle.key_index_parts.specs.Family.{stands}
+use Rattle.key_index_parts.specs.Buckets.{stands}
 use Rattle.key_index_parts.specs.Standing.{spilled_in}
 use Rattle.key_index_parts.proofs.index.partitioned.storage.Storage.spilled_count.Given as goal
 

@@ -2,7 +2,7 @@ use Rattle.std.proofs.Common.{rules, ◌^◌, ◌<◌, [], length, refl, sym, ap
 use Rattle.key_index_flat.specs.Content.{is_filled}
 use Rattle.key_index_flat.specs.View.{pruned_after}
 use Rattle.key_index_parts.specs.Standing.{standings_of}
-use Rattle.key_index_parts.proofs.buckets.FamilyLemmas.{IsBucket, bucket_taken, flags_emptied, filled_before, standing_left, left_fewer}
+use Rattle.key_index_parts.proofs.buckets.BucketLemmas.{IsBucket, bucket_taken, flags_emptied, filled_before, standing_left, left_fewer}
 use Rattle.key_index_parts.proofs.buckets.StorageLemmas.{held_told, can_change, counted_change, KeepsBuckets-edited, view_pruned}
 use Rattle.key_index_parts.proofs.standing.PaidLemmas.{StaysPaid-left}
 use Rattle.key_index_parts.proofs.index.partitioned.storage.Storage.take.Given.{Over}

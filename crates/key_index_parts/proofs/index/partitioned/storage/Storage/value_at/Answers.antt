@@ -1,6 +1,6 @@
 use Rattle.std.proofs.Common.{◌≡◌, ◌<◌, Some, map, length, slice_get, sym, subst, arith}
-use Rattle.key_index_parts.specs.Family.{held_at}
-use Rattle.key_index_parts.proofs.buckets.FamilyLemmas.{IsBucket}
+use Rattle.key_index_parts.specs.Buckets.{held_at}
+use Rattle.key_index_parts.proofs.buckets.BucketLemmas.{IsBucket}
 use Rattle.key_index_parts.proofs.buckets.StorageLemmas.{held_told, held_inside}
 use Rattle.key_index_parts.proofs.index.partitioned.storage.Storage.value_at.Given.{Over}
 use Rattle.key_index_parts.proofs.index.partitioned.storage.Storage.value_at.Goals.{After-index, After-self}

@@ -1,5 +1,5 @@
 use Rattle.std.proofs.Common.{length, ap, ◌∙◌}
-use Rattle.key_index_parts.specs.Family.{held_at}
+use Rattle.key_index_parts.specs.Buckets.{held_at}
 use Rattle.key_index_parts.proofs.index.partitioned.unordered.IndexSearch.reach_or_insert.Goals as goal
 
 pub returns-clause-reached : goal.returns-clause-reached

@@ -1,6 +1,6 @@
 use Rattle.std.proofs.Common.{◌≡◌, [], length, subst}
 use Rattle.key_index_flat.specs.View.{with_edit, with_pruned}
-use Rattle.key_index_parts.specs.Family.{held_at, view_of}
+use Rattle.key_index_parts.specs.Buckets.{held_at, view_of}
 use Rattle.key_index_parts.specs.Gathered.{pair_cmp}
 use Rattle.key_index_parts.proofs.buckets.ShiftedLemmas.{OnOk-implied}
 use Rattle.key_index_parts.proofs.index.partitioned.unordered.IndexUnordered.remove.Goals as goal

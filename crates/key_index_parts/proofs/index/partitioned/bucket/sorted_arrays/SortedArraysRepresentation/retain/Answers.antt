@@ -4,7 +4,7 @@ use Rattle.std.specs.List.{items_where_true}
 use mir.Val.{bool_byte}
 use Rattle.key_index_flat.specs.Content.{list_at, with_list}
 use Rattle.key_index_flat.proofs.closures.TurnLemmas.{kept_few}
-use Rattle.key_index_parts.specs.Family.{RetainsList}
+use Rattle.key_index_parts.specs.Buckets.{RetainsList}
 use Rattle.key_index_parts.specs.Pairs.{IsFound, grouped}
 use Rattle.key_index_parts.proofs.pairs.FoundRun.{run_count, length-kept_of_run, few_of_run, asks_behind_run}
 use Rattle.key_index_parts.proofs.index.partitioned.bucket.sorted_arrays.SortedArraysRepresentation.retain.Given.{Over}

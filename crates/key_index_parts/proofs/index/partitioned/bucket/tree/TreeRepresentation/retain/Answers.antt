@@ -2,7 +2,7 @@ use Rattle.std.proofs.Common.{rules, ◌+◌, ◌<◌, ◌^◌, cond, is_some, s
 use Rattle.std.proofs.lemmas.Bool.{true≢false}
 use Rattle.key_index_flat.proofs.closures.KeptLemmas.{IsCounted-with_list, within_count}
 use Rattle.key_index_flat.proofs.closures.PutLemmas.{few_with}
-use Rattle.key_index_parts.proofs.buckets.BucketLemmas.{fits_with}
+use Rattle.key_index_parts.proofs.buckets.CountLemmas.{fits_with}
 use Rattle.key_index_parts.proofs.index.partitioned.bucket.tree.TreeRepresentation.retain.Goals.{else-is_some-via-then-is_some+else-self, else-is_some-via-else-is_some}
 use Rattle.key_index_parts.proofs.index.partitioned.bucket.tree.TreeRepresentation.retain.Goals as goal
 

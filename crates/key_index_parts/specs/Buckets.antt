@@ -1,25 +1,25 @@
--- A family of buckets by what each holds, listed by their numbers. A slot is a bucket's number and a key of that bucket.
---     bucket_at                     what the bucket of a number holds, and nothing past the last one
---     filled_buckets                of each bucket, whether it holds anything
---     held_at                     the list at a slot of the whole
---     KeepsBuckets                  other buckets are as many, and a map of lists that are not empty
---     IsIndex, IsRange            buckets for all partitions of p bytes, and for some from a first one on
---     stands, standing_of_all     how a bucket stands, and how each of them does
---     stays_spilled               whether a spilled one that is left with this content is spilled still
---     Grows                       what an insertion that moved so many values to a tree leaves of a bucket that was spilled or not
---     inline_in                   how many values of a bucket a spill would move
---     Kept, IsCounted             what the storage of an index keeps, and its counts
---     settled_in, settled_at      a partition spilled if it has reached the threshold, of buckets that spill or don't
---     GrowsTo                     what an insertion leaves of how the partitions stand, done in a partition as it stands
---     SameContent                 how its partitions stand may differ, and nothing else
---     IsLeft                      what a refused insertion leaves
---     KeepsRange                  the bound on moved values still holds of a range
---     RetainsList                 what a retention makes of a list
---     view_of                     the view of it, by what its translator makes of a key
---     Edits, Prunes               another view has what f makes of the list at a slot, and with n values more taken out
---     view_from                  the same of a range's storage, whose buckets are numbered from `first`
---     with_items_from             with other items in the place of those from a number on
---     AreFree                     so many buckets from there hold nothing
+-- Buckets by what each holds, listed by their numbers. A slot is a bucket's number and a key of that bucket.
+--     bucket_at                      what the bucket of a number holds, and nothing past the last one
+--     filled_buckets                 of each bucket, whether it holds anything
+--     held_at                        the list at a slot of the whole
+--     KeepsBuckets                   other buckets are as many, and a map of lists that are not empty
+--     IsIndex, IsRange               buckets for all partitions of p bytes, and for some from a first one on
+--     stands, standing_of_all        how a bucket stands, and how each of them does
+--     stays_spilled                  whether a spilled one that is left with this content is spilled still
+--     Grows                          what an insertion that moved so many values to a tree leaves of a bucket that was spilled or not
+--     spillable                      how many values of a bucket a spill would move
+--     Kept, IsCounted                what the storage of an index keeps, and its counts
+--     settled_standings, settled_at  a partition spilled if it has reached the threshold, of buckets that spill or don't
+--     GrowsTo                        what an insertion leaves of how the partitions stand, done in a partition as it stands
+--     SameContent                    how its partitions stand may differ, and nothing else
+--     IsLeft                         what a refused insertion leaves
+--     KeepsRange                     the bound on moved values still holds of a range
+--     RetainsList                    what a retention makes of a list
+--     view_of                        the view of it, by what its translator makes of a key
+--     Edits, Prunes                  another view has what f makes of the list at a slot, and with n values more taken out
+--     view_from                      the same of a range's storage, whose buckets are numbered from `first`
+--     with_items_from                with other items in the place of those from a number on
+--     AreFree                        so many buckets from there hold nothing
 use Rattle.std.specs.Prelude.{◌≡◌, ◌⊎◌, ℕ, ◌+◌, ◌-◌, ◌^◌, ◌<◌, ◌≤◌, Bool, not, ◌&&◌, if◌then◌else◌, nat_lt, Option, List, [], ◌++◌, length, map, take, drop, All, slice_index_or}
 use Rattle.std.specs.declared.cmp.Ordering.{Ordering}
 use Rattle.key_index_flat.specs.Retention.{AsksWith}
@@ -78,8 +78,8 @@ module _ {K V : Type 0} where
   abbrev pub Grows : Bool → ℕ → Bool → ℕ → Content K V → Bool → Type 0
   Grows spills threshold was moved c is = Spills spills threshold (stands c (stays_spilled was c)) moved (stands c is)
 
-  abbrev pub inline_in : Bool → Bool → Content K V → ℕ
-  inline_in spills spilled c = if spills && not spilled then item_count c else 0
+  abbrev pub spillable : Bool → Bool → Content K V → ℕ
+  spillable spills spilled c = if spills && not spilled then item_count c else 0
 
 -- an index as its storage's contracts see it: its translator, what its buckets hold, how many held values were ever taken out, and how
 -- its partitions stand
@@ -99,12 +99,12 @@ pub record IsCounted {K V : Type 0} (cmp : K → K → Ordering) (p : ℕ) (buck
   pub counted : items ≡ item_count (gathered buckets)
   pub keyed : keys ≡ key_count (gathered buckets)
 
-abbrev pub settled_in : Bool → Standings → ℕ → Standings
-settled_in spills s n = if spills then spilled_if_reached s n else s
+abbrev pub settled_standings : Bool → Standings → ℕ → Standings
+settled_standings spills s n = if spills then spilled_if_reached s n else s
 
 module _ {T K V : Type 0} where
   abbrev pub settled_at : Bool → Kept T K V → ℕ → Kept T K V
-  settled_at spills s n = record s { standings = settled_in spills s.standings n }
+  settled_at spills s n = record s { standings = settled_standings spills s.standings n }
 
   abbrev pub KeepsRange : Kept T K V → Kept T K V → Type 0
   KeepsRange old new = IsRangeWithin old.standings old.pruned → IsRangeWithin new.standings new.pruned
@@ -112,7 +112,7 @@ module _ {T K V : Type 0} where
   -- an insertion into a partition as it stands: with its values, and spilled if it has reached the threshold by them
   abbrev pub GrowsTo : Bool → Kept T K V → ℕ → Kept T K V → Type 0
   GrowsTo spills old n new =
-      new.standings ≡ settled_in spills (with_entries old.standings n (entries_at new.standings n)) n
+      new.standings ≡ settled_standings spills (with_entries old.standings n (entries_at new.standings n)) n
 
   abbrev pub SameContent : Kept T K V → Kept T K V → Type 0
   SameContent old new = new ≡ record old { standings = new.standings }

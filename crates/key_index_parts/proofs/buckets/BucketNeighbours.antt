@@ -1,4 +1,4 @@
--- The neighbours of a slot among the buckets of a family, by which of them are filled.
+-- The neighbours of a slot among the buckets, by which of them are filled.
 --     flag_told, flag_at-within               the flag of a bucket, and a flag that is set is of one
 --     at_number                               an entry of a bucket at its slot
 --     first_of, first_none                    the first entry of the buckets from a number on, by the first of them that is filled, and where none is
@@ -14,7 +14,7 @@ use Rattle.std.specs.Option.{option_map, option_or}
 use Rattle.std.specs.declared.cmp.Ordering.{Ordering}
 use Rattle.key_index_flat.specs.Content.{Content, is_filled}
 use Rattle.key_index_flat.specs.Neighbours.{first_entry, last_entry, or_cycled, entries_above, entries_below, last_list, next_list, prev_list}
-use Rattle.key_index_parts.specs.Family.{bucket_at, filled_buckets}
+use Rattle.key_index_parts.specs.Buckets.{bucket_at, filled_buckets}
 use Rattle.key_index_parts.specs.Bitmap.{IsFirst, IsLast, flag_at}
 use Rattle.key_index_parts.specs.Gathered.{pair_cmp, tagged, gathered_from, gathered}
 use Rattle.key_index_parts.proofs.buckets.GatheredNeighbours.{above-gathered, below-gathered}
