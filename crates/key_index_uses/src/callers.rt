@@ -5,6 +5,7 @@ ghost use Rattle.std.specs.List.{FoldsTo, last_or};
 ghost use Rattle.std.specs.Option.{MatchOption, option_copied};
 ghost use Rattle.key_index_flat.specs.View.{items_in, run_at, run_of, with_edit, with_pruned, with_run, after_insert, after_remove, IsHeld};
 ghost use Rattle.key_index_flat.specs.FullKeys.{IsFiledIn};
+ghost use Rattle.key_index_flat.specs.Unordered.{view};
 ghost use Rattle.key_index_flat.specs.Values.{values_of};
 ghost use Rattle.key_index_flat.specs.Visits.{VisitsAt, probes_from, visits_of};
 ghost use Rattle.key_index_flat.specs.Padding.{padded};
@@ -70,6 +71,17 @@ pub fn add<I: Unordered>(
 {
     index.insert(key, value)?;
     Ok(index.items())
+}
+
+/// Does that in an index that is named.
+pub fn add_position(
+    index: &mut Index<OneCap, u64>,
+    key: &[u8],
+    position: u64,
+) -> Result<usize, Refused<u64>>
+    ensures { OnOk result (view index.new ≡ after_insert nat_cmp true (view index.old) key.now position) }
+{
+    add(index, key, position)
 }
 
 /// Puts a value in place of those of a key, which then has that value alone. A refusal leaves

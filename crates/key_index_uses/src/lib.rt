@@ -6,6 +6,7 @@ pub mod builds;
 pub mod callers;
 pub mod log;
 pub mod named;
+pub mod pages;
 pub mod records;
 pub mod reserved;
 pub mod segments;
