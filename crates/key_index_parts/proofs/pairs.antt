@@ -8,4 +8,5 @@ pub mod DrainLemmas
 pub mod ZipLemmas
 pub mod SearchLemmas
 pub mod LastRun
+pub mod GapLemmas
 pub mod BehindLemmas

@@ -296,21 +296,42 @@ fn push_times<K: Copy>(keys: &mut Vec<K>, key: K, count: usize)
     }
 }
 
-/// Removes the items in a range of places. What stands behind them moves once: `Vec::drain` moves it through a buffer of its own, which costs
-/// more than most of a partition.
+/// From how many items on `Vec::remove` moves them some times over sooner than swaps do once.
+const BLOCK: usize = 64;
+
+/// Removes the items in a range of places. Where a few go from in front of many, these move as a block for each that goes, and else once
+/// each, by a swap: `Vec::drain` moves them through a buffer of its own, and a rotation clears 4 KiB of the stack, which costs more than
+/// most of a partition.
 fn take_out<T: Drop>(items: &mut Vec<T>, from: usize, to: usize)
     requires order { from ≤ to }
     requires within { to ≤ length items.old.items }
     ensures items { items.new.items ≡ remove_range items.old.items from to }
     ensures capacity { vec_capacity items.new ≡ vec_capacity items.old }
 {
-    if to - from == 1 {
+    let count = to - from;
+    if count == 0 {
+        return;
+    }
+    if count == 1 {
         items.remove(from);
         return;
     }
-    let left = items.len() - (to - from);
-    items[from..].rotate_left(to - from);
-    items.truncate(left);
+    if count <= 4 && items.len() - to >= BLOCK {
+        let mut end = to;
+        'left: while from < end {
+            items.remove(from);
+            end -= 1;
+        }
+        return;
+    }
+    let mut into = from;
+    let mut at = to;
+    'items: while at < items.len() {
+        items.swap(into, at);
+        into += 1;
+        at += 1;
+    }
+    items.truncate(into);
 }
 
 /// `keep_in_front`, of the values at a range of places.
