@@ -29,15 +29,12 @@ use std::vec::IntoIter;
 /// Up to how many keys a search is std's, which makes a branch of each step, so that the next key is read before the step's outcome is known.
 const FEW: usize = 32;
 
-/// How many halvings leave one of so few keys.
-const FEW_HALVES: usize = 5;
-
 /// How often a search of more keys halves them. It leaves one of 511.
 const HALVES: usize = 9;
 
-/// `front_len` of some keys, by so many halvings. The compiler writes all of them out, which it needs to make no branch of one.
+/// `front_len` of many keys, by halvings. The compiler writes all of them out, which it needs to make no branch of one.
 #[inline(always)]
-fn by_halves<K, P: FnMut(&K) -> bool, const TIMES: usize>(keys: &[K], mut test: P) -> usize
+fn by_halves<K, P: FnMut(&K) -> bool>(keys: &[K], mut test: P) -> usize
     requires callable { P.IsAlwaysCallable test }
     requires some { 0 < length keys.now }
     ensures bound { result ≤ length keys.now }
@@ -46,7 +43,7 @@ fn by_halves<K, P: FnMut(&K) -> bool, const TIMES: usize>(keys: &[K], mut test: 
 {
     let mut from = 0;
     let mut left = keys.len();
-    'halves: for _ in 0..TIMES {
+    'halves: for _ in 0..HALVES {
         let half = left / 2;
         if test(&keys[from + half]) {
             from += half;
@@ -65,7 +62,7 @@ fn front_len<K, P: FnMut(&K) -> bool>(keys: &[K], test: P) -> usize
         → IsPartitionPoint (λ k. p k ≡ true) (λ k. p k ≡ false) keys.now result }
 {
     if keys.len() > FEW {
-        return by_halves::<K, P, HALVES>(keys, test);
+        return by_halves(keys, test);
     }
     keys.partition_point(test)
 }
@@ -107,16 +104,19 @@ fn is_below<K: Ord>(keys: &[K], place: usize, key: &K) -> bool
     place < keys.len() && keys[place].cmp(key).is_lt()
 }
 
-/// How many of some sorted keys are below a key: two compares where it is as many as guessed.
+/// How many of some sorted keys are below a key, where so many in front are guessed to be below it: two compares where no others are.
 fn bound_near<K: Ord>(keys: &[K], guess: usize, key: &K) -> usize
     requires { IsSorted K.cmp keys.now }
     ensures within { result ≤ length keys.now }
     ensures count { result ≡ count_below K.cmp keys.now key.now }
 {
-    if !is_below(keys, guess, key) && (guess == 0 || is_below(keys, guess - 1, key)) {
+    if guess > 0 && !is_below(keys, guess - 1, key) {
+        return lower_bound(keys, key);
+    }
+    if !is_below(keys, guess, key) {
         return guess;
     }
-    lower_bound(keys, key)
+    guess + 1 + lower_bound(part(keys, guess + 1..keys.len()), key)
 }
 
 /// Whether a place of some sorted keys has one, and it isn't above a key.
@@ -536,24 +536,25 @@ impl<K: Ord + Copy, V: Drop> Partition<K, V> {
         part(self.values.as_slice(), self.run_range(key))
     }
 
-    /// How many of so many keys in front are below a key, which `values_near` takes for a guess. No step is a branch, so that searches of
-    /// several partitions overlap.
+    /// How many of so many keys in front are below a key, which `values_near` takes for a guess; of few keys those up to the middle one, or
+    /// none. No key is asked for by a branch, so that several partitions are read at once.
     #[inline(always)]
     pub(crate) fn guess(&self, key: &K, seen: usize) -> usize
         ensures { result ≤ seen }
     {
         let keys = self.keys.as_slice();
         let front = part(keys, 0..seen.min(keys.len()));
-        if front.is_empty() {
-            return 0;
-        }
         if front.len() > FEW {
-            return by_halves::<K, _, HALVES>(front, |k| k.cmp(key).is_lt());
+            return by_halves(front, |k| k.cmp(key).is_lt());
         }
-        by_halves::<K, _, FEW_HALVES>(front, |k| k.cmp(key).is_lt())
+        let middle = front.len() / 2;
+        match front.get(middle) {
+            Some(k) if k.cmp(key).is_lt() => middle + 1,
+            _ => 0,
+        }
     }
 
-    /// `values`, where so many keys are guessed to be below the key.
+    /// `values`, where so many keys in front are guessed to be below the key.
     #[inline]
     pub(crate) fn values_near(&self, guess: usize, key: &K) -> &[V]
         ensures { result.now ≡ run_of K.cmp self.now.pairs key.now }
