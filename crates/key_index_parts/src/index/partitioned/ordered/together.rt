@@ -32,8 +32,8 @@ impl<T: Translator, V: Drop, const P: usize> Index<T, V, P> {
     }
 }
 
-/// A guess where the list of each probe stands, which its reader checks. First it reads how long the arrays of all are, and then it
-/// searches these.
+/// A guess where the list of each probe stands, which its reader checks. First it reads how long the arrays of all are, and then a key of
+/// each.
 #[inline(always)]
 fn guesses_of<T: Translator, V: Drop, const P: usize>(
     index: &Index<T, V, P>,
