@@ -39,7 +39,7 @@ use Rattle.key_index_flat.specs.View.{put_value}
 use Rattle.key_index_flat.proofs.content.ContentLemmas.{item_count-with_list}
 use Rattle.key_index_parts.specs.Buckets.{Kept, spillable, Grows, stands, stays_spilled, bucket_at, filled_buckets}
 use Rattle.key_index_parts.specs.Standing.{Standing, due_in, holding, spilled_by, nth_standing, standings_of, entries_set}
-use Rattle.key_index_parts.proofs.standing.StandingLemmas.{GrowsIn}
+use Rattle.key_index_parts.proofs.standing.StandingLemmas.{GrowsThenSpills}
 
 some_among : {V : Type 0} (xs ys : List V) (v : V) → 0 < length (xs ++ v ∷ ys)
 some_among [] ys v = omega arith
@@ -184,7 +184,7 @@ module _ {X K V : Type 0} {f : X → Content K V} {xs : List X} {p : ℕ} {x : X
 
   -- a bucket that y stands for, once it was left with what y holds, and so many values of it moved
   pub standing_grown : (spills : Bool) (threshold moved : ℕ) (y : X) → Grows spills threshold (s x) moved (f y) (s y)
-      → GrowsIn spills threshold (map how xs) p moved (map how (set xs p y))
+      → GrowsThenSpills spills threshold (map how xs) p moved (map how (set xs p y))
   standing_grown spills threshold moved y told =
       let m = (nth_standing (map how (set xs p y)) p).entries in
       let left = holding (nth_standing (map how xs) p) m in

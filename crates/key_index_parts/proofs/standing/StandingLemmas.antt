@@ -4,7 +4,7 @@
 --     settles_edit                     a call by key that puts nothing in: a partition is spilled if due, and then left with no more values
 --     settles_alone                    one that changes no value
 --     settled_none, settled_due        a partition that was not due to spill, and one that was
---     GrowsIn, grows_to                an insertion, with how many values it moved: it spills where that is due
+--     GrowsThenSpills, grows_to        an insertion, with how many values it moved: it spills where that is due
 --     Resettles-MovesBack              a call by key that moves a small one back last, or doesn't
 --     settles_grown                    a call by key that puts a value in: a partition is spilled if due, and then grows
 --     leaves_some, leaves_either       an edit that was refused; one that was done or refused
@@ -136,12 +136,12 @@ pub settled_due : (spills : Bool) (s : Standings) (n : ℕ) → (spills && is_re
 settled_due spills s n e = sym (settled_by spills s n ∙ ap (λ b. if b then with_spill s n else s) e)
 
 -- a partition spills where it is due, and so many values move
-abbrev SpillsIn : Bool → ℕ → List Standing → ℕ → ℕ → List Standing → Type 0
-SpillsIn spills threshold old n moved new = (moved ≡ due_in spills threshold (nth_standing old n)) × (new ≡ set old n (spilled_by moved (nth_standing old n)))
+abbrev SpillsWhereDue : Bool → ℕ → List Standing → ℕ → ℕ → List Standing → Type 0
+SpillsWhereDue spills threshold old n moved new = (moved ≡ due_in spills threshold (nth_standing old n)) × (new ≡ set old n (spilled_by moved (nth_standing old n)))
 
 -- an insertion: it is left with more values, or with fewer where that asks a closure, and then spills where that is due
-abbrev pub GrowsIn : Bool → ℕ → List Standing → ℕ → ℕ → List Standing → Type 0
-GrowsIn spills threshold old n moved new = SpillsIn spills threshold (entries_set old n (nth_standing new n).entries) n moved new
+abbrev pub GrowsThenSpills : Bool → ℕ → List Standing → ℕ → ℕ → List Standing → Type 0
+GrowsThenSpills spills threshold old n moved new = SpillsWhereDue spills threshold (entries_set old n (nth_standing new n).entries) n moved new
 
 -- a count of values that is none exactly where it is not said
 some_if : (c : Bool) (n : ℕ) → (c ≡ true → 0 < n) → nat_lt 0 (if c then n else 0) ≡ c
@@ -149,7 +149,7 @@ some_if true n some = lt-ltb 0 n (some refl)
 some_if false n some = refl
 
 settled_so : (spills : Bool) (s : Standings) (n moved : ℕ) → n < length s.buckets → 1 ≤ s.threshold
-    → (buckets : List Standing) → SpillsIn spills s.threshold s.buckets n moved buckets
+    → (buckets : List Standing) → SpillsWhereDue spills s.threshold s.buckets n moved buckets
     → {a b : ℕ} → a ≡ pruned_after s.spills (one_if (nat_lt 0 moved)) → b ≡ pruned_after s.moved moved
     → record { threshold = s.threshold; buckets = buckets; spills = a; moved = b } ≡ settled_standings spills s n
 settled_so spills s n moved inside least buckets is {a} {b} one more =
@@ -181,7 +181,7 @@ settled_so spills s n moved inside least buckets is {a} {b} one more =
 
 -- the same of an insertion
 pub grows_to : (spills : Bool) (s : Standings) (n moved : ℕ) → n < length s.buckets → 1 ≤ s.threshold
-    → (buckets : List Standing) → GrowsIn spills s.threshold s.buckets n moved buckets
+    → (buckets : List Standing) → GrowsThenSpills spills s.threshold s.buckets n moved buckets
     → {a b : ℕ} → a ≡ pruned_after s.spills (one_if (nat_lt 0 moved)) → b ≡ pruned_after s.moved moved
     → record { threshold = s.threshold; buckets = buckets; spills = a; moved = b } ≡ settled_standings spills (with_entries s n (nth_standing buckets n).entries) n
 grows_to spills s n moved inside least buckets is one more =
