@@ -11,7 +11,7 @@
 --     flags_written                     and where it is also written if that is told
 --     flag_within                       there is a bit for it
 --     filled_before                     what is filled with a list no longer than it was, was filled
---     nth_standing-map, standing_new     how a bucket stands is what is told of its number, also after an edit
+--     nth_standing-map, standing_new    how a bucket stands is what is told of its number, also after an edit
 --     within_mapped                     it is among those that stand
 --     standing_left, standing_grown     how the buckets stand after a call that says it of one
 --     kept_stays                        what is kept after a call that changed nothing of a bucket

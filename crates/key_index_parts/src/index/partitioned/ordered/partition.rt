@@ -104,7 +104,8 @@ fn is_below<K: Ord>(keys: &[K], place: usize, key: &K) -> bool
     place < keys.len() && keys[place].cmp(key).is_lt()
 }
 
-/// How many of some sorted keys are below a key, where so many in front are guessed to be below it: two compares where no others are.
+/// How many of some sorted keys are below a key. It begins behind as many as are guessed to be, if the last of these is, and else in front:
+/// two compares where the guess is right.
 fn bound_near<K: Ord>(keys: &[K], guess: usize, key: &K) -> usize
     requires { IsSorted K.cmp keys.now }
     ensures within { result ≤ length keys.now }
@@ -536,8 +537,8 @@ impl<K: Ord + Copy, V: Drop> Partition<K, V> {
         part(self.values.as_slice(), self.run_range(key))
     }
 
-    /// How many of so many keys in front are below a key, which `values_near` takes for a guess; of few keys those up to the middle one, or
-    /// none. No key is asked for by a branch, so that several partitions are read at once.
+    /// A guess for `values_near`, how many of so many keys in front are below a key: of few, those up to the middle one if that is below, and
+    /// else none. It makes no branch of a key, so that several partitions are read at once.
     #[inline(always)]
     pub(crate) fn guess(&self, key: &K, seen: usize) -> usize
         ensures { result ≤ seen }
