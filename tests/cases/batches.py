@@ -49,3 +49,16 @@ def batch_goes_by_partition(*words):
         index.fills(b"", [7])
         keys = [b"\x20\x01", b"\x10\x02", b"\x10\x01", b""]
         index.visits(keys, [(3, 7), (2, 9), (1, 2), (1, 22), (0, 5)])
+
+
+@case_of("pordered", "pordered_at_one", "pordered_at_two")
+def long_batch_goes_by_partition(*words):
+    """Of 130 keys, in 100 partitions and then all in one."""
+    for step in (37, 0):
+        with Asked(*words) as index:
+            held = [bytes([number * step % 256, number * 11 % 256]) for number in range(100)]
+            for number, key in enumerate(held):
+                index.fills(key, [number])
+            keys = held[::-1] + held[:30]
+            order = sorted(range(130), key=lambda place: (keys[place], place))
+            index.visits(keys, [(place, held.index(keys[place])) for place in order])

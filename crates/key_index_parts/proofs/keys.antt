@@ -1,2 +1,3 @@
 pub mod PrefixLemmas
 pub mod GroupingLemmas
+pub mod PermutationLemmas

@@ -64,7 +64,7 @@ where
 }
 
 /// The index keys of a batch of keys, each with its place.
-fn take_probes<I: Runs, B: Iterator + Drop>(
+pub fn take_probes<I: Runs, B: Iterator + Drop>(
     alloc: Global,
     index: &I,
     keys: B,
@@ -104,7 +104,7 @@ where
 }
 
 /// Visits the values at each index key, in their order, with the place that stands beside it, and gives the closure back.
-fn visit_probes<'a, I: Lists, F: FnMut(usize, &'a I::Value)>(
+pub fn visit_probes<'a, I: Lists, F: FnMut(usize, &'a I::Value)>(
     index: &'a I,
     probes: Vec<(I::Key, usize)>,
     mut visit: F,

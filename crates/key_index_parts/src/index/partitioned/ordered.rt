@@ -8,13 +8,14 @@ ghost use Rattle.key_index_parts.specs.Standing.{LeavesSome, Refuses, Resettles,
 
 mod ahead;
 pub mod partition;
+mod probes;
 mod together;
 
 use super::bucket::sorted_bucket::SortedBucket;
 use super::storage::Storage;
 use super::{PartitionRange, Partitioned, partition_index_and_sub_key, range};
 pub use ahead::{Ahead, same_visits, show_ahead, visit_ahead};
-use key_index_flat::index::implement::{Lists, probes_by_key, show_counts, visit_by_key};
+use key_index_flat::index::implement::{Lists, show_counts, visit_probes};
 use key_index_flat::index::{
     Factory, Fault, IndexCursor, Ordered, OrderedLists, Refused, Runs, Search, Unordered, Values,
 };
@@ -144,10 +145,9 @@ impl<T: Translator, V: Drop, const P: usize> Index<T, V, P> {
             (pair_cmp T.Key.cmp) (view self.now) F.FnMut visit) }
         ensures fault { IfErr result (λ f. f ≡ Fault.Memory) }
     {
-        match visit_by_key(self.storage.alloc(), self, keys, visit) {
-            Ok(_) => Ok(()),
-            Err((_, fault)) => Err(fault),
-        }
+        let probes = self.probes(keys)?;
+        visit_probes(self, probes, visit);
+        Ok(())
     }
 
     /// Visits what `get_many` visits, in its order, and keeps the lists of the next four keys found ahead of the one that it visits. It
@@ -369,7 +369,7 @@ impl<T: Translator, V: Drop, const P: usize> Unordered for Index<T, V, P> {
             (pair_cmp T.Key.cmp) (view self.now) F.FnMut visit) }
         ensures fault { IfErr result (λ f. f ≡ Fault.Memory) }
     {
-        let probes = probes_by_key(self.storage.alloc(), self, keys)?;
+        let probes = self.probes(keys)?;
         show_together(self, &probes, visit);
         Ok(())
     }

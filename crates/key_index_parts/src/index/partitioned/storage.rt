@@ -705,15 +705,12 @@ impl<T: Translator, V: Drop, const P: usize> Storage<T, V, SortedBucket<T, V>, P
         }
     }
 
-    /// `list_at`, by a guess.
+    /// The list at a slot, by a guess where it stands. None where its bucket is spilled.
     #[inline(always)]
-    pub(super) fn list_near(&self, slot: (usize, T::Key), guess: usize) -> Values<'_, V>
-        ensures { result ≡ held_at T.Key.cmp self.now.buckets slot }
+    pub(super) fn run_near(&self, slot: (usize, T::Key), guess: usize) -> Option<&[V]>
+        ensures { IfSome result (λ run. run.now ≡ held_at T.Key.cmp self.now.buckets slot) }
     {
-        match self.buckets.get(slot.0) {
-            Some(bucket) => bucket.get_near(slot.1, guess),
-            None => Values::of_slice(&[]),
-        }
+        self.buckets.get(slot.0)?.run_near(slot.1, guess)
     }
 }
 

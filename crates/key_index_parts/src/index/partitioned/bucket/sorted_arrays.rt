@@ -34,12 +34,12 @@ impl<T: Translator, V: Drop> SortedArrays<T, V> {
         self.pairs.alloc()
     }
 
-    /// `get`, by a guess how many keys are below.
+    /// The values of a key, by a guess how many keys are below.
     #[inline]
-    pub(super) fn get_near(&self, key: T::Key, guess: usize) -> Values<'_, V>
-        ensures { result ≡ list_at T.Key.cmp (grouped T.Key.cmp self.now.pairs.pairs) key }
+    pub(super) fn run_near(&self, key: T::Key, guess: usize) -> &[V]
+        ensures { result.now ≡ list_at T.Key.cmp (grouped T.Key.cmp self.now.pairs.pairs) key }
     {
-        Values::of_slice(self.pairs.values_near(guess, &key))
+        self.pairs.values_near(guess, &key)
     }
 
     /// How many values stand in the arrays.

@@ -1,5 +1,5 @@
 //! A bucket as sorted arrays or, spilled, as a tree.
-ghost use Rattle.std.specs.Prelude.{◌≡◌, ◌≤◌, ◌<◌, ◌++◌, ◌&&◌, true, false, not, is_some, None, MatchOption, [], IfOk, OnOk, OnErr};
+ghost use Rattle.std.specs.Prelude.{◌≡◌, ◌≤◌, ◌<◌, ◌++◌, ◌&&◌, true, false, not, is_some, None, MatchOption, [], IfOk, IfSome, OnOk, OnErr};
 ghost use Rattle.std.specs.Bool.{OnTrue};
 ghost use Rattle.key_index_flat.specs.Content.{IsLawful, is_filled, item_count, list_at};
 ghost use Rattle.key_index_parts.specs.Buckets.{stays_spilled};
@@ -180,15 +180,15 @@ impl<T: Translator, V: Drop> SortedBucket<T, V> {
         self.arrays.pairs.guess(&key, seen)
     }
 
-    /// `get`, by a guess where the values begin.
+    /// The values of a key, by a guess where they begin. None where it is spilled.
     #[inline(always)]
-    pub(crate) fn get_near(&self, key: T::Key, guess: usize) -> Values<'_, V>
-        ensures { result ≡ list_at T.Key.cmp (held_by (λ t. t.lists.content) self.now.tree
-            (grouped T.Key.cmp self.now.arrays.pairs.pairs)) key }
+    pub(crate) fn run_near(&self, key: T::Key, guess: usize) -> Option<&[V]>
+        ensures { IfSome result (λ run. run.now ≡ list_at T.Key.cmp (held_by (λ t. t.lists.content) self.now.tree
+            (grouped T.Key.cmp self.now.arrays.pairs.pairs)) key) }
     {
         match self.tree() {
-            Some(tree) => tree.get(key),
-            None => self.arrays.get_near(key, guess),
+            Some(_) => None,
+            None => Some(self.arrays.run_near(key, guess)),
         }
     }
 }

@@ -1,5 +1,5 @@
 //! Batches in steps: what a step reads for one key waits for nothing that it reads for another.
-ghost use Rattle.std.specs.Prelude.{◌≡◌, ◌≤◌, length, map};
+ghost use Rattle.std.specs.Prelude.{◌≡◌, ◌≤◌, IfSome, length, map};
 ghost use Rattle.std.specs.List.{FoldsTo};
 ghost use Rattle.key_index_flat.specs.View.{run_at};
 ghost use Rattle.key_index_flat.specs.Visits.{VisitsAt, visits_of};
@@ -8,6 +8,7 @@ ghost use Rattle.key_index_parts.specs.Ordered.{view};
 
 use super::Index;
 use key_index_flat::index::Values;
+use key_index_flat::index::implement::Lists;
 use key_index_flat::translator::Translator;
 
 /// How many keys go through a step together.
@@ -23,12 +24,12 @@ impl<T: Translator, V: Drop, const P: usize> Index<T, V, P> {
         self.storage.inline_len(slot.0)
     }
 
-    /// The list at a slot, by a guess where it stands.
+    /// The list at a slot, by a guess where it stands. None where its partition is spilled.
     #[inline(always)]
-    fn list_near(&self, slot: (usize, T::Key), guess: usize) -> Values<'_, V>
-        ensures { result ≡ run_at (pair_cmp T.Key.cmp) (view self.now) slot }
+    fn run_near(&self, slot: (usize, T::Key), guess: usize) -> Option<&[V]>
+        ensures { IfSome result (λ run. run.now ≡ run_at (pair_cmp T.Key.cmp) (view self.now) slot) }
     {
-        self.storage.list_near(slot, guess)
+        self.storage.run_near(slot, guess)
     }
 }
 
@@ -65,7 +66,8 @@ fn show_list<V, F: FnMut(usize, &V)>(place: usize, values: Values<'_, V>, mut vi
     visit
 }
 
-/// Visits the values at each of a few index keys, in their order, with the place that stands beside it, and gives the closure back.
+/// Visits the values at each of a few index keys, in their order, with the place that stands beside it, and gives the closure back. It
+/// finds all lists in arrays before it reads a value, so that the values are read at once.
 #[inline(always)]
 fn show_few<T: Translator, V: Drop, const P: usize, F: FnMut(usize, &V)>(
     index: &Index<T, V, P>,
@@ -79,9 +81,17 @@ fn show_few<T: Translator, V: Drop, const P: usize, F: FnMut(usize, &V)>(
         (visits_of (run_at (pair_cmp T.Key.cmp) (view index.now)) probes.now) result }
 {
     let guesses = guesses_of(index, probes);
-    for cell in 0..probes.len() {
+    let mut runs: [Option<&[V]>; TOGETHER] = [None; TOGETHER];
+    'find: for cell in 0..probes.len() {
+        runs[cell] = index.run_near(probes[cell].0, guesses[cell]);
+    }
+    'visit: for cell in 0..probes.len() {
         let probe = probes[cell];
-        visit = show_list(probe.1, index.list_near(probe.0, guesses[cell]), visit);
+        let values = match runs[cell] {
+            Some(run) => Values::of_slice(run),
+            None => index.list_at(probe.0),
+        };
+        visit = show_list(probe.1, values, visit);
     }
     visit
 }
