@@ -15,7 +15,9 @@
  *     key_index_get(&index, "apple", 5, positions, 4, &count);      count is 1, positions[0] is 17
  *     key_index_free(&index);
  *
- * Link libkey_index.a, which ./build makes. It uses the program's malloc, realloc and free, and no other library.
+ * Link libkey_index.a, which `./build library` makes, for x86-64 Linux and processors since x86-64-v2. It uses the program's malloc, realloc
+ * and free, and no other library. A program that was compiled with a header of another version does not link: the library of this one
+ * exports key_index_c_version_0_1_0.
  *
  * WHAT A CALLER OWES
  *
@@ -43,6 +45,13 @@
 #include <stdbool.h>
 #include <stddef.h>
 #include <stdint.h>
+
+#if !defined(__x86_64__) || !defined(__linux__) || SIZE_MAX != UINT64_MAX
+#error "key_index is for x86-64 Linux with a size_t of 64 bits"
+#endif
+
+#define KEY_INDEX_VERSION "0.1.0"
+#define KEY_INDEX_VERSION_NUMBER 100 /* 10000 for each major version, 100 for each minor one */
 
 #ifdef __cplusplus
 extern "C" {
@@ -133,7 +142,12 @@ size_t key_index_c_positions(key_index *index, const uint8_t *key, size_t key_le
 bool key_index_c_is_indexed(key_index *index, uint64_t position);
 void key_index_c_prune(key_index *index, uint64_t start);
 struct key_index_position_counts key_index_c_position_counts(key_index *index);
+extern const uint8_t key_index_c_version_0_1_0;
 
+/* Whether an index can be made there. This needs the library of this version. */
+static inline bool key_index_is_none(const key_index *index) {
+    return index != NULL && index->at == NULL && key_index_c_version_0_1_0 != 0;
+}
 /* Whether an index was made, and a key and a buffer can be passed. A pointer that is null has to have the length 0. */
 static inline bool key_index_is_made(const key_index *index) {
     return index != NULL && index->at != NULL;
@@ -154,7 +168,7 @@ static inline uint64_t *key_index_room(uint64_t *values, uint64_t *other) {
  * keep it secret. */
 static inline key_index_status key_index_new_seeded(key_index *index, key_index_kind kind, uint64_t seed) {
     uint32_t status;
-    if (index == NULL || index->at != NULL) return KEY_INDEX_BAD_ARGUMENT;
+    if (!key_index_is_none(index)) return KEY_INDEX_BAD_ARGUMENT;
     status = key_index_c_new(index, (uint32_t)kind, seed);
     if (status != KEY_INDEX_OK) index->at = NULL;
     return (key_index_status)status;
@@ -284,7 +298,7 @@ static inline uint64_t key_index_pruned(key_index *index) {
 }
 
 /* What the four calls below make, by KEY_INDEX_NEXT and its sisters. */
-static inline key_index_status key_index_neighbour(key_index *index, uint32_t which, const void *key, size_t key_len, uint64_t *values,
+static inline key_index_status key_index_neighbour_of(key_index *index, uint32_t which, const void *key, size_t key_len, uint64_t *values,
                                                    size_t room, size_t *count, bool *cycled) {
     uint64_t none = 0;
     struct key_index_neighbour told;
@@ -299,23 +313,23 @@ static inline key_index_status key_index_neighbour(key_index *index, uint32_t wh
  * They are written as key_index_get writes them. `count` is 0 only if the index holds no value. */
 static inline key_index_status key_index_next(key_index *index, const void *key, size_t key_len, uint64_t *values, size_t room,
                                               size_t *count, bool *cycled) {
-    return key_index_neighbour(index, KEY_INDEX_NEXT, key, key_len, values, room, count, cycled);
+    return key_index_neighbour_of(index, KEY_INDEX_NEXT, key, key_len, values, room, count, cycled);
 }
 
 /* The same below the key: the greatest shortened key that is less, or the last one with `cycled` true. */
 static inline key_index_status key_index_prev(key_index *index, const void *key, size_t key_len, uint64_t *values, size_t room,
                                               size_t *count, bool *cycled) {
-    return key_index_neighbour(index, KEY_INDEX_PREV, key, key_len, values, room, count, cycled);
+    return key_index_neighbour_of(index, KEY_INDEX_PREV, key, key_len, values, room, count, cycled);
 }
 
 /* The values of the least shortened key, and of the greatest. */
 static inline key_index_status key_index_first(key_index *index, uint64_t *values, size_t room, size_t *count) {
     bool cycled = false;
-    return key_index_neighbour(index, KEY_INDEX_FIRST, NULL, 0, values, room, count, &cycled);
+    return key_index_neighbour_of(index, KEY_INDEX_FIRST, NULL, 0, values, room, count, &cycled);
 }
 static inline key_index_status key_index_last(key_index *index, uint64_t *values, size_t room, size_t *count) {
     bool cycled = false;
-    return key_index_neighbour(index, KEY_INDEX_LAST, NULL, 0, values, room, count, &cycled);
+    return key_index_neighbour_of(index, KEY_INDEX_LAST, NULL, 0, values, room, count, &cycled);
 }
 
 /* Immutable indices
@@ -331,7 +345,7 @@ static inline key_index_status key_index_last(key_index *index, uint64_t *values
 static inline key_index_status key_index_new_immutable_of(key_index_immutable *index, uint32_t kind, uint64_t seed, uint64_t start,
                                                           size_t capacity) {
     uint32_t status;
-    if (index == NULL || index->index.at != NULL) return KEY_INDEX_BAD_ARGUMENT;
+    if (index == NULL || !key_index_is_none(&index->index)) return KEY_INDEX_BAD_ARGUMENT;
     status = key_index_c_new_immutable(&index->index, kind, seed, start, capacity);
     if (status != KEY_INDEX_OK) index->index.at = NULL;
     return (key_index_status)status;

@@ -1,22 +1,48 @@
-//! Links the static library that `./build library` made at the top of the repository.
+//! Finds the static library: in the folder that `KEY_INDEX_LIB` names, in `lib` here, where a release has it, or in `lib` at the top of the
+//! repository, where it is compiled without a proof if it is not there. Only linking needs it.
 
 use std::env;
+use std::fs;
 use std::path::PathBuf;
+use std::process::{exit, Command};
 
 fn main() {
+    let set = |name: &str| env::var(name).unwrap_or_default();
+    let part = |name: &str| set(&format!("CARGO_CFG_TARGET_{name}"));
+    if ["ARCH", "OS", "ENV", "POINTER_WIDTH"].map(part) != ["x86_64", "linux", "gnu", "64"] {
+        eprintln!(
+            "key-index has no library for {}, only for x86_64-unknown-linux-gnu",
+            set("TARGET")
+        );
+        exit(1);
+    }
     println!("cargo:rerun-if-env-changed=KEY_INDEX_LIB");
-    let folder = env::var_os("KEY_INDEX_LIB").map_or_else(
-        || PathBuf::from(env::var_os("CARGO_MANIFEST_DIR").unwrap()).join("../../lib"),
-        PathBuf::from,
-    );
+    let package = PathBuf::from(env::var_os("CARGO_MANIFEST_DIR").unwrap());
+    let named = env::var_os("KEY_INDEX_LIB").map(PathBuf::from);
+    let packed = Some(package.join("lib")).filter(|folder| folder.is_dir());
+    let given = named.or(packed);
+    let folder = given.clone().unwrap_or_else(|| package.join("../../lib"));
     let library = folder.join("libkey_index.a");
+    let script = package.join("../../.ci/library");
+    if given.is_none() && !library.is_file() && script.is_file() {
+        let made = Command::new(script).arg(&folder).arg("--unproved").output();
+        let said = made.map_or_else(
+            |error| error.to_string(),
+            |made| String::from_utf8_lossy(&made.stderr).into(),
+        );
+        if let Some(why) = said.lines().last() {
+            println!("cargo:warning={why}");
+        }
+    }
     println!("cargo:rerun-if-changed={}", library.display());
     if !library.is_file() {
-        eprintln!(
-            "{} is not there: run `./build library` at the top of the repository, or set KEY_INDEX_LIB to the folder that has it",
+        println!(
+            "cargo:warning={} is not there, so nothing links: with the toolchain's command rt on the path, `./build library --unproved` at \
+             the top of the repository makes it; KEY_INDEX_LIB names another folder",
             library.display()
         );
-        std::process::exit(1);
+    } else if fs::read(folder.join("library.txt")).is_ok_and(|said| said.starts_with(b"unproved")) {
+        println!("cargo:warning=the library is unproved: `./build library` at the top of the repository makes the proved one");
     }
     println!("cargo:rustc-link-search=native={}", folder.display());
     println!("cargo:rustc-link-lib=static=key_index");

@@ -1,6 +1,6 @@
 /* Refuses each allocation in turn, linked with --wrap for malloc, realloc and free. Behind each call the index has to hold what a list
  * beside it does: a refused insertion answers KEY_INDEX_MEMORY and changes nothing. At the end no block may be left, and a free has to
- * free at least one. */
+ * free at least one. The names by which the library allocates are this program's too, which it never calls. */
 #include "key_index.h"
 
 #include <stdio.h>
@@ -31,6 +31,10 @@ void __wrap_free(void *block) {
     blocks -= block != NULL;
     __real_free(block);
 }
+
+void rattle_alloc(void) { abort(); }
+void rattle_realloc(void) { abort(); }
+void rattle_dealloc(void) { abort(); }
 
 #define CHECK(what) \
     do { \

@@ -78,6 +78,9 @@ type Key = *const u8;
 // Each pointer but a handle's goes with the length behind it. A line each, as in the header.
 #[rustfmt::skip]
 extern "C" {
+    /// The version of the library: one of another doesn't link.
+    #[link_name = "key_index_c_version_0_1_0"]
+    pub static VERSION: u8;
     pub fn key_index_c_new(at: At, kind: u32, seed: u64) -> u32;
     pub fn key_index_c_new_immutable(at: At, kind: u32, seed: u64, start: u64, capacity: usize) -> u32;
     pub fn key_index_c_free(at: At);

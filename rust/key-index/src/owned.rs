@@ -15,6 +15,8 @@ pub(crate) struct Owned {
 impl Owned {
     /// The index that a call puts into a fresh handle, if it tells that it did.
     pub(crate) fn made(call: impl FnOnce(*mut Handle) -> u32) -> Result<Owned, Error> {
+        // SAFETY: the library never writes there. It is read so that only the library of this version links.
+        assert!(unsafe { ffi::VERSION } != 0);
         let mut handle = Handle { at: null_mut() };
         answer(call(&mut handle))?;
         Ok(Owned {
