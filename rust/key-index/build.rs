@@ -24,21 +24,20 @@ fn main() {
     let folder = given.clone().unwrap_or_else(|| package.join("../../lib"));
     let library = folder.join("libkey_index.a");
     let script = package.join("../../.ci/library");
+    let mut why = String::new();
     if given.is_none() && !library.is_file() && script.is_file() {
         let made = Command::new(script).arg(&folder).arg("--unproved").output();
         let said = made.map_or_else(
             |error| error.to_string(),
             |made| String::from_utf8_lossy(&made.stderr).into(),
         );
-        if let Some(why) = said.lines().last() {
-            println!("cargo:warning={why}");
-        }
+        why = said.lines().last().map_or(why, |line| format!(" ({line})"));
     }
     println!("cargo:rerun-if-changed={}", library.display());
     if !library.is_file() {
         println!(
-            "cargo:warning={} is not there, so nothing links: with the toolchain's command rt on the path, `./build library --unproved` at \
-             the top of the repository makes it; KEY_INDEX_LIB names another folder",
+            "cargo:warning={} is not there{why}, so nothing links: where the toolchain's command rt is on the path, `./build library \
+             --unproved` at the top of the repository makes it; KEY_INDEX_LIB names another folder",
             library.display()
         );
     } else if fs::read(folder.join("library.txt")).is_ok_and(|said| said.starts_with(b"unproved")) {
