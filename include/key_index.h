@@ -42,13 +42,13 @@
 #ifndef KEY_INDEX_H
 #define KEY_INDEX_H
 
+#if !defined(__x86_64__) || !defined(__LP64__) || !defined(__linux__)
+#error "key_index is for x86-64 Linux with a size_t of 64 bits"
+#endif
+
 #include <stdbool.h>
 #include <stddef.h>
 #include <stdint.h>
-
-#if !defined(__x86_64__) || !defined(__linux__) || SIZE_MAX != UINT64_MAX
-#error "key_index is for x86-64 Linux with a size_t of 64 bits"
-#endif
 
 #define KEY_INDEX_VERSION "0.1.0"
 #define KEY_INDEX_VERSION_NUMBER 100 /* 10000 for each major version, 100 for each minor one */
