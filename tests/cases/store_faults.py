@@ -38,6 +38,9 @@ CALLS = {
     "unlink": [],
 }
 
+# Calls that a session makes so often that the kinds with an order share them out.
+SHARED = ("pread", "pwrite", "fsync")
+
 # What a refusal may say where a call of the system fails.
 REASON = re.compile("refused (read|write|sync|open|busy)")
 
@@ -198,12 +201,14 @@ THREE = file_of(record(b"a", b"0"), record(b"b", b"2"), record(b"a", b"1"), reco
 
 def each_fails(file, kind, name):
     """Each call of a name fails in each way, alone and with those behind it. How many sessions that were."""
-    sessions = 0
+    sessions, first, step = 0, 1, 1
+    if name in SHARED and kind in IN_ORDER:
+        first, step = 1 + IN_ORDER.index(kind), len(IN_ORDER)
     starts = [(THREE, []), (None, ["--durable"]), (THREE + record(b"d", b"torn")[:-1], [])]
     for log, flags in starts[: 2 if name == "pread" else 3]:
         for how in ["none", *CALLS[name]]:
             for is_all in ({}, {"FAIL_ALL": 1}) if how != "short" else ({},):
-                for number in count(1):
+                for number in count(first, step):
                     fault = {"FAIL": name, "FAIL_AT": number, "FAIL_HOW": how, **is_all}
                     failed, session, place = fails(file, kind, log, flags, **fault)
                     if not failed:
