@@ -15,9 +15,9 @@
  *     key_index_get(&index, "apple", 5, positions, 4, &count);      count is 1, positions[0] is 17
  *     key_index_free(&index);
  *
- * Link libkey_index.a, which `./build library` makes, for x86-64 Linux and processors since x86-64-v2. It uses the program's malloc, realloc
- * and free, and no other library. A program that was compiled with a header of another version does not link: the library of this one
- * exports key_index_c_version_0_1_0.
+ * Link libkey_index.a, which `./build library` makes. It is for x86-64 Linux and processors of x86-64-v2, as all are since 2013, and uses
+ * the program's malloc, realloc and free, and no other library. Header and library are of one version: the header refers to a name that
+ * the library of its version alone exports, such as key_index_c_version_0_1_0.
  *
  * WHAT A CALLER OWES
  *
@@ -142,7 +142,7 @@ size_t key_index_c_positions(key_index *index, const uint8_t *key, size_t key_le
 bool key_index_c_is_indexed(key_index *index, uint64_t position);
 void key_index_c_prune(key_index *index, uint64_t start);
 struct key_index_position_counts key_index_c_position_counts(key_index *index);
-extern const uint8_t key_index_c_version_0_1_0;
+extern const uint8_t key_index_c_version_0_1_0; /* 1 */
 
 /* Whether an index can be made there. This needs the library of this version. */
 static inline bool key_index_is_none(const key_index *index) {

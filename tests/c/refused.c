@@ -11,6 +11,10 @@ void *__real_malloc(size_t size);
 void *__real_realloc(void *old, size_t size);
 void __real_free(void *block);
 
+/* Each so many-th allocation is refused. */
+#ifndef STEP
+#define STEP 1
+#endif
 static long blocks, allocations, refused;
 
 static bool refuses(void) { return ++allocations == refused; }
@@ -217,19 +221,19 @@ static bool immutable_session(bool seeded) {
 int main(void) {
     int kind;
     for (kind = KEY_INDEX_UNORDERED; kind <= KEY_INDEX_ORDERED_BY_TWO; kind++) {
-        for (refused = 1;; refused++) {
+        for (refused = 1;; refused += STEP) {
             allocations = 0;
             if (!session((key_index_kind)kind)) break;
         }
         if (refused < 10) return 1;
-        for (refused = 1;; refused++) {
+        for (refused = 1;; refused += STEP) {
             allocations = 0;
             if (!build((key_index_kind)kind)) break;
         }
         if (refused < 10) return 1;
     }
     for (kind = 0; kind < 2; kind++) {
-        for (refused = 1;; refused++) {
+        for (refused = 1;; refused += STEP) {
             allocations = 0;
             if (!immutable_session(kind == 1)) break;
         }
