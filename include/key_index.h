@@ -15,9 +15,9 @@
  *     key_index_get(&index, "apple", 5, positions, 4, &count);      count is 1, positions[0] is 17
  *     key_index_free(&index);
  *
- * Link libkey_index.a, which `./build library` makes. It is for x86-64 Linux and processors of x86-64-v2, as all are since 2013, and uses
- * the program's malloc, realloc and free, and no other library. Header and library are of one version: the header refers to a name that
- * the library of its version alone exports, such as key_index_c_version_0_1_0.
+ * Link libkey_index.a, which `./build library` makes. It is for x86-64 Linux and processors of x86-64-v2, and uses the program's malloc,
+ * realloc and free, and no other library. Header and library are of one version: the header refers to a name that the library of its
+ * version alone exports, such as key_index_c_version_0_1_0.
  *
  * WHAT A CALLER OWES
  *
