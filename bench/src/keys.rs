@@ -1,6 +1,7 @@
 //! Keys of 32 bytes, made by George Marsaglia's xorshift.
 ghost use Rattle.std.specs.Prelude.{IsPermutation};
 
+use key_index_flat::index::Fault;
 use std::alloc::Global;
 
 /// The present keys start here.
@@ -28,9 +29,10 @@ pub(crate) enum Order {
     Inserted,
 }
 
-/// The keys of a run.
+/// The keys of a run, and the allocator of what is measured over them.
 #[derive(Drop)]
 pub(crate) struct Sample {
+    pub(crate) alloc: Global,
     /// Those that are inserted, in this order.
     pub(crate) present: Vec<[u8; 32]>,
     /// The same, in the order in which they are used then.
@@ -39,25 +41,36 @@ pub(crate) struct Sample {
 }
 
 impl Sample {
-    /// So many present and absent keys. `None` where there is no memory for them.
-    pub(crate) fn new(alloc: Global, count: usize, order: Order) -> Option<Sample> {
+    /// So many present and absent keys.
+    pub(crate) fn new(alloc: Global, count: usize, order: Order) -> Result<Sample, Fault> {
         let present = keys(alloc, count, PRESENT)?;
-        let mut later = present.clone().ok()?;
+        let mut later = present.clone()?;
         if let Order::Shuffled = order {
             shuffle(&mut later);
         }
         let absent = keys(alloc, count, ABSENT)?;
-        Some(Sample {
+        Ok(Sample {
+            alloc,
             present,
             later,
             absent,
         })
     }
+
+    /// The first tenth of those that are used.
+    pub(crate) fn few(&self) -> &[[u8; 32]] {
+        &self.later[..self.later.len() / 10]
+    }
+
+    /// The first half of those that are used.
+    pub(crate) fn half(&self) -> &[[u8; 32]] {
+        &self.later[..self.later.len() / 2]
+    }
 }
 
-/// So many keys, each of four words, the low byte of a word first. `None` where there is no memory for them.
-fn keys(alloc: Global, count: usize, start: u64) -> Option<Vec<[u8; 32]>> {
-    let mut keys = Vec::with_capacity(alloc, count).ok()?;
+/// So many keys, each of four words, the low byte of a word first.
+fn keys(alloc: Global, count: usize, start: u64) -> Result<Vec<[u8; 32]>, Fault> {
+    let mut keys = Vec::with_capacity(alloc, count)?;
     let mut word = start;
     for _ in 0..count {
         let mut key = [0; 32];
@@ -67,9 +80,9 @@ fn keys(alloc: Global, count: usize, start: u64) -> Option<Vec<[u8; 32]>> {
             }
             key[place] = word.to_le_bytes()[place % 8];
         }
-        keys.push(key).ok()?;
+        keys.push(key)?;
     }
-    Some(keys)
+    Ok(keys)
 }
 
 /// Puts keys in a random order, by Fisher and Yates.
@@ -81,4 +94,21 @@ fn shuffle(keys: &mut [[u8; 32]])
         word = step(word);
         keys.swap(last, (word % (last as u64 + 1)) as usize);
     }
+}
+
+/// What a closure makes of each key, which it then owns, and of the key's place, from 0.
+pub(crate) fn numbered<T: Drop, F: FnMut(Vec<u8>, u64) -> T>(
+    alloc: Global,
+    keys: &[[u8; 32]],
+    mut make: F,
+) -> Result<Vec<T>, Fault>
+    requires { F.IsAlwaysCallable make }
+{
+    let mut made = Vec::with_capacity(alloc, keys.len())?;
+    let mut place = 0u64;
+    for key in keys {
+        made.push(make(key.to_vec(alloc)?, place))?;
+        place = place.wrapping_add(1);
+    }
+    Ok(made)
 }

@@ -1,22 +1,18 @@
 //! The operations of the immutable index.
-ghost use Rattle.std.specs.Prelude.{◌≡◌, ◌+◌};
+ghost use Rattle.std.specs.Prelude.{◌≡◌};
 ghost use Rattle.key_index.specs.Immutable.{end_of};
 
-use crate::flat::Failure;
-use crate::report::Meter;
+use crate::keys::Sample;
+use crate::report::{Meter, Outcome, each, timed};
 use key_index::index::immutable::Index;
 use key_index_flat::index::Fault;
-use key_index_flat::translator::Translator;
+use key_index_flat::translator::EightCap;
 
-/// Indexes the keys at the positions from the end on, and tells the end then.
-fn insert_all<T: Translator>(
-    index: &mut Index<T>,
-    end: u64,
-    keys: &[[u8; 32]],
-) -> Result<u64, Fault>
-    requires { end_of index.old ≡ end }
+/// Indexes key i at position i.
+fn insert_all(index: &mut Index<EightCap>, keys: &[[u8; 32]]) -> Result<u64, Fault>
+    requires { end_of index.old ≡ 0 }
 {
-    let mut position = end;
+    let mut position = 0u64;
     for key in keys {
         let Some(next) = position.checked_add(1) else {
             return Err(Fault::TooFar);
@@ -24,53 +20,46 @@ fn insert_all<T: Translator>(
         index.insert(key, position)?;
         position = next;
     }
-    Ok(position)
+    Ok(0)
 }
 
-/// Indexes key i at position i.
-pub(crate) fn insert<T: Translator, M: Meter>(
-    index: &mut Index<T>,
-    keys: &[[u8; 32]],
-    report: &mut M,
-) -> Result<(), Failure>
-    requires { end_of index.old ≡ 0 }
-{
-    let start = report.start()?;
-    if let Err(fault) = insert_all(index, 0, keys) {
-        return Err(Failure::Refused(fault));
-    }
-    report.line("insert", keys.len(), start, 0)?;
-    Ok(())
-}
-
-/// The positions of each key.
-pub(crate) fn get<T: Translator, M: Meter>(
-    index: &Index<T>,
+/// Measures the positions of each key.
+fn get<M: Meter>(
+    index: &Index<EightCap>,
     name: &str,
     keys: &[[u8; 32]],
     report: &mut M,
-) -> Result<(), Failure> {
-    let start = report.start()?;
-    let mut sum = 0u64;
-    for key in keys {
+) -> Outcome {
+    each(report, name, keys, |_, key| {
+        let mut sum = 0u64;
         for position in index.get(key) {
             sum = sum.wrapping_add(position);
         }
-    }
-    report.line(name, keys.len(), start, sum)?;
-    Ok(())
+        Ok(sum)
+    })
 }
 
-/// Prunes up to a position, one position at a time.
-pub(crate) fn prune<T: Translator, M: Meter>(
-    index: &mut Index<T>,
-    count: usize,
-    report: &mut M,
-) -> Result<(), Failure> {
-    let start = report.start()?;
+/// Prunes so many positions, one at a time.
+fn prune_each(index: &mut Index<EightCap>, count: usize) {
     for position in 0..count {
         index.prune(position as u64 + 1);
     }
-    report.line("prune", count, start, 0)?;
-    Ok(())
+}
+
+/// Measures the immutable index.
+pub(crate) fn run<M: Meter>(keys: &Sample, report: &mut M) -> Outcome {
+    let start = report.start()?;
+    let mut index = Index::new(keys.alloc, EightCap, 0, 0)?;
+    report.line("new", 1, start, 0)?;
+    let present = &keys.present;
+    timed(report, "insert", present.len(), || {
+        insert_all(&mut index, present)
+    })?;
+    get(&index, "get", &keys.later, report)?;
+    get(&index, "miss", &keys.absent, report)?;
+    let half = keys.half().len();
+    timed(report, "prune", half, || {
+        prune_each(&mut index, half);
+        Ok(0)
+    })
 }
