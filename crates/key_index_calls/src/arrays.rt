@@ -1,9 +1,10 @@
 //! The arrays of a partition, by themselves.
 use crate::answer::Answer;
-use crate::line::{Line, Name, Stop};
+use crate::line::{Line, Stop};
 use crate::serve::{Request, Session};
 use key_index_flat::index::{Refused, Values};
 use key_index_parts::index::partitioned::ordered::partition::Partition;
+use std::alloc::Global;
 use std::mem::size_of;
 
 /// Pairs of a key and a value.
@@ -12,7 +13,15 @@ type Pairs = Partition<u16, u64>;
 /// Sorted arrays.
 #[derive(Drop)]
 pub(crate) struct Arrays {
-    pub(crate) pairs: Pairs,
+    pairs: Pairs,
+}
+
+impl Arrays {
+    pub(crate) fn new(alloc: Global) -> Arrays {
+        Arrays {
+            pairs: Partition::new(alloc),
+        }
+    }
 }
 
 /// The key that a line names.
@@ -36,11 +45,11 @@ fn clear(pairs: &mut Pairs, key: u16, answer: &mut Answer) {
 /// The calls that change a run, or look for it.
 fn by_key(pairs: &mut Pairs, line: &Line, answer: &mut Answer) -> bool {
     let (key, value) = (key_of(line), line.number(1));
-    match line.name {
-        Name::Insert => answer.given(add(pairs, key, value), value),
-        Name::Remove => clear(pairs, key, answer),
-        Name::Get => answer.values(Values::of_slice(pairs.values(&key))),
-        Name::Len => tell_places(&*pairs, key, answer),
+    match line.name() {
+        "insert" => answer.given(add(pairs, key, value), value),
+        "remove" => clear(pairs, key, answer),
+        "get" => answer.values(Values::of_slice(pairs.values(&key))),
+        "len" => tell_places(&*pairs, key, answer),
         _ => return false,
     }
     true
@@ -64,11 +73,11 @@ fn tell_run(values: Option<&[u64]>, answer: &mut Answer) {
 /// The calls that ask for the order of the keys.
 fn in_order(pairs: &Pairs, line: &Line, answer: &mut Answer) -> bool {
     let key = key_of(line);
-    match line.name {
-        Name::Next => tell_run(pairs.next_values_after(&key), answer),
-        Name::Prev => tell_run(pairs.prev_values_before(&key), answer),
-        Name::First => tell_run(pairs.first_values(), answer),
-        Name::Last => tell_run(pairs.last_values(), answer),
+    match line.name() {
+        "next" => tell_run(pairs.next_values_after(&key), answer),
+        "prev" => tell_run(pairs.prev_values_before(&key), answer),
+        "first" => tell_run(pairs.first_values(), answer),
+        "last" => tell_run(pairs.last_values(), answer),
         _ => return false,
     }
     true
@@ -106,10 +115,10 @@ fn take(pairs: &mut Pairs, place: usize, answer: &mut Answer) {
 /// The calls at a place.
 fn by_place(pairs: &mut Pairs, line: &Line, answer: &mut Answer) -> bool {
     let place = line.count(0);
-    match line.name {
-        Name::At => tell_pair(&*pairs, place, answer),
-        Name::SetAt => set(pairs, place, line.number(1), answer),
-        Name::RemoveAt => take(pairs, place, answer),
+    match line.name() {
+        "at" => tell_pair(&*pairs, place, answer),
+        "set_at" => set(pairs, place, line.number(1), answer),
+        "remove_at" => take(pairs, place, answer),
         _ => return false,
     }
     true
@@ -140,13 +149,13 @@ fn drain(pairs: &mut Pairs, answer: &mut Answer) {
 
 /// The calls of the whole arrays.
 fn of_whole(pairs: &mut Pairs, line: &Line, answer: &mut Answer) -> bool {
-    match line.name {
-        Name::Many => tell_all(&*pairs, answer),
-        Name::Counts => answer.count(pairs.len()),
-        Name::Room => answer.count(pairs.room()),
-        Name::Reserve => answer.made(pairs.reserve(line.count(0))),
-        Name::Drain => drain(pairs, answer),
-        Name::Size => answer.count(size_of::<Pairs>()),
+    match line.name() {
+        "many" => tell_all(&*pairs, answer),
+        "counts" => answer.count(pairs.len()),
+        "room" => answer.count(pairs.room()),
+        "reserve" => answer.made(pairs.reserve(line.count(0))),
+        "drain" => drain(pairs, answer),
+        "size" => answer.count(size_of::<Pairs>()),
         _ => return false,
     }
     true

@@ -1,27 +1,25 @@
 //! The calls that every index has.
+ghost use Rattle.key_index_flat.specs.View.{Admits};
+
 use crate::answer::Answer;
 use crate::cursors::{edit, edit_at, edit_or_insert};
-use crate::line::{Line, Name};
-use key_index_flat::index::{Cursor, Runs, Unordered};
+use crate::line::Line;
+use key_index_flat::index::{Cursor, Runs, Search, Unordered};
 use key_index_uses::callers::{add, replace, replace_first, update};
 
-/// `retain`, with what it asks on.
+/// `retain`, or `insert_and_retain`, with what it asks on.
 fn retain<I: Unordered<Value = u64>>(index: &mut I, line: &Line, answer: &mut Answer) {
-    let mut answers = line.number(0);
-    let made = index.retain(line.key(0), |value: &u64| answer.ask(*value, &mut answers));
-    answer.made(made);
-}
-
-/// `insert_and_retain`, with what it asks on.
-fn insert_and_retain<I: Unordered<Value = u64>>(index: &mut I, line: &Line, answer: &mut Answer) {
-    let value = line.number(0);
-    let mut answers = line.number(1);
-    let given = index.insert_and_retain(
-        line.key(0),
-        value,
-        |value: &u64| answer.ask(*value, &mut answers),
-    );
-    answer.given(given, value);
+    let (key, value) = (line.key(0), line.number(0));
+    let inserts = line.name() == "insert_and_retain";
+    let mut answers = if inserts { line.number(1) } else { value };
+    let should_retain = |value: &u64| answer.ask(*value, &mut answers);
+    if inserts {
+        let given = index.insert_and_retain(key, value, should_retain);
+        answer.given(given, value);
+    } else {
+        let made = index.retain(key, should_retain);
+        answer.made(made);
+    }
 }
 
 /// `get_many`, with what it visits.
@@ -37,13 +35,12 @@ fn visit<I: Unordered<Value = u64>>(index: &I, line: &Line, answer: &mut Answer)
 fn by_key<I: Unordered<Value = u64>>(index: &mut I, line: &Line, answer: &mut Answer) -> bool {
     let key = line.key(0);
     let value = line.number(0);
-    match line.name {
-        Name::Insert => answer.given(index.insert(key, value), value),
-        Name::Remove => answer.made(index.remove(key)),
-        Name::Get => answer.values(index.get(key)),
-        Name::Retain => retain(index, line, answer),
-        Name::InsertAndRetain => insert_and_retain(index, line, answer),
-        Name::Many => visit(index, line, answer),
+    match line.name() {
+        "insert" => answer.given(index.insert(key, value), value),
+        "remove" => answer.made(index.remove(key)),
+        "get" => answer.values(index.get(key)),
+        "retain" | "insert_and_retain" => retain(index, line, answer),
+        "many" => visit(index, line, answer),
         _ => return false,
     }
     true
@@ -58,11 +55,11 @@ fn counts<I: Unordered<Value = u64>>(index: &I, answer: &mut Answer) {
 
 /// The calls that tell of the whole index.
 fn of_whole<I: Unordered<Value = u64>>(index: &I, line: &Line, answer: &mut Answer) -> bool {
-    match line.name {
-        Name::Counts => counts(index, answer),
-        Name::Empty => answer.flag(index.is_empty()),
-        Name::InsertsFirst => answer.flag(I::INSERT_FIRST),
-        Name::SameSlot => {
+    match line.name() {
+        "counts" => counts(index, answer),
+        "empty" => answer.flag(index.is_empty()),
+        "inserts_first" => answer.flag(I::INSERT_FIRST),
+        "same_slot" => {
             answer.flag(index.slot_of(line.key(0)) == index.slot_of(line.key(1)));
         }
         _ => return false,
@@ -71,7 +68,9 @@ fn of_whole<I: Unordered<Value = u64>>(index: &I, line: &Line, answer: &mut Answ
 }
 
 /// `reach`, and whether it tells the index key of the key.
-fn reach<I: Unordered<Value = u64>>(index: &mut I, key: &[u8], answer: &mut Answer) {
+fn reach<I: Search<Value = u64>>(index: &mut I, key: &[u8], answer: &mut Answer)
+    requires { Admits (I.view index.old) key.now }
+{
     let slot = index.slot_of(key);
     match index.reach(key) {
         Ok((reached, len)) => tell_reached(reached == slot, len, answer),
@@ -80,12 +79,14 @@ fn reach<I: Unordered<Value = u64>>(index: &mut I, key: &[u8], answer: &mut Answ
 }
 
 /// `reach_or_insert`, the same.
-fn reach_or_insert<I: Unordered<Value = u64>>(
+fn reach_or_insert<I: Search<Value = u64>>(
     index: &mut I,
     key: &[u8],
     value: u64,
     answer: &mut Answer,
-) {
+)
+    requires { Admits (I.view index.old) key.now }
+{
     let slot = index.slot_of(key);
     match index.reach_or_insert(key, value) {
         Ok((reached, len)) => tell_reached(reached == slot, len, answer),
@@ -101,7 +102,9 @@ fn tell_reached(is_slot: bool, len: usize, answer: &mut Answer) {
 }
 
 /// `search`.
-fn search<I: Unordered<Value = u64>>(index: &mut I, key: &[u8], answer: &mut Answer) {
+fn search<I: Search<Value = u64>>(index: &mut I, key: &[u8], answer: &mut Answer)
+    requires { Admits (I.view index.old) key.now }
+{
     match index.search(key) {
         Ok(cursor) => answer.state(cursor.state()),
         Err(None) => answer.word("none"),
@@ -110,12 +113,14 @@ fn search<I: Unordered<Value = u64>>(index: &mut I, key: &[u8], answer: &mut Ans
 }
 
 /// `search_or_insert`.
-fn search_or_insert<I: Unordered<Value = u64>>(
+fn search_or_insert<I: Search<Value = u64>>(
     index: &mut I,
     key: &[u8],
     value: u64,
     answer: &mut Answer,
-) {
+)
+    requires { Admits (I.view index.old) key.now }
+{
     match index.search_or_insert(key, value) {
         Ok(cursor) => answer.state(cursor.state()),
         Err(None) => answer.word("inserted"),
@@ -124,24 +129,30 @@ fn search_or_insert<I: Unordered<Value = u64>>(
 }
 
 /// The calls by key that look for a cursor, or for its list.
-fn by_search<I: Unordered<Value = u64>>(index: &mut I, line: &Line, answer: &mut Answer) -> bool {
-    let key = line.key(0);
+pub(crate) fn by_search<I: Search<Value = u64>>(
+    index: &mut I,
+    key: &[u8],
+    line: &Line,
+    answer: &mut Answer,
+) -> bool
+    requires { Admits (I.view index.old) key.now }
+{
     let value = line.number(0);
-    match line.name {
-        Name::Edit => edit(index, key, line, answer),
-        Name::EditOrInsert => edit_or_insert(index, key, value, line, answer),
-        Name::Reach => reach(index, key, answer),
-        Name::ReachOrInsert => reach_or_insert(index, key, value, answer),
-        Name::Search => search(index, key, answer),
-        Name::SearchOrInsert => search_or_insert(index, key, value, answer),
+    match line.name() {
+        "edit" => edit(index, key, line, answer),
+        "edit_or_insert" => edit_or_insert(index, key, value, line, answer),
+        "reach" => reach(index, key, answer),
+        "reach_or_insert" => reach_or_insert(index, key, value, answer),
+        "search" => search(index, key, answer),
+        "search_or_insert" => search_or_insert(index, key, value, answer),
         _ => return false,
     }
     true
 }
 
 /// The value at a place that has one.
-fn value_at<I: Unordered<Value = u64>>(index: &I, line: &Line, answer: &mut Answer) {
-    let (slot, place) = (index.slot_of(line.key(0)), line.count(0));
+fn value_at<I: Runs<Value = u64>>(index: &I, key: &[u8], place: usize, answer: &mut Answer) {
+    let slot = index.slot_of(key);
     if place < index.run_len(slot) {
         answer.number(*index.value_at(slot, place));
     } else {
@@ -150,8 +161,8 @@ fn value_at<I: Unordered<Value = u64>>(index: &I, line: &Line, answer: &mut Answ
 }
 
 /// `set_at` of a place that has a value.
-fn set_at<I: Unordered<Value = u64>>(index: &mut I, line: &Line, answer: &mut Answer) {
-    let (slot, place) = (index.slot_of(line.key(0)), line.count(1));
+fn set_at<I: Runs<Value = u64>>(index: &mut I, key: &[u8], line: &Line, answer: &mut Answer) {
+    let (slot, place) = (index.slot_of(key), line.count(1));
     if place < index.run_len(slot) {
         index.set_at(slot, place, line.number(0));
         answer.word("ok");
@@ -161,14 +172,8 @@ fn set_at<I: Unordered<Value = u64>>(index: &mut I, line: &Line, answer: &mut An
 }
 
 /// `insert_at` of a place up to the end.
-pub(crate) fn insert_at<I: Runs<Value = u64>>(
-    index: &mut I,
-    key: &[u8],
-    value: u64,
-    place: usize,
-    answer: &mut Answer,
-) {
-    let slot = index.slot_of(key);
+fn insert_at<I: Runs<Value = u64>>(index: &mut I, key: &[u8], line: &Line, answer: &mut Answer) {
+    let (slot, value, place) = (index.slot_of(key), line.number(0), line.count(1));
     if index.admits(slot) && place <= index.run_len(slot) {
         answer.given(index.insert_at(slot, place, value), value);
     } else {
@@ -177,8 +182,8 @@ pub(crate) fn insert_at<I: Runs<Value = u64>>(
 }
 
 /// `remove_at` of a place that has a value.
-fn remove_at<I: Unordered<Value = u64>>(index: &mut I, line: &Line, answer: &mut Answer) {
-    let (slot, place) = (index.slot_of(line.key(0)), line.count(0));
+fn remove_at<I: Runs<Value = u64>>(index: &mut I, key: &[u8], place: usize, answer: &mut Answer) {
+    let slot = index.slot_of(key);
     if place < index.run_len(slot) {
         answer.number(index.remove_at(slot, place));
     } else {
@@ -187,14 +192,19 @@ fn remove_at<I: Unordered<Value = u64>>(index: &mut I, line: &Line, answer: &mut
 }
 
 /// The calls by index key and place.
-fn by_place<I: Unordered<Value = u64>>(index: &mut I, line: &Line, answer: &mut Answer) -> bool {
-    match line.name {
-        Name::Len => answer.count(index.run_len(index.slot_of(line.key(0)))),
-        Name::At => value_at(index, line, answer),
-        Name::SetAt => set_at(index, line, answer),
-        Name::InsertAt => insert_at(index, line.key(0), line.number(0), line.count(1), answer),
-        Name::RemoveAt => remove_at(index, line, answer),
-        Name::EditAt => edit_at(index, line.key(0), line, answer),
+pub(crate) fn by_place<I: Runs<Value = u64>>(
+    index: &mut I,
+    key: &[u8],
+    line: &Line,
+    answer: &mut Answer,
+) -> bool {
+    match line.name() {
+        "len" => answer.count(index.run_len(index.slot_of(key))),
+        "at" => value_at(&*index, key, line.count(0), answer),
+        "set_at" => set_at(index, key, line, answer),
+        "insert_at" => insert_at(index, key, line, answer),
+        "remove_at" => remove_at(index, key, line.count(0), answer),
+        "edit_at" => edit_at(index, key, line, answer),
         _ => return false,
     }
     true
@@ -225,25 +235,26 @@ fn add_value<I: Unordered<Value = u64>>(index: &mut I, line: &Line, answer: &mut
 /// The proved callers.
 fn by_callers<I: Unordered<Value = u64>>(index: &mut I, line: &Line, answer: &mut Answer) -> bool {
     let value = line.number(0);
-    match line.name {
-        Name::Add => add_value(index, line, answer),
-        Name::Replace => answer.made(replace(index, line.key(0), value)),
-        Name::ReplaceFirst => answer.told(replace_first(index, line.key(0), value)),
-        Name::Update => update_value(index, line, answer),
+    match line.name() {
+        "add" => add_value(index, line, answer),
+        "replace" => answer.made(replace(index, line.key(0), value)),
+        "replace_first" => answer.told(replace_first(index, line.key(0), value)),
+        "update" => update_value(index, line, answer),
         _ => return false,
     }
     true
 }
 
-/// Any of these. Tells whether the line is one of them.
+/// Any of these, which are made by a key. Tells whether the line is one of them.
 pub(crate) fn call<I: Unordered<Value = u64>>(
     index: &mut I,
+    key: &[u8],
     line: &Line,
     answer: &mut Answer,
 ) -> bool {
     by_key(index, line, answer)
         || of_whole(index, line, answer)
-        || by_search(index, line, answer)
-        || by_place(index, line, answer)
+        || by_search(index, key, line, answer)
+        || by_place(index, key, line, answer)
         || by_callers(index, line, answer)
 }

@@ -1,6 +1,6 @@
 //! Lists of commands.
 use crate::answer::Answer;
-use crate::line::{Line, Move, Name};
+use crate::line::{Line, Move, Stop};
 use crate::serve::Request;
 use key_index_flat::index::{Command, Outcome, Step, Unordered, run};
 use std::alloc::{AllocError, Global};
@@ -18,10 +18,9 @@ enum Keeps {
 impl Keeps {
     /// What the last two numbers of a line say.
     fn of(line: &Line) -> Keeps {
-        let place = if line.name == Name::InsertAndRetain {
-            1
-        } else {
-            0
+        let place = match line.name() {
+            "insert_and_retain" => 1,
+            _ => 0,
         };
         let limit = line.number(place + 1);
         match line.number(place) {
@@ -57,16 +56,17 @@ pub(crate) fn steps(alloc: Global, line: &Line) -> Result<Vec<Step<u64>>, AllocE
 }
 
 /// The command of a line, with the test of its values.
-fn command<F: Drop>(alloc: Global, line: &Line, test: F) -> Result<Command<u64, F>, AllocError> {
+fn command<F: Drop>(alloc: Global, line: &Line, test: F) -> Result<Command<u64, F>, Stop> {
     let value = line.number(0);
     let key = line.key(0).to_vec(alloc)?;
-    Ok(match line.name {
-        Name::Insert => Command::Insert(key, value),
-        Name::InsertAndRetain => Command::InsertAndRetain(key, value, test),
-        Name::Retain => Command::Retain(key, test),
-        Name::Remove => Command::Remove(key),
-        Name::GetOrInsert => Command::GetOrInsert(key, value),
-        _ => Command::Edit(key, steps(alloc, line)?),
+    Ok(match line.name() {
+        "insert" => Command::Insert(key, value),
+        "insert_and_retain" => Command::InsertAndRetain(key, value, test),
+        "retain" => Command::Retain(key, test),
+        "remove" => Command::Remove(key),
+        "get_or_insert" => Command::GetOrInsert(key, value),
+        "edit" => Command::Edit(key, steps(alloc, line)?),
+        _ => return Err(Stop::BadLine),
     })
 }
 
@@ -109,7 +109,7 @@ fn run_commands<I: Unordered<Value = u64>, F: Fn(&u64) -> bool + Drop>(
 pub(crate) fn run_lines<I: Unordered<Value = u64>>(
     index: &mut I,
     request: &mut Request,
-) -> Result<(), AllocError> {
+) -> Result<(), Stop> {
     let alloc = request.alloc;
     let mut commands = Vec::new(alloc);
     for line in request.kept.iter() {

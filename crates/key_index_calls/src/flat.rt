@@ -2,7 +2,7 @@
 use crate::answer::Answer;
 use crate::calls;
 use crate::commands::run_lines;
-use crate::line::{Line, Name, Stop};
+use crate::line::{Line, Stop};
 use crate::serve::{Request, Session};
 use key_index_flat::index::{Ordered, Unordered};
 
@@ -17,11 +17,12 @@ pub(crate) fn call<I: Unordered<Value = u64>>(
     index: &mut I,
     request: &mut Request,
 ) -> Result<bool, Stop> {
-    if request.line.name == Name::Run {
+    if request.line.name() == "run" {
         run_lines(index, request)?;
         return Ok(true);
     }
-    Ok(calls::call(index, &request.line, &mut request.answer))
+    let (line, answer) = (&request.line, &mut request.answer);
+    Ok(calls::call(index, line.key(0), line, answer))
 }
 
 impl<I: Unordered<Value = u64>> Session for InNoOrder<I> {
@@ -44,11 +45,11 @@ pub(crate) fn call_in_order<I: Ordered<Value = u64>>(
     line: &Line,
     answer: &mut Answer,
 ) -> bool {
-    match line.name {
-        Name::Next => answer.neighbour(index.next_translated_key(line.key(0))),
-        Name::Prev => answer.neighbour(index.prev_translated_key(line.key(0))),
-        Name::First => answer.end(index.first_translated_key()),
-        Name::Last => answer.end(index.last_translated_key()),
+    match line.name() {
+        "next" => answer.neighbour(index.next_translated_key(line.key(0))),
+        "prev" => answer.neighbour(index.prev_translated_key(line.key(0))),
+        "first" => answer.end(index.first_translated_key()),
+        "last" => answer.end(index.last_translated_key()),
         _ => return false,
     }
     true

@@ -2,19 +2,34 @@
 ghost use Rattle.std.specs.Prelude.{◌*◌, ◌^◌, ◌<◌};
 
 use crate::answer::Answer;
-use crate::line::{Line, Name, Stop};
+use crate::line::{Line, Stop};
 use crate::serve::{Request, Session};
 use key_index::index::immutable::{Index, Mark, Marked, Positions, run_marks};
-use key_index_flat::index::Values;
+use key_index_flat::index::{Fault, Values};
 use key_index_flat::translator::{Translator, TwoCap};
 use key_index_uses::segments::SegmentedLog;
-use std::alloc::{AllocError, Global};
+use std::alloc::Global;
 
 /// An immutable index. The memory of earlier answers serves later ones.
 #[derive(Drop)]
 pub(crate) struct Immutable<T: Translator> {
-    pub(crate) index: Index<T>,
-    pub(crate) found: Vec<u64>,
+    index: Index<T>,
+    found: Vec<u64>,
+}
+
+impl<T: Translator> Immutable<T> {
+    /// An index from a position on, with room for so many.
+    pub(crate) fn new(
+        alloc: Global,
+        translator: T,
+        start: usize,
+        capacity: usize,
+    ) -> Result<Immutable<T>, Fault> {
+        Ok(Immutable {
+            index: Index::new(alloc, translator, start as u64, capacity)?,
+            found: Vec::new(alloc),
+        })
+    }
 }
 
 /// Positions, in ascending order.
@@ -70,31 +85,27 @@ fn indexed<T: Translator>(index: &Index<T>, from: u64, count: u64, answer: &mut 
 /// A call of the index. Tells whether the line is one.
 fn call<T: Translator>(session: &mut Immutable<T>, line: &Line, answer: &mut Answer) -> bool {
     let index = &mut session.index;
-    match line.name {
-        Name::Insert => insert(index, line.key(0), line.number(0), answer),
-        Name::Get => tell_positions(index.get(line.key(0)), &mut session.found, answer),
-        Name::Prune => prune(index, line.number(0), answer),
-        Name::Counts => counts(&*index, answer),
-        Name::Indexed => indexed(&*index, line.number(0), line.number(1), answer),
-        Name::Empty => answer.flag(index.is_empty()),
+    match line.name() {
+        "insert" => insert(index, line.key(0), line.number(0), answer),
+        "get" => tell_positions(index.get(line.key(0)), &mut session.found, answer),
+        "prune" => prune(index, line.number(0), answer),
+        "counts" => counts(&*index, answer),
+        "indexed" => indexed(&*index, line.number(0), line.number(1), answer),
+        "empty" => answer.flag(index.is_empty()),
         _ => return false,
     }
     true
 }
 
-/// The mark of a line.
-fn mark(alloc: Global, line: &Line) -> Result<Mark, AllocError> {
-    if line.name == Name::Prune {
-        return Ok(Mark::Prune(line.number(0)));
-    }
-    Ok(Mark::Insert(line.key(0).to_vec(alloc)?, line.number(0)))
-}
-
 /// The marks of lines.
-fn marks(alloc: Global, lines: &[Line]) -> Result<Vec<Mark>, AllocError> {
+fn marks(alloc: Global, lines: &[Line]) -> Result<Vec<Mark>, Stop> {
     let mut marks = Vec::new(alloc);
     for line in lines {
-        marks.push(mark(alloc, line)?)?;
+        marks.push(match line.name() {
+            "prune" => Mark::Prune(line.number(0)),
+            "insert" => Mark::Insert(line.key(0).to_vec(alloc)?, line.number(0)),
+            _ => return Err(Stop::BadLine),
+        })?;
     }
     Ok(marks)
 }
@@ -125,7 +136,7 @@ impl<T: Translator> Session for Immutable<T> {
     type Range = ();
 
     fn call(&mut self, _ranges: &mut Vec<()>, request: &mut Request) -> Result<bool, Stop> {
-        if request.line.name == Name::Run {
+        if request.line.name() == "run" {
             run(&mut self.index, request)?;
             return Ok(true);
         }
@@ -136,8 +147,17 @@ impl<T: Translator> Session for Immutable<T> {
 /// A log in segments. The memory of earlier answers serves later ones.
 #[derive(Drop)]
 pub(crate) struct Segmented {
-    pub(crate) log: SegmentedLog<TwoCap>,
-    pub(crate) found: Vec<u64>,
+    log: SegmentedLog<TwoCap>,
+    found: Vec<u64>,
+}
+
+impl Segmented {
+    pub(crate) fn new(alloc: Global) -> Result<Segmented, Fault> {
+        Ok(Segmented {
+            log: SegmentedLog::new(alloc, TwoCap)?,
+            found: Vec::new(alloc),
+        })
+    }
 }
 
 /// `append`.
@@ -163,10 +183,10 @@ impl Session for Segmented {
 
     fn call(&mut self, _ranges: &mut Vec<()>, request: &mut Request) -> Result<bool, Stop> {
         let (line, answer) = (&request.line, &mut request.answer);
-        match line.name {
-            Name::Append => append(&mut self.log, line.key(0), answer),
-            Name::Get => tell_positions(self.log.records(line.key(0)), &mut self.found, answer),
-            Name::Prune => drop_front(&mut self.log, line.number(0), answer),
+        match line.name() {
+            "append" => append(&mut self.log, line.key(0), answer),
+            "get" => tell_positions(self.log.records(line.key(0)), &mut self.found, answer),
+            "prune" => drop_front(&mut self.log, line.number(0), answer),
             _ => return Ok(false),
         }
         Ok(true)

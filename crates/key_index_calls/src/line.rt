@@ -46,191 +46,12 @@ pub(crate) enum Move {
     Find(u64),
 }
 
-/// The name of a call.
-#[derive(Clone, Copy, PartialEq)]
-pub(crate) enum Name {
-    Absent,
-    Add,
-    Ahead,
-    Append,
-    At,
-    Build,
-    CanInstall,
-    Candidates,
-    Contains,
-    Counts,
-    Drain,
-    Edit,
-    EditAt,
-    EditOrInsert,
-    Empty,
-    Exclude,
-    File,
-    First,
-    Free,
-    Get,
-    GetOrInsert,
-    Indexed,
-    Insert,
-    InsertAndRetain,
-    InsertAt,
-    InsertsFirst,
-    Install,
-    Last,
-    Len,
-    Many,
-    Moves,
-    Next,
-    Partition,
-    Partitions,
-    Prev,
-    Prune,
-    Range,
-    RangeAt,
-    RangeCounts,
-    RangeInsert,
-    RangeEdit,
-    RangeEditAt,
-    RangeEditOrInsert,
-    RangeHolds,
-    RangeInsertAt,
-    RangeMoves,
-    RangeStanding,
-    RangeValues,
-    Reach,
-    ReachOrInsert,
-    Record,
-    Remove,
-    RemoveAt,
-    Replace,
-    ReplaceFirst,
-    Reserve,
-    Retain,
-    Room,
-    Run,
-    SameSlot,
-    Search,
-    SearchOrInsert,
-    Set,
-    SetAt,
-    Size,
-    SpilledCount,
-    Standing,
-    Threshold,
-    Unset,
-    Update,
-}
-
-/// The calls by key.
-const BY_KEY: [(&str, Name); 10] = [
-    ("insert", Name::Insert),
-    ("remove", Name::Remove),
-    ("get", Name::Get),
-    ("retain", Name::Retain),
-    ("insert_and_retain", Name::InsertAndRetain),
-    ("many", Name::Many),
-    ("get_or_insert", Name::GetOrInsert),
-    ("set", Name::Set),
-    ("unset", Name::Unset),
-    ("file", Name::File),
-];
-
-/// Those that look for a cursor, or for its list.
-const BY_CURSOR: [(&str, Name); 6] = [
-    ("edit", Name::Edit),
-    ("edit_or_insert", Name::EditOrInsert),
-    ("reach", Name::Reach),
-    ("reach_or_insert", Name::ReachOrInsert),
-    ("search", Name::Search),
-    ("search_or_insert", Name::SearchOrInsert),
-];
-
-/// Those by index key and place.
-const BY_PLACE: [(&str, Name); 6] = [
-    ("len", Name::Len),
-    ("at", Name::At),
-    ("set_at", Name::SetAt),
-    ("insert_at", Name::InsertAt),
-    ("remove_at", Name::RemoveAt),
-    ("edit_at", Name::EditAt),
-];
-
-/// Those of the whole index.
-const OF_WHOLE: [(&str, Name); 7] = [
-    ("counts", Name::Counts),
-    ("empty", Name::Empty),
-    ("inserts_first", Name::InsertsFirst),
-    ("same_slot", Name::SameSlot),
-    ("run", Name::Run),
-    ("build", Name::Build),
-    ("record", Name::Record),
-];
-
-/// The proved callers.
-const BY_CALLERS: [(&str, Name); 6] = [
-    ("add", Name::Add),
-    ("replace", Name::Replace),
-    ("replace_first", Name::ReplaceFirst),
-    ("update", Name::Update),
-    ("exclude", Name::Exclude),
-    ("absent", Name::Absent),
-];
-
-/// Those that ask for an order.
-const IN_ORDER: [(&str, Name); 4] = [
-    ("next", Name::Next),
-    ("prev", Name::Prev),
-    ("first", Name::First),
-    ("last", Name::Last),
-];
-
-/// Those of partitions.
-const OF_PARTITIONS: [(&str, Name); 8] = [
-    ("partition", Name::Partition),
-    ("partitions", Name::Partitions),
-    ("free", Name::Free),
-    ("threshold", Name::Threshold),
-    ("spilled_count", Name::SpilledCount),
-    ("moves", Name::Moves),
-    ("standing", Name::Standing),
-    ("ahead", Name::Ahead),
-];
-
-/// Those of ranges.
-const OF_RANGES: [(&str, Name); 14] = [
-    ("range", Name::Range),
-    ("range_at", Name::RangeAt),
-    ("install", Name::Install),
-    ("can_install", Name::CanInstall),
-    ("range_counts", Name::RangeCounts),
-    ("range_insert", Name::RangeInsert),
-    ("range_edit", Name::RangeEdit),
-    ("range_edit_or_insert", Name::RangeEditOrInsert),
-    ("range_edit_at", Name::RangeEditAt),
-    ("range_insert_at", Name::RangeInsertAt),
-    ("range_holds", Name::RangeHolds),
-    ("range_moves", Name::RangeMoves),
-    ("range_standing", Name::RangeStanding),
-    ("range_values", Name::RangeValues),
-];
-
-/// Those of positions, and of arrays.
-const OF_POSITIONS: [(&str, Name); 9] = [
-    ("append", Name::Append),
-    ("prune", Name::Prune),
-    ("indexed", Name::Indexed),
-    ("contains", Name::Contains),
-    ("candidates", Name::Candidates),
-    ("reserve", Name::Reserve),
-    ("room", Name::Room),
-    ("drain", Name::Drain),
-    ("size", Name::Size),
-];
-
 /// A line: the name of its call, and its keys, numbers and moves, each in their order. The memory of earlier lines serves later ones.
 #[derive(Drop)]
 pub(crate) struct Line {
-    pub(crate) name: Name,
+    name: String,
+    /// Whether it calls a range that is kept. The number of that stands in front of the call's own.
+    pub(crate) is_of_range: bool,
     pub(crate) keys: Vec<Vec<u8>>,
     pub(crate) numbers: Vec<u64>,
     pub(crate) moves: Vec<Move>,
@@ -241,7 +62,8 @@ impl Line {
     /// A line before any is read.
     pub(crate) fn new(alloc: Global) -> Line {
         Line {
-            name: Name::Counts,
+            name: String::new(alloc),
+            is_of_range: false,
             keys: Vec::new(alloc),
             numbers: Vec::new(alloc),
             moves: Vec::new(alloc),
@@ -249,8 +71,9 @@ impl Line {
         }
     }
 
-    /// No keys, numbers and moves.
+    /// No name, keys, numbers and moves.
     fn clear(&mut self) -> Result<(), Stop> {
+        self.name.clear();
         self.numbers.clear();
         self.moves.clear();
         for _ in 0..self.keys.len() {
@@ -265,10 +88,10 @@ impl Line {
     pub(crate) fn read(&mut self, alloc: Global, text: &str) -> Result<(), Stop> {
         self.clear()?;
         let mut words = text.split(' ');
-        let Some(name) = name_of(words.next().unwrap_or("")) else {
-            return Err(Stop::BadLine);
-        };
-        self.name = name;
+        let word = words.next().unwrap_or("");
+        let of_range = name_in_range(word);
+        self.is_of_range = of_range.is_some();
+        self.name.push_str(of_range.unwrap_or(word))?;
         for word in words {
             self.add(alloc, word)?;
         }
@@ -296,6 +119,11 @@ impl Line {
         }
     }
 
+    /// The name of the call, that of a range without what tells that it is one.
+    pub(crate) fn name(&self) -> &str {
+        self.name.as_str()
+    }
+
     /// A key, or the empty one where there are fewer.
     pub(crate) fn key(&self, place: usize) -> &[u8] {
         match self.keys.get(place) {
@@ -306,7 +134,14 @@ impl Line {
 
     /// A number, or 0 where there are fewer.
     pub(crate) fn number(&self, place: usize) -> u64 {
-        self.numbers.get(place).copied().unwrap_or(0)
+        let first = if self.is_of_range { 1 } else { 0 };
+        let number = self.numbers.get(place.saturating_add(first));
+        number.copied().unwrap_or(0)
+    }
+
+    /// The number of the range that it calls.
+    pub(crate) fn range(&self) -> usize {
+        self.numbers.first().copied().unwrap_or(0) as usize
     }
 
     /// A number that counts.
@@ -323,43 +158,12 @@ fn push<T: Drop>(items: &mut Vec<T>, item: T) -> Result<(), Stop> {
     }
 }
 
-/// The call of some that a word names.
-fn find(names: &[(&str, Name)], word: &str) -> Option<Name> {
-    for (text, name) in names {
-        if *text == word {
-            return Some(*name);
-        }
+/// The name of a call of a range that is kept, which a word has behind `range_`.
+fn name_in_range(word: &str) -> Option<&str> {
+    match word {
+        "range_at" => None,
+        _ => word.strip_prefix("range_"),
     }
-    None
-}
-
-/// The call that a word names, by key or for a cursor.
-fn by_key(word: &str) -> Option<Name> {
-    find(&BY_KEY, word).or(find(&BY_CURSOR, word))
-}
-
-/// One by place, or of the whole index.
-fn by_place(word: &str) -> Option<Name> {
-    find(&BY_PLACE, word).or(find(&OF_WHOLE, word))
-}
-
-/// A caller, or one that asks for an order.
-fn by_callers(word: &str) -> Option<Name> {
-    find(&BY_CALLERS, word).or(find(&IN_ORDER, word))
-}
-
-/// One of partitions or ranges.
-fn of_partitions(word: &str) -> Option<Name> {
-    find(&OF_PARTITIONS, word).or(find(&OF_RANGES, word))
-}
-
-/// Any of these.
-fn name_of(word: &str) -> Option<Name> {
-    by_key(word)
-        .or(by_place(word))
-        .or(by_callers(word))
-        .or(of_partitions(word))
-        .or(find(&OF_POSITIONS, word))
 }
 
 /// The move that a word names, where a number stands behind a colon.

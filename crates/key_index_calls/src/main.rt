@@ -22,21 +22,18 @@ mod table;
 use arrays::Arrays;
 use flat::{InNoOrder, InOrder};
 use immutable::{Immutable, Segmented};
-use key_index::index::immutable::Index as ImmutableIndex;
-use key_index::snapshot::Snapshot;
+use key_index::snapshot::{Record, Snapshot};
 use key_index_flat::index::{Factory, Fault, Ordered, ordered, unordered};
 use key_index_flat::translator::{
     Cap, EightCap, FourCap, Hashed, KeyHash, OneCap, OrderedTranslator, Translator, TwoCap,
 };
 use key_index_parts::index::partitioned;
-use key_index_parts::index::partitioned::ordered::partition::Partition;
-use key_index_uses::segments::SegmentedLog;
 use line::Stop;
-use partitions::Punordered;
-use records::{Filed, Filing};
+use partitions::Partitions;
+use records::Filed;
 use serve::{Streams, serve};
-use snapshots::{Built, Whole};
-use spilling::Pordered;
+use snapshots::{Built, Parted, Whole};
+use spilling::{LooksAhead, Spilling};
 use std::alloc::Global;
 use std::env;
 use std::io::{BufRead, BufReader, BufWriter, Write};
@@ -68,50 +65,47 @@ impl KeyHash for FirstByte {
     }
 }
 
+/// The translator by the first byte of a key as its hash.
+fn by_hash() -> Hashed<FourCap, FirstByte> {
+    Hashed::from_seed(0, FourCap)
+}
+
+/// The translator by three bytes.
+fn by_arrays() -> Cap<3> {
+    Cap::new()
+}
+
 /// Serves the flat unordered index.
 fn serve_unordered<T: Translator, R: BufRead, W: Write>(
     translator: T,
     streams: &mut Streams<R, W>,
 ) -> Result<(), Stop> {
     let index = unordered::Index::new(streams.alloc, translator)?;
-    serve(&mut InNoOrder { index }, streams)
+    serve(InNoOrder { index }, streams)
 }
 
-/// Serves the flat ordered index.
-fn serve_ordered<T: OrderedTranslator, R: BufRead, W: Write>(
-    translator: T,
+/// Serves an index whose keys are in order.
+fn serve_ordered<I: Ordered<Value = u64> + Drop, R: BufRead, W: Write>(
+    index: Result<I, Fault>,
     streams: &mut Streams<R, W>,
 ) -> Result<(), Stop> {
-    let index = ordered::Index::new(streams.alloc, translator)?;
-    serve(&mut InOrder { index }, streams)
+    serve(InOrder { index: index? }, streams)
 }
 
-/// Serves the plain index.
-fn serve_plain<R: BufRead, W: Write>(streams: &mut Streams<R, W>) -> Result<(), Stop> {
-    let index = key_index_plain::Index::new(streams.alloc, OneCap)?;
-    serve(&mut InOrder { index }, streams)
-}
-
-/// Serves the partitioned unordered index by one byte.
-fn serve_punordered<R: BufRead, W: Write>(streams: &mut Streams<R, W>) -> Result<(), Stop> {
-    let index = partitioned::unordered::Index::<OneCap, u64, 1>::new(streams.alloc, OneCap)?;
-    serve(&mut Punordered { index }, streams)
-}
-
-/// Serves the partitioned unordered index by two bytes.
-fn serve_punordered_by_two<R: BufRead, W: Write>(streams: &mut Streams<R, W>) -> Result<(), Stop> {
-    let index = partitioned::unordered::Index::<OneCap, u64, 2>::new(streams.alloc, OneCap)?;
-    serve(&mut Punordered { index }, streams)
-}
-
-/// Serves the partitioned unordered index by one byte and two more.
-fn serve_punordered_wide<R: BufRead, W: Write>(streams: &mut Streams<R, W>) -> Result<(), Stop> {
-    let index = partitioned::unordered::Index::<TwoCap, u64, 1>::new(streams.alloc, TwoCap)?;
-    serve(&mut Punordered { index }, streams)
+/// Serves the partitioned unordered index.
+fn serve_partitions<T: Translator, const P: usize, R: BufRead, W: Write>(
+    translator: T,
+    streams: &mut Streams<R, W>,
+) -> Result<(), Stop>
+    requires least { 1 ≤ P }
+    requires greatest { P ≤ 3 }
+{
+    let index = partitioned::unordered::Index::<T, u64, P>::new(streams.alloc, translator)?;
+    serve(Partitions { index }, streams)
 }
 
 /// The partitioned ordered index, whose partitions spill at so many values, or at the default where that is 0.
-fn pordered<T: OrderedTranslator, const P: usize>(
+fn spilling_at<T: OrderedTranslator, const P: usize>(
     alloc: Global,
     translator: T,
     threshold: usize,
@@ -125,52 +119,27 @@ fn pordered<T: OrderedTranslator, const P: usize>(
     partitioned::ordered::Index::with_threshold(alloc, translator, threshold)
 }
 
-/// The thresholds of the indices of which ranges are made.
+/// The thresholds of the indices by one byte of which ranges are made.
 const THRESHOLDS: [usize; 6] = [1, 2, 3, 8, 64, 512];
 
-/// Serves the partitioned ordered index by one byte, beside others.
-fn serve_pordered<R: BufRead, W: Write>(
+/// Serves the partitioned ordered index, beside others at some thresholds.
+fn serve_spilling<T: OrderedTranslator, const P: usize, R: BufRead, W: Write>(
+    translator: T,
     threshold: usize,
-    streams: &mut Streams<R, W>,
-) -> Result<(), Stop> {
-    let index = pordered::<OneCap, 1>(streams.alloc, OneCap, threshold)?;
-    let mut others = Vec::new(streams.alloc);
-    for other in THRESHOLDS {
-        others.push(pordered::<OneCap, 1>(streams.alloc, OneCap, other)?)?;
-    }
-    serve(&mut Pordered { index, others }, streams)
-}
-
-/// Serves the partitioned ordered index by two bytes.
-fn serve_pordered_by_two<R: BufRead, W: Write>(
-    threshold: usize,
-    streams: &mut Streams<R, W>,
-) -> Result<(), Stop> {
-    let index = pordered::<OneCap, 2>(streams.alloc, OneCap, threshold)?;
-    let others = Vec::new(streams.alloc);
-    serve(&mut Pordered { index, others }, streams)
-}
-
-/// Serves the partitioned ordered index by one byte and two more.
-fn serve_pordered_wide<R: BufRead, W: Write>(
-    threshold: usize,
-    streams: &mut Streams<R, W>,
-) -> Result<(), Stop> {
-    let index = pordered::<TwoCap, 1>(streams.alloc, TwoCap, threshold)?;
-    let others = Vec::new(streams.alloc);
-    serve(&mut Pordered { index, others }, streams)
-}
-
-/// Serves an index of records.
-fn serve_records<I: Ordered<Value = Filing>, R: BufRead, W: Write>(
-    index: Result<I, Fault>,
+    thresholds: &[usize],
     streams: &mut Streams<R, W>,
 ) -> Result<(), Stop>
 where
-    I: Drop,
+    partitioned::ordered::Index<T, u64, P>: LooksAhead,
+    requires least { 1 ≤ P }
+    requires greatest { P ≤ 3 }
 {
-    let index = index?;
-    serve(&mut Filed { index }, streams)
+    let index = spilling_at(streams.alloc, translator, threshold)?;
+    let mut others = Vec::new(streams.alloc);
+    for other in thresholds {
+        others.push(spilling_at(streams.alloc, translator, *other)?)?;
+    }
+    serve(Spilling { index, others }, streams)
 }
 
 /// Serves a snapshot over a flat ordered index.
@@ -178,140 +147,88 @@ fn serve_snapshot<T: OrderedTranslator, R: BufRead, W: Write>(
     translator: T,
     streams: &mut Streams<R, W>,
 ) -> Result<(), Stop> {
-    let snapshot = Snapshot::new(
-        streams.alloc,
-        ordered::Index::new(streams.alloc, translator)?,
-    );
-    serve(&mut Whole { snapshot }, streams)
+    let index = ordered::Index::new(streams.alloc, translator)?;
+    let snapshot = Snapshot::new(streams.alloc, index);
+    serve(Whole { snapshot }, streams)
 }
 
-/// Serves a snapshot over partitions.
-fn serve_built<R: BufRead, W: Write>(
+/// Serves an index of records.
+fn serve_records<I: Ordered<Value = Record> + Drop, R: BufRead, W: Write>(
+    index: Result<I, Fault>,
+    streams: &mut Streams<R, W>,
+) -> Result<(), Stop> {
+    serve(Filed { index: index? }, streams)
+}
+
+/// Serves an index without partitions, or another one.
+fn serve_flat<R: BufRead, W: Write>(
+    kind: &str,
     threshold: usize,
     streams: &mut Streams<R, W>,
 ) -> Result<(), Stop> {
-    serve(&mut Built::new(streams.alloc, threshold)?, streams)
+    let alloc = streams.alloc;
+    match kind {
+        "unordered" => serve_unordered(OneCap, streams),
+        "unordered_by_hash" => serve_unordered(by_hash(), streams),
+        "ordered" => serve_ordered(ordered::Index::new(alloc, OneCap), streams),
+        "ordered_by_eight" => serve_ordered(ordered::Index::new(alloc, EightCap), streams),
+        "ordered_by_arrays" => serve_ordered(ordered::Index::new(alloc, by_arrays()), streams),
+        "plain" => serve_ordered(key_index_plain::Index::new(alloc, OneCap), streams),
+        _ => serve_in_partitions(kind, threshold, streams),
+    }
 }
 
-/// Serves an immutable index from a position on, with room for so many.
-fn serve_immutable<T: Translator, R: BufRead, W: Write>(
-    translator: T,
-    start: usize,
-    capacity: usize,
+/// Serves an index in partitions, or another one.
+fn serve_in_partitions<R: BufRead, W: Write>(
+    kind: &str,
+    threshold: usize,
+    streams: &mut Streams<R, W>,
+) -> Result<(), Stop> {
+    match kind {
+        "punordered" => serve_partitions::<OneCap, 1, _, _>(OneCap, streams),
+        "punordered_by_two" => serve_partitions::<OneCap, 2, _, _>(OneCap, streams),
+        "punordered_wide" => serve_partitions::<TwoCap, 1, _, _>(TwoCap, streams),
+        "pordered" => serve_spilling::<OneCap, 1, _, _>(OneCap, threshold, &THRESHOLDS, streams),
+        "pordered_by_two" => serve_spilling::<OneCap, 2, _, _>(OneCap, threshold, &[], streams),
+        "pordered_wide" => serve_spilling::<TwoCap, 1, _, _>(TwoCap, threshold, &[], streams),
+        _ => serve_kind_of_records(kind, threshold, streams),
+    }
+}
+
+/// Serves a snapshot or an index of records, or another one.
+fn serve_kind_of_records<R: BufRead, W: Write>(
+    kind: &str,
+    threshold: usize,
     streams: &mut Streams<R, W>,
 ) -> Result<(), Stop> {
     let alloc = streams.alloc;
-    let index = ImmutableIndex::new(alloc, translator, start as u64, capacity)?;
-    let found = Vec::new(alloc);
-    serve(&mut Immutable { index, found }, streams)
+    match kind {
+        "snapshot_ordered" => serve_snapshot(OneCap, streams),
+        "snapshot_ordered_by_two" => serve_snapshot(TwoCap, streams),
+        "snapshot_ordered_by_eight" => serve_snapshot(EightCap, streams),
+        "snapshot_pordered" => serve(Built::new(alloc, threshold)?, streams),
+        "records_ordered" => serve_records(ordered::Index::new(alloc, OneCap), streams),
+        "records_pordered" => serve_records(Parted::new(alloc, OneCap), streams),
+        "records_plain" => serve_records(key_index_plain::Index::new(alloc, OneCap), streams),
+        _ => serve_positions(kind, threshold, streams),
+    }
 }
 
-/// Serves a log in segments.
-fn serve_segments<R: BufRead, W: Write>(streams: &mut Streams<R, W>) -> Result<(), Stop> {
-    let log = SegmentedLog::new(streams.alloc, TwoCap)?;
-    let found = Vec::new(streams.alloc);
-    serve(&mut Segmented { log, found }, streams)
-}
-
-/// Serves a table of positions.
-fn serve_table<R: BufRead, W: Write>(streams: &mut Streams<R, W>) -> Result<(), Stop> {
-    serve(&mut Listed::new(streams.alloc)?, streams)
-}
-
-/// Serves the arrays of a partition.
-fn serve_arrays<R: BufRead, W: Write>(streams: &mut Streams<R, W>) -> Result<(), Stop> {
-    let pairs = Partition::new(streams.alloc);
-    serve(&mut Arrays { pairs }, streams)
-}
-
-/// Serves an index of positions, what it is made of, or an index of another kind.
+/// Serves an index of positions, or what it is made of.
 fn serve_positions<R: BufRead, W: Write>(
     kind: &str,
     start: usize,
     streams: &mut Streams<R, W>,
 ) -> Result<(), Stop> {
+    let alloc = streams.alloc;
     match kind {
-        "immutable" => serve_immutable(TwoCap, start, 0, streams),
-        "immutable_by_eight" => serve_immutable(EightCap, start, 0, streams),
-        "immutable_for_four" => serve_immutable(EightCap, start, 4, streams),
-        "segments" => serve_segments(streams),
-        "table" => serve_table(streams),
-        "arrays" => serve_arrays(streams),
-        _ => serve_kind_of_records(kind, streams),
-    }
-}
-
-/// The translator by the first byte of a key as its hash.
-fn by_hash() -> Hashed<FourCap, FirstByte> {
-    Hashed::from_seed(0, FourCap)
-}
-
-/// The translator by three bytes.
-fn by_arrays() -> Cap<3> {
-    Cap::new()
-}
-
-/// Serves an index without partitions, or another one.
-fn serve_flat<R: BufRead, W: Write>(kind: &str, streams: &mut Streams<R, W>) -> Result<(), Stop> {
-    match kind {
-        "unordered" => serve_unordered(OneCap, streams),
-        "unordered_by_hash" => serve_unordered(by_hash(), streams),
-        "ordered" => serve_ordered(OneCap, streams),
-        "ordered_by_eight" => serve_ordered(EightCap, streams),
-        "ordered_by_arrays" => serve_ordered(by_arrays(), streams),
-        "plain" => serve_plain(streams),
+        "immutable" => serve(Immutable::new(alloc, TwoCap, start, 0)?, streams),
+        "immutable_by_eight" => serve(Immutable::new(alloc, EightCap, start, 0)?, streams),
+        "immutable_for_four" => serve(Immutable::new(alloc, EightCap, start, 4)?, streams),
+        "segments" => serve(Segmented::new(alloc)?, streams),
+        "table" => serve(Listed::new(alloc)?, streams),
+        "arrays" => serve(Arrays::new(alloc), streams),
         _ => Err(Stop::Usage),
-    }
-}
-
-/// Serves an index in partitions, or another one.
-fn serve_partitions<R: BufRead, W: Write>(
-    kind: &str,
-    threshold: usize,
-    streams: &mut Streams<R, W>,
-) -> Result<(), Stop> {
-    match kind {
-        "punordered" => serve_punordered(streams),
-        "punordered_by_two" => serve_punordered_by_two(streams),
-        "punordered_wide" => serve_punordered_wide(streams),
-        "pordered" => serve_pordered(threshold, streams),
-        "pordered_by_two" => serve_pordered_by_two(threshold, streams),
-        "pordered_wide" => serve_pordered_wide(threshold, streams),
-        _ => serve_snapshots(kind, threshold, streams),
-    }
-}
-
-/// Serves a snapshot, or another one.
-fn serve_snapshots<R: BufRead, W: Write>(
-    kind: &str,
-    threshold: usize,
-    streams: &mut Streams<R, W>,
-) -> Result<(), Stop> {
-    match kind {
-        "snapshot_ordered" => serve_snapshot(OneCap, streams),
-        "snapshot_ordered_by_two" => serve_snapshot(TwoCap, streams),
-        "snapshot_ordered_by_eight" => serve_snapshot(EightCap, streams),
-        "snapshot_pordered" => serve_built(threshold, streams),
-        _ => serve_positions(kind, threshold, streams),
-    }
-}
-
-/// Records under their first byte, or in partitions by it.
-type Partitions = partitioned::ordered::Index<OneCap, Filing, 1>;
-
-/// Serves an index of records, or one without partitions.
-fn serve_kind_of_records<R: BufRead, W: Write>(
-    kind: &str,
-    streams: &mut Streams<R, W>,
-) -> Result<(), Stop> {
-    match kind {
-        "records_ordered" => { serve_records(ordered::Index::new(streams.alloc, OneCap), streams) }
-        "records_pordered" => serve_records(Partitions::new(streams.alloc, OneCap), streams),
-        "records_plain" => {
-            let index = key_index_plain::Index::new(streams.alloc, OneCap);
-            serve_records(index, streams)
-        }
-        _ => serve_flat(kind, streams),
     }
 }
 
@@ -333,7 +250,7 @@ fn serve_words<R: BufRead, W: Write>(
     streams: &mut Streams<R, W>,
 ) -> Result<(), Stop> {
     let (kind, threshold) = arguments(words)?;
-    serve_partitions(kind, threshold, streams)
+    serve_flat(kind, threshold, streams)
 }
 
 /// Runs the program. Each answer is written before it ends, also where it ends early.
@@ -349,16 +266,10 @@ fn run(rt: &HostRuntime) -> Result<(), Stop> {
     let Ok(output) = BufWriter::new(alloc, rt.stdout()) else {
         return Err(Stop::Failed);
     };
-    let mut streams = Streams {
-        alloc,
-        input,
-        output,
-    };
+    let mut streams = Streams::new(alloc, input, output);
     let ended = serve_words(words.as_slice(), &mut streams);
-    match streams.output.flush() {
-        Ok(()) => ended,
-        Err(_) => Err(Stop::Failed),
-    }
+    streams.flush()?;
+    ended
 }
 
 fn main(rt: HostRuntime) -> ExitCode {

@@ -3,19 +3,17 @@ ghost use Rattle.std.specs.Prelude.{IsTrue};
 ghost use Rattle.key_index_parts.specs.Ops.{IsCuts};
 
 use crate::answer::Answer;
-use crate::calls::insert_at;
+use crate::calls::{by_place, by_search};
 use crate::commands::steps;
-use crate::cursors::{edit, edit_at, edit_or_insert};
-use crate::flat::call;
-use crate::line::{Line, Name, Stop};
+use crate::flat;
+use crate::line::{Line, Stop};
 use crate::serve::{Request, Session};
-use key_index_flat::translator::Translator;
-use key_index_parts::index::partitioned::unordered::{Index, RangeIndex};
+use key_index_flat::index::Ordered;
 use key_index_parts::index::partitioned::{Op, PartitionRange, Partitioned, build_in_ranges};
 use std::alloc::{AllocError, Global};
 
 /// A new range, behind those that are kept.
-fn add_range<I: Partitioned<Value = u64>>(
+pub(crate) fn add_range<I: Partitioned<Value = u64>>(
     index: &I,
     ranges: &mut Vec<I::Range>,
     line: &Line,
@@ -28,7 +26,10 @@ fn add_range<I: Partitioned<Value = u64>>(
         return Ok(());
     }
     match index.new_range(offset, count) {
-        Ok(range) => keep(ranges, range, answer),
+        Ok(range) => {
+            answer.word("ok");
+            keep(ranges, range)
+        }
         Err(fault) => {
             answer.refused(fault);
             Ok(())
@@ -37,12 +38,7 @@ fn add_range<I: Partitioned<Value = u64>>(
 }
 
 /// A range behind those that are kept.
-pub(crate) fn keep<R: Drop>(
-    ranges: &mut Vec<R>,
-    range: R,
-    answer: &mut Answer,
-) -> Result<(), Stop> {
-    answer.word("ok");
+fn keep<R: Drop>(ranges: &mut Vec<R>, range: R) -> Result<(), Stop> {
     match ranges.push(range) {
         Ok(()) => Ok(()),
         Err(_) => Err(Stop::Failed),
@@ -80,10 +76,7 @@ fn install<I: Partitioned<Value = u64>>(
         }
         Err((range, fault)) => {
             answer.refused(fault);
-            match ranges.push(range) {
-                Ok(()) => Ok(()),
-                Err(_) => Err(Stop::Failed),
-            }
+            keep(ranges, range)
         }
     }
 }
@@ -115,14 +108,15 @@ pub(crate) fn cuts(alloc: Global, line: &Line) -> Result<Vec<usize>, AllocError>
 }
 
 /// The ops of lines.
-fn ops(alloc: Global, lines: &[Line]) -> Result<Vec<Op<u64>>, AllocError> {
+fn ops(alloc: Global, lines: &[Line]) -> Result<Vec<Op<u64>>, Stop> {
     let mut ops = Vec::new(alloc);
     for line in lines {
         let key = line.key(0).to_vec(alloc)?;
-        ops.push(match line.name {
-            Name::Insert => Op::Insert(key, line.number(0)),
-            Name::GetOrInsert => Op::GetOrInsert(key, line.number(0)),
-            _ => Op::Edit(key, steps(alloc, line)?),
+        ops.push(match line.name() {
+            "insert" => Op::Insert(key, line.number(0)),
+            "get_or_insert" => Op::GetOrInsert(key, line.number(0)),
+            "edit" => Op::Edit(key, steps(alloc, line)?),
+            _ => return Err(Stop::BadLine),
         })?;
     }
     Ok(ops)
@@ -153,7 +147,7 @@ fn build<I: Partitioned<Value = u64>>(index: &mut I, request: &mut Request) -> R
 }
 
 /// What a range covers, and its counts.
-fn range_counts<R: PartitionRange<Value = u64>>(range: &R, answer: &mut Answer) {
+fn counts<R: PartitionRange<Value = u64>>(range: &R, answer: &mut Answer) {
     answer.count(range.offset());
     answer.count(range.count());
     answer.count(range.keys());
@@ -162,7 +156,7 @@ fn range_counts<R: PartitionRange<Value = u64>>(range: &R, answer: &mut Answer) 
 }
 
 /// The values of a range, in ascending order.
-fn range_values<R: PartitionRange<Value = u64>>(alloc: Global, range: &R, answer: &mut Answer) {
+fn values<R: PartitionRange<Value = u64>>(alloc: Global, range: &R, answer: &mut Answer) {
     let mut values = Vec::new(alloc);
     let mut is_whole = true;
     range.for_each_value(|value: &u64| {
@@ -181,61 +175,35 @@ fn range_values<R: PartitionRange<Value = u64>>(alloc: Global, range: &R, answer
 }
 
 /// A call by a key that the range holds.
-fn edit_range<R: PartitionRange<Value = u64>>(range: &mut R, line: &Line, answer: &mut Answer) {
-    let key = line.key(0);
-    if !range.holds(key) {
-        answer.word("unallowed");
-    } else if line.name == Name::RangeInsert {
-        let value = line.number(1);
-        answer.given(range.insert(key, value), value);
-    } else if line.name == Name::RangeEdit {
-        edit(range, key, line, answer);
-    } else if line.name == Name::RangeEditOrInsert {
-        edit_or_insert(range, key, line.number(1), line, answer);
-    } else if line.name == Name::RangeEditAt {
-        edit_at(range, key, line, answer);
-    } else {
-        insert_at(range, key, line.number(1), line.count(2), answer);
-    }
-}
-
-/// A call of a range.
-fn call_range<R: PartitionRange<Value = u64>>(
-    alloc: Global,
+fn by_key<R: PartitionRange<Value = u64>>(
     range: &mut R,
+    key: &[u8],
     line: &Line,
     answer: &mut Answer,
-) {
-    match line.name {
-        Name::RangeCounts => range_counts(range, answer),
-        Name::RangeHolds => answer.flag(range.holds(line.key(0))),
-        Name::RangeValues => range_values(alloc, range, answer),
-        _ => edit_range(range, line, answer),
+) -> bool {
+    if !range.holds(key) {
+        answer.word("unallowed");
+        return true;
     }
+    if line.name() == "insert" {
+        let value = line.number(0);
+        answer.given(range.insert(key, value), value);
+        return true;
+    }
+    by_search(range, key, line, answer) || by_place(range, key, line, answer)
 }
 
-/// Whether a line is a call of a range.
-fn is_of_range(line: &Line) -> bool {
-    match line.name {
-        Name::RangeCounts
-        | Name::RangeHolds
-        | Name::RangeValues
-        | Name::RangeInsert
-        | Name::RangeEdit
-        | Name::RangeEditAt
-        | Name::RangeEditOrInsert
-        | Name::RangeInsertAt => true,
-        _ => false,
-    }
-}
-
-/// A call that tells of partitions.
-fn of_partitions<I: Partitioned<Value = u64>>(index: &I, line: &Line, answer: &mut Answer) -> bool {
-    match line.name {
-        Name::Partitions => answer.count(index.partition_count()),
-        Name::Partition => answer.count(I::partition_of(line.key(0))),
-        Name::Free => is_free(index, line.count(0), answer),
-        _ => return false,
+/// A call of a range that is kept.
+pub(crate) fn call_range<R: PartitionRange<Value = u64>>(
+    range: &mut R,
+    request: &mut Request,
+) -> bool {
+    let (line, answer) = (&request.line, &mut request.answer);
+    match line.name() {
+        "counts" => counts(&*range, answer),
+        "holds" => answer.flag(range.holds(line.key(0))),
+        "values" => values(request.alloc, &*range, answer),
+        _ => return by_key(range, line.key(0), line, answer),
     }
     true
 }
@@ -252,74 +220,53 @@ fn can_install<I: Partitioned<Value = u64>>(
     }
 }
 
-/// A call that makes or installs ranges, of which some are kept.
-fn with_ranges<I: Partitioned<Value = u64>>(
-    index: &mut I,
-    ranges: &mut Vec<I::Range>,
-    line: &Line,
-    answer: &mut Answer,
-) -> Result<bool, Stop> {
-    let number = line.count(0);
-    match line.name {
-        Name::Range => add_range(&*index, ranges, line, answer)?,
-        Name::Install => install(index, ranges, number, answer)?,
-        Name::CanInstall => can_install(&*index, ranges.get(number), answer),
-        _ => return Ok(false),
-    }
-    Ok(true)
-}
-
-/// A call of a range that is kept.
-fn of_range<R: PartitionRange<Value = u64>>(
-    alloc: Global,
-    range: Option<&mut R>,
-    line: &Line,
-    answer: &mut Answer,
-) -> bool {
-    if !is_of_range(line) {
-        return false;
-    }
-    match range {
-        Some(range) => call_range(alloc, range, line, answer),
-        None => answer.word("unallowed"),
-    }
-    true
-}
-
-/// A call that an index in partitions has.
-pub(crate) fn call_in_partitions<I: Partitioned<Value = u64>>(
+/// A call that every index in partitions has.
+pub(crate) fn call<I: Partitioned<Value = u64>>(
     index: &mut I,
     ranges: &mut Vec<I::Range>,
     request: &mut Request,
 ) -> Result<bool, Stop> {
-    if request.line.name == Name::Build {
-        build(index, request)?;
-        return Ok(true);
-    }
     let (line, answer) = (&request.line, &mut request.answer);
-    if of_partitions(&*index, line, answer)
-        || with_ranges(index, ranges, line, answer)?
-        || of_range(request.alloc, ranges.get_mut(line.count(0)), line, answer)
-    {
+    let number = line.count(0);
+    match line.name() {
+        "partitions" => answer.count(index.partition_count()),
+        "partition" => answer.count(I::partition_of(line.key(0))),
+        "free" => is_free(&*index, number, answer),
+        "range" => add_range(&*index, ranges, line, answer)?,
+        "install" => install(index, ranges, number, answer)?,
+        "can_install" => can_install(&*index, ranges.get(number), answer),
+        "build" => build(index, request)?,
+        _ => return flat::call(index, request),
+    }
+    Ok(true)
+}
+
+/// A call that such an index has if its keys are in order.
+pub(crate) fn call_in_order<I: Partitioned<Value = u64> + Ordered<Value = u64>>(
+    index: &mut I,
+    ranges: &mut Vec<I::Range>,
+    request: &mut Request,
+) -> Result<bool, Stop> {
+    if flat::call_in_order(&*index, &request.line, &mut request.answer) {
         return Ok(true);
     }
-    call(index, request)
+    call(index, ranges, request)
 }
 
-/// The partitioned unordered index.
+/// An index in partitions.
 #[derive(Drop)]
-pub(crate) struct Punordered<T: Translator, const P: usize> {
-    pub(crate) index: Index<T, u64, P>,
+pub(crate) struct Partitions<I> {
+    pub(crate) index: I,
 }
 
-impl<T: Translator, const P: usize> Session for Punordered<T, P> {
-    type Range = RangeIndex<T, u64, P>;
+impl<I: Partitioned<Value = u64>> Session for Partitions<I> {
+    type Range = I::Range;
 
-    fn call(
-        &mut self,
-        ranges: &mut Vec<RangeIndex<T, u64, P>>,
-        request: &mut Request,
-    ) -> Result<bool, Stop> {
-        call_in_partitions(&mut self.index, ranges, request)
+    fn call(&mut self, ranges: &mut Vec<I::Range>, request: &mut Request) -> Result<bool, Stop> {
+        call(&mut self.index, ranges, request)
+    }
+
+    fn call_range(range: &mut I::Range, request: &mut Request) -> bool {
+        call_range(range, request)
     }
 }

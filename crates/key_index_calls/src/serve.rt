@@ -1,6 +1,6 @@
 //! The lines of the input, each answered in turn.
 use crate::answer::Answer;
-use crate::line::{Line, Name, Stop};
+use crate::line::{Line, Stop};
 use std::alloc::Global;
 use std::io::{BufRead, Write};
 use std::str;
@@ -14,6 +14,50 @@ pub(crate) struct Request {
     pub(crate) answer: Answer,
 }
 
+impl Request {
+    fn new(alloc: Global) -> Request {
+        Request {
+            alloc,
+            line: Line::new(alloc),
+            kept: Vec::new(alloc),
+            answer: Answer::new(alloc),
+        }
+    }
+
+    /// Keeps a line for the next call that takes such lines.
+    fn keep(&mut self, text: &str) -> Result<(), Stop> {
+        self.answer.word("+");
+        let mut line = Line::new(self.alloc);
+        line.read(self.alloc, text)?;
+        match self.kept.push(line) {
+            Ok(()) => Ok(()),
+            Err(_) => Err(Stop::Failed),
+        }
+    }
+
+    /// Reads a line, which is kept if it says so. Tells whether it makes a call.
+    fn read(&mut self, bytes: &[u8]) -> Result<bool, Stop> {
+        let Ok(text) = str::from_utf8(bytes) else {
+            return Err(Stop::BadLine);
+        };
+        self.answer.clear();
+        if let Some(kept) = text.strip_prefix("+ ") {
+            self.keep(kept)?;
+            return Ok(false);
+        }
+        self.line.read(self.alloc, text)?;
+        Ok(true)
+    }
+
+    /// Drops the lines that are kept, if the call takes such lines.
+    fn end(&mut self) {
+        match self.line.name() {
+            "run" | "build" => self.kept.clear(),
+            _ => {}
+        }
+    }
+}
+
 /// An index with the calls that it has.
 pub(crate) trait Session {
     /// A range of it.
@@ -21,21 +65,10 @@ pub(crate) trait Session {
 
     /// Makes the call of a line, which may use the ranges that are kept, and tells whether it has such a call.
     fn call(&mut self, ranges: &mut Vec<Self::Range>, request: &mut Request) -> Result<bool, Stop>;
-}
 
-/// Whether a line takes the lines that are kept.
-fn takes_lines(line: &Line) -> bool {
-    line.name == Name::Run || line.name == Name::Build
-}
-
-/// Keeps a line for the next call that takes such lines.
-fn keep(request: &mut Request, text: &str) -> Result<(), Stop> {
-    request.answer.word("+");
-    let mut line = Line::new(request.alloc);
-    line.read(request.alloc, text)?;
-    match request.kept.push(line) {
-        Ok(()) => Ok(()),
-        Err(_) => Err(Stop::Failed),
+    /// The same of a call of a range that is kept.
+    fn call_range(_range: &mut Self::Range, _request: &mut Request) -> bool {
+        false
     }
 }
 
@@ -44,92 +77,96 @@ fn call<S: Session>(
     session: &mut S,
     ranges: &mut Vec<S::Range>,
     request: &mut Request,
-    text: &str,
-) -> Result<(), Stop> {
-    request.line.read(request.alloc, text)?;
-    if !session.call(ranges, request)? {
-        return Err(Stop::BadLine);
+) -> Result<bool, Stop> {
+    if !request.line.is_of_range {
+        return session.call(ranges, request);
     }
-    if takes_lines(&request.line) {
-        request.kept.clear();
-    }
-    Ok(())
-}
-
-/// Answers one line.
-fn serve_line<S: Session>(
-    session: &mut S,
-    ranges: &mut Vec<S::Range>,
-    request: &mut Request,
-    text: &str,
-) -> Result<(), Stop> {
-    match text.strip_prefix("+ ") {
-        Some(text) => keep(request, text),
-        None => call(session, ranges, request, text),
+    match ranges.get_mut(request.line.range()) {
+        Some(range) => Ok(S::call_range(range, request)),
+        None => {
+            request.answer.word("unallowed");
+            Ok(true)
+        }
     }
 }
 
-/// Answers a line of bytes.
-fn serve_bytes<S: Session, W: Write>(
-    session: &mut S,
-    ranges: &mut Vec<S::Range>,
-    request: &mut Request,
-    bytes: &[u8],
-    output: &mut W,
-) -> Result<(), Stop> {
-    let Ok(text) = str::from_utf8(bytes) else {
-        return Err(Stop::BadLine);
-    };
-    request.answer.clear();
-    serve_line(session, ranges, request, text)?;
-    request.answer.write(output)
-}
-
-/// Reads a line, without its newline. Tells whether there is one.
-fn read<R: BufRead>(input: &mut R, bytes: &mut Vec<u8>) -> Result<bool, Stop> {
-    bytes.clear();
-    let Ok(count) = input.read_until(b'\n', bytes) else {
-        return Err(Stop::Failed);
-    };
-    if bytes.last() == Some(&b'\n') {
-        bytes.pop();
-    }
-    Ok(count > 0)
-}
-
-/// Where a session takes memory, and its streams.
+/// Where a session takes memory, its streams, and what it is asked.
 #[derive(Drop)]
 pub(crate) struct Streams<R, W> {
     pub(crate) alloc: Global,
-    pub(crate) input: R,
-    pub(crate) output: W,
+    input: R,
+    output: W,
+    bytes: Vec<u8>,
+    request: Request,
+}
+
+impl<R: BufRead, W: Write> Streams<R, W> {
+    pub(crate) fn new(alloc: Global, input: R, output: W) -> Streams<R, W> {
+        Streams {
+            alloc,
+            input,
+            output,
+            bytes: Vec::new(alloc),
+            request: Request::new(alloc),
+        }
+    }
+
+    /// Reads a line, without its newline. Tells whether there is one.
+    fn read(&mut self) -> Result<bool, Stop> {
+        self.bytes.clear();
+        let Ok(count) = self.input.read_until(b'\n', &mut self.bytes) else {
+            return Err(Stop::Failed);
+        };
+        if self.bytes.last() == Some(&b'\n') {
+            self.bytes.pop();
+        }
+        Ok(count > 0)
+    }
+
+    /// Reads lines up to one that makes a call. Tells whether there is one.
+    fn next(&mut self) -> Result<bool, Stop> {
+        for _ in 0..u64::MAX {
+            if !self.read()? {
+                return Ok(false);
+            }
+            if self.request.read(self.bytes.as_slice())? {
+                return Ok(true);
+            }
+            self.request.answer.write(&mut self.output)?;
+        }
+        Ok(false)
+    }
+
+    /// Answers the call, which the index has or not.
+    fn answer(&mut self, has_call: bool) -> Result<(), Stop> {
+        if !has_call {
+            return Err(Stop::BadLine);
+        }
+        self.request.end();
+        self.request.answer.write(&mut self.output)
+    }
+
+    /// Writes the answers that are not written yet.
+    pub(crate) fn flush(&mut self) -> Result<(), Stop> {
+        match self.output.flush() {
+            Ok(()) => Ok(()),
+            Err(_) => Err(Stop::Failed),
+        }
+    }
 }
 
 /// Answers the lines of the input up to its end.
-pub(crate) fn serve<S: Session, R: BufRead, W: Write>(
-    session: &mut S,
+pub(crate) fn serve<S: Session + Drop, R: BufRead, W: Write>(
+    mut session: S,
     streams: &mut Streams<R, W>,
 ) -> Result<(), Stop> {
-    let alloc = streams.alloc;
-    let mut bytes = Vec::new(alloc);
-    let mut ranges = Vec::new(alloc);
-    let mut request = Request {
-        alloc,
-        line: Line::new(alloc),
-        kept: Vec::new(alloc),
-        answer: Answer::new(alloc),
-    };
+    let mut ranges = Vec::new(streams.alloc);
     for _ in 0..u64::MAX {
-        if !read(&mut streams.input, &mut bytes)? {
-            return Ok(());
+        if !streams.next()? {
+            break;
         }
-        serve_bytes(
-            session,
-            &mut ranges,
-            &mut request,
-            &bytes,
-            &mut streams.output,
-        )?;
+        let has_call = call(&mut session, &mut ranges, &mut streams.request)?;
+        streams.answer(has_call)?;
     }
     Ok(())
 }

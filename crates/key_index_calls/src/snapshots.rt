@@ -4,7 +4,7 @@ ghost use Rattle.key_index_parts.specs.Ops.{IsCuts};
 ghost use Rattle.key_index_parts.specs.Ordered.{view};
 
 use crate::answer::Answer;
-use crate::line::{Line, Name, Stop};
+use crate::line::{Line, Stop};
 use crate::partitions::{are_cuts, cuts};
 use crate::serve::{Request, Session};
 use key_index::snapshot::{Record, Snapshot};
@@ -12,7 +12,7 @@ use key_index_flat::index::{Factory, Fault, Ordered};
 use key_index_flat::translator::OneCap;
 use key_index_parts::index::partitioned::ordered::Index;
 use key_index_uses::snapshots::gap_at;
-use std::alloc::{AllocError, Global};
+use std::alloc::Global;
 
 /// A key and its position, or none.
 fn tell_entry(entry: Option<(&[u8], u64)>, answer: &mut Answer) {
@@ -43,14 +43,14 @@ fn call<I: Ordered<Value = Record>>(
     answer: &mut Answer,
 ) -> bool {
     let key = line.key(0);
-    match line.name {
-        Name::Set => answer.made(snapshot.set(key, line.number(0))),
-        Name::Unset => answer.told(snapshot.unset(key)),
-        Name::Get => answer.option(snapshot.get(key)),
-        Name::Next => tell_entry(snapshot.next(key), answer),
-        Name::Prev => tell_entry(snapshot.prev(key), answer),
-        Name::Absent => tell_gap(&*snapshot, key, answer),
-        Name::Len => {
+    match line.name() {
+        "set" => answer.made(snapshot.set(key, line.number(0))),
+        "unset" => answer.told(snapshot.unset(key)),
+        "get" => answer.option(snapshot.get(key)),
+        "next" => tell_entry(snapshot.next(key), answer),
+        "prev" => tell_entry(snapshot.prev(key), answer),
+        "absent" => tell_gap(&*snapshot, key, answer),
+        "len" => {
             answer.count(snapshot.len());
             answer.flag(snapshot.is_empty());
         }
@@ -74,7 +74,7 @@ impl<I: Ordered<Value = Record>> Session for Whole<I> {
 }
 
 /// An index in partitions by one byte, of which a snapshot is built.
-type Parted = Index<OneCap, Record, 1>;
+pub(crate) type Parted = Index<OneCap, Record, 1>;
 
 /// A snapshot over partitions, which can be built anew.
 #[derive(Drop)]
@@ -105,9 +105,12 @@ fn empty(alloc: Global, threshold: usize) -> Result<Parted, Fault>
 }
 
 /// The records of lines.
-fn records(alloc: Global, lines: &[Line]) -> Result<Vec<Record>, AllocError> {
+fn records(alloc: Global, lines: &[Line]) -> Result<Vec<Record>, Stop> {
     let mut records = Vec::new(alloc);
     for line in lines {
+        if line.name() != "record" {
+            return Err(Stop::BadLine);
+        }
         let key = line.key(0).to_vec(alloc)?;
         let position = line.number(0);
         records.push(Record { key, position })?;
@@ -148,7 +151,7 @@ impl Session for Built {
     type Range = ();
 
     fn call(&mut self, _ranges: &mut Vec<()>, request: &mut Request) -> Result<bool, Stop> {
-        if request.line.name == Name::Build {
+        if request.line.name() == "build" {
             build(self, request)?;
             return Ok(true);
         }

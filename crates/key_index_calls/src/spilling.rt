@@ -1,8 +1,7 @@
 //! The partitioned ordered index, whose partitions spill.
 use crate::answer::Answer;
-use crate::flat::call_in_order;
-use crate::line::{Line, Name, Stop};
-use crate::partitions::{call_in_partitions, keep};
+use crate::line::{Line, Stop};
+use crate::partitions::{add_range, call_in_order, call_range};
 use crate::serve::{Request, Session};
 use key_index_flat::translator::{OneCap, OrderedTranslator, Translator, TwoCap};
 use key_index_parts::index::partitioned::ordered::{Ahead, Index, RangeIndex};
@@ -10,7 +9,7 @@ use key_index_parts::index::partitioned::{PartitionRange, Partitioned};
 
 /// The index, and others that spill at thresholds of their own, of which ranges are made.
 #[derive(Drop)]
-pub(crate) struct Pordered<T: Translator, const P: usize> {
+pub(crate) struct Spilling<T: Translator, const P: usize> {
     pub(crate) index: Index<T, u64, P>,
     pub(crate) others: Vec<Index<T, u64, P>>,
 }
@@ -90,85 +89,50 @@ fn of_spills<T: Translator, const P: usize>(
     line: &Line,
     answer: &mut Answer,
 ) -> bool {
-    match line.name {
-        Name::Threshold => answer.count(index.threshold()),
-        Name::SpilledCount => answer.count(index.spilled_count()),
-        Name::Moves => {
+    match line.name() {
+        "threshold" => answer.count(index.threshold()),
+        "spilled_count" => answer.count(index.spilled_count()),
+        "moves" => {
             answer.number(index.spills());
             answer.number(index.moved());
         }
-        Name::Standing => standing(index, line.count(0), answer),
+        "standing" => standing(index, line.count(0), answer),
         _ => return false,
     }
     true
 }
 
-/// A call that tells how a range stands.
-fn of_range<T: Translator, const P: usize>(
-    range: Option<&RangeIndex<T, u64, P>>,
+/// A call that tells how a range stands. Tells whether the line is one.
+fn of_spilled_range<T: Translator, const P: usize>(
+    range: &RangeIndex<T, u64, P>,
     line: &Line,
     answer: &mut Answer,
-) {
-    let Some(range) = range else {
-        answer.word("unallowed");
-        return;
-    };
-    if line.name == Name::RangeStanding {
-        range_standing(range, line.count(1), answer);
-    } else {
-        answer.number(range.spills());
-        answer.number(range.moved());
+) -> bool {
+    match line.name() {
+        "moves" => {
+            answer.number(range.spills());
+            answer.number(range.moved());
+        }
+        "standing" => range_standing(range, line.count(0), answer),
+        _ => return false,
     }
+    true
 }
 
-/// A range of an index, kept behind the others.
-fn add_range<T: Translator, const P: usize>(
-    index: &Index<T, u64, P>,
-    ranges: &mut Vec<RangeIndex<T, u64, P>>,
-    line: &Line,
-    answer: &mut Answer,
-) -> Result<(), Stop> {
-    let (offset, count) = (line.count(0), line.count(1));
-    let partitions = index.partition_count();
-    if offset > partitions || count > partitions - offset {
-        answer.word("unallowed");
-        return Ok(());
-    }
-    keep(ranges, index.new_range(offset, count)?, answer)
-}
-
-/// A range of the other index that spills at a threshold, kept behind the others.
-fn range_at<T: Translator, const P: usize>(
+/// The one of some indices that spills at a threshold.
+fn at_threshold<T: Translator, const P: usize>(
     others: &[Index<T, u64, P>],
-    ranges: &mut Vec<RangeIndex<T, u64, P>>,
-    line: &Line,
-    answer: &mut Answer,
-) -> Result<(), Stop> {
+    threshold: usize,
+) -> Option<&Index<T, u64, P>> {
     for other in others {
-        if other.threshold() == line.count(2) {
-            return add_range(other, ranges, line, answer);
+        if other.threshold() == threshold {
+            return Some(other);
         }
     }
-    answer.word("unallowed");
-    Ok(())
+    None
 }
 
-/// A call of ranges that spill.
-fn with_ranges<T: Translator, const P: usize>(
-    others: &[Index<T, u64, P>],
-    ranges: &mut Vec<RangeIndex<T, u64, P>>,
-    line: &Line,
-    answer: &mut Answer,
-) -> Result<bool, Stop> {
-    match line.name {
-        Name::RangeStanding | Name::RangeMoves => of_range(ranges.get(line.count(0)), line, answer),
-        Name::RangeAt => range_at(others, ranges, line, answer)?,
-        _ => return Ok(false),
-    }
-    Ok(true)
-}
-
-impl<T: OrderedTranslator, const P: usize> Session for Pordered<T, P>
+impl<T: OrderedTranslator, const P: usize> Session for Spilling<T, P>
 where
     Index<T, u64, P>: LooksAhead,
 {
@@ -180,15 +144,23 @@ where
         request: &mut Request,
     ) -> Result<bool, Stop> {
         let (line, answer) = (&request.line, &mut request.answer);
-        if line.name == Name::Ahead {
+        if line.name() == "ahead" {
             return Ok(self.index.look_ahead(line, answer));
         }
-        if with_ranges(self.others.as_slice(), ranges, line, answer)?
-            || of_spills(&self.index, line, answer)
-            || call_in_order(&self.index, line, answer)
-        {
+        if of_spills(&self.index, line, answer) {
             return Ok(true);
         }
-        call_in_partitions(&mut self.index, ranges, request)
+        if line.name() == "range_at" {
+            match at_threshold(self.others.as_slice(), line.count(2)) {
+                Some(other) => add_range(other, ranges, line, answer)?,
+                None => answer.word("unallowed"),
+            }
+            return Ok(true);
+        }
+        call_in_order(&mut self.index, ranges, request)
+    }
+
+    fn call_range(range: &mut RangeIndex<T, u64, P>, request: &mut Request) -> bool {
+        of_spilled_range(&*range, &request.line, &mut request.answer) || call_range(range, request)
     }
 }

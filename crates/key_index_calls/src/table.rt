@@ -2,7 +2,7 @@
 ghost use Rattle.std.specs.Prelude.{◌≡◌, ◌<◌, None, slice_index_or, unwrap_or, vec_len};
 
 use crate::answer::Answer;
-use crate::line::{Line, Name, Stop};
+use crate::line::{Line, Stop};
 use crate::serve::{Request, Session};
 use key_index::table::Table;
 use key_index_flat::index::{Fault, Values};
@@ -134,12 +134,12 @@ fn remove(listed: &mut Listed, hash: u64, position: u64, answer: &mut Answer) {
 /// A call of the table. Tells whether the line is one.
 fn call(listed: &mut Listed, line: &Line, answer: &mut Answer) -> bool {
     let (hash, position) = (line.number(0), line.number(1));
-    match line.name {
-        Name::Insert => insert(listed, hash, position, answer),
-        Name::Remove => remove(listed, hash, position, answer),
-        Name::Contains => listed.tell_contained(hash, answer),
-        Name::Candidates => listed.tell_candidates(hash, answer),
-        Name::Counts => listed.tell_counts(answer),
+    match line.name() {
+        "insert" => insert(listed, hash, position, answer),
+        "remove" => remove(listed, hash, position, answer),
+        "contains" => listed.tell_contained(hash, answer),
+        "candidates" => listed.tell_candidates(hash, answer),
+        "counts" => listed.tell_counts(answer),
         _ => return false,
     }
     true
