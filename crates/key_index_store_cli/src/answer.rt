@@ -35,7 +35,7 @@ impl fmt::Display for Line<'_> {
     fn fmt<W: fmt::Write>(&self, f: &mut fmt::Formatter<W>) -> fmt::Result {
         let is_text = self.1;
         match self.0 {
-            Ok(Answer::Word(word)) => write!(f, "{word}"),
+            Ok(Answer::Word(word)) => f.write_str(word),
             Ok(Answer::Number(word, number)) => write!(f, "{word} {number}"),
             Ok(Answer::Value(Some(value))) => write!(f, "value {}", Bytes(value, is_text)),
             Ok(Answer::Entry(Some((key, value)))) => {
@@ -45,8 +45,8 @@ impl fmt::Display for Line<'_> {
                 let (before, after) = (Key(&gap.before, is_text), Key(&gap.after, is_text));
                 write!(f, "between {before} {after}")
             }
-            Ok(Answer::Gap(None)) => write!(f, "held"),
-            Ok(Answer::Value(None) | Answer::Entry(None)) => write!(f, "none"),
+            Ok(Answer::Gap(None)) => f.write_str("held"),
+            Ok(Answer::Value(None) | Answer::Entry(None)) => f.write_str("none"),
             Ok(Answer::Salvaged(records, left_out)) => {
                 write!(f, "salvaged {records} records, {left_out} bytes left out")
             }
@@ -63,7 +63,7 @@ impl fmt::Display for Key<'_> {
     fn fmt<W: fmt::Write>(&self, f: &mut fmt::Formatter<W>) -> fmt::Result {
         match self.0 {
             Some((key, _)) => write!(f, "{}", Bytes(key, self.1)),
-            None => write!(f, "none"),
+            None => f.write_str("none"),
         }
     }
 }
@@ -79,7 +79,7 @@ impl fmt::Display for Bytes<'_> {
             return write_text(self.0, f);
         }
         if self.0.is_empty() {
-            return write!(f, "-");
+            return f.write_str("-");
         }
         for byte in self.0 {
             write!(f, "{byte:02x}")?;
@@ -90,12 +90,12 @@ impl fmt::Display for Bytes<'_> {
 
 /// Writes a text in double quotes, with a backslash in front of each quote and backslash.
 fn write_text<W: fmt::Write>(bytes: &[u8], f: &mut fmt::Formatter<W>) -> fmt::Result {
-    write!(f, "\"")?;
+    f.write_str("\"")?;
     for byte in bytes {
         if *byte == b'"' || *byte == b'\\' {
-            write!(f, "\\")?;
+            f.write_str("\\")?;
         }
-        write!(f, "{}", char::from(*byte))?;
+        f.write_char(char::from(*byte))?;
     }
-    write!(f, "\"")
+    f.write_str("\"")
 }

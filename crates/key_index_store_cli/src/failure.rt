@@ -57,18 +57,25 @@ impl From<Fault> for Refusal {
     }
 }
 
-impl Failure<'_> {
-    /// Why a command is refused that needed the file. What the system said is told.
-    pub fn into_refusal(self, rt: &HostRuntime) -> Refusal {
-        match self {
-            Failure::Refused(refusal, _) => refusal,
-            Failure::CannotOpen(_, error) if error.kind() == ErrorKind::OutOfMemory => {
-                Refusal::For("memory")
-            }
-            failure => {
-                tell(rt, failure);
-                Refusal::For("open")
-            }
+/// What the system gave of the file of a name, or that it can't be opened.
+pub fn at<T>(path: &str, given: io::Result<T>) -> Result<T, Failure<'_>> {
+    match given {
+        Ok(given) => Ok(given),
+        Err(error) => Err(Failure::CannotOpen(path, error)),
+    }
+}
+
+/// What a command needed of a file, or why it is refused. What the system said is told.
+pub fn needed<T>(rt: &HostRuntime, given: Result<T, Failure<'_>>) -> Result<T, Refusal> {
+    match given {
+        Ok(given) => Ok(given),
+        Err(Failure::Refused(refusal, _)) => Err(refusal),
+        Err(Failure::CannotOpen(_, error)) if error.kind() == ErrorKind::OutOfMemory => {
+            Err(Refusal::For("memory"))
+        }
+        Err(failure) => {
+            tell(rt, failure);
+            Err(Refusal::For("open"))
         }
     }
 }

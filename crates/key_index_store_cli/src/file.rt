@@ -1,9 +1,9 @@
 //! The files of stores: how they are opened and locked, and how a fresh one takes its place.
 
-use crate::failure::{Failure, Refusal, tell};
+use crate::failure::{Failure, Refusal, at, tell};
 use key_index_store::file_device::{FileDevice, Unknown};
 use key_index_store::headed::{Headed, OpenError};
-use std::fs::{File, OpenFile, OpenOptions, TryLockError};
+use std::fs::{File, Metadata, OpenFile, OpenOptions, TryLockError};
 use std::io::ErrorKind;
 use std::os::fd::AsRawFd;
 use std::os::unix::fs::MetadataExt;
@@ -30,12 +30,18 @@ pub fn create(rt: &HostRuntime, path: &str) -> io::Result<File> {
     how.open(rt, path)
 }
 
+/// A file at the number of a standard stream, if one is closed.
+fn null<'a>(rt: &HostRuntime) -> Result<File, Failure<'a>> {
+    at(NULL, open(rt, NULL, true, false))
+}
+
 /// Files for the standard streams that are closed. Without them, the file of a store could get the number of one.
 pub fn fill_streams<'a>(rt: &HostRuntime) -> Result<[File; 3], Failure<'a>> {
-    let null = || open(rt, NULL, true, false).map_err(|error| Failure::CannotOpen(NULL, error));
-    let files = [null()?, null()?, null()?];
-    if files.iter().any(|file| file.as_raw_fd() < 2) {
-        return Err(Failure::Closed);
+    let files = [null(rt)?, null(rt)?, null(rt)?];
+    for file in &files {
+        if file.as_raw_fd() < 2 {
+            return Err(Failure::Closed);
+        }
     }
     Ok(files)
 }
@@ -77,13 +83,24 @@ pub fn headed<'a>(
     path: &'a str,
     no_store: &'static str,
 ) -> Result<Disk, Failure<'a>> {
-    Headed::open(rt.alloc(), FileDevice::new(file, Unknown)).map_err(|refused| {
-        let reason = match refused.reason {
-            OpenError::ReadFailed => "read",
-            OpenError::NoStore => no_store,
-        };
-        Failure::Refused(Refusal::For(reason), path)
-    })
+    match Headed::open(rt.alloc(), FileDevice::new(file, Unknown)) {
+        Ok(disk) => Ok(disk),
+        Err(refused) => {
+            let reason = match refused.reason {
+                OpenError::ReadFailed => "read",
+                OpenError::NoStore => no_store,
+            };
+            Err(Failure::Refused(Refusal::For(reason), path))
+        }
+    }
+}
+
+/// Refuses what is no regular file, by what the system says of it.
+pub fn check_regular(path: &str, metadata: io::Result<Metadata>) -> Result<(), Failure<'_>> {
+    if at(path, metadata)?.is_file() {
+        return Ok(());
+    }
+    Err(Failure::CannotOpen(path, io::Error::other("not a regular file")))
 }
 
 /// A file of a store.
@@ -114,11 +131,8 @@ pub fn open_store<'a>(rt: &HostRuntime, path: &'a str) -> Result<Opened, Failure
         },
         opened => opened,
     };
-    let cannot_open = |error| Failure::CannotOpen(path, error);
-    let file = opened.map_err(cannot_open)?;
-    if !file.metadata().map_err(cannot_open)?.is_file() {
-        return Err(cannot_open(io::Error::other("not a regular file")));
-    }
+    let file = at(path, opened)?;
+    check_regular(path, file.metadata())?;
     lock(rt, &file, path, is_read_only)?;
     Ok(Opened {
         disk: headed(rt, file, path, "no store")?,
@@ -133,10 +147,15 @@ pub fn sync_folder(rt: &HostRuntime, path: &str) -> Result<(), Refusal> {
         Some(folder) if folder.to_string_lossy() != "" => folder.to_string_lossy(),
         _ => ".",
     };
-    let opened = open(rt, folder, false, false);
-    let synced = opened.and_then(|folder| folder.sync_all());
-    synced.map_err(|error| {
-        tell(rt, Failure::CannotOpen(folder, error));
-        Refusal::For("sync")
-    })
+    let synced = match open(rt, folder, false, false) {
+        Ok(folder) => folder.sync_all(),
+        Err(error) => Err(error),
+    };
+    match synced {
+        Ok(()) => Ok(()),
+        Err(error) => {
+            tell(rt, Failure::CannotOpen(folder, error));
+            Err(Refusal::For("sync"))
+        }
+    }
 }

@@ -1,10 +1,10 @@
 //! A fresh file of a store, which is written beside the place that it takes once it is whole.
 
-use crate::failure::{Failure, Refusal, tell};
-use crate::file::{Disk, create, headed, is_at, lock, open};
+use crate::failure::{Failure, Refusal, at, needed, tell};
+use crate::file::{Disk, check_regular, create, headed, is_at, lock, open};
 use std::fs;
 use std::fs::{File, OpenFile, Permissions};
-use std::io::{Error, ErrorKind};
+use std::io::ErrorKind;
 use std::os::unix::fs::PermissionsExt;
 
 /// The permissions to read and to write of a file's owner.
@@ -29,60 +29,48 @@ enum Place {
     Own,
 }
 
-/// What stands at a path. A file there has to be empty, and is locked.
-fn take_place<'a>(rt: &HostRuntime, path: &'a str) -> Result<Place, Failure<'a>> {
+/// What stands at a path. The session's own file has to be a regular one; another one has to be empty, and is locked.
+fn take_place<'a>(rt: &HostRuntime, path: &'a str, is_own: bool) -> Result<Place, Failure<'a>> {
+    if is_own {
+        check_regular(path, fs::metadata(rt, path))?;
+        return Ok(Place::Own);
+    }
     let file = match open(rt, path, true, false) {
-        Ok(file) => file,
         Err(error) if error.kind() == ErrorKind::NotFound => return Ok(Place::Nothing),
-        Err(error) => return Err(Failure::CannotOpen(path, error)),
+        opened => at(path, opened)?,
     };
     let locked = lock(rt, &file, path, false);
-    match file.metadata() {
-        Ok(metadata) if metadata.is_file() && metadata.len() == 0 => {
-            locked.map(|()| Place::Empty(file))
-        }
-        Ok(_) => Err(Failure::Refused(Refusal::For("not empty"), path)),
-        Err(error) => Err(Failure::CannotOpen(path, error)),
+    let metadata = at(path, file.metadata())?;
+    if !metadata.is_file() || metadata.len() != 0 {
+        return Err(Failure::Refused(Refusal::For("not empty"), path));
     }
-}
-
-/// Refuses to put another file in the place of a device.
-fn check_regular<'a>(rt: &HostRuntime, path: &'a str) -> Result<(), Failure<'a>> {
-    match fs::metadata(rt, path) {
-        Ok(metadata) if metadata.is_file() => Ok(()),
-        Ok(_) => Err(Failure::CannotOpen(path, Error::other("not a regular file"))),
-        Err(error) => Err(Failure::CannotOpen(path, error)),
-    }
+    locked?;
+    Ok(Place::Empty(file))
 }
 
 /// Removes the name of a part that a command left which was interrupted. It has to be a store, and of no other session. Its bytes may
 /// have another name by then, also that of the session's own file, so none of them is changed.
 fn remove_part<'a>(rt: &HostRuntime, path: &'a str, own: &str) -> Result<(), Failure<'a>> {
-    let cannot_open = |error| Failure::CannotOpen(path, error);
     let file = match open(rt, path, true, false) {
         Err(error) if error.kind() == ErrorKind::NotFound => return Ok(()),
-        opened => opened.map_err(cannot_open)?,
+        opened => at(path, opened)?,
     };
-    if !is_at(rt, &file, own).map_err(cannot_open)? {
+    if !at(path, is_at(rt, &file, own))? {
         lock(rt, &file, path, false)?;
     }
     let _locked = headed(rt, file, path, "not empty")?;
-    fs::remove_file(rt, path).map_err(cannot_open)
+    at(path, fs::remove_file(rt, path))
 }
 
 /// A new file at a path, with the permissions of another one, which its owner may write.
 fn make_part<'a>(rt: &HostRuntime, path: &'a str, from: &str) -> Result<Disk, Failure<'a>> {
-    let cannot_open = |error| Failure::CannotOpen(path, error);
     remove_part(rt, path, from)?;
-    let file = create(rt, path).map_err(cannot_open)?;
+    let file = at(path, create(rt, path))?;
     lock(rt, &file, path, false)?;
-    let mode = fs::metadata(rt, from)
-        .map_err(cannot_open)?
-        .permissions()
-        .mode();
+    let mode = at(path, fs::metadata(rt, from))?.permissions().mode();
     let permissions = Permissions::from_mode(mode | OWNER);
-    if permissions != file.metadata().map_err(cannot_open)?.permissions() {
-        OpenFile::set_permissions(&file, permissions).map_err(cannot_open)?;
+    if permissions != at(path, file.metadata())?.permissions() {
+        at(path, OpenFile::set_permissions(&file, permissions))?;
     }
     headed(rt, file, path, "not empty")
 }
@@ -96,14 +84,9 @@ impl<'a> Fresh<'a> {
         from: &str,
         is_own: bool,
     ) -> Result<(Fresh<'a>, Disk), Refusal> {
-        let place = if is_own {
-            check_regular(rt, target).map(|()| Place::Own)
-        } else {
-            take_place(rt, target)
-        };
-        let place = place.map_err(|failure| failure.into_refusal(rt))?;
+        let place = needed(rt, take_place(rt, target, is_own))?;
         let part = format!(in rt.alloc(); "{target}.part")?;
-        let disk = make_part(rt, part.as_str(), from).map_err(|failure| failure.into_refusal(rt))?;
+        let disk = needed(rt, make_part(rt, part.as_str(), from))?;
         let fresh = Fresh {
             part,
             target,
@@ -115,13 +98,17 @@ impl<'a> Fresh<'a> {
     /// Gives the file its name. Where none was there, a second name is made, which fails if there is one now, and replaces nothing.
     fn rename(&self, rt: &HostRuntime) -> Result<(), Refusal> {
         let part = self.part.as_str();
-        let renamed = match &self.place {
-            Place::Nothing => fs::hard_link(rt, part, self.target).map(|()| {
-                let _ = fs::remove_file(rt, part);
-            }),
+        let renamed = match self.place {
+            Place::Nothing => fs::hard_link(rt, part, self.target),
             Place::Empty(_) | Place::Own => fs::rename(rt, part, self.target),
         };
-        renamed.map_err(|error| match error.kind() {
+        let Err(error) = renamed else {
+            if let Place::Nothing = self.place {
+                let _ = fs::remove_file(rt, part);
+            }
+            return Ok(());
+        };
+        Err(match error.kind() {
             ErrorKind::AlreadyExists => Refusal::For("not empty"),
             ErrorKind::OutOfMemory => Refusal::For("memory"),
             _ => {
@@ -138,7 +125,10 @@ impl<'a> Fresh<'a> {
         filled: Result<T, Refusal>,
     ) -> Result<T, Refusal> {
         let settled = match filled {
-            Ok(filled) => self.rename(rt).map(|()| filled),
+            Ok(filled) => match self.rename(rt) {
+                Ok(()) => Ok(filled),
+                Err(refusal) => Err(refusal),
+            },
             Err(refusal) => Err(refusal),
         };
         if settled.is_err() {

@@ -91,7 +91,9 @@ impl Word<'_> {
             Word::Plain(word) => Vec::from_slice(alloc, word)?,
             Word::Text(text) => text,
         };
-        let name = String::from_utf8(bytes).map_err(|_| Refusal::NoCommand)?;
+        let Ok(name) = String::from_utf8(bytes) else {
+            return Err(Refusal::NoCommand);
+        };
         if name.is_empty() {
             return Err(Refusal::NoCommand);
         }
@@ -103,10 +105,12 @@ impl Word<'_> {
             return Err(Refusal::NoCommand);
         };
         // Rust's parser takes a sign.
-        if !word.iter().all(|byte| byte.is_ascii_digit()) {
-            return Err(Refusal::NoCommand);
+        for byte in word {
+            if !byte.is_ascii_digit() {
+                return Err(Refusal::NoCommand);
+            }
         }
-        let number = str::from_utf8(word).ok().and_then(|word| word.parse().ok());
+        let number = str::from_utf8(word).unwrap_or("").parse().ok();
         number.ok_or(Refusal::NoCommand)
     }
 }
@@ -115,15 +119,23 @@ impl Word<'_> {
 fn text_of(alloc: Global, line: &[u8]) -> Result<(Word<'_>, &[u8]), Refusal> {
     let mut text = Vec::new(alloc);
     let mut rest = line;
+    let mut is_escaped = false;
     for _ in 0..line.len() {
-        let (byte, behind) = match rest {
-            [b'"', behind @ ..] => return Ok((Word::Text(text), behind)),
-            [b'\\', byte, behind @ ..] if *byte == b'"' || *byte == b'\\' => (*byte, behind),
-            [b'\\', ..] | [] => return Err(Refusal::NoCommand),
-            [byte, behind @ ..] => (*byte, behind),
+        let Some((byte, behind)) = rest.split_first() else {
+            break;
         };
-        text.push(byte)?;
         rest = behind;
+        let is_mark = *byte == b'"' || *byte == b'\\';
+        if is_mark == is_escaped {
+            text.push(*byte)?;
+            is_escaped = false;
+        } else if is_escaped {
+            break;
+        } else if *byte == b'"' {
+            return Ok((Word::Text(text), rest));
+        } else {
+            is_escaped = true;
+        }
     }
     Err(Refusal::NoCommand)
 }
@@ -161,48 +173,94 @@ fn words_of(alloc: Global, line: &[u8]) -> Result<Vec<Word<'_>>, Refusal> {
     Err(Refusal::NoCommand)
 }
 
+/// The words behind the name of a command.
+#[derive(Drop)]
+struct Words<'a> {
+    first: Option<Word<'a>>,
+    second: Option<Word<'a>>,
+}
+
+impl<'a> Words<'a> {
+    /// A command that has no words.
+    fn none<T: Drop>(self, command: T) -> Result<T, Refusal> {
+        match self.first {
+            None => Ok(command),
+            Some(_) => Err(Refusal::NoCommand),
+        }
+    }
+
+    /// The bytes of the only word, a key.
+    fn key(self, alloc: Global) -> Result<Vec<u8>, Refusal> {
+        match (self.first, self.second) {
+            (Some(key), None) => key.bytes(alloc),
+            _ => Err(Refusal::NoCommand),
+        }
+    }
+
+    /// The name of a file, the only word.
+    fn file(self, alloc: Global) -> Result<String, Refusal> {
+        match (self.first, self.second) {
+            (Some(file), None) => file.name(alloc),
+            _ => Err(Refusal::NoCommand),
+        }
+    }
+
+    /// The bytes of a key, and the word behind it.
+    fn key_and(self, alloc: Global) -> Result<(Vec<u8>, Word<'a>), Refusal> {
+        match (self.first, self.second) {
+            (Some(key), Some(second)) => Ok((key.bytes(alloc)?, second)),
+            _ => Err(Refusal::NoCommand),
+        }
+    }
+}
+
 /// What a line says, without its end.
 pub fn parse(alloc: Global, line: &[u8]) -> Result<Command, Refusal> {
     let mut words = words_of(alloc, line)?.into_iter();
     let Some(Word::Plain(name)) = words.next() else {
         return Err(Refusal::NoCommand);
     };
-    let name = str::from_utf8(name).unwrap_or("");
-    let command = match (name, words.next(), words.next()) {
-        ("put", Some(key), Some(value)) => Command::Put(key.bytes(alloc)?, value.bytes(alloc)?),
-        ("get", Some(key), None) => Command::Get(key.bytes(alloc)?),
-        ("has", Some(key), None) => Command::Has(key.bytes(alloc)?),
-        ("delete", Some(key), None) => Command::Delete(key.bytes(alloc)?),
-        ("count", None, _) => Command::Count,
-        ("sync", None, _) => Command::Sync,
-        ("cut", None, _) => Command::Cut,
-        ("salvage", Some(file), None) => Command::Salvage(file.name(alloc)?),
-        (name, first, second) => Command::InOrder(in_order(alloc, name, first, second)?),
+    let words = Words {
+        first: words.next(),
+        second: words.next(),
+    };
+    let command = match str::from_utf8(name).unwrap_or("") {
+        "put" => {
+            let (key, value) = words.key_and(alloc)?;
+            Command::Put(key, value.bytes(alloc)?)
+        }
+        "get" => Command::Get(words.key(alloc)?),
+        "has" => Command::Has(words.key(alloc)?),
+        "delete" => Command::Delete(words.key(alloc)?),
+        "count" => words.none(Command::Count)?,
+        "sync" => words.none(Command::Sync)?,
+        "cut" => words.none(Command::Cut)?,
+        "salvage" => Command::Salvage(words.file(alloc)?),
+        name => Command::InOrder(in_order(alloc, name, words)?),
     };
     Ok(command)
 }
 
-/// A command that asks for the order of the keys, by its words.
-fn in_order(
-    alloc: Global,
-    name: &str,
-    first: Option<Word<'_>>,
-    second: Option<Word<'_>>,
-) -> Result<InOrder, Refusal> {
-    let command = match (name, first, second) {
-        ("next", Some(key), None) => InOrder::Next(key.bytes(alloc)?),
-        ("prev", Some(key), None) => InOrder::Prev(key.bytes(alloc)?),
-        ("absent", Some(key), None) => InOrder::Absent(key.bytes(alloc)?),
-        ("first", None, _) => InOrder::First,
-        ("last", None, _) => InOrder::Last,
-        ("scan", Some(key), Some(count)) => InOrder::Scan(key.bytes(alloc)?, count.number()?),
-        ("scan-prefix", Some(key), Some(count)) => {
-            InOrder::ScanPrefix(key.bytes(alloc)?, count.number()?)
+/// A command that asks for the order of the keys, by its name and the words behind it.
+fn in_order(alloc: Global, name: &str, words: Words<'_>) -> Result<InOrder, Refusal> {
+    let command = match name {
+        "next" => InOrder::Next(words.key(alloc)?),
+        "prev" => InOrder::Prev(words.key(alloc)?),
+        "absent" => InOrder::Absent(words.key(alloc)?),
+        "first" => words.none(InOrder::First)?,
+        "last" => words.none(InOrder::Last)?,
+        "scan" => {
+            let (key, count) = words.key_and(alloc)?;
+            InOrder::Scan(key, count.number()?)
         }
-        ("dead", None, _) => InOrder::Dead,
-        ("compact", None, _) => InOrder::Compact(None),
-        ("compact", Some(file), None) => InOrder::Compact(Some(file.name(alloc)?)),
-        ("move", Some(file), None) => InOrder::Move(file.name(alloc)?),
+        "scan-prefix" => {
+            let (key, count) = words.key_and(alloc)?;
+            InOrder::ScanPrefix(key, count.number()?)
+        }
+        "dead" => words.none(InOrder::Dead)?,
+        "compact" if words.first.is_none() => InOrder::Compact(None),
+        "compact" => InOrder::Compact(Some(words.file(alloc)?)),
+        "move" => InOrder::Move(words.file(alloc)?),
         _ => return Err(Refusal::NoCommand),
     };
     Ok(command)

@@ -19,7 +19,7 @@ use key_index_parts::index::partitioned::{ordered as pordered, unordered as puno
 use key_index_store::store::Store;
 use key_index_store::translator::ThirtyTwoCap;
 use order::{Order, With, Without};
-use session::{Options, Session};
+use session::{Context, Options, Session};
 use std::env;
 use std::io::{BufReader, BufWriter, ErrorKind, Write};
 use std::process::ExitCode;
@@ -41,20 +41,27 @@ fn over<'a, I: Factory<Translator = T, Value = u64> + Drop, O: Order<I, T>, T: C
     let _streams = fill_streams(rt)?;
     let mut input = BufReader::with_capacity(alloc, BUFFER, rt.stdin())?;
     let mut output = BufWriter::with_capacity(alloc, BUFFER, rt.stdout())?;
-    let refused = |refusal| Failure::Refused(refusal, path);
-    let index = I::new(alloc, translator).map_err(|_| refused(Refusal::For("memory")))?;
+    let Ok(index) = I::new(alloc, translator) else {
+        return Err(Failure::Refused(Refusal::For("memory"), path));
+    };
     let opened = open_store(rt, path)?;
-    let store = Store::open(alloc, opened.disk, index);
-    let mut session = Session {
+    let store = match Store::open(alloc, opened.disk, index) {
+        Ok(store) => store,
+        Err(error) => return Err(Failure::Refused(Refusal::from(error.fault), path)),
+    };
+    let context = Context {
         rt,
         options,
-        store: store.map_err(|error| refused(Refusal::from(error.fault)))?,
-        translator,
         path: String::from_str(alloc, path)?,
         is_read_only: opened.is_read_only,
         is_new: opened.is_new,
         is_changed: false,
         is_well: true,
+    };
+    let mut session = Session {
+        context,
+        store,
+        translator,
     };
     session.tell_tail();
     let ended = session.run_lines::<O>(&mut input, &mut output);
@@ -125,11 +132,11 @@ fn run<'a>(rt: &HostRuntime, words: &'a [String]) -> Result<bool, Failure<'a>> {
 
 /// The words behind the program's name. One that is no text names no file and no kind.
 fn arguments(rt: &HostRuntime) -> Result<Vec<String>, Failure<'static>> {
-    let args = env::args(rt).map_err(|error| match error.kind() {
-        ErrorKind::InvalidData => Failure::Usage,
-        _ => Failure::Failed(error),
-    })?;
-    Ok(args.skip(1).collect(rt.alloc())?)
+    match env::args(rt) {
+        Ok(args) => Ok(args.skip(1).collect(rt.alloc())?),
+        Err(error) if error.kind() == ErrorKind::InvalidData => Err(Failure::Usage),
+        Err(error) => Err(Failure::Failed(error)),
+    }
 }
 
 fn main(rt: HostRuntime) -> ExitCode {

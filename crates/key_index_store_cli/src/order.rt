@@ -1,7 +1,7 @@
 //! The commands that ask for the order of the keys, which not every kind of index keeps.
 
-use crate::answer::{Answer, Answered, Entry, Line};
-use crate::failure::{Failure, Refusal};
+use crate::answer::{Answer, Answered, Entry};
+use crate::failure::{Refusal, at, needed};
 use crate::file::{Disk, sync_folder};
 use crate::fresh::Fresh;
 use crate::line::InOrder;
@@ -11,7 +11,6 @@ use key_index_store::device::Device;
 use key_index_store::record::HEAD;
 use key_index_store::store::{Store, Tail};
 use std::fs;
-use std::io::Write;
 
 /// How many bytes a record takes besides its key and its value.
 const FRAME: u64 = HEAD as u64 + 8;
@@ -49,12 +48,12 @@ impl<I: Ordered<Value = u64> + Factory<Translator = T> + Drop, T: Copy> Order<I,
             InOrder::Compact(None) => session.compact(),
             InOrder::Compact(Some(target)) => {
                 session.copy(target.as_str(), false)?;
-                sync_folder(session.rt, target.as_str())?;
+                sync_folder(session.context.rt, target.as_str())?;
                 Ok(DONE)
             }
             InOrder::Move(target) => {
                 let store = session.copy(target.as_str(), false)?;
-                session.path = target;
+                session.context.path = target;
                 session.go_on(store)
             }
         }
@@ -65,7 +64,7 @@ impl<I: Ordered<Value = u64> + Factory<Translator = T> + Drop, T: Copy> Session<
     /// The first entry of a key or a greater one.
     fn entry_from(&mut self, key: &[u8]) -> Result<Option<Entry>, Refusal> {
         match self.store.get(key)? {
-            Some(value) => Ok(Some((Vec::from_slice(self.rt.alloc(), key)?, value))),
+            Some(value) => Ok(Some((Vec::from_slice(self.context.rt.alloc(), key)?, value))),
             None => Ok(self.store.next(key)?),
         }
     }
@@ -84,18 +83,15 @@ impl<I: Ordered<Value = u64> + Factory<Translator = T> + Drop, T: Copy> Session<
             if !key.starts_with(prefix) {
                 break;
             }
-            last = Some(Vec::from_slice(self.rt.alloc(), &key)?);
-            let entry = Ok(Answer::Entry(Some((key, value))));
-            // What can't be written here can't be written behind it either, and is told there.
-            let written = writeln!(output, "{}", Line(&entry, self.options.is_text));
-            written.map_err(|_| Refusal::For("write"))?;
+            last = Some(Vec::from_slice(self.context.rt.alloc(), &key)?);
+            self.context.write_entry((key, value), output)?;
         }
         Ok(Answer::Word("end"))
     }
 
     /// How many bytes of the file a compaction would leave out.
     fn dead(&mut self) -> Answered {
-        let mut left = self.len()?;
+        let mut left = self.store.log_len()?;
         let mut entry = self.store.first()?;
         for _ in 0..self.store.len() {
             let Some((key, value)) = entry else {
@@ -112,14 +108,16 @@ impl<I: Ordered<Value = u64> + Factory<Translator = T> + Drop, T: Copy> Session<
     fn copy(&mut self, target: &str, is_own: bool) -> Result<Store<Disk, I>, Refusal>
         requires { I.makes }
     {
-        let rt = self.rt;
-        let index = I::new(rt.alloc(), self.translator).map_err(|_| Refusal::For("memory"))?;
-        let (fresh, disk) = Fresh::new(rt, target, self.path.as_str(), is_own)?;
+        let rt = self.context.rt;
+        let Ok(index) = I::new(rt.alloc(), self.translator) else {
+            return Err(Refusal::For("memory"));
+        };
+        let (fresh, disk) = Fresh::new(rt, target, self.context.path.as_str(), is_own)?;
         let synced = match self.store.compact(disk, index) {
-            Ok(mut store) => store
-                .sync()
-                .map(|()| store)
-                .map_err(|_| Refusal::For("write")),
+            Ok(mut store) => match store.sync() {
+                Ok(()) => Ok(store),
+                Err(_) => Err(Refusal::For("write")),
+            },
             Err(refused) => Err(Refusal::from(refused.fault)),
         };
         fresh.settle(rt, synced)
@@ -128,10 +126,10 @@ impl<I: Ordered<Value = u64> + Factory<Translator = T> + Drop, T: Copy> Session<
     /// Goes on over another file, which has all that was written.
     fn go_on(&mut self, store: Store<Disk, I>) -> Answered {
         self.store = store;
-        self.is_changed = false;
-        self.is_read_only = false;
+        self.context.is_changed = false;
+        self.context.is_read_only = false;
         // Until the folder is on the disk.
-        self.is_new = true;
+        self.context.is_new = true;
         self.sync()
     }
 
@@ -139,16 +137,13 @@ impl<I: Ordered<Value = u64> + Factory<Translator = T> + Drop, T: Copy> Session<
     fn compact(&mut self) -> Answered
         requires { I.makes }
     {
-        self.check_writable()?;
+        self.context.check_writable()?;
         if self.store.tail() == Tail::Damaged {
             return Err(Refusal::For("damaged"));
         }
         // Where the name is that of a link, the file that it leads to is replaced.
-        let rt = self.rt;
-        let path = fs::canonicalize(rt, self.path.as_str()).map_err(|error| Failure::CannotOpen(
-            self.path.as_str(),
-            error,
-        ).into_refusal(rt))?;
+        let (rt, path) = (self.context.rt, self.context.path.as_str());
+        let path = needed(rt, at(path, fs::canonicalize(rt, path)))?;
         let store = self.copy(path.as_str(), true)?;
         self.go_on(store)
     }

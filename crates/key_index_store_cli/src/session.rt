@@ -1,6 +1,6 @@
 //! A session: commands, and a line that answers each.
 
-use crate::answer::{Answer, Answered, Line};
+use crate::answer::{Answer, Answered, Entry, Line};
 use crate::failure::{Refusal, tell};
 use crate::file::{Disk, sync_folder};
 use crate::fresh::Fresh;
@@ -38,17 +38,13 @@ pub struct Options {
     pub keeps_going: bool,
 }
 
-/// A store over the file of a name, and how the session went.
+/// What a session is besides its store.
 #[derive(Drop)]
-pub struct Session<'a, I: Factory<Value = u64> + Drop> {
+pub struct Context<'a> {
     /// The system.
     pub rt: &'a HostRuntime,
     /// What the flags ask.
     pub options: Options,
-    /// The store.
-    pub store: Store<Disk, I>,
-    /// What makes an index of the store's kind.
-    pub translator: I::Translator,
     /// The name of the file.
     pub path: String,
     /// The file may not be written.
@@ -61,25 +57,27 @@ pub struct Session<'a, I: Factory<Value = u64> + Drop> {
     pub is_well: bool,
 }
 
-impl<I: Factory<Translator = T, Value = u64> + Drop, T: Copy> Session<'_, I> {
-    /// How many bytes stand behind the header.
-    pub fn len(&mut self) -> Result<u64, Refusal> {
-        let len = self.store.log_len();
-        len.map_err(|_| Refusal::For("read"))
+impl Context<'_> {
+    /// Refuses to change a file that may only be read.
+    pub fn check_writable(&self) -> Result<(), Refusal> {
+        if self.is_read_only {
+            return Err(Refusal::For("read-only"));
+        }
+        Ok(())
     }
 
-    /// Where the last whole record ends in the file, and how many bytes stand behind it.
-    fn tail(&mut self) -> Result<(u64, u64), Refusal> {
-        let (len, end) = (self.len()?, self.store.end());
-        Ok((end.saturating_add(HEADER), len.saturating_sub(end)))
+    /// Forces the file's name to the disk, which may not have it.
+    fn sync_name(&mut self) -> Result<(), Refusal> {
+        if self.is_new {
+            sync_folder(self.rt, self.path.as_str())?;
+            self.is_new = false;
+        }
+        Ok(())
     }
 
-    /// Tells what stands behind the last whole record, if its place can be read.
-    pub fn tell_tail(&mut self) {
-        let Ok((place, length)) = self.tail() else {
-            return;
-        };
-        match self.store.tail() {
+    /// Tells what stands behind the last whole record, from a place of the file on.
+    fn tell_tail(&self, tail: Tail, place: u64, length: u64) {
+        match tail {
             Tail::Nothing => {}
             Tail::Torn => tell(
                 self.rt,
@@ -96,56 +94,131 @@ impl<I: Factory<Translator = T, Value = u64> + Drop, T: Copy> Session<'_, I> {
         }
     }
 
-    /// Refuses to change a file that may only be read.
-    pub fn check_writable(&self) -> Result<(), Refusal> {
-        if self.is_read_only {
-            return Err(Refusal::For("read-only"));
+    /// Reads a line, without its end. Gives whether there is one. Answers wait only while another line is there to be read.
+    fn read_line(
+        &mut self,
+        number: u64,
+        line: &mut Vec<u8>,
+        input: &mut Input,
+        output: &mut Output,
+    ) -> io::Result<bool> {
+        if !input.buffer().contains(&b'\n') {
+            output.flush()?;
         }
-        Ok(())
+        line.clear();
+        if input.read_until(b'\n', line)? == 0 {
+            return Ok(false);
+        }
+        if line.pop() != Some(b'\n') {
+            tell(self.rt, format_args!("line {number} has no end"));
+            self.is_well = false;
+            return Ok(false);
+        }
+        if line.ends_with(b"\r") {
+            line.pop();
+        }
+        Ok(true)
+    }
+
+    /// Writes the answer to a line. Gives whether another one is to be read.
+    fn write_answer(
+        &mut self,
+        number: u64,
+        line: &[u8],
+        answered: &Answered,
+        output: &mut Output,
+    ) -> io::Result<bool> {
+        if let Err(Refusal::NoCommand) = answered {
+            output.flush()?;
+            let word = first_word(line);
+            let word = word.get(..SHOWN).unwrap_or(word).escape_ascii();
+            tell(self.rt, format_args!("bad line {number}: {word}"));
+            self.is_well = false;
+            return Ok(self.options.keeps_going);
+        }
+        self.is_well &= answered.is_ok();
+        writeln!(output, "{}", Line(answered, self.options.is_text))?;
+        Ok(true)
+    }
+
+    /// Writes an entry of a scan.
+    pub fn write_entry(&self, entry: Entry, output: &mut Output) -> Result<(), Refusal> {
+        let entry = Ok(Answer::Entry(Some(entry)));
+        match writeln!(output, "{}", Line(&entry, self.options.is_text)) {
+            Ok(()) => Ok(()),
+            // What can't be written here can't be written behind it either, and is told there.
+            Err(_) => Err(Refusal::For("write")),
+        }
+    }
+}
+
+/// A store over the file of a name, and how the session went.
+#[derive(Drop)]
+pub struct Session<'a, I: Factory<Value = u64> + Drop> {
+    /// How the session stands.
+    pub context: Context<'a>,
+    /// The store.
+    pub store: Store<Disk, I>,
+    /// What makes an index of the store's kind.
+    pub translator: I::Translator,
+}
+
+impl<I: Factory<Translator = T, Value = u64> + Drop, T: Copy> Session<'_, I> {
+    /// Where the last whole record ends in the file, and how many bytes stand behind it.
+    fn tail(&mut self) -> Result<(u64, u64), Refusal> {
+        let (len, end) = (self.store.log_len()?, self.store.end());
+        Ok((end.saturating_add(HEADER), len.saturating_sub(end)))
+    }
+
+    /// Tells what stands behind the last whole record, if its place can be read.
+    pub fn tell_tail(&mut self) {
+        if let Ok((place, length)) = self.tail() {
+            self.context.tell_tail(self.store.tail(), place, length);
+        }
     }
 
     /// Forces what was written to the disk.
     pub fn sync(&mut self) -> Answered {
-        if self.is_new {
-            sync_folder(self.rt, self.path.as_str())?;
-            self.is_new = false;
+        self.context.sync_name()?;
+        if self.store.sync().is_err() {
+            return Err(Refusal::For("sync"));
         }
-        self.store.sync().map_err(|_| Refusal::For("sync"))?;
-        self.is_changed = false;
+        self.context.is_changed = false;
         Ok(DONE)
     }
 
     /// What follows a change.
     fn changed(&mut self) -> Answered {
-        self.is_changed = true;
-        if self.options.is_durable {
+        self.context.is_changed = true;
+        if self.context.options.is_durable {
             return self.sync();
         }
         Ok(DONE)
     }
 
     /// Cuts off what a failed write left of a record, or all of it, where the system told a failure of what it did.
-    fn undone(&mut self, fault: Fault) -> Refusal {
+    fn undone(&mut self, fault: Fault) -> Answered {
         if fault == Fault::WriteFailed {
             let _ = self.store.cut_tail();
         }
-        Refusal::from(fault)
+        Err(Refusal::from(fault))
     }
 
     fn put(&mut self, key: &[u8], value: &[u8]) -> Answered {
-        self.check_writable()?;
-        let put = self.store.put(key, value);
-        put.map_err(|fault| self.undone(fault))?;
-        self.changed()
+        self.context.check_writable()?;
+        match self.store.put(key, value) {
+            Ok(()) => self.changed(),
+            Err(fault) => self.undone(fault),
+        }
     }
 
     fn delete(&mut self, key: &[u8]) -> Answered {
-        self.check_writable()?;
-        let deleted = self.store.delete(key);
-        if deleted.map_err(|fault| self.undone(fault))? {
-            return self.changed();
+        self.context.check_writable()?;
+        match self.store.delete(key) {
+            Ok(true) => self.changed(),
+            Ok(false) => Ok(Answer::Word("none")),
+            Err(fault) => self.undone(fault),
         }
-        Ok(Answer::Word("none"))
     }
 
     fn has(&mut self, key: &[u8]) -> Answered {
@@ -154,28 +227,31 @@ impl<I: Factory<Translator = T, Value = u64> + Drop, T: Copy> Session<'_, I> {
     }
 
     fn cut(&mut self) -> Answered {
-        self.check_writable()?;
+        self.context.check_writable()?;
         let (place, length) = self.tail()?;
         if length != 0 {
-            tell(self.rt, format_args!("cuts off {length} bytes at {place}"));
+            tell(
+                self.context.rt,
+                format_args!("cuts off {length} bytes at {place}"),
+            );
         }
         self.store.cut_tail()?;
         self.changed()
     }
 
     fn salvage(&mut self, target: &str) -> Answered {
-        let rt = self.rt;
-        let (fresh, mut disk) = Fresh::new(rt, target, self.path.as_str(), false)?;
-        let synced = match self.store.salvage(&mut disk) {
-            Ok(salvaged) => {
-                let synced = disk.sync().map_err(|_| Refusal::For("write"));
-                synced.map(|()| salvaged)
-            }
+        let rt = self.context.rt;
+        let (fresh, mut disk) = Fresh::new(rt, target, self.context.path.as_str(), false)?;
+        let salvaged = match self.store.salvage(&mut disk) {
+            Ok(salvaged) => match disk.sync() {
+                Ok(()) => Ok(Answer::Salvaged(salvaged.records, salvaged.left_out)),
+                Err(_) => Err(Refusal::For("write")),
+            },
             Err(fault) => Err(Refusal::from(fault)),
         };
-        let salvaged = fresh.settle(rt, synced)?;
+        let answer = fresh.settle(rt, salvaged)?;
         sync_folder(rt, target)?;
-        Ok(Answer::Salvaged(salvaged.records, salvaged.left_out))
+        Ok(answer)
     }
 
     fn answer<O: Order<I, T>>(&mut self, command: Command, output: &mut Output) -> Answered
@@ -194,31 +270,7 @@ impl<I: Factory<Translator = T, Value = u64> + Drop, T: Copy> Session<'_, I> {
         }
     }
 
-    /// Answers a line. Gives whether another one is to be read.
-    fn answer_line<O: Order<I, T>>(
-        &mut self,
-        number: u64,
-        line: &[u8],
-        output: &mut Output,
-    ) -> io::Result<bool>
-        requires { I.makes }
-    {
-        let parsed = parse(self.rt.alloc(), line);
-        let answered = parsed.and_then(|command| self.answer::<O>(command, output));
-        if let Err(Refusal::NoCommand) = answered {
-            output.flush()?;
-            let word = first_word(line);
-            let word = word.get(..SHOWN).unwrap_or(word).escape_ascii();
-            tell(self.rt, format_args!("bad line {number}: {word}"));
-            self.is_well = false;
-            return Ok(self.options.keeps_going);
-        }
-        self.is_well &= answered.is_ok();
-        writeln!(output, "{}", Line(&answered, self.options.is_text))?;
-        Ok(true)
-    }
-
-    /// Runs the commands of the input's lines, to its end. Answers wait only while another line is there to be read.
+    /// Runs the commands of the input's lines, to its end.
     pub fn run_lines<O: Order<I, T>>(
         &mut self,
         input: &mut Input,
@@ -226,23 +278,18 @@ impl<I: Factory<Translator = T, Value = u64> + Drop, T: Copy> Session<'_, I> {
     ) -> io::Result<()>
         requires { I.makes }
     {
-        let mut line = Vec::new(self.rt.alloc());
+        let alloc = self.context.rt.alloc();
+        let mut line = Vec::new(alloc);
         for number in 1..u64::MAX {
-            if !input.buffer().contains(&b'\n') {
-                output.flush()?;
+            if !self.context.read_line(number, &mut line, input, output)? {
+                break;
             }
-            line.clear();
-            if input.read_until(b'\n', &mut line)? == 0 {
-                return Ok(());
-            }
-            let Some(line) = line.strip_suffix(b"\n") else {
-                tell(self.rt, format_args!("line {number} has no end"));
-                self.is_well = false;
-                return Ok(());
+            let answered = match parse(alloc, &line) {
+                Ok(command) => self.answer::<O>(command, output),
+                Err(refusal) => Err(refusal),
             };
-            let line = line.strip_suffix(b"\r").unwrap_or(line);
-            if !self.answer_line::<O>(number, line, output)? {
-                return Ok(());
+            if !self.context.write_answer(number, &line, &answered, output)? {
+                break;
             }
         }
         Ok(())
@@ -250,10 +297,13 @@ impl<I: Factory<Translator = T, Value = u64> + Drop, T: Copy> Session<'_, I> {
 
     /// Ends the session: what was written is forced to the disk. Gives whether all went well.
     pub fn finish(&mut self) -> bool {
-        if self.is_changed && self.sync().is_err() {
-            tell(self.rt, format_args!("cannot sync {}", self.path));
-            self.is_well = false;
+        if self.context.is_changed && self.sync().is_err() {
+            tell(
+                self.context.rt,
+                format_args!("cannot sync {}", self.context.path),
+            );
+            return false;
         }
-        self.is_well
+        self.context.is_well
     }
 }
