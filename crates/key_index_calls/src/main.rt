@@ -23,7 +23,7 @@ use arrays::Arrays;
 use flat::{InNoOrder, InOrder};
 use immutable::{Immutable, Segmented};
 use key_index::snapshot::{Record, Snapshot};
-use key_index_flat::index::{Factory, Fault, Ordered, ordered, unordered};
+use key_index_flat::index::{Factory, ordered, unordered};
 use key_index_flat::translator::{
     Cap, EightCap, FourCap, Hashed, KeyHash, OneCap, OrderedTranslator, Translator, TwoCap,
 };
@@ -32,9 +32,8 @@ use line::Stop;
 use partitions::Partitions;
 use records::Filed;
 use serve::{Streams, serve};
-use snapshots::{Built, Parted, Whole};
-use spilling::{LooksAhead, Spilling};
-use std::alloc::Global;
+use snapshots::{Built, Whole};
+use spilling::{LooksAhead, Spilling, at_threshold};
 use std::env;
 use std::io::{BufRead, BufReader, BufWriter, Write};
 use std::process::ExitCode;
@@ -84,12 +83,22 @@ fn serve_unordered<T: Translator, R: BufRead, W: Write>(
     serve(InNoOrder { index }, streams)
 }
 
-/// Serves an index whose keys are in order.
-fn serve_ordered<I: Ordered<Value = u64> + Drop, R: BufRead, W: Write>(
-    index: Result<I, Fault>,
+/// Serves the flat ordered index.
+fn serve_ordered<T: OrderedTranslator, R: BufRead, W: Write>(
+    translator: T,
     streams: &mut Streams<R, W>,
 ) -> Result<(), Stop> {
-    serve(InOrder { index: index? }, streams)
+    let index = ordered::Index::new(streams.alloc, translator)?;
+    serve(InOrder { index }, streams)
+}
+
+/// Serves the plain index.
+fn serve_plain<T: OrderedTranslator, R: BufRead, W: Write>(
+    translator: T,
+    streams: &mut Streams<R, W>,
+) -> Result<(), Stop> {
+    let index = key_index_plain::Index::new(streams.alloc, translator)?;
+    serve(InOrder { index }, streams)
 }
 
 /// Serves the partitioned unordered index.
@@ -102,21 +111,6 @@ fn serve_partitions<T: Translator, const P: usize, R: BufRead, W: Write>(
 {
     let index = partitioned::unordered::Index::<T, u64, P>::new(streams.alloc, translator)?;
     serve(Partitions { index }, streams)
-}
-
-/// The partitioned ordered index, whose partitions spill at so many values, or at the default where that is 0.
-fn spilling_at<T: OrderedTranslator, const P: usize>(
-    alloc: Global,
-    translator: T,
-    threshold: usize,
-) -> Result<partitioned::ordered::Index<T, u64, P>, Fault>
-    requires least { 1 ≤ P }
-    requires greatest { P ≤ 3 }
-{
-    if threshold == 0 {
-        return Factory::new(alloc, translator);
-    }
-    partitioned::ordered::Index::with_threshold(alloc, translator, threshold)
 }
 
 /// The thresholds of the indices by one byte of which ranges are made.
@@ -134,15 +128,16 @@ where
     requires least { 1 ≤ P }
     requires greatest { P ≤ 3 }
 {
-    let index = spilling_at(streams.alloc, translator, threshold)?;
-    let mut others = Vec::new(streams.alloc);
+    let alloc = streams.alloc;
+    let index = at_threshold(alloc, translator, threshold)?;
+    let mut others = Vec::new(alloc);
     for other in thresholds {
-        others.push(spilling_at(streams.alloc, translator, *other)?)?;
+        others.push(at_threshold(alloc, translator, *other)?)?;
     }
     serve(Spilling { index, others }, streams)
 }
 
-/// Serves a snapshot over a flat ordered index.
+/// Serves a snapshot over the flat ordered index.
 fn serve_snapshot<T: OrderedTranslator, R: BufRead, W: Write>(
     translator: T,
     streams: &mut Streams<R, W>,
@@ -153,11 +148,27 @@ fn serve_snapshot<T: OrderedTranslator, R: BufRead, W: Write>(
 }
 
 /// Serves an index of records.
-fn serve_records<I: Ordered<Value = Record> + Drop, R: BufRead, W: Write>(
-    index: Result<I, Fault>,
+fn serve_records<T: OrderedTranslator, R: BufRead, W: Write>(
+    kind: &str,
+    translator: T,
     streams: &mut Streams<R, W>,
 ) -> Result<(), Stop> {
-    serve(Filed { index: index? }, streams)
+    let alloc = streams.alloc;
+    match kind {
+        "records_ordered" => {
+            let index = ordered::Index::new(alloc, translator)?;
+            serve(Filed { index }, streams)
+        }
+        "records_pordered" => {
+            let index = partitioned::ordered::Index::<T, Record, 1>::new(alloc, translator)?;
+            serve(Filed { index }, streams)
+        }
+        "records_plain" => {
+            let index = key_index_plain::Index::new(alloc, translator)?;
+            serve(Filed { index }, streams)
+        }
+        _ => Err(Stop::Usage),
+    }
 }
 
 /// Serves an index without partitions, or another one.
@@ -166,14 +177,13 @@ fn serve_flat<R: BufRead, W: Write>(
     threshold: usize,
     streams: &mut Streams<R, W>,
 ) -> Result<(), Stop> {
-    let alloc = streams.alloc;
     match kind {
         "unordered" => serve_unordered(OneCap, streams),
         "unordered_by_hash" => serve_unordered(by_hash(), streams),
-        "ordered" => serve_ordered(ordered::Index::new(alloc, OneCap), streams),
-        "ordered_by_eight" => serve_ordered(ordered::Index::new(alloc, EightCap), streams),
-        "ordered_by_arrays" => serve_ordered(ordered::Index::new(alloc, by_arrays()), streams),
-        "plain" => serve_ordered(key_index_plain::Index::new(alloc, OneCap), streams),
+        "ordered" => serve_ordered(OneCap, streams),
+        "ordered_by_eight" => serve_ordered(EightCap, streams),
+        "ordered_by_arrays" => serve_ordered(by_arrays(), streams),
+        "plain" => serve_plain(OneCap, streams),
         _ => serve_in_partitions(kind, threshold, streams),
     }
 }
@@ -191,30 +201,26 @@ fn serve_in_partitions<R: BufRead, W: Write>(
         "pordered" => serve_spilling::<OneCap, 1, _, _>(OneCap, threshold, &THRESHOLDS, streams),
         "pordered_by_two" => serve_spilling::<OneCap, 2, _, _>(OneCap, threshold, &[], streams),
         "pordered_wide" => serve_spilling::<TwoCap, 1, _, _>(TwoCap, threshold, &[], streams),
-        _ => serve_kind_of_records(kind, threshold, streams),
+        _ => serve_snapshots(kind, threshold, streams),
     }
 }
 
-/// Serves a snapshot or an index of records, or another one.
-fn serve_kind_of_records<R: BufRead, W: Write>(
+/// Serves a snapshot, or another one.
+fn serve_snapshots<R: BufRead, W: Write>(
     kind: &str,
     threshold: usize,
     streams: &mut Streams<R, W>,
 ) -> Result<(), Stop> {
-    let alloc = streams.alloc;
     match kind {
         "snapshot_ordered" => serve_snapshot(OneCap, streams),
         "snapshot_ordered_by_two" => serve_snapshot(TwoCap, streams),
         "snapshot_ordered_by_eight" => serve_snapshot(EightCap, streams),
-        "snapshot_pordered" => serve(Built::new(alloc, threshold)?, streams),
-        "records_ordered" => serve_records(ordered::Index::new(alloc, OneCap), streams),
-        "records_pordered" => serve_records(Parted::new(alloc, OneCap), streams),
-        "records_plain" => serve_records(key_index_plain::Index::new(alloc, OneCap), streams),
+        "snapshot_pordered" => serve(Built::new(streams.alloc, OneCap, threshold)?, streams),
         _ => serve_positions(kind, threshold, streams),
     }
 }
 
-/// Serves an index of positions, or what it is made of.
+/// Serves an index of positions, what it is made of, or another one.
 fn serve_positions<R: BufRead, W: Write>(
     kind: &str,
     start: usize,
@@ -228,7 +234,7 @@ fn serve_positions<R: BufRead, W: Write>(
         "segments" => serve(Segmented::new(alloc)?, streams),
         "table" => serve(Listed::new(alloc)?, streams),
         "arrays" => serve(Arrays::new(alloc), streams),
-        _ => Err(Stop::Usage),
+        _ => serve_records(kind, OneCap, streams),
     }
 }
 

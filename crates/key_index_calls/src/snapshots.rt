@@ -1,15 +1,14 @@
 //! Snapshots over ordered indices.
-ghost use Rattle.std.specs.Prelude.{◌≡◌, [], IfOk};
 ghost use Rattle.key_index_parts.specs.Ops.{IsCuts};
-ghost use Rattle.key_index_parts.specs.Ordered.{view};
 
 use crate::answer::Answer;
 use crate::line::{Line, Stop};
 use crate::partitions::{are_cuts, cuts};
 use crate::serve::{Request, Session};
+use crate::spilling::at_threshold;
 use key_index::snapshot::{Record, Snapshot};
-use key_index_flat::index::{Factory, Fault, Ordered};
-use key_index_flat::translator::OneCap;
+use key_index_flat::index::{Fault, Ordered};
+use key_index_flat::translator::OrderedTranslator;
 use key_index_parts::index::partitioned::ordered::Index;
 use key_index_uses::snapshots::gap_at;
 use std::alloc::Global;
@@ -73,35 +72,24 @@ impl<I: Ordered<Value = Record>> Session for Whole<I> {
     }
 }
 
-/// An index in partitions by one byte, of which a snapshot is built.
-pub(crate) type Parted = Index<OneCap, Record, 1>;
-
-/// A snapshot over partitions, which can be built anew.
+/// A snapshot over partitions by one byte, which can be built anew.
 #[derive(Drop)]
-pub(crate) struct Built {
-    pub(crate) threshold: usize,
-    pub(crate) snapshot: Snapshot<Parted>,
+pub(crate) struct Built<T: OrderedTranslator> {
+    translator: T,
+    threshold: usize,
+    snapshot: Snapshot<Index<T, Record, 1>>,
 }
 
-impl Built {
-    /// A snapshot with no key, over partitions that spill at so many values.
-    pub(crate) fn new(alloc: Global, threshold: usize) -> Result<Built, Fault> {
-        let snapshot = Snapshot::new(alloc, empty(alloc, threshold)?);
+impl<T: OrderedTranslator> Built<T> {
+    /// A snapshot with no key, over partitions that spill at so many values, or at the default where that is 0.
+    pub(crate) fn new(alloc: Global, translator: T, threshold: usize) -> Result<Built<T>, Fault> {
+        let index = at_threshold(alloc, translator, threshold)?;
         Ok(Built {
+            translator,
             threshold,
-            snapshot,
+            snapshot: Snapshot::new(alloc, index),
         })
     }
-}
-
-/// Such partitions, or those that spill at the default where it is 0.
-fn empty(alloc: Global, threshold: usize) -> Result<Parted, Fault>
-    ensures { IfOk result (λ index. (view index).content ≡ []) }
-{
-    if threshold == 0 {
-        return Index::new(alloc, OneCap);
-    }
-    Index::with_threshold(alloc, OneCap, threshold)
 }
 
 /// The records of lines.
@@ -119,35 +107,34 @@ fn records(alloc: Global, lines: &[Line]) -> Result<Vec<Record>, Stop> {
 }
 
 /// A snapshot that is built of records in the place of the one that there is.
-fn build_of(
+fn build_of<T: OrderedTranslator>(
     alloc: Global,
-    built: &mut Built,
+    built: &mut Built<T>,
     cuts: &[usize],
     records: Vec<Record>,
 ) -> Result<(), Fault>
     requires { IsCuts cuts.now 256 }
 {
-    let index = empty(alloc, built.threshold)?;
+    let index = at_threshold(alloc, built.translator, built.threshold)?;
     built.snapshot = Snapshot::build(alloc, index, cuts, records)?;
     Ok(())
 }
 
 /// The same, by the records of the lines that are kept.
-fn build(built: &mut Built, request: &mut Request) -> Result<(), Stop> {
+fn build<T: OrderedTranslator>(built: &mut Built<T>, request: &mut Request) -> Result<(), Stop> {
     let alloc = request.alloc;
     let cuts = cuts(alloc, &request.line)?;
     let records = records(alloc, request.kept.as_slice())?;
+    let answer = &mut request.answer;
     if are_cuts(cuts.as_slice(), 256) {
-        request
-            .answer
-            .made(build_of(alloc, built, cuts.as_slice(), records));
+        answer.made(build_of(alloc, built, cuts.as_slice(), records));
     } else {
-        request.answer.word("unallowed");
+        answer.word("unallowed");
     }
     Ok(())
 }
 
-impl Session for Built {
+impl<T: OrderedTranslator> Session for Built<T> {
     type Range = ();
 
     fn call(&mut self, _ranges: &mut Vec<()>, request: &mut Request) -> Result<bool, Stop> {

@@ -1,17 +1,38 @@
 //! The partitioned ordered index, whose partitions spill.
+ghost use Rattle.std.specs.Prelude.{◌≡◌, ◌≤◌, [], IfOk};
+ghost use Rattle.key_index_parts.specs.Ordered.{view};
+
 use crate::answer::Answer;
 use crate::line::{Line, Stop};
 use crate::partitions::{add_range, call_in_order, call_range};
 use crate::serve::{Request, Session};
+use key_index_flat::index::{Factory, Fault};
 use key_index_flat::translator::{OneCap, OrderedTranslator, Translator, TwoCap};
 use key_index_parts::index::partitioned::ordered::{Ahead, Index, RangeIndex};
 use key_index_parts::index::partitioned::{PartitionRange, Partitioned};
+use std::alloc::Global;
 
 /// The index, and others that spill at thresholds of their own, of which ranges are made.
 #[derive(Drop)]
 pub(crate) struct Spilling<T: Translator, const P: usize> {
     pub(crate) index: Index<T, u64, P>,
     pub(crate) others: Vec<Index<T, u64, P>>,
+}
+
+/// An index whose partitions spill at so many values, or at the default where that is 0.
+pub(crate) fn at_threshold<T: Translator, V: Drop, const P: usize>(
+    alloc: Global,
+    translator: T,
+    threshold: usize,
+) -> Result<Index<T, V, P>, Fault>
+    requires least { 1 ≤ P }
+    requires greatest { P ≤ 3 }
+    ensures { IfOk result (λ index. (view index).content ≡ []) }
+{
+    if threshold == 0 {
+        return Index::new(alloc, translator);
+    }
+    Index::with_threshold(alloc, translator, threshold)
 }
 
 /// An index whose batches look ahead. A call of `get_many_ahead` over any translator is more than the checker takes, so it is made by
@@ -120,7 +141,7 @@ fn of_spilled_range<T: Translator, const P: usize>(
 }
 
 /// The one of some indices that spills at a threshold.
-fn at_threshold<T: Translator, const P: usize>(
+fn with_threshold<T: Translator, const P: usize>(
     others: &[Index<T, u64, P>],
     threshold: usize,
 ) -> Option<&Index<T, u64, P>> {
@@ -151,7 +172,7 @@ where
             return Ok(true);
         }
         if line.name() == "range_at" {
-            match at_threshold(self.others.as_slice(), line.count(2)) {
+            match with_threshold(self.others.as_slice(), line.count(2)) {
                 Some(other) => add_range(other, ranges, line, answer)?,
                 None => answer.word("unallowed"),
             }
