@@ -1,4 +1,5 @@
 //! Batches of keys: one by one, at once, and looking ahead.
+use crate::index::{self, sum};
 use crate::keys::Sample;
 use crate::report::{Meter, Outcome, each, timed};
 use key_index_flat::index::{Factory, Fault, Unordered};
@@ -8,26 +9,9 @@ use key_index_parts::index::partitioned::ordered::{self, Ahead};
 /// The index that looks ahead.
 type Index = ordered::Index<EightCap, u64, 2>;
 
-/// The sum of the values of a key.
-#[inline]
-fn sum(index: &Index, key: &[u8]) -> u64 {
-    let mut sum = 0u64;
-    for value in index.get(key) {
-        sum = sum.wrapping_add(*value);
-    }
-    sum
-}
-
 /// The sum of the values of all keys, by batches of so many.
 fn many(index: &Index, size: usize, keys: &[[u8; 32]]) -> Result<u64, Fault> {
-    let mut sum = 0u64;
-    for batch in keys.chunks(size.max(1)) {
-        index.get_many(
-            batch.iter(),
-            |_, value: &u64| sum = sum.wrapping_add(*value),
-        )?;
-    }
-    Ok(sum)
+    index::many(index, size, keys)
 }
 
 /// The same, by batches that look ahead.
@@ -53,17 +37,14 @@ pub(crate) fn run<M: Meter>(keys: &Sample, report: &mut M) -> Outcome {
         Ok(0)
     })?;
     let later = &keys.later;
-    each(report, "get", later, |_, key| Ok(sum(&index, key)))?;
+    each(report, "get", later, |_, key| Ok(sum(index.get(key))))?;
     let count = later.len();
     timed(report, "many10", count, || many(&index, 10, later))?;
     timed(report, "ahead10", count, || ahead(&index, 10, later))?;
     timed(report, "many1000", count, || many(&index, 1000, later))?;
     timed(report, "ahead1000", count, || ahead(&index, 1000, later))?;
     timed(report, "many100000", count, || many(&index, 100_000, later))?;
-    timed(
-        report,
-        "ahead100000",
-        count,
-        || ahead(&index, 100_000, later),
-    )
+    timed(report, "ahead100000", count, || {
+        ahead(&index, 100_000, later)
+    })
 }

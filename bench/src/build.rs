@@ -31,13 +31,19 @@ pub(crate) fn equal_cuts(
     Ok(cuts)
 }
 
-/// Inserts each record, where its key has none.
+/// Inserts a record, where its key has none.
+fn insert<I: Unordered<Value = u64>>(index: &mut I, key: &[u8], value: u64) -> Result<(), Fault> {
+    index.get_mut_or_insert(key, value)?;
+    Ok(())
+}
+
+/// Inserts each record.
 fn insert_all<I: Unordered<Value = u64>>(
     index: &mut I,
     records: Vec<(Vec<u8>, u64)>,
 ) -> Result<u64, Fault> {
     for (key, value) in records {
-        index.get_mut_or_insert(&key, value)?;
+        insert(index, &key, value)?;
     }
     Ok(0)
 }
@@ -81,10 +87,9 @@ fn in_ranges<I: Factory<Translator = EightCap, Value = u64> + Partitioned + Drop
         return Ok(());
     }
     let cuts = equal_cuts(keys.alloc, partitions, ranges)?;
-    timed(report, name, keys.present.len(), || {
-        build_in_ranges(keys.alloc, &mut index, &cuts, ops)?;
-        Ok(0)
-    })
+    let start = report.start()?;
+    build_in_ranges(keys.alloc, &mut index, &cuts, ops)?;
+    report.line(name, keys.present.len(), start, 0)
 }
 
 /// Measures the builds of an index in partitions.

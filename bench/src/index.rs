@@ -10,7 +10,7 @@ const BATCH: usize = 1024;
 
 /// The sum of values.
 #[inline]
-fn sum(values: Values<'_, u64>) -> u64 {
+pub(crate) fn sum(values: Values<'_, u64>) -> u64 {
     let mut sum = 0u64;
     for value in values {
         sum = sum.wrapping_add(*value);
@@ -18,10 +18,14 @@ fn sum(values: Values<'_, u64>) -> u64 {
     sum
 }
 
-/// The sum of the values of all keys, by batches.
-fn many<I: Unordered<Value = u64>>(index: &I, keys: &[[u8; 32]]) -> Result<u64, Fault> {
+/// The sum of the values of all keys, by batches of so many.
+pub(crate) fn many<I: Unordered<Value = u64>>(
+    index: &I,
+    size: usize,
+    keys: &[[u8; 32]],
+) -> Result<u64, Fault> {
     let mut sum = 0u64;
-    for batch in keys.chunks(BATCH) {
+    for batch in keys.chunks(size.max(1)) {
         index.get_many(
             batch.iter(),
             |_, value: &u64| sum = sum.wrapping_add(*value),
@@ -106,7 +110,7 @@ fn singles<I: Unordered<Value = u64>, M: Meter>(
     })?;
     each(report, "get", &keys.later, |_, key| Ok(sum(index.get(key))))?;
     let (later, absent) = (&keys.later, &keys.absent);
-    timed(report, "many", later.len(), || many(index, later))?;
+    timed(report, "many", later.len(), || many(index, BATCH, later))?;
     each(report, "miss", absent, |_, key| Ok(sum(index.get(key))))?;
     each(report, "update", &keys.later, |_, key| add_one(index, key))
 }

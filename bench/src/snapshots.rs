@@ -1,7 +1,7 @@
 //! The operations of a snapshot, and the same of the standard library's ordered map of full keys.
 use crate::build::equal_cuts;
 use crate::keys::{Sample, numbered};
-use crate::report::{Meter, Outcome, each, timed};
+use crate::report::{Meter, Outcome, each};
 use key_index::snapshot::{Record, Snapshot};
 use key_index_flat::index::{Factory, Ordered};
 use key_index_flat::translator::EightCap;
@@ -86,9 +86,10 @@ fn run_build<
         return Ok(());
     }
     let cuts = equal_cuts(alloc, partitions, RANGES)?;
-    timed(report, "snapshot_build", keys.present.len(), || {
-        Ok(Snapshot::build(alloc, index, &cuts, records)?.len() as u64)
-    })
+    let start = report.start()?;
+    let snapshot = Snapshot::build(alloc, index, &cuts, records)?;
+    let count = keys.present.len();
+    report.line("snapshot_build", count, start, snapshot.len() as u64)
 }
 
 /// Measures a snapshot over an index in partitions, and its build.
