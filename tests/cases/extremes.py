@@ -70,19 +70,21 @@ def holds_a_key_ten_thousand_times(*words):
         index.holds(b"\x10", values[::-1] if index.inserts_first else values)
 
 
-@case
-def long_keys_are_cut():
+@case_of("ordered", "ordered_by_eight", "punordered", "pordered", "pordered_wide")
+def cuts_long_keys(*words):
     """Keys of 1 to 70,000 zeros are one key, and those that differ from them in the last byte are others as far as the
     index key goes."""
-    for kind, others, counts in [("ordered", [0], (2, 11, 0)), ("ordered_by_eight", [0, 7], (3, 11, 0))]:
-        with Asked(kind) as index:
-            index.inserts(b"", 0)
-            for zeros in [0, 7, 8, 9, 69_999]:
-                index.inserts(bytes(zeros) + b"\x00", 0)
-                index.inserts(bytes(zeros) + b"\x01", 1)
-            for zeros in [0, 7, 8, 9, 69_999]:
-                index.ask(f"len {word(bytes(zeros) + bytes([1]))}", 1 if zeros in others else 11 - len(others))
-            index.counts(*counts)
+    width = WIDTHS[words[0]]
+    places = [0, 1, 2, 3, 7, 8, 9, 69_999]
+    others = [zeros for zeros in places if zeros < width]
+    with Asked(*words) as index:
+        index.inserts(b"", 0)
+        for zeros in places:
+            index.inserts(bytes(zeros) + b"\x00", 0)
+            index.inserts(bytes(zeros) + b"\x01", 1)
+        for zeros in places:
+            index.ask(f"len {word(bytes(zeros) + bytes([1]))}", 1 if zeros in others else 17 - len(others))
+        index.counts(1 + len(others), 17, 0)
 
 
 def short_keys(index):

@@ -7,7 +7,6 @@ mod partitions;
 mod plain;
 mod program;
 mod room;
-mod slots;
 mod small;
 mod translators;
 mod walks;

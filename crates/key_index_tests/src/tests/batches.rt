@@ -2,7 +2,7 @@
 use super::checks::{holds, made, put};
 use key_index_flat::index::{Factory, Unordered, ordered};
 use key_index_flat::translator::OneCap;
-use key_index_parts::index::partitioned::ordered::{Ahead, Index, visit_ahead};
+use key_index_parts::index::partitioned::ordered::{Ahead, visit_ahead};
 use key_index_uses::callers::last_values;
 use key_index_uses::records::find_records;
 use std::alloc::Global;
@@ -10,9 +10,6 @@ use std::process::Abort;
 
 /// The flat ordered index by one byte.
 type Flat = ordered::Index<OneCap, u64>;
-
-/// The partitioned ordered index by one byte and then one more.
-type InPartitions = Index<OneCap, u64, 1>;
 
 /// Three keys by their first bytes: 0b with the value 1, 1c with 22 and 21, 2d with 3.
 fn three(rt: &impl Abort, alloc: Global) -> Flat {
@@ -50,10 +47,8 @@ fn last_values_fill_a_slice(rt: HostRuntime) {
 
 #[test]
 fn told_values_may_be_kept(rt: HostRuntime) {
-    let mut index: InPartitions = made(&rt, Factory::new(rt.alloc(), OneCap));
-    put(&rt, index.insert(b"\x10\x02", 2));
-    put(&rt, index.insert(b"\x10\x02", 22));
-    let keys: [&[u8]; 2] = [b"\x10\x02", b"\x10"];
+    let index = three(&rt, rt.alloc());
+    let keys: [&[u8]; 2] = [b"\x1c", b"\x0b"];
     let mut kept: Option<&u64> = None;
     let mut keep = |event| {
         if let Ahead::Visit(_, value) = event {
@@ -62,7 +57,7 @@ fn told_values_may_be_kept(rt: HostRuntime) {
     };
     let done = visit_ahead(rt.alloc(), &index, keys.iter().copied(), &mut keep);
     holds(&rt, done.is_ok(), "a batch");
-    holds(&rt, kept.copied() == Some(22), "the kept value");
+    holds(&rt, kept.copied() == Some(21), "the kept value");
 }
 
 /// The keys of records by position.
@@ -72,26 +67,18 @@ const LOG: [&[u8]; 6] = [b"one", b"only", b"two", b"one", b"on", b"once"];
 const SOUGHT: [&[u8]; 7] = [b"two", b"one", b"onto", b"only", b"tw", b"one", b""];
 
 /// What they are answered.
-const FOUND: [Option<u64>; 7] = [Some(2), Some(3), None, Some(1), None, Some(3), Some(9)];
+const FOUND: [Option<u64>; 7] = [Some(2), Some(0), None, Some(1), None, Some(0), Some(9)];
 
-/// Records of keys of which the index tells some not apart: the newest record of each key, and none of an absent one.
-fn finds(rt: &impl Abort, alloc: Global, mut index: InPartitions) {
-    for (position, key) in LOG.iter().enumerate() {
-        put(rt, index.insert(*key, position as u64));
-    }
-    let mut answers = [None, None, None, None, None, None, Some(9)];
-    let found = find_records(alloc, &index, &LOG, &SOUGHT, &mut answers);
-    holds(rt, found.is_ok(), "memory");
-    holds(rt, answers == FOUND, "the newest records");
-}
-
+/// Records of keys of which the index tells some not apart: the oldest record of each key, and none of an absent one.
 #[test]
 fn records_are_found(rt: HostRuntime) {
     let alloc = rt.alloc();
-    finds(&rt, alloc, made(&rt, Factory::new(alloc, OneCap)));
-    finds(
-        &rt,
-        alloc,
-        made(&rt, Index::with_threshold(alloc, OneCap, 2)),
-    );
+    let mut index: Flat = made(&rt, Factory::new(alloc, OneCap));
+    for (position, key) in LOG.iter().enumerate() {
+        put(&rt, index.insert(*key, position as u64));
+    }
+    let mut answers = [None, None, None, None, None, None, Some(9)];
+    let found = find_records(alloc, &index, &LOG, &SOUGHT, &mut answers);
+    holds(&rt, found.is_ok(), "memory");
+    holds(&rt, answers == FOUND, "the oldest records");
 }

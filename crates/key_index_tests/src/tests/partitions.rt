@@ -1,10 +1,10 @@
-//! The partitions of keys, and indices of many partitions or of long index keys.
+//! The partitions of keys, an index of many partitions, and one that is built of the newest records.
 ghost use Rattle.std.specs.Prelude.{◌≤◌, IsTrue};
 ghost use Rattle.key_index_parts.specs.Ops.{IsCuts};
 
 use super::checks::{are, counts_are, holds, made, neighbour_is, push, put};
-use key_index_flat::index::{Factory, Ordered, Unordered};
-use key_index_flat::translator::{EightCap, OneCap, TwoCap};
+use key_index_flat::index::{Factory, Ordered, Runs, Unordered};
+use key_index_flat::translator::{OneCap, TwoCap};
 use key_index_parts::index::partitioned::{self, Partitioned, partition_index_and_sub_key};
 use key_index_uses::builds::newest_positions;
 use std::alloc::Global;
@@ -93,47 +93,6 @@ fn neighbours_stand_across_all_partitions(rt: HostRuntime) {
     neighbour_is(&rt, index.next_translated_key(b""), &[2], false);
 }
 
-/// An index by nine bytes.
-type ByNine = partitioned::ordered::Index<EightCap, u64, 1>;
-
-/// A key of so many zeros, and then this byte.
-fn zeros_then(rt: &impl Abort, alloc: Global, zeros: usize, last: u8) -> Vec<u8> {
-    let mut key = Vec::new(alloc);
-    assert!(rt; key.resize(zeros, 0).is_ok());
-    push(rt, &mut key, last);
-    key
-}
-
-/// How many zeros the keys have.
-const ZEROS: [usize; 5] = [0, 7, 8, 9, 69_999];
-
-/// Keys of 1 to 70,000 zeros, and those that differ from them in the last byte.
-fn long_keys(rt: &impl Abort, alloc: Global, index: &mut ByNine) {
-    put(rt, index.insert(b"", 0));
-    for zeros in ZEROS {
-        put(rt, index.insert(&zeros_then(rt, alloc, zeros, 0), 0));
-        put(rt, index.insert(&zeros_then(rt, alloc, zeros, 1), 1));
-    }
-}
-
-/// The first are one key, and the others are others as far as the index key goes.
-#[test]
-fn long_keys_are_cut(rt: HostRuntime) {
-    let alloc = rt.alloc();
-    let mut index: ByNine = made(&rt, Factory::new(alloc, EightCap));
-    long_keys(&rt, alloc, &mut index);
-    for zeros in ZEROS {
-        let found = index.get(&zeros_then(&rt, alloc, zeros, 1)).count();
-        let is_found = if zeros < 9 { found == 1 } else { found > 6 };
-        assert!(&rt; is_found, "{zeros} zeros and a one");
-    }
-    counts_are(
-        &rt,
-        (index.keys(), index.items(), index.pruned()),
-        (4, 11, 0),
-    );
-}
-
 /// Whether numbers strictly ascend from 0 to a count.
 fn are_cuts(cuts: &[usize], count: usize) -> bool
     ensures { IsTrue result → IsCuts cuts.now count }
@@ -183,52 +142,33 @@ fn records(rt: &impl Abort, alloc: Global) -> Vec<(Vec<u8>, u64)> {
 type InOrder = partitioned::ordered::Index<OneCap, u64, 1>;
 
 /// The newest record of each full key stands, of two that share an index key too.
-fn newest_in_order(rt: &impl Abort, alloc: Global, index: InOrder) {
-    assert!(rt; index.keys() == 0);
-    assert!(rt; are_cuts(&CUTS, index.partition_count()));
-    let Ok(index) = newest_positions(alloc, index, &CUTS, records(rt, alloc)) else {
-        panic!(rt; "an index")
-    };
-    are(rt, index.get(b"\x10\x01"), &[9, 7]);
-    are(rt, index.get(b"\x80\x01"), &[8]);
-    are(rt, index.get(b"\xff"), &[4]);
-    counts_are(rt, (index.keys(), index.items(), index.pruned()), (3, 4, 0));
-}
-
 #[test]
-fn newest_stand_in_order(rt: HostRuntime) {
+fn newest_positions_stand(rt: HostRuntime) {
     let alloc = rt.alloc();
-    newest_in_order(&rt, alloc, made(&rt, Factory::new(alloc, OneCap)));
-    newest_in_order(
-        &rt,
-        alloc,
-        made(&rt, InOrder::with_threshold(alloc, OneCap, 1)),
-    );
-    newest_in_order(
-        &rt,
-        alloc,
-        made(&rt, InOrder::with_threshold(alloc, OneCap, 2)),
-    );
-}
-
-#[test]
-fn newest_stand_without_order(rt: HostRuntime) {
-    let alloc = rt.alloc();
-    let index: partitioned::unordered::Index<OneCap, u64, 1> = made(
-        &rt,
-        Factory::new(alloc, OneCap),
-    );
+    let index: InOrder = made(&rt, InOrder::with_threshold(alloc, OneCap, 2));
     assert!(&rt; index.keys() == 0);
     assert!(&rt; are_cuts(&CUTS, index.partition_count()));
     let Ok(index) = newest_positions(alloc, index, &CUTS, records(&rt, alloc)) else {
         panic!(&rt; "an index")
     };
-    are(&rt, index.get(b"\x10\x01"), &[7, 9]);
+    are(&rt, index.get(b"\x10\x01"), &[9, 7]);
     are(&rt, index.get(b"\x80\x01"), &[8]);
     are(&rt, index.get(b"\xff"), &[4]);
     counts_are(
         &rt,
         (index.keys(), index.items(), index.pruned()),
         (3, 4, 0),
+    );
+}
+
+#[test]
+fn slots_have_their_partition(rt: HostRuntime) {
+    let index: InOrder = made(&rt, Factory::new(rt.alloc(), OneCap));
+    holds(&rt, index.slot_of(b"\x01") == (0x01, 0), "01");
+    holds(&rt, index.slot_of(b"\x01\x00") == (0x01, 0), "0100");
+    holds(
+        &rt,
+        index.slot_of(b"\x10\x02\xff") == (0x10, 0x02),
+        "1002ff",
     );
 }

@@ -1,5 +1,5 @@
 //! The constants of each index, the values of a slice, the texts of faults, and the uses of the repository's page.
-use super::checks::{are, holds, reads};
+use super::checks::{are, holds, put, reads};
 use key_index_flat::index::{Factory, Fault, Outcome, Unordered, Values, ordered, unordered};
 use key_index_flat::translator::OneCap;
 use key_index_parts::index::partitioned;
@@ -34,116 +34,62 @@ fn faults_print(rt: HostRuntime) -> Result<(), Fail> {
     Ok(())
 }
 
+/// Whether looking keys up warms the changes that follow. `INSERT_FIRST` is asked for in the cases.
 #[test]
-fn insert_order_and_warmth(rt: HostRuntime) {
-    holds(
-        &rt,
-        unordered::Index::<OneCap, u64>::INSERT_FIRST,
-        "INSERT_FIRST",
-    );
-    holds(
-        &rt,
+fn lookups_warm_updates(rt: HostRuntime) {
+    let warmths = [
         unordered::Index::<OneCap, u64>::LOOKUP_WARMS_UPDATE,
-        "LOOKUP_WARMS_UPDATE",
-    );
-    holds(
-        &rt,
-        ordered::Index::<OneCap, u64>::INSERT_FIRST,
-        "INSERT_FIRST",
-    );
-    holds(
-        &rt,
-        !ordered::Index::<OneCap, u64>::LOOKUP_WARMS_UPDATE,
-        "LOOKUP_WARMS_UPDATE",
-    );
-    holds(
-        &rt,
-        partitioned::unordered::Index::<OneCap, u64, 1>::INSERT_FIRST,
-        "INSERT_FIRST",
-    );
-    holds(
-        &rt,
+        ordered::Index::<OneCap, u64>::LOOKUP_WARMS_UPDATE,
         partitioned::unordered::Index::<OneCap, u64, 1>::LOOKUP_WARMS_UPDATE,
-        "LOOKUP_WARMS_UPDATE",
-    );
-    holds(
-        &rt,
-        !partitioned::ordered::Index::<OneCap, u64, 1>::INSERT_FIRST,
-        "INSERT_FIRST",
-    );
-    holds(
-        &rt,
         partitioned::ordered::Index::<OneCap, u64, 1>::LOOKUP_WARMS_UPDATE,
-        "LOOKUP_WARMS_UPDATE",
-    );
+    ];
+    holds(&rt, warmths == [true, false, true, true], "the constants");
 }
 
-/// Whether an index that has two values of one index key says so, and whether a copy of its values has both.
-fn tells_what_it_has<I: Unordered<Value = u64> + Debug>(
-    rt: &impl Abort,
-    alloc: Global,
-    mut index: I,
-) -> Result<(), Fail>
-where
-    I: Drop,
-{
-    reads(
-        rt,
-        format!(in alloc; "{index:?}")?.as_str(),
-        "Index { keys: 0, items: 0, pruned: 0 }",
-    );
-    holds(rt, !index.contains_key(b"\x0b\x02"), "no key is held");
-    for (key, value) in [(b"\x0b\x02\x01", 1), (b"\x0b\x02\x02", 2)] {
-        index.insert(key, value).expect(rt, "insert");
-    }
-    holds(rt, index.contains_key(b"\x0b\x02"), "a key is held");
-    holds(rt, !index.contains_key(b"\x0c\x02"), "another is not");
-    let mut values = index.get(b"\x0b\x02");
-    let first = values.next().copied();
-    let copy = values.clone()?;
-    holds(rt, first.is_some() && copy.len() == 1, "one is left");
-    holds(
-        rt,
-        copy.last().copied() == values.last().copied(),
-        "a copy has it",
-    );
-    reads(
-        rt,
-        format!(in alloc; "{index:?}")?.as_str(),
-        "Index { keys: 1, items: 2, pruned: 0 }",
-    );
-    index.remove(b"\x0b\x02").expect(rt, "remove");
-    reads(
-        rt,
-        format!(in alloc; "{index:?}")?.as_str(),
-        "Index { keys: 0, items: 0, pruned: 2 }",
-    );
+/// An index is printed so.
+fn shows<I: Debug>(rt: &impl Abort, alloc: Global, index: &I, want: &str) -> Result<(), Fail> {
+    reads(rt, format!(in alloc; "{index:?}")?.as_str(), want);
     Ok(())
 }
 
+/// The text of an index of one key with two values.
+const TWO: &str = "Index { keys: 1, items: 2, pruned: 0 }";
+
 #[test]
-fn indices_tell_what_they_have(rt: HostRuntime) -> Result<(), Fail> {
+fn flat_indices_tell_what_they_have(rt: HostRuntime) -> Result<(), Fail> {
     let alloc = rt.alloc();
-    tells_what_it_has(
-        &rt,
-        alloc,
-        unordered::Index::<OneCap, u64>::new(alloc, OneCap).expect(&rt, "an index"),
-    )?;
-    tells_what_it_has(
-        &rt,
-        alloc,
-        ordered::Index::<OneCap, u64>::new(alloc, OneCap).expect(&rt, "an index"),
-    )?;
-    tells_what_it_has(
-        &rt,
-        alloc,
-        partitioned::unordered::Index::<OneCap, u64, 1>::new(alloc, OneCap).expect(&rt, "an index"),
-    )?;
-    tells_what_it_has(
-        &rt,
-        alloc,
-        partitioned::ordered::Index::<OneCap, u64, 1>::new(alloc, OneCap).expect(&rt, "an index"),
-    )
+    let mut index = unordered::Index::<OneCap, u64>::new(alloc, OneCap)?;
+    shows(&rt, alloc, &index, "Index { keys: 0, items: 0, pruned: 0 }")?;
+    holds(&rt, !index.contains_key(b"\x0b\x02"), "no key is held");
+    put(&rt, index.insert(b"\x0b\x02\x01", 1));
+    put(&rt, index.insert(b"\x0b\x02\x02", 2));
+    holds(&rt, index.contains_key(b"\x0b\x02"), "a key is held");
+    holds(&rt, !index.contains_key(b"\x0c\x02"), "another is not");
+    let mut values = index.get(b"\x0b\x02");
+    let first = values.next().copied();
+    let copy = values.clone()?;
+    holds(&rt, first == Some(2) && copy.len() == 1, "one is left");
+    holds(&rt, copy.copied().eq(values.copied()), "a copy has it");
+    shows(&rt, alloc, &index, TWO)?;
+    holds(&rt, index.remove(b"\x0b").is_ok(), "remove");
+    shows(&rt, alloc, &index, "Index { keys: 0, items: 0, pruned: 2 }")?;
+    let mut index = ordered::Index::<OneCap, u64>::new(alloc, OneCap)?;
+    put(&rt, index.insert(b"\x0b\x02", 1));
+    put(&rt, index.insert(b"\x0b", 2));
+    shows(&rt, alloc, &index, TWO)
+}
+
+#[test]
+fn indices_in_partitions_tell_what_they_have(rt: HostRuntime) -> Result<(), Fail> {
+    let alloc = rt.alloc();
+    let mut index = partitioned::unordered::Index::<OneCap, u64, 1>::new(alloc, OneCap)?;
+    put(&rt, index.insert(b"\x0b\x02\x01", 1));
+    put(&rt, index.insert(b"\x0b\x02\x02", 2));
+    shows(&rt, alloc, &index, TWO)?;
+    let mut index = partitioned::ordered::Index::<OneCap, u64, 1>::new(alloc, OneCap)?;
+    put(&rt, index.insert(b"\x0b\x02\x01", 1));
+    put(&rt, index.insert(b"\x0b\x02\x02", 2));
+    shows(&rt, alloc, &index, TWO)
 }
 
 #[test]

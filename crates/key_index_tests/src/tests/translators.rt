@@ -12,7 +12,7 @@ use std::process::Abort;
 /// A key hash that an attacker would like: the first byte of a key, whatever the seed. Over it a hashed translator gives what its
 /// inner one gives of that byte.
 #[derive(Clone, Copy)]
-pub(super) struct FirstByte;
+struct FirstByte;
 
 impl KeyHash for FirstByte {
     ghost use Rattle.std.specs.Prelude.{slice_index};
@@ -57,7 +57,7 @@ fn number_of<H: KeyHash>(seed: u64, key: &[u8]) -> u64 {
 }
 
 /// An array of bytes.
-pub(super) fn array<const N: usize>(inner: [u8; N]) -> UnhashedArray<N> {
+fn array<const N: usize>(inner: [u8; N]) -> UnhashedArray<N> {
     UnhashedArray { inner }
 }
 

@@ -1,4 +1,4 @@
-//! The walk over the lists of an ordered index: without partitions, in arrays, and where some partitions are trees.
+//! The walk over the lists of an ordered index: without partitions, and in partitions, some of them in arrays and some in trees.
 use super::checks::{are, holds, made, put};
 use key_index_flat::index::{Factory, OrderedLists, Walk, lists, lists_from, ordered};
 use key_index_flat::translator::{OneCap, TwoCap};
@@ -51,13 +51,7 @@ fn lists_come_in_order_without_partitions(rt: HostRuntime) {
 type ByTwo = partitioned::ordered::Index<OneCap, u64, 1>;
 
 #[test]
-fn lists_come_in_order_from_arrays(rt: HostRuntime) {
-    let mut index: ByTwo = made(&rt, Factory::new(rt.alloc(), OneCap));
-    walks(&rt, &mut index);
-}
-
-#[test]
-fn lists_come_in_order_from_trees(rt: HostRuntime) {
+fn lists_come_in_order_from_partitions(rt: HostRuntime) {
     let mut index: ByTwo = made(&rt, ByTwo::with_threshold(rt.alloc(), OneCap, 2));
     walks(&rt, &mut index);
 }
