@@ -23,17 +23,17 @@ use arrays::Arrays;
 use flat::{InNoOrder, InOrder};
 use immutable::{Immutable, Segmented};
 use key_index::snapshot::{Record, Snapshot};
-use key_index_flat::index::{Factory, ordered, unordered};
+use key_index_flat::index::{Factory, Fault, Ordered, ordered, unordered};
 use key_index_flat::translator::{
     Cap, EightCap, FourCap, Hashed, KeyHash, OneCap, OrderedTranslator, Translator, TwoCap,
 };
 use key_index_parts::index::partitioned;
 use line::Stop;
-use partitions::Partitions;
+use partitions::Punordered;
 use records::Filed;
 use serve::{Streams, serve};
 use snapshots::{Built, Whole};
-use spilling::{LooksAhead, Spilling, at_threshold};
+use spilling::{Spilling, at_threshold};
 use std::env;
 use std::io::{BufRead, BufReader, BufWriter, Write};
 use std::process::ExitCode;
@@ -101,39 +101,57 @@ fn serve_plain<T: OrderedTranslator, R: BufRead, W: Write>(
     serve(InOrder { index }, streams)
 }
 
-/// Serves the partitioned unordered index.
-fn serve_partitions<T: Translator, const P: usize, R: BufRead, W: Write>(
-    translator: T,
-    streams: &mut Streams<R, W>,
-) -> Result<(), Stop>
-    requires least { 1 ≤ P }
-    requires greatest { P ≤ 3 }
-{
-    let index = partitioned::unordered::Index::<T, u64, P>::new(streams.alloc, translator)?;
-    serve(Partitions { index }, streams)
+/// Serves the partitioned unordered index by one byte.
+fn serve_punordered<R: BufRead, W: Write>(streams: &mut Streams<R, W>) -> Result<(), Stop> {
+    let index = partitioned::unordered::Index::<OneCap, u64, 1>::new(streams.alloc, OneCap)?;
+    serve(Punordered { index }, streams)
 }
 
-/// The thresholds of the indices by one byte of which ranges are made.
+/// Serves the partitioned unordered index by two bytes.
+fn serve_punordered_by_two<R: BufRead, W: Write>(streams: &mut Streams<R, W>) -> Result<(), Stop> {
+    let index = partitioned::unordered::Index::<OneCap, u64, 2>::new(streams.alloc, OneCap)?;
+    serve(Punordered { index }, streams)
+}
+
+/// Serves the partitioned unordered index by one byte and two more.
+fn serve_punordered_wide<R: BufRead, W: Write>(streams: &mut Streams<R, W>) -> Result<(), Stop> {
+    let index = partitioned::unordered::Index::<TwoCap, u64, 1>::new(streams.alloc, TwoCap)?;
+    serve(Punordered { index }, streams)
+}
+
+/// The thresholds of the indices of which ranges are made.
 const THRESHOLDS: [usize; 6] = [1, 2, 3, 8, 64, 512];
 
-/// Serves the partitioned ordered index, beside others at some thresholds.
-fn serve_spilling<T: OrderedTranslator, const P: usize, R: BufRead, W: Write>(
-    translator: T,
+/// Serves the partitioned ordered index by one byte, beside others.
+fn serve_pordered<R: BufRead, W: Write>(
     threshold: usize,
-    thresholds: &[usize],
     streams: &mut Streams<R, W>,
-) -> Result<(), Stop>
-where
-    partitioned::ordered::Index<T, u64, P>: LooksAhead,
-    requires least { 1 ≤ P }
-    requires greatest { P ≤ 3 }
-{
-    let alloc = streams.alloc;
-    let index = at_threshold(alloc, translator, threshold)?;
-    let mut others = Vec::new(alloc);
-    for other in thresholds {
-        others.push(at_threshold(alloc, translator, *other)?)?;
+) -> Result<(), Stop> {
+    let index = at_threshold::<OneCap, u64, 1>(streams.alloc, OneCap, threshold)?;
+    let mut others = Vec::new(streams.alloc);
+    for other in THRESHOLDS {
+        others.push(at_threshold::<OneCap, u64, 1>(streams.alloc, OneCap, other)?)?;
     }
+    serve(Spilling { index, others }, streams)
+}
+
+/// Serves the partitioned ordered index by two bytes.
+fn serve_pordered_by_two<R: BufRead, W: Write>(
+    threshold: usize,
+    streams: &mut Streams<R, W>,
+) -> Result<(), Stop> {
+    let index = at_threshold::<OneCap, u64, 2>(streams.alloc, OneCap, threshold)?;
+    let others = Vec::new(streams.alloc);
+    serve(Spilling { index, others }, streams)
+}
+
+/// Serves the partitioned ordered index by one byte and two more.
+fn serve_pordered_wide<R: BufRead, W: Write>(
+    threshold: usize,
+    streams: &mut Streams<R, W>,
+) -> Result<(), Stop> {
+    let index = at_threshold::<TwoCap, u64, 1>(streams.alloc, TwoCap, threshold)?;
+    let others = Vec::new(streams.alloc);
     serve(Spilling { index, others }, streams)
 }
 
@@ -148,25 +166,26 @@ fn serve_snapshot<T: OrderedTranslator, R: BufRead, W: Write>(
 }
 
 /// Serves an index of records.
-fn serve_records<T: OrderedTranslator, R: BufRead, W: Write>(
+fn serve_records<I: Ordered<Value = Record> + Drop, R: BufRead, W: Write>(
+    index: Result<I, Fault>,
+    streams: &mut Streams<R, W>,
+) -> Result<(), Stop> {
+    serve(Filed { index: index? }, streams)
+}
+
+/// Records in partitions by their first byte.
+type Parted = partitioned::ordered::Index<OneCap, Record, 1>;
+
+/// Serves an index of records, or none.
+fn serve_kind_of_records<R: BufRead, W: Write>(
     kind: &str,
-    translator: T,
     streams: &mut Streams<R, W>,
 ) -> Result<(), Stop> {
     let alloc = streams.alloc;
     match kind {
-        "records_ordered" => {
-            let index = ordered::Index::new(alloc, translator)?;
-            serve(Filed { index }, streams)
-        }
-        "records_pordered" => {
-            let index = partitioned::ordered::Index::<T, Record, 1>::new(alloc, translator)?;
-            serve(Filed { index }, streams)
-        }
-        "records_plain" => {
-            let index = key_index_plain::Index::new(alloc, translator)?;
-            serve(Filed { index }, streams)
-        }
+        "records_ordered" => serve_records(ordered::Index::new(alloc, OneCap), streams),
+        "records_pordered" => serve_records(Parted::new(alloc, OneCap), streams),
+        "records_plain" => serve_records(key_index_plain::Index::new(alloc, OneCap), streams),
         _ => Err(Stop::Usage),
     }
 }
@@ -195,12 +214,12 @@ fn serve_in_partitions<R: BufRead, W: Write>(
     streams: &mut Streams<R, W>,
 ) -> Result<(), Stop> {
     match kind {
-        "punordered" => serve_partitions::<OneCap, 1, _, _>(OneCap, streams),
-        "punordered_by_two" => serve_partitions::<OneCap, 2, _, _>(OneCap, streams),
-        "punordered_wide" => serve_partitions::<TwoCap, 1, _, _>(TwoCap, streams),
-        "pordered" => serve_spilling::<OneCap, 1, _, _>(OneCap, threshold, &THRESHOLDS, streams),
-        "pordered_by_two" => serve_spilling::<OneCap, 2, _, _>(OneCap, threshold, &[], streams),
-        "pordered_wide" => serve_spilling::<TwoCap, 1, _, _>(TwoCap, threshold, &[], streams),
+        "punordered" => serve_punordered(streams),
+        "punordered_by_two" => serve_punordered_by_two(streams),
+        "punordered_wide" => serve_punordered_wide(streams),
+        "pordered" => serve_pordered(threshold, streams),
+        "pordered_by_two" => serve_pordered_by_two(threshold, streams),
+        "pordered_wide" => serve_pordered_wide(threshold, streams),
         _ => serve_snapshots(kind, threshold, streams),
     }
 }
@@ -215,7 +234,7 @@ fn serve_snapshots<R: BufRead, W: Write>(
         "snapshot_ordered" => serve_snapshot(OneCap, streams),
         "snapshot_ordered_by_two" => serve_snapshot(TwoCap, streams),
         "snapshot_ordered_by_eight" => serve_snapshot(EightCap, streams),
-        "snapshot_pordered" => serve(Built::new(streams.alloc, OneCap, threshold)?, streams),
+        "snapshot_pordered" => serve(Built::new(streams.alloc, threshold)?, streams),
         _ => serve_positions(kind, threshold, streams),
     }
 }
@@ -234,7 +253,7 @@ fn serve_positions<R: BufRead, W: Write>(
         "segments" => serve(Segmented::new(alloc)?, streams),
         "table" => serve(Listed::new(alloc)?, streams),
         "arrays" => serve(Arrays::new(alloc), streams),
-        _ => serve_records(kind, OneCap, streams),
+        _ => serve_kind_of_records(kind, streams),
     }
 }
 

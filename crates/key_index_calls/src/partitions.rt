@@ -9,6 +9,8 @@ use crate::flat;
 use crate::line::{Line, Stop};
 use crate::serve::{Request, Session};
 use key_index_flat::index::Ordered;
+use key_index_flat::translator::Translator;
+use key_index_parts::index::partitioned::unordered::{Index, RangeIndex};
 use key_index_parts::index::partitioned::{Op, PartitionRange, Partitioned, build_in_ranges};
 use std::alloc::{AllocError, Global};
 
@@ -253,20 +255,24 @@ pub(crate) fn call_in_order<I: Partitioned<Value = u64> + Ordered<Value = u64>>(
     call(index, ranges, request)
 }
 
-/// An index in partitions.
+/// The partitioned unordered index.
 #[derive(Drop)]
-pub(crate) struct Partitions<I> {
-    pub(crate) index: I,
+pub(crate) struct Punordered<T: Translator, const P: usize> {
+    pub(crate) index: Index<T, u64, P>,
 }
 
-impl<I: Partitioned<Value = u64>> Session for Partitions<I> {
-    type Range = I::Range;
+impl<T: Translator, const P: usize> Session for Punordered<T, P> {
+    type Range = RangeIndex<T, u64, P>;
 
-    fn call(&mut self, ranges: &mut Vec<I::Range>, request: &mut Request) -> Result<bool, Stop> {
+    fn call(
+        &mut self,
+        ranges: &mut Vec<RangeIndex<T, u64, P>>,
+        request: &mut Request,
+    ) -> Result<bool, Stop> {
         call(&mut self.index, ranges, request)
     }
 
-    fn call_range(range: &mut I::Range, request: &mut Request) -> bool {
+    fn call_range(range: &mut RangeIndex<T, u64, P>, request: &mut Request) -> bool {
         call_range(range, request)
     }
 }

@@ -8,7 +8,7 @@ use crate::serve::{Request, Session};
 use crate::spilling::at_threshold;
 use key_index::snapshot::{Record, Snapshot};
 use key_index_flat::index::{Fault, Ordered};
-use key_index_flat::translator::OrderedTranslator;
+use key_index_flat::translator::OneCap;
 use key_index_parts::index::partitioned::ordered::Index;
 use key_index_uses::snapshots::gap_at;
 use std::alloc::Global;
@@ -74,18 +74,16 @@ impl<I: Ordered<Value = Record>> Session for Whole<I> {
 
 /// A snapshot over partitions by one byte, which can be built anew.
 #[derive(Drop)]
-pub(crate) struct Built<T: OrderedTranslator> {
-    translator: T,
+pub(crate) struct Built {
     threshold: usize,
-    snapshot: Snapshot<Index<T, Record, 1>>,
+    snapshot: Snapshot<Index<OneCap, Record, 1>>,
 }
 
-impl<T: OrderedTranslator> Built<T> {
+impl Built {
     /// A snapshot with no key, over partitions that spill at so many values, or at the default where that is 0.
-    pub(crate) fn new(alloc: Global, translator: T, threshold: usize) -> Result<Built<T>, Fault> {
-        let index = at_threshold(alloc, translator, threshold)?;
+    pub(crate) fn new(alloc: Global, threshold: usize) -> Result<Built, Fault> {
+        let index = at_threshold::<OneCap, Record, 1>(alloc, OneCap, threshold)?;
         Ok(Built {
-            translator,
             threshold,
             snapshot: Snapshot::new(alloc, index),
         })
@@ -107,21 +105,21 @@ fn records(alloc: Global, lines: &[Line]) -> Result<Vec<Record>, Stop> {
 }
 
 /// A snapshot that is built of records in the place of the one that there is.
-fn build_of<T: OrderedTranslator>(
+fn build_of(
     alloc: Global,
-    built: &mut Built<T>,
+    built: &mut Built,
     cuts: &[usize],
     records: Vec<Record>,
 ) -> Result<(), Fault>
     requires { IsCuts cuts.now 256 }
 {
-    let index = at_threshold(alloc, built.translator, built.threshold)?;
+    let index = at_threshold::<OneCap, Record, 1>(alloc, OneCap, built.threshold)?;
     built.snapshot = Snapshot::build(alloc, index, cuts, records)?;
     Ok(())
 }
 
 /// The same, by the records of the lines that are kept.
-fn build<T: OrderedTranslator>(built: &mut Built<T>, request: &mut Request) -> Result<(), Stop> {
+fn build(built: &mut Built, request: &mut Request) -> Result<(), Stop> {
     let alloc = request.alloc;
     let cuts = cuts(alloc, &request.line)?;
     let records = records(alloc, request.kept.as_slice())?;
@@ -134,7 +132,7 @@ fn build<T: OrderedTranslator>(built: &mut Built<T>, request: &mut Request) -> R
     Ok(())
 }
 
-impl<T: OrderedTranslator> Session for Built<T> {
+impl Session for Built {
     type Range = ();
 
     fn call(&mut self, _ranges: &mut Vec<()>, request: &mut Request) -> Result<bool, Stop> {
