@@ -27,6 +27,11 @@
 
 #![warn(clippy::pedantic)]
 
+/// The examples of the crate's page, as tests.
+#[cfg(doctest)]
+#[doc = include_str!("../README.md")]
+struct Page;
+
 mod ffi;
 mod immutable;
 mod owned;
