@@ -65,18 +65,27 @@ pub fn at<T>(path: &str, given: io::Result<T>) -> Result<T, Failure<'_>> {
     }
 }
 
-/// What a command needed of a file, or why it is refused. What the system said is told.
+impl Failure<'_> {
+    /// Why a command is refused that needed the file. What the system said is told.
+    fn into_refusal(self, rt: &HostRuntime) -> Refusal {
+        match self {
+            Failure::Refused(refusal, _) => refusal,
+            Failure::CannotOpen(_, error) if error.kind() == ErrorKind::OutOfMemory => {
+                Refusal::For("memory")
+            }
+            failure => {
+                tell(rt, failure);
+                Refusal::For("open")
+            }
+        }
+    }
+}
+
+/// What a command needed of a file, or why it is refused.
 pub fn needed<T>(rt: &HostRuntime, given: Result<T, Failure<'_>>) -> Result<T, Refusal> {
     match given {
         Ok(given) => Ok(given),
-        Err(Failure::Refused(refusal, _)) => Err(refusal),
-        Err(Failure::CannotOpen(_, error)) if error.kind() == ErrorKind::OutOfMemory => {
-            Err(Refusal::For("memory"))
-        }
-        Err(failure) => {
-            tell(rt, failure);
-            Err(Refusal::For("open"))
-        }
+        Err(failure) => Err(failure.into_refusal(rt)),
     }
 }
 

@@ -36,8 +36,9 @@ fn take_place<'a>(rt: &HostRuntime, path: &'a str, is_own: bool) -> Result<Place
         return Ok(Place::Own);
     }
     let file = match open(rt, path, true, false) {
+        Ok(file) => file,
         Err(error) if error.kind() == ErrorKind::NotFound => return Ok(Place::Nothing),
-        opened => at(path, opened)?,
+        Err(error) => return Err(Failure::CannotOpen(path, error)),
     };
     let locked = lock(rt, &file, path, false);
     let metadata = at(path, file.metadata())?;
@@ -52,8 +53,9 @@ fn take_place<'a>(rt: &HostRuntime, path: &'a str, is_own: bool) -> Result<Place
 /// have another name by then, also that of the session's own file, so none of them is changed.
 fn remove_part<'a>(rt: &HostRuntime, path: &'a str, own: &str) -> Result<(), Failure<'a>> {
     let file = match open(rt, path, true, false) {
+        Ok(file) => file,
         Err(error) if error.kind() == ErrorKind::NotFound => return Ok(()),
-        opened => at(path, opened)?,
+        Err(error) => return Err(Failure::CannotOpen(path, error)),
     };
     if !at(path, is_at(rt, &file, own))? {
         lock(rt, &file, path, false)?;

@@ -110,7 +110,11 @@ fn print<'a>(rt: &HostRuntime, text: &str) -> Result<bool, Failure<'a>> {
 
 /// Runs the program on the words behind its name. Gives whether all went well.
 fn run<'a>(rt: &HostRuntime, words: &'a [String]) -> Result<bool, Failure<'a>> {
-    let mut options = Options::default();
+    let mut options = Options {
+        is_text: false,
+        is_durable: false,
+        keeps_going: false,
+    };
     let mut names: Vec<&str> = Vec::new(rt.alloc());
     for word in words {
         match word.as_str() {

@@ -28,7 +28,7 @@ pub type Input = BufReader<Stdin>;
 pub type Output = BufWriter<Stdout>;
 
 /// What the flags ask.
-#[derive(Clone, Copy, Default)]
+#[derive(Clone, Copy)]
 pub struct Options {
     /// Answers have texts.
     pub is_text: bool,
