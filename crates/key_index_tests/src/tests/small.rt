@@ -52,14 +52,16 @@ fn shows<I: Debug>(rt: &impl Abort, alloc: Global, index: &I, want: &str) -> Res
     Ok(())
 }
 
-/// The text of an index of one key with two values.
-const TWO: &str = "Index { keys: 1, items: 2, pruned: 0 }";
+/// The text of an index of one key with two values, which had another value.
+const TWO: &str = "Index { keys: 1, items: 2, pruned: 1 }";
 
 #[test]
 fn flat_indices_tell_what_they_have(rt: HostRuntime) -> Result<(), Fail> {
     let alloc = rt.alloc();
     let mut index = unordered::Index::<OneCap, u64>::new(alloc, OneCap)?;
     shows(&rt, alloc, &index, "Index { keys: 0, items: 0, pruned: 0 }")?;
+    put(&rt, index.insert(b"\x1c", 9));
+    holds(&rt, index.remove(b"\x1c").is_ok(), "remove");
     holds(&rt, !index.contains_key(b"\x0b\x02"), "no key is held");
     put(&rt, index.insert(b"\x0b\x02\x01", 1));
     put(&rt, index.insert(b"\x0b\x02\x02", 2));
@@ -71,9 +73,9 @@ fn flat_indices_tell_what_they_have(rt: HostRuntime) -> Result<(), Fail> {
     holds(&rt, first == Some(2) && copy.len() == 1, "one is left");
     holds(&rt, copy.copied().eq(values.copied()), "a copy has it");
     shows(&rt, alloc, &index, TWO)?;
-    holds(&rt, index.remove(b"\x0b").is_ok(), "remove");
-    shows(&rt, alloc, &index, "Index { keys: 0, items: 0, pruned: 2 }")?;
     let mut index = ordered::Index::<OneCap, u64>::new(alloc, OneCap)?;
+    put(&rt, index.insert(b"\x1c", 9));
+    holds(&rt, index.remove(b"\x1c").is_ok(), "remove");
     put(&rt, index.insert(b"\x0b\x02", 1));
     put(&rt, index.insert(b"\x0b", 2));
     shows(&rt, alloc, &index, TWO)
@@ -83,10 +85,14 @@ fn flat_indices_tell_what_they_have(rt: HostRuntime) -> Result<(), Fail> {
 fn indices_in_partitions_tell_what_they_have(rt: HostRuntime) -> Result<(), Fail> {
     let alloc = rt.alloc();
     let mut index = partitioned::unordered::Index::<OneCap, u64, 1>::new(alloc, OneCap)?;
+    put(&rt, index.insert(b"\x1c", 9));
+    holds(&rt, index.remove(b"\x1c").is_ok(), "remove");
     put(&rt, index.insert(b"\x0b\x02\x01", 1));
     put(&rt, index.insert(b"\x0b\x02\x02", 2));
     shows(&rt, alloc, &index, TWO)?;
     let mut index = partitioned::ordered::Index::<OneCap, u64, 1>::new(alloc, OneCap)?;
+    put(&rt, index.insert(b"\x1c", 9));
+    holds(&rt, index.remove(b"\x1c").is_ok(), "remove");
     put(&rt, index.insert(b"\x0b\x02\x01", 1));
     put(&rt, index.insert(b"\x0b\x02\x02", 2));
     shows(&rt, alloc, &index, TWO)
