@@ -1,4 +1,4 @@
-//! Examples of the pages for callers that stand in no other file.
+//! Examples of the pages for callers that stand in no file of `key_index_uses`.
 use key_index::index::immutable;
 use key_index::snapshot::{Record, Snapshot};
 use key_index_flat::index::ordered::Index;

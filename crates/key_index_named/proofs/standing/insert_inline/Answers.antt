@@ -2,7 +2,7 @@ use Rattle.std.proofs.Common.{rules, ◌<◌, subst, sym, arith}
 use Rattle.std.proofs.lemmas.List.Elements.{All-from_get_or}
 use Rattle.key_index_parts.specs.Prefix.{partition_count}
 use Rattle.key_index_parts.specs.laws.PrefixLaws.{partition_by-below}
-use Rattle.key_index_uses.proofs.standing.insert_inline.Goals as goal
+use Rattle.key_index_named.proofs.standing.insert_inline.Goals as goal
 
 pub inline_len-requires : goal.inline_len-requires
 inline_len-requires g c =

@@ -6,7 +6,7 @@ use Rattle.key_index_parts.specs.Gathered.{entries_of}
 use Rattle.key_index_parts.specs.Ordered.{view}
 use Rattle.key_index_parts.specs.Prefix.{partition_count}
 use Rattle.key_index_parts.specs.laws.PrefixLaws.{partition_by-below}
-use Rattle.key_index_uses.proofs.standing.remove_spilled.Goals as goal
+use Rattle.key_index_named.proofs.standing.remove_spilled.Goals as goal
 
 pub is_spilled-requires : goal.is_spilled-requires
 is_spilled-requires g c =
