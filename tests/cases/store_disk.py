@@ -123,19 +123,21 @@ def is_durable(file, kind):
     """With the flag a change is answered with `ok` only where it was forced to the disk; where that fails, it stands,
     and no later one is said to be forced."""
     lines = ["put 61 31", "put 62 32", "get 61", "delete 61", "sync", "count"]
-    wanted = [["refused sync", "refused sync"], ["refused sync", "refused sync"]]
-    for number, all_wanted in enumerate(wanted, 1):
+    given, told, status = run(["--durable", file, kind], lines, FAIL="fsync", FAIL_AT=1, FAIL_ALL=1)
+    refused = ["refused write", "refused write", "none", "refused write", "refused sync", "count 0"]
+    compare("before the first write", (given, told, status), (refused, "", 1))
+    for number in (2, 3):
         file.unlink(missing_ok=True)
         given, told, status = run(["--durable", file, kind], lines, FAIL="fsync", FAIL_AT=number, FAIL_ALL=1)
         compare("get", given[2], "value 31")
-        compare("changes", given[:2] + given[3:5], [*all_wanted, "refused sync", "refused sync"])
+        compare("changes", given[:2] + given[3:5], ["refused sync"] * 4)
         compare("the end", (given[5], "cannot sync" in told, status), ("count 1", True, 1))
         sessions = Sessions(file, kind, log=file.read_bytes())
         compare("what stands", sessions.entries, {b"b": b"2"})
         sessions.hold([b"a", b"b"])
         sessions.check()
     file.unlink(missing_ok=True)
-    given, told, status = run([file, kind], lines[:4], FAIL="fsync", FAIL_AT=1, FAIL_ALL=1)
+    given, told, status = run([file, kind], lines[:4], FAIL="fsync", FAIL_AT=2, FAIL_ALL=1)
     compare("without the flag", (given, status), (["ok", "ok", "value 31", "ok"], 1))
     compare("the end", f"cannot sync {file}\n" in told, True)
 

@@ -3,9 +3,11 @@
 --     written_behind, failed_behind, left_behind  what stands behind the header, once bytes and before them what the header lacked
 --                     were written; once a part of that was; and what a crash leaves then
 --     headed_more     whatever part of that was written, it begins with the header, or is a part of one
+--     behind_headed, headed_behind  what a crash leaves behind the header is known where it is headed, and only there
 --     cut_behind, left_cut  once bytes were cut off, and what a crash leaves then
-use Rattle.std.proofs.Common.{◌≡◌, ◌⊎◌, ℕ, ◌+◌, ◌-◌, ◌≤◌, ◌<◌, max, min, Bool, true, false, not, List, [], ◌++◌, length, take, drop, Option, Some, None, Result, Ok, Err, subst, take_all, inl, inr, refl, sym, ap, ◌∙◌, append_assoc, take-append-drop, length-append, length-drop, length-take, arith}
-use Rattle.std.specs.Option.{IfSome, SomeIff, option_map}
+--     synced_behind, left_synced  once they were synced, and where that may have failed
+use Rattle.std.proofs.Common.{◌≡◌, ◌⊎◌, ℕ, ◌+◌, ◌-◌, ◌≤◌, ◌<◌, max, min, Bool, true, false, cond, not, List, [], ◌++◌, length, take, drop, Option, Some, None, Result, Ok, Err, subst, take_all, inl, inr, refl, sym, ap, ◌∙◌, append_assoc, take-append-drop, length-append, length-drop, length-take, arith}
+use Rattle.std.specs.Option.{IfSome, SomeIff, option_map, unwrap_or}
 use Rattle.std.specs.Result.{IfOk, OnErr, is_ok, result_ok}
 use Rattle.std.specs.Str.{bytes_eq}
 use Rattle.std.proofs.lemmas.Bool.{cases_lt, false≢true}
@@ -13,8 +15,8 @@ use Rattle.std.proofs.lemmas.List.{append-nil, drop_at, take_at, drop-append-le,
 use Rattle.std.proofs.lemmas.Slice.Eq.{bytes_eq-Decides}
 use Rattle.std.proofs.Math.Seq.{take-append-add}
 use Rattle.key_index_store.proofs.ReadLemmas.{take-take}
-use Rattle.key_index_store.specs.Device.{AddsAtMost, Changes, IsBegun, Sees}
-use Rattle.key_index_store.specs.Header.{IsHeaded, header}
+use Rattle.key_index_store.specs.Device.{Adds, AddsAtMost, Changes, IsBegun, NoMore, Sees}
+use Rattle.key_index_store.specs.Header.{Behind, IsHeaded, behind, header}
 
 pub length_header : length header ≡ 16
 unfolding header
@@ -107,9 +109,22 @@ headed_more old bytes n headed = elim (cases_lt (length old) 16) [
       ∙ sym (take_all (length (old ++ more)) header (omega (arith, le, length_header, length-append old more))))
 ]
 
--- what a crash leaves behind the header
-abbrev Behind : (List ℕ → Type 0) → List ℕ → Type 0
-Behind left c = (bytes : List ℕ) × left bytes × (c ≡ drop 16 bytes)
+pub behind_headed : (bytes : List ℕ) → IsHeaded bytes → behind (Some bytes) ≡ Some (drop 16 bytes)
+behind_headed bytes headed =
+    ap (λ b. cond b (Some (drop 16 bytes)) None) ((bytes_eq-Decides (take 16 bytes) (take (length bytes) header)).1 headed)
+
+-- what leaves something behind it is headed
+pub headed_behind : (bytes c : List ℕ) → Some c ≡ behind (Some bytes) → IsHeaded bytes × (c ≡ drop 16 bytes)
+headed_behind bytes c is = of (bytes_eq (take 16 bytes) (take (length bytes) header)) refl is
+  where
+    of : (b : Bool) → bytes_eq (take 16 bytes) (take (length bytes) header) ≡ b → Some c ≡ cond b (Some (drop 16 bytes)) None → IsHeaded bytes × (c ≡ drop 16 bytes)
+    of true e is = ((bytes_eq-Decides (take 16 bytes) (take (length bytes) header)).0 e, ap (λ o. unwrap_or o c) is)
+    of false e is = absurd (cc)
+
+pub headed_cut : (bytes : List ℕ) (n : ℕ) → n + 16 ≤ length bytes → IsHeaded bytes → IsHeaded (take (n + 16) bytes)
+headed_cut bytes n long headed =
+    take-take 16 (n + 16) bytes (omega arith) ∙ headed ∙ take_all (length bytes) header (omega (arith, long, length_header))
+    ∙ sym (take_all (length (take (n + 16) bytes)) header (omega (arith, length-take (n + 16) bytes, long, length_header)))
 
 -- a device has so many bytes
 pub record Ends (before : Option (List ℕ)) (end : ℕ) : Type 0 where
@@ -119,7 +134,24 @@ pub ends_of : {before : Option (List ℕ)} {known : Option ℕ} {end : ℕ} → 
 ends_of is told = record { at = λ old seen. subst (λ o. IfSome o (λ n. n ≡ length old)) is (told old seen) }
 
 module _ {before : Option (List ℕ)} {end : ℕ} (ends : Ends before end) (bytes : List ℕ) where
+  -- whatever part of it was written
+  pub headed_part : (old new : List ℕ) (n : ℕ) → end ≡ length old → IsHeaded old → new ≡ old ++ take n (drop end header ++ bytes) → IsHeaded new
+  headed_part old new n at headed is = subst IsHeaded (sym (is ∙ ap (λ m. old ++ take n (drop m header ++ bytes)) at)) (headed_more old bytes n headed)
+
   module _ {after : Option (List ℕ)} where
+    pub headed_begun : Sees before IsHeaded → Changes before after (λ old new. end ≡ length old → IsBegun (drop end header ++ bytes) old new) → Sees after IsHeaded
+    headed_begun headed change new seen =
+        let was = change new seen in
+        let at = ends.at was.0 was.1 in
+        headed_part was.0 new (was.2 at).0 at (headed was.0 was.1) (was.2 at).1
+
+    pub headed_written : Sees before IsHeaded → Changes before after (λ old new. end ≡ length old → new ≡ old ++ (drop end header ++ bytes)) → Sees after IsHeaded
+    headed_written headed change new seen =
+        let was = change new seen in
+        let at = ends.at was.0 was.1 in
+        let all = take_all (length (drop end header ++ bytes)) (drop end header ++ bytes) (omega arith) in
+        headed_part was.0 new (length (drop end header ++ bytes)) at (headed was.0 was.1) (was.2 at ∙ ap (λ l. was.0 ++ l) (sym all))
+
     pub written_length : Changes before after (λ old new. end ≡ length old → new ≡ old ++ (drop end header ++ bytes))
         → Sees after (λ new. max end 16 + length bytes ≡ length new)
     written_length change new seen =
@@ -152,17 +184,22 @@ module _ {before : Option (List ℕ)} {end : ℕ} (ends : Ends before end) (byte
           ],
         )
 
-  pub left_behind : (position : ℕ) (left more : List ℕ → Type 0)
+  pub left_behind : (position : ℕ) (left more : Option (List ℕ) → Type 0) → Sees before IsHeaded
       → ((old : List ℕ) → before ≡ Some old → end ≡ length old → AddsAtMost old (drop end header ++ bytes) left more)
       → (old : List ℕ) → option_map (drop 16) before ≡ Some old → position ≡ length old → AddsAtMost old bytes (Behind left) (Behind more)
-  left_behind position left more crash x seen _ c may =
+  left_behind position left more headed crash x seen _ c may =
       let inner = seen_in before x seen in
       let at = ends.at inner.0 inner.1 in
       elim (crash inner.0 inner.1 at may.0 may.1) [
         | inl was ↦ inl (may.0, was, may.2)
         | inr added ↦ (
-            let part = part_of inner.0 (drop end header) bytes added.0 (lacks_of inner.0 end at) in
-            inr (part.m, may.2 ∙ ap (drop 16) added.1 ∙ part.is ∙ ap (λ l. l ++ take part.m bytes) (sym inner.2)))
+            let part = part_of inner.0 (drop end header) bytes added.2.0 (lacks_of inner.0 end at) in
+            let front = headed_part inner.0 added.0 added.2.0 at (headed inner.0 inner.1) added.2.1 in
+            inr (
+              drop 16 added.0,
+              may.2 ∙ ap behind added.1 ∙ behind_headed added.0 front,
+              (part.m, ap (drop 16) added.2.1 ∙ part.is ∙ ap (λ l. l ++ take part.m bytes) (sym inner.2)),
+            ))
       ]
 
 cut_is : (len : ℕ) (old : List ℕ) → drop 16 (take (len + 16) old) ≡ take len (drop 16 old)
@@ -185,14 +222,42 @@ module _ {before : Option (List ℕ)} {end : ℕ} (ends : Ends before end) (len 
         let was = change inner.0 inner.1 in
         (drop 16 was.0, ap (option_map (drop 16)) was.1, λ _. inner.2 ∙ ap (drop 16) (was.2 (within was.0 was.1)) ∙ cut_is len was.0)
 
-  pub left_cut : (left more : List ℕ → Type 0)
-      → ((old c : List ℕ) → before ≡ Some old → len + 16 ≤ length old → more c → left c ⊎ (c ≡ take (len + 16) old))
-      → (old c : List ℕ) → option_map (drop 16) before ≡ Some old → len ≤ length old → Behind more c → Behind left c ⊎ (c ≡ take len old)
-  left_cut left more crash x c seen _ may =
+    pub headed_left : Sees before IsHeaded → Sees after IsHeaded
+    headed_left headed new seen =
+        let was = change new seen in
+        let le = within was.0 was.1 in
+        subst IsHeaded (sym (was.2 le)) (headed_cut was.0 len le (headed was.0 was.1))
+
+  pub left_cut : (left more : Option (List ℕ) → Type 0) → Sees before IsHeaded
+      → ((old : List ℕ) → before ≡ Some old → len + 16 ≤ length old → Adds (λ c. c ≡ take (len + 16) old) left more)
+      → (old : List ℕ) → option_map (drop 16) before ≡ Some old → len ≤ length old → Adds (λ c. c ≡ take len old) (Behind left) (Behind more)
+  left_cut left more headed crash x seen _ c may =
       let inner = seen_in before x seen in
-      elim (crash inner.0 may.0 inner.1 (within inner.0 inner.1) may.1) [
+      let le = within inner.0 inner.1 in
+      elim (crash inner.0 inner.1 le may.0 may.1) [
         | inl was ↦ inl (may.0, was, may.2)
-        | inr cut ↦ inr (may.2 ∙ ap (drop 16) cut ∙ cut_is len inner.0 ∙ ap (take len) (sym inner.2))
+        | inr cut ↦ (
+            let front = subst IsHeaded (sym cut.2) (headed_cut inner.0 len le (headed inner.0 inner.1)) in
+            inr (drop 16 cut.0, may.2 ∙ ap behind cut.1 ∙ behind_headed cut.0 front, ap (drop 16) cut.2 ∙ cut_is len inner.0 ∙ ap (take len) (sym inner.2)))
+      ]
+
+-- a sync
+module _ {before : Option (List ℕ)} (headed : Sees before IsHeaded) where
+  pub synced_behind : (left : Option (List ℕ) → Type 0) → Sees before (λ bytes. NoMore (λ c. c ≡ Some bytes) left)
+      → Sees (option_map (drop 16) before) (λ bytes. NoMore (λ c. c ≡ Some bytes) (Behind left))
+  synced_behind left durable x seen c may =
+      let inner = seen_in before x seen in
+      may.2 ∙ ap behind (durable inner.0 inner.1 may.0 may.1) ∙ behind_headed inner.0 (headed inner.0 inner.1) ∙ ap Some (sym inner.2)
+
+  pub left_synced : (left more : Option (List ℕ) → Type 0) → Sees before (λ bytes. Adds (λ c. c ≡ bytes) left more)
+      → Sees (option_map (drop 16) before) (λ bytes. Adds (λ c. c ≡ bytes) (Behind left) (Behind more))
+  left_synced left more crash x seen c may =
+      let inner = seen_in before x seen in
+      elim (crash inner.0 inner.1 may.0 may.1) [
+        | inl was ↦ inl (may.0, was, may.2)
+        | inr same ↦ (
+            let front = subst IsHeaded (sym same.2) (headed inner.0 inner.1) in
+            inr (drop 16 same.0, may.2 ∙ ap behind same.1 ∙ behind_headed same.0 front, ap (drop 16) same.2 ∙ sym inner.2))
       ]
 
 pub ok_told : {E : Type 0} (P : ℕ → Type 0) (r : Result ℕ E) → IfOk r P → IfSome (result_ok r) P

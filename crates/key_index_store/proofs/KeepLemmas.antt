@@ -3,7 +3,7 @@
 --     cut_keeps                                   after the tail was cut off
 --     HasRoom, at_end                             a record that is to stand behind the others: refused, written, or nothing to write
 --     written_keeps, begun_keeps                  after a record was written behind the others, or a part of it
-use Rattle.std.proofs.Common.{◌≡◌, ◌⊎◌, ◌<◌, ℕ, ◌+◌, ◌-◌, ◌^◌, ◌==◌, ◌||◌, if◌then◌else◌, None, Bool, true, false, cond, List, [], ◌∷◌, ◌++◌, length, take, drop, Option, is_some, Result, Ok, Err, inl, inr, refl, sym, ap, subst, ◌∙◌, length-append, length-take, length-drop, take-append-drop, arith}
+use Rattle.std.proofs.Common.{◌≡◌, ◌≢◌, ◌⊎◌, ◌<◌, ℕ, ◌+◌, ◌-◌, ◌^◌, ◌==◌, ◌||◌, if◌then◌else◌, None, Some, Bool, true, false, cond, List, [], ◌∷◌, ◌++◌, length, take, drop, Option, is_some, Result, Ok, Err, inl, inr, refl, sym, ap, subst, ◌∙◌, length-append, length-take, length-drop, take-append-drop, arith}
 use Rattle.std.proofs.lemmas.List.{append-nil, drop_at, nil_from_length, take_all, take-append-le}
 use Rattle.std.proofs.lemmas.Bool.{cases_lt, eqb-true}
 use Rattle.std.specs.Cmp.{IsTotalOrder}
@@ -16,9 +16,10 @@ use Rattle.key_index_flat.specs.Content.{IsLawful}
 use Rattle.key_index_flat.specs.FullKeys.{IsBytes}
 use Rattle.key_index_flat.specs.View.{View, growth_fault_in, items_in, run_of}
 use Rattle.key_index_flat.specs.declared.index.Fault.TheVariants as index_fault
-use Rattle.key_index_store.specs.Indexed.{Indexes, IsAt, Keeps, KeepsLists, Settles, entry_at}
-use Rattle.key_index_store.specs.Record.{Entry, Fits, Outcome, Torn, Stops, encoded, reading}
-use Rattle.key_index_store.specs.Stored.{HasChanged, HasRefused, HasRoom, IsBeforeOrAfter, IsTail, MayRead, MayRefuse, after_record, end_of, held_by, is_zeros, records_of, refusal_of, tail_by, tail_in, tail_of, with_record, with_value, without_tail}
+use Rattle.key_index_store.specs.Device.{Adds}
+use Rattle.key_index_store.specs.Indexed.{Indexes, IsAt, IsTail, Keeps, KeepsLists, Settles, entry_at}
+use Rattle.key_index_store.specs.Record.{Entry, Fits, Outcome, Complete, Torn, Damaged, Stops, encoded, reading}
+use Rattle.key_index_store.specs.Stored.{HasChanged, HasRefused, HasRoom, IsBeforeOrAfter, MayRead, MayRefuse, after_record, end_of, held_by, is_zeros, records_of, refusal_of, tail_by, tail_in, tail_of, with_record, with_value, without_tail}
 use Rattle.key_index_store.specs.declared.store.Fault.{Fault}
 use Rattle.key_index_store.specs.declared.store.Fault.TheVariants as fault
 use Rattle.key_index_store.specs.declared.store.Tail.{Tail}
@@ -86,6 +87,27 @@ module _ {K : Type 0} (cmp : K → K → Ordering) (log : List ℕ) (s : View K 
 
   pub torn_undamaged : t ≡ tail.Torn → ¬ (tail_in log ≡ tail.Damaged)
   torn_undamaged is = subst (λ x. IsTail x (drop (end_of log) log)) is kept_tail
+
+  -- where bytes stand behind the records, and are no damage
+  pub torn_tail : t ≡ tail.Torn → end ≢ length log → tail_in log ≡ tail.Torn
+  torn_tail is some =
+      ap (λ n. tail_of (drop n log)) kept_end ∙ of (drop end log) h.stops (subst (λ x. IsTail x (drop end log)) is h.told)
+      (λ none. some (omega (arith, ap (λ l. length l) none, length-drop end log, h.within)))
+    where
+      torn : (z : Bool) (o : Outcome) → Stops o → ¬ (cond z tail.Torn (tail_by o) ≡ tail.Damaged) → cond z tail.Torn (tail_by o) ≡ tail.Torn
+      torn true o stops undamaged = refl
+      torn false (Complete r) stops undamaged = absurd stops
+      torn false Torn stops undamaged = refl
+      torn false Damaged stops undamaged = absurd (undamaged refl)
+
+      of : (l : List ℕ) → Stops (reading l) → ¬ (tail_of l ≡ tail.Damaged) → ¬ (l ≡ []) → tail_of l ≡ tail.Torn
+      of [] stops undamaged some = absurd (some refl)
+      of (b ∷ l) stops undamaged some = torn (is_zeros (b ∷ l)) (reading (b ∷ l)) stops undamaged
+
+  -- where none do
+  pub no_tail : end ≡ length log → tail_in log ≡ tail.Nothing
+  no_tail all =
+      ap (λ n. tail_of (drop n log)) kept_end ∙ ap tail_of (nil_from_length (drop end log) (omega (arith, length-drop end log, all)))
 
   pub damaged_tail : t ≡ tail.Damaged → tail_in log ≡ tail.Damaged
   damaged_tail is = subst (λ x. IsTail x (drop (end_of log) log)) is kept_tail
@@ -235,6 +257,21 @@ full-refuse s log r f counted none is = subst (MayRefuse log r) (sym is) (of (it
     of false e = tt
 
 -- ---- outcomes
+
+pub adds_weaker : {P Q : List ℕ → Type 0} {before after : Option (List ℕ) → Type 0} → ((l : List ℕ) → P l → Q l) → Adds P before after → Adds Q before after
+adds_weaker f adds c left = elim (adds c left) [
+  | inl could ↦ inl could
+  | inr more ↦ inr (more.0, more.1, f more.0 more.2)
+]
+
+-- what is added is known
+pub not_added : {A : Type 0} {P : List ℕ → Type 0} → A ⊎ ((bytes : List ℕ) × (None ≡ Some bytes) × P bytes) → A
+not_added (inl a) = a
+not_added (inr added) = absurd (cc)
+
+pub ok_if : {A E P : Type 0} (r : Result A E) → P → OnOk r P
+ok_if (Ok x) p = p
+ok_if (Err e) p = tt
 
 pub on_ok_with : {A E P Q R : Type 0} (r : Result A E) → OnOk r P → OnOk r Q → (P → Q → R) → OnOk r R
 on_ok_with (Ok x) p q f = f p q

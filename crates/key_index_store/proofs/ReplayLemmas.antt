@@ -4,8 +4,9 @@
 --     one_more        and the log up to its end is the log in front of it, with it
 use Rattle.std.proofs.Common.{◌≡◌, ℕ, ◌+◌, ◌-◌, ◌≤◌, ◌==◌, ◌&&◌, Bool, true, false, cond, List, [], ◌∷◌, ◌++◌, length, take, drop, refl, sym, ap, subst, ◌∙◌, append_assoc, length-append, length-drop, length-take, take-append-drop, arith}
 use Rattle.std.proofs.lemmas.List.{drop-append-le, drop-drop, take_all}
+use Rattle.key_index_store.specs.Indexed.{IsTail}
 use Rattle.key_index_store.specs.Record.{Complete, Damaged, Entry, IsFound, Outcome, Stops, Torn, encoded, reading}
-use Rattle.key_index_store.specs.Stored.{IsTail, is_zeros, tail_by, tail_of}
+use Rattle.key_index_store.specs.Stored.{is_zeros, tail_by, tail_of}
 use Rattle.key_index_store.specs.declared.store.Tail.{Tail}
 use Rattle.key_index_store.specs.declared.store.Tail.TheVariants as tail
 use Rattle.key_index_store.proofs.LogLemmas.{one_read}

@@ -1,17 +1,18 @@
 -- A device over a file.
---     calls_of                the calls on the file that succeeded, the newest first
---     file_seen, FileLeaves   its bytes while the file's answers agree, and what a crash may leave, by what the file held first
+--     first_of, calls_of      what the file held at first, and the calls on it that succeeded, the newest first
+--     file_seen, FileLeaves   its bytes while the file's answers agree, and what a crash may leave, by these
 use Rattle.std.specs.Prelude.{ℕ, List, Option}
 use Rattle.key_index_store.specs.History.{Noted, seen_after, may_leave_after}
 use Rattle.key_index_store.specs.declared.file_device.FileDevice.{FileDevice}
-use Rattle.key_index_store.specs.declared.file_device.Start.{Ghosts}
 
-module _ {S : Type 0} where
-  abbrev pub calls_of : FileDevice S → List Noted
-  calls_of d = d.history.calls
+abbrev pub first_of : FileDevice → List ℕ
+first_of d = d.history.first
 
-  abbrev pub file_seen : (start : Ghosts S) → FileDevice S → Option (List ℕ)
-  file_seen start d = seen_after start.first (calls_of d)
+abbrev pub calls_of : FileDevice → List Noted
+calls_of d = d.history.calls
 
-  abbrev pub FileLeaves : (start : Ghosts S) → FileDevice S → List ℕ → Type 0
-  FileLeaves start d = may_leave_after start.first (calls_of d)
+abbrev pub file_seen : FileDevice → Option (List ℕ)
+file_seen d = seen_after (first_of d) (calls_of d)
+
+abbrev pub FileLeaves : FileDevice → Option (List ℕ) → Type 0
+FileLeaves d = may_leave_after (first_of d) (calls_of d)

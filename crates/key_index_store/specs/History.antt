@@ -7,7 +7,7 @@
 --     all_agree          each answer agrees with what the file held then
 --     seen_after         what it holds, while all answers agree
 --     left_by            what a crash may leave after a call, by what the file held, and by what a crash might leave, before it
---     may_leave_after    what it may leave after all calls: at first, only what the file held
+--     may_leave_after    what it may leave after all calls: at first, bytes of which nothing is known
 use Rattle.std.specs.Prelude.{◌≡◌, ◌⊎◌, ℕ, ◌+◌, ◌-◌, ◌==◌, Bool, true, ◌&&◌, if◌then◌else◌, List, [], ◌∷◌, ◌++◌, length, take, drop, replicate, Option, Some, None}
 use Rattle.std.specs.Str.{bytes_eq}
 use Rattle.key_index_store.specs.declared.history.Call.{Call}
@@ -47,14 +47,14 @@ all_agree first (call ∷ earlier) = all_agree first earlier && agrees call.0 ca
 abbrev pub seen_after : List ℕ → List Noted → Option (List ℕ)
 seen_after first calls = if all_agree first calls then Some (content first calls) else None
 
-abbrev pub left_by : Call → List ℕ → List ℕ → (List ℕ → Type 0) → List ℕ → Type 0
+abbrev pub left_by : Call → List ℕ → List ℕ → (Option (List ℕ) → Type 0) → Option (List ℕ) → Type 0
 left_by (Told n) _ old before c = before c
 left_by (Gave position) _ old before c = before c
-left_by (Took position) new old before c = before c ⊎ ((n : ℕ) × (c ≡ overlaid position (take n new) old))
-left_by (Cut n) _ old before c = before c ⊎ (c ≡ filled n old)
-left_by Synced _ old before c = c ≡ old
+left_by (Took position) new old before c = before c ⊎ ((n : ℕ) × (c ≡ Some (overlaid position (take n new) old)))
+left_by (Cut n) _ old before c = before c ⊎ (c ≡ Some (filled n old))
+left_by Synced _ old before c = c ≡ Some old
 
-abbrev pub may_leave_after : List ℕ → List Noted → List ℕ → Type 0
-may_leave_after first [] c = c ≡ first
+abbrev pub may_leave_after : List ℕ → List Noted → Option (List ℕ) → Type 0
+may_leave_after first [] c = c ≡ None
 may_leave_after first (call ∷ earlier) c =
     left_by call.0 call.1 (content first earlier) (may_leave_after first earlier) c

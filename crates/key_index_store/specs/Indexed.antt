@@ -7,6 +7,8 @@
 --     match_of              a candidate's key beside the one that is sought
 --     Indexes               the log is complete records, and the index has the position of each key's newest one that has a value, once,
 --                           under the index key of the key
+--     IsTail                what a store knows of the bytes behind the records: after a write that failed, where a torn one may stand,
+--                           nothing may
 --     Keeps                 what a store keeps of its log: where the complete records end, what stands behind them, and the index of them
 --     Settles               after the position of a key's newest record was filed: in the place of the older one, or as a new one
 --     KeepsLists            no list is another
@@ -20,10 +22,11 @@ use Rattle.std.specs.declared.cmp.Ordering.{Ordering}
 use Rattle.key_index_flat.specs.FullKeys.{IsBytes, byte_cmp}
 use Rattle.key_index_flat.specs.View.{View, after_insert, items_in, run_at, run_of, with_edit, with_pruned}
 use Rattle.key_index_store.specs.Record.{Fits, Outcome, Complete, Torn, Damaged, Stops, bytes_of, encoded, key_in, reading}
-use Rattle.key_index_store.specs.Stored.{IsTail, held_by, records_of}
+use Rattle.key_index_store.specs.Stored.{held_by, records_of, tail_of}
 use Rattle.key_index_store.specs.declared.store.find.Match.{Match}
 use Rattle.key_index_store.specs.declared.store.find.Match.TheVariants.{Same, Other, Unreadable}
 use Rattle.key_index_store.specs.declared.store.Tail.{Tail}
+use Rattle.key_index_store.specs.declared.store.Tail.TheVariants as tail
 
 abbrev pub parts_of : Outcome → List ℕ × List ℕ
 parts_of (Complete r) = (r.key, bytes_of r.value)
@@ -60,6 +63,11 @@ module _ (log : List ℕ) where
 -- where its bytes are seen, and a limit is within them: the keys that its first bytes have
 abbrev pub HasKeys : Option (List ℕ) → ℕ → (ℕ → List ℕ) → Type 0
 HasKeys seen limit keys = (log : List ℕ) × (seen ≡ Some log) × (limit ≤ length log) × (keys ≡ key_read (take limit log))
+
+abbrev pub IsTail : Tail → List ℕ → Type 0
+IsTail tail.Nothing rest = rest ≡ []
+IsTail tail.Torn rest = ¬ (tail_of rest ≡ tail.Damaged)
+IsTail tail.Damaged rest = tail_of rest ≡ tail.Damaged
 
 module _ {K : Type 0} (cmp : K → K → Ordering) where
   pub record Indexes (log : List ℕ) (s : View K ℕ) : Type 0 where

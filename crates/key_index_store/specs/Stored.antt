@@ -14,7 +14,7 @@
 --     HasChanged, HasRefused  after a call that appends a record where one is wanted
 --     compacted           a log that has a record of each entry of a map, in the order of the keys, and nothing else
 --     EntriesFit, IsCopy  each entry of a map has a record;  that log, which leaves the map
---     tail_in, IsTail     what stands behind the last complete record;  what a store knows of that
+--     tail_in             what stands behind the last complete record
 use Rattle.std.specs.Prelude.{◌≡◌, ◌⊎◌, ◌-◌, ◌^◌, ◌==◌, ◌&&◌, ◌||◌, ℕ, zero, suc, Bool, true, List, [], ◌∷◌, ◌++◌, length, map, take, drop, Option, Some, None, is_some, if◌then◌else◌, Vec}
 use Rattle.std.specs.FinMap.{FinMap, empty, entries, get, insert, len, remove}
 use Rattle.std.specs.List.{flat_map, fold}
@@ -24,7 +24,7 @@ use Rattle.key_index_flat.specs.FullKeys.{byte_cmp}
 use Rattle.key_index_flat.specs.Neighbours.{entries_above, entries_below, first_entry, last_entry}
 use Rattle.key_index_flat.specs.declared.index.Fault as index
 use Rattle.key_index_flat.specs.declared.index.Fault.TheVariants as index_fault
-use Rattle.key_index_store.specs.Device.{IsBegun}
+use Rattle.key_index_store.specs.Device.{Adds, IsBegun}
 use Rattle.key_index_store.specs.declared.store.Fault.{Fault}
 use Rattle.key_index_store.specs.declared.store.Fault.TheVariants as fault
 use Rattle.key_index_store.specs.declared.store.Tail.{Tail}
@@ -90,12 +90,12 @@ abbrev pub IsBeforeOrAfter : List ℕ → Entry → List ℕ → Type 0
 IsBeforeOrAfter old r log = (held_by log ≡ held_by old) ⊎ (held_by log ≡ after_record (held_by old) r)
 
 -- a crash leaves what it might have left before, or one of these
-abbrev pub LeavesBeforeOrAfter : List ℕ → Entry → (List ℕ → Type 0) → (List ℕ → Type 0) → Type 0
-LeavesBeforeOrAfter old r before after = (c : List ℕ) → after c → before c ⊎ IsBeforeOrAfter old r c
+abbrev pub LeavesBeforeOrAfter : List ℕ → Entry → (Option (List ℕ) → Type 0) → (Option (List ℕ) → Type 0) → Type 0
+LeavesBeforeOrAfter old r before after = Adds (IsBeforeOrAfter old r) before after
 
 -- a crash leaves what it might have left before, or the same map
-abbrev pub LeavesSame : List ℕ → (List ℕ → Type 0) → (List ℕ → Type 0) → Type 0
-LeavesSame old before after = (c : List ℕ) → after c → before c ⊎ (held_by c ≡ held_by old)
+abbrev pub LeavesSame : List ℕ → (Option (List ℕ) → Type 0) → (Option (List ℕ) → Type 0) → Type 0
+LeavesSame old before after = Adds (λ c. held_by c ≡ held_by old) before after
 
 -- the records stay, and a part of the new one may stand behind them
 abbrev pub IsRefused : List ℕ → Entry → List ℕ → Type 0
@@ -133,12 +133,6 @@ tail_of (b ∷ rest) = if is_zeros (b ∷ rest) then tail.Torn else tail_by (rea
 
 abbrev pub tail_in : List ℕ → Tail
 tail_in log = tail_of (drop (end_of log) log)
-
--- after a write that failed, nothing may stand where a torn record may
-abbrev pub IsTail : Tail → List ℕ → Type 0
-IsTail Nothing rest = rest ≡ []
-IsTail tail.Torn rest = ¬ (tail_of rest ≡ tail.Damaged)
-IsTail tail.Damaged rest = tail_of rest ≡ tail.Damaged
 
 -- ---- why a call may be refused
 

@@ -1,6 +1,6 @@
 //! What a log needs of a file: its length, reads and writes at a place, a new length, and that what was written is forced to the disk.
-ghost use Rattle.std.specs.Prelude.{◌≡◌, ◌≤◌, ◌⊎◌, List, length, take, drop, Some, IfOk, OnOk, OnErr, Option, ℕ, ◌++◌};
-ghost use Rattle.key_index_store.specs.Device.{AddsAtMost, Changes, IsBegun, NoMore, Sees, Stays};
+ghost use Rattle.std.specs.Prelude.{◌≡◌, ◌≤◌, List, length, take, drop, Some, IfOk, OnOk, OnErr, Option, ℕ, ◌++◌};
+ghost use Rattle.key_index_store.specs.Device.{Adds, AddsAtMost, Changes, IsBegun, NoMore, Sees, Stays};
 
 /// A call of a device that failed.
 #[derive(Clone, Copy, Debug, PartialEq, Eq)]
@@ -13,8 +13,8 @@ pub trait Device {
     /// Its bytes, while it has given no wrong answer.
     ghost seen: { Self → Option (List ℕ) };
 
-    /// What a crash at this moment may leave.
-    ghost may_leave: { Self → List ℕ → Type 0 };
+    /// What a crash at this moment may leave: some bytes; or `None`, which stands for any, as of a file of which nothing was synced yet.
+    ghost may_leave: { Self → Option (List ℕ) → Type 0 };
 
     /// How many bytes there are.
     fn len(&mut self) -> Result<u64, Failed>
@@ -43,12 +43,12 @@ pub trait Device {
         ensures cut { OnOk result (Changes (seen self.old) (seen self.new) (λ old new.
             len ≤ length old → new ≡ take len old)) }
         ensures failed { OnErr result (Stays (seen self.old) (seen self.new)) }
-        ensures crash { (old c : List ℕ) → seen self.old ≡ Some old → len ≤ length old
-            → may_leave self.new c → may_leave self.old c ⊎ (c ≡ take len old) };
+        ensures crash { (old : List ℕ) → seen self.old ≡ Some old → len ≤ length old
+            → Adds (λ c. c ≡ take len old) (may_leave self.old) (may_leave self.new) };
 
     /// Forces what was written to the disk: a crash behind it leaves these bytes.
     fn sync(&mut self) -> Result<(), Failed>
-        ensures durable { OnOk result (Sees (seen self.new) (λ bytes. NoMore (λ c. c ≡ bytes) (may_leave self.new))) }
-        ensures stays { Stays (seen self.old) (seen self.new) }
-        ensures crash { NoMore (may_leave self.old) (may_leave self.new) };
+        ensures durable { OnOk result (Sees (seen self.new) (λ bytes. NoMore (λ c. c ≡ Some bytes) (may_leave self.new))) }
+        ensures same { seen self.new ≡ seen self.old }
+        ensures crash { Sees (seen self.old) (λ bytes. Adds (λ c. c ≡ bytes) (may_leave self.old) (may_leave self.new)) };
 }

@@ -1,54 +1,38 @@
 //! A device over a file of the operating system.
-ghost use Rattle.std.specs.Prelude.{◌≡◌, ◌<◌, ◌≤◌, List, ℕ, [], length, IfOk};
+ghost use Rattle.std.specs.Prelude.{◌≡◌, ◌<◌, ◌≤◌, [], length, IfOk};
 
 use crate::device::{Device, Failed};
 use crate::history::{Call, History};
 use std::fs::File;
 use std::io::{Error, ErrorKind};
-use std::marker::PhantomData;
 use std::os::unix::fs::FileExt;
 
 /// How often a write that a signal interrupts is tried.
 const TRIES: usize = 100;
 
-/// What a file held when it was opened. Only clauses read it, so what is proved over any `S: Start` is proved for all contents.
-pub trait Start: Drop {
-    /// Its bytes then.
-    ghost first: { List ℕ };
-}
-
-/// For `main` to name, which knows of no bytes. At this type the clauses speak of a file that held none.
-#[derive(Drop)]
-pub struct Unknown;
-
-impl Start for Unknown {
-    ghost first = { [] };
-}
-
-/// A device over a file that held `S::first` when it was opened, and had that on the disk.
+/// A device over a file.
 ///
-/// Its bytes are what the calls on the file make of `S::first`. They are seen until an answer, a length or the bytes of a read, is not
-/// that of a file which holds them. A call that fails is taken as one that did nothing: if it wrote all the same, a later read may tell.
+/// Its bytes are what the calls on the file make of those that it held at first, which only clauses name. They are seen until an
+/// answer, a length or the bytes of a read, is not that of a file which holds them. What the disk has of them is not known before the
+/// first sync. A call that fails is taken as one that did nothing: if it wrote all the same, a later read may tell.
 #[derive(Drop)]
-pub struct FileDevice<S: Start> {
+pub struct FileDevice {
     file: File,
     sync_failed: bool,
     history: History,
-    start: PhantomData<S>,
 }
 
-impl<S: Start> FileDevice<S> {
+impl FileDevice {
     ghost use Rattle.key_index_store.specs.FileDevice.{calls_of};
 
     /// The device over a file that is open for reading and writing at any place.
-    pub fn new(file: File, _start: S) -> FileDevice<S>
+    pub fn new(file: File) -> FileDevice
         ensures { calls_of result ≡ [] }
     {
         FileDevice {
             file,
             sync_failed: false,
             history: History::new(),
-            start: PhantomData,
         }
     }
 }
@@ -72,12 +56,12 @@ fn write_some(file: &File, position: u64, bytes: &[u8]) -> Result<usize, Failed>
     Err(Failed)
 }
 
-impl<S: Start> Device for FileDevice<S> {
+impl Device for FileDevice {
     ghost use Rattle.key_index_store.specs.FileDevice.{file_seen, FileLeaves};
 
-    ghost seen = { file_seen S.Start };
+    ghost seen = { file_seen };
 
-    ghost may_leave = { FileLeaves S.Start };
+    ghost may_leave = { FileLeaves };
 
     fn len(&mut self) -> Result<u64, Failed> {
         let len = self.file.metadata().map_err(failed)?.len();

@@ -1,5 +1,5 @@
 //! A device behind a header, which says that a file is a store's.
-ghost use Rattle.std.specs.Prelude.{◌≡◌, ◌⊎◌, ℕ, List, ◌++◌, length, drop, Some, Err, IfOk, IfErr, OnOk, OnErr};
+ghost use Rattle.std.specs.Prelude.{◌≡◌, ℕ, List, ◌++◌, length, drop, Some, Err, IfOk, IfErr, OnOk, OnErr};
 ghost use Rattle.key_index_store.specs.Device.{AddsAtMost, Changes, IsBegun, IsRead, Sees};
 ghost use Rattle.key_index_store.specs.Header.{IsHeaded, header};
 
@@ -57,12 +57,14 @@ pub struct Headed<D: Device> {
 impl<D: Device> Model for Headed<D> {
     ghost use Rattle.std.specs.Prelude.{◌≡◌, length, IfSome};
     ghost use Rattle.key_index_store.specs.Device.{Sees};
+    ghost use Rattle.key_index_store.specs.Header.{IsHeaded};
 
     ghost Value = { D };
 
     ghost view = { λ h. h.device };
 
-    ghost invariant = { λ h. Sees (D.seen h.device) (λ bytes. IfSome h.end (λ n. n ≡ length bytes)) };
+    ghost invariant = { λ h. Sees (D.seen h.device) (λ bytes. IfSome h.end (λ n. n ≡ length bytes))
+        × Sees (D.seen h.device) IsHeaded };
 }
 
 impl<D: Device> Headed<D> {
@@ -117,9 +119,6 @@ fn append<D: Device>(alloc: Global, device: &mut D, end: u64, bytes: &[u8]) -> R
         end ≡ length old → IsBegun (drop end header ++ bytes.now) old new)) }
     ensures crash { (old : List ℕ) → D.seen device.old ≡ Some old → end ≡ length old
         → AddsAtMost old (drop end header ++ bytes.now) (D.may_leave device.old) (D.may_leave device.new) }
-    // What a crash leaves of it opens again.
-    ensures opens { (old c : List ℕ) → D.seen device.old ≡ Some old → end ≡ length old → IsHeaded old
-        → D.may_leave device.new c → D.may_leave device.old c ⊎ IsHeaded c }
 {
     if end >= LENGTH {
         return device.write_at(end, bytes);
@@ -130,12 +129,13 @@ fn append<D: Device>(alloc: Global, device: &mut D, end: u64, bytes: &[u8]) -> R
 }
 
 impl<D: Device> Device for Headed<D> {
-    ghost use Rattle.std.specs.Prelude.{◌≡◌, List, ℕ, drop};
+    ghost use Rattle.std.specs.Prelude.{drop};
     ghost use Rattle.std.specs.Option.{option_map};
+    ghost use Rattle.key_index_store.specs.Header.{Behind};
 
     ghost seen = { λ d. option_map (drop 16) (D.seen d) };
 
-    ghost may_leave = { λ d c. (bytes : List ℕ) × D.may_leave d bytes × (c ≡ drop 16 bytes) };
+    ghost may_leave = { λ d. Behind (D.may_leave d) };
 
     fn len(&mut self) -> Result<u64, Failed> {
         let len = self.device.len()?;

@@ -1,5 +1,5 @@
 //! The calls on a file, which only clauses read.
-ghost use Rattle.std.specs.Prelude.{◌≡◌, List, [], ◌∷◌};
+ghost use Rattle.std.specs.Prelude.{◌≡◌, List, ℕ, [], ◌∷◌};
 ghost use Rattle.std.specs.Borrow.{ftrue};
 ghost use Rattle.key_index_store.specs.History.{Noted};
 
@@ -20,9 +20,10 @@ pub(crate) enum Call {
     Synced,
 }
 
-/// The calls so far, the newest first.
+/// What a file held at first, and the calls so far, the newest first.
 #[derive(Drop)]
 pub(crate) struct History {
+    pub(crate) ghost first: { List ℕ },
     pub(crate) ghost calls: { List Noted },
 }
 
@@ -31,7 +32,7 @@ impl Model for History {
 }
 
 impl History {
-    /// No calls.
+    /// No calls. Of what the file holds nothing is known.
     pub(crate) fn new() -> History
         ensures { result.calls ≡ [] }
     {
@@ -40,7 +41,7 @@ impl History {
 
     /// One more call.
     pub(crate) fn and(&self, _call: &Call, _bytes: &[u8]) -> History
-        ensures { result.calls ≡ (_call.now, _bytes.now) ∷ self.now.calls }
+        ensures { result ≡ record self.now { calls = (_call.now, _bytes.now) ∷ self.now.calls } }
     {
         History {}
     }

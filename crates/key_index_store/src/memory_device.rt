@@ -28,8 +28,8 @@ impl MemoryDevice {
     /// What a crash leaves that loses the last `lost` bytes, but none that is synced. All of it is synced.
     pub fn crash(mut self, lost: usize) -> MemoryDevice
         ensures left { held result ≡ take (max (kept self) (length (held self) - lost)) (held self) }
-        ensures allowed { MayLeave self (held result) }
-        ensures synced { NoMore (λ c. c ≡ held result) (MayLeave result) }
+        ensures allowed { MayLeave self (Some (held result)) }
+        ensures synced { NoMore (λ c. c ≡ Some (held result)) (MayLeave result) }
     {
         let left = self.bytes.len().saturating_sub(lost);
         self.bytes.truncate(left.max(self.kept));

@@ -5,11 +5,11 @@ ghost use Rattle.std.specs.List.{flat_map};
 ghost use Rattle.std.specs.Option.{option_map};
 ghost use Rattle.key_index_flat.specs.FullKeys.{IsBytes};
 ghost use Rattle.key_index_flat.specs.View.{growth_fault_in, run_of, with_edit, with_pruned};
-ghost use Rattle.key_index_store.specs.Device.{AddsAtMost, Changes, IsBegun, IsRead, NoMore, Sees, Stays};
+ghost use Rattle.key_index_store.specs.Device.{Adds, AddsAtMost, Changes, IsBegun, IsKnown, IsRead, NoMore, Sees, Stays};
 ghost use Rattle.key_index_store.specs.Indexed.{Indexes, IsLive, Keeps, KeepsLists, Settles, without_newest};
 ghost use Rattle.key_index_store.specs.Record.{Complete, Entry, Fits, IsFound, IsWithin, Stops, encoded, entry_of, outcome_of, reading};
 ghost use Rattle.key_index_store.specs.Salvage.{MaySalvage, salvaged};
-ghost use Rattle.key_index_store.specs.Stored.{HasChanged, HasRefused, HasRoom, LeavesSame, IsRefused, IsTail, LeavesBeforeOrAfter, MayRead, MayRefuse, refusal_of, end_of, held_by, is_zeros, tail_in, tail_of, with_record, with_value, without_tail};
+ghost use Rattle.key_index_store.specs.Stored.{HasChanged, HasRefused, HasRoom, LeavesSame, IsRefused, LeavesBeforeOrAfter, MayRead, MayRefuse, refusal_of, end_of, held_by, is_zeros, tail_in, tail_of, with_record, with_value, without_tail};
 
 mod compact;
 pub(crate) mod find;
@@ -75,19 +75,24 @@ pub enum Tail {
 pub struct Store<D: Device, I: Unordered<Value = u64>> {
     log: Log<D>,
     index: I,
+    /// Torn, where nothing may stand there: after a write that failed.
     tail: Tail,
+    /// The device was synced since the store was opened.
+    is_synced: bool,
 }
 
 impl<D: Device, I: Unordered<Value = u64>> Model for Store<D, I> {
-    ghost use Rattle.key_index_store.specs.Device.{Sees};
+    ghost use Rattle.std.specs.Prelude.{◌≡◌, true};
+    ghost use Rattle.key_index_store.specs.Device.{IsKnown, Sees};
     ghost use Rattle.key_index_store.specs.Indexed.{Keeps};
 
     ghost Value = { D };
 
     ghost view = { λ s. s.log.device };
 
-    ghost invariant = { λ s. Sees (D.seen s.log.device)
-        (λ log. Keeps I.Key.cmp log (I.view s.index) s.log.end s.tail) };
+    ghost invariant = { λ s.
+        Sees (D.seen s.log.device) (λ log. Keeps I.Key.cmp log (I.view s.index) s.log.end s.tail)
+        × (s.is_synced ≡ true → Sees (D.seen s.log.device) (λ log. IsKnown (D.may_leave s.log.device))) };
 }
 
 /// Files the position of a key's newest record: in the place of the older one, or as a new one; of a deletion removes the older one.
@@ -262,6 +267,7 @@ impl<D: Device, I: Unordered<Value = u64>> Store<D, I> {
                 log: Log { alloc, device, end },
                 index,
                 tail,
+                is_synced: false,
             }),
             Err(fault) => Err(NotOpened { fault, device }),
         }
@@ -287,11 +293,21 @@ impl<D: Device, I: Unordered<Value = u64>> Store<D, I> {
         self.log.end
     }
 
-    /// What stands behind them. After a write that failed, nothing may stand where `Torn` is told.
-    pub fn tail(&self) -> Tail
-        ensures { Sees (D.seen self.now) (λ log. IsTail result (drop (end_of log) log)) }
+    /// What stands behind them. Where that may be a torn record, it asks the device for its length.
+    pub fn tail(&mut self) -> Result<Tail, Fault>
+        ensures told { Sees (D.seen self.new) (λ log. IfOk result (λ t. t ≡ tail_in log)) }
+        ensures read { IsRead D.seen D.may_leave self.old self.new }
+        ensures fault { IfErr result (λ f. f ≡ Fault.ReadFailed) }
     {
-        self.tail
+        match self.tail {
+            Tail::Nothing => return Ok(Tail::Nothing),
+            Tail::Damaged => return Ok(Tail::Damaged),
+            Tail::Torn => {}
+        }
+        if length_of(&mut self.log.device)? == self.log.end {
+            return Ok(Tail::Nothing);
+        }
+        Ok(Tail::Torn)
     }
 
     /// The value of a key, copied.
@@ -326,6 +342,8 @@ impl<D: Device, I: Unordered<Value = u64>> Store<D, I> {
 
     /// Sets the value of a key, by a record behind the others. A key and a value have fewer than 2^32 bytes each. Where it is refused,
     /// the log stands for the same map as before, so that the value doesn't come back when it is opened again.
+    ///
+    /// The first call that writes syncs the device before it: behind an answer, a crash leaves bytes that are known.
     pub fn put(&mut self, key: &[u8], value: &[u8]) -> Result<(), Fault>
         ensures set { OnOk result (Changes (D.seen self.old) (D.seen self.new) (λ old new.
             held_by new ≡ map.insert (held_by old) key.now value.now)) }
@@ -335,6 +353,7 @@ impl<D: Device, I: Unordered<Value = u64>> Store<D, I> {
             tail_in old ≢ Tail.Damaged)) }
         ensures refused { OnErr result (Changes (D.seen self.old) (D.seen self.new) (λ old new.
             IsRefused old (record { key = key.now; value = Some value.now }) new)) }
+        ensures known { OnOk result (Sees (D.seen self.new) (λ log. IsKnown (D.may_leave self.new))) }
         ensures crash { Changes (D.seen self.old) (D.seen self.new) (λ old new. LeavesBeforeOrAfter old
             (record { key = key.now; value = Some value.now }) (D.may_leave self.old) (D.may_leave self.new)) }
         ensures fault { IfErr result (λ f. Changes (D.seen self.old) (D.seen self.new) (λ old new.
@@ -359,6 +378,7 @@ impl<D: Device, I: Unordered<Value = u64>> Store<D, I> {
             tail_in old ≢ Tail.Damaged)) }
         ensures refused { OnErr result (Changes (D.seen self.old) (D.seen self.new) (λ old new.
             IsRefused old (record { key = key.now; value = None }) new)) }
+        ensures known { OnOk result (Sees (D.seen self.new) (λ log. IsKnown (D.may_leave self.new))) }
         ensures crash { Changes (D.seen self.old) (D.seen self.new) (λ old new. LeavesBeforeOrAfter old
             (record { key = key.now; value = None }) (D.may_leave self.old) (D.may_leave self.new)) }
         ensures fault { IfErr result (λ f. Changes (D.seen self.old) (D.seen self.new) (λ old new.
@@ -370,17 +390,30 @@ impl<D: Device, I: Unordered<Value = u64>> Store<D, I> {
         self.change(key, None)
     }
 
+    /// Forces what the device had to the disk, if that wasn't done since the store was opened.
+    fn sync_once(&mut self) -> Result<(), Fault>
+        ensures known { OnOk result (Sees (D.seen self.new) (λ log. IsKnown (D.may_leave self.new))) }
+        ensures same { D.seen self.new ≡ D.seen self.old }
+        ensures crash { Sees (D.seen self.old) (λ log. Adds (λ c. c ≡ log) (D.may_leave self.old) (D.may_leave self.new)) }
+        ensures fault { IfErr result (λ f. f ≡ Fault.WriteFailed) }
+    {
+        if self.is_synced {
+            return Ok(());
+        }
+        self.sync()
+    }
+
     /// Cuts a torn record off, and refuses where something else stands behind the whole ones.
     fn make_room(&mut self) -> Result<(), Fault>
         ensures room { OnOk result (Changes (D.seen self.old) (D.seen self.new) (λ old new. HasRoom old new)) }
         ensures refused { OnErr result (Stays (D.seen self.old) (D.seen self.new)) }
-        ensures crash { (old : List ℕ) → D.seen self.old ≡ Some old
-            → LeavesSame old (D.may_leave self.old) (D.may_leave self.new) }
+        ensures known { OnOk result (Sees (D.seen self.new) (λ log. IsKnown (D.may_leave self.new))) }
+        ensures crash { Sees (D.seen self.old) (λ old. LeavesSame old (D.may_leave self.old) (D.may_leave self.new)) }
         ensures fault { IfErr result (λ f. Sees (D.seen self.new) (λ log.
             (f ≡ Fault.WriteFailed) ⊎ ((f ≡ Fault.Damaged) × (tail_in log ≡ Tail.Damaged)))) }
     {
         match self.tail {
-            Tail::Nothing => Ok(()),
+            Tail::Nothing => self.sync_once(),
             Tail::Torn => self.cut_tail(),
             Tail::Damaged => Err(Fault::Damaged),
         }
@@ -393,6 +426,7 @@ impl<D: Device, I: Unordered<Value = u64>> Store<D, I> {
             HasChanged old (record { key = key.now; value = option_map (λ v. v.now) value.entry }) had new)) }
         ensures refused { IfErr result (λ f. Changes (D.seen self.old) (D.seen self.new) (λ old new.
             HasRefused old (record { key = key.now; value = option_map (λ v. v.now) value.entry }) f new)) }
+        ensures known { OnOk result (Sees (D.seen self.new) (λ log. IsKnown (D.may_leave self.new))) }
         ensures crash { Changes (D.seen self.old) (D.seen self.new) (λ old new. LeavesBeforeOrAfter old
             (record { key = key.now; value = option_map (λ v. v.now) value.entry })
             (D.may_leave self.old) (D.may_leave self.new)) }
@@ -426,16 +460,17 @@ impl<D: Device, I: Unordered<Value = u64>> Store<D, I> {
     }
 
     /// Cuts off what stands behind the last whole record, from the first place where none stands to the end of the log. Calls that
-    /// write are then answered again.
+    /// write are then answered again. As they do, it syncs the device before the first write.
     pub fn cut_tail(&mut self) -> Result<(), Fault>
         ensures cut { OnOk result (Changes (D.seen self.old) (D.seen self.new) (λ old new. new ≡ without_tail old)) }
         ensures all { OnOk result (Sees (D.seen self.new) (λ log. end_of log ≡ length log)) }
         ensures held { Changes (D.seen self.old) (D.seen self.new) (λ old new. held_by new ≡ held_by old) }
         ensures refused { OnErr result (Stays (D.seen self.old) (D.seen self.new)) }
-        ensures crash { (old : List ℕ) → D.seen self.old ≡ Some old
-            → LeavesSame old (D.may_leave self.old) (D.may_leave self.new) }
+        ensures known { OnOk result (Sees (D.seen self.new) (λ log. IsKnown (D.may_leave self.new))) }
+        ensures crash { Sees (D.seen self.old) (λ old. LeavesSame old (D.may_leave self.old) (D.may_leave self.new)) }
         ensures fault { IfErr result (λ f. f ≡ Fault.WriteFailed) }
     {
+        self.sync_once()?;
         match self.log.device.set_len(self.log.end) {
             Ok(()) => {
                 self.tail = Tail::Nothing;
@@ -447,12 +482,16 @@ impl<D: Device, I: Unordered<Value = u64>> Store<D, I> {
 
     /// Forces what was written to the disk: whatever crash comes, until the next call that writes, leaves this log.
     pub fn sync(&mut self) -> Result<(), Fault>
-        ensures durable { OnOk result (Sees (D.seen self.new) (λ log. NoMore (λ c. c ≡ log) (D.may_leave self.new))) }
-        ensures read { IsRead D.seen D.may_leave self.old self.new }
+        ensures durable { OnOk result (Sees (D.seen self.new) (λ log. NoMore (λ c. c ≡ Some log) (D.may_leave self.new))) }
+        ensures same { D.seen self.new ≡ D.seen self.old }
+        ensures crash { Sees (D.seen self.old) (λ log. Adds (λ c. c ≡ log) (D.may_leave self.old) (D.may_leave self.new)) }
         ensures fault { IfErr result (λ f. f ≡ Fault.WriteFailed) }
     {
         match self.log.device.sync() {
-            Ok(()) => Ok(()),
+            Ok(()) => {
+                self.is_synced = true;
+                Ok(())
+            }
             Err(_) => Err(Fault::WriteFailed),
         }
     }

@@ -1,7 +1,7 @@
 //! The files of stores: how they are opened and locked, and how a fresh one takes its place.
 
 use crate::failure::{Failure, Refusal, at, tell};
-use key_index_store::file_device::{FileDevice, Unknown};
+use key_index_store::file_device::FileDevice;
 use key_index_store::headed::{Headed, OpenError};
 use std::fs::{File, Metadata, OpenFile, OpenOptions, TryLockError};
 use std::io::ErrorKind;
@@ -11,7 +11,7 @@ use std::path::Path;
 use std::{fs, io};
 
 /// What a store stands on.
-pub type Disk = Headed<FileDevice<Unknown>>;
+pub type Disk = Headed<FileDevice>;
 
 /// Where nothing is read or written.
 const NULL: &str = "/dev/null";
@@ -83,7 +83,7 @@ pub fn headed<'a>(
     path: &'a str,
     no_store: &'static str,
 ) -> Result<Disk, Failure<'a>> {
-    match Headed::open(rt.alloc(), FileDevice::new(file, Unknown)) {
+    match Headed::open(rt.alloc(), FileDevice::new(file)) {
         Ok(disk) => Ok(disk),
         Err(refused) => {
             let reason = match refused.reason {

@@ -138,7 +138,7 @@ impl<I: Ordered<Value = u64> + Factory<Translator = T> + Drop, T: Copy> Session<
         requires { I.makes }
     {
         self.context.check_writable()?;
-        if self.store.tail() == Tail::Damaged {
+        if self.store.tail()? == Tail::Damaged {
             return Err(Refusal::For("damaged"));
         }
         // Where the name is that of a link, the file that it leads to is replaced.

@@ -172,8 +172,8 @@ impl<I: Factory<Translator = T, Value = u64> + Drop, T: Copy> Session<'_, I> {
 
     /// Tells what stands behind the last whole record, if its place can be read.
     pub fn tell_tail(&mut self) {
-        if let Ok((place, length)) = self.tail() {
-            self.context.tell_tail(self.store.tail(), place, length);
+        if let (Ok((place, length)), Ok(tail)) = (self.tail(), self.store.tail()) {
+            self.context.tell_tail(tail, place, length);
         }
     }
 

@@ -7,7 +7,7 @@ use Rattle.std.proofs.Common.{ap, subst, ◌∙◌}
 use Rattle.key_index_store.specs.Device.{IsRead}
 use Rattle.key_index_store.specs.Indexed.{HasKeys, key_read}
 
-module _ {D : Type 0} {seen : D → Option (List ℕ)} {may_leave : D → List ℕ → Type 0} where
+module _ {D : Type 0} {seen : D → Option (List ℕ)} {may_leave : D → Option (List ℕ) → Type 0} where
   pub read-none : (a : D) → IsRead seen may_leave a a
   read-none a = record { stays = λ bytes h. h; crash = λ c h. h }
 

@@ -30,6 +30,7 @@ fn without_records<C: Device, I: Unordered<Value = u64>>(
         },
         index,
         tail: Tail::Nothing,
+        is_synced: false,
     }
 }
 

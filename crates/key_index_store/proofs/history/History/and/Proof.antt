@@ -1,4 +1,4 @@
--- The value that is made has no bytes. What it owns is that alone, so it may have any list of calls.
+-- The value that is made has no bytes. What it owns is that alone, so it may have any first bytes and any list of calls.
 use Rattle.std.proofs.Common.{[], ◌∷◌, refl}
 use Rattle.std.proofs.raw_atomic.Walks.{proved}
 use mir.Syntax.{named}
@@ -47,7 +47,7 @@ and_spec 𝓤 𝓛 𝓜 𝓡 wired =
     (λ κs. (shr_Tells (named 0) κs.0 R, (shr_Tells (named 1) κs.1.0 C, (shr_slice_Tells (named 2) κs.1.1.0 u8, tt))))
     (λ κs qs bounds a _ are.
     let y : W.Ghost = ((κs, qs, bounds, a, (shr_vals a.0, (shr_vals a.1.0, (shr_slice_vals a.1.1.0, tt)))), tt) in
-    let made : History = record { calls = (a.1.0.now, a.1.1.0.now) ∷ a.0.now.calls } in
+    let made : History = record { first = a.0.now.first; calls = (a.1.0.now, a.1.1.0.now) ∷ a.0.now.calls } in
     let v : Val = vstruct vnil in
     qed 𝓛 ((raw (alive 𝓛 f.signature κs qs) ⊛ ‵ (owns (types_at f.signature.params κs) a y.0.4)) ∷ raw ((c κs a).requires tt) ∷ []) ∵ split ! $ keep ! (0 ∷ []) $
     enter ! _ _ _ _ _ $

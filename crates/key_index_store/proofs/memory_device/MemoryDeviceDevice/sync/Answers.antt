@@ -1,4 +1,4 @@
-use Rattle.std.proofs.Common.{◌+◌, ◌≤◌, length, sym, ◌∙◌, take_all, arith}
+use Rattle.std.proofs.Common.{◌+◌, ◌≤◌, length, Some, sym, ap, ◌∙◌, take_all, arith}
 use Rattle.key_index_store.proofs.memory_device.MemoryDeviceDevice.sync.Goals as goal
 
 pub returns-clause-crash : goal.returns-clause-crash
@@ -6,4 +6,4 @@ returns-clause-crash c left may =
     let bytes = c.args.self.now.bytes.items in
     let long : length bytes ≤ may.0 = omega (arith, may.1, c.len-self.ensures) in
     let more : length bytes ≤ may.0 + c.args.self.now.kept = omega arith in
-    (may.0 + c.args.self.now.kept, omega arith, may.2 ∙ take_all may.0 bytes long ∙ sym (take_all _ bytes more))
+    (may.0 + c.args.self.now.kept, omega arith, may.2 ∙ ap Some (take_all may.0 bytes long ∙ sym (take_all _ bytes more)))

@@ -1,4 +1,4 @@
-use Rattle.std.proofs.Common.{rules, ◌≡◌, ◌⊎◌, ◌<◌, ◌++◌, ◌||◌, List, Bor, true, ℕ, All, length, take, not, is_some, inl, inr, refl, sym, ap, subst, ◌∙◌}
+use Rattle.std.proofs.Common.{rules, ◌≡◌, ◌⊎◌, ◌<◌, ◌++◌, ◌||◌, List, Bor, true, ℕ, All, length, take, not, is_some, None, inl, inr, refl, sym, ap, subst, ◌∙◌}
 use Rattle.std.specs.FinMap.{get, len}
 use Rattle.std.specs.Option.{option_map}
 use Rattle.key_index_store.specs.Device.{Changes}
@@ -8,7 +8,7 @@ use Rattle.key_index_store.specs.Stored.{HasChanged, HasRefused, IsBeforeOrAfter
 use Rattle.key_index_store.specs.declared.store.Tail.TheVariants as tail
 use Rattle.key_index_flat.proofs.content.ChainLemmas.{None-is_some}
 use Rattle.key_index_store.proofs.IndexLemmas.{some_mapped}
-use Rattle.key_index_store.proofs.KeepLemmas.{all_kept, append-refuse, at_end, begun_keeps, begun_refused, full-refuse, held_any, kept_held, may_read-refuse, nothing_changed, or-true, refused_early, room-refuse, written_changed, written_keeps}
+use Rattle.key_index_store.proofs.KeepLemmas.{adds_weaker, all_kept, append-refuse, at_end, begun_keeps, begun_refused, full-refuse, held_any, kept_held, may_read-refuse, not_added, nothing_changed, or-true, refused_early, room-refuse, written_changed, written_keeps}
 use Rattle.key_index_store.proofs.StoreLemmas.{live_run, mapped_none}
 use Rattle.key_index_store.proofs.store.Store.change.Goals.{else-is_none-via-then-is_none+else-is_none-2, else-is_none-via-else-is_none}
 use Rattle.key_index_store.proofs.store.Store.change.Goals as goal
@@ -27,7 +27,7 @@ returns-in_err-place-clause-refused g c =
     let told : Changes (g.D.Device.seen c.args.self.now) (g.D.Device.seen c.find_place.new.device) (λ old new. HasRefused old r c.in_err-place.field-0.0 new) = λ mid seen.
     let mid_seen = c.in_err-place.ensures.read.stays mid seen in
     let room = c.in_ok-make_room.ensures.room mid (sym (ap g.D.Device.seen c.self.view_is) ∙ mid_seen) in
-    let h = c.self.invariant mid mid_seen in
+    let h = c.self.invariant.0 mid mid_seen in
     let front = take c.self.inside.log.end mid in
     let live = subst (All (IsLive front)) (sym c.positions_of-positions.ensures.run) (live_run g.I.Key.Ord.cmp front (g.I.Runs.view c.self.inside.index) c.args.key.now h.indexed) in
     (room.0, room.1, refused_early room.0 mid room.2 r c.in_err-place.field-0.0 (may_read-refuse room.0 r c.in_err-place.field-0.0 (c.in_err-place.ensures.fault mid seen h.within live))) in
@@ -38,7 +38,7 @@ returns-then-is_none-2-clause-changed g c = λ mid seen.
     let r : Entry = record { key = c.args.key.now; value = option_map {T = Bor (List ℕ)} (λ v. v.now) c.args.value } in
     let mid_seen = c.in_ok-place.ensures.read.stays mid seen in
     let room = c.in_ok-make_room.ensures.room mid (sym (ap g.D.Device.seen c.self.view_is) ∙ mid_seen) in
-    let h = c.self.invariant mid mid_seen in
+    let h = c.self.invariant.0 mid mid_seen in
     let front = take c.self.inside.log.end mid in
     let live = subst (All (IsLive front)) (sym c.positions_of-positions.ensures.run) (live_run g.I.Key.Ord.cmp front (g.I.Runs.view c.self.inside.index) c.args.key.now h.indexed) in
     let told : is_some c.in_ok-place.place ≡ is_some (get (held_by mid) c.args.key.now) =
@@ -49,18 +49,28 @@ returns-then-is_none-2-clause-changed g c = λ mid seen.
     (room.0, room.1, nothing_changed room.0 mid room.2 r (ap (option_map {T = Bor (List ℕ)} (λ v. v.now)) deleted) absent)
 
 pub invariant_of-self-in-Err : goal.invariant_of-self-in-Err
-invariant_of-self-in-Err g c = λ new seen.
-    let r : Entry = record { key = c.args.key.now; value = option_map {T = Bor (List ℕ)} (λ v. v.now) c.args.value } in
-    let failed = c.in-Err.ensures.failed new seen in
-    let mid = failed.0 in
-    let mid_seen = c.in_ok-place.ensures.read.stays mid failed.1 in
-    let room = c.in_ok-make_room.ensures.room mid (sym (ap g.D.Device.seen c.self.view_is) ∙ mid_seen) in
-    let h = c.self.invariant mid mid_seen in
-    let part = failed.2 (all_kept room.0 mid room.2 r g.met.I.Key.Ord.total g.met.I.Runs.exact g.I.Unordered.INSERT_FIRST (g.I.Runs.view c.self.inside.index) c.self.inside.log.end c.self.inside.tail h c.requires) in
-    let is : new ≡ mid ++ take part.0 (encoded r) = part.1 in
-    let less : (part.0 < length (encoded r)) ⊎ (part.0 ≡ 0) = part.2 in
-    subst (λ l. Keeps g.I.Key.Ord.cmp l (g.I.Runs.view c.append.new.index) c.self.inside.log.end tail.Torn) (sym is)
-    (begun_keeps g.met.I.Key.Ord.total g.met.I.Runs.exact g.I.Unordered.INSERT_FIRST mid (g.I.Runs.view c.self.inside.index) c.self.inside.log.end (at_end room.0 mid room.2 r g.met.I.Key.Ord.total g.met.I.Runs.exact g.I.Unordered.INSERT_FIRST (g.I.Runs.view c.self.inside.index) c.self.inside.log.end c.self.inside.tail h c.requires) r c.requires part.0 less (g.I.Runs.view c.append.new.index) c.in-Err.ensures.refused)
+invariant_of-self-in-Err g c = (
+  λ new seen.
+      let r : Entry = record { key = c.args.key.now; value = option_map {T = Bor (List ℕ)} (λ v. v.now) c.args.value } in
+      let failed = c.in-Err.ensures.failed new seen in
+      let mid = failed.0 in
+      let mid_seen = c.in_ok-place.ensures.read.stays mid failed.1 in
+      let room = c.in_ok-make_room.ensures.room mid (sym (ap g.D.Device.seen c.self.view_is) ∙ mid_seen) in
+      let h = c.self.invariant.0 mid mid_seen in
+      let part = failed.2 (all_kept room.0 mid room.2 r g.met.I.Key.Ord.total g.met.I.Runs.exact g.I.Unordered.INSERT_FIRST (g.I.Runs.view c.self.inside.index) c.self.inside.log.end c.self.inside.tail h c.requires) in
+      let is : new ≡ mid ++ take part.0 (encoded r) = part.1 in
+      let less : (part.0 < length (encoded r)) ⊎ (part.0 ≡ 0) = part.2 in
+      subst (λ l. Keeps g.I.Key.Ord.cmp l (g.I.Runs.view c.append.new.index) c.self.inside.log.end tail.Torn) (sym is)
+      (begun_keeps g.met.I.Key.Ord.total g.met.I.Runs.exact g.I.Unordered.INSERT_FIRST mid (g.I.Runs.view c.self.inside.index) c.self.inside.log.end (at_end room.0 mid room.2 r g.met.I.Key.Ord.total g.met.I.Runs.exact g.I.Unordered.INSERT_FIRST (g.I.Runs.view c.self.inside.index) c.self.inside.log.end c.self.inside.tail h c.requires) r c.requires part.0 less (g.I.Runs.view c.append.new.index) c.in-Err.ensures.refused),
+  λ synced new seen none.
+      let r : Entry = record { key = c.args.key.now; value = option_map {T = Bor (List ℕ)} (λ v. v.now) c.args.value } in
+      let failed = c.in-Err.ensures.failed new seen in
+      let mid = failed.0 in
+      let mid_seen = c.in_ok-place.ensures.read.stays mid failed.1 in
+      let room = c.in_ok-make_room.ensures.room mid (sym (ap g.D.Device.seen c.self.view_is) ∙ mid_seen) in
+      let h = c.self.invariant.0 mid mid_seen in
+      c.self.invariant.1 synced mid mid_seen (c.in_ok-place.ensures.read.crash None (not_added (c.in-Err.ensures.crash mid failed.1 (all_kept room.0 mid room.2 r g.met.I.Key.Ord.total g.met.I.Runs.exact g.I.Unordered.INSERT_FIRST (g.I.Runs.view c.self.inside.index) c.self.inside.log.end c.self.inside.tail h c.requires) None none))),
+)
 
 pub returns-in-Err-clause-refused : goal.returns-in-Err-clause-refused
 returns-in-Err-clause-refused g c = λ new seen.
@@ -69,7 +79,7 @@ returns-in-Err-clause-refused g c = λ new seen.
     let mid = failed.0 in
     let mid_seen = c.in_ok-place.ensures.read.stays mid failed.1 in
     let room = c.in_ok-make_room.ensures.room mid (sym (ap g.D.Device.seen c.self.view_is) ∙ mid_seen) in
-    let h = c.self.invariant mid mid_seen in
+    let h = c.self.invariant.0 mid mid_seen in
     let part = failed.2 (all_kept room.0 mid room.2 r g.met.I.Key.Ord.total g.met.I.Runs.exact g.I.Unordered.INSERT_FIRST (g.I.Runs.view c.self.inside.index) c.self.inside.log.end c.self.inside.tail h c.requires) in
     let is : new ≡ mid ++ take part.0 (encoded r) = part.1 in
     let less : (part.0 < length (encoded r)) ⊎ (part.0 ≡ 0) = part.2 in
@@ -90,37 +100,46 @@ returns-in-Err-clause-crash g c = λ new seen.
     let mid = failed.0 in
     let mid_seen = c.in_ok-place.ensures.read.stays mid failed.1 in
     let room = c.in_ok-make_room.ensures.room mid (sym (ap g.D.Device.seen c.self.view_is) ∙ mid_seen) in
-    let h = c.self.invariant mid mid_seen in
+    let h = c.self.invariant.0 mid mid_seen in
     let part = failed.2 (all_kept room.0 mid room.2 r g.met.I.Key.Ord.total g.met.I.Runs.exact g.I.Unordered.INSERT_FIRST (g.I.Runs.view c.self.inside.index) c.self.inside.log.end c.self.inside.tail h c.requires) in
     let is : new ≡ mid ++ take part.0 (encoded r) = part.1 in
     let less : (part.0 < length (encoded r)) ⊎ (part.0 ≡ 0) = part.2 in (
       room.0,
       room.1,
       λ c' left. elim (c.in-Err.ensures.crash mid failed.1 (all_kept room.0 mid room.2 r g.met.I.Key.Ord.total g.met.I.Runs.exact g.I.Unordered.INSERT_FIRST (g.I.Runs.view c.self.inside.index) c.self.inside.log.end c.self.inside.tail h c.requires) c' left) [
-        | inl could ↦ (elim (c.in_ok-make_room.ensures.crash room.0 room.1 c' (subst (λ d. g.D.Device.may_leave d c') c.self.view_is (c.in_ok-place.ensures.read.crash c' could))) [
-          | inl before ↦ inl before
-          | inr same ↦ inr (inl same)
-        ])
-        | inr more ↦ inr (subst (IsBeforeOrAfter room.0 r) (sym more.1) (held_any room.0 mid room.2 r g.met.I.Key.Ord.total g.met.I.Runs.exact g.I.Unordered.INSERT_FIRST (g.I.Runs.view c.self.inside.index) c.self.inside.log.end c.self.inside.tail h c.requires more.0))
+        | inl could ↦ adds_weaker (λ l same. inl same) (c.in_ok-make_room.ensures.crash room.0 room.1) c' (subst (λ d. g.D.Device.may_leave d c') c.self.view_is (c.in_ok-place.ensures.read.crash c' could))
+        | inr more ↦ inr (more.0, more.1, subst (IsBeforeOrAfter room.0 r) (sym more.2.1) (held_any room.0 mid room.2 r g.met.I.Key.Ord.total g.met.I.Runs.exact g.I.Unordered.INSERT_FIRST (g.I.Runs.view c.self.inside.index) c.self.inside.log.end c.self.inside.tail h c.requires more.2.0))
       ],
     )
 
 pub invariant_of-self-in-Ok : goal.invariant_of-self-in-Ok
-invariant_of-self-in-Ok g c = λ new seen.
-    let r : Entry = record { key = c.args.key.now; value = option_map {T = Bor (List ℕ)} (λ v. v.now) c.args.value } in
-    let written = c.in-Ok.ensures.written new seen in
-    let mid = written.0 in
-    let mid_seen = c.in_ok-place.ensures.read.stays mid written.1 in
-    let room = c.in_ok-make_room.ensures.room mid (sym (ap g.D.Device.seen c.self.view_is) ∙ mid_seen) in
-    let h = c.self.invariant mid mid_seen in
-    let is : new ≡ mid ++ encoded r = written.2 (all_kept room.0 mid room.2 r g.met.I.Key.Ord.total g.met.I.Runs.exact g.I.Unordered.INSERT_FIRST (g.I.Runs.view c.self.inside.index) c.self.inside.log.end c.self.inside.tail h c.requires) in
-    let front = take c.self.inside.log.end mid in
-    let live = subst (All (IsLive front)) (sym c.positions_of-positions.ensures.run) (live_run g.I.Key.Ord.cmp front (g.I.Runs.view c.self.inside.index) c.args.key.now h.indexed) in
-    let at = c.in_ok-place.ensures.at mid written.1 h.within live in
-    subst (λ l. Keeps g.I.Key.Ord.cmp l (g.I.Runs.view c.append.new.index) c.in-Ok.longer tail.Nothing) (sym is)
-    (written_keeps g.met.I.Key.Ord.total g.met.I.Runs.exact g.I.Unordered.INSERT_FIRST mid (g.I.Runs.view c.self.inside.index) c.self.inside.log.end (at_end room.0 mid room.2 r g.met.I.Key.Ord.total g.met.I.Runs.exact g.I.Unordered.INSERT_FIRST (g.I.Runs.view c.self.inside.index) c.self.inside.log.end c.self.inside.tail h c.requires) r c.requires
-    c.positions_of-positions.ensures.bytes (g.I.Runs.view c.append.new.index) (g.met.I.Runs.lawful c.self.inside.index) (g.met.I.Runs.lawful c.append.new.index) c.positions_of-positions.result c.positions_of-positions.ensures.run
-    (is_some c.args.value) (some_mapped {A = Bor (List ℕ)} (λ v. v.now) c.args.value) c.in_ok-place.place at c.in-Ok.ensures.settled c.in-Ok.longer c.in-Ok.ensures.longer)
+invariant_of-self-in-Ok g c = (
+  λ new seen.
+      let r : Entry = record { key = c.args.key.now; value = option_map {T = Bor (List ℕ)} (λ v. v.now) c.args.value } in
+      let written = c.in-Ok.ensures.written new seen in
+      let mid = written.0 in
+      let mid_seen = c.in_ok-place.ensures.read.stays mid written.1 in
+      let room = c.in_ok-make_room.ensures.room mid (sym (ap g.D.Device.seen c.self.view_is) ∙ mid_seen) in
+      let h = c.self.invariant.0 mid mid_seen in
+      let is : new ≡ mid ++ encoded r = written.2 (all_kept room.0 mid room.2 r g.met.I.Key.Ord.total g.met.I.Runs.exact g.I.Unordered.INSERT_FIRST (g.I.Runs.view c.self.inside.index) c.self.inside.log.end c.self.inside.tail h c.requires) in
+      let front = take c.self.inside.log.end mid in
+      let live = subst (All (IsLive front)) (sym c.positions_of-positions.ensures.run) (live_run g.I.Key.Ord.cmp front (g.I.Runs.view c.self.inside.index) c.args.key.now h.indexed) in
+      let at = c.in_ok-place.ensures.at mid written.1 h.within live in
+      subst (λ l. Keeps g.I.Key.Ord.cmp l (g.I.Runs.view c.append.new.index) c.in-Ok.longer tail.Nothing) (sym is)
+      (written_keeps g.met.I.Key.Ord.total g.met.I.Runs.exact g.I.Unordered.INSERT_FIRST mid (g.I.Runs.view c.self.inside.index) c.self.inside.log.end (at_end room.0 mid room.2 r g.met.I.Key.Ord.total g.met.I.Runs.exact g.I.Unordered.INSERT_FIRST (g.I.Runs.view c.self.inside.index) c.self.inside.log.end c.self.inside.tail h c.requires) r c.requires
+      c.positions_of-positions.ensures.bytes (g.I.Runs.view c.append.new.index) (g.met.I.Runs.lawful c.self.inside.index) (g.met.I.Runs.lawful c.append.new.index) c.positions_of-positions.result c.positions_of-positions.ensures.run
+      (is_some c.args.value) (some_mapped {A = Bor (List ℕ)} (λ v. v.now) c.args.value) c.in_ok-place.place at c.in-Ok.ensures.settled c.in-Ok.longer c.in-Ok.ensures.longer),
+  λ _ new seen none.
+      let r : Entry = record { key = c.args.key.now; value = option_map {T = Bor (List ℕ)} (λ v. v.now) c.args.value } in
+      let written = c.in-Ok.ensures.written new seen in
+      let mid = written.0 in
+      let mid_seen = c.in_ok-place.ensures.read.stays mid written.1 in
+      let mid_known = sym (ap g.D.Device.seen c.self.view_is) ∙ mid_seen in
+      let room = c.in_ok-make_room.ensures.room mid mid_known in
+      let h = c.self.invariant.0 mid mid_seen in
+      let could = c.in_ok-place.ensures.read.crash None (not_added (c.in-Ok.ensures.crash mid written.1 (all_kept room.0 mid room.2 r g.met.I.Key.Ord.total g.met.I.Runs.exact g.I.Unordered.INSERT_FIRST (g.I.Runs.view c.self.inside.index) c.self.inside.log.end c.self.inside.tail h c.requires) None none)) in
+      c.in_ok-make_room.ensures.known mid mid_known (subst (λ d. g.D.Device.may_leave d None) c.self.view_is could),
+)
 
 pub returns-in-Ok-clause-changed : goal.returns-in-Ok-clause-changed
 returns-in-Ok-clause-changed g c = λ new seen.
@@ -129,7 +148,7 @@ returns-in-Ok-clause-changed g c = λ new seen.
     let mid = written.0 in
     let mid_seen = c.in_ok-place.ensures.read.stays mid written.1 in
     let room = c.in_ok-make_room.ensures.room mid (sym (ap g.D.Device.seen c.self.view_is) ∙ mid_seen) in
-    let h = c.self.invariant mid mid_seen in
+    let h = c.self.invariant.0 mid mid_seen in
     let is : new ≡ mid ++ encoded r = written.2 (all_kept room.0 mid room.2 r g.met.I.Key.Ord.total g.met.I.Runs.exact g.I.Unordered.INSERT_FIRST (g.I.Runs.view c.self.inside.index) c.self.inside.log.end c.self.inside.tail h c.requires) in
     let front = take c.self.inside.log.end mid in
     let live = subst (All (IsLive front)) (sym c.positions_of-positions.ensures.run) (live_run g.I.Key.Ord.cmp front (g.I.Runs.view c.self.inside.index) c.args.key.now h.indexed) in
@@ -150,15 +169,44 @@ returns-in-Ok-clause-crash g c = λ new seen.
     let mid = written.0 in
     let mid_seen = c.in_ok-place.ensures.read.stays mid written.1 in
     let room = c.in_ok-make_room.ensures.room mid (sym (ap g.D.Device.seen c.self.view_is) ∙ mid_seen) in
-    let h = c.self.invariant mid mid_seen in
+    let h = c.self.invariant.0 mid mid_seen in
     let is : new ≡ mid ++ encoded r = written.2 (all_kept room.0 mid room.2 r g.met.I.Key.Ord.total g.met.I.Runs.exact g.I.Unordered.INSERT_FIRST (g.I.Runs.view c.self.inside.index) c.self.inside.log.end c.self.inside.tail h c.requires) in (
       room.0,
       room.1,
       λ c' left. elim (c.in-Ok.ensures.crash mid written.1 (all_kept room.0 mid room.2 r g.met.I.Key.Ord.total g.met.I.Runs.exact g.I.Unordered.INSERT_FIRST (g.I.Runs.view c.self.inside.index) c.self.inside.log.end c.self.inside.tail h c.requires) c' left) [
-        | inl could ↦ (elim (c.in_ok-make_room.ensures.crash room.0 room.1 c' (subst (λ d. g.D.Device.may_leave d c') c.self.view_is (c.in_ok-place.ensures.read.crash c' could))) [
-          | inl before ↦ inl before
-          | inr same ↦ inr (inl same)
-        ])
-        | inr more ↦ inr (subst (IsBeforeOrAfter room.0 r) (sym more.1) (held_any room.0 mid room.2 r g.met.I.Key.Ord.total g.met.I.Runs.exact g.I.Unordered.INSERT_FIRST (g.I.Runs.view c.self.inside.index) c.self.inside.log.end c.self.inside.tail h c.requires more.0))
+        | inl could ↦ adds_weaker (λ l same. inl same) (c.in_ok-make_room.ensures.crash room.0 room.1) c' (subst (λ d. g.D.Device.may_leave d c') c.self.view_is (c.in_ok-place.ensures.read.crash c' could))
+        | inr more ↦ inr (more.0, more.1, subst (IsBeforeOrAfter room.0 r) (sym more.2.1) (held_any room.0 mid room.2 r g.met.I.Key.Ord.total g.met.I.Runs.exact g.I.Unordered.INSERT_FIRST (g.I.Runs.view c.self.inside.index) c.self.inside.log.end c.self.inside.tail h c.requires more.2.0))
       ],
+    )
+
+pub returns-in-Ok-clause-known : goal.returns-in-Ok-clause-known
+returns-in-Ok-clause-known g c = λ new seen none.
+    let r : Entry = record { key = c.args.key.now; value = option_map {T = Bor (List ℕ)} (λ v. v.now) c.args.value } in
+    let written = c.in-Ok.ensures.written new seen in
+    let mid = written.0 in
+    let mid_seen = c.in_ok-place.ensures.read.stays mid written.1 in
+    let mid_known = sym (ap g.D.Device.seen c.self.view_is) ∙ mid_seen in
+    let room = c.in_ok-make_room.ensures.room mid mid_known in
+    let h = c.self.invariant.0 mid mid_seen in
+    let could = c.in_ok-place.ensures.read.crash None (not_added (c.in-Ok.ensures.crash mid written.1 (all_kept room.0 mid room.2 r g.met.I.Key.Ord.total g.met.I.Runs.exact g.I.Unordered.INSERT_FIRST (g.I.Runs.view c.self.inside.index) c.self.inside.log.end c.self.inside.tail h c.requires) None none)) in
+    c.in_ok-make_room.ensures.known mid mid_known (subst (λ d. g.D.Device.may_leave d None) c.self.view_is could)
+
+pub returns-then-is_none-2-clause-known : goal.returns-then-is_none-2-clause-known
+returns-then-is_none-2-clause-known g c = λ mid seen none.
+    let mid_known = sym (ap g.D.Device.seen c.self.view_is) ∙ c.in_ok-place.ensures.read.stays mid seen in
+    c.in_ok-make_room.ensures.known mid mid_known (subst (λ d. g.D.Device.may_leave d None) c.self.view_is (c.in_ok-place.ensures.read.crash None none))
+
+pub returns-in_err-make_room-clause-crash : goal.returns-in_err-make_room-clause-crash
+returns-in_err-make_room-clause-crash g c = λ new seen.
+    let before = c.in_err-make_room.ensures.refused new seen in
+    (new, before, adds_weaker (λ l same. inl same) (c.in_err-make_room.ensures.crash new before))
+
+pub returns-then-is_none-2-clause-crash : goal.returns-then-is_none-2-clause-crash
+returns-then-is_none-2-clause-crash g c = λ mid seen.
+    let mid_known = sym (ap g.D.Device.seen c.self.view_is) ∙ c.in_ok-place.ensures.read.stays mid seen in
+    let room = c.in_ok-make_room.ensures.room mid mid_known in (
+      room.0,
+      room.1,
+      λ c' left.
+          adds_weaker (λ l same. inl same) (c.in_ok-make_room.ensures.crash room.0 room.1) c' (subst (λ d. g.D.Device.may_leave d c') c.self.view_is (c.in_ok-place.ensures.read.crash c' left)),
     )

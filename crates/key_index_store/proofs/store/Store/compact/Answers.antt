@@ -5,7 +5,7 @@ use Rattle.key_index_store.proofs.store.Store.compact.Goals as goal
 
 pub returns-in-Ok-copy_to-clause-compacted : goal.returns-in-Ok-copy_to-clause-compacted
 returns-in-Ok-copy_to-clause-compacted g c = λ log seen new now.
-    let keeps = c.self.invariant log (ap g.D.Device.seen c.self.view_is ∙ c.in-Ok-copy_to.ensures.read.stays log seen) in
+    let keeps = c.self.invariant.0 log (ap g.D.Device.seen c.self.view_is ∙ c.in-Ok-copy_to.ensures.read.stays log seen) in
     let fit = kept_fit g.I.Key.Ord.cmp log (g.I.Runs.view c.self.inside.index) c.self.inside.log.end c.self.inside.tail keeps in
     let told = c.in-Ok-copy_to.ensures.copied log seen fit new now in
     let old = ap g.C.Device.seen (sym c.without_records-copy.ensures) ∙ told.1 in
@@ -15,7 +15,7 @@ returns-in-Ok-copy_to-clause-compacted g c = λ log seen new now.
 
 pub returns-in-Ok-copy_to-clause-held : goal.returns-in-Ok-copy_to-clause-held
 returns-in-Ok-copy_to-clause-held g c = λ log seen new now.
-    let keeps = c.self.invariant log (ap g.D.Device.seen c.self.view_is ∙ c.in-Ok-copy_to.ensures.read.stays log seen) in
+    let keeps = c.self.invariant.0 log (ap g.D.Device.seen c.self.view_is ∙ c.in-Ok-copy_to.ensures.read.stays log seen) in
     let fit = kept_fit g.I.Key.Ord.cmp log (g.I.Runs.view c.self.inside.index) c.self.inside.log.end c.self.inside.tail keeps in
     let told = c.in-Ok-copy_to.ensures.copied log seen fit new now in
     let count = c.in-Ok-eq0.ensures.told told.0 (ap g.C.Device.seen (sym c.without_records-copy.ensures) ∙ told.1) in
@@ -23,7 +23,7 @@ returns-in-Ok-copy_to-clause-held g c = λ log seen new now.
 
 pub returns-in-Err-copy_to-clause-fault : goal.returns-in-Err-copy_to-clause-fault
 returns-in-Err-copy_to-clause-fault g c = λ log seen new now.
-    let keeps = c.self.invariant log (ap g.D.Device.seen c.self.view_is ∙ c.in-Err-copy_to.ensures.read.stays log seen) in
+    let keeps = c.self.invariant.0 log (ap g.D.Device.seen c.self.view_is ∙ c.in-Err-copy_to.ensures.read.stays log seen) in
     let fit = kept_fit g.I.Key.Ord.cmp log (g.I.Runs.view c.self.inside.index) c.self.inside.log.end c.self.inside.tail keeps in
     let told = c.in-Err-copy_to.ensures.fault log seen fit new (ap g.C.Device.seen (sym c.into_device.ensures) ∙ now) in
     let count = c.in-Ok-eq0.ensures.told told.0 (ap g.C.Device.seen (sym c.without_records-copy.ensures) ∙ told.1) in

@@ -4,5 +4,5 @@ use Rattle.key_index_store.proofs.store.Store.end.Goals as goal
 
 pub returns : goal.returns
 returns g c = λ log seen.
-    let h = c.self.invariant log (ap g.D.Device.seen c.self.view_is ∙ seen) in
+    let h = c.self.invariant.0 log (ap g.D.Device.seen c.self.view_is ∙ seen) in
     sym (kept_end g.I.Key.Ord.cmp log (g.I.Runs.view c.self.inside.index) c.self.inside.log.end c.self.inside.tail h)

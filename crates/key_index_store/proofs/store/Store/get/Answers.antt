@@ -1,4 +1,4 @@
-use Rattle.std.proofs.Common.{rules, ◌≡◌, Some, All, length, take, drop, sym, ap, subst, slice_get, ◌∙◌}
+use Rattle.std.proofs.Common.{rules, ◌≡◌, Some, None, All, length, take, drop, sym, ap, subst, slice_get, ◌∙◌}
 use Rattle.std.specs.FinMap.{get}
 use Rattle.std.specs.Option.{IfSome, option_map}
 use Rattle.key_index_store.specs.Device.{IsRead}
@@ -10,7 +10,7 @@ use Rattle.key_index_store.proofs.store.Store.get.Goals as goal
 
 pub returns-in_err-found-clause-fault : goal.returns-in_err-found-clause-fault
 returns-in_err-found-clause-fault g c = λ log seen.
-    let h = c.self.invariant log (c.in_err-found.ensures.read.stays log seen) in
+    let h = c.self.invariant.0 log (c.in_err-found.ensures.read.stays log seen) in
     let front = take c.self.inside.log.end log in
     let live = subst (All (IsLive front)) (sym c.positions_of-positions.ensures.run) (live_run g.I.Key.Ord.cmp front (g.I.Runs.view c.self.inside.index) c.args.key.now h.indexed) in
     let may = c.in_err-found.ensures.fault log seen h.within live in
@@ -19,7 +19,7 @@ returns-in_err-found-clause-fault g c = λ log seen.
 pub returns-in_default-clause-value : goal.returns-in_default-clause-value
 returns-in_default-clause-value g c = λ log seen.
     let key = c.args.key.now in
-    let h = c.self.invariant log (c.in_ok-found.ensures.read.stays log seen) in
+    let h = c.self.invariant.0 log (c.in_ok-found.ensures.read.stays log seen) in
     let front = take c.self.inside.log.end log in
     let s = g.I.Runs.view c.self.inside.index in
     let live = subst (All (IsLive front)) (sym c.positions_of-positions.ensures.run) (live_run g.I.Key.Ord.cmp front s key h.indexed) in
@@ -27,13 +27,15 @@ returns-in_default-clause-value g c = λ log seen.
     ∙ ap (value_in front key) c.positions_of-positions.ensures.run ∙ h.indexed.found key ∙ ap (λ m. get m key) (sym (kept_held g.I.Key.Ord.cmp log (g.I.Runs.view c.self.inside.index) c.self.inside.log.end c.self.inside.tail h))
 
 pub invariant_of-self-in_err-value : goal.invariant_of-self-in_err-value
-invariant_of-self-in_err-value g c = λ log seen. c.self.invariant log (c.in_ok-found.ensures.read.stays log (c.in_err-value.ensures.read.stays log seen))
+invariant_of-self-in_err-value g c =
+    let read = read-then _ _ _ c.in_ok-found.ensures.read c.in_err-value.ensures.read in
+    (λ log seen. c.self.invariant.0 log (read.stays log seen), λ synced log seen none. c.self.invariant.1 synced log (read.stays log seen) (read.crash None none))
 
 pub returns-in_err-value-clause-fault : goal.returns-in_err-value-clause-fault
 returns-in_err-value-clause-fault g c = λ log seen.
     let key = c.args.key.now in
     let mid = c.in_err-value.ensures.read.stays log seen in
-    let h = c.self.invariant log (c.in_ok-found.ensures.read.stays log mid) in
+    let h = c.self.invariant.0 log (c.in_ok-found.ensures.read.stays log mid) in
     let front = take c.self.inside.log.end log in
     let s = g.I.Runs.view c.self.inside.index in
     let live = subst (All (IsLive front)) (sym c.positions_of-positions.ensures.run) (live_run g.I.Key.Ord.cmp front s key h.indexed) in
@@ -44,7 +46,9 @@ returns-in_err-value-clause-fault g c = λ log seen.
     search (rules, may)
 
 pub invariant_of-self-2 : goal.invariant_of-self-2
-invariant_of-self-2 g c = λ log seen. c.self.invariant log (c.in_ok-found.ensures.read.stays log (c.in_ok-value.ensures.read.stays log seen))
+invariant_of-self-2 g c =
+    let read = read-then _ _ _ c.in_ok-found.ensures.read c.in_ok-value.ensures.read in
+    (λ log seen. c.self.invariant.0 log (read.stays log seen), λ synced log seen none. c.self.invariant.1 synced log (read.stays log seen) (read.crash None none))
 
 pub returns-clause-read : goal.returns-clause-read
 returns-clause-read g c =
@@ -54,7 +58,7 @@ pub returns-clause-value : goal.returns-clause-value
 returns-clause-value g c = λ log seen.
     let key = c.args.key.now in
     let mid = c.in_ok-value.ensures.read.stays log seen in
-    let h = c.self.invariant log (c.in_ok-found.ensures.read.stays log mid) in
+    let h = c.self.invariant.0 log (c.in_ok-found.ensures.read.stays log mid) in
     let front = take c.self.inside.log.end log in
     let s = g.I.Runs.view c.self.inside.index in
     let live = subst (All (IsLive front)) (sym c.positions_of-positions.ensures.run) (live_run g.I.Key.Ord.cmp front s key h.indexed) in

@@ -11,7 +11,7 @@ pub returns-in_err-position-clause-fault : goal.returns-in_err-position-clause-f
 returns-in_err-position-clause-fault g c = λ log seen.
     let read = c.in_err-position.ensures.reads in
     let inside = c.self.inside in
-    let keeps = c.self.invariant log (read.0.stays log seen) in
+    let keeps = c.self.invariant.0 log (read.0.stays log seen) in
     let failed = c.in_err-position.ensures.fault in
     let live = live_value g.met.I.Key.Ord.total log (g.I.Runs.view inside.index) inside.log.end inside.tail (g.met.I.Runs.lawful inside.index) keeps failed.0 failed.1 in
     let may = failed.2 log seen (subst (λ e. e ≤ length log) (sym read.1) keeps.within) (subst (λ e. IsLive (take e log) failed.0) (sym read.1) live) in
@@ -23,7 +23,7 @@ returns-clause-last g c = λ log seen.
     let inside = c.self.inside in
     let end = inside.log.end in
     let between = c.entry.ensures.read.stays log seen in
-    let keeps = c.self.invariant log (read.0.stays log between) in
+    let keeps = c.self.invariant.0 log (read.0.stays log between) in
     let keys = key_read (take end log) in
     let agrees : HasKeys (g.D.Device.seen c.last_record.new.records.device) c.last_record.new.records.end keys =
     (log, between, subst (λ e. e ≤ length log) (sym read.1) keeps.within, ap (λ e. key_read (take e log)) (sym read.1)) in
@@ -41,7 +41,7 @@ returns-clause-fault g c = λ log seen.
     let inside = c.self.inside in
     let end = inside.log.end in
     let between = c.entry.ensures.read.stays log seen in
-    let keeps = c.self.invariant log (read.0.stays log between) in
+    let keeps = c.self.invariant.0 log (read.0.stays log between) in
     let keys = key_read (take end log) in
     let agrees : HasKeys (g.D.Device.seen c.last_record.new.records.device) c.last_record.new.records.end keys =
     (log, between, subst (λ e. e ≤ length log) (sym read.1) keeps.within, ap (λ e. key_read (take e log)) (sym read.1)) in

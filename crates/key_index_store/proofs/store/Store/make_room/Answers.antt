@@ -1,19 +1,23 @@
-use Rattle.std.proofs.Common.{inr, refl, ap, ◌∙◌}
+use Rattle.std.proofs.Common.{inr, refl, sym, ap, ◌∙◌}
 use Rattle.key_index_store.specs.Stored.{held_by}
-use Rattle.key_index_store.proofs.KeepLemmas.{cut_held, damaged_tail, kept_front, nothing_cut, on_ok_with, torn_undamaged}
+use Rattle.key_index_store.proofs.KeepLemmas.{adds_weaker, cut_held, damaged_tail, kept_front, nothing_cut, ok_if, on_ok_with, torn_undamaged}
 use Rattle.key_index_store.proofs.store.Store.make_room.Goals as goal
 
 pub returns-in-Nothing-clause-room : goal.returns-in-Nothing-clause-room
-returns-in-Nothing-clause-room g c = λ log seen.
-    let h = c.self.invariant log (ap g.D.Device.seen c.self.view_is ∙ seen) in
+returns-in-Nothing-clause-room g c = ok_if c.sync_once.result (λ log seen.
+    let before = sym c.sync_once.ensures.same ∙ seen in
+    let h = c.self.invariant.0 log (ap g.D.Device.seen c.self.view_is ∙ before) in
     let facts = nothing_cut g.I.Key.Ord.cmp log (g.I.Runs.view c.self.inside.index) c.self.inside.log.end c.self.inside.tail h c.in-Nothing.is in
-    (log, seen, record { cut = facts.0; held = refl; all = facts.1; undamaged = facts.2 })
+    (log, before, record { cut = facts.0; held = refl; all = facts.1; undamaged = facts.2 }))
+
+pub returns-in-Nothing-clause-crash : goal.returns-in-Nothing-clause-crash
+returns-in-Nothing-clause-crash g c = λ log seen. adds_weaker (λ l is. ap held_by is) (c.sync_once.ensures.crash log seen)
 
 pub returns-in-Torn-clause-room : goal.returns-in-Torn-clause-room
 returns-in-Torn-clause-room g c = on_ok_with c.cut_tail.result c.cut_tail.ensures.cut c.cut_tail.ensures.all (λ cut all new seen.
     let before = cut new seen in
     let old = before.0 in
-    let h = c.self.invariant old (ap g.D.Device.seen c.self.view_is ∙ before.1) in (
+    let h = c.self.invariant.0 old (ap g.D.Device.seen c.self.view_is ∙ before.1) in (
       old,
       before.1,
       record {
@@ -26,5 +30,5 @@ returns-in-Torn-clause-room g c = on_ok_with c.cut_tail.result c.cut_tail.ensure
 
 pub returns-in-Damaged-clause-fault : goal.returns-in-Damaged-clause-fault
 returns-in-Damaged-clause-fault g c = λ log seen.
-    let h = c.self.invariant log (ap g.D.Device.seen c.self.view_is ∙ seen) in
+    let h = c.self.invariant.0 log (ap g.D.Device.seen c.self.view_is ∙ seen) in
     inr (refl, damaged_tail g.I.Key.Ord.cmp log (g.I.Runs.view c.self.inside.index) c.self.inside.log.end c.self.inside.tail h c.in-Damaged.is)
