@@ -1,7 +1,10 @@
 """The program key_index_store over files: a model of its lines and of the bytes of its files, and what runs it."""
+import os
+import re
 import struct
 import subprocess
 import tempfile
+import unicodedata
 import zlib
 from functools import lru_cache
 from pathlib import Path
@@ -13,9 +16,14 @@ from harness.streams import failing
 KINDS = ("unordered", "ordered", "punordered", "pordered", "hashed")
 IN_ORDER = ("ordered", "pordered")
 
-# The mark of a record, and the lengths of its key and its value; a checksum.
+# The mark of a record, and the lengths of its key and its value; a checksum; the place of a record behind the header, which a
+# head's checksum goes over too.
 HEAD = struct.Struct("<BII")
 SUM = struct.Struct("<I")
+PLACE = struct.Struct("<Q")
+
+# The marks of a record with a value, and of the deletion of a key.
+VALUE, DELETION = 1, 2
 
 # How many bytes a record takes besides its key and its value.
 FRAME = HEAD.size + 3 * SUM.size
@@ -59,17 +67,34 @@ def summed(part):
     return part + SUM.pack(zlib.crc32(part))
 
 
-HEADER = summed(b"keyindex" + SUM.pack(1))
+def header(version):
+    return summed(b"keyindex" + SUM.pack(version))
 
 
-def record(key, value):
-    """The bytes of a record of a key and a value, or of the deletion of a key."""
-    head = HEAD.pack(value is not None, len(key), len(value or b""))
-    return summed(head) + summed(key) + summed(value or b"")
+HEADER = header(2)
 
 
-def file_of(*records):
-    return HEADER + b"".join(records)
+def headed(place, mark, key_length, value_length):
+    """A head and its checksum, at a place behind the header."""
+    head = HEAD.pack(mark, key_length, value_length)
+    return head + SUM.pack(zlib.crc32(head + PLACE.pack(place)))
+
+
+def record(place, key, value):
+    """The bytes of a record at a place behind the header, of a key and a value or of the deletion of a key."""
+    mark = DELETION if value is None else VALUE
+    return headed(place, mark, len(key), len(value or b"")) + summed(key) + summed(value or b"")
+
+
+def grown(log, *entries):
+    """The bytes of a file, with records behind them."""
+    for key, value in entries:
+        log += record(len(log) - len(HEADER), key, value)
+    return log
+
+
+def file_of(*entries):
+    return grown(HEADER, *entries)
 
 
 def is_summed(part):
@@ -77,12 +102,17 @@ def is_summed(part):
     return len(part) >= SUM.size and part == summed(part[: -SUM.size])
 
 
+def is_head(head, place):
+    """Whether bytes are a head with its checksum, at a place of a file."""
+    return len(head) == HEAD.size + SUM.size and head == headed(place - len(HEADER), *HEAD.unpack_from(head))
+
+
 def reading(log, place):
     """What stands at a place of a file: a record's key and value with its length, or what stands there else."""
     head = log[place : place + HEAD.size + SUM.size]
     if len(head) < HEAD.size + SUM.size:
         return TORN
-    if not is_summed(head):
+    if not is_head(head, place):
         return DAMAGED
     mark, key_length, value_length = HEAD.unpack_from(head)
     length = FRAME + key_length + value_length
@@ -91,9 +121,9 @@ def reading(log, place):
         return TORN
     key = whole[len(head) : len(head) + key_length + SUM.size]
     value = whole[len(head) + len(key) :]
-    if not is_summed(key) or not is_summed(value) or mark > 1 or mark == 0 and value_length:
+    if not is_summed(key) or not is_summed(value) or mark not in (VALUE, DELETION) or mark == DELETION and value_length:
         return DAMAGED
-    return key[: -SUM.size], value[: -SUM.size] if mark else None, length
+    return key[: -SUM.size], value[: -SUM.size] if mark == VALUE else None, length
 
 
 def opened(log):
@@ -119,16 +149,55 @@ def replayed(log):
     return entries, end, NOTHING
 
 
+def step(log, place):
+    """How far it is from a place to the next one that a salvage looks at."""
+    head = log[place : place + HEAD.size + SUM.size]
+    if not is_head(head, place):
+        return 1
+    _, key_length, value_length = HEAD.unpack_from(head)
+    return FRAME + key_length + value_length
+
+
 def salvaged(log):
-    """The bytes of each whole record of a file: where none stands, one is looked for a byte further on."""
-    place, records = len(HEADER), []
+    """The key and the value of each whole record of a file: where a head reads, the next one is looked for behind the whole
+    record, and else a byte further on."""
+    place, entries = len(HEADER), []
     while place < len(log):
         found = reading(log, place)
-        length = 1 if isinstance(found, str) else found[2]
-        if length > 1:
-            records.append(bytes(log[place : place + length]))
-        place += length
-    return records
+        if not isinstance(found, str):
+            entries.append(found[:2])
+        place += step(log, place)
+    return entries
+
+
+def gaps(log):
+    """What a salvage leaves out: where it stands, how many bytes it is, and the key of the record that stood there, where
+    head and key read. Bytes without a key that stand side by side are one gap."""
+    place = since = len(HEADER)
+    found = []
+    while place < len(log):
+        behind = min(place + step(log, place), len(log))
+        head = log[place : place + HEAD.size + SUM.size]
+        key = log[place + len(head) :][: HEAD.unpack_from(head)[1] + SUM.size] if is_head(head, place) else b""
+        is_known = is_summed(key) and len(key) == HEAD.unpack_from(head)[1] + SUM.size
+        is_left_out = isinstance(reading(log, place), str)
+        if is_known or not is_left_out:
+            found += [(since, place - since, None)] * (since < place)
+            found += [(place, behind - place, key[: -SUM.size])] * is_left_out
+            since = behind
+        place = behind
+    return found + [(since, place - since, None)] * (since < place)
+
+
+def told_left_out(log, shown):
+    """What a salvage of a file tells of what it leaves out, where keys are shown by a function."""
+    told = ""
+    for place, length, key in gaps(log):
+        what = "keys that are set in front of it may have older values"
+        if key is not None:
+            what = f"a record of {shown(key)}, which may have an older value now"
+        told += f"left out {length} bytes at {place}: {what}\n"
+    return told
 
 
 def told_of(log):
@@ -142,16 +211,38 @@ def told_of(log):
     }[tail]
 
 
+def fresh_files(file):
+    """The fresh files that interrupted commands left beside a file, in the order of the folder."""
+    named = re.compile(re.escape(file.name) + r"\.[0-9a-f]{16}\.part")
+    return [file.parent / entry.name for entry in os.scandir(file.parent) if named.fullmatch(entry.name)]
+
+
+def left_over(file):
+    """What is told of them as the file is opened."""
+    return "".join(f"left over: {part}\n" for part in fresh_files(file))
+
+
 def word(some):
     """Bytes as a word."""
     return some.hex() or "-"
 
 
 def text(some):
-    """Bytes as a text in quotes where all are printable, else as a word."""
-    if not all(0x20 <= byte <= 0x7E for byte in some):
+    """Bytes as a text in quotes where they are UTF-8, else as a word."""
+    try:
+        chars = some.decode()
+    except UnicodeDecodeError:
         return word(some)
-    return '"' + some.decode().replace("\\", "\\\\").replace('"', '\\"') + '"'
+    return '"' + "".join(map(escaped, chars)) + '"'
+
+
+def escaped(char):
+    """A character of a text, as it is written."""
+    if char in '"\\\n':
+        return {"\n": "\\n"}.get(char, "\\" + char)
+    if unicodedata.category(char) == "Cc":
+        return "".join(f"\\x{byte:02x}" for byte in char.encode())
+    return char
 
 
 def run(words, lines, **rooms):
@@ -219,12 +310,12 @@ class Sessions:
         del self.logs[self.file][self.end :]
         self.tail = NOTHING
 
-    def log(self, log):
+    def log(self, key, value):
         """A record behind the last whole one, where what stands behind that is torn."""
         self.cut_off()
         if self.end < len(HEADER):
             self.logs[self.file][:] = HEADER
-        self.logs[self.file] += log
+        self.logs[self.file] += record(len(self.logs[self.file]) - len(HEADER), key, value)
         self.end = len(self.logs[self.file])
 
     def put(self, key, value):
@@ -232,7 +323,7 @@ class Sessions:
             self.ask(f"put {word(key)} {word(value)}", "refused damaged")
             return
         self.entries[key] = value
-        self.log(record(key, value))
+        self.log(key, value)
         self.ask(f"put {word(key)} {word(value)}", "ok")
 
     def delete(self, key):
@@ -241,7 +332,7 @@ class Sessions:
             return
         had = self.entries.pop(key, None) is not None
         if had:
-            self.log(record(key, None))
+            self.log(key, None)
         else:
             self.cut_off()
         self.ask(f"delete {word(key)}", "ok" if had else "none")
@@ -288,7 +379,7 @@ class Sessions:
 
     def copied(self):
         """The bytes of a file that has a record of each key, the least first."""
-        return bytearray(file_of(*(record(*entry) for entry in sorted(self.entries.items()))) if self.entries else b"")
+        return bytearray(file_of(*sorted(self.entries.items())) if self.entries else b"")
 
     def dead(self):
         size = len(self.logs[self.file]) - len(HEADER)
@@ -320,13 +411,17 @@ class Sessions:
     def salvage(self, file):
         log = bytes(self.logs[self.file])
         records = salvaged(log)
-        left_out = max(0, len(log) - len(HEADER)) - sum(map(len, records))
+        copied = file_of(*records)
+        left_out = max(0, len(log) - len(HEADER)) - (len(copied) - len(HEADER))
         self.ask(f"salvage {file}", f"salvaged {len(records)} records, {left_out} bytes left out")
-        self.logs[file] = file_of(*records) if records else b""
+        self.logs[file] = copied if records else b""
+        self.told += told_left_out(log, self.shown)
 
     def cut(self):
-        if self.end < len(self.logs[self.file]):
-            self.told += f"cuts off {len(self.logs[self.file]) - self.end} bytes at {self.end}\n"
+        log = bytes(self.logs[self.file])
+        if self.end < len(log):
+            whole = len(salvaged(log)) - len(salvaged(log[: self.end]))
+            self.told += f"cuts off {len(log) - self.end} bytes at {self.end}, with {whole} whole records\n"
         self.cut_off()
         self.ask("cut", "ok")
 
@@ -334,7 +429,9 @@ class Sessions:
         """Makes the calls, and compares each answer, and then the bytes of the files. The next session is over the file
         where this one ended."""
         words = [*self.flags, self.first, self.kind]
-        answers(words, self.lines, self.wanted, self.told, self.status, **rooms)
+        told = left_over(self.first) + self.told
+        status = 1 if self.tail == DAMAGED else self.status
+        answers(words, self.lines, self.wanted, told, status, **rooms)
         for file, log in self.logs.items():
             compare(f"{file.name} over {self.kind}", file.read_bytes().hex(), bytes(log).hex())
         self.lines, self.wanted, self.status = [], [], 0

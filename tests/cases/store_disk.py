@@ -3,18 +3,21 @@ import subprocess
 
 from cases.store import (
     FRAME,
+    HEAD,
     HEADER,
     IN_ORDER,
     KINDS,
+    SUM,
     Sessions,
     Store,
     answers,
     case_of_store,
     compare,
     file_of,
+    grown,
     opened,
-    record,
     run,
+    summed,
     unchanged,
     word,
 )
@@ -26,10 +29,10 @@ from harness.session import Wrong
 def is_full(file, kind):
     """A file that is full refuses, keeps what was there, and cuts off what was begun when there is room. With the
     header not made, it has no keys."""
-    first = file_of(record(b"same", b"1"))
+    first = file_of((b"same", b"1"))
     for room in range(len(first), 2 * len(first) - len(HEADER)):
         file.unlink(missing_ok=True)
-        torn = record(b"same", b"2")[: room - len(first)]
+        torn = grown(first, (b"same", b"2"))[len(first) : room]
         sessions = Sessions(file, kind)
         sessions.put(b"same", b"1")
         sessions.ask("put 73616d65 32", "refused write")
@@ -79,8 +82,8 @@ def is_not_read_at_a_place(file, kind):
         file.write_bytes(log)
         answers([file, kind], ["count"], [], f"refused read: {file}\n", 1, UNREADABLE=place)
         unchanged(file, log)
-    first = record(b"same", b"1")
-    sessions = Sessions(file, kind, log=file_of(first, record(b"other", b"2"), record(b"third", b"3")))
+    first = file_of((b"same", b"1"))
+    sessions = Sessions(file, kind, log=grown(first, (b"other", b"2"), (b"third", b"3")))
     for line in ("get", "has", "put", "delete"):
         sessions.ask(f"{line} {word(b'other')}" + " 34" * (line == "put"), "refused read")
     sessions.get(b"nothing")
@@ -91,17 +94,32 @@ def is_not_read_at_a_place(file, kind):
             sessions.ask(line, "refused read")
         sessions.ask("last", sessions.shows(b"third"))
     sessions.put(b"same", b"4")
-    sessions.check(UNREADABLE=len(HEADER) + len(first))
+    sessions.check(UNREADABLE=len(first))
     sessions.hold([b"same", b"other", b"third"])
     sessions.check()
     compare("what remains", sorted(path.name for path in file.parent.iterdir()), [file.name])
+
+
+@case_of_store(*KINDS)
+def is_cut_where_it_is_not_read(file, kind):
+    """Where a read fails as the records behind damage are counted: that is told, and they are cut off."""
+    log, told_behind = file_of((b"a", b"1")), set()
+    damaged = grown(log + b"no record stands here", (b"b", b"2"))
+    for number in range(1, 9):
+        file.write_bytes(damaged)
+        given, told, status = run([file, kind], ["cut"], FAIL="pread", FAIL_AT=number)
+        if given:
+            compare("the answer, the status", (given, status), (["ok"], 0))
+            unchanged(file, log)
+            told_behind.add(told.split(", ")[-1])
+    compare("what is told", told_behind, {"with 1 whole records\n", "with 0 whole records or more\n"})
 
 
 @case_of_store(*IN_ORDER)
 def is_not_copied(file, kind):
     """Where a write fails: there is no copy, and no part of one, and the session goes on. An empty file that was there
     stays."""
-    log = file_of(record(b"apple", b"1"), record(b"berry", b"2"))
+    log = file_of((b"apple", b"1"), (b"berry", b"2"))
     for room in range(len(log)):
         sessions = Sessions(file, kind, log=log)
         copy = file.with_name("copy.log")
@@ -125,7 +143,8 @@ def is_durable(file, kind):
     lines = ["put 61 31", "put 62 32", "get 61", "delete 61", "sync", "count"]
     given, told, status = run(["--durable", file, kind], lines, FAIL="fsync", FAIL_AT=1, FAIL_ALL=1)
     refused = ["refused write", "refused write", "none", "refused write", "refused sync", "count 0"]
-    compare("before the first write", (given, told, status), (refused, "", 1))
+    reason = f"cannot sync {file}: Input/output error (os error 5)\n"
+    compare("before the first write", (given, told, status), (refused, reason, 1))
     for number in (2, 3):
         file.unlink(missing_ok=True)
         given, told, status = run(["--durable", file, kind], lines, FAIL="fsync", FAIL_AT=number, FAIL_ALL=1)
@@ -156,7 +175,7 @@ def has_bytes_changed_beneath(file, kind):
     log, _ = thirty()
     entries = opened(log)[0]
     for key, value in entries.items():
-        place = log.rindex(record(key, value))
+        place = log.rindex(summed(key) + summed(value)) - HEAD.size - SUM.size
         for off in (0, 1, 9, 13 + len(key), FRAME + len(key) + len(value) - 1):
             changed = bytearray(log)
             changed[place + off] ^= 0x10

@@ -12,8 +12,9 @@ from cases.store import (
     case_of_store,
     compare,
     file_of,
+    grown,
+    left_over,
     opened,
-    record,
     run,
     told_of,
     unchanged,
@@ -31,11 +32,11 @@ CALLS = {
     "pwrite": ["whole", "half", "short", "interrupted"],
     "ftruncate": ["whole"],
     "fsync": ["whole"],
-    "rename": [],
-    "link": [],
+    "rename": ["whole"],
+    "link": ["whole"],
     "realpath": [],
     "fchmod": ["whole"],
-    "unlink": [],
+    "unlink": ["whole"],
 }
 
 # Calls that a session makes so often that the kinds with an order share them out.
@@ -46,7 +47,7 @@ REASON = re.compile("refused (read|write|sync|open|busy)")
 
 # What may be told on standard error then.
 MAY_BE_TOLD = re.compile(
-    "(cannot (open|sync) .*|a torn record at .*|refused (read|busy): .*|failed: .*|cuts off .*|)"
+    "(cannot (open|sync) .*|a torn record at .*|refused (read|busy): .*|failed: .*|cuts off .*|left out .*|)"
 )
 
 
@@ -191,12 +192,12 @@ def compare_files(session, kind, place):
     lines = [f"get {word(key)}" for key in keys] + ["count"]
     wanted = [f"value {word(session.entries[key])}" if key in session.entries else "none" for key in keys]
     try:
-        answers([file, kind], lines, [*wanted, f"count {len(session.entries)}"], told_of(log))
+        answers([file, kind], lines, [*wanted, f"count {len(session.entries)}"], left_over(file) + told_of(log))
     except Wrong as wrong:
         raise Wrong(f"{place}, opened anew: {wrong}") from None
 
 
-THREE = file_of(record(b"a", b"0"), record(b"b", b"2"), record(b"a", b"1"), record(b"c", b"3"))
+THREE = file_of((b"a", b"0"), (b"b", b"2"), (b"a", b"1"), (b"c", b"3"))
 
 
 def each_fails(file, kind, name):
@@ -204,7 +205,7 @@ def each_fails(file, kind, name):
     sessions, first, step = 0, 1, 1
     if name in SHARED and kind in IN_ORDER:
         first, step = 1 + IN_ORDER.index(kind), len(IN_ORDER)
-    starts = [(THREE, []), (None, ["--durable"]), (THREE + record(b"d", b"torn")[:-1], [])]
+    starts = [(THREE, []), (None, ["--durable"]), (grown(THREE, (b"d", b"torn"))[:-1], [])]
     for log, flags in starts[: 2 if name == "pread" else 3]:
         for how in ["none", *CALLS[name]]:
             for is_all in ({}, {"FAIL_ALL": 1}) if how != "short" else ({},):
@@ -265,7 +266,7 @@ def is_empty_by_no_failed_statx(file, kind):
                 return
             if given:
                 compare("the answer", given, [f"count {len(opened(log)[0])}", "ok"])
-                unchanged(file, log + record(b"a", b"1"))
+                unchanged(file, grown(log, (b"a", b"1")))
             else:
                 compare("the status, and that it is told", (status, told != ""), (1, True))
                 unchanged(file, log)

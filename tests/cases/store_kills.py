@@ -13,8 +13,10 @@ from cases.store import (
     case_of_store,
     compare,
     file_of,
+    fresh_files,
+    grown,
+    left_over,
     opened,
-    record,
     run,
     unchanged,
     word,
@@ -67,30 +69,45 @@ def is_busy(file, kind):
 
 @case_of_store(*KINDS)
 def is_busy_as_a_place(file, kind):
-    """A file that another session has, empty or not, is no place for a copy, and neither is its part."""
+    """A file that another session has, empty or not, is no place for a copy."""
     log, _ = thirty()
     file.write_bytes(log)
     other = file.with_name("other.log")
-    part = file.with_name("whole.log.part")
     lines = ["salvage", *["compact", "move"] * (kind in IN_ORDER)]
-    for place, target, wanted in [(other, other, "refused busy"), (part, file.with_name("whole.log"), "refused busy")]:
-        with Talk(place, "ordered") as second:
-            second.ask("count", "count 0")
-            for line in lines:
-                answers([file, kind], [f"{line} {target}", "count"], [wanted, f"count {len(opened(log)[0])}"], "", 1)
-            second.ask("put 61 31", "ok")
-            for line in lines:
-                now = "refused not empty" if place == target else wanted
-                answers([file, kind], [f"{line} {target}", "count"], [now, f"count {len(opened(log)[0])}"], "", 1)
-            second.end()
-        answers([place], ["get 61", "count"], ["value 31", "count 1"])
-        unchanged(file, log)
+    with Talk(other, "ordered") as second:
+        second.ask("count", "count 0")
+        for line in lines:
+            wanted = ["refused busy", f"count {len(opened(log)[0])}"]
+            answers([file, kind], [f"{line} {other}", "count"], wanted, "", 1)
+        second.ask("put 61 31", "ok")
+        for line in lines:
+            wanted = ["refused not empty", f"count {len(opened(log)[0])}"]
+            answers([file, kind], [f"{line} {other}", "count"], wanted, "", 1)
+        second.end()
+    answers([other], ["get 61", "count"], ["value 31", "count 1"])
+    unchanged(file, log)
+
+
+@case_of_store(*KINDS)
+def is_no_part_of_another(file, kind):
+    """A file whose name ends in `.part` is a file as each other one: copies to names beside it leave it."""
+    part = file.with_name("b.part")
+    for line in ("salvage", *["compact", "move"] * (kind in IN_ORDER)):
+        target = file.with_name("b")
+        target.unlink(missing_ok=True)
+        sessions = Sessions(part, kind, "--durable", log=file_of((b"a", b"1"), (b"b", b"2")))
+        getattr(sessions, line)(target)
+        sessions.put(b"c", b"3")
+        sessions.hold([b"a", b"b", b"c"])
+        sessions.check()
+        sessions.hold([b"a", b"b", b"c"])
+        sessions.check()
 
 
 @case_of_store(*IN_ORDER)
 def is_made_while_it_is_copied(file, kind):
     """Another session makes the file to which a copy is on its way: what it was told is there stays there."""
-    log = file_of(*(record(b"%05d" % number, b"v") for number in range(3000)))
+    log = file_of(*((b"%05d" % number, b"v") for number in range(3000)))
     target = file.with_name("copy.log")
     for line in ("compact", "move", "salvage"):
         file.write_bytes(log)
@@ -98,9 +115,8 @@ def is_made_while_it_is_copied(file, kind):
         with Talk(file, kind) as first:
             first.ask("count", "count 3000")
             first.say(f"{line} {target}\n")
-            part = file.with_name("copy.log.part")
-            for _ in range(1_000_000):
-                if part.exists() or target.exists():
+            for _ in range(100_000):
+                if fresh_files(target) or target.exists():
                     break
             first.process.send_signal(signal.SIGSTOP)
             is_early = not target.exists()
@@ -166,18 +182,17 @@ def is_at_a_call(file, kind, calls, heard):
 @case_of_store(*IN_ORDER)
 def is_killed_in_a_compaction(file, kind):
     """At some time, in place or on the way to another file: the file is as it was, or whole, and the other one is whole
-    or not there. A part of one is never taken for it, and the next compaction does away with it."""
+    or not there. A fresh file that is left over is told, and stays."""
     numbers = Numbers(3)
-    records = [record(b"%05d" % (number % 700), b"%d" % number * 9) for number in range(1400)]
+    records = [(b"%05d" % (number % 700), b"%d" % number * 9) for number in range(1400)]
     log = file_of(*records)
     entries = opened(log)[0]
-    whole = file_of(*(record(*entry) for entry in sorted(entries.items())))
+    whole = file_of(*sorted(entries.items()))
     for number in range(max(4, KILLS // 4)):
         for left in file.parent.iterdir():
             left.unlink()
         file.write_bytes(log)
         target = file if number % 2 else file.with_name("copy.log")
-        part = target.with_name(target.name + ".part")
         with Talk(file, kind) as talk:
             talk.ask("count", "count 700")
             talk.say("compact\n" if number % 2 else f"compact {target}\n")
@@ -186,22 +201,24 @@ def is_killed_in_a_compaction(file, kind):
             raise Wrong(f"{target.name} has {target.stat().st_size} bytes where {len(whole)} are whole")
         if target != file:
             unchanged(file, log)
-        answers([file, kind], ["count", "get 3030303030"], ["count 700", f"value {word(entries[b'00000'])}"])
+        parts = fresh_files(target)
+        told = left_over(file)
+        wanted = ["count 700", f"value {word(entries[b'00000'])}"]
+        answers([file, kind], ["count", "get 3030303030"], wanted, told)
         again = "refused not empty" if target != file and target.exists() else "ok"
         line = "compact" if target == file else f"compact {target}"
-        answers([file, kind], [line, "count"], [again, "count 700"], "", int(again != "ok"))
+        answers([file, kind], [line, "count"], [again, "count 700"], told, int(again != "ok"))
         unchanged(target, whole)
-        if again == "ok":
-            compare("whether a part remains", part.exists(), False)
+        compare("fresh files that are left over", fresh_files(target), parts)
 
 
 # Seven calls, of which a copy has three records.
 SEVEN = file_of(
-    *(record(b"a", b"%d" % number) for number in range(3)),
-    record(b"b", b"1"),
-    record(b"b", None),
-    record(b"c", bytes(100)),
-    record(b"", b"empty"),
+    *((b"a", b"%d" % number) for number in range(3)),
+    (b"b", b"1"),
+    (b"b", None),
+    (b"c", bytes(100)),
+    (b"", b"empty"),
 )
 
 
@@ -209,15 +226,15 @@ SEVEN = file_of(
 def is_killed_at_each_call(file, kind):
     """In front of each call of the system, and behind it: the file has what some of the lines leave, from the first one
     on, or is whole; a copy is whole, or not there; and both open, as if the part that remains were not there."""
-    whole = file_of(*(record(*entry) for entry in sorted(opened(SEVEN)[0].items())))
+    whole = file_of(*sorted(opened(SEVEN)[0].items()))
     target = file.with_name("copy.log")
-    put = record(b"a", b"put")
-    puts = [SEVEN, SEVEN + put, SEVEN + put + record(b"c", None)]
+    put = (b"a", b"put")
+    puts = [SEVEN, grown(SEVEN, put), grown(SEVEN, put, (b"c", None))]
     sessions = [(["put 61 707574", "delete 63"], puts, [None]), ([f"salvage {target}"], [SEVEN], [None, SEVEN])]
     if kind in IN_ORDER:
-        sessions.append((["compact", "put 61 707574"], [SEVEN, whole, whole + put], [None]))
+        sessions.append((["compact", "put 61 707574"], [SEVEN, whole, grown(whole, put)], [None]))
         sessions.append(([f"compact {target}"], [SEVEN], [None, whole]))
-        sessions.append(([f"move {target}", "put 61 707574"], [SEVEN], [None, whole, whole + put]))
+        sessions.append(([f"move {target}", "put 61 707574"], [SEVEN], [None, whole, grown(whole, put)]))
     for lines, files, targets in sessions:
         for flags in ([], ["--durable"]) if lines[0].startswith("put") else ([],):
             for name in ("open", "statx", "flock", "pread", "pwrite", "ftruncate", "fsync", "rename", "link", "unlink", "fchmod"):
@@ -227,27 +244,26 @@ def is_killed_at_each_call(file, kind):
 
 @case_of_store(*IN_ORDER)
 def is_killed_with_two_names(file, kind):
-    """The process is killed as a copy has its name and the part's too: no later command changes the bytes of that copy, nor
-    one in place those of its other names."""
-    names = ("copy.log", "copy.log.part", "kept.log", "third.log")
-    target, part, kept, third = (file.with_name(name) for name in names)
+    """The process is killed as a copy has its name and that of the fresh file too: no later command changes the bytes of
+    that copy, nor one in place those of its other names."""
+    target, kept, third = (file.with_name(name) for name in ("copy.log", "kept.log", "third.log"))
     for line in ("compact", "move", "salvage"):
         file.write_bytes(SEVEN)
         target.unlink(missing_ok=True)
         run([file, kind], [f"{line} {target}"], FAIL="unlink", FAIL_AT=1, FAIL_HOW="kill")
         copy = target.read_bytes()
+        (part,) = fresh_files(target)
         compare("two names of one file", part.samefile(target), True)
         target.rename(kept)
         given, told, status = run([file, kind], [f"{line} {target}"])
         compare("status, standard error", (status, told), (0, ""))
         unchanged(kept, copy)
         unchanged(target, copy)
-        compare("whether the part is there", part.exists(), False)
-        os.link(target, part)
         os.link(target, third)
-        answers([target, kind], ["compact", "count"], ["ok", "count 3"])
+        answers([target, kind], ["compact", "count"], ["ok", "count 3"], f"left over: {part}\n")
         unchanged(third, copy)
-        compare("whether the part is there", part.exists(), False)
+        unchanged(part, copy)
+        part.unlink()
         third.unlink()
 
 

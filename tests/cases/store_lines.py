@@ -3,68 +3,108 @@ import os
 import re
 import subprocess
 
-from cases.store import IN_ORDER, KINDS, Sessions, Store, answers, case_of_store, compare, file_of, opened, record, unchanged
+from cases.store import (
+    IN_ORDER,
+    KINDS,
+    Sessions,
+    Store,
+    answers,
+    case_of_store,
+    compare,
+    file_of,
+    grown,
+    opened,
+    run,
+    unchanged,
+)
 from harness.xorshift import Numbers
 
-USAGE = "usage: key_index_store [--text] [--durable] [--keep-going] FILE [KIND]; all about it: --help\n"
+USAGE = "usage: key_index_store [FLAGS] FILE [KIND]; all about it: --help\n"
 
-# The words of a line, of which single spaces stand between two: texts in quotes, and others.
-WORD = re.compile(rb'"(?:[^"\\]|\\["\\])*"(?= |$)|(?!")[^ ]*(?= |$)')
+# A word of a line: a text in quotes, or another one, to a space or the end.
+WORD = re.compile(rb'"(?:[^"\\]|\\["\\n]|\\x[0-9a-fA-F]{2})*"|(?!")[^ ]*')
 
-# How many words follow a command: keys and values, numbers, files.
+# An escape in a text.
+ESCAPE = re.compile(rb'\\(?:x(..)|(.))', re.DOTALL)
+
+# The words that follow a command: keys and values, numbers, files.
 COMMANDS = {
-    "put": "KK",
+    "put": "K V",
     "get": "K",
     "has": "K",
     "delete": "K",
     "count": "",
     "sync": "",
+    "cut": "",
+    "salvage": "FILE2",
+    "help": "",
+    "quit": "",
     "next": "K",
     "prev": "K",
     "absent": "K",
     "first": "",
     "last": "",
-    "scan": "KN",
-    "scan-prefix": "KN",
+    "scan": "K N",
+    "scan-prefix": "K N",
     "dead": "",
+    "compact": "[FILE2]",
+    "move": "FILE2",
+}
+
+# What is told of a word that is not the one that is wanted.
+NO_WORD = {
+    "K": "K is neither hexadecimal nor a text in quotes",
+    "V": "V is neither hexadecimal nor a text in quotes",
+    "N": "N is no decimal number below 2^64",
 }
 
 
 def bytes_of(some):
     """The bytes of a key or a value, or none if the word says none."""
     if some[:1] == b'"':
-        return re.sub(rb'\\(["\\])', rb"\1", some[1:-1])
+        return ESCAPE.sub(lambda found: bytes_of_escape(*found.groups()), some[1:-1])
     if some == b"-":
         return b""
     return bytes.fromhex(some.decode()) if re.fullmatch(rb"(?:[0-9a-fA-F]{2})+", some) else None
 
 
+def bytes_of_escape(digits, char):
+    return bytes.fromhex(digits.decode()) if digits else {b"n": b"\n"}.get(char, char)
+
+
+def number_of(some):
+    return int(some) if re.fullmatch(rb"[0-9]+", some) and int(some) < 2**64 else None
+
+
+def wants(name):
+    """What is told of a command that has more words or fewer than it wants."""
+    words = COMMANDS[name].split()
+    count = {0: "no words", 1: "1 word", 2: "2 words"}[len(words)]
+    return f"{name} wants {count}{' at most' if '[FILE2]' in words else ''}: {' '.join([name, *words])}"
+
+
 def parsed(line):
-    """The command of a line and its words, or none."""
-    words, place = [], 0
-    while True:
-        found = WORD.match(line, place)
-        if found is None:
-            return None
-        words.append(found[0])
-        if found.end() == len(line):
-            break
-        place = found.end() + 1
-    name = words[0].decode("latin-1")
-    kinds = COMMANDS.get(name)
-    if kinds is None or len(words) != 1 + len(kinds):
-        return None
-    values = []
-    for kind, some in zip(kinds, words[1:]):
-        is_number = re.fullmatch(rb"[0-9]+", some) and int(some) < 2**64
-        values.append(bytes_of(some) if kind == "K" else int(some) if is_number else None)
-    return None if None in values else (name, values)
+    """The command of a line and its words, or what is wrong with it."""
+    front = line.split(b" ")[0]
+    name, place, values = front.decode("latin-1"), len(front), []
+    if name not in COMMANDS:
+        return shown_bytes(front) + NO_COMMAND
+    for wanted in COMMANDS[name].split():
+        if line[place : place + 1] != b" ":
+            return wants(name)
+        found = WORD.match(line, place + 1)
+        value = found and (number_of if wanted == "N" else bytes_of)(found[0])
+        if value is None:
+            return NO_WORD[wanted]
+        values.append(value)
+        place = found.end()
+    return (name, values) if place == len(line) else wants(name)
 
 
-def escaped(line):
-    """The first word of a bad line as it is shown: 32 bytes of it, none that a terminal would act on."""
+def shown_bytes(some):
+    """What is no command as it is shown: 32 bytes of it, none that a terminal would act on."""
     shown = ""
-    for byte in line.split(b" ")[0][:32]:
+    for byte in some[:32]:
         plain = {0x09: "\\t", 0x0A: "\\n", 0x0D: "\\r", 0x22: '\\"', 0x27: "\\'", 0x5C: "\\\\"}
         shown += plain.get(byte, chr(byte) if 0x20 <= byte <= 0x7E else f"\\x{byte:02x}")
     return shown
@@ -77,39 +117,51 @@ def session_of(file, words, read):
     return done.stdout.decode(), done.stderr.decode(), done.returncode
 
 
-CR = "\r"
+NO_KEY, NO_VALUE, NO_NUMBER = NO_WORD.values()
+NO_FILE = "FILE2 is no name of a file"
+NO_COMMAND = " is no command; help lists them"
 
-# Lines that are no command, with LF behind them.
-BAD_LINES = [
-    *["", " ", "put", "put 00", "put 00 01 02", "put  00 01", "put 0 01", "put 00 0g", "put 00 01 ", " put 00 01"],
-    *["get", "get ", "get 00 01", "Get 00", "get --", "get -00", 'get "', 'get "a', 'get "a"b', 'get a"', 'get "\\a"'],
-    *['get "\\"', 'get "a" ', 'get"a"', '"get" 00', "has", "has 00 00", "delete", "delete 00 00", "count ", "count 00"],
-    *["sync 00", "cut 00", "salvage", "salvage ", 'salvage ""', "salvage a b", "next", "next 00 00", "absent 0"],
-    *["first 00", "last -", "scan", "scan 00", "scan - x", "scan - -1", "scan - 1.0", "scan - 18446744073709551616"],
-    *['scan - "1"', "scan - 1 1", "scan-prefix -", "dead 00", "compact a b", "move", "move a b", 'move ""', "end"],
-    "\t",
-    *["count\r\r", "\r", "count\t", "PUT 00 01", "keep-going", "--help", "get \u00e9", "\u00e9", "a" * 40],
-    "scan - 0x1",
-]
+# What is no command, as a line and as it is shown.
+NO_COMMANDS = {
+    **{name: name for name in ("end", "PUT", "Get", "keep-going", "--help", "help,", "a" * 32)},
+    **{" ": "", " put 00 01": "", "put\t00 01": "put\\t00", "\t": "\\t", "count\r": "count\\r", "\0": "\\x00"},
+    **{"\u00e9": "\\xc3\\xa9", "a" * 40: "a" * 32, 'get"a"': 'get\\"a\\"', '"get" 00': '\\"get\\"'},
+}
+
+# Lines that are no command, and what is wrong with them.
+BAD_LINES = {
+    **{line: shown + NO_COMMAND for line, shown in NO_COMMANDS.items()},
+    **{line: wants("put") for line in ("put", "put 00", "put 00 01 02", "put 00 01 ", 'put "a" "b" "c"')},
+    **{f"put {key} 01": NO_KEY for key in ("", "0", "0g", "apple", "0x00", '"', '"a', 'a"', '"\\')},
+    **{f"get {key}": NO_KEY for key in (r'"\a"', r'"\x0"', r'"\x0g"', '"\\', r'"\x', "--", "-00", "", "\u00e9")},
+    **{f"put 00 {value}": NO_VALUE for value in ("0", "g0", "red", '"red', " 01")},
+    **{line: wants("put") for line in ('put "a"b 01', 'put 00 "red"s', 'put "a""b"')},
+    **{line: wants(line.split(" ")[0]) for line in ("get", "get 00 01", 'get "a" ', "has", "has 00 00", "delete")},
+    **{line: wants(line.split(" ")[0]) for line in ("delete 00 00", "next", "next 00 00", "prev", "absent", "scan")},
+    **{line: wants(line.split(" ")[0]) for line in ("scan 00", "scan - 1 1", "scan-prefix -", "salvage")},
+    **{line: wants(line.split(" ")[0]) for line in ("salvage a b", "move", "move a b", "compact a b", 'get "a"b')},
+    **{f"{name}{more}": wants(name) for name, words in COMMANDS.items() if not words for more in (" ", " 00")},
+    **{line: NO_FILE for line in ("salvage ", 'salvage ""', 'salvage "a', "move ", 'move ""', 'compact "', "compact ")},
+    **{f"scan - {number}": NO_NUMBER for number in ("", "x", "-1", "-0", "+1", "1.0", "0x1", '"1"', str(2**64))},
+    **{"scan-prefix - +0": NO_NUMBER, "scan x 1": NO_KEY, "absent 0": NO_KEY},
+}
 
 
 @case_of_store(*KINDS)
 def refuses_bad_lines(file, kind):
-    """One ends the session with status 1, and what stood in front of it is answered and there; with --keep-going the
-    session goes on, and each is told."""
-    log = file_of(record(b"a", b"1"))
-    for number, line in enumerate(BAD_LINES):
+    """One ends the session with status 1, what is wrong with it is told, and what stood in front of it is answered and
+    there; with --keep-going the session goes on, and each is told."""
+    log = file_of((b"a", b"1"))
+    for number, (line, wrong) in enumerate(BAD_LINES.items()):
         file.write_bytes(log)
-        told = f"bad line 3: {escaped(line.removesuffix(CR).encode())}\n"
-        lines = ["count", f"put {number:04x} 31", line, "put 62 32"]
-        answers([file, kind], lines, ["count 1", "ok"], told, 1)
-        unchanged(file, log + record(number.to_bytes(2, "big"), b"1"))
+        lines = ["count", f"put {number:04x} 31", line + "\r" * ("\r" in line), "put 62 32"]
+        answers([file, kind], lines, ["count 1", "ok"], f"bad line 3: {wrong}\n", 1)
+        unchanged(file, grown(log, (number.to_bytes(2, "big"), b"1")))
     sessions = Sessions(file, kind, "--keep-going", log=log)
     sessions.hold([b"a"])
-    for number, line in enumerate(BAD_LINES):
-        sessions.told += f"bad line {len(sessions.lines) + 1}: {escaped(line.removesuffix(CR).encode())}\n"
-        sessions.lines.append(line)
-        sessions.wanted.append([])
+    for number, (line, wrong) in enumerate(BAD_LINES.items()):
+        sessions.told += f"bad line {len(sessions.lines) + 1}: {wrong}\n"
+        sessions.ask(line + "\r" * ("\r" in line), [])
         sessions.put(bytes([number]), b"2")
     sessions.status = 1
     sessions.count()
@@ -117,10 +169,29 @@ def refuses_bad_lines(file, kind):
 
 
 @case_of_store(*KINDS)
-def takes_no_sign(file, kind):
-    """A number is decimal digits alone."""
-    for line in ("scan - +1", "scan-prefix - +0", "scan - -0"):
-        answers([file, kind], [line], [], f"bad line 1: {line.split(' ')[0]}\n", 1)
+def passes_over_lines(file, kind):
+    """Empty ones, and those that begin with a number sign: they have no answer, and count as lines."""
+    nothing = ["", "# put 61 31", "#", "\r", "#\r", '#"']
+    answers([file, kind], [*nothing, "put 61 31", *nothing, "get 61"], [[]] * 6 + ["ok"] + [[]] * 6 + ["value 31"])
+    told = f"bad line 8: {NO_COMMAND}\n"
+    answers([file, kind], [*nothing, "count", " #"], [[]] * 6 + ["count 1"], told, 1)
+
+
+@case_of_store(*KINDS)
+def is_helped_and_quit(file, kind):
+    """`help` lists the commands as --help does; behind `quit` no line is read, and what was written is there."""
+    shown = subprocess.run([Store.path, "--help"], capture_output=True, text=True, check=True).stdout
+    given, told, status = run([file, kind], ["put 61 31", "help", "count", "quit", "put 62 32", "no command"])
+    compare("the answers in front and behind", (given[0], given[-1], told, status), ("ok", "count 1", "", 0))
+    listed = [line for line in given[1:-1] if line.startswith("  ")]
+    compare("the help is a part", ("\n".join(given[1:-1]) in shown, given[1][:15]), (True, "K and V are byt"))
+    compare("its rows", [" ".join(line.split("  ")[1].split()) for line in listed], [
+        f"{name} {words}".rstrip() for name, words in COMMANDS.items()
+    ])
+    unchanged(file, file_of((b"a", b"1")))
+    answers([file, kind], ["get 62", "quit"], ["none"])
+    answers([file, kind], ["put 6", "quit"], [], f"bad line 1: {NO_KEY}\n", 1)
+    answers(["--keep-going", file, kind], ["put 6", "quit"], [], f"bad line 1: {NO_KEY}\n", 1)
 
 
 @case_of_store(*KINDS)
@@ -128,13 +199,14 @@ def reads_random_lines(file, kind):
     """Three thousand lines of pieces of lines: each is answered as the page reads it, or told as bad."""
     pieces = [b" ", b" ", b"  ", b'"', b'"', b"\\", b'\\"', b"\\\\", b"-", b"61", b"7A", b"6g", b"0", b"007", b"a"]
     pieces += [b"18446744073709551615", b"18446744073709551616", b"\t", b"\xff", b"\xc3\xa9", b"\0", b"\r", b"'"]
-    pieces += [b"\x7f", b"\x1b[1m"]
+    pieces += [b"\x7f", b"\x1b[1m", b"\\n", b"\\x", b"\\x4", b"\\xE9"]
+    some_commands = [name for name in COMMANDS if name not in ("cut", "salvage", "help", "quit", "compact", "move")]
     numbers = Numbers(KINDS.index(kind) + 11)
     sessions = Sessions(file, kind, "--keep-going", "--text")
     read = b""
     for number in range(1, 3001):
         kind_of_line = numbers.next()
-        words = [list(COMMANDS)[kind_of_line % len(COMMANDS)].encode()]
+        words = [some_commands[kind_of_line % len(some_commands)].encode()]
         for _ in range(kind_of_line >> 8 & 3):
             some = b"".join(pieces[numbers.next() % len(pieces)] for _ in range(numbers.next() % 4))
             is_text = numbers.next() >> 62
@@ -161,8 +233,8 @@ def reads_random_lines(file, kind):
 def ask_parsed(sessions, number, line):
     """What a line is answered."""
     found = parsed(line)
-    if found is None:
-        sessions.told += f"bad line {number}: {escaped(line)}\n"
+    if isinstance(found, str):
+        sessions.told += f"bad line {number}: {found}\n"
         return
     name, values = found
     if name in ("put", "delete", "get", "has", "count"):
@@ -191,30 +263,36 @@ def reads_ends_of_lines(file, kind):
         (b"", "", "", 0),
         (b"put 61 31\r\nget 61\r\ncount\n", "ok\nvalue 31\ncount 1\n", "", 0),
         (b'put "a\r" "\r"\r\nget 610D\n', "ok\nvalue 0d\n", "", 0),
-        (b"count\r\r\n", "", "bad line 1: count\\r\n", 1),
+        (b"count\r\r\n", "", f"bad line 1: count\\r{NO_COMMAND}\n", 1),
         (b"put 61 31\nput 61 3132", "ok\n", "line 2 has no end\n", 1),
         (b"put 61 31\nput 61 3132\r", "ok\n", "line 2 has no end\n", 1),
         (b"put 61 31\ncount", "ok\n", "line 2 has no end\n", 1),
-        (b"bad\ncount", "", "bad line 1: bad\n", 1),
+        (b"bad\ncount", "", f"bad line 1: bad{NO_COMMAND}\n", 1),
         (b"\r", "", "line 1 has no end\n", 1),
-        (b"\n", "", "bad line 1: \n", 1),
-        (b"\0\n", "", "bad line 1: \\x00\n", 1),
+        (b"\n\r\n#\n", "", "", 0),
+        (b"\n#\n\0\n", "", f"bad line 3: \\x00{NO_COMMAND}\n", 1),
+        (b"#", "", "line 1 has no end\n", 1),
+        (b"quit\ncount", "", "", 0),
     ]:
         file.unlink(missing_ok=True)
         compare(read, session_of(file, [kind], read), (given, told, status))
         there = {b"p": {}, b'"': {b"a\r": b"\r"}, b"6": {b"a": b"1"}}[read[4:5] if read.startswith(b"put") else b"p"]
         compare(f"what {read} leaves", opened(file.read_bytes())[0], there)
     done = session_of(file, ["--keep-going", kind], b"bad\ncount")
-    compare("--keep-going", done, ("", "bad line 1: bad\nline 2 has no end\n", 1))
+    compare("--keep-going", done, ("", f"bad line 1: bad{NO_COMMAND}\nline 2 has no end\n", 1))
 
 
 @case_of_store("ordered")
 def reads_a_long_line(file, kind):
     """A bad one of many megabytes is shown by its first bytes; the next one is read. NUL bytes too."""
     long = b"x" * 5_000_000
-    for read, shown in [(long, "x" * 32), (bytes(1_000_000), "\\x00" * 32), (b"get 6" + long, "get")]:
+    for read, wrong in [
+        (long, "x" * 32 + NO_COMMAND),
+        (bytes(1_000_000), "\\x00" * 32 + NO_COMMAND),
+        (b"get 6" + long, NO_KEY),
+    ]:
         done = session_of(file, ["--keep-going", kind], read + b"\ncount\n")
-        compare("a long line", done, ("count 0\n", f"bad line 1: {shown}\n", 1))
+        compare("a long line", done, ("count 0\n", f"bad line 1: {wrong}\n", 1))
 
 
 def arguments(words, given, told, status, read=b"count\n", folder=None):
@@ -237,12 +315,12 @@ def reads_arguments(file, _kind):
     ]:
         arguments(words, "", USAGE, 2, folder=folder)
     compare("no file is made", list(folder.iterdir()), [])
-    version = "key_index_store 1\n"
+    version = "key_index_store 2\n"
     for words in [["--version"], [file, "--version"], ["--text", "--version", file, "unknown", "more"]]:
         arguments(words, version, "", 0, folder=folder)
-    for words in [["--help"], ["--help", file], [file, "ordered", "--text", "--help"]]:
+    for words in [["--help"], ["--help", file], [file, "ordered", "--text", "--help"], ["-h"], [file, "-h"]]:
         done = subprocess.run([Store.path, *words], input=b"", capture_output=True, check=False, cwd=folder)
-        is_usage = done.stdout.startswith(b"usage: key_index_store [--text] [--durable] [--keep-going] FILE [KIND]\n")
+        is_usage = done.stdout.startswith(b"usage: key_index_store [FLAGS] FILE [KIND]\n")
         compare("--help", (is_usage, done.stderr, done.returncode), (True, b"", 0))
     compare("no file is made", list(folder.iterdir()), [])
     for words in [["--text", "./--x"], ["-x", "--durable", "hashed"], ["--keep-going", "--text", "a b", "unordered"]]:
@@ -259,7 +337,7 @@ def ends_with_a_status(file, kind):
         (["get 61", "delete 61", "has 61"], ["none", "none", "no"], "", 0),
         (["put 61 31", "sync", "cut"], ["ok", "ok", "ok"], "", 0),
         ([f"salvage {file}", "count"], ["refused not empty", "count 1"], "", 1),
-        ([f"salvage {no}", "count"], opens, f"cannot open {no}.part: No such file or directory (os error 2)\n", 1),
+        ([f"salvage {no}", "count"], opens, f"cannot open {no}: No such file or directory (os error 2)\n", 1),
         (["salvage /", "count"], opens, "cannot open /: Is a directory (os error 21)\n", 1),
         (['salvage "a\0b"', "count"], opens, "cannot open a\0b: file name contained an unexpected NUL byte\n", 1),
         (["count"], ["count 1"], "", 0),
@@ -282,8 +360,8 @@ def is_named_by_words_of_all_kinds(file, kind):
             text = '"' + f"{line} {name}".replace("\\", "\\\\").replace('"', '\\"') + '"'
             given = "ok\n" if line == "compact" else "salvaged 1 records, 0 bytes left out\n"
             arguments([file.name, kind], given, "", 0, f"{line} {text}\n".encode(), folder)
-            unchanged(folder / f"{line} {name}", file_of(record(b"a", b"1")))
+            unchanged(folder / f"{line} {name}", file_of((b"a", b"1")))
     arguments([file.name, kind], "ok\nok\n", "", 0, b"move -\nput 61 32\n", folder)
-    unchanged(folder / "-", file_of(record(b"a", b"1"), record(b"a", b"2")))
-    unchanged(file, file_of(record(b"a", b"1")))
+    unchanged(folder / "-", file_of((b"a", b"1"), (b"a", b"2")))
+    unchanged(file, file_of((b"a", b"1")))
     compare("no part remains", [path for path in folder.iterdir() if path.suffix == ".part"], [])

@@ -1,12 +1,13 @@
 """The program key_index_store as a process: closed streams, pipes, devices, limits, permissions."""
 import os
+import pty
 import shutil
 import subprocess
 import sys
-from pathlib import Path
 
 from cases.store import (
     CLOSED,
+    FRAME,
     HEADER,
     IN_ORDER,
     KINDS,
@@ -16,8 +17,11 @@ from cases.store import (
     answers,
     case_of_store,
     compare,
+    file_of,
+    grown,
     opened,
     record,
+    told_left_out,
     told_of,
     unchanged,
     word,
@@ -197,41 +201,54 @@ def is_left_by_its_reader(file, kind):
         raise Wrong(f"{len(entries)} entries are there, {tail}")
 
 
+def in_blocks(blocks, file, kind, lines):
+    """A session whose files may have so many blocks of 1,024 bytes."""
+    shell = f'(ulimit -f {blocks}; exec "$@") | cat; exit "${{PIPESTATUS[0]}}"'
+    given, told, status = in_shell(shell, file, kind, text="".join(f"{line}\n" for line in lines))
+    return given.split("\n")[:-1], told, status
+
+
 @case_of_store(*KINDS)
 def has_a_limit_of_its_size(file, kind):
-    """By the script, which has no signal end the program: a put is refused, and what was there stays. The records
-    before it are there, and in a session without the limit others."""
-    root = file.parent / "root"
-    (root / "crates/key_index_store_cli/out").mkdir(parents=True)
-    for crate in ("flat", "parts", "store", "store_cli"):
-        (root / f"crates/key_index_{crate}/src").mkdir(parents=True)
-    (root / ".ci").mkdir()
-    for name in ("store", "crates.txt", ".ci/is_current", ".ci/program"):
-        shutil.copy(Path(__file__).resolve().parent.parent.parent / name, root / name)
-    shutil.copy(Store.path, root / "crates/key_index_store_cli/out/key_index_store_cli")
+    """A put is refused, and what was there stays. The records before it are there, and in a session without the limit
+    others. A record that ends at the limit is taken."""
+    size = len(record(0, b"1", b"1" * 91))
     for blocks in (0, 1, 2):
         file.unlink(missing_ok=True)
-        lines = [f"put {number:02x} {'31' * 90}" for number in range(30)]
-        done = subprocess.run(
-            ["bash", "-c", f'(ulimit -f {blocks}; exec "$@") | cat; exit "${{PIPESTATUS[0]}}"']
-            + ["bash", str(root / "store"), "--keep-going", str(file), kind],
-            input="".join(f"{line}\n" for line in [*lines, "get 00", "count", "put 00 -"]).encode(),
-            capture_output=True,
-            timeout=300,
-            check=False,
-        )
-        size = len(record(b"1", b"1" * 90))
         room = max(0, 1024 * blocks - len(HEADER)) // size
+        left = 1024 * blocks - len(HEADER) - room * size
+        lines = [f"put {number:02x} {'31' * 91}" for number in range(30)]
         wanted = ["ok"] * room + ["refused write"] * (30 - room)
-        wanted += ["value " + "31" * 90 if room else "none", f"count {room}"]
-        given = done.stdout.decode().split("\n")
-        compare("the answers", given[:32], wanted)
-        compare("standard error, the status", (done.stderr, done.returncode), (b"", 1))
+        if room:
+            lines += [f"put - {'32' * (left - FRAME + more)}" for more in (1, 0)] + ["delete 00", "delete ff"]
+            wanted += ["refused write", "ok", "refused write", "none"]
+        lines += ["get 00", "count", "put 00 -"]
+        wanted += ["value " + "31" * 91 if room else "none", f"count {room + (room > 0)}", "refused write"]
+        compare(STATUS, in_blocks(blocks, file, kind, lines), (wanted, "", 1))
         sessions = Sessions(file, kind, log=file.read_bytes())
-        compare("the keys", len(sessions.entries), room)
+        compare("the keys, the size", (len(sessions.entries), sessions.end), (room + (room > 0), 1024 * blocks))
         sessions.put(b"more", b"1" * 2000)
         sessions.count()
         sessions.check()
+
+
+@case_of_store(*IN_ORDER)
+def is_copied_below_a_limit(file, kind):
+    """A copy that is longer is refused, and leaves nothing; one that is not is made, also of a longer file."""
+    sessions = Sessions(file, kind)
+    for number in range(30):
+        sessions.put(bytes([number]), b"1" * 90)
+    sessions.check()
+    log, copy = file.read_bytes(), file.with_name("copy.log")
+    for line in (f"salvage {copy}", f"compact {copy}", f"move {copy}", "compact", "put 00 -", "delete 00"):
+        compare(line, in_blocks(2, file, kind, [line, "count"]), (["refused write", "count 30"], "", 1))
+        compare("what is there", {path.name: path.read_bytes() for path in file.parent.iterdir()}, {file.name: log})
+    for number in range(10, 30):
+        sessions.delete(bytes([number]))
+    sessions.check()
+    given = in_blocks(2, file, kind, [f"compact {copy}", "compact", "put 00 -", "count"])
+    compare(STATUS, given, (["ok", "ok", "ok", "count 10"], "", 0))
+    unchanged(file, grown(copy.read_bytes(), (b"\0", b"")))
 
 
 def without_rights():
@@ -258,6 +275,72 @@ def as_reader(before, words, lines):
 
 
 @case_of_store(*KINDS)
+def speaks_at_a_terminal(file, kind):
+    """The session goes on behind a line that is no command, is told what is wrong with it, and ends with status 1."""
+    own, other = pty.openpty()
+    pipes = {"stdout": subprocess.PIPE, "stderr": subprocess.PIPE}
+    with subprocess.Popen([Store.path, file, kind], stdin=other, **pipes) as process:
+        os.close(other)
+        os.write(own, b"put 61\n\nput 61 31\ntypo\n# nothing\ncount\nquit\n")
+        given, told = process.communicate(timeout=300)
+    os.close(own)
+    wrong = "bad line 1: put wants 2 words: put K V\nbad line 4: typo is no command; help lists them\n"
+    compare(STATUS, (given.decode(), told.decode(), process.returncode), ("ok\ncount 1\n", wrong, 1))
+    unchanged(file, file_of((b"a", b"1")))
+
+
+def only_reads(file, kind, log, behind, before, flags):
+    """A session that may only read, by these flags or by the file's permissions."""
+    entries, words = opened(log)[0], [*flags, file, kind]
+    saved = file.with_name("saved.log")
+    saved.unlink(missing_ok=True)
+    lines = ["put 61 31", "delete 74686972", "delete 61", "cut", "count", f"get {word(ALIKE[0])}"]
+    lines += [f"salvage {saved}", "sync"]
+    wanted = ["refused read-only"] * 4 + [f"count {len(entries)}"]
+    wanted += [f"value {word(entries[ALIKE[0]])}" if ALIKE[0] in entries else "none"]
+    wanted += [f"salvaged 30 records, {len(behind)} bytes left out", "ok"]
+    told = told_of(log + behind) + told_left_out(log + behind, word)
+    compare(STATUS, as_reader(before, words, lines), (wanted, told, 1))
+    unchanged(file, log + behind)
+    unchanged(saved, log)
+    compare("the copy's permissions", oct(saved.stat().st_mode & 0o777), oct(0o644))
+    with Talk(*words, before=before) as first:
+        first.ask("count", f"count {len(entries)}")
+        compare("two at once", as_reader(before, words, ["count"])[0], [f"count {len(entries)}"])
+        answers([file, kind], ["count"], [], f"refused busy: {file}\n", 1)
+    if kind in IN_ORDER:
+        moved = file.with_name("moved.log")
+        moved.unlink(missing_ok=True)
+        lines = ["compact", f"move {moved}", "put 7a 31", "get 7a", "compact"]
+        given = as_reader(before, words, lines)
+        compare(STATUS, given, (["refused read-only", "ok", "ok", "value 31", "ok"], told_of(log + behind), 1))
+        compare("what was moved", opened(moved.read_bytes())[0], {**entries, b"z": b"1"})
+        unchanged(file, log + behind)
+
+
+@case_of_store(*KINDS)
+def is_asked_to_be_read(file, kind):
+    """By a flag: it is not made, it is read beside others that only read it, and never changed, whatever its
+    permissions; a copy may be written."""
+    missing = f"cannot open {file}: No such file or directory (os error 2)\n"
+    answers(["--read-only", file, kind], ["count"], [], missing, 1)
+    compare("no file is made", list(file.parent.iterdir()), [])
+    log, _ = thirty()
+    for behind in (b"", b"torn", b"damage, and more of it"):
+        file.write_bytes(log + behind)
+        only_reads(file, kind, log, behind, [], ["--read-only"])
+    for part in (b"", HEADER[:5]):
+        file.write_bytes(part)
+        lines, wanted = ["count", "sync", "put - -"], ["count 0", "ok", "refused read-only"]
+        answers(["--read-only", file, kind], lines, wanted, "", 1)
+        unchanged(file, part)
+    with Talk(file, kind) as writer:
+        writer.ask("count", "count 0")
+        answers([file, kind, "--read-only"], ["count"], [], f"refused busy: {file}\n", 1)
+    answers(["--read-only", "/dev/null", kind], ["count"], [], "cannot open /dev/null: not a regular file\n", 1)
+
+
+@case_of_store(*KINDS)
 def may_only_be_read(file, kind):
     """It is read, also by two at once, and never changed; a copy may be written. One that may not be read is told with
     the system's reason."""
@@ -270,30 +353,7 @@ def may_only_be_read(file, kind):
         file.unlink(missing_ok=True)
         file.write_bytes(log + behind)
         file.chmod(0o444)
-        saved = file.with_name("saved.log")
-        saved.unlink(missing_ok=True)
-        lines = ["put 61 31", "delete 74686972", "delete 61", "cut", "count", f"get {word(ALIKE[0])}"]
-        lines += [f"salvage {saved}", "sync"]
-        wanted = ["refused read-only"] * 4 + [f"count {len(entries)}"]
-        wanted += [f"value {word(entries[ALIKE[0]])}" if ALIKE[0] in entries else "none"]
-        wanted += [f"salvaged 30 records, {len(behind)} bytes left out", "ok"]
-        given = as_reader(before, [file, kind], lines)
-        compare(STATUS, given, (wanted, told_of(log + behind), 1))
-        unchanged(file, log + behind)
-        unchanged(saved, log)
-        compare("the copy's permissions", oct(saved.stat().st_mode & 0o777), oct(0o644))
-        with Talk(file, kind, before=before) as first:
-            first.ask("count", f"count {len(entries)}")
-            compare("two at once", as_reader(before, [file, kind], ["count"])[0], [f"count {len(entries)}"])
-            answers([file, kind], ["count"], [], f"refused busy: {file}\n", 1)
-        if kind in IN_ORDER:
-            moved = file.with_name("moved.log")
-            moved.unlink(missing_ok=True)
-            lines = ["compact", f"move {moved}", "put 7a 31", "get 7a", "compact"]
-            given = as_reader(before, [file, kind], lines)
-            compare(STATUS, given, (["refused read-only", "ok", "ok", "value 31", "ok"], told_of(log + behind), 1))
-            compare("what was moved", opened(moved.read_bytes())[0], {**entries, b"z": b"1"})
-            unchanged(file, log + behind)
+        only_reads(file, kind, log, behind, before, [])
     with Talk(file, kind) as writer:
         writer.ask("count", f"count {len(entries)}")
         given = as_reader(before, [file, kind], ["count"])
@@ -313,6 +373,6 @@ def may_only_be_read(file, kind):
     if kind in IN_ORDER:
         given, told, status = as_reader(before, [inner, kind], ["compact", "count"])
         compare("no rights to make a part", (given, status), (["refused open", f"count {len(entries)}"], 1))
-        compare("the reason", told, f"cannot open {inner}.part: Permission denied (os error 13)\n")
+        compare("the reason", told, f"cannot open {inner}: Permission denied (os error 13)\n")
     closed.chmod(0o755)
     unchanged(inner, log)

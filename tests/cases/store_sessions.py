@@ -2,7 +2,22 @@
 import resource
 import subprocess
 
-from cases.store import FRAME, HEADER, IN_ORDER, KINDS, Sessions, Store, case_of_store, compare, file_of, record
+from cases.store import (
+    FRAME,
+    HEADER,
+    IN_ORDER,
+    KINDS,
+    Sessions,
+    Store,
+    answers,
+    case_of_store,
+    compare,
+    file_of,
+    fresh_files,
+    grown,
+    run,
+    unchanged,
+)
 from harness.session import Wrong
 from harness.xorshift import Numbers
 
@@ -182,10 +197,19 @@ TEXTS = [
     (b"\\", r'"\\"'),
     (b'a\\"b', r'"a\\\"b"'),
     (b"\\n", r'"\\n"'),
+    (b"\\x41", r'"\\x41"'),
+    (b"\n", r'"\n"'),
+    (b"two\nlines\r\n", r'"two\nlines\x0D\n"'),
+    (b"A\0z", r'"\x41\x00z"'),
     (b"~", "7E"),
     (b"\x7f", "7f"),
     (b"\x1f", "1F"),
     (b"\xff\0", "ff00"),
+    (b"\xff", r'"\xff"'),
+    (b"\xc3", r'"\xC3"'),
+    (b"\xc2\x9b31m", r'"\xc2\x9b31m"'),
+    (b"\xed\xa0\x80", "eda080"),
+    ("\u00a0\u2028\U0001f34e".encode(), '"\u00a0\u2028\U0001f34e"'),
     ("\u00e9".encode(), '"\u00e9"'),
     (b"\t", '"\t"'),
     (b"-", '"-"'),
@@ -218,6 +242,28 @@ def reads_and_shows_texts(file, kind):
         sessions.check()
         sessions.hold([key for key, _ in TEXTS])
         sessions.check()
+
+
+@case_of_store(*IN_ORDER)
+def reads_what_it_shows(file, kind):
+    """Random keys and values of a few bytes, of which many are UTF-8, texts of all control characters, and one of a
+    megabyte: the lines of a scan, as puts over another file, give the same bytes again."""
+    chars = [char.encode() for char in '"\\\n\u00e9\u20ac\U0001f34e\u0085']
+    pieces = [*(bytes([byte]) for byte in range(256)), *chars]
+    numbers = Numbers(3)
+    entries = {bytes(range(128)): bytes(range(256)), b"long": "\u00e9\n".encode() * 300_000}
+    for number in range(2000):
+        some = [pieces[numbers.next() % len(pieces)] for _ in range(2 + number % 5)]
+        entries[b"".join(some[:-1])] = some[-1]
+    log = file_of(*sorted(entries.items()))
+    file.write_bytes(log)
+    for flags in ([], ["--text"]):
+        given, told, status = run([*flags, file, kind], [f"scan - {len(entries) + 1}"])
+        compare("what is shown", (len(given), given[-1], told, status), (len(entries) + 1, "end", "", 0))
+        again = file.with_name(f"again{len(flags)}.log")
+        lines = [line.replace("entry", "put", 1) for line in given[:-1]]
+        answers([*flags, again, kind], lines, ["ok"] * len(entries))
+        unchanged(again, log)
 
 
 @case_of_store(*KINDS)
@@ -258,9 +304,9 @@ def holds_long_records(file, kind):
 
 @case_of_store(*IN_ORDER)
 def is_not_copied_over_bytes(file, kind):
-    """A file that has bytes is no place for a copy, nor is the file itself; an empty one is, and one that is there
-    beside it as an unfinished copy is emptied if it is a store, and refused if it is not."""
-    two = file_of(record(b"apple", b"1"), record(b"berry", b"2"))
+    """A file that has bytes is no place for a copy, nor is the file itself; an empty one is, and what is there beside it
+    stays."""
+    two = file_of((b"apple", b"1"), (b"berry", b"2"))
     for line in ("compact", "move", "salvage"):
         sessions = Sessions(file, kind, log=two)
         taken = file.with_name(f"{line}.log")
@@ -278,16 +324,11 @@ def is_not_copied_over_bytes(file, kind):
         fresh.write_bytes(b"")
         part.write_bytes(b"a text")
         sessions.logs[part] = b"a text"
-        sessions.logs[fresh] = b""
-        sessions.ask(f'{line} "{fresh}"', "refused not empty")
-        sessions.count()
-        sessions.check()
-        part.write_bytes(file_of(record(b"old", b"part"), record(b"older", b"part")) + b"torn")
         getattr(sessions, line)(fresh)
         sessions.lines[-1] = f'{line} "{fresh}"'
         sessions.hold([b"apple", b"berry", b"old"])
         sessions.check()
-        compare("what remains", sorted(path.name for path in file.parent.glob("*.part")), [])
+        compare("fresh files that are left over", fresh_files(fresh), [])
         fresh.unlink()
 
 
@@ -296,7 +337,7 @@ def is_compacted_through_a_link(file, kind):
     """Where FILE is a link, the file that it leads to is replaced; the new file keeps the permissions."""
     link = file.with_name("link.log")
     link.symlink_to(file.name)
-    sessions = Sessions(file, kind, log=file_of(record(b"a", b"1"), record(b"a", b"2")))
+    sessions = Sessions(file, kind, log=file_of((b"a", b"1"), (b"a", b"2")))
     sessions.first = link
     file.chmod(0o640)
     sessions.compact()
@@ -305,28 +346,47 @@ def is_compacted_through_a_link(file, kind):
     compare("the link", (link.is_symlink(), oct(file.stat().st_mode & 0o777)), (True, oct(0o640)))
 
 
+def used():
+    """Seconds of processor time of all processes before."""
+    past = resource.getrusage(resource.RUSAGE_CHILDREN)
+    return past.ru_utime + past.ru_stime
+
+
+@case_of_store("ordered")
+def takes_a_long_value(file, kind):
+    """Of ten million bytes in hexadecimal digits, put and read. Of the time, which once was some three seconds, the
+    limit is a guard, and no more."""
+    before = used()
+    sessions = Sessions(file, kind)
+    sessions.put(b"long", bytes(range(250)) * 40_000)
+    sessions.get(b"long")
+    sessions.check()
+    if used() - before > 2:
+        raise Wrong("a value of 10 MB took more than two seconds of processor time")
+
+
 @case_of_store("ordered", "pordered", "hashed")
 def holds_many_alike(file, kind):
     """Two thousand keys alike in their first twenty bytes. Their time grows with their number, not with its square: of
     that, which once took some seconds for each thousand, the limit is a guard, and no more."""
     keys = [f"https://example.org/{number}".encode() for number in range(2000)]
-    before = resource.getrusage(resource.RUSAGE_CHILDREN)
+    before = used()
     sessions = Sessions(file, kind)
     for key in keys:
         sessions.put(key, key[-8:])
     sessions.check()
     sessions.hold(keys)
     sessions.check()
-    after = resource.getrusage(resource.RUSAGE_CHILDREN)
-    if after.ru_utime + after.ru_stime - before.ru_utime - before.ru_stime > 10:
+    if used() - before > 10:
         raise Wrong("2,000 keys that are alike took more than ten seconds of processor time")
 
 
 @case_of_store(*IN_ORDER)
 def tells_what_is_dead(file, kind):
     """Bytes of older records, of deletions, and of what stands behind the last whole record."""
-    torn = record(b"torn", b"off")[:-1]
-    log = file_of(record(b"a", b"1"), record(b"a", b"22"), record(b"b", b""), record(b"b", None)) + torn
+    log = file_of((b"a", b"1"), (b"a", b"22"), (b"b", b""), (b"b", None))
+    torn = grown(log, (b"torn", b"off"))[len(log) : -1]
+    log += torn
     sessions = Sessions(file, kind, log=log)
     sessions.dead()
     compare("dead", sessions.wanted[-1], f"dead {3 * FRAME + 4 + len(torn)}")

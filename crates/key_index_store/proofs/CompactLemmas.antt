@@ -8,15 +8,13 @@
 --     fresh_keeps                 a store on a log without bytes
 use Rattle.std.proofs.Common.{rules, ◌≡◌, ◌⊎◌, ℕ, ◌+◌, ◌-◌, ◌^◌, ◌<◌, ◌≤◌, true, false, cond, T, List, [], ◌∷◌, ◌++◌, length, map, take, drop, Option, Some, None, is_some, All, refl, sym, ap, subst, ◌∙◌, append-nil, append_assoc, length-append, length-drop, arith}
 use Rattle.std.proofs.lemmas.Bool.{false≢true}
-use Rattle.std.proofs.lemmas.Grind.{flat_map-append}
 use Rattle.std.proofs.lemmas.List.{map-append, take_all, nil_from_length, length-map}
-use Rattle.std.proofs.lemmas.List.Concat.{flat_map-cons}
 use Rattle.std.proofs.lemmas.List.Elements.{All-head, All-nil, All-push, All-tail}
 use Rattle.std.specs.Cmp.{tied_itself}
 use Rattle.std.specs.Cmp.Lexicographic.{nat_list_cmp_total}
 use Rattle.std.specs.FinMap.{empty, entries, entries_sorted, find, get, get-empty, get-entries, get-insert, insert, is_sorted, len, len-empty, len-entries, same_map}
 use Rattle.std.specs.FinMap.Entries.{below_all}
-use Rattle.std.specs.List.{flat_map, fold}
+use Rattle.std.specs.List.{fold}
 use Rattle.std.specs.Option.{unwrap_or}
 use Rattle.std.specs.Ordering.{eq_by_cmp, is_eq, is_lt, ordering_reverse}
 use Rattle.std.specs.declared.cmp.Ordering.{Ordering}
@@ -27,7 +25,7 @@ use Rattle.key_index_flat.specs.Neighbours.{entries_above, first_entry}
 use Rattle.key_index_flat.proofs.content.ContentLemmas.{Less-is_lt, Equal-is_eq}
 use Rattle.key_index_flat.specs.View.{View}
 use Rattle.key_index_store.specs.Indexed.{Keeps}
-use Rattle.key_index_store.specs.Record.{Entry, Fits, Stops, encoded, reading}
+use Rattle.key_index_store.specs.Record.{Entry, Fits, Stops, encoded, log_of, reading}
 use Rattle.key_index_store.specs.Stored.{EntriesFit, IsCopy, MayRead, MayRefuse, Values, after_record, end_of, entries_behind, held_by, put_of, records_of, tail_in, tail_of, with_record}
 use Rattle.key_index_store.specs.declared.store.Fault.{Fault}
 use Rattle.key_index_store.specs.declared.store.Fault.TheVariants as fault
@@ -38,7 +36,7 @@ use Rattle.key_index_flat.proofs.entries.EntryLemmas.{same}
 use Rattle.key_index_flat.proofs.entries.MapLemmas.{either, either_none}
 use Rattle.key_index_store.proofs.IndexLemmas.{get_with, indexes_none}
 use Rattle.key_index_store.proofs.KeepLemmas.{kept_held}
-use Rattle.key_index_store.proofs.LogLemmas.{spelled_records}
+use Rattle.key_index_store.proofs.LogLemmas.{log_of-more, spelled_records}
 use Rattle.key_index_store.proofs.StoreLemmas.{len-after_records}
 
 abbrev Pair : Type 0
@@ -119,7 +117,7 @@ fits_held (r ∷ rs) m all fit k v at =
 -- ---- a copy
 
 abbrev pub copy_of : List Pair → List ℕ
-copy_of es = flat_map encoded (map put_of es)
+copy_of es = log_of (map put_of es)
 
 pub record Copied (m : Values) (last : Option (List ℕ)) (n : ℕ) (copy : List ℕ) : Type 0 where
   pub done : List Pair
@@ -156,12 +154,12 @@ module _ (m : Values) (last : Option (List ℕ)) (n : ℕ) (copy : List ℕ) (h 
       omega (arith, ap (λ x. len x) held-copy, least, long, none, h.counted)
 
   end-copy : end_of copy ≡ length copy
-  end-copy = ap (λ rs. length (flat_map encoded rs)) records-copy ∙ sym (ap (λ l. length l) h.copied)
+  end-copy = ap (λ rs. length (log_of rs)) records-copy ∙ sym (ap (λ l. length l) h.copied)
 
   pub undamaged-copy : ¬ (tail_in copy ≡ tail.Damaged)
   undamaged-copy damaged =
       let none : drop (end_of copy) copy ≡ [] = nil_from_length (drop (end_of copy) copy) (omega (arith, length-drop (end_of copy) copy, end-copy)) in
-      let both = sym (ap tail_of none) ∙ damaged in cc
+      let both = sym (ap (tail_of (end_of copy)) none) ∙ damaged in cc
 
   pub next_there : n < len m → is_some (first_entry (entries_behind last m)) ≡ true
   next_there less = there h.rest h.left
@@ -192,9 +190,9 @@ module _ (m : Values) (last : Option (List ℕ)) (n : ℕ) (copy : List ℕ) (h 
     pub copied_more : Fits (put_of e) → (new : List ℕ) → new ≡ with_record copy (put_of e) → Copied m (Some e.0) (n + 1) new
     copied_more fits new after =
         let more : map put_of (h.done ++ e ∷ []) ≡ map put_of h.done ++ put_of e ∷ [] = map-append put_of h.done (e ∷ []) in
-        let log : copy_of h.done ++ encoded (put_of e) ≡ copy_of (h.done ++ e ∷ []) =
-        sym (ap (flat_map encoded) more ∙ flat_map-append encoded (map put_of h.done) (put_of e ∷ [])
-        ∙ ap (λ l. copy_of h.done ++ l) (flat_map-cons encoded (put_of e) [] ∙ append-nil (encoded (put_of e)))) in
+        let log : copy_of h.done ++ encoded (length (copy_of h.done)) (put_of e) ≡ copy_of (h.done ++ e ∷ []) =
+        sym (ap log_of more ∙ log_of-more (map put_of h.done) (put_of e)) in
+        let place : end_of copy ≡ length (copy_of h.done) = end-copy ∙ ap (λ l. length l) h.copied in
         record {
           done = h.done ++ e ∷ [];
           rest = entries_behind-first.0;
@@ -202,7 +200,7 @@ module _ (m : Values) (last : Option (List ℕ)) (n : ℕ) (copy : List ℕ) (h 
           counted = length-append h.done (e ∷ []) ∙ ap (λ k. k + 1) h.counted;
           left = ap (λ es. entries_above byte_cmp es e.0) entries-done_and_behind ∙ above_at h.done e entries_behind-first.0 is_sorted-done_and_behind;
           fit = subst (All Fits) (sym more) (All-push Fits (map put_of h.done) (put_of e) h.fit fits);
-          copied = after ∙ ap (λ l. l ++ encoded (put_of e)) (take_all (end_of copy) copy (omega (arith, end-copy)) ∙ h.copied) ∙ log;
+          copied = after ∙ (λ i. (take_all (end_of copy) copy (omega (arith, end-copy)) ∙ h.copied) i ++ encoded (place i) (put_of e)) ∙ log;
         }
 
 -- why a record is refused that fits, where there is room for it
@@ -226,6 +224,6 @@ pub fresh_keeps : {K : Type 0} (cmp : K → K → Ordering) (log : List ℕ) (s 
 fresh_keeps cmp log s empty fresh = record {
   within = omega arith;
   indexed = indexes_none cmp s empty;
-  stops = subst (λ l. Stops (reading l)) (sym fresh) tt;
+  stops = subst (λ l. Stops (reading 0 l)) (sym fresh) tt;
   told = fresh;
 }

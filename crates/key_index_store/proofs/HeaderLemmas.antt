@@ -6,7 +6,8 @@
 --     behind_headed, headed_behind  what a crash leaves behind the header is known where it is headed, and only there
 --     cut_behind, left_cut  once bytes were cut off, and what a crash leaves then
 --     synced_behind, left_synced  once they were synced, and where that may have failed
-use Rattle.std.proofs.Common.{◌≡◌, ◌⊎◌, ℕ, ◌+◌, ◌-◌, ◌≤◌, ◌<◌, max, min, Bool, true, false, cond, not, List, [], ◌++◌, length, take, drop, Option, Some, None, Result, Ok, Err, subst, take_all, inl, inr, refl, sym, ap, ◌∙◌, append_assoc, take-append-drop, length-append, length-drop, length-take, arith}
+--     no_sum, no_magic, some_version  the version in a header
+use Rattle.std.proofs.Common.{◌≡◌, ◌⊎◌, ℕ, ◌+◌, ◌-◌, ◌≤◌, ◌<◌, max, min, Bool, true, false, not, cond, ◌&&◌, is_some, List, [], ◌++◌, length, take, drop, Option, Some, None, Result, Ok, Err, subst, take_all, inl, inr, refl, sym, ap, ◌∙◌, append_assoc, take-append-drop, length-append, length-drop, length-take, arith}
 use Rattle.std.specs.Option.{IfSome, SomeIff, option_map, unwrap_or}
 use Rattle.std.specs.Result.{IfOk, OnErr, is_ok, result_ok}
 use Rattle.std.specs.Str.{bytes_eq}
@@ -16,7 +17,10 @@ use Rattle.std.proofs.lemmas.Slice.Eq.{bytes_eq-Decides}
 use Rattle.std.proofs.Math.Seq.{take-append-add}
 use Rattle.key_index_store.proofs.ReadLemmas.{take-take}
 use Rattle.key_index_store.specs.Device.{Adds, AddsAtMost, Changes, IsBegun, NoMore, Sees}
-use Rattle.key_index_store.specs.Header.{Behind, IsHeaded, behind, header}
+use Rattle.key_index_store.specs.Checksum.{crc32}
+use Rattle.key_index_store.specs.Header.{Behind, IsHeaded, behind, header, magic, version_in}
+use Rattle.key_index_store.specs.Record.{is_summed, number_at, part}
+use Rattle.key_index_store.proofs.RecordLemmas.{part-short}
 
 pub length_header : length header ≡ 16
 unfolding header
@@ -280,7 +284,7 @@ equal_of false e = absurd (false≢true e)
 
 module _ (bytes front zeros head : List ℕ) (len count : ℕ) (size : count ≡ min len 16) (told : len ≡ length bytes) (room : length zeros ≡ 16)
     (read : front ≡ take (length (take count zeros)) bytes) (is : head ≡ header) where
-  front_is : take count (front ++ drop count zeros) ≡ take 16 bytes
+  pub front_is : take count (front ++ drop count zeros) ≡ take 16 bytes
   front_is =
       let counted : length (take count zeros) ≡ count = omega (arith, length-take count zeros, size, room) in
       let first : front ≡ take count bytes = read ∙ ap (λ n. take n bytes) counted in
@@ -306,3 +310,47 @@ module _ (bytes front zeros head : List ℕ) (len count : ℕ) (size : count ≡
   other_headed e h =
       let same : are_equal ≡ true = (bytes_eq-Decides (take count (front ++ drop count zeros)) (take count head)).1 (front_is ∙ h ∙ sym header_front) in
       false≢true (sym (e ∙ ap not same))
+
+-- ---- a header of another version
+
+magic_front : take 8 header ≡ magic
+unfolding header
+magic_front = refl
+
+other_of : (b : Bool) → true ≡ not b → b ≡ false
+other_of true e = absurd (false≢true (sym e))
+other_of false e = refl
+
+module _ (bytes head : List ℕ) (is : head ≡ header) where
+  summed_part : is_some (part 12 bytes) ≡ is_summed crc32 12 bytes
+  summed_part = of (is_summed crc32 12 bytes)
+    where
+      of : (t : Bool) → is_some (cond t (Some (take 12 bytes)) None) ≡ t
+      of true = refl
+      of false = refl
+
+  same_magic : bytes_eq (take 8 bytes) (take 8 head) ≡ bytes_eq (take 8 bytes) magic
+  same_magic = ap (bytes_eq (take 8 bytes)) (ap (take 8) is ∙ magic_front)
+
+  abbrev by : Bool → Bool → Option ℕ
+  by same summed = cond (same && summed) (Some (number_at 8 bytes)) None
+
+  and_false : (a : Bool) → (a && false) ≡ false
+  and_false true = refl
+  and_false false = refl
+
+  pub no_sum : is_some (part 12 bytes) ≡ false → version_in bytes ≡ None
+  no_sum none =
+      ap (by (bytes_eq (take 8 bytes) magic)) (sym summed_part ∙ none) ∙ ap (λ t. cond t (Some (number_at 8 bytes)) None) (and_false (bytes_eq (take 8 bytes) magic))
+
+  pub no_magic : true ≡ not (bytes_eq (take 8 bytes) (take 8 head)) → version_in bytes ≡ None
+  no_magic other = ap (λ t. by t (is_summed crc32 12 bytes)) (sym same_magic ∙ other_of _ other)
+
+  pub some_version : is_some (part 12 bytes) ≡ true → false ≡ not (bytes_eq (take 8 bytes) (take 8 head)) → version_in bytes ≡ Some (number_at 8 bytes)
+  some_version some same = (λ i. by ((sym same_magic ∙ equal_of _ same) i) ((sym summed_part ∙ some) i))
+
+  pub version_long : is_some (part 12 bytes) ≡ true → 16 ≤ length bytes
+  version_long some = elim (cases_lt (length bytes) 16) [
+    | inl less ↦ absurd (false≢true (sym (ap is_some (part-short 12 bytes less)) ∙ some))
+    | inr le ↦ le
+  ]

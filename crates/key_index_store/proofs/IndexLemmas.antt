@@ -64,7 +64,7 @@ get_with m k (Some v) a = get-insert nat_list_cmp_total m k v a
 module _ {K : Type 0} {cmp : K → K → Ordering} (o : IsTotalOrder cmp) (exact : (x y : K) → cmp x y ≡ Equal → x ≡ y) (first : Bool) where
   module _ (log : List ℕ) (r : Entry) (fits : Fits r) (bytes : IsBytes r.key) (s t : View K ℕ) (hs : IsLawful cmp s.content) (ht : IsLawful cmp t.content) (h : Indexes cmp log s) where
     abbrev longer : List ℕ
-    longer = log ++ encoded r
+    longer = log ++ encoded (length log) r
 
     abbrev slot : K
     slot = s.slot r.key
@@ -82,14 +82,14 @@ module _ {K : Type 0} {cmp : K → K → Ordering} (o : IsTotalOrder cmp) (exact
     live_in k = All-weaker (IsUnder log s.slot k) (IsLive log) (λ p q. q.0) (run_at cmp s k) (h.live k)
 
     map-entry_at_longer : (k : K) → map (entry_at longer) (run_at cmp s k) ≡ map (entry_at log) (run_at cmp s k)
-    map-entry_at_longer k = entries_there log (encoded r) (run_at cmp s k) (live_in k)
+    map-entry_at_longer k = entries_there log (encoded (length log) r) (run_at cmp s k) (live_in k)
 
     All-Under : (k : K) → All (Under k) (run_at cmp s k)
     All-Under k = All-weaker (IsUnder log s.slot k) (Under k)
         (λ p q. (
-          live_more log (encoded r) p q.0,
-          subst (λ (e : List ℕ × List ℕ). IsBytes e.0) (sym (entry_there log (encoded r) p q.0)) q.1,
-          ap (λ (e : List ℕ × List ℕ). s.slot e.0) (entry_there log (encoded r) p q.0) ∙ q.2,
+          live_more log (encoded (length log) r) p q.0,
+          subst (λ (e : List ℕ × List ℕ). IsBytes e.0) (sym (entry_there log (encoded (length log) r) p q.0)) q.1,
+          ap (λ (e : List ℕ × List ℕ). s.slot e.0) (entry_there log (encoded (length log) r) p q.0) ∙ q.2,
         )) (run_at cmp s k) (h.live k)
 
     keys_in : (e : ℕ → List ℕ × List ℕ) (l : List ℕ) → map (λ p. (e p).0) l ≡ map (λ (x : List ℕ × List ℕ). x.0) (map e l)
@@ -252,13 +252,14 @@ module _ {K : Type 0} {cmp : K → K → Ordering} (o : IsTotalOrder cmp) (exact
   -- by the whole log, and by what the code has
   pub Indexes-filed : (front back content : List ℕ) (r : Entry) (fits : Fits r) → IsBytes r.key → (s t : View K ℕ) → IsLawful cmp s.content → IsLawful cmp t.content → Indexes cmp front s → content ≡ front ++ back
       → (key positions : List ℕ) → key ≡ r.key → positions ≡ run_of cmp s key → (b : Bool) → b ≡ is_some r.value → (place : Option ℕ) → IsAt (entry_at content) key positions place
-      → (position : ℕ) → position ≡ length front → Settles cmp first s key b place position t → Indexes cmp (front ++ encoded r) t
+      → (position : ℕ) → position ≡ length front → Settles cmp first s key b place position t → Indexes cmp (front ++ encoded position r) t
   Indexes-filed front back content r fits bytes s t hs ht h whole key positions own run b has place at position end is =
       let listed : positions ≡ run_of cmp s r.key = run ∙ ap (run_of cmp s) own in
       let found : IsAt (entry_at (front ++ back)) r.key (run_of cmp s r.key) place =
       subst (λ (x : List ℕ × List ℕ × List ℕ). IsAt (entry_at x.0) x.1 x.2 place) (λ i. (whole i, own i, listed i)) at in
-      Indexes-Settles front r fits bytes s t hs ht h b has place (at_in front r fits bytes s t hs ht h back place found)
-      (subst (λ (x : List ℕ × ℕ). Settles cmp first s x.0 b place x.1 t) (λ i. (own i, end i)) is)
+      subst (λ n. Indexes cmp (front ++ encoded n r) t) (sym end)
+      (Indexes-Settles front r fits bytes s t hs ht h b has place (at_in front r fits bytes s t hs ht h back place found)
+      (subst (λ (x : List ℕ × ℕ). Settles cmp first s x.0 b place x.1 t) (λ i. (own i, end i)) is))
 
   -- ---- a position that goes in and out again
 

@@ -1,5 +1,6 @@
 -- On what a store keeps of its log.
 --     kept_held, kept_end, kept_front, kept_tail  the map, the end and the tail of the whole log
+--     undamaged_spelled                           what a salvage copies of it where there is no damage
 --     cut_keeps                                   after the tail was cut off
 --     HasRoom, at_end                             a record that is to stand behind the others: refused, written, or nothing to write
 --     written_keeps, begun_keeps                  after a record was written behind the others, or a part of it
@@ -8,7 +9,7 @@ use Rattle.std.proofs.lemmas.List.{append-nil, drop_at, nil_from_length, take_al
 use Rattle.std.proofs.lemmas.Bool.{cases_lt, eqb-true}
 use Rattle.std.specs.Cmp.{IsTotalOrder}
 use Rattle.std.specs.FinMap.{empty, get, len}
-use Rattle.std.specs.List.{flat_map, fold}
+use Rattle.std.specs.List.{fold}
 use Rattle.std.specs.Result.{OnOk}
 use Rattle.std.specs.declared.cmp.Ordering.{Ordering}
 use Rattle.std.specs.declared.cmp.Ordering.TheVariants.{Equal}
@@ -16,9 +17,9 @@ use Rattle.key_index_flat.specs.Content.{IsLawful}
 use Rattle.key_index_flat.specs.FullKeys.{IsBytes}
 use Rattle.key_index_flat.specs.View.{View, growth_fault_in, items_in, run_of}
 use Rattle.key_index_flat.specs.declared.index.Fault.TheVariants as index_fault
-use Rattle.key_index_store.specs.Device.{Adds}
+use Rattle.key_index_store.specs.Device.{Adds, IsBegun}
 use Rattle.key_index_store.specs.Indexed.{Indexes, IsAt, IsTail, Keeps, KeepsLists, Settles, entry_at}
-use Rattle.key_index_store.specs.Record.{Entry, Fits, Outcome, Complete, Torn, Damaged, Stops, encoded, reading}
+use Rattle.key_index_store.specs.Record.{Entry, Fits, Outcome, Complete, Torn, Damaged, Stops, encoded, log_of, reading, size_of}
 use Rattle.key_index_store.specs.Stored.{HasChanged, HasRefused, HasRoom, IsBeforeOrAfter, MayRead, MayRefuse, after_record, end_of, held_by, is_zeros, records_of, refusal_of, tail_by, tail_in, tail_of, with_record, with_value, without_tail}
 use Rattle.key_index_store.specs.declared.store.Fault.{Fault}
 use Rattle.key_index_store.specs.declared.store.Fault.TheVariants as fault
@@ -26,27 +27,38 @@ use Rattle.key_index_store.specs.declared.store.Tail.{Tail}
 use Rattle.key_index_store.specs.declared.store.Tail.TheVariants as tail
 use Rattle.key_index_store.proofs.IndexLemmas.{Indexes-filed, indexes_kept}
 use Rattle.key_index_store.proofs.LogLemmas.{held_more, spelled_records}
-use Rattle.key_index_store.proofs.RecordLemmas.{begun_torn}
+use Rattle.key_index_store.proofs.RecordLemmas.{begun_torn, length-encoded}
+use Rattle.key_index_store.proofs.SalvageLemmas.{none_behind, salvaged_split, spelled}
 use Rattle.key_index_store.proofs.StoreLemmas.{remove_absent}
 
 module _ {K : Type 0} (cmp : K → K → Ordering) (log : List ℕ) (s : View K ℕ) (end : ℕ) (t : Tail) (h : Keeps cmp log s end t) where
+  front_end : length (log_of (records_of (take end log))) ≡ end
+  front_end = ap (λ l. length l) h.indexed.spelled ∙ omega (arith, length-take end log, h.within)
+
   kept_records : records_of log ≡ records_of (take end log)
   kept_records =
       ap records_of (sym (take-append-drop end log) ∙ ap (λ l. l ++ drop end log) (sym h.indexed.spelled))
-      ∙ spelled_records (records_of (take end log)) (drop end log) h.indexed.fit h.stops
+      ∙ spelled_records (records_of (take end log)) (drop end log) h.indexed.fit (subst (λ n. Stops (reading n (drop end log))) (sym front_end) h.stops)
 
   pub kept_held : held_by log ≡ held_by (take end log)
   kept_held = ap (fold after_record empty) kept_records
 
   pub kept_end : end_of log ≡ end
   kept_end =
-      ap (λ rs. length (flat_map encoded rs)) kept_records ∙ ap (λ l. length l) h.indexed.spelled ∙ omega (arith, length-take end log, h.within)
+      ap (λ rs. length (log_of rs)) kept_records ∙ front_end
 
   pub kept_front : without_tail log ≡ take end log
   kept_front = ap (λ n. take n log) kept_end
 
-  pub kept_tail : IsTail t (drop (end_of log) log)
-  kept_tail = subst (λ n. IsTail t (drop n log)) (sym kept_end) h.told
+  pub kept_tail : IsTail t (end_of log) (drop (end_of log) log)
+  kept_tail = subst (λ n. IsTail t n (drop n log)) (sym kept_end) h.told
+
+  -- without damage a salvage copies these records
+  pub undamaged_spelled : ¬ (tail_in log ≡ tail.Damaged) → spelled log ≡ without_tail log
+  undamaged_spelled undamaged =
+      let stops = subst (λ n. Stops (reading n (drop n log))) (sym kept_end) h.stops in
+      ap log_of (salvaged_split log ∙ ap (λ l. records_of log ++ l) (none_behind log (end_of log) stops undamaged) ∙ append-nil (records_of log))
+      ∙ ap log_of kept_records ∙ h.indexed.spelled ∙ sym kept_front
 
   take_twice : take end (take end log) ≡ take end log
   take_twice = take_all end (take end log) (omega (arith, length-take end log))
@@ -57,7 +69,7 @@ module _ {K : Type 0} (cmp : K → K → Ordering) (log : List ℕ) (s : View K 
       record {
         within = omega (arith, length-take end log, h.within);
         indexed = subst (λ l. Indexes cmp l s) (sym take_twice) h.indexed;
-        stops = subst (λ l. Stops (reading l)) (sym none) tt;
+        stops = subst (λ l. Stops (reading end l)) (sym none) tt;
         told = none;
       }
 
@@ -78,20 +90,20 @@ module _ {K : Type 0} (cmp : K → K → Ordering) (log : List ℕ) (s : View K 
 
   pub nothing_cut : t ≡ tail.Nothing → (log ≡ without_tail log) × (end_of log ≡ length log) × (¬ (tail_in log ≡ tail.Damaged))
   nothing_cut is =
-      let none : drop end log ≡ [] = subst (λ x. IsTail x (drop end log)) is h.told in
+      let none : drop end log ≡ [] = subst (λ x. IsTail x end (drop end log)) is h.told in
       let all : end ≡ length log = omega (arith, ap (λ l. length l) none, length-drop end log, h.within) in (
         sym (kept_front ∙ take_all end log (omega (arith, all))),
         kept_end ∙ all,
-        λ e. (let both = sym (ap tail_of (ap (λ n. drop n log) kept_end ∙ none)) ∙ e in cc),
+        λ e. (let both = sym (ap (tail_of (end_of log)) (ap (λ n. drop n log) kept_end ∙ none)) ∙ e in cc),
       )
 
   pub torn_undamaged : t ≡ tail.Torn → ¬ (tail_in log ≡ tail.Damaged)
-  torn_undamaged is = subst (λ x. IsTail x (drop (end_of log) log)) is kept_tail
+  torn_undamaged is = subst (λ x. IsTail x (end_of log) (drop (end_of log) log)) is kept_tail
 
   -- where bytes stand behind the records, and are no damage
   pub torn_tail : t ≡ tail.Torn → end ≢ length log → tail_in log ≡ tail.Torn
   torn_tail is some =
-      ap (λ n. tail_of (drop n log)) kept_end ∙ of (drop end log) h.stops (subst (λ x. IsTail x (drop end log)) is h.told)
+      ap (λ n. tail_of n (drop n log)) kept_end ∙ of (drop end log) h.stops (subst (λ x. IsTail x end (drop end log)) is h.told)
       (λ none. some (omega (arith, ap (λ l. length l) none, length-drop end log, h.within)))
     where
       torn : (z : Bool) (o : Outcome) → Stops o → ¬ (cond z tail.Torn (tail_by o) ≡ tail.Damaged) → cond z tail.Torn (tail_by o) ≡ tail.Torn
@@ -100,29 +112,29 @@ module _ {K : Type 0} (cmp : K → K → Ordering) (log : List ℕ) (s : View K 
       torn false Torn stops undamaged = refl
       torn false Damaged stops undamaged = absurd (undamaged refl)
 
-      of : (l : List ℕ) → Stops (reading l) → ¬ (tail_of l ≡ tail.Damaged) → ¬ (l ≡ []) → tail_of l ≡ tail.Torn
+      of : (l : List ℕ) → Stops (reading end l) → ¬ (tail_of end l ≡ tail.Damaged) → ¬ (l ≡ []) → tail_of end l ≡ tail.Torn
       of [] stops undamaged some = absurd (some refl)
-      of (b ∷ l) stops undamaged some = torn (is_zeros (b ∷ l)) (reading (b ∷ l)) stops undamaged
+      of (b ∷ l) stops undamaged some = torn (is_zeros (b ∷ l)) (reading end (b ∷ l)) stops undamaged
 
   -- where none do
   pub no_tail : end ≡ length log → tail_in log ≡ tail.Nothing
   no_tail all =
-      ap (λ n. tail_of (drop n log)) kept_end ∙ ap tail_of (nil_from_length (drop end log) (omega (arith, length-drop end log, all)))
+      ap (λ n. tail_of n (drop n log)) kept_end ∙ ap (tail_of end) (nil_from_length (drop end log) (omega (arith, length-drop end log, all)))
 
   pub damaged_tail : t ≡ tail.Damaged → tail_in log ≡ tail.Damaged
-  damaged_tail is = subst (λ x. IsTail x (drop (end_of log) log)) is kept_tail
+  damaged_tail is = subst (λ x. IsTail x (end_of log) (drop (end_of log) log)) is kept_tail
 
 -- a part of a record from its front on is no damage
-begun_undamaged : (r : Entry) (n : ℕ) → Fits r → n < length (encoded r) → ¬ (tail_of (take n (encoded r)) ≡ tail.Damaged)
-begun_undamaged r n fits less = of (take n (encoded r)) (begun_torn r n fits less)
+begun_undamaged : (place : ℕ) (r : Entry) (n : ℕ) → Fits r → n < size_of r → ¬ (tail_of place (take n (encoded place r)) ≡ tail.Damaged)
+begun_undamaged place r n fits less = of (take n (encoded place r)) (begun_torn place r n fits less)
   where
     torn : (z : Bool) (o : Outcome) → o ≡ Torn → ¬ (cond z tail.Torn (tail_by o) ≡ tail.Damaged)
     torn true o is e = cc
     torn false o is e = (let both = ap tail_by (sym is) ∙ e in cc)
 
-    of : (l : List ℕ) → reading l ≡ Torn → ¬ (tail_of l ≡ tail.Damaged)
+    of : (l : List ℕ) → reading place l ≡ Torn → ¬ (tail_of place l ≡ tail.Damaged)
     of [] is e = cc
-    of (b ∷ l) is e = torn (is_zeros (b ∷ l)) (reading (b ∷ l)) is e
+    of (b ∷ l) is e = torn (is_zeros (b ∷ l)) (reading place (b ∷ l)) is e
 
 -- a log that ends with its records, and one more record or a part of it
 module _ {K : Type 0} {cmp : K → K → Ordering} (o : IsTotalOrder cmp) (exact : (x y : K) → cmp x y ≡ Equal → x ≡ y) (first : Bool) (log : List ℕ) (s : View K ℕ) (end : ℕ) (h : Keeps cmp log s end tail.Nothing) (r : Entry) (fits : Fits r) where
@@ -135,56 +147,63 @@ module _ {K : Type 0} {cmp : K → K → Ordering} (o : IsTotalOrder cmp) (exact
   indexed-all : Indexes cmp log s
   indexed-all = subst (λ l. Indexes cmp l s) all_front h.indexed
 
-  pub held_written : held_by (log ++ encoded r) ≡ after_record (held_by log) r
-  held_written = held_more log r (record { spelled = indexed-all.spelled; fit = indexed-all.fit }) fits
+  pub held_written : held_by (log ++ encoded end r) ≡ after_record (held_by log) r
+  held_written =
+      ap (λ n. held_by (log ++ encoded n r)) end-at ∙ held_more log r (record { spelled = indexed-all.spelled; fit = indexed-all.fit }) fits
 
   pub written_keeps : IsBytes r.key → (t : View K ℕ) → IsLawful cmp s.content → IsLawful cmp t.content → (positions : List ℕ) → positions ≡ run_of cmp s r.key → (b : Bool) → b ≡ is_some r.value → (place : Option ℕ)
-      → IsAt (entry_at (take end log)) r.key positions place → Settles cmp first s r.key b place end t → (longer : ℕ) → longer ≡ end + length (encoded r) → Keeps cmp (log ++ encoded r) t longer tail.Nothing
+      → IsAt (entry_at (take end log)) r.key positions place → Settles cmp first s r.key b place end t → (longer : ℕ) → longer ≡ end + size_of r → Keeps cmp (log ++ encoded end r) t longer tail.Nothing
   written_keeps bytes t hs ht positions run b has place at is longer size =
-      let all : longer ≡ length (log ++ encoded r) = omega (arith, size, end-at, length-append log (encoded r)) in
-      let whole : take longer (log ++ encoded r) ≡ log ++ encoded r = take_all longer (log ++ encoded r) (omega (arith, all)) in
-      let none : drop longer (log ++ encoded r) ≡ [] = nil_from_length (drop longer (log ++ encoded r)) (omega (arith, length-drop longer (log ++ encoded r), all)) in
+      let more : List ℕ = log ++ encoded end r in
+      let all : longer ≡ length more = omega (arith, size, end-at, length-append log (encoded end r), length-encoded end r) in
+      let whole : take longer more ≡ more = take_all longer more (omega (arith, all)) in
+      let none : drop longer more ≡ [] = nil_from_length (drop longer more) (omega (arith, length-drop longer more, all)) in
       let filed = Indexes-filed o exact first log [] (take end log) r fits bytes s t hs ht indexed-all (all_front ∙ sym (append-nil log)) r.key positions refl run b has place at end end-at is in
       record {
         within = omega (arith, all);
         indexed = subst (λ l. Indexes cmp l t) (sym whole) filed;
-        stops = subst (λ l. Stops (reading l)) (sym none) tt;
+        stops = subst (λ l. Stops (reading longer l)) (sym none) tt;
         told = none;
       }
 
-  module _ (n : ℕ) (less : (n < length (encoded r)) ⊎ (n ≡ 0)) where
-    part_behind : drop end (log ++ take n (encoded r)) ≡ take n (encoded r)
-    part_behind = drop_at log (take n (encoded r)) end (sym end-at)
+  module _ (n : ℕ) (less : (n < size_of r) ⊎ (n ≡ 0)) where
+    part_behind : drop end (log ++ take n (encoded end r)) ≡ take n (encoded end r)
+    part_behind = drop_at log (take n (encoded end r)) end (sym end-at)
 
-    part_in_front : take end (log ++ take n (encoded r)) ≡ log
-    part_in_front = take-append-le end log (take n (encoded r)) (omega (arith, end-at)) ∙ all_front
+    part_in_front : take end (log ++ take n (encoded end r)) ≡ log
+    part_in_front = take-append-le end log (take n (encoded end r)) (omega (arith, end-at)) ∙ all_front
 
-    pub begun_keeps : (t : View K ℕ) → KeepsLists s t → Keeps cmp (log ++ take n (encoded r)) t end tail.Torn
+    pub begun_keeps : (t : View K ℕ) → KeepsLists s t → Keeps cmp (log ++ take n (encoded end r)) t end tail.Torn
     begun_keeps t same = record {
-      within = omega (arith, length-append log (take n (encoded r)), end-at);
+      within = omega (arith, length-append log (take n (encoded end r)), end-at);
       indexed = subst (λ l. Indexes cmp l t) (sym part_in_front) (indexes_kept cmp log s t indexed-all same);
-      stops = subst (λ l. Stops (reading l)) (sym part_behind) (stopped less);
-      told = subst (λ l. ¬ (tail_of l ≡ tail.Damaged)) (sym part_behind) (undamaged less);
+      stops = subst (λ l. Stops (reading end l)) (sym part_behind) (stopped less);
+      told = subst (λ l. ¬ (tail_of end l ≡ tail.Damaged)) (sym part_behind) (undamaged less);
     }
       where
-        stopped : (n < length (encoded r)) ⊎ (n ≡ 0) → Stops (reading (take n (encoded r)))
-        stopped (inl lt) = subst Stops (sym (begun_torn r n fits lt)) tt
-        stopped (inr none) = subst (λ m. Stops (reading (take m (encoded r)))) (sym none) tt
+        stopped : (n < size_of r) ⊎ (n ≡ 0) → Stops (reading end (take n (encoded end r)))
+        stopped (inl lt) = subst Stops (sym (begun_torn end r n fits lt)) tt
+        stopped (inr none) = subst (λ m. Stops (reading end (take m (encoded end r)))) (sym none) tt
 
-        undamaged : (n < length (encoded r)) ⊎ (n ≡ 0) → ¬ (tail_of (take n (encoded r)) ≡ tail.Damaged)
-        undamaged (inl lt) = begun_undamaged r n fits lt
-        undamaged (inr none) = subst (λ m. ¬ (tail_of (take m (encoded r)) ≡ tail.Damaged)) (sym none) (λ e. cc)
+        undamaged : (n < size_of r) ⊎ (n ≡ 0) → ¬ (tail_of end (take n (encoded end r)) ≡ tail.Damaged)
+        undamaged (inl lt) = begun_undamaged end r n fits lt
+        undamaged (inr none) = subst (λ m. ¬ (tail_of end (take m (encoded end r)) ≡ tail.Damaged)) (sym none) (λ e. cc)
 
-    pub held_begun : held_by (log ++ take n (encoded r)) ≡ held_by log
+    pub held_begun : held_by (log ++ take n (encoded end r)) ≡ held_by log
     held_begun =
-        kept_held cmp (log ++ take n (encoded r)) s end tail.Torn (begun_keeps s (refl, refl)) ∙ ap held_by part_in_front
+        kept_held cmp (log ++ take n (encoded end r)) s end tail.Torn (begun_keeps s (refl, refl)) ∙ ap held_by part_in_front
 
   -- whatever part of it was written
-  pub held_part : (n : ℕ) → (held_by (log ++ take n (encoded r)) ≡ held_by log) ⊎ (held_by (log ++ take n (encoded r)) ≡ after_record (held_by log) r)
-  held_part n = elim (cases_lt n (length (encoded r))) [
+  pub held_part : (n : ℕ) → (held_by (log ++ take n (encoded end r)) ≡ held_by log) ⊎ (held_by (log ++ take n (encoded end r)) ≡ after_record (held_by log) r)
+  held_part n = elim (cases_lt n (size_of r)) [
     | inl lt ↦ inl (held_begun n (inl lt))
-    | inr le ↦ inr (ap (λ l. held_by (log ++ l)) (take_all n (encoded r) le) ∙ held_written)
+    | inr le ↦ inr (ap (λ l. held_by (log ++ l)) (take_all n (encoded end r) (omega (arith, le, length-encoded end r))) ∙ held_written)
   ]
+
+-- a part that is shorter than the record's bytes
+pub begun_size : (place : ℕ) (r : Entry) (n : ℕ) → (n < length (encoded place r)) ⊎ (n ≡ 0) → (n < size_of r) ⊎ (n ≡ 0)
+begun_size place r n (inl less) = inl (omega (arith, less, length-encoded place r))
+begun_size place r n (inr none) = inr none
 
 -- ---- a record that is to stand behind the others: the log before the call, and where room was made
 
@@ -199,26 +218,32 @@ module _ (old mid : List ℕ) (room : HasRoom old mid) (r : Entry) where
     pub all_kept : end ≡ length mid
     all_kept = sym (kept_end cmp mid s end t h) ∙ room.all
 
+    at_old : end ≡ end_of old
+    at_old = all_kept ∙ sym room.end
+
     pub at_end : Keeps cmp mid s end tail.Nothing
     at_end = ends_keep cmp mid s end t h all_kept
 
-    pub begun_refused : (n : ℕ) → (n < length (encoded r)) ⊎ (n ≡ 0) → (f : Fault) → MayRefuse old r f → HasRefused old r f (mid ++ take n (encoded r))
+    pub begun_refused : (n : ℕ) → (n < length (encoded end r)) ⊎ (n ≡ 0) → (f : Fault) → MayRefuse old r f → HasRefused old r f (mid ++ take n (encoded end r))
     begun_refused n less f may = record {
-      refused = (held_begun o exact first mid s end at_end r fits n less ∙ room.held, inr (n, ap (λ l. l ++ take n (encoded r)) room.cut, less));
+      refused = (
+        held_begun o exact first mid s end at_end r fits n (begun_size end r n less) ∙ room.held,
+        inr (subst (λ p. IsBegun (encoded p r) (without_tail old) (mid ++ take n (encoded end r))) at_old (n, ap (λ l. l ++ take n (encoded end r)) room.cut, less)),
+      );
       fault = may;
     }
 
-    pub held_any : (n : ℕ) → IsBeforeOrAfter old r (mid ++ take n (encoded r))
+    pub held_any : (n : ℕ) → IsBeforeOrAfter old r (mid ++ take n (encoded end r))
     held_any n = elim (held_part o exact first mid s end at_end r fits n) [
       | inl same ↦ inl (same ∙ room.held)
       | inr more ↦ inr (more ∙ ap (λ m. after_record m r) room.held)
     ]
 
-    pub written_changed : (had : Bool) → had ≡ is_some (get (held_by old) r.key) → (is_some r.value || had) ≡ true → HasChanged old r had (mid ++ encoded r)
+    pub written_changed : (had : Bool) → had ≡ is_some (get (held_by old) r.key) → (is_some r.value || had) ≡ true → HasChanged old r had (mid ++ encoded end r)
     written_changed had was some = record {
       held = held_written o exact first mid s end at_end r fits ∙ ap (λ m. after_record m r) room.held;
       was_there = was;
-      logged = ap (λ l. l ++ encoded r) room.cut ∙ sym (ap (λ b. cond b (with_record old r) (without_tail old)) some);
+      logged = (λ i. room.cut i ++ encoded (at_old i) r) ∙ sym (ap (λ b. cond b (with_record old r) (without_tail old)) some);
       undamaged = room.undamaged;
     }
 

@@ -6,6 +6,7 @@ pub mod HistoryLemmas
 pub mod IndexLemmas
 pub mod KeepLemmas
 pub mod LogLemmas
+pub mod NameLemmas
 pub mod NearestLemmas
 pub mod ReadLemmas
 pub mod RecordLemmas

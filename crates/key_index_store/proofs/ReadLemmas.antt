@@ -1,5 +1,5 @@
 -- On reads of the front of a record: what is read tells as much as all that stands there.
---     front_tells     the key
+--     front_tells, step_tells  the key;  and how far it is to the next place that a salvage looks at
 --     whole_tells     the record, where all of it was asked for
 --     match_same, match_other, match_readable  a candidate whose key is known, beside the one that is sought
 use Rattle.std.proofs.Common.{◌≡◌, ◌⊎◌, ℕ, zero, suc, ◌+◌, ◌-◌, ◌≤◌, ◌<◌, min, Bool, true, false, cond, List, [], ◌∷◌, ◌++◌, slice_get, get_or, length, take, drop, Option, Some, Result, Ok, Err, inl, inr, refl, sym, ap, subst, ◌∙◌, take-append-drop, length-take, length-drop, arith}
@@ -11,37 +11,42 @@ use Rattle.std.specs.Str.{bytes_eq}
 use Rattle.key_index_store.specs.Indexed.{IsLive, key_at, match_of}
 use Rattle.key_index_store.specs.declared.store.find.Match.{Match}
 use Rattle.key_index_store.specs.declared.store.find.Match.TheVariants.{Same, Other, Unreadable}
-use Rattle.key_index_store.specs.Record.{key_in, is_summed, reading, record_length, value_place}
+use Rattle.key_index_store.specs.Record.{has_head, key_in, reading, record_length, value_place}
 use Rattle.key_index_store.specs.Reads.{wanted}
-use Rattle.key_index_store.proofs.RecordLemmas.{key_front, key_in-whole, read_front, record_length_front, summed_front, value_place_front}
+use Rattle.key_index_store.specs.Salvage.{step}
+use Rattle.key_index_store.proofs.RecordLemmas.{head_front, key_front, key_in-whole, read_front, record_length_front, step_front, value_place_front}
 
 -- all there is, or a head and what it wants
-abbrev pub Suffices : Bool → List ℕ → List ℕ → Type 0
-Suffices is_whole v x = (v ≡ x) ⊎ ((13 ≤ length v) × (wanted is_whole v ≤ length v))
+abbrev pub Suffices : Bool → ℕ → List ℕ → List ℕ → Type 0
+Suffices is_whole place v x = (v ≡ x) ⊎ ((13 ≤ length v) × (wanted is_whole place v ≤ length v))
 
-wanted_head : (w : Bool) (v : List ℕ) → wanted w v ≤ length v → is_summed 9 v ≡ true → cond w (record_length v) (value_place v) ≤ length v
-wanted_head w v le head = subst (λ n. n ≤ length v) (ap (λ t. cond t (cond w (record_length v) (value_place v)) 0) head) le
+wanted_head : (w : Bool) (place : ℕ) (v : List ℕ) → wanted w place v ≤ length v → has_head place v ≡ true → cond w (record_length v) (value_place v) ≤ length v
+wanted_head w place v le head = subst (λ n. n ≤ length v) (ap (λ t. cond t (cond w (record_length v) (value_place v)) 0) head) le
 
 key_wanted : (w : Bool) (v : List ℕ) → cond w (record_length v) (value_place v) ≤ length v → value_place v ≤ length v
 key_wanted true v le = omega (arith, le)
 key_wanted false v le = le
 
-module _ (w : Bool) (x v : List ℕ) (front : v ≡ take (length v) x) where
+module _ (w : Bool) (place : ℕ) (x v : List ℕ) (front : v ≡ take (length v) x) where
   whole : v ++ drop (length v) x ≡ x
   whole = ap (λ l. l ++ drop (length v) x) front ∙ take-append-drop (length v) x
 
-  pub front_tells : Suffices w v x → key_in v ≡ key_in x
-  front_tells (inl all) = ap key_in all
+  pub front_tells : Suffices w place v x → key_in place v ≡ key_in place x
+  front_tells (inl all) = ap (key_in place) all
   front_tells (inr enough) =
-      sym (key_front v (drop (length v) x) enough.0 (λ head. key_wanted w v (wanted_head w v enough.1 head))) ∙ ap key_in whole
+      sym (key_front v (drop (length v) x) enough.0 place (λ head. key_wanted w v (wanted_head w place v enough.1 head))) ∙ ap (key_in place) whole
 
-  pub whole_tells : w ≡ true → Suffices w v x → reading v ≡ reading x
-  whole_tells is (inl all) = ap reading all
+  pub step_tells : Suffices w place v x → step place v ≡ step place x
+  step_tells (inl all) = ap (step place) all
+  step_tells (inr enough) = sym (step_front v (drop (length v) x) enough.0 place) ∙ ap (step place) whole
+
+  pub whole_tells : w ≡ true → Suffices w place v x → reading place v ≡ reading place x
+  whole_tells is (inl all) = ap (reading place) all
   whole_tells is (inr enough) =
-      sym (read_front v (drop (length v) x) enough.0 (λ head. subst (λ t. cond t (record_length v) (value_place v) ≤ length v) is (wanted_head w v enough.1 head))) ∙ ap reading whole
+      sym (read_front v (drop (length v) x) enough.0 place (λ head. subst (λ t. cond t (record_length v) (value_place v) ≤ length v) is (wanted_head w place v enough.1 head))) ∙ ap (reading place) whole
 
-pub whole_enough : (v x : List ℕ) → 13 ≤ length v → record_length v ≤ length v → Suffices true v x
-whole_enough v x head long = inr (head, of (is_summed 9 v))
+pub whole_enough : (place : ℕ) (v x : List ℕ) → 13 ≤ length v → record_length v ≤ length v → Suffices true place v x
+whole_enough place v x head long = inr (head, of (has_head place v))
   where
     of : (b : Bool) → cond b (record_length v) 0 ≤ length v
     of true = long
@@ -87,7 +92,7 @@ module _ (log : List ℕ) (limit p : ℕ) (within : limit ≤ length log) where
     all_read all = is ∙ taken_in n le ∙ take_all n x (omega (arith, all, length-x))
 
   -- what is read at first
-  pub first_suffices : (w : Bool) (v : List ℕ) (want : ℕ) → v ≡ take (min (limit - p) 1024) (drop p log) → want ≡ wanted w v → min want (limit - p) ≤ length v → Suffices w v x
+  pub first_suffices : (w : Bool) (v : List ℕ) (want : ℕ) → v ≡ take (min (limit - p) 1024) (drop p log) → want ≡ wanted w p v → min want (limit - p) ≤ length v → Suffices w p v x
   first_suffices w v want is same enough =
       let size = length-read v (min (limit - p) 1024) (omega arith) is in
       elim (cases_lt 1024 (limit - p)) [
@@ -95,12 +100,12 @@ module _ (log : List ℕ) (limit p : ℕ) (within : limit ≤ length log) where
         | inr le ↦ inl (all_read v (min (limit - p) 1024) (omega arith) is (omega (arith, le)))
       ]
 
-  wanted_front : (w : Bool) (a b : List ℕ) → 13 ≤ length a → wanted w (a ++ b) ≡ wanted w a
-  wanted_front w a b h = (λ i. cond (summed_front 9 a b h i) (cond w (record_length_front a b h i) (value_place_front a b h i)) 0)
+  wanted_front : (w : Bool) (a b : List ℕ) → 13 ≤ length a → wanted w p (a ++ b) ≡ wanted w p a
+  wanted_front w a b h = (λ i. cond (head_front a b h p i) (cond w (record_length_front a b h i) (value_place_front a b h i)) 0)
 
   -- and what is read where that is less than it wants
-  pub more_suffices : (w : Bool) (v u : List ℕ) (want : ℕ) → v ≡ take (min (limit - p) 1024) (drop p log) → want ≡ wanted w v → length v < min want (limit - p)
-      → u ≡ take (min want (limit - p)) (drop p log) → Suffices w u x
+  pub more_suffices : (w : Bool) (v u : List ℕ) (want : ℕ) → v ≡ take (min (limit - p) 1024) (drop p log) → want ≡ wanted w p v → length v < min want (limit - p)
+      → u ≡ take (min want (limit - p)) (drop p log) → Suffices w p u x
   more_suffices w v u want is same less read =
       let size = length-read v (min (limit - p) 1024) (omega arith) is in
       let long = length-read u (min want (limit - p)) (omega arith) read in
@@ -109,7 +114,7 @@ module _ (log : List ℕ) (limit p : ℕ) (within : limit ≤ length log) where
             let front : v ≡ take (length v) u = read-in_front v (min (limit - p) 1024) (omega arith) is ∙ sym (ap (take (length v)) (read-in_front u (min want (limit - p)) (omega arith) read) ∙ take-take (length v) (length u) x (omega (arith, long, less))) in
             let whole : v ++ drop (length v) u ≡ u = ap (λ l. l ++ drop (length v) u) front ∙ take-append-drop (length v) u in
             let thirteen : 13 ≤ length v = omega (arith, size, less) in
-            let wants : wanted w u ≡ want = sym (ap (wanted w) whole) ∙ wanted_front w v (drop (length v) u) thirteen ∙ sym same in
+            let wants : wanted w p u ≡ want = sym (ap (wanted w p) whole) ∙ wanted_front w v (drop (length v) u) thirteen ∙ sym same in
             inr (omega (arith, long, less, thirteen), omega (arith, wants, long)))
         | inr le ↦ inl (all_read u (min want (limit - p)) (omega arith) read (omega (arith, le)))
       ]
@@ -145,8 +150,8 @@ module _ (o : Option (List ℕ)) (key k : List ℕ) (m : Match) (is : m ≡ matc
     | false ↦ λ e. (let other = tested false e in absurd (cc))
   ] refl
 
-pub key_in-live : (log : List ℕ) (p : ℕ) → IsLive log p → key_in (drop p log) ≡ Some (key_at log p)
-key_in-live log p live = key_in-whole (drop p log) _ live
+pub key_in-live : (log : List ℕ) (p : ℕ) → IsLive log p → key_in p (drop p log) ≡ Some (key_at log p)
+key_in-live log p live = key_in-whole p (drop p log) _ live
 
 pub slice_get-here : (l : List ℕ) (n v : ℕ) → n < length l → v ≡ get_or l n v → slice_get l n ≡ Some v
 slice_get-here [] n v less is = absurd (omega (arith, less))

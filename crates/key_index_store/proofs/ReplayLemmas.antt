@@ -1,16 +1,15 @@
 -- On a log that is read block by block.
 --     zeros_split     zeros in a block, and behind it
---     found_place     a record that is found in a block stands in the log
---     one_more        and the log up to its end is the log in front of it, with it
-use Rattle.std.proofs.Common.{◌≡◌, ℕ, ◌+◌, ◌-◌, ◌≤◌, ◌==◌, ◌&&◌, Bool, true, false, cond, List, [], ◌∷◌, ◌++◌, length, take, drop, refl, sym, ap, subst, ◌∙◌, append_assoc, length-append, length-drop, length-take, take-append-drop, arith}
+--     one_more        the log up to the end of a record that is found in a block is the log in front of it, with it
+use Rattle.std.proofs.Common.{◌≡◌, ℕ, ◌+◌, ◌-◌, ◌≤◌, ◌==◌, ◌&&◌, Bool, true, false, cond, List, [], ◌∷◌, ◌++◌, length, take, drop, refl, sym, ap, subst, ◌∙◌, length-drop, length-take, take-append-drop, arith}
 use Rattle.std.proofs.lemmas.List.{drop-append-le, drop-drop, take_all}
 use Rattle.key_index_store.specs.Indexed.{IsTail}
-use Rattle.key_index_store.specs.Record.{Complete, Damaged, Entry, IsFound, Outcome, Stops, Torn, encoded, reading}
+use Rattle.key_index_store.specs.Record.{Complete, Damaged, Entry, IsFound, Outcome, Stops, Torn, encoded, reading, size_of}
 use Rattle.key_index_store.specs.Stored.{is_zeros, tail_by, tail_of}
 use Rattle.key_index_store.specs.declared.store.Tail.{Tail}
 use Rattle.key_index_store.specs.declared.store.Tail.TheVariants as tail
 use Rattle.key_index_store.proofs.LogLemmas.{one_read}
-use Rattle.key_index_store.proofs.RecordLemmas.{found_front}
+use Rattle.key_index_store.proofs.RecordLemmas.{found_front, found_long}
 
 and_assoc : (a b c : Bool) → (a && (b && c)) ≡ ((a && b) && c)
 and_assoc true b c = refl
@@ -26,56 +25,38 @@ zeros_split p n log =
     ∙ ap (λ l. is_zeros (take n (drop p log)) && is_zeros l) (drop-drop n p log)
 
 module _ (log bytes : List ℕ) (position : ℕ) (block : bytes ≡ take (length bytes) (drop position log)) where
-  abbrev place : List ℕ → ℕ
-  place rest = position + (length bytes - length rest)
-
-  module _ (rest : List ℕ) (within : length rest ≤ length bytes) (is : rest ≡ drop (length bytes - length rest) bytes) (r : Entry) (found : IsFound rest (Complete r)) where
+  module _ (rest : List ℕ) (place : ℕ) (at : place ≡ position + (length bytes - length rest)) (within : length rest ≤ length bytes) (is : rest ≡ drop (length bytes - length rest) bytes)
+      (r : Entry) (found : IsFound place rest (Complete r)) where
     abbrev behind : List ℕ
     behind = drop (length bytes) (drop position log)
 
-    drop-place : drop (place rest) log ≡ rest ++ behind
+    drop-place : drop place log ≡ rest ++ behind
     drop-place =
-        sym (drop-drop (length bytes - length rest) position log)
+        ap (λ n. drop n log) at ∙ sym (drop-drop (length bytes - length rest) position log)
         ∙ ap (drop (length bytes - length rest)) (sym (ap (λ l. l ++ behind) block ∙ take-append-drop (length bytes) (drop position log)))
         ∙ drop-append-le (length bytes - length rest) bytes behind (omega arith)
         ∙ ap (λ l. l ++ behind) (sym is)
 
-    long : length (encoded r) ≤ length rest
-    long = omega (arith, ap (λ l. length l) found.1, length-append (encoded r) (drop (length (encoded r)) rest))
+    pub rest-long : size_of r ≤ length rest
+    rest-long = found_long place rest r found
 
-    pub found_place : IsFound (drop (place rest) log) (Complete r)
-    found_place =
-        let n = length (encoded r) in
-        let whole : drop (place rest) log ≡ encoded r ++ (drop n rest ++ behind) =
-        drop-place ∙ ap (λ l. l ++ behind) found.1 ∙ append_assoc (encoded r) (drop n rest) behind in
-        let last : drop n (drop (place rest) log) ≡ drop n rest ++ behind = ap (drop n) drop-place ∙ drop-append-le n rest behind long in
-        (found.0, whole ∙ ap (λ l. encoded r ++ l) (sym last))
+    pub place-within : place ≤ length log
+    place-within = omega (arith, at, ap (λ l. length l) block, length-take (length bytes) (drop position log), length-drop position log, rest-long, within)
 
-    pub rest-some : 1 ≤ length rest
-    rest-some = omega (arith, long, some)
-      where
-        some : 1 ≤ length (encoded r)
-        some = omega arith
-
-    pub place-within : place rest ≤ length log
-    place-within = omega (arith, ap (λ l. length l) block, length-take (length bytes) (drop position log), length-drop position log, long, within, some)
-      where
-        some : 1 ≤ length (encoded r)
-        some = omega arith
-
-    pub one_more : take (place rest + length (encoded r)) log ≡ take (place rest) log ++ encoded r
-    one_more = one_read log (place rest) r (omega (arith, length-take (place rest) log, place-within)) found_place
+    pub one_more : take (place + size_of r) log ≡ take place log ++ encoded place r
+    one_more = one_read log place r (omega (arith, length-take place log, place-within))
+        (subst (λ l. IsFound place l (Complete r)) (sym drop-place) (found_front place rest behind r found))
 
 -- a record that is read by itself
-module _ (log v : List ℕ) (end len : ℕ) (r : Entry) (whole : len ≡ length log) (front : v ≡ take (length v) (drop end (take len log))) (found : IsFound v (Complete r)) where
-  pub found_whole : IsFound (drop end log) (Complete r)
+module _ (log v : List ℕ) (end len : ℕ) (r : Entry) (whole : len ≡ length log) (front : v ≡ take (length v) (drop end (take len log))) (found : IsFound end v (Complete r)) where
+  pub found_whole : IsFound end (drop end log) (Complete r)
   found_whole =
       let x = drop end (take len log) in
       let all : take len log ≡ log = take_all len log (omega (arith, whole)) in
       let longer : v ++ drop (length v) x ≡ x = ap (λ l. l ++ drop (length v) x) front ∙ take-append-drop (length v) x in
-      subst (λ l. IsFound l (Complete r)) (longer ∙ ap (drop end) all) (found_front v (drop (length v) x) r found)
+      subst (λ l. IsFound end l (Complete r)) (longer ∙ ap (drop end) all) (found_front end v (drop (length v) x) r found)
 
-  pub one_whole : end ≤ len → take (end + length (encoded r)) log ≡ take end log ++ encoded r
+  pub one_whole : end ≤ len → take (end + size_of r) log ≡ take end log ++ encoded end r
   one_whole le = one_read log end r (omega (arith, length-take end log, whole, le)) found_whole
 
 -- what a block is, as the code has it
@@ -90,8 +71,8 @@ not_nothing false (Complete r) stops is = stops
 not_nothing false Torn stops is = cc
 not_nothing false Damaged stops is = cc
 
-pub told-IsTail : (t : Tail) (rest : List ℕ) → t ≡ tail_of rest → Stops (reading rest) → IsTail t rest
-told-IsTail tail.Nothing [] is stops = refl
-told-IsTail tail.Nothing (b ∷ rest) is stops = absurd (not_nothing (is_zeros (b ∷ rest)) (reading (b ∷ rest)) stops is)
-told-IsTail tail.Torn rest is stops = λ damaged. (let both = is ∙ damaged in cc)
-told-IsTail tail.Damaged rest is stops = sym is
+pub told-IsTail : (t : Tail) (place : ℕ) (rest : List ℕ) → t ≡ tail_of place rest → Stops (reading place rest) → IsTail t place rest
+told-IsTail tail.Nothing place [] is stops = refl
+told-IsTail tail.Nothing place (b ∷ rest) is stops = absurd (not_nothing (is_zeros (b ∷ rest)) (reading place (b ∷ rest)) stops is)
+told-IsTail tail.Torn place rest is stops = λ damaged. (let both = is ∙ damaged in cc)
+told-IsTail tail.Damaged place rest is stops = sym is

@@ -3,12 +3,12 @@
 --     remove_absent              a key without a value is taken out
 --     len-after_records          records leave no more keys than there are records
 --     refusal-Memory             so an index of the records of fewer bytes than `usize::MAX` is never full
-use Rattle.std.proofs.Common.{◌≡◌, ◌==◌, ◌↔◌, ℕ, zero, suc, slice_get, ◌+◌, ◌-◌, ◌^◌, ◌<◌, ◌≤◌, if◌then◌else◌, Bool, true, false, cond, List, [], ◌∷◌, length, Option, Some, None, is_some, All, refl, sym, ap, subst, ◌∙◌, length-append, arith}
+use Rattle.std.proofs.Common.{◌≡◌, ◌==◌, ◌↔◌, ℕ, zero, suc, slice_get, ◌+◌, ◌-◌, ◌^◌, ◌<◌, ◌≤◌, if◌then◌else◌, Bool, true, false, cond, List, [], ◌∷◌, length, Option, Some, None, is_some, All, refl, sym, ap, subst, ◌∙◌, arith}
 use Rattle.std.proofs.lemmas.List.Elements.{All-head, All-tail, All-weaker}
 use Rattle.std.proofs.lemmas.Bool.{eq-eqb, eqb-true, false≢true, ne_eqb}
 use Rattle.std.specs.Cmp.Lexicographic.{nat_list_cmp_total}
 use Rattle.std.specs.FinMap.{empty, empty_of_len, get, len, len-empty, len-insert, len-remove, remove, get-remove, same_map}
-use Rattle.std.specs.List.{flat_map, fold}
+use Rattle.std.specs.List.{fold}
 use Rattle.std.specs.Option.{option_map, unwrap_or}
 use Rattle.std.specs.declared.cmp.Ordering.{Ordering}
 use Rattle.key_index_flat.specs.FullKeys.{byte_cmp}
@@ -16,11 +16,12 @@ use Rattle.key_index_flat.specs.View.{View, growth_fault_in, items_in, run_of}
 use Rattle.key_index_flat.specs.declared.index.Fault.TheVariants as index_fault
 use Rattle.key_index_flat.proofs.content.ContentLemmas.{Equal-is_eq}
 use Rattle.key_index_store.specs.Indexed.{Indexes, IsLive, IsUnder}
-use Rattle.key_index_store.specs.Record.{Entry, encoded}
+use Rattle.key_index_store.specs.Record.{Entry}
 use Rattle.key_index_store.specs.Stored.{Values, after_record, records_of, refusal_of, with_value}
 use Rattle.key_index_store.specs.declared.store.Fault.TheVariants as fault
 use Rattle.std.proofs.lemmas.Map.Lookups.{exact_bytes}
 use Rattle.key_index_flat.proofs.entries.EntryLemmas.{same}
+use Rattle.key_index_store.proofs.LogLemmas.{count_le}
 
 module _ {K : Type 0} (cmp : K → K → Ordering) where
   -- the positions of a key are live
@@ -65,18 +66,10 @@ len-after_records (r ∷ rs) m =
     let one = len-with_value m r.key r.value in
     omega (arith, rest, one)
 
-length-encoded_all : (rs : List Entry) → length rs ≤ length (flat_map encoded rs)
-length-encoded_all [] = omega arith
-length-encoded_all (r ∷ rs) =
-    let rest = length-encoded_all rs in
-    let some : 1 ≤ length (encoded r) = omega arith in
-    let all = length-append (encoded r) (flat_map encoded rs) in
-    omega (arith, rest, some, all)
-
 pub refusal-Memory : {K : Type 0} (cmp : K → K → Ordering) (front : List ℕ) (s : View K ℕ) → Indexes cmp front s → length front < 2 ^ 64 - 1 → refusal_of (growth_fault_in s) ≡ fault.Memory
 refusal-Memory cmp front s h short =
     let few = len-after_records (records_of front) empty in
-    let bytes = length-encoded_all (records_of front) in
+    let bytes = count_le 0 (records_of front) in
     let none = len-empty byte_cmp (List ℕ) in
     let same = ap (λ l. length l) h.spelled in
     ap (λ b. refusal_of (if b then index_fault.Full else index_fault.Memory)) (ne_eqb (items_in s) (2 ^ 64 - 1) (λ e. omega (arith, e, h.counted, few, bytes, none, same, short)))

@@ -10,6 +10,7 @@
 --     Adds          or bytes of which a fact holds
 --     AddsAtMost    or the old bytes with some of the new ones behind them
 --     IsRead        no byte is changed, and a crash leaves nothing more
+--     IsDurable     a crash leaves the bytes that are seen, and nothing else
 --     IsBegun       some of the bytes, but not the whole of them, were appended
 use Rattle.std.specs.Prelude.{◌≡◌, ◌⊎◌, ◌<◌, ℕ, List, ◌++◌, length, take, Option, Some, None}
 
@@ -39,6 +40,9 @@ Adds P before after = (c : Option (List ℕ)) → after c → before c ⊎ ((byt
 
 abbrev pub AddsAtMost : List ℕ → List ℕ → (Option (List ℕ) → Type 0) → (Option (List ℕ) → Type 0) → Type 0
 AddsAtMost old new before after = Adds (λ c. (n : ℕ) × (c ≡ old ++ take n new)) before after
+
+abbrev pub IsDurable : Option (List ℕ) → (Option (List ℕ) → Type 0) → Type 0
+IsDurable seen may_leave = Sees seen (λ bytes. NoMore (λ c. c ≡ Some bytes) may_leave)
 
 abbrev pub IsBegun : List ℕ → List ℕ → List ℕ → Type 0
 IsBegun bytes old new = (n : ℕ) × (new ≡ old ++ take n bytes) × ((n < length bytes) ⊎ (n ≡ 0))

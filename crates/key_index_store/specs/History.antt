@@ -11,7 +11,7 @@
 use Rattle.std.specs.Prelude.{◌≡◌, ◌⊎◌, ℕ, ◌+◌, ◌-◌, ◌==◌, Bool, true, ◌&&◌, if◌then◌else◌, List, [], ◌∷◌, ◌++◌, length, take, drop, replicate, Option, Some, None}
 use Rattle.std.specs.Str.{bytes_eq}
 use Rattle.key_index_store.specs.declared.history.Call.{Call}
-use Rattle.key_index_store.specs.declared.history.Call.TheVariants.{Told, Gave, Took, Cut, Synced}
+use Rattle.key_index_store.specs.declared.history.Call.TheVariants.{Told, Gave, Took, Cut, Synced, Name}
 
 abbrev pub Noted : Type 0
 Noted = Call × List ℕ
@@ -28,6 +28,7 @@ after_call (Gave position) _ old = old
 after_call (Took position) new old = overlaid position new old
 after_call (Cut n) _ old = filled n old
 after_call Synced _ old = old
+after_call (Name call) _ old = old
 
 abbrev pub agrees : Call → List ℕ → List ℕ → Bool
 agrees (Told n) _ held = n == length held
@@ -35,6 +36,7 @@ agrees (Gave position) given held = bytes_eq given (take (length given) (drop po
 agrees (Took position) _ held = true
 agrees (Cut n) _ held = true
 agrees Synced _ held = true
+agrees (Name call) _ held = true
 
 abbrev pub content : List ℕ → List Noted → List ℕ
 content first [] = first
@@ -53,6 +55,7 @@ left_by (Gave position) _ old before c = before c
 left_by (Took position) new old before c = before c ⊎ ((n : ℕ) × (c ≡ Some (overlaid position (take n new) old)))
 left_by (Cut n) _ old before c = before c ⊎ (c ≡ Some (filled n old))
 left_by Synced _ old before c = c ≡ Some old
+left_by (Name call) _ old before c = before c
 
 abbrev pub may_leave_after : List ℕ → List Noted → Option (List ℕ) → Type 0
 may_leave_after first [] c = c ≡ None

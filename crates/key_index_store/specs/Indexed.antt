@@ -14,14 +14,14 @@
 --     KeepsLists            no list is another
 use Rattle.std.specs.Prelude.{◌≡◌, ◌-◌, ◌≤◌, ℕ, Bool, if◌then◌else◌, true, false, List, [], map, length, drop, take, remove, slice_get, slice_set, Option, Some, None, All, unwrap_or}
 use Rattle.std.specs.FinMap.{find, get, len}
-use Rattle.std.specs.List.{flat_map, IsDistinct}
+use Rattle.std.specs.List.{IsDistinct}
 use Rattle.std.specs.Option.{option_map}
 use Rattle.std.specs.Ordering.{eq_by_cmp}
 use Rattle.std.specs.Str.{bytes_eq}
 use Rattle.std.specs.declared.cmp.Ordering.{Ordering}
 use Rattle.key_index_flat.specs.FullKeys.{IsBytes, byte_cmp}
 use Rattle.key_index_flat.specs.View.{View, after_insert, items_in, run_at, run_of, with_edit, with_pruned}
-use Rattle.key_index_store.specs.Record.{Fits, Outcome, Complete, Torn, Damaged, Stops, bytes_of, encoded, key_in, reading}
+use Rattle.key_index_store.specs.Record.{Fits, Outcome, Complete, Torn, Damaged, Stops, bytes_of, key_in, log_of, reading}
 use Rattle.key_index_store.specs.Stored.{held_by, records_of, tail_of}
 use Rattle.key_index_store.specs.declared.store.find.Match.{Match}
 use Rattle.key_index_store.specs.declared.store.find.Match.TheVariants.{Same, Other, Unreadable}
@@ -43,13 +43,13 @@ IsAt entry key ps None = find byte_cmp key (map entry ps) ≡ None
 
 module _ (log : List ℕ) where
   abbrev pub entry_at : ℕ → List ℕ × List ℕ
-  entry_at p = parts_of (reading (drop p log))
+  entry_at p = parts_of (reading p (drop p log))
 
   abbrev pub key_at : ℕ → List ℕ
   key_at p = (entry_at p).0
 
   abbrev pub IsLive : ℕ → Type 0
-  IsLive p = reading (drop p log) ≡ Complete (record { key = (entry_at p).0; value = Some ((entry_at p).1) })
+  IsLive p = reading p (drop p log) ≡ Complete (record { key = (entry_at p).0; value = Some ((entry_at p).1) })
 
   abbrev pub IsUnder : {K : Type 0} → (List ℕ → K) → K → ℕ → Type 0
   IsUnder slot k p = IsLive p × IsBytes (key_at p) × (slot (key_at p) ≡ k)
@@ -58,20 +58,20 @@ module _ (log : List ℕ) where
   value_in key ps = find byte_cmp key (map entry_at ps)
 
   abbrev pub key_read : ℕ → List ℕ
-  key_read p = unwrap_or (key_in (drop p log)) []
+  key_read p = unwrap_or (key_in p (drop p log)) []
 
 -- where its bytes are seen, and a limit is within them: the keys that its first bytes have
 abbrev pub HasKeys : Option (List ℕ) → ℕ → (ℕ → List ℕ) → Type 0
 HasKeys seen limit keys = (log : List ℕ) × (seen ≡ Some log) × (limit ≤ length log) × (keys ≡ key_read (take limit log))
 
-abbrev pub IsTail : Tail → List ℕ → Type 0
-IsTail tail.Nothing rest = rest ≡ []
-IsTail tail.Torn rest = ¬ (tail_of rest ≡ tail.Damaged)
-IsTail tail.Damaged rest = tail_of rest ≡ tail.Damaged
+abbrev pub IsTail : Tail → ℕ → List ℕ → Type 0
+IsTail tail.Nothing place rest = rest ≡ []
+IsTail tail.Torn place rest = ¬ (tail_of place rest ≡ tail.Damaged)
+IsTail tail.Damaged place rest = tail_of place rest ≡ tail.Damaged
 
 module _ {K : Type 0} (cmp : K → K → Ordering) where
   pub record Indexes (log : List ℕ) (s : View K ℕ) : Type 0 where
-    pub spelled : flat_map encoded (records_of log) ≡ log
+    pub spelled : log_of (records_of log) ≡ log
     pub fit : All Fits (records_of log)
     pub live : (k : K) → All (IsUnder log s.slot k) (run_at cmp s k)
     pub once : (k : K) → IsDistinct (eq_by_cmp byte_cmp) (map (key_at log) (run_at cmp s k))
@@ -81,8 +81,8 @@ module _ {K : Type 0} (cmp : K → K → Ordering) where
   pub record Keeps (log : List ℕ) (s : View K ℕ) (end : ℕ) (tail : Tail) : Type 0 where
     pub within : end ≤ length log
     pub indexed : Indexes (take end log) s
-    pub stops : Stops (reading (drop end log))
-    pub told : IsTail tail (drop end log)
+    pub stops : Stops (reading end (drop end log))
+    pub told : IsTail tail end (drop end log)
 
   -- has_value: the record is no deletion
   abbrev pub Settles : Bool → View K ℕ → List ℕ → Bool → Option ℕ → ℕ → View K ℕ → Type 0

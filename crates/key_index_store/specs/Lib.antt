@@ -5,6 +5,9 @@ pub mod Header
 pub mod History
 pub mod Indexed
 pub mod MemoryDevice
+pub mod MemoryFolder
+pub mod Names
+pub mod Places
 pub mod Reads
 pub mod Record
 pub mod Salvage

@@ -1,12 +1,15 @@
 -- A record of a log, and its bytes.
 --     Entry, Fits            a key with its value, or with none, which marks its deletion; lengths that have four bytes
---     summed                 bytes with their CRC-32 behind them
---     encoded                a record's bytes: head (mark and two lengths), key and value, each with its checksum
+--     summed                 bytes with a checksum behind them
+--     sum_at                 a head's checksum, which goes over its place in the log too: the number of bytes in front of it
+--     encoded                a record's bytes at a place: head (mark and two lengths), key and value, each with its checksum
+--     size_of                how many they are
+--     log_of                 the bytes of records, one behind the other
 --     Outcome                what reading finds: a complete record, a torn one, or a damaged one
 --     key_in, value_in_record  the key and the value at the front of some bytes, where they have their checksums
---     reading, IsFound       what stands at the front of some bytes;  a complete record does
+--     reading, IsFound       what stands at the front of some bytes, which stand at a place;  a complete record does
 use Rattle.std.specs.Prelude.{◌≡◌, ℕ, zero, suc, ◌+◌, ◌^◌, ◌<◌, ◌≤◌, Bool, nat_lt, if◌then◌else◌, List, [], ◌∷◌, ◌++◌, length, take, drop, Option, Some, None, option_map}
-use Rattle.std.specs.Int.{w32, to_le_bytes, from_le_bytes}
+use Rattle.std.specs.Int.{w32, w64, to_le_bytes, from_le_bytes}
 use Rattle.std.specs.Str.{bytes_eq}
 use Rattle.key_index_store.specs.Checksum.{crc32}
 use Rattle.key_index_store.specs.declared.record.Record.{Record}
@@ -18,7 +21,7 @@ pub record Entry : Type 0 where
   pub value : Option (List ℕ)
 
 abbrev pub mark_of : Option (List ℕ) → ℕ
-mark_of None = 0
+mark_of None = 2
 mark_of (Some v) = 1
 
 abbrev pub bytes_of : Option (List ℕ) → List ℕ
@@ -33,14 +36,28 @@ pub record Fits (r : Entry) : Type 0 where
 abbrev pub number : ℕ → List ℕ
 number n = to_le_bytes w32 n
 
-abbrev pub summed : List ℕ → List ℕ
-summed part = part ++ number (crc32 part)
+abbrev pub summed : (List ℕ → ℕ) → List ℕ → List ℕ
+summed sum part = part ++ number (sum part)
+
+abbrev pub sum_at : ℕ → List ℕ → ℕ
+sum_at place head = crc32 (head ++ to_le_bytes w64 place)
 
 abbrev pub head : Entry → List ℕ
 head r = mark_of r.value ∷ (number (length r.key) ++ number (length (bytes_of r.value)))
 
-abbrev pub encoded : Entry → List ℕ
-encoded r = summed (head r) ++ (summed r.key ++ summed (bytes_of r.value))
+abbrev pub encoded : ℕ → Entry → List ℕ
+encoded place r = summed (sum_at place) (head r) ++ (summed crc32 r.key ++ summed crc32 (bytes_of r.value))
+
+abbrev pub size_of : Entry → ℕ
+size_of r = 21 + (length r.key + length (bytes_of r.value))
+
+-- the first one at a place
+abbrev pub encoded_from : ℕ → List Entry → List ℕ
+encoded_from place [] = []
+encoded_from place (r ∷ rs) = encoded place r ++ encoded_from (place + size_of r) rs
+
+abbrev pub log_of : List Entry → List ℕ
+log_of rs = encoded_from 0 rs
 
 -- ---- reading
 
@@ -53,12 +70,15 @@ abbrev pub number_at : ℕ → List ℕ → ℕ
 number_at place bytes = from_le_bytes w32 (take 4 (drop place bytes))
 
 -- n bytes have their checksum behind them
-abbrev pub is_summed : ℕ → List ℕ → Bool
-is_summed n bytes = bytes_eq (take 4 (drop n bytes)) (number (crc32 (take n bytes)))
+abbrev pub is_summed : (List ℕ → ℕ) → ℕ → List ℕ → Bool
+is_summed sum n bytes = bytes_eq (take 4 (drop n bytes)) (number (sum (take n bytes)))
+
+abbrev pub has_head : ℕ → List ℕ → Bool
+has_head place bytes = is_summed (sum_at place) 9 bytes
 
 -- the first n bytes, if they have their checksum behind them
 abbrev pub part : ℕ → List ℕ → Option (List ℕ)
-part n bytes = if is_summed n bytes then Some (take n bytes) else None
+part n bytes = if is_summed crc32 n bytes then Some (take n bytes) else None
 
 -- by the lengths in a head
 abbrev pub key_length : List ℕ → ℕ
@@ -70,16 +90,16 @@ value_place bytes = 17 + key_length bytes
 abbrev pub record_length : List ℕ → ℕ
 record_length bytes = 21 + (key_length bytes + number_at 5 bytes)
 
-abbrev pub key_in : List ℕ → Option (List ℕ)
-key_in bytes = if is_summed 9 bytes then part (key_length bytes) (drop 13 bytes) else None
+abbrev pub key_in : ℕ → List ℕ → Option (List ℕ)
+key_in place bytes = if has_head place bytes then part (key_length bytes) (drop 13 bytes) else None
 
 abbrev pub value_in_record : List ℕ → Option (List ℕ)
 value_in_record bytes = part (number_at 5 bytes) (drop (value_place bytes) bytes)
 
 -- by a mark, a key and a value
 abbrev pub marked : List ℕ → List ℕ → List ℕ → Outcome
-marked (zero ∷ rest) key [] = Complete (record { key = key; value = None })
 marked (suc zero ∷ rest) key value = Complete (record { key = key; value = Some value })
+marked (suc (suc zero) ∷ rest) key [] = Complete (record { key = key; value = None })
 marked head key value = Damaged
 
 -- where a whole record's bytes stand, by its key and its value
@@ -94,15 +114,15 @@ behind_head bytes =
     if nat_lt (length bytes) (record_length bytes) then Torn
     else fields_of bytes (part (key_length bytes) (drop 13 bytes)) (value_in_record bytes)
 
-abbrev pub reading : List ℕ → Outcome
-reading bytes =
-    if nat_lt (length bytes) 13 then Torn else if is_summed 9 bytes then behind_head bytes else Damaged
+abbrev pub reading : ℕ → List ℕ → Outcome
+reading place bytes =
+    if nat_lt (length bytes) 13 then Torn else if has_head place bytes then behind_head bytes else Damaged
 
 -- what is read was encoded: it stands at the front of the bytes
-abbrev pub IsFound : List ℕ → Outcome → Type 0
-IsFound bytes (Complete r) = Fits r × (bytes ≡ encoded r ++ drop (length (encoded r)) bytes)
-IsFound bytes Torn = Unit {0}
-IsFound bytes Damaged = Unit {0}
+abbrev pub IsFound : ℕ → List ℕ → Outcome → Type 0
+IsFound place bytes (Complete r) = Fits r × (bytes ≡ encoded place r ++ drop (size_of r) bytes)
+IsFound place bytes Torn = Unit {0}
+IsFound place bytes Damaged = Unit {0}
 
 -- no complete record stands there
 abbrev pub Stops : Outcome → Type 0
@@ -112,7 +132,7 @@ Stops Damaged = Unit {0}
 
 -- a complete record takes no more than n bytes
 abbrev pub IsWithin : ℕ → Outcome → Type 0
-IsWithin n (Complete r) = Fits r × (length (encoded r) ≤ n)
+IsWithin n (Complete r) = Fits r × (size_of r ≤ n)
 IsWithin n Torn = Unit {0}
 IsWithin n Damaged = Unit {0}
 

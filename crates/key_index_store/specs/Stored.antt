@@ -1,6 +1,6 @@
 -- What a log stands for: the map that its complete records leave, up to the first place where none stands.
 --     Values              a finite map from full keys to values, in the order of the keys' bytes
---     records_of          the complete records at the front of some bytes
+--     records_of          the complete records at the front of a log
 --     held_by             the map that they leave, from the empty one on
 --     end_of              how many bytes they take
 --     entry_after, entry_before  the entry with the least key strictly above one, and with the greatest strictly below
@@ -15,9 +15,9 @@
 --     compacted           a log that has a record of each entry of a map, in the order of the keys, and nothing else
 --     EntriesFit, IsCopy  each entry of a map has a record;  that log, which leaves the map
 --     tail_in             what stands behind the last complete record
-use Rattle.std.specs.Prelude.{◌≡◌, ◌⊎◌, ◌-◌, ◌^◌, ◌==◌, ◌&&◌, ◌||◌, ℕ, zero, suc, Bool, true, List, [], ◌∷◌, ◌++◌, length, map, take, drop, Option, Some, None, is_some, if◌then◌else◌, Vec}
+use Rattle.std.specs.Prelude.{◌≡◌, ◌⊎◌, ◌+◌, ◌-◌, ◌^◌, ◌==◌, ◌&&◌, ◌||◌, ℕ, zero, suc, Bool, true, List, [], ◌∷◌, ◌++◌, length, map, take, drop, Option, Some, None, is_some, if◌then◌else◌, Vec}
 use Rattle.std.specs.FinMap.{FinMap, empty, entries, get, insert, len, remove}
-use Rattle.std.specs.List.{flat_map, fold}
+use Rattle.std.specs.List.{fold}
 use Rattle.std.specs.Option.{option_map}
 use Rattle.std.specs.declared.alloc.Global.{Global}
 use Rattle.key_index_flat.specs.FullKeys.{byte_cmp}
@@ -30,7 +30,7 @@ use Rattle.key_index_store.specs.declared.store.Fault.TheVariants as fault
 use Rattle.key_index_store.specs.declared.store.Tail.{Tail}
 use Rattle.key_index_store.specs.declared.store.Tail.TheVariants.{Nothing}
 use Rattle.key_index_store.specs.declared.store.Tail.TheVariants as tail
-use Rattle.key_index_store.specs.Record.{Entry, Fits, Outcome, Complete, Torn, Damaged, encoded, reading}
+use Rattle.key_index_store.specs.Record.{Entry, Fits, Outcome, Complete, Torn, Damaged, encoded, log_of, reading, size_of}
 
 abbrev pub Values : Type 0
 Values = FinMap byte_cmp (List ℕ)
@@ -44,24 +44,24 @@ abbrev pub after_record : Values → Entry → Values
 after_record m r = with_value m r.key r.value
 
 -- by what stands at the front, and by the records behind it
-abbrev pub first_and : (List ℕ → List Entry) → List ℕ → Outcome → List Entry
-first_and records bytes (Complete r) = r ∷ records (drop (length (encoded r)) bytes)
-first_and records bytes Torn = []
-first_and records bytes Damaged = []
+abbrev pub first_and : (ℕ → List ℕ → List Entry) → ℕ → List ℕ → Outcome → List Entry
+first_and records place bytes (Complete r) = r ∷ records (place + size_of r) (drop (size_of r) bytes)
+first_and records place bytes Torn = []
+first_and records place bytes Damaged = []
 
--- n of them at most
-unfoldable pub records_up_to : ℕ → List ℕ → List Entry
-records_up_to zero bytes = []
-records_up_to (suc n) bytes = first_and (λ rest. records_up_to n rest) bytes (reading bytes)
+-- n of them at most, of bytes that stand at a place
+unfoldable pub records_up_to : ℕ → ℕ → List ℕ → List Entry
+records_up_to zero place bytes = []
+records_up_to (suc n) place bytes = first_and (λ p rest. records_up_to n p rest) place bytes (reading place bytes)
 
 abbrev pub records_of : List ℕ → List Entry
-records_of bytes = records_up_to (length bytes) bytes
+records_of log = records_up_to (length log) 0 log
 
 abbrev pub held_by : List ℕ → Values
-held_by bytes = fold after_record empty (records_of bytes)
+held_by log = fold after_record empty (records_of log)
 
 abbrev pub end_of : List ℕ → ℕ
-end_of log = length (flat_map encoded (records_of log))
+end_of log = length (log_of (records_of log))
 
 abbrev pub entry_after : Values → List ℕ → Option (List ℕ × List ℕ)
 entry_after m key = first_entry (entries_above byte_cmp (entries m) key)
@@ -83,7 +83,7 @@ abbrev pub without_tail : List ℕ → List ℕ
 without_tail log = take (end_of log) log
 
 abbrev pub with_record : List ℕ → Entry → List ℕ
-with_record log r = without_tail log ++ encoded r
+with_record log r = without_tail log ++ encoded (end_of log) r
 
 -- the same map as before, or the one with the record
 abbrev pub IsBeforeOrAfter : List ℕ → Entry → List ℕ → Type 0
@@ -99,14 +99,14 @@ LeavesSame old before after = Adds (λ c. held_by c ≡ held_by old) before afte
 
 -- the records stay, and a part of the new one may stand behind them
 abbrev pub IsRefused : List ℕ → Entry → List ℕ → Type 0
-IsRefused old r new = (held_by new ≡ held_by old) × ((new ≡ old) ⊎ IsBegun (encoded r) (without_tail old) new)
+IsRefused old r new = (held_by new ≡ held_by old) × ((new ≡ old) ⊎ IsBegun (encoded (end_of old) r) (without_tail old) new)
 
 -- the record of an entry
 abbrev pub put_of : List ℕ × List ℕ → Entry
 put_of e = record { key = e.0; value = Some e.1 }
 
 abbrev pub compacted : Values → List ℕ
-compacted m = flat_map encoded (map put_of (entries m))
+compacted m = log_of (map put_of (entries m))
 
 -- each entry has a record
 abbrev pub EntriesFit : Values → Type 0
@@ -126,13 +126,13 @@ tail_by (Complete r) = Nothing
 tail_by Torn = tail.Torn
 tail_by Damaged = tail.Damaged
 
--- by the bytes behind them
-abbrev pub tail_of : List ℕ → Tail
-tail_of [] = Nothing
-tail_of (b ∷ rest) = if is_zeros (b ∷ rest) then tail.Torn else tail_by (reading (b ∷ rest))
+-- by the bytes behind them, which stand at a place
+abbrev pub tail_of : ℕ → List ℕ → Tail
+tail_of place [] = Nothing
+tail_of place (b ∷ rest) = if is_zeros (b ∷ rest) then tail.Torn else tail_by (reading place (b ∷ rest))
 
 abbrev pub tail_in : List ℕ → Tail
-tail_in log = tail_of (drop (end_of log) log)
+tail_in log = tail_of (end_of log) (drop (end_of log) log)
 
 -- ---- why a call may be refused
 
@@ -163,6 +163,7 @@ pub record HasRoom (old new : List ℕ) : Type 0 where
   pub cut : new ≡ without_tail old
   pub held : held_by new ≡ held_by old
   pub all : end_of new ≡ length new
+  pub end : end_of old ≡ length new
   pub undamaged : ¬ (tail_in old ≡ tail.Damaged)
 
 pub record HasChanged (old : List ℕ) (r : Entry) (had : Bool) (new : List ℕ) : Type 0 where

@@ -1,5 +1,5 @@
 //! CRC-32, the cyclic redundancy check of ISO 3309, as zlib and PNG have it.
-ghost use Rattle.std.specs.Prelude.{◌≡◌, ◌+◌, ◌*◌, ◌<◌};
+ghost use Rattle.std.specs.Prelude.{◌≡◌, ◌+◌, ◌*◌, ◌<◌, ◌++◌};
 ghost use Rattle.std.specs.List.{fold};
 ghost use Rattle.key_index_store.specs.Checksum.{after_bits, after_byte, crc32};
 
@@ -54,17 +54,31 @@ fn after_eight(register: u32, bytes: &[u8; 8]) -> u32
         ^ left_of(a, 7)
 }
 
-/// The checksum of some bytes. Of the nine digits "123456789" it is 0xcbf4_3926.
-pub fn crc32(bytes: &[u8]) -> u32
-    ensures { result ≡ crc32 bytes.now }
+/// Takes bytes in.
+fn after_all(register: u32, bytes: &[u8]) -> u32
+    ensures { result ≡ fold after_byte register bytes.now }
 {
     let (eights, rest) = bytes.as_chunks::<8>();
-    let mut register = u32::MAX;
+    let mut register = register;
     for eight in eights {
         register = after_eight(register, eight);
     }
     for byte in rest {
         register = after_next(register, *byte);
     }
-    register ^ u32::MAX
+    register
+}
+
+/// The checksum of some bytes. Of the nine digits "123456789" it is 0xcbf4_3926.
+pub fn crc32(bytes: &[u8]) -> u32
+    ensures { result ≡ crc32 bytes.now }
+{
+    after_all(u32::MAX, bytes) ^ u32::MAX
+}
+
+/// The checksum of some bytes and of others behind them.
+pub fn crc32_of_both(front: &[u8], back: &[u8]) -> u32
+    ensures { result ≡ crc32 (front.now ++ back.now) }
+{
+    after_all(after_all(u32::MAX, front), back) ^ u32::MAX
 }

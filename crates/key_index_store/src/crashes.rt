@@ -1,20 +1,24 @@
 //! What a crash leaves of a store: the laws of durability, as proved callers, over a device in memory, over any device behind a header,
-//! and over two openings of a file.
-ghost use Rattle.std.specs.Prelude.{◌≡◌, ◌⊎◌, ◌-◌, [], length, max, take, drop, Some, None, Err, IfOk};
+//! and over two openings of a file; and of the name of a file.
+ghost use Rattle.std.specs.Prelude.{◌≡◌, ◌⊎◌, ◌-◌, [], length, max, take, drop, string_bytes, Some, None, Err, IfOk};
 ghost use Rattle.std.specs.FinMap as map;
 ghost use Rattle.std.specs.Option.{option_map};
 ghost use Rattle.key_index_store.specs.Device.{Changes, IsFirst, IsLeft, NoMore, Sees};
 ghost use Rattle.key_index_store.specs.FileDevice.{FileLeaves, calls_of, file_seen, first_of};
 ghost use Rattle.key_index_store.specs.Header.{Behind, IsHeaded, held_behind};
 ghost use Rattle.key_index_store.specs.MemoryDevice.{MayLeave, held, kept};
+ghost use Rattle.key_index_store.specs.Places.{IsFresh, IsOnDisk};
 ghost use Rattle.key_index_store.specs.Stored.{IsBeforeOrAfter, held_by, put_of};
 
 use crate::device::Device;
 use crate::file_device::FileDevice;
+use crate::folder::Identity;
 use crate::headed::{Headed, OpenError};
 use crate::memory_device::MemoryDevice;
+use crate::memory_folder::MemoryFolder;
+use crate::place::{Fresh, Place};
 use crate::store::{Fault, Store};
-use key_index_flat::index::Unordered;
+use key_index_flat::index::{Ordered, Unordered};
 use std::alloc::Global;
 
 /// The store on what a crash leaves that loses the last `lost` bytes, but none that is synced.
@@ -106,8 +110,8 @@ pub fn open_headed<D: Device + Drop, I: Unordered<Value = u64> + Drop>(
         Ok(headed) => headed,
         Err(refused) => {
             return Err(match refused.reason {
-                OpenError::NoStore => Lost::NoStore(refused.device),
                 OpenError::ReadFailed => Lost::Refused(Fault::ReadFailed),
+                _ => Lost::NoStore(refused.device),
             });
         }
     };
@@ -211,4 +215,25 @@ pub fn two_sessions_unsynced<I: Unordered<Value = u64> + Drop>(
     let mut first = open_headed(alloc, device, index)?;
     let second = put_alone_headed(alloc, &mut first, key, value, left, another)?;
     Ok(Sessions { first, second })
+}
+
+/// A store goes on over a copy in the place of its file, whose name is on the disk, and a crash comes in the call or behind it, whether it
+/// was refused or not: at the name is the old file or the fresh one.
+pub fn moved_in_place<D: Device, C: Device + Drop, I: Ordered<Value = u64> + Drop>(
+    mut place: Place<MemoryFolder>,
+    store: &mut Store<D, I>,
+    fresh: Fresh,
+    disk: C,
+    index: I,
+    lost: usize,
+) -> Option<Identity>
+    requires on_disk { IsOnDisk place.calls place.name place.file }
+    requires fresh { IsFresh place.calls fresh }
+    requires target { string_bytes fresh.target ≡ place.name }
+    requires empty { (I.view index).content ≡ [] }
+    ensures { (result ≡ Some place.file) ⊎ (result ≡ Some fresh.file) }
+{
+    let _moved = place.move_to(store, fresh, disk, index);
+    let (folder, name) = place.into_parts();
+    folder.crash(lost).file(name.as_str())
 }

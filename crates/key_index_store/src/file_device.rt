@@ -18,6 +18,7 @@ const TRIES: usize = 100;
 #[derive(Drop)]
 pub struct FileDevice {
     file: File,
+    limit: u64,
     sync_failed: bool,
     history: History,
 }
@@ -25,12 +26,14 @@ pub struct FileDevice {
 impl FileDevice {
     ghost use Rattle.key_index_store.specs.FileDevice.{calls_of};
 
-    /// The device over a file that is open for reading and writing at any place.
-    pub fn new(file: File) -> FileDevice
+    /// The device over a file that is open for reading and writing at any place. A write that would make it longer than a limit fails,
+    /// and does nothing.
+    pub fn new(file: File, limit: u64) -> FileDevice
         ensures { calls_of result ≡ [] }
     {
         FileDevice {
             file,
+            limit,
             sync_failed: false,
             history: History::new(),
         }
@@ -41,10 +44,13 @@ fn failed(_error: Error) -> Failed {
     Failed
 }
 
-/// Writes one or more of the bytes, and says how many.
-fn write_some(file: &File, position: u64, bytes: &[u8]) -> Result<usize, Failed>
+/// Writes one or more of the bytes, and says how many; none where they would go past a limit.
+fn write_some(file: &File, limit: u64, position: u64, bytes: &[u8]) -> Result<usize, Failed>
     ensures { IfOk result (λ n. (0 < n) × (n ≤ length bytes.now)) }
 {
+    if position.saturating_add(bytes.len() as u64) > limit {
+        return Err(Failed);
+    }
     for _ in 0..TRIES {
         match file.write_at(bytes, position) {
             Ok(0) => return Err(Failed),
@@ -79,7 +85,7 @@ impl Device for FileDevice {
         let mut done = 0;
         while done < bytes.len() {
             let at = position.checked_add(done as u64).ok_or(Failed)?;
-            let n = write_some(&self.file, at, &bytes[done..])?;
+            let n = write_some(&self.file, self.limit, at, &bytes[done..])?;
             self.history = self.history.and(&Call::Took(at), &bytes[done..done + n]);
             done += n;
         }

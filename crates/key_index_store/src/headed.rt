@@ -1,9 +1,10 @@
 //! A device behind a header, which says that a file is a store's.
-ghost use Rattle.std.specs.Prelude.{◌≡◌, ℕ, List, ◌++◌, length, drop, Some, Err, IfOk, IfErr, OnOk, OnErr};
+ghost use Rattle.std.specs.Prelude.{◌≡◌, ◌≢◌, ℕ, List, ◌++◌, length, drop, take, Some, Err, IfOk, IfErr, OnOk, OnErr};
 ghost use Rattle.key_index_store.specs.Device.{AddsAtMost, Changes, IsBegun, IsRead, Sees};
-ghost use Rattle.key_index_store.specs.Header.{IsHeaded, header};
+ghost use Rattle.key_index_store.specs.Header.{IsHeaded, header, refusal_in, version_in};
 
 use crate::device::{Device, Failed};
+use crate::record::{part, u32_at};
 use std::alloc::Global;
 use std::marker::Model;
 
@@ -11,7 +12,7 @@ use std::marker::Model;
 const LENGTH: u64 = 16;
 
 /// The header: eight bytes of magic, the version, and their CRC-32, numbers with the lowest byte first.
-const HEADER: [u8; 16] = *b"keyindex\x01\0\0\0\x43\x25\xb5\x6a";
+const HEADER: [u8; 16] = *b"keyindex\x02\0\0\0\xad\x8a\x00\x78";
 
 /// Why no log stands behind a header.
 #[derive(Clone, Copy, Debug, PartialEq, Eq)]
@@ -20,6 +21,10 @@ pub enum OpenError {
     ReadFailed,
     /// There are bytes, and they don't begin with the header, nor are they the beginning of one.
     NoStore,
+    /// They begin with the header of an older version of the format.
+    OlderVersion,
+    /// With that of a newer one.
+    NewerVersion,
 }
 
 impl From<Failed> for OpenError {
@@ -52,10 +57,12 @@ pub struct Headed<D: Device> {
     device: D,
     /// How many bytes the device has, where that is known.
     end: Option<u64>,
+    /// It begins with the header, or is a part of it.
+    is_headed: bool,
 }
 
 impl<D: Device> Model for Headed<D> {
-    ghost use Rattle.std.specs.Prelude.{◌≡◌, length, IfSome};
+    ghost use Rattle.std.specs.Prelude.{◌≡◌, length, true, IfSome};
     ghost use Rattle.key_index_store.specs.Device.{Sees};
     ghost use Rattle.key_index_store.specs.Header.{IsHeaded};
 
@@ -64,7 +71,7 @@ impl<D: Device> Model for Headed<D> {
     ghost view = { λ h. h.device };
 
     ghost invariant = { λ h. Sees (D.seen h.device) (λ bytes. IfSome h.end (λ n. n ≡ length bytes))
-        × Sees (D.seen h.device) IsHeaded };
+        × (h.is_headed ≡ true → Sees (D.seen h.device) IsHeaded) };
 }
 
 impl<D: Device> Headed<D> {
@@ -72,8 +79,8 @@ impl<D: Device> Headed<D> {
     /// changed.
     pub fn open(alloc: Global, mut device: D) -> Result<Headed<D>, NotHeaded<D>>
         ensures headed { IfOk result (λ h. Sees (D.seen h) IsHeaded) }
-        ensures refused { IfErr result (λ e. e.reason ≡ OpenError.NoStore
-            → Sees (D.seen e.device) (λ bytes. ¬ IsHeaded bytes)) }
+        ensures refused { IfErr result (λ e. e.reason ≢ OpenError.ReadFailed → Sees (D.seen e.device)
+            (λ bytes. (¬ IsHeaded bytes) × (e.reason ≡ refusal_in (take 16 bytes)))) }
         ensures read { IfOk result (λ h. IsRead D.seen D.may_leave device h) }
         ensures kept { IfErr result (λ e. IsRead D.seen D.may_leave device e.device) }
     {
@@ -82,8 +89,21 @@ impl<D: Device> Headed<D> {
                 alloc,
                 device,
                 end: Some(len),
+                is_headed: true,
             }),
             Err(reason) => Err(NotHeaded { reason, device }),
+        }
+    }
+
+    /// What stands behind the first 16 bytes of a device, whatever these are. It may only be read.
+    pub fn headless(alloc: Global, device: D) -> Headed<D>
+        ensures { result ≡ device }
+    {
+        Headed {
+            alloc,
+            device,
+            end: None,
+            is_headed: false,
         }
     }
 }
@@ -94,11 +114,33 @@ fn header() -> [u8; 16]
     HEADER
 }
 
+/// The version that the header at the front of some bytes has, if it has its checksum.
+fn version_in(bytes: &[u8]) -> Option<u32>
+    ensures { result ≡ version_in bytes.now }
+{
+    if part(bytes, LENGTH - 4).is_none() || bytes[..8] != header()[..8] {
+        return None;
+    }
+    Some(u32_at(bytes, 8))
+}
+
+/// Why bytes are refused that are not the header.
+fn refusal_of(bytes: &[u8]) -> OpenError
+    ensures { result ≡ refusal_in bytes.now }
+{
+    match version_in(bytes) {
+        Some(1) => OpenError::OlderVersion,
+        Some(version) if version > 2 => OpenError::NewerVersion,
+        _ => OpenError::NoStore,
+    }
+}
+
 /// How many bytes a device has, if they begin with the header, or are a part of one.
 fn headed_length<D: Device>(device: &mut D) -> Result<u64, OpenError>
     ensures told { Sees (D.seen device.new) (λ bytes. IfOk result (λ n. n ≡ length bytes)) }
     ensures headed { OnOk result (Sees (D.seen device.new) IsHeaded) }
-    ensures refused { result ≡ Err OpenError.NoStore → Sees (D.seen device.new) (λ bytes. ¬ IsHeaded bytes) }
+    ensures refused { IfErr result (λ e. e ≢ OpenError.ReadFailed → Sees (D.seen device.new)
+        (λ bytes. (¬ IsHeaded bytes) × (e ≡ refusal_in (take 16 bytes)))) }
     ensures read { IsRead D.seen D.may_leave device.old device.new }
 {
     let len = device.len()?;
@@ -106,7 +148,7 @@ fn headed_length<D: Device>(device: &mut D) -> Result<u64, OpenError>
     let mut bytes = [0; 16];
     device.read_at(0, &mut bytes[..count])?;
     if bytes[..count] != header()[..count] {
-        return Err(OpenError::NoStore);
+        return Err(refusal_of(&bytes[..count]));
     }
     Ok(len)
 }
@@ -150,6 +192,9 @@ impl<D: Device> Device for Headed<D> {
 
     /// Fails where the position is not the end. What is missing of the header is written with the bytes.
     fn write_at(&mut self, position: u64, bytes: &[u8]) -> Result<(), Failed> {
+        if !self.is_headed {
+            return Err(Failed);
+        }
         let end = self.end.ok_or(Failed)?;
         if position != end.saturating_sub(LENGTH) {
             return Err(Failed);
@@ -164,6 +209,9 @@ impl<D: Device> Device for Headed<D> {
 
     /// Changes nothing where there are no more than `len` bytes.
     fn set_len(&mut self, len: u64) -> Result<(), Failed> {
+        if !self.is_headed {
+            return Err(Failed);
+        }
         let end = self.end.ok_or(Failed)?;
         if len < end.saturating_sub(LENGTH) {
             let place = len + LENGTH;
@@ -174,6 +222,9 @@ impl<D: Device> Device for Headed<D> {
     }
 
     fn sync(&mut self) -> Result<(), Failed> {
+        if !self.is_headed {
+            return Err(Failed);
+        }
         self.device.sync()
     }
 }

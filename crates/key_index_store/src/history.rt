@@ -2,7 +2,9 @@
 ghost use Rattle.std.specs.Prelude.{◌≡◌, List, ℕ, [], ◌∷◌};
 ghost use Rattle.std.specs.Borrow.{ftrue};
 ghost use Rattle.key_index_store.specs.History.{Noted};
+ghost use Rattle.key_index_store.specs.Names.{noted};
 
+use crate::folder::NameCall;
 use std::marker::Model;
 
 /// A call that succeeded. Its bytes, where it has some, stand beside it.
@@ -18,6 +20,8 @@ pub(crate) enum Call {
     Cut(u64),
     /// It said that the disk has its bytes.
     Synced,
+    /// A call on a folder, at the name that stands beside it.
+    Name(NameCall),
 }
 
 /// What a file held at first, and the calls so far, the newest first.
@@ -45,4 +49,11 @@ impl History {
     {
         History {}
     }
+}
+
+/// One more call at a name.
+pub(crate) fn noted(history: &History, call: NameCall, name: &str) -> History
+    ensures { result.calls ≡ noted call name.now history.now.calls }
+{
+    history.and(&Call::Name(call), name.as_bytes())
 }

@@ -1,24 +1,36 @@
 //! The records of a damaged log, copied to a fresh one.
-ghost use Rattle.std.specs.Prelude.{◌≡◌, ◌<◌, ◌-◌, ℕ, List, [], ◌++◌, length, take, drop, IfOk, IfErr, OnOk};
-ghost use Rattle.std.specs.List.{flat_map};
+ghost use Rattle.std.specs.Prelude.{◌≡◌, ◌⊎◌, ◌<◌, ◌≤◌, ◌+◌, ◌-◌, ℕ, List, [], ◌++◌, length, map, min, take, drop, IfOk, IfErr, OnOk};
 ghost use Rattle.key_index_store.specs.Device.{Changes, IsRead, Sees};
-ghost use Rattle.key_index_store.specs.Record.{encoded};
-ghost use Rattle.key_index_store.specs.Salvage.{MaySalvage, salvaged};
+ghost use Rattle.key_index_store.specs.Record.{key_in, log_of};
+ghost use Rattle.key_index_store.specs.Salvage.{Gap, MaySalvage, gap_of, gaps_at, gaps_in, salvaged, step, unknown};
 ghost use Rattle.key_index_store.specs.Stored.{records_of};
 
 use crate::device::Device;
-use crate::record::{Reading, decode};
+use crate::record::{Reading, decode, encode, has_head, key_in, record_length};
 use crate::store::Fault;
 use crate::store::find::{length_of, read_front};
-use std::alloc::Global;
+use std::alloc::{AllocError, Global};
 
 /// What a salvage copied, and what it left out.
-#[derive(Clone, Copy, Debug, PartialEq, Eq)]
+#[derive(Debug, Drop, PartialEq, Eq)]
 pub struct Salvaged {
     /// How many records were copied, those of deletions too.
     pub records: u64,
     /// How many bytes of the log are no record's.
     pub left_out: u64,
+    /// Where they are, in their order.
+    pub gaps: Vec<LeftOut>,
+}
+
+/// Bytes of a log that a salvage left out.
+#[derive(Debug, Drop, PartialEq, Eq)]
+pub struct LeftOut {
+    /// Where they stand in the log.
+    pub place: u64,
+    /// How many they are.
+    pub length: u64,
+    /// The key of the record that stood there, where its head and its key read. Bytes without a key that stand side by side are one gap.
+    pub key: Option<Vec<u8>>,
 }
 
 /// The bytes from a place on.
@@ -31,24 +43,80 @@ fn bytes_from(bytes: &[u8], place: u64) -> &[u8]
     }
 }
 
-/// Copies each whole record of a log to a fresh one, in their order, behind damage too: where none stands, it looks for
-/// one a byte further on.
+/// The next place that is looked at, in a log of `len` bytes: behind the whole record where a head says how long it is, whatever
+/// stands in its key and its value, and else the next byte.
+fn next_place(bytes: &[u8], place: u64, len: u64) -> u64
+    ensures value { result ≡ min (place + step place bytes.now) len }
+    ensures on { place < len → place < result }
+{
+    if has_head(bytes, place) {
+        place.saturating_add(record_length(bytes)).min(len)
+    } else {
+        place.saturating_add(1).min(len)
+    }
+}
+
+/// Notes the bytes from one place to another.
+fn note(gaps: &mut Vec<LeftOut>, since: u64, place: u64) -> Result<(), AllocError>
+    ensures { OnOk result (map gap_of gaps.new.items ≡ map gap_of gaps.old.items ++ unknown since place) }
+{
+    if since < place {
+        gaps.push(LeftOut {
+            place: since,
+            length: place - since,
+            key: None,
+        })?;
+    }
+    Ok(())
+}
+
+/// Notes that no whole record stands at a place, where its key is known. Gives from where on nothing is noted.
+fn leave_out(
+    alloc: Global,
+    gaps: &mut Vec<LeftOut>,
+    bytes: &[u8],
+    since: u64,
+    place: u64,
+    next: u64,
+) -> Result<u64, AllocError>
+    requires { place ≤ next }
+    ensures noted { IfOk result (λ s. (behind : ℕ → List Gap) → map gap_of gaps.new.items ++ behind s
+        ≡ map gap_of gaps.old.items ++ gaps_at since place next [] (key_in place bytes.now) behind) }
+    ensures within { IfOk result (λ s. (s ≡ since) ⊎ (s ≡ next)) }
+{
+    let Some(key) = key_in(bytes, place) else {
+        return Ok(since);
+    };
+    note(gaps, since, place)?;
+    let key = Vec::from_slice(alloc, key)?;
+    gaps.push(LeftOut {
+        place,
+        length: next - place,
+        key: Some(key),
+    })?;
+    Ok(next)
+}
+
+/// Copies each whole record of a log to a fresh one, in their order, behind damage too: behind a head that reads it goes on behind
+/// the whole record, and looks byte by byte only where none does. So what a value holds is not taken for a record while its own
+/// record's head reads.
 pub fn salvage<D: Device, C: Device>(
     alloc: Global,
     from: &mut D,
     into: &mut C,
 ) -> Result<Salvaged, Fault>
     ensures copied { OnOk result (Sees (D.seen from.new) (λ log. Changes (C.seen into.old) (C.seen into.new)
-        (λ old new. (old ≡ []) × (new ≡ flat_map encoded (salvaged log))))) }
+        (λ old new. (old ≡ []) × (new ≡ log_of (salvaged log))))) }
     // The records in front of any damage come first.
     ensures front { OnOk result (Sees (D.seen from.new) (λ log. Sees (C.seen into.new) (λ bytes.
-        (more : List ℕ) × (bytes ≡ flat_map encoded (records_of log) ++ more)))) }
+        (more : List ℕ) × (bytes ≡ log_of (records_of log) ++ more)))) }
     ensures records { IfOk result (λ s. Sees (D.seen from.new) (λ log. s.records ≡ length (salvaged log))) }
     ensures left_out { IfOk result (λ s. Sees (D.seen from.new) (λ log. Sees (C.seen into.new) (λ bytes.
         s.left_out ≡ length log - length bytes))) }
+    ensures gaps { IfOk result (λ s. Sees (D.seen from.new) (λ log. map gap_of s.gaps.items ≡ gaps_in log)) }
     // Where it fails, it has appended a front of that, and nothing to a log that had bytes.
     ensures begun { Sees (D.seen from.new) (λ log. Changes (C.seen into.old) (C.seen into.new) (λ old new.
-        (n : ℕ) × (new ≡ old ++ take n (flat_map encoded (salvaged log))))) }
+        (n : ℕ) × (new ≡ old ++ take n (log_of (salvaged log))))) }
     ensures kept { Changes (C.seen into.old) (C.seen into.new) (λ old new. 0 < length old → new ≡ old) }
     ensures read { IsRead D.seen D.may_leave from.old from.new }
     ensures fault { IfErr result (MaySalvage (C.seen into.new)) }
@@ -58,28 +126,41 @@ pub fn salvage<D: Device, C: Device>(
     }
     let len = length_of(from)?;
     let (mut start, mut position, mut end, mut records) = (0, 0, 0, 0);
+    let (mut since, mut gaps) = (0, Vec::new(alloc));
     let mut block = read_front(alloc, from, start, len, true)?;
+    // Each round goes on by a record or a byte, or reads a block at a place where none was read yet: so the time is linear, and each
+    // byte is read a few times at most. Behind a head that tells of more bytes than there are, nothing is looked for.
     while position < len {
         let rest = bytes_from(block.as_slice(), position - start);
-        match decode(rest) {
+        let next = next_place(rest, position, len);
+        match decode(rest, position) {
             Reading::Complete(record) => {
-                let length = record.length();
-                let (front, _) = rest.split_at(length as usize);
-                into.write_at(end, front).map_err(|_| Fault::WriteFailed)?;
-                end = end.saturating_add(length);
-                position = position.saturating_add(length);
+                note(&mut gaps, since, position)?;
+                let bytes = encode(alloc, end, record.key, record.value)?;
+                let written = into.write_at(end, bytes.as_slice());
+                written.map_err(|_| Fault::WriteFailed)?;
+                end = end.saturating_add(record.length());
                 records += 1;
+                (position, since) = (next, next);
             }
-            Reading::Damaged => position += 1,
-            Reading::Torn if start == position => position += 1,
+            Reading::Damaged => {
+                since = leave_out(alloc, &mut gaps, rest, since, position, next)?;
+                position = next;
+            }
+            Reading::Torn if start == position => {
+                since = leave_out(alloc, &mut gaps, rest, since, position, next)?;
+                position = next;
+            }
             Reading::Torn => {
                 block = read_front(alloc, from, position, len, true)?;
                 start = position;
             }
         }
     }
+    note(&mut gaps, since, len)?;
     Ok(Salvaged {
         records,
         left_out: len.saturating_sub(end),
+        gaps,
     })
 }

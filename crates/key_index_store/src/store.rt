@@ -1,14 +1,13 @@
 //! A key-value store on a log. The index keeps positions alone: it gives those that a shortened key may mean, and the log confirms.
-ghost use Rattle.std.specs.Prelude.{◌≡◌, ◌↔◌, ◌⊎◌, ◌<◌, ◌≤◌, ◌^◌, ◌-◌, ◌||◌, ◌≢◌, ◌+◌, ℕ, List, [], ◌++◌, if◌then◌else◌, length, take, drop, slice_get, false, Some, None, is_some, All, IsSome, IsTrue, IfSome, IfOk, IfErr, OnOk, OnErr};
+ghost use Rattle.std.specs.Prelude.{◌≡◌, ◌↔◌, ◌⊎◌, ◌<◌, ◌≤◌, ◌^◌, ◌-◌, ◌||◌, ◌≢◌, ◌+◌, ℕ, List, [], ◌++◌, if◌then◌else◌, length, map, take, drop, slice_get, false, Some, None, is_some, All, IsSome, IsTrue, IfSome, IfOk, IfErr, OnOk, OnErr};
 ghost use Rattle.std.specs.FinMap as map;
-ghost use Rattle.std.specs.List.{flat_map};
 ghost use Rattle.std.specs.Option.{option_map};
 ghost use Rattle.key_index_flat.specs.FullKeys.{IsBytes};
 ghost use Rattle.key_index_flat.specs.View.{growth_fault_in, run_of, with_edit, with_pruned};
 ghost use Rattle.key_index_store.specs.Device.{Adds, AddsAtMost, Changes, IsBegun, IsKnown, IsRead, NoMore, Sees, Stays};
 ghost use Rattle.key_index_store.specs.Indexed.{Indexes, IsLive, Keeps, KeepsLists, Settles, without_newest};
-ghost use Rattle.key_index_store.specs.Record.{Complete, Entry, Fits, IsFound, IsWithin, Stops, encoded, entry_of, outcome_of, reading};
-ghost use Rattle.key_index_store.specs.Salvage.{MaySalvage, salvaged};
+ghost use Rattle.key_index_store.specs.Record.{Complete, Entry, Fits, IsFound, IsWithin, Stops, encoded, entry_of, log_of, outcome_of, reading, size_of};
+ghost use Rattle.key_index_store.specs.Salvage.{HaveHeads, MaySalvage, found_at, gap_of, gaps_in, places_of, salvaged};
 ghost use Rattle.key_index_store.specs.Stored.{HasChanged, HasRefused, HasRoom, LeavesSame, IsRefused, LeavesBeforeOrAfter, MayRead, MayRefuse, refusal_of, end_of, held_by, is_zeros, tail_in, tail_of, with_record, with_value, without_tail};
 
 mod compact;
@@ -205,13 +204,13 @@ fn append<D: Device, I: Unordered<Value = u64>>(
     requires known { is_some value ≡ false → IsSome place }
     requires place { IfSome place (λ p. p < length (run_of I.Key.cmp (I.view index.old) key.now)) }
     ensures longer { IfOk result (λ longer. longer ≡ end
-        + length (encoded (record { key = key.now; value = option_map (λ v. v.now) value.entry }))) }
+        + size_of (record { key = key.now; value = option_map (λ v. v.now) value.entry })) }
     ensures written { OnOk result (Changes (D.seen device.old) (D.seen device.new) (λ old new. end ≡ length old
-        → new ≡ old ++ encoded (record { key = key.now; value = option_map (λ v. v.now) value.entry }))) }
+        → new ≡ old ++ encoded end (record { key = key.now; value = option_map (λ v. v.now) value.entry }))) }
     ensures failed { OnErr result (Changes (D.seen device.old) (D.seen device.new) (λ old new. end ≡ length old
-        → IsBegun (encoded (record { key = key.now; value = option_map (λ v. v.now) value.entry })) old new)) }
+        → IsBegun (encoded end (record { key = key.now; value = option_map (λ v. v.now) value.entry })) old new)) }
     ensures crash { (old : List ℕ) → D.seen device.old ≡ Some old → end ≡ length old → AddsAtMost old
-        (encoded (record { key = key.now; value = option_map (λ v. v.now) value.entry }))
+        (encoded end (record { key = key.now; value = option_map (λ v. v.now) value.entry }))
         (D.may_leave device.old) (D.may_leave device.new) }
     ensures settled { OnOk result (Settles I.Key.cmp I.INSERT_FIRST
         (I.view index.old) key.now (is_some value.entry) place end (I.view index.new)) }
@@ -219,7 +218,7 @@ fn append<D: Device, I: Unordered<Value = u64>>(
     ensures fault { IfErr result (λ f. (f ≡ Fault.WriteFailed) ⊎ (f ≡ Fault.Memory)
         ⊎ ((place ≡ None) × (f ≡ refusal_of (growth_fault_in (I.view index.old))))) }
 {
-    let bytes = encode(alloc, key, value)?;
+    let bytes = encode(alloc, end, key, value)?;
     let Some(longer) = end.checked_add(bytes.len() as u64) else {
         return Err(Fault::WriteFailed);
     };
@@ -505,21 +504,36 @@ impl<D: Device, I: Unordered<Value = u64>> Store<D, I> {
         length_of(&mut self.log.device)
     }
 
-    /// Copies each whole record of the log to a fresh one, in their order, behind damage too.
+    /// Copies each whole record of the log to a fresh one, in their order, behind damage too: it goes on behind the whole record where
+    /// a head reads, and else a byte further on.
     pub fn salvage<C: Device>(&mut self, into: &mut C) -> Result<Salvaged, Fault>
         ensures copied { OnOk result (Sees (D.seen self.new) (λ log. Changes (C.seen into.old) (C.seen into.new)
-            (λ old new. (old ≡ []) × (new ≡ flat_map encoded (salvaged log))))) }
+            (λ old new. (old ≡ []) × (new ≡ log_of (salvaged log))))) }
         ensures records { IfOk result (λ s. Sees (D.seen self.new) (λ log. s.records ≡ length (salvaged log))) }
         ensures left_out { IfOk result (λ s. Sees (D.seen self.new) (λ log. Sees (C.seen into.new) (λ bytes.
             s.left_out ≡ length log - length bytes))) }
+        ensures gaps { IfOk result (λ s. Sees (D.seen self.new) (λ log. map gap_of s.gaps.items ≡ gaps_in log)) }
+        // Without damage that is the log, but for its torn end.
+        ensures undamaged { OnOk result (Sees (D.seen self.new) (λ log. tail_in log ≢ Tail.Damaged
+            → Sees (C.seen into.new) (λ bytes. bytes ≡ without_tail log))) }
+        // Where no head changed, whatever else did, no record is copied but at a place where one was written.
+        ensures written { Sees (D.seen self.new) (λ log. (rs : List Entry) → HaveHeads 0 rs log
+            → salvaged log ≡ found_at log (places_of 0 rs)) }
         // Where it fails, it has appended a front of that, and nothing to a log that had bytes.
         ensures begun { Sees (D.seen self.new) (λ log. Changes (C.seen into.old) (C.seen into.new) (λ old new.
-            (n : ℕ) × (new ≡ old ++ take n (flat_map encoded (salvaged log))))) }
+            (n : ℕ) × (new ≡ old ++ take n (log_of (salvaged log))))) }
         ensures kept { Changes (C.seen into.old) (C.seen into.new) (λ old new. 0 < length old → new ≡ old) }
         ensures read { IsRead D.seen D.may_leave self.old self.new }
         ensures fault { IfErr result (MaySalvage (C.seen into.new)) }
     {
         salvage(self.log.alloc, &mut self.log.device, into)
+    }
+
+    /// The device.
+    pub fn device(&self) -> &D
+        ensures { result.now ≡ self.now }
+    {
+        &self.log.device
     }
 
     /// The device, to be opened anew.

@@ -2,7 +2,13 @@
 
 use crate::failure::Refusal;
 use key_index_store::store::Gap;
-use std::fmt;
+use std::{fmt, str};
+
+/// How many bytes are written at a time as hexadecimal digits.
+const BLOCK: usize = 1024;
+
+/// The hexadecimal digits, by their values.
+const DIGITS: [u8; 16] = *b"0123456789abcdef";
 
 /// A key that has a value, with it.
 pub type Entry = (Vec<u8>, Vec<u8>);
@@ -68,34 +74,53 @@ impl fmt::Display for Key<'_> {
     }
 }
 
-/// Bytes as a word: two hexadecimal digits for each, or `-` where there are none; or, where that is asked and all of them are printable
-/// ASCII, a text in double quotes.
+/// Bytes as a word: two hexadecimal digits for each, or `-` where there are none; or, where that is asked and they are UTF-8, a text in
+/// double quotes.
 #[derive(Clone, Copy)]
-struct Bytes<'a>(&'a [u8], bool);
+pub struct Bytes<'a>(pub &'a [u8], pub bool);
 
 impl fmt::Display for Bytes<'_> {
     fn fmt<W: fmt::Write>(&self, f: &mut fmt::Formatter<W>) -> fmt::Result {
-        if self.1 && self.0.iter().all(|byte| (b' '..=b'~').contains(byte)) {
-            return write_text(self.0, f);
+        if self.1 {
+            if let Ok(text) = str::from_utf8(self.0) {
+                return write_text(text, f);
+            }
         }
         if self.0.is_empty() {
             return f.write_str("-");
         }
-        for byte in self.0 {
-            write!(f, "{byte:02x}")?;
+        let mut digits = [[0; 2]; BLOCK];
+        for block in self.0.chunks(BLOCK) {
+            for (pair, byte) in digits.iter_mut().zip(block) {
+                *pair = [DIGITS[(byte >> 4) as usize], DIGITS[(byte & 15) as usize]];
+            }
+            let written = digits.as_flattened().get(..2 * block.len()).unwrap_or(&[]);
+            f.write_str(str::from_utf8(written).unwrap_or(""))?;
         }
         Ok(())
     }
 }
 
-/// Writes a text in double quotes, with a backslash in front of each quote and backslash.
-fn write_text<W: fmt::Write>(bytes: &[u8], f: &mut fmt::Formatter<W>) -> fmt::Result {
+/// Writes a text in double quotes, with an escape for each quote, backslash and control character.
+fn write_text<W: fmt::Write>(text: &str, f: &mut fmt::Formatter<W>) -> fmt::Result {
     f.write_str("\"")?;
-    for byte in bytes {
-        if *byte == b'"' || *byte == b'\\' {
-            f.write_str("\\")?;
+    let mut start = 0;
+    for (place, c) in text.char_indices() {
+        if c != '"' && c != '\\' && !c.is_control() {
+            continue;
         }
-        f.write_char(char::from(*byte))?;
+        f.write_str(text.get(start..place).unwrap_or(""))?;
+        start = place.saturating_add(c.len_utf8());
+        match c {
+            '"' | '\\' => write!(f, "\\{c}")?,
+            '\n' => f.write_str("\\n")?,
+            _ => {
+                for byte in c.encode_utf8(&mut [0; 4]).bytes() {
+                    write!(f, "\\x{byte:02x}")?;
+                }
+            }
+        }
     }
+    f.write_str(text.get(start..).unwrap_or(""))?;
     f.write_str("\"")
 }

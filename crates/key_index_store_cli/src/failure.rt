@@ -10,7 +10,7 @@ use thiserror::Error;
 #[derive(Debug, Drop, Error)]
 pub enum Failure<'a> {
     /// The arguments are not those of the program.
-    #[error("usage: key_index_store [--text] [--durable] [--keep-going] FILE [KIND]; all about it: --help")]
+    #[error("usage: key_index_store [FLAGS] FILE [KIND]; all about it: --help")]
     Usage,
     /// A file that is opened would take the place of a standard stream.
     #[error("failed: standard input or output is closed")]
@@ -18,9 +18,15 @@ pub enum Failure<'a> {
     /// The file of a name can't be opened.
     #[error("cannot open {0}: {1}")]
     CannotOpen(&'a str, io::Error),
+    /// The disk may not have the name of a file.
+    #[error("cannot sync {0}: {1}")]
+    CannotSync(&'a str, io::Error),
     /// The store on the file of a name is refused.
     #[error("refused {0}: {1}")]
     Refused(Refusal, &'a str),
+    /// The file of a name is no store's.
+    #[error("refused no store: {0}; --headless reads it all the same")]
+    NoStore(&'a str),
     /// A stream failed.
     #[error("failed: {0}")]
     Failed(#[from] io::Error),
@@ -38,9 +44,12 @@ pub enum Refusal {
     /// There was no memory.
     #[error("memory")]
     Memory(#[from(alloc)] AllocError),
-    /// It is no command.
+    /// It is no command, or has not as many words as that one wants.
     #[error("no command")]
     NoCommand,
+    /// A word is not what the command wants there, as this says.
+    #[error("{0}")]
+    Word(&'static str),
 }
 
 impl From<Fault> for Refusal {
@@ -67,9 +76,10 @@ pub fn at<T>(path: &str, given: io::Result<T>) -> Result<T, Failure<'_>> {
 
 impl Failure<'_> {
     /// Why a command is refused that needed the file. What the system said is told.
-    fn into_refusal(self, rt: &HostRuntime) -> Refusal {
+    pub fn into_refusal(self, rt: &HostRuntime) -> Refusal {
         match self {
             Failure::Refused(refusal, _) => refusal,
+            Failure::NoStore(_) => Refusal::For("not empty"),
             Failure::CannotOpen(_, error) if error.kind() == ErrorKind::OutOfMemory => {
                 Refusal::For("memory")
             }

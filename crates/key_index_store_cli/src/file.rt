@@ -1,12 +1,14 @@
-//! The files of stores: how they are opened and locked, and how a fresh one takes its place.
+//! The files of stores: how they are opened and locked.
 
 use crate::failure::{Failure, Refusal, at, tell};
 use key_index_store::file_device::FileDevice;
+use key_index_store::file_folder::{FileFolder, folder_of};
+use key_index_store::folder::Folder;
 use key_index_store::headed::{Headed, OpenError};
-use std::fs::{File, Metadata, OpenFile, OpenOptions, TryLockError};
+use key_index_store::place::{NameFault, Place};
+use std::fs::{File, Metadata, OpenOptions, TryLockError};
 use std::io::ErrorKind;
 use std::os::fd::AsRawFd;
-use std::os::unix::fs::MetadataExt;
 use std::path::Path;
 use std::{fs, io};
 
@@ -16,23 +18,13 @@ pub type Disk = Headed<FileDevice>;
 /// Where nothing is read or written.
 const NULL: &str = "/dev/null";
 
-/// Opens a file for reading, and where that is asked for writing. One that isn't there is made where that is asked.
-pub fn open(rt: &HostRuntime, path: &str, writes: bool, creates: bool) -> io::Result<File> {
-    let mut how = OpenOptions::new();
-    how.read(true).write(writes).create(creates);
-    how.open(rt, path)
-}
-
-/// Makes a file for reading and writing where there is none.
-pub fn create(rt: &HostRuntime, path: &str) -> io::Result<File> {
-    let mut how = OpenOptions::new();
-    how.read(true).write(true).create_new(true);
-    how.open(rt, path)
-}
+/// What the system limits of this process.
+const LIMITS: &str = "/proc/self/limits";
 
 /// A file at the number of a standard stream, if one is closed.
 fn null<'a>(rt: &HostRuntime) -> Result<File, Failure<'a>> {
-    at(NULL, open(rt, NULL, true, false))
+    let mut how = OpenOptions::new();
+    at(NULL, how.read(true).write(true).open(rt, NULL))
 }
 
 /// Files for the standard streams that are closed. Without them, the file of a store could get the number of one.
@@ -46,49 +38,39 @@ pub fn fill_streams<'a>(rt: &HostRuntime) -> Result<[File; 3], Failure<'a>> {
     Ok(files)
 }
 
-/// Whether a file is the one that is at a path now.
-pub fn is_at(rt: &HostRuntime, file: &File, path: &str) -> io::Result<bool> {
-    let (own, there) = (file.metadata()?, fs::metadata(rt, path)?);
-    Ok(own.dev() == there.dev() && own.ino() == there.ino())
-}
-
-/// Locks the file that was opened at a path, for this process alone or for all that read it. Another file may be there by then.
-pub fn lock<'a>(
-    rt: &HostRuntime,
-    file: &File,
-    path: &'a str,
-    is_shared: bool,
-) -> Result<(), Failure<'a>> {
+/// Locks a file that was opened at a path, for this process alone or for all that read it.
+pub fn lock<'a>(file: &File, path: &'a str, is_shared: bool) -> Result<(), Failure<'a>> {
     let locked = if is_shared {
         file.try_lock_shared()
     } else {
         file.try_lock()
     };
-    let is_held = match locked {
-        Ok(()) => is_at(rt, file, path),
-        Err(TryLockError::WouldBlock) => Ok(false),
-        Err(TryLockError::Error(error)) => Err(error),
-    };
-    match is_held {
-        Ok(true) => Ok(()),
-        Ok(false) => Err(Failure::Refused(Refusal::For("busy"), path)),
-        Err(error) => Err(Failure::CannotOpen(path, error)),
+    match locked {
+        Ok(()) => Ok(()),
+        Err(TryLockError::WouldBlock) => Err(Failure::Refused(Refusal::For("busy"), path)),
+        Err(TryLockError::Error(error)) => Err(Failure::CannotOpen(path, error)),
     }
 }
 
-/// What stands behind the header of a file. It is refused with `no_store` where it is no store's.
-pub fn headed<'a>(
-    rt: &HostRuntime,
-    file: File,
-    path: &'a str,
-    no_store: &'static str,
-) -> Result<Disk, Failure<'a>> {
-    match Headed::open(rt.alloc(), FileDevice::new(file)) {
+/// How many bytes a file may have that this process writes, where the system says it.
+fn size_limit(rt: &HostRuntime) -> u64 {
+    let limits = fs::read_to_string(rt, LIMITS).ok();
+    let limits = limits.as_ref().map_or("", |limits| limits.as_str());
+    let mut behind = limits.split("Max file size ").skip(1);
+    let mut words = behind.next().unwrap_or("").split_ascii_whitespace();
+    words.next().unwrap_or("").parse().unwrap_or(u64::MAX)
+}
+
+/// What stands behind the header of a file.
+pub fn headed<'a>(rt: &HostRuntime, file: File, path: &'a str) -> Result<Disk, Failure<'a>> {
+    match Headed::open(rt.alloc(), FileDevice::new(file, size_limit(rt))) {
         Ok(disk) => Ok(disk),
         Err(refused) => {
             let reason = match refused.reason {
                 OpenError::ReadFailed => "read",
-                OpenError::NoStore => no_store,
+                OpenError::NoStore => return Err(Failure::NoStore(path)),
+                OpenError::OlderVersion => "older version",
+                OpenError::NewerVersion => "newer version",
             };
             Err(Failure::Refused(Refusal::For(reason), path))
         }
@@ -105,57 +87,98 @@ pub fn check_regular(path: &str, metadata: io::Result<Metadata>) -> Result<(), F
 
 /// A file of a store.
 #[derive(Drop)]
-pub struct Opened {
+pub struct Opened<'a> {
     /// What stands behind its header.
     pub disk: Disk,
-    /// It was not there before.
-    pub is_new: bool,
+    /// Where its name is.
+    pub place: Place<FileFolder<'a>>,
     /// It may not be written.
     pub is_read_only: bool,
 }
 
-/// The file at a path, which is made where there is none, and locked.
-pub fn open_store<'a>(rt: &HostRuntime, path: &'a str) -> Result<Opened, Failure<'a>> {
-    let (mut is_new, mut is_read_only) = (false, false);
-    let opened = match open(rt, path, true, false) {
+/// The name that a path leads to, by links that end there, or by one that leads to a file that isn't there.
+fn real_name(rt: &HostRuntime, path: &str) -> io::Result<String> {
+    match fs::canonicalize(rt, path) {
+        Err(error) if error.kind() == ErrorKind::NotFound => {}
+        found => return Ok(found?.into_os_string()),
+    }
+    let Ok(target) = fs::read_link(rt, path) else {
+        return Ok(String::from_str(rt.alloc(), path)?);
+    };
+    match Path::new(path).parent() {
+        Some(folder) => Ok(folder.join(rt.alloc(), target)?.into_os_string()),
+        None => Ok(target.into_os_string()),
+    }
+}
+
+/// The file at a path, locked. Unless it is only read, it is made where there is none. Without its header it has to be only read.
+pub fn open_store<'a>(
+    rt: &'a HostRuntime,
+    path: &'a str,
+    reads_only: bool,
+    is_headless: bool,
+) -> Result<Opened<'a>, Failure<'a>> {
+    let name = at(path, real_name(rt, path))?;
+    let mut folder = FileFolder::new(rt);
+    let mut is_read_only = reads_only;
+    let opened = match folder.open(name.as_str(), !reads_only) {
         Err(error) => match error.kind() {
-            ErrorKind::NotFound => {
-                is_new = true;
-                open(rt, path, true, true)
-            }
+            ErrorKind::NotFound if !reads_only => folder.make(name.as_str()),
             ErrorKind::PermissionDenied | ErrorKind::ReadOnlyFilesystem => {
                 is_read_only = true;
-                open(rt, path, false, false)
+                folder.open(name.as_str(), false)
             }
             _ => Err(error),
         },
         opened => opened,
     };
-    let file = at(path, opened)?;
+    let (file, identity) = at(path, opened)?;
     check_regular(path, file.metadata())?;
-    lock(rt, &file, path, is_read_only)?;
+    lock(&file, path, is_read_only)?;
+    let mut place = Place::new(folder, name, identity);
+    // Another file may be there by now.
+    match place.is_there() {
+        Ok(true) => {}
+        Err(NameFault::Failed(error)) => return Err(Failure::CannotOpen(path, error)),
+        _ => return Err(Failure::Refused(Refusal::For("busy"), path)),
+    }
+    let disk = if is_headless {
+        Headed::headless(rt.alloc(), FileDevice::new(file, size_limit(rt)))
+    } else {
+        headed(rt, file, path)?
+    };
     Ok(Opened {
-        disk: headed(rt, file, path, "no store")?,
-        is_new,
+        disk,
+        place,
         is_read_only,
     })
 }
 
-/// Forces the name of a file to the disk.
-pub fn sync_folder(rt: &HostRuntime, path: &str) -> Result<(), Refusal> {
-    let folder = match Path::new(path).parent() {
-        Some(folder) if folder.to_string_lossy() != "" => folder.to_string_lossy(),
-        _ => ".",
+/// Whether a name is one of the fresh files beside a file, by what follows the file's own name in it.
+fn is_fresh(behind: &str) -> bool {
+    match behind.as_bytes() {
+        [b'.', number @ .., b'.', b'p', b'a', b'r', b't'] => {
+            number.len() == 16 && number.iter().all(|byte| byte.is_ascii_hexdigit())
+        }
+        _ => false,
+    }
+}
+
+/// Tells which fresh files an interrupted command left beside a file. None is removed.
+pub fn tell_left_over(rt: &HostRuntime, name: &str) {
+    let path = Path::new(name);
+    let Some(file) = path.file_name() else {
+        return;
     };
-    let synced = match open(rt, folder, false, false) {
-        Ok(folder) => folder.sync_all(),
-        Err(error) => Err(error),
+    let Ok(entries) = fs::read_dir(rt, folder_of(name)) else {
+        return;
     };
-    match synced {
-        Ok(()) => Ok(()),
-        Err(error) => {
-            tell(rt, Failure::CannotOpen(folder, error));
-            Err(Refusal::For("sync"))
+    for entry in entries {
+        let Ok(entry) = entry else {
+            return;
+        };
+        if entry.file_name().strip_prefix(file).is_some_and(is_fresh) {
+            tell(rt, format_args!("left over: {}", entry.path().as_str()));
         }
     }
 }

@@ -1,12 +1,22 @@
 //! One line of input, parsed into a command.
-ghost use Rattle.std.specs.Prelude.{◌<◌, ◌≤◌, IfOk, length};
+ghost use Rattle.std.specs.Prelude.{◌≤◌, length};
 
 use crate::failure::Refusal;
+use crate::help::form_of;
 use std::alloc::Global;
-use std::str;
+use std::{fmt, str};
 
-/// How many words a command has at most.
-const WORDS: usize = 3;
+/// How many bytes are shown of what is no command.
+const SHOWN: usize = 32;
+
+/// Why a word is not the one that a row of the help names so.
+const K: &str = "K is neither hexadecimal nor a text in quotes";
+
+const V: &str = "V is neither hexadecimal nor a text in quotes";
+
+const N: &str = "N is no decimal number below 2^64";
+
+const FILE2: &str = "FILE2 is no name of a file";
 
 /// What a line says.
 #[derive(Drop)]
@@ -18,6 +28,7 @@ pub enum Command {
     Count,
     Sync,
     Cut,
+    Help,
     /// With the name of a file.
     Salvage(String),
     InOrder(InOrder),
@@ -48,106 +59,73 @@ enum Word<'a> {
     Text(Vec<u8>),
 }
 
-/// The value of a hexadecimal digit of either case.
-fn digit(byte: u8) -> Result<u8, Refusal>
-    ensures { IfOk result (λ value. value < 16) }
-{
-    let value = char::from(byte).to_digit(16);
-    Ok(value.ok_or(Refusal::NoCommand)? as u8)
+/// The value of a hexadecimal digit of either case, and 16 of what is none.
+fn digit(byte: u8) -> u8 {
+    match byte {
+        b'0'..=b'9' => byte - b'0',
+        b'a'..=b'f' => byte - b'a' + 10,
+        b'A'..=b'F' => byte - b'A' + 10,
+        _ => 16,
+    }
+}
+
+/// The byte of two hexadecimal digits.
+fn byte_of(high: u8, low: u8) -> Option<u8> {
+    let (high, low) = (digit(high), digit(low));
+    if high < 16 && low < 16 {
+        Some(16 * high + low)
+    } else {
+        None
+    }
 }
 
 /// The bytes that a plain word writes: two hexadecimal digits for each, or `-` for none.
-fn bytes_of(alloc: Global, word: &[u8]) -> Result<Vec<u8>, Refusal> {
-    let mut bytes = Vec::new(alloc);
+fn bytes_of(alloc: Global, word: &[u8], wrong: &'static str) -> Result<Vec<u8>, Refusal> {
+    let (pairs, odd) = word.as_chunks::<2>();
     if word == b"-".as_slice() {
-        return Ok(bytes);
+        return Ok(Vec::new(alloc));
     }
-    for pair in word.chunks(2) {
-        let [high, low] = pair else {
-            return Err(Refusal::NoCommand);
+    if pairs.is_empty() || !odd.is_empty() {
+        return Err(Refusal::Word(wrong));
+    }
+    let mut bytes = vec![in alloc; 0; pairs.len()]?;
+    for (byte, pair) in bytes.iter_mut().zip(pairs) {
+        let Some(value) = byte_of(pair[0], pair[1]) else {
+            return Err(Refusal::Word(wrong));
         };
-        let (high, low) = (digit(*high)?, digit(*low)?);
-        bytes.push(16 * high + low)?;
+        *byte = value;
     }
-    if bytes.is_empty() {
-        Err(Refusal::NoCommand)
-    } else {
-        Ok(bytes)
-    }
-}
-
-impl Word<'_> {
-    /// The bytes of a key or a value.
-    fn bytes(self, alloc: Global) -> Result<Vec<u8>, Refusal> {
-        match self {
-            Word::Plain(word) => bytes_of(alloc, word),
-            Word::Text(text) => Ok(text),
-        }
-    }
-
-    /// The name of a file.
-    fn name(self, alloc: Global) -> Result<String, Refusal> {
-        let bytes = match self {
-            Word::Plain(word) => Vec::from_slice(alloc, word)?,
-            Word::Text(text) => text,
-        };
-        let Ok(name) = String::from_utf8(bytes) else {
-            return Err(Refusal::NoCommand);
-        };
-        if name.is_empty() {
-            return Err(Refusal::NoCommand);
-        }
-        Ok(name)
-    }
-
-    fn number(self) -> Result<u64, Refusal> {
-        let Word::Plain(word) = self else {
-            return Err(Refusal::NoCommand);
-        };
-        // Rust's parser takes a sign.
-        for byte in word {
-            if !byte.is_ascii_digit() {
-                return Err(Refusal::NoCommand);
-            }
-        }
-        let number = str::from_utf8(word).unwrap_or("").parse().ok();
-        number.ok_or(Refusal::NoCommand)
-    }
+    Ok(bytes)
 }
 
 /// The text behind a quote, and what follows the quote at its end.
-fn text_of(alloc: Global, line: &[u8]) -> Result<(Word<'_>, &[u8]), Refusal> {
+fn text_of<'a>(
+    alloc: Global,
+    line: &'a [u8],
+    wrong: &'static str,
+) -> Result<(Word<'a>, &'a [u8]), Refusal> {
     let mut text = Vec::new(alloc);
     let mut rest = line;
-    let mut is_escaped = false;
-    for _ in 0..line.len() {
-        let Some((byte, behind)) = rest.split_first() else {
-            break;
+    for _ in 0..=line.len() {
+        let front = rest
+            .split(|byte| *byte == b'"' || *byte == b'\\')
+            .next()
+            .unwrap_or(rest);
+        let (front, mark) = rest.split_at(front.len());
+        text.extend_from_slice(front)?;
+        let (byte, behind) = match mark {
+            [b'"', behind @ ..] => return Ok((Word::Text(text), behind)),
+            [b'\\', b'x', high, low, behind @ ..] => {
+                (byte_of(*high, *low).ok_or(Refusal::Word(wrong))?, behind)
+            },
+            [b'\\', b'n', behind @ ..] => (b'\n', behind),
+            [b'\\', byte @ (b'"' | b'\\'), behind @ ..] => (*byte, behind),
+            _ => break,
         };
+        text.push(byte)?;
         rest = behind;
-        let is_mark = *byte == b'"' || *byte == b'\\';
-        if is_mark == is_escaped {
-            text.push(*byte)?;
-            is_escaped = false;
-        } else if is_escaped {
-            break;
-        } else if *byte == b'"' {
-            return Ok((Word::Text(text), rest));
-        } else {
-            is_escaped = true;
-        }
     }
-    Err(Refusal::NoCommand)
-}
-
-/// The word at the front of a line, and what follows it.
-fn word_of(alloc: Global, line: &[u8]) -> Result<(Word<'_>, &[u8]), Refusal> {
-    if let [b'"', rest @ ..] = line {
-        return text_of(alloc, rest);
-    }
-    let word = first_word(line);
-    let (_, behind) = line.split_at(word.len());
-    Ok((Word::Plain(word), behind))
+    Err(Refusal::Word(wrong))
 }
 
 /// The bytes of a line in front of its first space.
@@ -157,111 +135,127 @@ pub fn first_word(line: &[u8]) -> &[u8]
     line.split(|byte| *byte == b' ').next().unwrap_or(line)
 }
 
-/// The words of a line, which single spaces separate.
-fn words_of(alloc: Global, line: &[u8]) -> Result<Vec<Word<'_>>, Refusal> {
-    let mut words = Vec::new(alloc);
-    let mut rest = line;
-    for _ in 0..WORDS {
-        let (word, behind) = word_of(alloc, rest)?;
-        words.push(word)?;
-        match behind {
-            [] => return Ok(words),
-            [b' ', others @ ..] => rest = others,
-            _ => return Err(Refusal::NoCommand),
-        }
-    }
-    Err(Refusal::NoCommand)
-}
-
-/// The words behind the name of a command.
+/// The words of a line that are not read yet, each behind a space.
 #[derive(Drop)]
 struct Words<'a> {
-    first: Option<Word<'a>>,
-    second: Option<Word<'a>>,
+    alloc: Global,
+    rest: &'a [u8],
 }
 
 impl<'a> Words<'a> {
-    /// A command that has no words.
-    fn none<T: Drop>(self, command: T) -> Result<T, Refusal> {
-        match self.first {
-            None => Ok(command),
-            Some(_) => Err(Refusal::NoCommand),
+    /// The next word.
+    fn word(&mut self, wrong: &'static str) -> Result<Word<'a>, Refusal> {
+        let [b' ', rest @ ..] = self.rest else {
+            return Err(Refusal::NoCommand);
+        };
+        let (word, behind) = if let [b'"', text @ ..] = rest {
+            text_of(self.alloc, text, wrong)?
+        } else {
+            let (word, behind) = rest.split_at(first_word(rest).len());
+            (Word::Plain(word), behind)
+        };
+        self.rest = behind;
+        Ok(word)
+    }
+
+    /// The bytes of a key or a value.
+    fn bytes(&mut self, wrong: &'static str) -> Result<Vec<u8>, Refusal> {
+        match self.word(wrong)? {
+            Word::Plain(word) => bytes_of(self.alloc, word, wrong),
+            Word::Text(text) => Ok(text),
         }
     }
 
-    /// The bytes of the only word, a key.
-    fn key(self, alloc: Global) -> Result<Vec<u8>, Refusal> {
-        match (self.first, self.second) {
-            (Some(key), None) => key.bytes(alloc),
-            _ => Err(Refusal::NoCommand),
+    /// The name of a file.
+    fn name(&mut self) -> Result<String, Refusal> {
+        let bytes = match self.word(FILE2)? {
+            Word::Plain(word) => Vec::from_slice(self.alloc, word)?,
+            Word::Text(text) => text,
+        };
+        let Ok(name) = String::from_utf8(bytes) else {
+            return Err(Refusal::Word(FILE2));
+        };
+        if name.is_empty() {
+            return Err(Refusal::Word(FILE2));
         }
+        Ok(name)
     }
 
-    /// The name of a file, the only word.
-    fn file(self, alloc: Global) -> Result<String, Refusal> {
-        match (self.first, self.second) {
-            (Some(file), None) => file.name(alloc),
-            _ => Err(Refusal::NoCommand),
+    fn number(&mut self) -> Result<u64, Refusal> {
+        let Word::Plain(word) = self.word(N)? else {
+            return Err(Refusal::Word(N));
+        };
+        // Rust's parser takes a sign.
+        if !word.iter().all(|byte| byte.is_ascii_digit()) {
+            return Err(Refusal::Word(N));
         }
-    }
-
-    /// The bytes of a key, and the word behind it.
-    fn key_and(self, alloc: Global) -> Result<(Vec<u8>, Word<'a>), Refusal> {
-        match (self.first, self.second) {
-            (Some(key), Some(second)) => Ok((key.bytes(alloc)?, second)),
-            _ => Err(Refusal::NoCommand),
-        }
+        let number = str::from_utf8(word).unwrap_or("").parse().ok();
+        number.ok_or(Refusal::Word(N))
     }
 }
 
 /// What a line says, without its end.
 pub fn parse(alloc: Global, line: &[u8]) -> Result<Command, Refusal> {
-    let mut words = words_of(alloc, line)?.into_iter();
-    let Some(Word::Plain(name)) = words.next() else {
-        return Err(Refusal::NoCommand);
-    };
-    let words = Words {
-        first: words.next(),
-        second: words.next(),
-    };
+    let (name, rest) = line.split_at(first_word(line).len());
+    let mut words = Words { alloc, rest };
     let command = match str::from_utf8(name).unwrap_or("") {
-        "put" => {
-            let (key, value) = words.key_and(alloc)?;
-            Command::Put(key, value.bytes(alloc)?)
-        }
-        "get" => Command::Get(words.key(alloc)?),
-        "has" => Command::Has(words.key(alloc)?),
-        "delete" => Command::Delete(words.key(alloc)?),
-        "count" => words.none(Command::Count)?,
-        "sync" => words.none(Command::Sync)?,
-        "cut" => words.none(Command::Cut)?,
-        "salvage" => Command::Salvage(words.file(alloc)?),
-        name => Command::InOrder(in_order(alloc, name, words)?),
+        "put" => Command::Put(words.bytes(K)?, words.bytes(V)?),
+        "get" => Command::Get(words.bytes(K)?),
+        "has" => Command::Has(words.bytes(K)?),
+        "delete" => Command::Delete(words.bytes(K)?),
+        "count" => Command::Count,
+        "sync" => Command::Sync,
+        "cut" => Command::Cut,
+        "help" => Command::Help,
+        "salvage" => Command::Salvage(words.name()?),
+        name => Command::InOrder(in_order(name, &mut words)?),
+    };
+    if words.rest.is_empty() {
+        Ok(command)
+    } else {
+        Err(Refusal::NoCommand)
+    }
+}
+
+/// A command that asks for the order of the keys, by its name and the words behind it.
+fn in_order(name: &str, words: &mut Words<'_>) -> Result<InOrder, Refusal> {
+    let command = match name {
+        "next" => InOrder::Next(words.bytes(K)?),
+        "prev" => InOrder::Prev(words.bytes(K)?),
+        "absent" => InOrder::Absent(words.bytes(K)?),
+        "first" => InOrder::First,
+        "last" => InOrder::Last,
+        "scan" => InOrder::Scan(words.bytes(K)?, words.number()?),
+        "scan-prefix" => InOrder::ScanPrefix(words.bytes(K)?, words.number()?),
+        "dead" => InOrder::Dead,
+        "compact" if words.rest.is_empty() => InOrder::Compact(None),
+        "compact" => InOrder::Compact(Some(words.name()?)),
+        "move" => InOrder::Move(words.name()?),
+        _ => return Err(Refusal::NoCommand),
     };
     Ok(command)
 }
 
-/// A command that asks for the order of the keys, by its name and the words behind it.
-fn in_order(alloc: Global, name: &str, words: Words<'_>) -> Result<InOrder, Refusal> {
-    let command = match name {
-        "next" => InOrder::Next(words.key(alloc)?),
-        "prev" => InOrder::Prev(words.key(alloc)?),
-        "absent" => InOrder::Absent(words.key(alloc)?),
-        "first" => words.none(InOrder::First)?,
-        "last" => words.none(InOrder::Last)?,
-        "scan" => {
-            let (key, count) = words.key_and(alloc)?;
-            InOrder::Scan(key, count.number()?)
+/// What is wrong with a line that is no command.
+#[derive(Clone, Copy)]
+pub struct Wrong<'a>(pub &'a [u8], pub &'a Refusal);
+
+impl fmt::Display for Wrong<'_> {
+    fn fmt<W: fmt::Write>(&self, f: &mut fmt::Formatter<W>) -> fmt::Result {
+        if let Refusal::Word(wrong) = self.1 {
+            return f.write_str(wrong);
         }
-        "scan-prefix" => {
-            let (key, count) = words.key_and(alloc)?;
-            InOrder::ScanPrefix(key, count.number()?)
-        }
-        "dead" => words.none(InOrder::Dead)?,
-        "compact" if words.first.is_none() => InOrder::Compact(None),
-        "compact" => InOrder::Compact(Some(words.file(alloc)?)),
-        "move" => InOrder::Move(words.file(alloc)?),
-        _ => return Err(Refusal::NoCommand),
-    };
-    Ok(command)
+        let name = first_word(self.0);
+        let shown = name.get(..SHOWN).unwrap_or(name).escape_ascii();
+        let Some(form) = form_of(name) else {
+            return write!(f, "{shown} is no command; help lists them");
+        };
+        let wanted = match form.split(' ').count() {
+            1 => "no words",
+            2 if form.ends_with(']') => "1 word at most",
+            2 => "1 word",
+            _ => "2 words",
+        };
+        write!(f, "{shown} wants {wanted}: {form}")
+    }
 }

@@ -2,6 +2,7 @@
 #![tactic(auto)]
 
 mod answer;
+mod counter;
 mod failure;
 mod file;
 mod fresh;
@@ -11,17 +12,17 @@ mod order;
 mod session;
 
 use failure::{Failure, Refusal, tell};
-use file::{fill_streams, open_store};
-use help::{HELP, VERSION};
+use file::{fill_streams, open_store, tell_left_over};
+use help::{COMMANDS, HELP, STATUS, VERSION};
 use key_index_flat::index::{Factory, ordered, unordered};
 use key_index_flat::translator::{EightCap, Hashed, SeededSha256};
 use key_index_parts::index::partitioned::{ordered as pordered, unordered as punordered};
-use key_index_store::store::Store;
+use key_index_store::store::{Store, Tail};
 use key_index_store::translator::ThirtyTwoCap;
 use order::{Order, With, Without};
 use session::{Context, Options, Session};
 use std::env;
-use std::io::{BufReader, BufWriter, ErrorKind, Write};
+use std::io::{BufReader, BufWriter, ErrorKind, IsTerminal, Write};
 use std::process::ExitCode;
 use std::random::RandomSource;
 
@@ -30,9 +31,9 @@ const BUFFER: usize = 65536;
 
 /// Runs the commands on the file at a path, over an index of a kind. Gives whether all went well.
 fn over<'a, I: Factory<Translator = T, Value = u64> + Drop, O: Order<I, T>, T: Copy>(
-    rt: &HostRuntime,
+    rt: &'a HostRuntime,
     path: &'a str,
-    options: Options,
+    mut options: Options,
     translator: T,
 ) -> Result<bool, Failure<'a>>
     requires { I.makes }
@@ -44,7 +45,9 @@ fn over<'a, I: Factory<Translator = T, Value = u64> + Drop, O: Order<I, T>, T: C
     let Ok(index) = I::new(alloc, translator) else {
         return Err(Failure::Refused(Refusal::For("memory"), path));
     };
-    let opened = open_store(rt, path)?;
+    options.keeps_going |= rt.stdin().is_terminal();
+    let opened = open_store(rt, path, options.reads_only, options.is_headless)?;
+    tell_left_over(rt, opened.place.name());
     let store = match Store::open(alloc, opened.disk, index) {
         Ok(store) => store,
         Err(error) => return Err(Failure::Refused(Refusal::from(error.fault), path)),
@@ -52,9 +55,8 @@ fn over<'a, I: Factory<Translator = T, Value = u64> + Drop, O: Order<I, T>, T: C
     let context = Context {
         rt,
         options,
-        path: String::from_str(alloc, path)?,
+        place: opened.place,
         is_read_only: opened.is_read_only,
-        is_new: opened.is_new,
         is_changed: false,
         is_well: true,
     };
@@ -66,7 +68,8 @@ fn over<'a, I: Factory<Translator = T, Value = u64> + Drop, O: Order<I, T>, T: C
     session.tell_tail();
     let ended = session.run_lines::<O>(&mut input, &mut output);
     let flushed = output.flush();
-    let is_well = session.finish();
+    let is_whole = !matches!(session.store.tail(), Ok(Tail::Damaged));
+    let is_well = session.finish() && is_whole;
     ended?;
     flushed?;
     Ok(is_well)
@@ -74,7 +77,7 @@ fn over<'a, I: Factory<Translator = T, Value = u64> + Drop, O: Order<I, T>, T: C
 
 /// Runs the commands over an index of the kind of a name.
 fn over_kind<'a>(
-    rt: &HostRuntime,
+    rt: &'a HostRuntime,
     path: &'a str,
     kind: &str,
     options: Options,
@@ -103,26 +106,35 @@ fn over_kind<'a>(
     }
 }
 
-fn print<'a>(rt: &HostRuntime, text: &str) -> Result<bool, Failure<'a>> {
-    writeln!(rt.stdout(), "{text}")?;
+fn print<'a>(rt: &HostRuntime, texts: &[&str]) -> Result<bool, Failure<'a>> {
+    for text in texts {
+        writeln!(rt.stdout(), "{text}")?;
+    }
     Ok(true)
 }
 
 /// Runs the program on the words behind its name. Gives whether all went well.
-fn run<'a>(rt: &HostRuntime, words: &'a [String]) -> Result<bool, Failure<'a>> {
+fn run<'a>(rt: &'a HostRuntime, words: &'a [String]) -> Result<bool, Failure<'a>> {
     let mut options = Options {
         is_text: false,
         is_durable: false,
+        reads_only: false,
         keeps_going: false,
+        is_headless: false,
     };
     let mut names: Vec<&str> = Vec::new(rt.alloc());
     for word in words {
         match word.as_str() {
-            "--help" => return print(rt, HELP),
-            "--version" => return print(rt, VERSION),
+            "--help" | "-h" => return print(rt, &[HELP, COMMANDS, STATUS]),
+            "--version" => return print(rt, &[VERSION]),
             "--text" => options.is_text = true,
             "--durable" => options.is_durable = true,
+            "--read-only" => options.reads_only = true,
             "--keep-going" => options.keeps_going = true,
+            "--headless" => {
+                options.is_headless = true;
+                options.reads_only = true;
+            }
             flag if flag.starts_with("--") => return Err(Failure::Usage),
             name => names.push(name)?,
         }

@@ -1,16 +1,13 @@
 //! The commands that ask for the order of the keys, which not every kind of index keeps.
 
 use crate::answer::{Answer, Answered, Entry};
-use crate::failure::{Refusal, at, needed};
-use crate::file::{Disk, sync_folder};
-use crate::fresh::Fresh;
+use crate::failure::Refusal;
+use crate::fresh::{make, refusal_of};
 use crate::line::InOrder;
 use crate::session::{DONE, Output, Session};
 use key_index_flat::index::{Factory, Ordered};
-use key_index_store::device::Device;
 use key_index_store::record::HEAD;
-use key_index_store::store::{Store, Tail};
-use std::fs;
+use key_index_store::store::Tail;
 
 /// How many bytes a record takes besides its key and its value.
 const FRAME: u64 = HEAD as u64 + 8;
@@ -46,16 +43,8 @@ impl<I: Ordered<Value = u64> + Factory<Translator = T> + Drop, T: Copy> Order<I,
             InOrder::ScanPrefix(key, count) => session.scan(&key, count, &key, output),
             InOrder::Dead => session.dead(),
             InOrder::Compact(None) => session.compact(),
-            InOrder::Compact(Some(target)) => {
-                session.copy(target.as_str(), false)?;
-                sync_folder(session.context.rt, target.as_str())?;
-                Ok(DONE)
-            }
-            InOrder::Move(target) => {
-                let store = session.copy(target.as_str(), false)?;
-                session.context.path = target;
-                session.go_on(store)
-            }
+            InOrder::Compact(Some(target)) => session.copy_to(target.as_str()),
+            InOrder::Move(target) => session.move_to(Some(target.as_str())),
         }
     }
 }
@@ -104,33 +93,39 @@ impl<I: Ordered<Value = u64> + Factory<Translator = T> + Drop, T: Copy> Session<
         Ok(Answer::Number("dead", left))
     }
 
-    /// A store over a fresh file at a path, with a record of each key.
-    fn copy(&mut self, target: &str, is_own: bool) -> Result<Store<Disk, I>, Refusal>
+    /// Copies the store to a fresh file at a path.
+    fn copy_to(&mut self, target: &str) -> Answered
         requires { I.makes }
     {
-        let rt = self.context.rt;
+        let (rt, place) = (self.context.rt, &mut self.context.place);
         let Ok(index) = I::new(rt.alloc(), self.translator) else {
             return Err(Refusal::For("memory"));
         };
-        let (fresh, disk) = Fresh::new(rt, target, self.context.path.as_str(), is_own)?;
-        let synced = match self.store.compact(disk, index) {
-            Ok(mut store) => match store.sync() {
-                Ok(()) => Ok(store),
-                Err(_) => Err(Refusal::For("write")),
-            },
-            Err(refused) => Err(Refusal::from(refused.fault)),
-        };
-        fresh.settle(rt, synced)
+        let (fresh, disk, _empty) = make(rt, place, Some(target))?;
+        match place.copy_to(&mut self.store, &fresh, disk, index) {
+            Ok(()) => Ok(DONE),
+            Err(fault) => Err(refusal_of(rt, target, fault)),
+        }
     }
 
-    /// Goes on over another file, which has all that was written.
-    fn go_on(&mut self, store: Store<Disk, I>) -> Answered {
-        self.store = store;
-        self.context.is_changed = false;
-        self.context.is_read_only = false;
-        // Until the folder is on the disk.
-        self.context.is_new = true;
-        self.sync()
+    /// Goes on over a copy, at a path or in the place of the file.
+    fn move_to(&mut self, target: Option<&str>) -> Answered
+        requires { I.makes }
+    {
+        let (rt, place) = (self.context.rt, &mut self.context.place);
+        let Ok(index) = I::new(rt.alloc(), self.translator) else {
+            return Err(Refusal::For("memory"));
+        };
+        let (fresh, disk, _empty) = make(rt, place, target)?;
+        match place.move_to(&mut self.store, fresh, disk, index) {
+            Ok(copy) => {
+                self.store = copy;
+                self.context.is_read_only = false;
+                self.context.is_changed = true;
+                self.sync()
+            }
+            Err(fault) => Err(refusal_of(rt, place.name(), fault)),
+        }
     }
 
     /// Puts a copy in the place of the file. A file with damage is kept, since a copy has nothing that stands behind it.
@@ -141,10 +136,6 @@ impl<I: Ordered<Value = u64> + Factory<Translator = T> + Drop, T: Copy> Session<
         if self.store.tail()? == Tail::Damaged {
             return Err(Refusal::For("damaged"));
         }
-        // Where the name is that of a link, the file that it leads to is replaced.
-        let (rt, path) = (self.context.rt, self.context.path.as_str());
-        let path = needed(rt, at(path, fs::canonicalize(rt, path)))?;
-        let store = self.copy(path.as_str(), true)?;
-        self.go_on(store)
+        self.move_to(None)
     }
 }

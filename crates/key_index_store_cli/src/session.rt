@@ -1,22 +1,23 @@
 //! A session: commands, and a line that answers each.
 
-use crate::answer::{Answer, Answered, Entry, Line};
+use crate::answer::{Answer, Answered, Bytes, Entry, Line};
+use crate::counter::Counter;
 use crate::failure::{Refusal, tell};
-use crate::file::{Disk, sync_folder};
-use crate::fresh::Fresh;
-use crate::line::{Command, first_word, parse};
+use crate::file::Disk;
+use crate::fresh::{make, refusal_of};
+use crate::help::COMMANDS;
+use crate::line::{Command, Wrong, parse};
 use crate::order::Order;
 use key_index_flat::index::Factory;
-use key_index_store::device::Device;
+use key_index_store::file_folder::FileFolder;
+use key_index_store::place::Place;
+use key_index_store::salvage::LeftOut;
 use key_index_store::store::{Fault, Store, Tail};
 use std::io;
 use std::io::{BufRead, BufReader, BufWriter, Stdin, Stdout, Write};
 
 /// How many bytes of a file stand in front of its records.
 const HEADER: u64 = 16;
-
-/// How many bytes are shown of a line that is no command.
-const SHOWN: usize = 32;
 
 /// The answer to what was done.
 pub const DONE: Answer = Answer::Word("ok");
@@ -34,8 +35,12 @@ pub struct Options {
     pub is_text: bool,
     /// Each change is forced to the disk before it is answered.
     pub is_durable: bool,
+    /// The file is not written.
+    pub reads_only: bool,
     /// A line that is no command doesn't end the session.
     pub keeps_going: bool,
+    /// The file is only read, and its first bytes are taken for a header, whatever they are.
+    pub is_headless: bool,
 }
 
 /// What a session is besides its store.
@@ -45,12 +50,10 @@ pub struct Context<'a> {
     pub rt: &'a HostRuntime,
     /// What the flags ask.
     pub options: Options,
-    /// The name of the file.
-    pub path: String,
+    /// Where the file has its name.
+    pub place: Place<FileFolder<'a>>,
     /// The file may not be written.
     pub is_read_only: bool,
-    /// The disk may not have the file's name.
-    pub is_new: bool,
     /// The disk may not have what was written.
     pub is_changed: bool,
     /// No line was refused, and nothing failed.
@@ -66,13 +69,25 @@ impl Context<'_> {
         Ok(())
     }
 
-    /// Forces the file's name to the disk, which may not have it.
+    /// Refuses where the file has lost its name, and forces the name to the disk, if that may not have it.
     fn sync_name(&mut self) -> Result<(), Refusal> {
-        if self.is_new {
-            sync_folder(self.rt, self.path.as_str())?;
-            self.is_new = false;
+        match self.place.sync() {
+            Ok(()) => Ok(()),
+            Err(fault) => Err(refusal_of(self.rt, self.place.name(), fault)),
         }
-        Ok(())
+    }
+
+    /// Refuses a change to a file that may only be read, and a durable one to a file that has lost its name.
+    fn begin_change(&mut self) -> Result<(), Refusal> {
+        self.check_writable()?;
+        if !self.options.is_durable {
+            return Ok(());
+        }
+        match self.place.is_there() {
+            Ok(true) => Ok(()),
+            Ok(false) => Err(Refusal::For("gone")),
+            Err(fault) => Err(refusal_of(self.rt, self.place.name(), fault)),
+        }
     }
 
     /// Tells what stands behind the last whole record, from a place of the file on.
@@ -89,6 +104,28 @@ impl Context<'_> {
                 self.rt,
                 format_args!(
                     "damaged at {place}, {length} bytes behind it: put and delete are refused; salvage FILE saves what reads"
+                ),
+            ),
+        }
+    }
+
+    /// Tells of bytes that a salvage left out.
+    fn tell_gap(&self, gap: &LeftOut) {
+        let (place, length) = (gap.place.saturating_add(HEADER), gap.length);
+        match &gap.key {
+            Some(key) => {
+                let key = Bytes(key, self.options.is_text);
+                tell(
+                    self.rt,
+                    format_args!(
+                        "left out {length} bytes at {place}: a record of {key}, which may have an older value now"
+                    ),
+                );
+            }
+            None => tell(
+                self.rt,
+                format_args!(
+                    "left out {length} bytes at {place}: keys that are set in front of it may have older values"
                 ),
             ),
         }
@@ -128,11 +165,10 @@ impl Context<'_> {
         answered: &Answered,
         output: &mut Output,
     ) -> io::Result<bool> {
-        if let Err(Refusal::NoCommand) = answered {
+        if let Err(wrong @ (Refusal::NoCommand | Refusal::Word(_))) = answered {
             output.flush()?;
-            let word = first_word(line);
-            let word = word.get(..SHOWN).unwrap_or(word).escape_ascii();
-            tell(self.rt, format_args!("bad line {number}: {word}"));
+            let wrong = Wrong(line, wrong);
+            tell(self.rt, format_args!("bad line {number}: {wrong}"));
             self.is_well = false;
             return Ok(self.options.keeps_going);
         }
@@ -205,7 +241,7 @@ impl<I: Factory<Translator = T, Value = u64> + Drop, T: Copy> Session<'_, I> {
     }
 
     fn put(&mut self, key: &[u8], value: &[u8]) -> Answered {
-        self.context.check_writable()?;
+        self.context.begin_change()?;
         match self.store.put(key, value) {
             Ok(()) => self.changed(),
             Err(fault) => self.undone(fault),
@@ -213,7 +249,7 @@ impl<I: Factory<Translator = T, Value = u64> + Drop, T: Copy> Session<'_, I> {
     }
 
     fn delete(&mut self, key: &[u8]) -> Answered {
-        self.context.check_writable()?;
+        self.context.begin_change()?;
         match self.store.delete(key) {
             Ok(true) => self.changed(),
             Ok(false) => Ok(Answer::Word("none")),
@@ -227,12 +263,20 @@ impl<I: Factory<Translator = T, Value = u64> + Drop, T: Copy> Session<'_, I> {
     }
 
     fn cut(&mut self) -> Answered {
-        self.context.check_writable()?;
+        self.context.begin_change()?;
         let (place, length) = self.tail()?;
         if length != 0 {
+            let mut behind = Counter {
+                from: self.store.end(),
+                count: 0,
+            };
+            let is_read = self.store.salvage(&mut behind).is_ok();
+            let (count, more) = (behind.count, if is_read { "" } else { " or more" });
             tell(
                 self.context.rt,
-                format_args!("cuts off {length} bytes at {place}"),
+                format_args!(
+                    "cuts off {length} bytes at {place}, with {count} whole records{more}"
+                ),
             );
         }
         self.store.cut_tail()?;
@@ -240,18 +284,17 @@ impl<I: Factory<Translator = T, Value = u64> + Drop, T: Copy> Session<'_, I> {
     }
 
     fn salvage(&mut self, target: &str) -> Answered {
-        let rt = self.context.rt;
-        let (fresh, mut disk) = Fresh::new(rt, target, self.context.path.as_str(), false)?;
-        let salvaged = match self.store.salvage(&mut disk) {
-            Ok(salvaged) => match disk.sync() {
-                Ok(()) => Ok(Answer::Salvaged(salvaged.records, salvaged.left_out)),
-                Err(_) => Err(Refusal::For("write")),
-            },
-            Err(fault) => Err(Refusal::from(fault)),
-        };
-        let answer = fresh.settle(rt, salvaged)?;
-        sync_folder(rt, target)?;
-        Ok(answer)
+        let (rt, place) = (self.context.rt, &mut self.context.place);
+        let (fresh, mut disk, _empty) = make(rt, place, Some(target))?;
+        match place.salvage(&mut self.store, &fresh, &mut disk) {
+            Ok(salvaged) => {
+                for gap in &salvaged.gaps {
+                    self.context.tell_gap(gap);
+                }
+                Ok(Answer::Salvaged(salvaged.records, salvaged.left_out))
+            }
+            Err(fault) => Err(refusal_of(rt, target, fault)),
+        }
     }
 
     fn answer<O: Order<I, T>>(&mut self, command: Command, output: &mut Output) -> Answered
@@ -265,6 +308,7 @@ impl<I: Factory<Translator = T, Value = u64> + Drop, T: Copy> Session<'_, I> {
             Command::Count => Ok(Answer::Number("count", self.store.len() as u64)),
             Command::Sync => self.sync(),
             Command::Cut => self.cut(),
+            Command::Help => Ok(Answer::Word(COMMANDS)),
             Command::Salvage(target) => self.salvage(target.as_str()),
             Command::InOrder(command) => O::answer(self, command, output),
         }
@@ -284,6 +328,12 @@ impl<I: Factory<Translator = T, Value = u64> + Drop, T: Copy> Session<'_, I> {
             if !self.context.read_line(number, &mut line, input, output)? {
                 break;
             }
+            if line.is_empty() || line.starts_with(b"#") {
+                continue;
+            }
+            if line.as_slice() == b"quit".as_slice() {
+                break;
+            }
             let answered = match parse(alloc, &line) {
                 Ok(command) => self.answer::<O>(command, output),
                 Err(refusal) => Err(refusal),
@@ -300,7 +350,7 @@ impl<I: Factory<Translator = T, Value = u64> + Drop, T: Copy> Session<'_, I> {
         if self.context.is_changed && self.sync().is_err() {
             tell(
                 self.context.rt,
-                format_args!("cannot sync {}", self.context.path),
+                format_args!("cannot sync {}", self.context.place.name()),
             );
             return false;
         }

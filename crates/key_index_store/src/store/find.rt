@@ -4,6 +4,7 @@ ghost use Rattle.key_index_store.specs.Device.{IsRead, Sees};
 ghost use Rattle.key_index_store.specs.Indexed.{IsAt, IsLive, entry_at, match_of, value_in};
 ghost use Rattle.key_index_store.specs.Reads.{wanted};
 ghost use Rattle.key_index_store.specs.Record.{Complete, Entry, bytes_of, key_in, reading, record_length};
+ghost use Rattle.key_index_store.specs.Salvage.{step};
 ghost use Rattle.key_index_store.specs.Stored.{MayRead};
 
 use super::Fault;
@@ -45,12 +46,12 @@ pub(super) fn read_bytes<D: Device>(
     Ok(bytes)
 }
 
-/// How many bytes hold the head and the key of the record at the front of some bytes, or the whole record.
-fn wanted(bytes: &[u8], is_whole: bool) -> u64
-    ensures value { result ≡ wanted is_whole bytes.now }
+/// How many bytes hold the head and the key of the record at the front of some bytes, which stand at a position, or the whole record.
+fn wanted(bytes: &[u8], position: u64, is_whole: bool) -> u64
+    ensures value { result ≡ wanted is_whole position bytes.now }
     ensures bound { result < 2 ^ 34 }
 {
-    if !has_head(bytes) {
+    if !has_head(bytes, position) {
         return 0;
     }
     if is_whole {
@@ -72,16 +73,18 @@ pub(crate) fn read_front<D: Device>(
     ensures front { Sees (D.seen device.new) (λ log. limit ≤ length log → IfOk result (λ v.
         v.items ≡ take (length v.items) (drop position (take limit log)))) }
     ensures key { Sees (D.seen device.new) (λ log. limit ≤ length log → IfOk result (λ v.
-        key_in v.items ≡ key_in (drop position (take limit log)))) }
+        key_in position v.items ≡ key_in position (drop position (take limit log)))) }
+    ensures step { Sees (D.seen device.new) (λ log. limit ≤ length log → IfOk result (λ v.
+        step position v.items ≡ step position (drop position (take limit log)))) }
     ensures within { IfOk result (λ v. length v.items ≤ limit - position) }
     ensures whole { is_whole ≡ true → Sees (D.seen device.new) (λ log. limit ≤ length log → IfOk result (λ v.
-        reading v.items ≡ reading (drop position (take limit log)))) }
+        reading position v.items ≡ reading position (drop position (take limit log)))) }
     ensures read { IsRead D.seen D.may_leave device.old device.new }
     ensures fault { IfErr result MayRead }
 {
     let rest = limit.saturating_sub(position);
     let block = read_bytes(alloc, device, position, rest.min(BLOCK))?;
-    let wanted = wanted(block.as_slice(), is_whole).min(rest);
+    let wanted = wanted(block.as_slice(), position, is_whole).min(rest);
     if wanted <= block.len() as u64 {
         return Ok(block);
     }
@@ -97,10 +100,10 @@ enum Match {
     Unreadable,
 }
 
-fn match_of(bytes: &[u8], key: &[u8]) -> Match
-    ensures { result ≡ match_of (key_in bytes.now) key.now }
+fn match_of(bytes: &[u8], position: u64, key: &[u8]) -> Match
+    ensures { result ≡ match_of (key_in position bytes.now) key.now }
 {
-    match key_in(bytes) {
+    match key_in(bytes, position) {
         Some(found) if found == key => Match::Same,
         Some(_) => Match::Other,
         None => Match::Unreadable,
@@ -142,7 +145,7 @@ pub(super) fn find<D: Device>(
     let mut is_unreadable = false;
     for position in positions {
         let bytes = read_front(alloc, device, *position, limit, false)?;
-        match match_of(bytes.as_slice(), key) {
+        match match_of(bytes.as_slice(), *position, key) {
             Match::Same => {
                 return Ok(Some(Found {
                     place,
@@ -197,15 +200,15 @@ pub(super) fn find_place<D: Device>(
 /// Whether the whole record stands at the front of some bytes, by its lengths.
 fn is_whole(bytes: &[u8]) -> bool
     ensures long { IsTrue result → (13 ≤ length bytes.now) × (record_length bytes.now ≤ length bytes.now) }
-    ensures complete { (r : Entry) → reading bytes.now ≡ Complete r → IsTrue result }
+    ensures complete { (place : ℕ) (r : Entry) → reading place bytes.now ≡ Complete r → IsTrue result }
 {
     bytes.len() >= HEAD && record_length(bytes) <= bytes.len() as u64
 }
 
 /// The value of the record at the front of some bytes, copied.
 pub(super) fn copy_value(alloc: Global, bytes: &[u8]) -> Result<Vec<u8>, Fault>
-    ensures value { (r : Entry) → reading bytes.now ≡ Complete r → IfOk result (λ v. v.items ≡ bytes_of r.value) }
-    ensures fault { (r : Entry) → reading bytes.now ≡ Complete r → IfErr result MayRead }
+    ensures value { (place : ℕ) (r : Entry) → reading place bytes.now ≡ Complete r → IfOk result (λ v. v.items ≡ bytes_of r.value) }
+    ensures fault { (place : ℕ) (r : Entry) → reading place bytes.now ≡ Complete r → IfErr result MayRead }
 {
     if !is_whole(bytes) {
         return Err(Fault::Damaged);

@@ -44,7 +44,7 @@ impl<'a, D: Device> Records<'a, u64> for Log<D> {
 
     fn key_of(&mut self, position: &'a u64) -> Result<Vec<u8>, Fault> {
         let bytes = read_front(self.alloc, &mut self.device, *position, self.end, false)?;
-        let Some(key) = key_in(bytes.as_slice()) else {
+        let Some(key) = key_in(bytes.as_slice(), *position) else {
             return Err(Fault::Damaged);
         };
         Ok(Vec::from_slice(self.alloc, key)?)
@@ -69,7 +69,7 @@ impl<D: Device> Log<D> {
             return Ok(None);
         };
         let bytes = read_front(self.alloc, &mut self.device, *position, self.end, true)?;
-        let Some(key) = key_in(bytes.as_slice()) else {
+        let Some(key) = key_in(bytes.as_slice(), *position) else {
             return Err(Fault::Damaged);
         };
         let key = Vec::from_slice(self.alloc, key)?;

@@ -27,7 +27,7 @@ fn file<D: Device, I: Unordered<Value = u64>>(
     ensures filed { Sees (D.seen device.new) (λ log. (value : Option (List ℕ)) → has_value ≡ is_some value
         → Fits (record { key = key.now; value = value }) → position ≤ length log
         → Indexes I.Key.cmp (take position log) (I.view index.old) → OnOk result
-        (Indexes I.Key.cmp (take position log ++ encoded (record { key = key.now; value = value }))
+        (Indexes I.Key.cmp (take position log ++ encoded position (record { key = key.now; value = value }))
         (I.view index.new))) }
     ensures read { IsRead D.seen D.may_leave device.old device.new }
     ensures fault { Sees (D.seen device.new) (λ log. position ≤ length log → position < usize.MAX
@@ -55,8 +55,8 @@ fn file_all<D: Device, I: Unordered<Value = u64>>(
         → Indexes I.Key.cmp (take position log) (I.view index.old) → IfErr result MayRead) }
 {
     let mut rest = bytes;
-    while let Reading::Complete(record) = decode(rest) {
-        let place = position + (bytes.len() - rest.len()) as u64;
+    let mut place = position;
+    while let Reading::Complete(record) = decode(rest, place) {
         file(
             alloc,
             device,
@@ -65,10 +65,12 @@ fn file_all<D: Device, I: Unordered<Value = u64>>(
             record.value.is_some(),
             place,
         )?;
-        let (_, behind) = rest.split_at(record.length() as usize);
+        let length = record.length();
+        let (_, behind) = rest.split_at(length as usize);
         rest = behind;
+        place += length;
     }
-    Ok((bytes.len() - rest.len()) as u64)
+    Ok(place - position)
 }
 
 /// Whether the bytes of a log from a position on are zeros.
@@ -114,8 +116,8 @@ fn tail_at<D: Device>(
     is_torn: bool,
 ) -> Result<Tail, Fault>
     ensures told { Sees (D.seen device.new) (λ log. len ≡ length log
-        → (reading (drop end log) ≡ (if is_torn then Torn else Damaged))
-        → IfOk result (λ t. t ≡ tail_of (drop end log))) }
+        → (reading end (drop end log) ≡ (if is_torn then Torn else Damaged))
+        → IfOk result (λ t. t ≡ tail_of end (drop end log))) }
     ensures read { IsRead D.seen D.may_leave device.old device.new }
     ensures fault { IfErr result MayRead }
 {
@@ -142,14 +144,14 @@ fn file_one<D: Device, I: Unordered<Value = u64>>(
         → IfOk result (λ r. IfOk r (λ n. Indexes I.Key.cmp (take (end + n) log) (I.view index.new)))) }
     ensures within { IfOk result (λ r. IfOk r (λ n. (0 < n) × (end + n ≤ len))) }
     ensures tail { Sees (D.seen device.new) (λ log. len ≡ length log → IfOk result (λ r. IfErr r (λ t.
-        (t ≡ tail_of (drop end log)) × Stops (reading (drop end log))))) }
+        (t ≡ tail_of end (drop end log)) × Stops (reading end (drop end log))))) }
     ensures same { IfOk result (λ r. OnErr r (I.view index.new ≡ I.view index.old)) }
     ensures read { IsRead D.seen D.may_leave device.old device.new }
     ensures fault { Sees (D.seen device.new) (λ log. len ≡ length log
         → Indexes I.Key.cmp (take end log) (I.view index.old) → IfErr result MayRead) }
 {
     let bytes = read_front(alloc, device, end, len, true)?;
-    let is_torn = match decode(bytes.as_slice()) {
+    let is_torn = match decode(bytes.as_slice(), end) {
         Reading::Complete(record) => {
             file(
                 alloc,
@@ -175,7 +177,7 @@ pub(super) fn replay<D: Device, I: Unordered<Value = u64>>(
 ) -> Result<(u64, Tail), Fault>
     requires { (I.view index.old).content ≡ [] }
     ensures kept { Sees (D.seen device.new) (λ log. IfOk result (λ r. Keeps I.Key.cmp log (I.view index.new) r.0 r.1)) }
-    ensures exact { Sees (D.seen device.new) (λ log. IfOk result (λ r. r.1 ≡ tail_of (drop r.0 log))) }
+    ensures exact { Sees (D.seen device.new) (λ log. IfOk result (λ r. r.1 ≡ tail_of r.0 (drop r.0 log))) }
     ensures read { IsRead D.seen D.may_leave device.old device.new }
     ensures fault { Sees (D.seen device.new) (λ log. IfErr result MayRead) }
 {

@@ -1,5 +1,6 @@
-use Rattle.std.proofs.Common.{◌≡◌, [], ◌+◌, ◌-◌, ◌*◌, ◌≤◌, min}
+use Rattle.std.proofs.Common.{◌≡◌, [], ◌+◌, ◌-◌, ◌*◌, ◌≤◌, map, min}
 use Rattle.key_index_store.specs.Device.{Changes, IsRead, Sees}
+use Rattle.key_index_store.specs.Salvage.{gap_of}
 use Rattle.key_index_store.proofs.SalvageLemmas.{Copied, Scan}
 use Rattle.key_index_store.proofs.salvage.salvage.Given as goal
 
@@ -7,10 +8,10 @@ abbrev pub invariant-loop-position : goal.invariant-loop-position
 invariant-loop-position g l = record {
   order : l.start ≤ l.position;
   few : l.records ≤ l.position;
-  behind : l.end ≤ l.position;
+  behind : Sees (g.D.Device.seen l.from) (λ log. l.end ≤ l.position);
   read : IsRead g.D.Device.seen g.D.Device.may_leave l.fn.from l.from;
   fresh : Changes (g.C.Device.seen l.fn.into) (g.C.Device.seen l.into) (λ old new. old ≡ []);
-  scan : Sees (g.D.Device.seen l.from) (λ log. Scan log l.block.items l.len l.start l.position l.records);
+  scan : Sees (g.D.Device.seen l.from) (λ log. Scan log l.block.items l.len l.start l.position l.records l.since (map gap_of l.gaps.items));
   copied : Sees (g.D.Device.seen l.from) (λ log. Changes (g.C.Device.seen l.fn.into) (g.C.Device.seen l.into) (Copied log l.position l.end));
 }
 

@@ -8,7 +8,7 @@ use Rattle.key_index_store.specs.Stored.{HasChanged, HasRefused, IsBeforeOrAfter
 use Rattle.key_index_store.specs.declared.store.Tail.TheVariants as tail
 use Rattle.key_index_flat.proofs.content.ChainLemmas.{None-is_some}
 use Rattle.key_index_store.proofs.IndexLemmas.{some_mapped}
-use Rattle.key_index_store.proofs.KeepLemmas.{adds_weaker, all_kept, append-refuse, at_end, begun_keeps, begun_refused, full-refuse, held_any, kept_held, may_read-refuse, not_added, nothing_changed, or-true, refused_early, room-refuse, written_changed, written_keeps}
+use Rattle.key_index_store.proofs.KeepLemmas.{adds_weaker, all_kept, append-refuse, at_end, begun_keeps, begun_refused, begun_size, full-refuse, held_any, kept_held, may_read-refuse, not_added, nothing_changed, or-true, refused_early, room-refuse, written_changed, written_keeps}
 use Rattle.key_index_store.proofs.StoreLemmas.{live_run, mapped_none}
 use Rattle.key_index_store.proofs.store.Store.change.Goals.{else-is_none-via-then-is_none+else-is_none-2, else-is_none-via-else-is_none}
 use Rattle.key_index_store.proofs.store.Store.change.Goals as goal
@@ -58,10 +58,10 @@ invariant_of-self-in-Err g c = (
       let room = c.in_ok-make_room.ensures.room mid (sym (ap g.D.Device.seen c.self.view_is) ∙ mid_seen) in
       let h = c.self.invariant.0 mid mid_seen in
       let part = failed.2 (all_kept room.0 mid room.2 r g.met.I.Key.Ord.total g.met.I.Runs.exact g.I.Unordered.INSERT_FIRST (g.I.Runs.view c.self.inside.index) c.self.inside.log.end c.self.inside.tail h c.requires) in
-      let is : new ≡ mid ++ take part.0 (encoded r) = part.1 in
-      let less : (part.0 < length (encoded r)) ⊎ (part.0 ≡ 0) = part.2 in
+      let is : new ≡ mid ++ take part.0 (encoded c.self.inside.log.end r) = part.1 in
+      let less : (part.0 < length (encoded c.self.inside.log.end r)) ⊎ (part.0 ≡ 0) = part.2 in
       subst (λ l. Keeps g.I.Key.Ord.cmp l (g.I.Runs.view c.append.new.index) c.self.inside.log.end tail.Torn) (sym is)
-      (begun_keeps g.met.I.Key.Ord.total g.met.I.Runs.exact g.I.Unordered.INSERT_FIRST mid (g.I.Runs.view c.self.inside.index) c.self.inside.log.end (at_end room.0 mid room.2 r g.met.I.Key.Ord.total g.met.I.Runs.exact g.I.Unordered.INSERT_FIRST (g.I.Runs.view c.self.inside.index) c.self.inside.log.end c.self.inside.tail h c.requires) r c.requires part.0 less (g.I.Runs.view c.append.new.index) c.in-Err.ensures.refused),
+      (begun_keeps g.met.I.Key.Ord.total g.met.I.Runs.exact g.I.Unordered.INSERT_FIRST mid (g.I.Runs.view c.self.inside.index) c.self.inside.log.end (at_end room.0 mid room.2 r g.met.I.Key.Ord.total g.met.I.Runs.exact g.I.Unordered.INSERT_FIRST (g.I.Runs.view c.self.inside.index) c.self.inside.log.end c.self.inside.tail h c.requires) r c.requires part.0 (begun_size c.self.inside.log.end r part.0 less) (g.I.Runs.view c.append.new.index) c.in-Err.ensures.refused),
   λ synced new seen none.
       let r : Entry = record { key = c.args.key.now; value = option_map {T = Bor (List ℕ)} (λ v. v.now) c.args.value } in
       let failed = c.in-Err.ensures.failed new seen in
@@ -81,8 +81,8 @@ returns-in-Err-clause-refused g c = λ new seen.
     let room = c.in_ok-make_room.ensures.room mid (sym (ap g.D.Device.seen c.self.view_is) ∙ mid_seen) in
     let h = c.self.invariant.0 mid mid_seen in
     let part = failed.2 (all_kept room.0 mid room.2 r g.met.I.Key.Ord.total g.met.I.Runs.exact g.I.Unordered.INSERT_FIRST (g.I.Runs.view c.self.inside.index) c.self.inside.log.end c.self.inside.tail h c.requires) in
-    let is : new ≡ mid ++ take part.0 (encoded r) = part.1 in
-    let less : (part.0 < length (encoded r)) ⊎ (part.0 ≡ 0) = part.2 in
+    let is : new ≡ mid ++ take part.0 (encoded c.self.inside.log.end r) = part.1 in
+    let less : (part.0 < length (encoded c.self.inside.log.end r)) ⊎ (part.0 ≡ 0) = part.2 in
     let front = take c.self.inside.log.end mid in
     let live = subst (All (IsLive front)) (sym c.positions_of-positions.ensures.run) (live_run g.I.Key.Ord.cmp front (g.I.Runs.view c.self.inside.index) c.args.key.now h.indexed) in
     let told : is_some c.in_ok-place.place ≡ is_some (get (held_by mid) c.args.key.now) =
@@ -102,8 +102,8 @@ returns-in-Err-clause-crash g c = λ new seen.
     let room = c.in_ok-make_room.ensures.room mid (sym (ap g.D.Device.seen c.self.view_is) ∙ mid_seen) in
     let h = c.self.invariant.0 mid mid_seen in
     let part = failed.2 (all_kept room.0 mid room.2 r g.met.I.Key.Ord.total g.met.I.Runs.exact g.I.Unordered.INSERT_FIRST (g.I.Runs.view c.self.inside.index) c.self.inside.log.end c.self.inside.tail h c.requires) in
-    let is : new ≡ mid ++ take part.0 (encoded r) = part.1 in
-    let less : (part.0 < length (encoded r)) ⊎ (part.0 ≡ 0) = part.2 in (
+    let is : new ≡ mid ++ take part.0 (encoded c.self.inside.log.end r) = part.1 in
+    let less : (part.0 < length (encoded c.self.inside.log.end r)) ⊎ (part.0 ≡ 0) = part.2 in (
       room.0,
       room.1,
       λ c' left. elim (c.in-Err.ensures.crash mid failed.1 (all_kept room.0 mid room.2 r g.met.I.Key.Ord.total g.met.I.Runs.exact g.I.Unordered.INSERT_FIRST (g.I.Runs.view c.self.inside.index) c.self.inside.log.end c.self.inside.tail h c.requires) c' left) [
@@ -121,7 +121,7 @@ invariant_of-self-in-Ok g c = (
       let mid_seen = c.in_ok-place.ensures.read.stays mid written.1 in
       let room = c.in_ok-make_room.ensures.room mid (sym (ap g.D.Device.seen c.self.view_is) ∙ mid_seen) in
       let h = c.self.invariant.0 mid mid_seen in
-      let is : new ≡ mid ++ encoded r = written.2 (all_kept room.0 mid room.2 r g.met.I.Key.Ord.total g.met.I.Runs.exact g.I.Unordered.INSERT_FIRST (g.I.Runs.view c.self.inside.index) c.self.inside.log.end c.self.inside.tail h c.requires) in
+      let is : new ≡ mid ++ encoded c.self.inside.log.end r = written.2 (all_kept room.0 mid room.2 r g.met.I.Key.Ord.total g.met.I.Runs.exact g.I.Unordered.INSERT_FIRST (g.I.Runs.view c.self.inside.index) c.self.inside.log.end c.self.inside.tail h c.requires) in
       let front = take c.self.inside.log.end mid in
       let live = subst (All (IsLive front)) (sym c.positions_of-positions.ensures.run) (live_run g.I.Key.Ord.cmp front (g.I.Runs.view c.self.inside.index) c.args.key.now h.indexed) in
       let at = c.in_ok-place.ensures.at mid written.1 h.within live in
@@ -149,7 +149,7 @@ returns-in-Ok-clause-changed g c = λ new seen.
     let mid_seen = c.in_ok-place.ensures.read.stays mid written.1 in
     let room = c.in_ok-make_room.ensures.room mid (sym (ap g.D.Device.seen c.self.view_is) ∙ mid_seen) in
     let h = c.self.invariant.0 mid mid_seen in
-    let is : new ≡ mid ++ encoded r = written.2 (all_kept room.0 mid room.2 r g.met.I.Key.Ord.total g.met.I.Runs.exact g.I.Unordered.INSERT_FIRST (g.I.Runs.view c.self.inside.index) c.self.inside.log.end c.self.inside.tail h c.requires) in
+    let is : new ≡ mid ++ encoded c.self.inside.log.end r = written.2 (all_kept room.0 mid room.2 r g.met.I.Key.Ord.total g.met.I.Runs.exact g.I.Unordered.INSERT_FIRST (g.I.Runs.view c.self.inside.index) c.self.inside.log.end c.self.inside.tail h c.requires) in
     let front = take c.self.inside.log.end mid in
     let live = subst (All (IsLive front)) (sym c.positions_of-positions.ensures.run) (live_run g.I.Key.Ord.cmp front (g.I.Runs.view c.self.inside.index) c.args.key.now h.indexed) in
     let told : is_some c.in_ok-place.place ≡ is_some (get (held_by mid) c.args.key.now) =
@@ -170,7 +170,7 @@ returns-in-Ok-clause-crash g c = λ new seen.
     let mid_seen = c.in_ok-place.ensures.read.stays mid written.1 in
     let room = c.in_ok-make_room.ensures.room mid (sym (ap g.D.Device.seen c.self.view_is) ∙ mid_seen) in
     let h = c.self.invariant.0 mid mid_seen in
-    let is : new ≡ mid ++ encoded r = written.2 (all_kept room.0 mid room.2 r g.met.I.Key.Ord.total g.met.I.Runs.exact g.I.Unordered.INSERT_FIRST (g.I.Runs.view c.self.inside.index) c.self.inside.log.end c.self.inside.tail h c.requires) in (
+    let is : new ≡ mid ++ encoded c.self.inside.log.end r = written.2 (all_kept room.0 mid room.2 r g.met.I.Key.Ord.total g.met.I.Runs.exact g.I.Unordered.INSERT_FIRST (g.I.Runs.view c.self.inside.index) c.self.inside.log.end c.self.inside.tail h c.requires) in (
       room.0,
       room.1,
       λ c' left. elim (c.in-Ok.ensures.crash mid written.1 (all_kept room.0 mid room.2 r g.met.I.Key.Ord.total g.met.I.Runs.exact g.I.Unordered.INSERT_FIRST (g.I.Runs.view c.self.inside.index) c.self.inside.log.end c.self.inside.tail h c.requires) c' left) [
@@ -209,4 +209,14 @@ returns-then-is_none-2-clause-crash g c = λ mid seen.
       room.1,
       λ c' left.
           adds_weaker (λ l same. inl same) (c.in_ok-make_room.ensures.crash room.0 room.1) c' (subst (λ d. g.D.Device.may_leave d c') c.self.view_is (c.in_ok-place.ensures.read.crash c' left)),
+    )
+
+pub returns-in_err-place-clause-crash : goal.returns-in_err-place-clause-crash
+returns-in_err-place-clause-crash g c = λ mid seen.
+    let mid_known = sym (ap g.D.Device.seen c.self.view_is) ∙ c.in_err-place.ensures.read.stays mid seen in
+    let room = c.in_ok-make_room.ensures.room mid mid_known in (
+      room.0,
+      room.1,
+      λ c' left.
+          adds_weaker (λ l same. inl same) (c.in_ok-make_room.ensures.crash room.0 room.1) c' (subst (λ d. g.D.Device.may_leave d c') c.self.view_is (c.in_err-place.ensures.read.crash c' left)),
     )

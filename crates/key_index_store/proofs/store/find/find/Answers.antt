@@ -17,7 +17,7 @@ returns-in-Same-clause-at g c = λ log seen within live.
     let road = YieldsList-from_first (λ x. x.now) (λ values. values) all refl in
     let turn = YieldsList-turn road c.loop-position.yielded _ c.loop-position.yielded_by _ _ c.in-Some.position c.in-Some.is c.next.ensures.steps in
     let here : IsLive front c.in-Some.position.now = subst (IsLive front) (sym turn.1) (subst (All (IsLive front)) (sym c.into_iter-position-iterator.ensures.into_iter_gives) live (length c.loop-position.yielded) c.in-Some.position.now turn.0) in
-    let told = ap key_in c.as_slice.ensures.value ∙ c.in_ok-bytes.ensures.key log seen within ∙ key_in-live front c.in-Some.position.now here in
+    let told = ap (key_in c.in-Some.position.now) c.as_slice.ensures.value ∙ c.in_ok-bytes.ensures.key log seen within ∙ key_in-live front c.in-Some.position.now here in
     let own = match_same _ key _ c.match_of.result c.match_of.ensures told c.in-Same.is in
     (λ i. option_map (key_at front) (slice_get (sym c.into_iter-position-iterator.ensures.into_iter_gives i) (c.loop-position.invariant.counted i)))
     ∙ key-slice_get (entry_at front) key all (length c.loop-position.yielded) c.in-Some.position.now turn.0 turn.1 own
@@ -31,7 +31,7 @@ returns-in-Same-clause-value g c = λ log seen within live.
     let turn = YieldsList-turn road c.loop-position.yielded _ c.loop-position.yielded_by _ _ c.in-Some.position c.in-Some.is c.next.ensures.steps in
     let so_far = YieldsList-so_far road c.loop-position.yielded _ c.loop-position.yielded_by in
     let here : IsLive front c.in-Some.position.now = subst (IsLive front) (sym turn.1) (subst (All (IsLive front)) (sym c.into_iter-position-iterator.ensures.into_iter_gives) live (length c.loop-position.yielded) c.in-Some.position.now turn.0) in
-    let told = ap key_in c.as_slice.ensures.value ∙ c.in_ok-bytes.ensures.key log seen within ∙ key_in-live front c.in-Some.position.now here in
+    let told = ap (key_in c.in-Some.position.now) c.as_slice.ensures.value ∙ c.in_ok-bytes.ensures.key log seen within ∙ key_in-live front c.in-Some.position.now here in
     let own = match_same _ key _ c.match_of.result c.match_of.ensures told c.in-Same.is in
     let before = c.loop-position.invariant.none log (c.in_ok-bytes.ensures.read.stays log seen) within live in
     let found = look-at_place (entry_at front) key all (length c.loop-position.yielded) c.in-Some.position.now turn.0 turn.1 (ap (value_in front key) (sym so_far) ∙ before.0) own in
@@ -59,7 +59,7 @@ loop-position-preserved g c =
           let front = take c.args.limit log in
           let before = c.loop-position.invariant.none log (c.in_ok-bytes.ensures.read.stays log seen) within live in
           let here : IsLive front c.in-Some.position.now = subst (IsLive front) (sym turn.1) (subst (All (IsLive front)) (sym c.into_iter-position-iterator.ensures.into_iter_gives) live (length c.loop-position.yielded) c.in-Some.position.now turn.0) in
-          let told = ap key_in c.as_slice.ensures.value ∙ c.in_ok-bytes.ensures.key log seen within ∙ key_in-live front c.in-Some.position.now here in
+          let told = ap (key_in c.in-Some.position.now) c.as_slice.ensures.value ∙ c.in_ok-bytes.ensures.key log seen within ∙ key_in-live front c.in-Some.position.now here in
           elim c.match-match_of.branch [
             | in-Other w ↦ (
               passed_by (entry_at front) (λ p. p.now) key c.loop-position.yielded c.in-Some.position before.0 (match_other _ key _ c.match_of.result c.match_of.ensures told w.in-Other.is),

@@ -47,12 +47,12 @@ returns-in-Err-clause-kept g c = λ log seen.
     let same : end + c.in_ok-filed.filed ≡ end = omega (arith, c.if-filed-ne0.false) in
     let indexed = subst (λ n. Indexes g.I.Key.Ord.cmp (take n log) (g.I.Runs.view c.file_all.new.index)) same here in
     let kept = subst (λ r. OnErr r (g.I.Runs.view c.file_one.new.index ≡ g.I.Runs.view c.file_all.new.index)) c.in-Err.is c.in_ok-filed-2.ensures.same in
-    let told = subst (λ r. IfErr r (λ t. (t ≡ tail_of (drop end log)) × Stops (reading (drop end log)))) c.in-Err.is (c.in_ok-filed-2.ensures.tail log seen whole) in
+    let told = subst (λ r. IfErr r (λ t. (t ≡ tail_of end (drop end log)) × Stops (reading end (drop end log)))) c.in-Err.is (c.in_ok-filed-2.ensures.tail log seen whole) in
     record {
       within = omega (arith, whole, c.loop-end.invariant.below);
       indexed = subst (Indexes g.I.Key.Ord.cmp (take end log)) (sym kept) indexed;
       stops = told.1;
-      told = told-IsTail c.in-Err.tail (drop end log) told.0 told.1;
+      told = told-IsTail c.in-Err.tail end (drop end log) told.0 told.1;
     }
 
 pub returns-in-Err-clause-exact : goal.returns-in-Err-clause-exact
@@ -60,7 +60,7 @@ returns-in-Err-clause-exact g c = λ log seen.
     let end = c.loop-end.end in
     let before = c.in_ok-filed-2.ensures.read.stays log seen in
     let old_seen = c.in_ok-block.ensures.read.stays log (c.in_ok-filed.ensures.read.stays log before) in
-    (subst (λ r. IfErr r (λ t. (t ≡ tail_of (drop end log)) × Stops (reading (drop end log)))) c.in-Err.is (c.in_ok-filed-2.ensures.tail log seen (c.loop-end.invariant.counted log old_seen))).0
+    (subst (λ r. IfErr r (λ t. (t ≡ tail_of end (drop end log)) × Stops (reading end (drop end log)))) c.in-Err.is (c.in_ok-filed-2.ensures.tail log seen (c.loop-end.invariant.counted log old_seen))).0
 
 pub loop-end-preserved : goal.loop-end-preserved
 loop-end-preserved g c =
@@ -103,6 +103,6 @@ returns-clause-kept g c = λ log seen.
     record {
       within = omega (arith, end);
       indexed = c.loop-end.invariant.indexed log seen;
-      stops = subst (λ l. Stops (reading l)) (sym none) tt;
+      stops = subst (λ l. Stops (reading c.loop-end.end l)) (sym none) tt;
       told = none;
     }
