@@ -164,7 +164,8 @@ class Stored(Session):
 
     # What may be told on standard error besides what stands behind the records.
     tells = re.compile(
-        "failed: (out of memory|memory allocation failed)|refused memory: run.log|cannot sync run.log|cuts off .*|"
+        "failed: (out of memory|memory allocation failed)|refused memory: run.log|cannot open run.log: out of memory|"
+        "cannot sync run.log|cuts off .*|"
     )
 
     def __init__(self, name, command, lines, before, behind, most=None):
