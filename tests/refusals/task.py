@@ -165,7 +165,7 @@ class Stored(Session):
     # What may be told on standard error besides what stands behind the records.
     tells = re.compile(
         "failed: (out of memory|memory allocation failed)|refused memory: run.log|cannot open run.log: out of memory|"
-        "cannot sync run.log|cuts off .*|"
+        "cannot sync run.log|cuts off .*|left out .*|"
     )
 
     def __init__(self, name, command, lines, before, behind, most=None):
