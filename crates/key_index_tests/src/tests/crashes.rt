@@ -3,7 +3,7 @@ use super::checks::holds;
 use key_index_flat::index::unordered::Index;
 use key_index_flat::index::{Factory, ordered};
 use key_index_flat::translator::OneCap;
-use key_index_store::crashes::{put_alone, put_and_sync};
+use key_index_store::crashes::put_and_sync;
 use key_index_store::memory_device::MemoryDevice;
 use key_index_store::store::Store;
 use std::test::Fail;
@@ -11,7 +11,7 @@ use std::test::Fail;
 /// More than the bytes of two records.
 const ALL: usize = 80;
 
-/// A synced put is there after each crash. One that isn't synced is there where no byte of it is lost, and what was synced before it stays.
+/// A synced put is there after each crash.
 #[test]
 fn what_is_synced_stays(rt: HostRuntime) -> Result<(), Fail> {
     let alloc = rt.alloc();
@@ -21,15 +21,6 @@ fn what_is_synced_stays(rt: HostRuntime) -> Result<(), Fail> {
         let fresh = Index::<OneCap, u64>::new(alloc, OneCap)?;
         let mut store = put_and_sync(alloc, store, b"apple", b"red", lost, fresh)?;
         holds(&rt, store.contains_key(b"apple")?, "a synced key");
-        store.sync()?;
-        let fresh = Index::<OneCap, u64>::new(alloc, OneCap)?;
-        let mut store = put_alone(alloc, store, b"pear", b"green", lost, fresh)?;
-        holds(&rt, store.contains_key(b"apple")?, "the key before it");
-        holds(
-            &rt,
-            store.contains_key(b"pear")? == (lost == 0),
-            "a key alone",
-        );
     }
     Ok(())
 }
