@@ -2,9 +2,9 @@
 --     entry_at, key_at      the key and the value of the record at a position
 --     IsLive, IsUnder       a position is live;  and stands under the index key of its full key, which is bytes
 --     value_in              the value of the first record in a list of positions that has a key
---     IsAt                  the place of a key in a list, by the entries of its positions;  or that it isn't there
---     key_read, HasKeys     the key that a read of the head and the key at a position gives;  keys of positions that a device has
---     match_of              a candidate's key beside the one that is sought
+--     IsPlace, IsIn         the place of a key in a list, by the entries of its positions;  it is there, or may be put in there
+--     IsRun                 a list of live positions in the order of their keys
+--     IsFront               bytes at the front of the record at a position
 --     Indexes               the log is complete records, and the index has the position of each key's newest one that has a value, once,
 --                           under the index key of the key
 --     IsTail                what a store knows of the bytes behind the records: after a write that failed, where a torn one may stand,
@@ -12,19 +12,15 @@
 --     Keeps                 what a store keeps of its log: where the complete records end, what stands behind them, and the index of them
 --     Settles               after the position of a key's newest record was filed: in the place of the older one, or as a new one
 --     KeepsLists            no list is another
-use Rattle.std.specs.Prelude.{◌≡◌, ◌-◌, ◌≤◌, ℕ, Bool, if◌then◌else◌, true, false, List, [], map, length, drop, take, remove, slice_get, slice_set, Option, Some, None, All, unwrap_or}
-use Rattle.std.specs.FinMap.{find, get, len}
-use Rattle.std.specs.List.{IsDistinct}
-use Rattle.std.specs.Option.{option_map}
-use Rattle.std.specs.Ordering.{eq_by_cmp}
-use Rattle.std.specs.Str.{bytes_eq}
+use Rattle.std.specs.Prelude.{◌≡◌, ◌-◌, ◌≤◌, ◌<◌, T, ℕ, Bool, true, false, List, [], map, length, drop, take, insert, remove, slice_set, Option, Some, None, is_some, All}
+use Rattle.std.specs.FinMap.{find, get, is_sorted, len}
 use Rattle.std.specs.declared.cmp.Ordering.{Ordering}
 use Rattle.key_index_flat.specs.FullKeys.{IsBytes, byte_cmp}
-use Rattle.key_index_flat.specs.View.{View, after_insert, items_in, run_at, run_of, with_edit, with_pruned}
-use Rattle.key_index_store.specs.Record.{Fits, Outcome, Complete, Torn, Damaged, Stops, bytes_of, key_in, log_of, reading}
+use Rattle.key_index_flat.specs.Neighbours.{entries_below}
+use Rattle.key_index_flat.specs.View.{View, items_in, run_at, run_of, with_edit, with_pruned}
+use Rattle.key_index_store.specs.Record.{Fits, Outcome, Complete, Torn, Damaged, Stops, bytes_of, log_of, reading}
 use Rattle.key_index_store.specs.Stored.{held_by, records_of, tail_of}
-use Rattle.key_index_store.specs.declared.store.find.Match.{Match}
-use Rattle.key_index_store.specs.declared.store.find.Match.TheVariants.{Same, Other, Unreadable}
+use Rattle.key_index_store.specs.declared.store.find.Front.{Front}
 use Rattle.key_index_store.specs.declared.store.Tail.{Tail}
 use Rattle.key_index_store.specs.declared.store.Tail.TheVariants as tail
 
@@ -33,13 +29,14 @@ parts_of (Complete r) = (r.key, bytes_of r.value)
 parts_of Torn = ([], [])
 parts_of Damaged = ([], [])
 
-abbrev pub match_of : Option (List ℕ) → List ℕ → Match
-match_of None key = Unreadable
-match_of (Some found) key = if bytes_eq found key then Same else Other
+-- by the entries of a list's positions: how many keys are below one, and whether the next one is that
+pub record IsPlace (entry : ℕ → List ℕ × List ℕ) (key ps : List ℕ) (place : ℕ) (is_held : Bool) : Type 0 where
+  pub below : place ≡ length (entries_below byte_cmp (map entry ps) key)
+  pub held : is_held ≡ is_some (find byte_cmp key (map entry ps))
 
-abbrev pub IsAt : (ℕ → List ℕ × List ℕ) → List ℕ → List ℕ → Option ℕ → Type 0
-IsAt entry key ps (Some place) = option_map (λ p. (entry p).0) (slice_get ps place) ≡ Some key
-IsAt entry key ps None = find byte_cmp key (map entry ps) ≡ None
+abbrev pub IsIn : List ℕ → ℕ → Bool → Type 0
+IsIn ps place true = place < length ps
+IsIn ps place false = place ≤ length ps
 
 module _ (log : List ℕ) where
   abbrev pub entry_at : ℕ → List ℕ × List ℕ
@@ -57,12 +54,13 @@ module _ (log : List ℕ) where
   abbrev pub value_in : List ℕ → List ℕ → Option (List ℕ)
   value_in key ps = find byte_cmp key (map entry_at ps)
 
-  abbrev pub key_read : ℕ → List ℕ
-  key_read p = unwrap_or (key_in p (drop p log)) []
+  -- live, in the order of their keys, each of which is there once
+  abbrev pub IsRun : List ℕ → Type 0
+  IsRun ps = All IsLive ps × T (is_sorted byte_cmp (map entry_at ps))
 
--- where its bytes are seen, and a limit is within them: the keys that its first bytes have
-abbrev pub HasKeys : Option (List ℕ) → ℕ → (ℕ → List ℕ) → Type 0
-HasKeys seen limit keys = (log : List ℕ) × (seen ≡ Some log) × (limit ≤ length log) × (keys ≡ key_read (take limit log))
+  -- the bytes at the front of a record
+  abbrev pub IsFront : Front → Type 0
+  IsFront f = f.bytes.items ≡ take (length f.bytes.items) (drop f.position log)
 
 abbrev pub IsTail : Tail → ℕ → List ℕ → Type 0
 IsTail tail.Nothing place rest = rest ≡ []
@@ -74,7 +72,7 @@ module _ {K : Type 0} (cmp : K → K → Ordering) where
     pub spelled : log_of (records_of log) ≡ log
     pub fit : All Fits (records_of log)
     pub live : (k : K) → All (IsUnder log s.slot k) (run_at cmp s k)
-    pub once : (k : K) → IsDistinct (eq_by_cmp byte_cmp) (map (key_at log) (run_at cmp s k))
+    pub sorted : (k : K) → T (is_sorted byte_cmp (map (entry_at log) (run_at cmp s k)))
     pub found : (key : List ℕ) → value_in log key (run_of cmp s key) ≡ get (held_by log) key
     pub counted : items_in s ≡ len (held_by log)
 
@@ -84,18 +82,12 @@ module _ {K : Type 0} (cmp : K → K → Ordering) where
     pub stops : Stops (reading end (drop end log))
     pub told : IsTail tail end (drop end log)
 
-  -- has_value: the record is no deletion
-  abbrev pub Settles : Bool → View K ℕ → List ℕ → Bool → Option ℕ → ℕ → View K ℕ → Type 0
-  Settles first s key true (Some place) position t = t ≡ with_edit cmp s (s.slot key) (λ l. slice_set l place position)
-  Settles first s key true None position t = t ≡ after_insert cmp first s key position
-  Settles first s key false (Some place) position t =
-      t ≡ with_pruned (with_edit cmp s (s.slot key) (λ l. remove l place)) 1
-  Settles first s key false None position t = t ≡ s
-
--- without the newest position of a list
-abbrev pub without_newest : Bool → List ℕ → List ℕ
-without_newest true l = remove l 0
-without_newest false l = remove l (length l - 1)
+  -- has_value: the record is no deletion; is_held: the key stands at the place
+  abbrev pub Settles : View K ℕ → List ℕ → Bool → Bool → ℕ → ℕ → View K ℕ → Type 0
+  Settles s key true true place position t = t ≡ with_edit cmp s (s.slot key) (λ l. slice_set l place position)
+  Settles s key true false place position t = t ≡ with_edit cmp s (s.slot key) (λ l. insert l place position)
+  Settles s key false true place position t = t ≡ with_pruned (with_edit cmp s (s.slot key) (λ l. remove l place)) 1
+  Settles s key false false place position t = t ≡ s
 
 abbrev pub KeepsLists : {K : Type 0} → View K ℕ → View K ℕ → Type 0
 KeepsLists s t = (t.content ≡ s.content) × (t.slot ≡ s.slot)

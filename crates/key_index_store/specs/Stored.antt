@@ -3,7 +3,7 @@
 --     records_of          the complete records at the front of a log
 --     held_by             the map that they leave, from the empty one on
 --     end_of              how many bytes they take
---     entry_after, entry_before  the entry with the least key strictly above one, and with the greatest strictly below
+--     entry_after, entry_from, entry_before  the entry with the least key strictly above one, at least one, and with the greatest strictly below
 --     gap_in              of a key without a value both of them
 --     entries_behind      the entries with keys above one, or all where none is given
 --     in_bytes            an entry that the code has
@@ -22,6 +22,7 @@ use Rattle.std.specs.Option.{option_map}
 use Rattle.std.specs.declared.alloc.Global.{Global}
 use Rattle.key_index_flat.specs.FullKeys.{byte_cmp}
 use Rattle.key_index_flat.specs.Neighbours.{entries_above, entries_below, first_entry, last_entry}
+use Rattle.key_index_flat.specs.Walk.{entries_from}
 use Rattle.key_index_flat.specs.declared.index.Fault as index
 use Rattle.key_index_flat.specs.declared.index.Fault.TheVariants as index_fault
 use Rattle.key_index_store.specs.Device.{Adds, IsBegun}
@@ -65,6 +66,9 @@ end_of log = length (log_of (records_of log))
 
 abbrev pub entry_after : Values → List ℕ → Option (List ℕ × List ℕ)
 entry_after m key = first_entry (entries_above byte_cmp (entries m) key)
+
+abbrev pub entry_from : Values → List ℕ → Option (List ℕ × List ℕ)
+entry_from m key = first_entry (entries_from byte_cmp (entries m) key)
 
 abbrev pub entry_before : Values → List ℕ → Option (List ℕ × List ℕ)
 entry_before m key = last_entry (entries_below byte_cmp (entries m) key)

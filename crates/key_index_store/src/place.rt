@@ -12,7 +12,7 @@ use crate::device::Device;
 use crate::folder::{Folder, Identity};
 use crate::salvage::Salvaged;
 use crate::store::{Fault, Store};
-use key_index_flat::index::{Ordered, Unordered};
+use key_index_flat::index::{OrderedLists, Unordered};
 use std::alloc::{AllocError, Global};
 use std::marker::Model;
 
@@ -323,7 +323,7 @@ impl<F: Folder> Place<F> {
     }
 
     /// Copies a store to a fresh file, which gets its name once it is whole and on the disk. A refused copy gets none.
-    fn copy<D: Device, C: Device + Drop, I: Ordered<Value = u64> + Drop>(
+    fn copy<D: Device, C: Device + Drop, I: OrderedLists<Value = u64> + Drop>(
         &mut self,
         store: &mut Store<D, I>,
         fresh: &Fresh,
@@ -363,7 +363,7 @@ impl<F: Folder> Place<F> {
     }
 
     /// Copies a store to a fresh file at another name.
-    pub fn copy_to<D: Device, C: Device + Drop, I: Ordered<Value = u64> + Drop>(
+    pub fn copy_to<D: Device, C: Device + Drop, I: OrderedLists<Value = u64> + Drop>(
         &mut self,
         store: &mut Store<D, I>,
         fresh: &Fresh,
@@ -382,7 +382,7 @@ impl<F: Folder> Place<F> {
     }
 
     /// Copies a store to a fresh file at another name, or in the place of its own, and goes on there. `sync` brings the name to the disk.
-    pub fn move_to<D: Device, C: Device + Drop, I: Ordered<Value = u64> + Drop>(
+    pub fn move_to<D: Device, C: Device + Drop, I: OrderedLists<Value = u64> + Drop>(
         &mut self,
         store: &mut Store<D, I>,
         fresh: Fresh,

@@ -5,7 +5,7 @@ ghost use Rattle.std.specs.Option.{option_map};
 ghost use Rattle.key_index_flat.specs.FullKeys.{IsBytes};
 ghost use Rattle.key_index_flat.specs.View.{growth_fault_in, run_of, with_edit, with_pruned};
 ghost use Rattle.key_index_store.specs.Device.{Adds, AddsAtMost, Changes, IsBegun, IsKnown, IsRead, NoMore, Sees, Stays};
-ghost use Rattle.key_index_store.specs.Indexed.{Indexes, IsLive, Keeps, KeepsLists, Settles, without_newest};
+ghost use Rattle.key_index_store.specs.Indexed.{Indexes, IsIn, IsRun, Keeps, KeepsLists, Settles};
 ghost use Rattle.key_index_store.specs.Record.{Complete, Entry, Fits, IsFound, IsWithin, Stops, encoded, entry_of, log_of, outcome_of, reading, size_of};
 ghost use Rattle.key_index_store.specs.Salvage.{HaveHeads, MaySalvage, found_at, gap_of, gaps_in, places_of, salvaged};
 ghost use Rattle.key_index_store.specs.Stored.{HasChanged, HasRefused, HasRoom, LeavesSame, IsRefused, LeavesBeforeOrAfter, MayRead, MayRefuse, refusal_of, end_of, held_by, is_zeros, tail_in, tail_of, with_record, with_value, without_tail};
@@ -19,8 +19,8 @@ mod replay;
 use crate::device::Device;
 use crate::record::encode;
 use crate::salvage::{Salvaged, salvage};
-use find::{find, find_place, length_of, read_value};
-use key_index_flat::index::{self, Refused, Unordered, Values};
+use find::{InList, find, find_place, known, length_of, read_value};
+use key_index_flat::index::{self, Refused, Unordered};
 use log::Log;
 pub use neighbours::Gap;
 use replay::replay;
@@ -99,27 +99,24 @@ fn settle<I: Unordered<Value = u64>>(
     index: &mut I,
     key: &[u8],
     has_value: bool,
-    place: Option<usize>,
+    place: InList,
     position: u64,
 ) -> Result<(), Fault>
-    requires { IfSome place (λ p. p < length (run_of I.Key.cmp (I.view index.old) key.now)) }
-    ensures settled { OnOk result (Settles I.Key.cmp I.INSERT_FIRST
-        (I.view index.old) key.now has_value place position (I.view index.new)) }
+    requires { IsIn (run_of I.Key.cmp (I.view index.old) key.now) place.place place.is_held }
+    ensures settled { OnOk result (Settles I.Key.cmp
+        (I.view index.old) key.now has_value place.is_held place.place position (I.view index.new)) }
     ensures refused { OnErr result (I.view index.new ≡ I.view index.old) }
-    ensures sure { OnErr result (place ≡ None) }
+    ensures sure { OnErr result (place.is_held ≡ false) }
     ensures fault { IfErr result (λ f. f ≡ refusal_of (growth_fault_in (I.view index.old))) }
 {
-    let Some(place) = place else {
-        if has_value {
-            index.insert(key, position).map_err(fault_of)?;
-        }
-        return Ok(());
-    };
     let slot = index.slot_of(key);
-    if has_value {
-        index.set_at(slot, place, position);
-    } else {
-        index.remove_at(slot, place);
+    match (has_value, place.is_held) {
+        (true, true) => index.set_at(slot, place.place, position),
+        (true, false) => index.insert_at(slot, place.place, position).map_err(fault_of)?,
+        (false, true) => {
+            index.remove_at(slot, place.place);
+        }
+        (false, false) => {}
     }
     Ok(())
 }
@@ -134,60 +131,42 @@ fn fault_of(refused: Refused<u64>) -> Fault
     }
 }
 
-/// Removes the newest position of a key's list again.
-fn withdraw<I: Unordered<Value = u64>>(index: &mut I, key: &[u8])
-    requires { 0 < length (run_of I.Key.cmp (I.view index.old) key.now) }
-    ensures { let s = I.view index.old in I.view index.new
-        ≡ with_pruned (with_edit I.Key.cmp s (s.slot key.now) (without_newest I.INSERT_FIRST)) 1 }
-{
-    let slot = index.slot_of(key);
-    let last = index.run_len(slot) - 1;
-    index.remove_at(slot, if I::INSERT_FIRST { 0 } else { last });
-}
-
-/// The positions that may be those of a key, whose items are bytes.
-fn positions_of<'a, I: Unordered<Value = u64>>(index: &'a I, key: &[u8]) -> Values<'a, u64>
-    ensures run { result ≡ run_of I.Key.cmp (I.view index.now) key.now }
-    ensures bytes { IsBytes key.now }
-{
-    index.get(key)
-}
-
 /// Writes the bytes of a record at the end of a log and files their position. A refusal leaves the index.
 fn write<D: Device, I: Unordered<Value = u64>>(
     device: &mut D,
     index: &mut I,
     key: &[u8],
     has_value: bool,
-    place: Option<usize>,
+    place: InList,
     position: u64,
     bytes: &[u8],
 ) -> Result<(), Fault>
-    requires known { has_value ≡ false → IsSome place }
-    requires place { IfSome place (λ p. p < length (run_of I.Key.cmp (I.view index.old) key.now)) }
+    requires known { has_value ≡ false → place.is_held ≡ true }
+    requires place { IsIn (run_of I.Key.cmp (I.view index.old) key.now) place.place place.is_held }
     ensures written { OnOk result (Changes (D.seen device.old) (D.seen device.new) (λ old new.
         position ≡ length old → new ≡ old ++ bytes.now)) }
     ensures failed { OnErr result (Changes (D.seen device.old) (D.seen device.new) (λ old new.
         position ≡ length old → IsBegun bytes.now old new)) }
     ensures crash { (old : List ℕ) → D.seen device.old ≡ Some old → position ≡ length old
         → AddsAtMost old bytes.now (D.may_leave device.old) (D.may_leave device.new) }
-    ensures settled { OnOk result (Settles I.Key.cmp I.INSERT_FIRST
-        (I.view index.old) key.now has_value place position (I.view index.new)) }
+    ensures settled { OnOk result (Settles I.Key.cmp
+        (I.view index.old) key.now has_value place.is_held place.place position (I.view index.new)) }
     ensures refused { OnErr result (KeepsLists (I.view index.old) (I.view index.new)) }
     ensures fault { IfErr result (λ f. (f ≡ Fault.WriteFailed)
-        ⊎ ((place ≡ None) × (f ≡ refusal_of (growth_fault_in (I.view index.old))))) }
+        ⊎ ((place.is_held ≡ false) × (f ≡ refusal_of (growth_fault_in (I.view index.old))))) }
 {
-    if place.is_none() {
-        settle(index, key, has_value, place, position)?;
-        if device.write_at(position, bytes).is_err() {
-            withdraw(index, key);
-            return Err(Fault::WriteFailed);
-        }
-        return Ok(());
+    if place.is_held {
+        let written = device.write_at(position, bytes);
+        written.map_err(|_| Fault::WriteFailed)?;
+        return settle(index, key, has_value, place, position);
     }
-    let written = device.write_at(position, bytes);
-    written.map_err(|_| Fault::WriteFailed)?;
-    settle(index, key, has_value, place, position)
+    settle(index, key, has_value, place, position)?;
+    if device.write_at(position, bytes).is_err() {
+        let slot = index.slot_of(key);
+        index.remove_at(slot, place.place);
+        return Err(Fault::WriteFailed);
+    }
+    Ok(())
 }
 
 /// Writes a record at the end of a log and files its position. Gives how many bytes the records take then. A refusal leaves the index.
@@ -197,12 +176,12 @@ fn append<D: Device, I: Unordered<Value = u64>>(
     index: &mut I,
     key: &[u8],
     value: Option<&[u8]>,
-    place: Option<usize>,
+    place: InList,
     end: u64,
 ) -> Result<u64, Fault>
     requires fits { Fits (record { key = key.now; value = option_map (λ v. v.now) value }) }
-    requires known { is_some value ≡ false → IsSome place }
-    requires place { IfSome place (λ p. p < length (run_of I.Key.cmp (I.view index.old) key.now)) }
+    requires known { is_some value ≡ false → place.is_held ≡ true }
+    requires place { IsIn (run_of I.Key.cmp (I.view index.old) key.now) place.place place.is_held }
     ensures longer { IfOk result (λ longer. longer ≡ end
         + size_of (record { key = key.now; value = option_map (λ v. v.now) value.entry })) }
     ensures written { OnOk result (Changes (D.seen device.old) (D.seen device.new) (λ old new. end ≡ length old
@@ -212,11 +191,11 @@ fn append<D: Device, I: Unordered<Value = u64>>(
     ensures crash { (old : List ℕ) → D.seen device.old ≡ Some old → end ≡ length old → AddsAtMost old
         (encoded end (record { key = key.now; value = option_map (λ v. v.now) value.entry }))
         (D.may_leave device.old) (D.may_leave device.new) }
-    ensures settled { OnOk result (Settles I.Key.cmp I.INSERT_FIRST
-        (I.view index.old) key.now (is_some value.entry) place end (I.view index.new)) }
+    ensures settled { OnOk result (Settles I.Key.cmp
+        (I.view index.old) key.now (is_some value.entry) place.is_held place.place end (I.view index.new)) }
     ensures refused { OnErr result (KeepsLists (I.view index.old) (I.view index.new)) }
     ensures fault { IfErr result (λ f. (f ≡ Fault.WriteFailed) ⊎ (f ≡ Fault.Memory)
-        ⊎ ((place ≡ None) × (f ≡ refusal_of (growth_fault_in (I.view index.old))))) }
+        ⊎ ((place.is_held ≡ false) × (f ≡ refusal_of (growth_fault_in (I.view index.old))))) }
 {
     let bytes = encode(alloc, end, key, value)?;
     let Some(longer) = end.checked_add(bytes.len() as u64) else {
@@ -317,12 +296,13 @@ impl<D: Device, I: Unordered<Value = u64>> Store<D, I> {
         ensures fault { Sees (D.seen self.new) (λ log. IfErr result MayRead) }
     {
         let (alloc, end) = (self.log.alloc, self.log.end);
-        let positions = positions_of(&self.index, key);
-        let Some(found) = find(alloc, &mut self.log.device, positions, key, end)? else {
+        let found = find(alloc, &mut self.log.device, &self.index, key, end)?;
+        let Some(front) = &found.front else {
+            known(&found)?;
             return Ok(None);
         };
-        let front = found.bytes.as_slice();
-        let value = read_value(alloc, &mut self.log.device, found.position, end, front)?;
+        let bytes = front.bytes.as_slice();
+        let value = read_value(alloc, &mut self.log.device, front.position, end, bytes)?;
         Ok(Some(value))
     }
 
@@ -334,9 +314,8 @@ impl<D: Device, I: Unordered<Value = u64>> Store<D, I> {
         ensures fault { Sees (D.seen self.new) (λ log. IfErr result MayRead) }
     {
         let (alloc, end) = (self.log.alloc, self.log.end);
-        let positions = positions_of(&self.index, key);
-        let place = find_place(alloc, &mut self.log.device, positions, key, end)?;
-        Ok(place.is_some())
+        let place = find_place(alloc, &mut self.log.device, &self.index, key, end)?;
+        Ok(place.is_held)
     }
 
     /// Sets the value of a key, by a record behind the others. A key and a value have fewer than 2^32 bytes each. Where it is refused,
@@ -432,9 +411,8 @@ impl<D: Device, I: Unordered<Value = u64>> Store<D, I> {
     {
         self.make_room()?;
         let (alloc, end) = (self.log.alloc, self.log.end);
-        let positions = positions_of(&self.index, key);
-        let place = find_place(alloc, &mut self.log.device, positions, key, end)?;
-        if value.is_none() && place.is_none() {
+        let place = find_place(alloc, &mut self.log.device, &self.index, key, end)?;
+        if value.is_none() && !place.is_held {
             return Ok(false);
         }
         match append(
@@ -449,7 +427,7 @@ impl<D: Device, I: Unordered<Value = u64>> Store<D, I> {
             Ok(longer) => {
                 self.log.end = longer;
                 self.tail = Tail::Nothing;
-                Ok(place.is_some())
+                Ok(place.is_held)
             }
             Err(fault) => {
                 self.tail = Tail::Torn;

@@ -1,11 +1,11 @@
 //! The commands that ask for the order of the keys, which not every kind of index keeps.
 
-use crate::answer::{Answer, Answered, Entry};
+use crate::answer::{Answer, Answered};
 use crate::failure::Refusal;
 use crate::fresh::{make, refusal_of};
 use crate::line::InOrder;
 use crate::session::{DONE, Output, Session};
-use key_index_flat::index::{Factory, Ordered};
+use key_index_flat::index::{Factory, OrderedLists};
 use key_index_store::record::HEAD;
 use key_index_store::store::Tail;
 
@@ -31,7 +31,7 @@ impl<I: Factory<Translator = T, Value = u64> + Drop, T: Copy> Order<I, T> for Wi
 /// Runs them over an index that keeps the order.
 pub struct With;
 
-impl<I: Ordered<Value = u64> + Factory<Translator = T> + Drop, T: Copy> Order<I, T> for With {
+impl<I: OrderedLists<Value = u64> + Factory<Translator = T> + Drop, T: Copy> Order<I, T> for With {
     fn answer(session: &mut Session<'_, I>, command: InOrder, output: &mut Output) -> Answered {
         match command {
             InOrder::Next(key) => Ok(Answer::Entry(session.store.next(&key)?)),
@@ -49,24 +49,19 @@ impl<I: Ordered<Value = u64> + Factory<Translator = T> + Drop, T: Copy> Order<I,
     }
 }
 
-impl<I: Ordered<Value = u64> + Factory<Translator = T> + Drop, T: Copy> Session<'_, I> {
-    /// The first entry of a key or a greater one.
-    fn entry_from(&mut self, key: &[u8]) -> Result<Option<Entry>, Refusal> {
-        match self.store.get(key)? {
-            Some(value) => Ok(Some((Vec::from_slice(self.context.rt.alloc(), key)?, value))),
-            None => Ok(self.store.next(key)?),
-        }
-    }
-
-    /// Writes the entries from a key on, so many at most, whose keys begin with a prefix.
+impl<I: OrderedLists<Value = u64> + Factory<Translator = T> + Drop, T: Copy> Session<'_, I> {
+    /// Writes the entries from a key on, so many at most, whose keys begin with a prefix, and where records don't read.
     fn scan(&mut self, start: &[u8], count: u64, prefix: &[u8], output: &mut Output) -> Answered {
         let mut last: Option<Vec<u8>> = None;
         for _ in 0..count {
             let found = match &last {
-                Some(key) => self.store.next(key)?,
-                None => self.entry_from(start)?,
+                Some(key) => self.store.readable_above(key)?,
+                None => self.store.readable_at_least(start)?,
             };
-            let Some((key, value)) = found else {
+            for record in &found.passed {
+                self.context.write_gap(record.place, record.length, output)?;
+            }
+            let Some((key, value)) = found.entry else {
                 break;
             };
             if !key.starts_with(prefix) {

@@ -177,6 +177,15 @@ impl Context<'_> {
         Ok(true)
     }
 
+    /// Writes where bytes of the file don't read, and how many they are.
+    pub fn write_gap(&mut self, place: u64, length: u64, output: &mut Output) -> Result<(), Refusal> {
+        self.is_well = false;
+        match writeln!(output, "gap {} {length}", place.saturating_add(HEADER)) {
+            Ok(()) => Ok(()),
+            Err(_) => Err(Refusal::For("write")),
+        }
+    }
+
     /// Writes an entry of a scan.
     pub fn write_entry(&self, entry: Entry, output: &mut Output) -> Result<(), Refusal> {
         let entry = Ok(Answer::Entry(Some(entry)));

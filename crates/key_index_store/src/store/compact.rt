@@ -9,7 +9,7 @@ use super::find::length_of;
 use super::log::Log;
 use super::{Fault, NotOpened, Store, Tail};
 use crate::device::Device;
-use key_index_flat::index::{Ordered, Unordered};
+use key_index_flat::index::{OrderedLists, Unordered};
 use std::alloc::Global;
 
 /// A store on a log without bytes.
@@ -34,7 +34,7 @@ fn without_records<C: Device, I: Unordered<Value = u64>>(
     }
 }
 
-impl<D: Device, I: Ordered<Value = u64>> Store<D, I> {
+impl<D: Device, I: OrderedLists<Value = u64>> Store<D, I> {
     /// The least key above one, or of all where none is given, with its value.
     fn first_behind(&mut self, last: &Option<Vec<u8>>) -> Result<Option<(Vec<u8>, Vec<u8>)>, Fault>
         ensures first { Sees (D.seen self.new) (λ log. IfOk result (λ o. in_bytes o

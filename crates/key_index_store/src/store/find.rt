@@ -1,7 +1,9 @@
 //! Reads of records, and the search of a key among positions.
-ghost use Rattle.std.specs.Prelude.{◌≡◌, ◌≤◌, ◌<◌, ◌^◌, ◌-◌, ℕ, List, length, take, drop, slice_get, true, Some, is_some, All, IfSome, IfOk, IfErr, IsTrue, option_map};
+ghost use Rattle.std.specs.Prelude.{◌≡◌, ◌≤◌, ◌<◌, ◌^◌, ◌-◌, ℕ, List, length, take, drop, slice_get, true, false, Some, is_some, All, IsSome, IfSome, IfOk, IfErr, IsTrue, option_map};
+ghost use Rattle.key_index_flat.specs.FullKeys.{IsBytes, byte_cmp};
+ghost use Rattle.key_index_flat.specs.View.{run_of};
 ghost use Rattle.key_index_store.specs.Device.{IsRead, Sees};
-ghost use Rattle.key_index_store.specs.Indexed.{IsAt, IsLive, entry_at, match_of, value_in};
+ghost use Rattle.key_index_store.specs.Indexed.{IsFront, IsIn, IsLive, IsPlace, IsRun, entry_at, key_at};
 ghost use Rattle.key_index_store.specs.Reads.{wanted};
 ghost use Rattle.key_index_store.specs.Record.{Complete, Entry, bytes_of, key_in, reading, record_length};
 ghost use Rattle.key_index_store.specs.Salvage.{step};
@@ -10,8 +12,9 @@ ghost use Rattle.key_index_store.specs.Stored.{MayRead};
 use super::Fault;
 use crate::device::Device;
 use crate::record::{HEAD, has_head, key_in, key_length, record_length, value_in};
-use key_index_flat::index::Values;
+use key_index_flat::index::Unordered;
 use std::alloc::Global;
+use std::cmp::Ordering;
 
 /// How many bytes of a record are read at first.
 const BLOCK: u64 = 1024;
@@ -91,110 +94,172 @@ pub(crate) fn read_front<D: Device>(
     read_bytes(alloc, device, position, wanted)
 }
 
-/// A candidate's key beside the one that is sought.
-#[derive(Clone, Copy, PartialEq, Eq)]
-enum Match {
-    Same,
-    Other,
-    /// Head or key have another checksum, so it may be the one.
-    Unreadable,
-}
-
-fn match_of(bytes: &[u8], position: u64, key: &[u8]) -> Match
-    ensures { result ≡ match_of (key_in position bytes.now) key.now }
-{
-    match key_in(bytes, position) {
-        Some(found) if found == key => Match::Same,
-        Some(_) => Match::Other,
-        None => Match::Unreadable,
-    }
-}
-
-/// Where a key stands in a list of positions, and the front of its record.
-#[derive(Drop)]
-pub(super) struct Found {
+/// Where a key stands in the list of its index key, which is in the order of full keys, or where it would stand.
+#[derive(Clone, Copy)]
+pub(super) struct InList {
+    /// How many keys of the list are below it.
     pub(super) place: usize,
+    /// The next one is the key.
+    pub(super) is_held: bool,
+}
+
+/// The bytes at the front of a record.
+#[derive(Drop)]
+pub(super) struct Front {
     pub(super) position: u64,
     pub(super) bytes: Vec<u8>,
 }
 
-/// Looks positions up in the first `limit` bytes of a log, until the record of a key is found. A record that doesn't read is the one
-/// that is sought, for all that is known, unless another has the key.
-pub(super) fn find<D: Device>(
-    alloc: Global,
-    device: &mut D,
-    positions: Values<'_, u64>,
-    key: &[u8],
-    limit: u64,
-) -> Result<Option<Found>, Fault>
-    requires { length positions < 2 ^ 64 }
-    ensures at { Sees (D.seen device.new) (λ log. limit ≤ length log → All (IsLive (take limit log)) positions.entry
-        → IfOk result (λ o. IsAt (entry_at (take limit log)) key.now positions.entry (option_map (λ f. f.place) o))) }
-    ensures value { Sees (D.seen device.new) (λ log. limit ≤ length log → All (IsLive (take limit log)) positions.entry
-        → IfOk result (λ o. option_map (λ f. (entry_at (take limit log) f.position).1) o
-        ≡ value_in (take limit log) key.now positions.entry)) }
-    ensures found { IfOk result (λ o. IfSome o (λ f. slice_get positions.entry f.place ≡ Some f.position)) }
-    ensures front { Sees (D.seen device.new) (λ log. limit ≤ length log → IfOk result (λ o. IfSome o (λ f.
-        f.bytes.items ≡ take (length f.bytes.items) (drop f.position (take limit log))))) }
-    ensures within { IfOk result (λ o. IfSome o (λ f. f.place < length positions.entry)) }
-    ensures read { IsRead D.seen D.may_leave device.old device.new }
-    ensures fault { Sees (D.seen device.new) (λ log. limit ≤ length log → All (IsLive (take limit log)) positions.entry
-        → IfErr result MayRead) }
-{
-    let mut place = 0;
-    let mut is_unreadable = false;
-    for position in positions {
-        let bytes = read_front(alloc, device, *position, limit, false)?;
-        match match_of(bytes.as_slice(), *position, key) {
-            Match::Same => {
-                return Ok(Some(Found {
-                    place,
-                    position: *position,
-                    bytes,
-                }));
-            }
-            Match::Other => {}
-            Match::Unreadable => is_unreadable = true,
-        }
-        place += 1;
-    }
-    if is_unreadable {
-        return Err(Fault::Damaged);
-    }
-    Ok(None)
+/// A key that was looked up in its list.
+#[derive(Drop)]
+pub(super) struct Found {
+    /// How many keys of the list are below it.
+    pub(super) place: usize,
+    /// Its record, if it has one.
+    pub(super) front: Option<Front>,
+    /// Records that don't read stand at the place: one of them may be its own.
+    pub(super) is_hidden: bool,
 }
 
-/// Where the key was found.
-fn place_of(found: &Option<Found>) -> Option<usize>
-    ensures { result ≡ option_map (λ f. f.place) found.now }
+/// A record of a list whose key reads, and how that key compares with another one.
+#[derive(Drop)]
+struct Readable {
+    place: usize,
+    side: Ordering,
+    front: Front,
+}
+
+/// How the key of the record at the front of some bytes compares with another one, if it reads.
+fn side_of(bytes: &[u8], position: u64, key: &[u8]) -> Option<Ordering>
+    ensures { result ≡ option_map (λ k. byte_cmp k key.now) (key_in position bytes.now) }
 {
-    match found {
-        Some(found) => Some(found.place),
+    match key_in(bytes, position) {
+        Some(there) => Some(there.cmp(key)),
         None => None,
     }
 }
 
-/// Where a key stands in a list of positions.
-pub(super) fn find_place<D: Device>(
+/// The first record of a list whose key reads, from one place to another.
+fn readable_from<D: Device, I: Unordered<Value = u64>>(
     alloc: Global,
     device: &mut D,
-    positions: Values<'_, u64>,
+    index: &I,
+    key: &[u8],
+    from: usize,
+    to: usize,
+    limit: u64,
+) -> Result<Option<Readable>, Fault>
+    requires { to ≤ length (run_of I.Key.cmp (I.view index.now) key.now) }
+    ensures first { Sees (D.seen device.new) (λ log. limit ≤ length log
+        → All (IsLive (take limit log)) (run_of I.Key.cmp (I.view index.now) key.now) → from < to
+        → IfOk result (λ o. IsSome o × IfSome o (λ r. (r.place ≡ from) × (r.side ≡ byte_cmp (key_at (take limit log) r.front.position) key.now)))) }
+    ensures front { Sees (D.seen device.new) (λ log. limit ≤ length log → IfOk result (λ o. IfSome o (λ r.
+        IsFront (take limit log) r.front))) }
+    ensures within { IfOk result (λ o. IfSome o (λ r. (from ≤ r.place) × (r.place < to)
+        × (slice_get (run_of I.Key.cmp (I.view index.now) key.now) r.place ≡ Some r.front.position))) }
+    ensures read { IsRead D.seen D.may_leave device.old device.new }
+    ensures fault { IfErr result MayRead }
+{
+    let slot = index.slot_of(key);
+    for place in from..to {
+        let position = *index.value_at(slot, place);
+        let bytes = read_front(alloc, device, position, limit, false)?;
+        if let Some(side) = side_of(bytes.as_slice(), position, key) {
+            return Ok(Some(Readable {
+                place,
+                side,
+                front: Front { position, bytes },
+            }));
+        }
+    }
+    Ok(None)
+}
+
+/// Looks a key up in its list, in the first `limit` bytes of a log, by as many reads as the length of the list has binary digits. Where
+/// a record doesn't read, the next one that does tells on which side the key is.
+pub(super) fn find<D: Device, I: Unordered<Value = u64>>(
+    alloc: Global,
+    device: &mut D,
+    index: &I,
     key: &[u8],
     limit: u64,
-) -> Result<Option<usize>, Fault>
-    requires { length positions < 2 ^ 64 }
-    ensures at { Sees (D.seen device.new) (λ log. limit ≤ length log → All (IsLive (take limit log)) positions.entry
-        → IfOk result (λ place. IsAt (entry_at (take limit log)) key.now positions.entry place)) }
-    ensures held { Sees (D.seen device.new) (λ log. limit ≤ length log → All (IsLive (take limit log)) positions.entry
-        → IfOk result (λ place. is_some place ≡ is_some (value_in (take limit log) key.now positions.entry))) }
-    ensures within { IfOk result (λ place. IfSome place (λ p. p < length positions.entry)) }
+) -> Result<Found, Fault>
+    ensures at { Sees (D.seen device.new) (λ log. limit ≤ length log
+        → IsRun (take limit log) (run_of I.Key.cmp (I.view index.now) key.now) → IfOk result (λ f.
+        IsPlace (entry_at (take limit log)) key.now (run_of I.Key.cmp (I.view index.now) key.now)
+        f.place (is_some f.front))) }
+    ensures seen { Sees (D.seen device.new) (λ log. limit ≤ length log
+        → IsRun (take limit log) (run_of I.Key.cmp (I.view index.now) key.now)
+        → IfOk result (λ f. f.is_hidden ≡ false)) }
+    ensures front { Sees (D.seen device.new) (λ log. limit ≤ length log → IfOk result (λ f. IfSome f.front
+        (IsFront (take limit log)))) }
+    ensures found { IfOk result (λ f. IfSome f.front (λ r.
+        slice_get (run_of I.Key.cmp (I.view index.now) key.now) f.place ≡ Some r.position)) }
+    ensures within { IfOk result (λ f. f.place ≤ length (run_of I.Key.cmp (I.view index.now) key.now)) }
     ensures read { IsRead D.seen D.may_leave device.old device.new }
-    ensures fault { Sees (D.seen device.new) (λ log. limit ≤ length log → All (IsLive (take limit log)) positions.entry
-        → IfErr result MayRead) }
+    ensures fault { IfErr result MayRead }
 {
-    let found = find(alloc, device, positions, key, limit)?;
-    let place = place_of(&found);
-    Ok(place)
+    let slot = index.slot_of(key);
+    let (mut low, mut high) = (0, index.run_len(slot));
+    let mut is_hidden = false;
+    while low < high {
+        let middle = low + (high - low) / 2;
+        let Some(there) = readable_from(alloc, device, index, key, middle, high, limit)? else {
+            (high, is_hidden) = (middle, true);
+            continue;
+        };
+        match there.side {
+            Ordering::Less => low = there.place + 1,
+            Ordering::Equal => {
+                return Ok(Found {
+                    place: there.place,
+                    front: Some(there.front),
+                    is_hidden: false,
+                });
+            }
+            Ordering::Greater => (high, is_hidden) = (middle, there.place != middle),
+        }
+    }
+    Ok(Found {
+        place: low,
+        front: None,
+        is_hidden,
+    })
+}
+
+/// Where a key that was looked up stands, if that is known.
+pub(super) fn known(found: &Found) -> Result<InList, Fault>
+    ensures place { IfOk result (λ p. (p.place ≡ found.now.place) × (p.is_held ≡ is_some found.now.front)) }
+    ensures fault { IfErr result (λ f. (f ≡ Fault.Damaged) × (found.now.is_hidden ≡ true)) }
+{
+    if found.is_hidden {
+        return Err(Fault::Damaged);
+    }
+    Ok(InList {
+        place: found.place,
+        is_held: found.front.is_some(),
+    })
+}
+
+/// Where a key stands in its list, or would stand.
+pub(super) fn find_place<D: Device, I: Unordered<Value = u64>>(
+    alloc: Global,
+    device: &mut D,
+    index: &I,
+    key: &[u8],
+    limit: u64,
+) -> Result<InList, Fault>
+    ensures at { Sees (D.seen device.new) (λ log. limit ≤ length log
+        → IsRun (take limit log) (run_of I.Key.cmp (I.view index.now) key.now) → IfOk result (λ p.
+        IsPlace (entry_at (take limit log)) key.now (run_of I.Key.cmp (I.view index.now) key.now) p.place p.is_held)) }
+    ensures within { IfOk result (λ p. IsIn (run_of I.Key.cmp (I.view index.now) key.now) p.place p.is_held) }
+    ensures bytes { IsBytes key.now }
+    ensures read { IsRead D.seen D.may_leave device.old device.new }
+    ensures fault { Sees (D.seen device.new) (λ log. limit ≤ length log
+        → IsRun (take limit log) (run_of I.Key.cmp (I.view index.now) key.now) → IfErr result MayRead) }
+{
+    let found = find(alloc, device, index, key, limit)?;
+    known(&found)
 }
 
 /// Whether the whole record stands at the front of some bytes, by its lengths.

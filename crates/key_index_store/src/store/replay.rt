@@ -6,7 +6,7 @@ ghost use Rattle.key_index_store.specs.Record.{Damaged, Fits, Stops, Torn, encod
 ghost use Rattle.key_index_store.specs.Stored.{MayRead, is_zeros, tail_of};
 
 use super::find::{find_place, length_of, read_bytes, read_front};
-use super::{Fault, Tail, positions_of, settle};
+use super::{Fault, Tail, settle};
 use crate::device::Device;
 use crate::record::{Reading, decode};
 use key_index_flat::index::Unordered;
@@ -33,7 +33,7 @@ fn file<D: Device, I: Unordered<Value = u64>>(
     ensures fault { Sees (D.seen device.new) (λ log. position ≤ length log → position < usize.MAX
         → Indexes I.Key.cmp (take position log) (I.view index.old) → IfErr result MayRead) }
 {
-    let place = find_place(alloc, device, positions_of(index, key), key, position)?;
+    let place = find_place(alloc, device, index, key, position)?;
     settle(index, key, has_value, place, position)
 }
 
