@@ -16,8 +16,11 @@ use key_index_flat::index::Unordered;
 use std::alloc::Global;
 use std::cmp::Ordering;
 
-/// How many bytes of a record are read at first.
+/// How many bytes of a record are read at first, where the whole of it is wanted.
 const BLOCK: u64 = 1024;
+
+/// How many bytes are read at first where its key is.
+const KEY_BLOCK: u64 = 128;
 
 /// How many bytes a log has.
 pub(crate) fn length_of<D: Device>(device: &mut D) -> Result<u64, Fault>
@@ -86,7 +89,8 @@ pub(crate) fn read_front<D: Device>(
     ensures fault { IfErr result MayRead }
 {
     let rest = limit.saturating_sub(position);
-    let block = read_bytes(alloc, device, position, rest.min(BLOCK))?;
+    let block = if is_whole { BLOCK } else { KEY_BLOCK };
+    let block = read_bytes(alloc, device, position, rest.min(block))?;
     let wanted = wanted(block.as_slice(), position, is_whole).min(rest);
     if wanted <= block.len() as u64 {
         return Ok(block);
