@@ -1,100 +1,288 @@
--- On the neighbours of a key: the nearest position by the keys that are read has the nearest entry of the map.
---     read_filed                          each position stands under the key that is read at it
---     live_value                          each position of the index is live
---     next_told, prev_told, last_told     of the nearest position: it is live, and its entry is that of the map
---     first_held, first_entry-above_empty_key   the least of all is the empty key, or the next one
-use Rattle.std.proofs.Common.{◌≡◌, ◌<◌, ℕ, Bool, true, false, List, [], ◌∷◌, cond, map, take, T, All, Contains, Option, Some, None, is_some, refl, sym, ap, subst, ◌∙◌}
+-- On the neighbours of a key: where each list stands in the order of its keys, the positions of an index stand for the entries of the map.
+--     IsTold                                  of a position that is found: it is live, and its entry is the one that is asked for
+--     entries_held                            the entries of all positions are those of the map
+--     above_told, from_told, below_told       the nearest position above a key, from it on, and below it
+--     first_told, last_told                   the first and the last of all
+use Rattle.std.proofs.Common.{◌≡◌, ◌<◌, ◌+◌, ℕ, suc, Bool, true, false, cond, List, [], ◌∷◌, ◌++◌, map, length, take, drop, T, All, Option, Some, None, is_some, unwrap_or, refl, sym, ap, subst, ◌∙◌, append_assoc, append-nil, arith}
 use Rattle.std.proofs.lemmas.Bool.{false≢true}
-use Rattle.std.proofs.lemmas.List.Elements.{All-append, All-cons, All-contains, All-filter, All-head, All-nil, All-tail, All-weaker}
-use Rattle.std.specs.Cmp.{IsTotalOrder, back_total, nat_cmp_is, on_total, tied_itself}
-use Rattle.std.specs.Cmp.Lexicographic.{nat_list_cmp_total, slice_cmp}
-use Rattle.std.specs.FinMap.{entries, entries_sorted, find, get, get-entries, is_sorted}
+use Rattle.std.proofs.lemmas.Grind.{flat_map-append}
+use Rattle.std.proofs.lemmas.List.{drop_at, drop-map, map-append, take_at, take-map}
+use Rattle.std.proofs.lemmas.List.Elements.{All-append, All-cons, All-drop, All-filter, All-head, All-map, All-nil, All-tail, All-take, All-weaker, filter-append, filter_passes}
+use Rattle.std.proofs.lemmas.Map.Lookups.{exact_bytes}
+use Rattle.std.specs.Cmp.{IsTotalOrder, tied_itself}
+use Rattle.std.specs.Cmp.Lexicographic.{nat_list_cmp_total}
+use Rattle.std.specs.FinMap.{entries, entries-from_sorted, find, from_sorted, get, get-from_sorted, is_sorted, same_map}
 use Rattle.std.specs.FinMap.Entries.{below_all}
-use Rattle.std.specs.List.{filter}
-use Rattle.std.specs.Option.{IfSome, option_map, unwrap_or}
-use Rattle.std.specs.Ordering.{flip_args, is_eq, is_lt, nat_cmp, ordering_then}
+use Rattle.std.specs.List.{filter, last_or}
+use Rattle.std.specs.Option.{IfSome, option_map}
+use Rattle.std.specs.Ordering.{is_eq, is_gt, is_le, is_lt, ordering_reverse}
 use Rattle.std.specs.declared.cmp.Ordering.{Ordering}
 use Rattle.std.specs.declared.cmp.Ordering.TheVariants.{Less, Equal, Greater}
 use Rattle.key_index_flat.specs.Content.{Content, IsLawful, list_at}
-use Rattle.key_index_flat.specs.FullKeys.{IsBytes, IsFiled, IsFiledIn, IsFullLast, IsFullNext, IsFullPrev, IsLeast, above, below, byte_cmp, cmp_keys}
-use Rattle.key_index_flat.specs.Neighbours.{entries_above, first_entry, last_entry}
+use Rattle.key_index_flat.specs.FullKeys.{IsBytes, byte_cmp}
+use Rattle.key_index_flat.specs.Neighbours.{KeepsOrder, entries_above, entries_below, first_entry, last_entry}
 use Rattle.key_index_flat.specs.Values.{values_of}
-use Rattle.key_index_flat.specs.laws.Laws.{T-and_first, T-and_second}
-use Rattle.key_index_flat.specs.View.{View, run_at}
-use Rattle.key_index_flat.proofs.content.ContentLemmas.{Equal-is_eq, list_at-below_all}
-use Rattle.key_index_flat.proofs.neighbours.LeastLemmas.{least_has}
-use Rattle.key_index_store.specs.Indexed.{Indexes, Keeps, IsLive, IsUnder, entry_at, key_at, key_read}
-use Rattle.key_index_store.specs.Stored.{Values, entry_after, entry_before, held_by}
+use Rattle.key_index_flat.specs.View.{View, run_at, run_of}
+use Rattle.key_index_flat.specs.Walk.{entries_from}
+use Rattle.key_index_flat.specs.laws.Laws.{T-and, T-and_first, T-and_second}
+use Rattle.key_index_flat.proofs.content.ContentLemmas.{Less-is_lt, list_at-below_all}
+use Rattle.key_index_flat.proofs.entries.MapLemmas.{own_list}
+use Rattle.key_index_flat.proofs.neighbours.NeighbourLemmas.{last_or-map}
+use Rattle.key_index_store.specs.Indexed.{Indexes, IsLive, IsPlace, IsUnder, Keeps, entry_at, key_at}
+use Rattle.key_index_store.specs.Positions.{positions_before, positions_from}
+use Rattle.key_index_store.specs.Stored.{Values, entry_after, entry_before, entry_from, held_by}
 use Rattle.key_index_store.specs.declared.store.Tail.{Tail}
 use Rattle.key_index_store.proofs.KeepLemmas.{kept_held}
-use Rattle.key_index_store.proofs.ReadLemmas.{key_in-live}
-use Rattle.std.proofs.lemmas.Map.Lookups.{exact_bytes}
-use Rattle.key_index_flat.proofs.entries.MapLemmas.{first_entry-IsLeast, own_list, last_entry-IsLeast}
 
 abbrev pub Pair : Type 0
 Pair = List ℕ × List ℕ
 
--- ---- what holds of each list of a content holds of each value
+-- ---- lists
 
-module _ {K V : Type 0} {cmp : K → K → Ordering} (o : IsTotalOrder cmp) (P : V → Type 0) where
-  lists_have : (c : Content K V) → T (is_sorted cmp c) → ((k : K) → All P (list_at cmp c k)) → All (λ (e : K × List V). All P e.1) c
-  lists_have [] h all = All-nil (λ (e : K × List V). All P e.1)
-  lists_have (e ∷ es) h all =
-      All-cons (λ (e : K × List V). All P e.1) e es
-      (subst (λ r. All P (unwrap_or (cond (is_eq r) (Some e.1) (find cmp e.0 es)) [])) (tied_itself o e.0) (all e.0))
-      (lists_have es (T-and_second _ _ h) (λ k.
-      elim (cmp k e.0) as (λ r. cmp k e.0 ≡ r → All P (unwrap_or (cond (is_eq r) (Some e.1) (find cmp k es)) []) → All P (list_at cmp es k)) [
-        | Less ↦ λ p x. x
-        | Equal ↦ λ p x. subst (All P) (sym (list_at-below_all o k e.0 es (λ y q. o.congr k e.0 y p ∙ q) (T-and_first _ _ h))) (All-nil P)
-        | Greater ↦ λ p x. x
-      ] refl (all k)))
-
-  values_have : (c : Content K V) → All (λ (e : K × List V). All P e.1) c → All P (values_of c)
-  values_have [] h = All-nil P
-  values_have (e ∷ es) h =
-      All-append P e.1 (values_of es) (All-head (λ (e : K × List V). All P e.1) e es h) (values_have es (All-tail (λ (e : K × List V). All P e.1) e es h))
-
-  pub all_have : (c : Content K V) → T (is_sorted cmp c) → ((k : K) → All P (list_at cmp c k)) → All P (values_of c)
-  all_have c sorted all = values_have c (lists_have c sorted all)
-
--- bytes are below 256
-past_bytes : List ℕ
-past_bytes = 256 ∷ []
-
-bytes_below : (k : List ℕ) → IsBytes k → byte_cmp k past_bytes ≡ Less
-unfolding past_bytes
-bytes_below [] h = refl
-bytes_below (x ∷ xs) h = ap (λ r. ordering_then r (slice_cmp nat_cmp xs [])) (sym (nat_cmp_is x 256 Less (All-head (λ n. n < 256) x xs h)))
+both : {X : Type 0} {P Q : X → Type 0} (l : List X) → All P l → All Q l → All (λ x. P x × Q x) l
+both {P = P} {Q = Q} [] p q = All-nil (λ x. P x × Q x)
+both {P = P} {Q = Q} (x ∷ xs) p q = All-cons (λ x. P x × Q x) x xs (All-head P x xs p, All-head Q x xs q) (both xs (All-tail P x xs p) (All-tail Q x xs q))
 
 all_pass : {X : Type 0} (p : X → Bool) (l : List X) → All (λ x. p x ≡ true) l → filter p l ≡ l
 all_pass p [] h = refl
 all_pass p (x ∷ xs) h =
     ap (λ b. cond b (x ∷ filter p xs) (filter p xs)) (All-head (λ x. p x ≡ true) x xs h) ∙ ap (λ l. x ∷ l) (all_pass p xs (All-tail (λ x. p x ≡ true) x xs h))
 
--- what holds of each key that is found holds of each key
-keys_found : (es : List Pair) → ((q : List ℕ) → is_some (find byte_cmp q es) ≡ true → IsBytes q) → All (λ (e : Pair). IsBytes e.0) es
-keys_found [] h = All-nil (λ (e : Pair). IsBytes e.0)
-keys_found (e ∷ es) h =
-    All-cons (λ (e : Pair). IsBytes e.0) e es
-    (h e.0 (ap (λ r. is_some (cond (is_eq r) (Some e.1) (find byte_cmp e.0 es))) (tied_itself nat_list_cmp_total e.0)))
-    (keys_found es (λ q f. h q (elim (is_eq (byte_cmp q e.0)) as (λ b. is_some (cond b (Some e.1) (find byte_cmp q es)) ≡ true) [
-      | true ↦ refl
-      | false ↦ f
-    ])))
+none_pass : {X : Type 0} (p : X → Bool) (l : List X) → All (λ x. p x ≡ false) l → filter p l ≡ []
+none_pass p [] h = refl
+none_pass p (x ∷ xs) h =
+    ap (λ b. cond b (x ∷ filter p xs) (filter p xs)) (All-head (λ x. p x ≡ false) x xs h) ∙ none_pass p xs (All-tail (λ x. p x ≡ false) x xs h)
 
-found_among : (entry : ℕ → Pair) (ps : List ℕ) → All (λ p. IsBytes (entry p).0) ps → (q : List ℕ) → is_some (find byte_cmp q (map entry ps)) ≡ true → IsBytes q
-found_among entry [] h q f = absurd (false≢true f)
-found_among entry (p ∷ ps) h q f =
-    elim (is_eq (byte_cmp q (entry p).0)) as (λ b. is_eq (byte_cmp q (entry p).0) ≡ b → is_some (cond b (Some (entry p).1) (find byte_cmp q (map entry ps))) ≡ true → IsBytes q) [
-      | true ↦ λ t _. subst IsBytes (sym (exact_bytes q (entry p).0 (Equal-is_eq _ t))) (All-head (λ p. IsBytes (entry p).0) p ps h)
-      | false ↦ λ t g. found_among entry ps (All-tail (λ p. IsBytes (entry p).0) p ps h) q g
-    ] refl f
+first_entry-map : {X Y : Type 0} (f : X → Y) (l : List X) → option_map f (first_entry l) ≡ first_entry (map f l)
+first_entry-map f [] = refl
+first_entry-map f (x ∷ xs) = refl
 
--- ---- on an index
+first_has : {X : Type 0} (P : X → Type 0) (l : List X) → All P l → IfSome (first_entry l) P
+first_has P [] h = tt
+first_has P (x ∷ xs) h = All-head P x xs h
 
-module _ {K : Type 0} {cmp : K → K → Ordering} (o : IsTotalOrder cmp) (whole : List ℕ) (s : View K ℕ) (end : ℕ) (t : Tail) (lawful : IsLawful cmp s.content) (kept : Keeps cmp whole s end t) where
+last_has : {X : Type 0} (P : X → Type 0) (o : Option X) (l : List X) → IfSome o P → All P l → IfSome (last_or o l) P
+last_has P o [] at h = at
+last_has P o (x ∷ xs) at h = last_has P (Some x) xs (All-head P x xs h) (All-tail P x xs h)
+
+-- ---- entries in the order of their keys, beside a key
+
+module _ {K X : Type 0} {R : K → K → Ordering} (o : IsTotalOrder R) (k : K) where
+  -- the key's own
+  abbrev own : List (K × X) → List (K × X)
+  own es = filter (λ e. is_eq (R k e.0)) es
+
+  abbrev above : List (K × X) → List (K × X)
+  above es = entries_above R es k
+
+  abbrev below : List (K × X) → List (K × X)
+  below es = entries_below R es k
+
+  behind : (x : K) (es : List (K × X)) → ((y : K) → R x y ≡ Less → R k y ≡ Less) → T (below_all R x es) → All (λ e. R k e.0 ≡ Less) es
+  behind x [] through h = All-nil (λ (e : K × X). R k e.0 ≡ Less)
+  behind x (e ∷ es) through h = All-cons (λ (e : K × X). R k e.0 ≡ Less) e es (through e.0 (Less-is_lt _ (T-and_first _ _ h))) (behind x es through (T-and_second _ _ h))
+
+  none_below : (es : List (K × X)) → All (λ e. R k e.0 ≡ Less) es → below es ≡ []
+  none_below es h =
+      none_pass (λ e. is_lt (R e.0 k)) es
+      (All-weaker (λ (e : K × X). R k e.0 ≡ Less) (λ e. is_lt (R e.0 k) ≡ false) (λ e q. ap is_lt (o.antisymm e.0 k ∙ ap ordering_reverse q)) es h)
+
+  none_own : (es : List (K × X)) → All (λ e. R k e.0 ≡ Less) es → own es ≡ []
+  none_own es h = none_pass (λ e. is_eq (R k e.0)) es (All-weaker (λ (e : K × X). R k e.0 ≡ Less) (λ e. is_eq (R k e.0) ≡ false) (λ e q. ap is_eq q) es h)
+
+  all_above : (es : List (K × X)) → All (λ e. R k e.0 ≡ Less) es → above es ≡ es
+  all_above es h = all_pass (λ e. is_lt (R k e.0)) es (All-weaker (λ (e : K × X). R k e.0 ≡ Less) (λ e. is_lt (R k e.0) ≡ true) (λ e q. ap is_lt q) es h)
+
+  all_from : (es : List (K × X)) → All (λ e. R k e.0 ≡ Less) es → entries_from R es k ≡ es
+  all_from es h = all_pass (λ e. is_le (R k e.0)) es (All-weaker (λ (e : K × X). R k e.0 ≡ Less) (λ e. is_le (R k e.0) ≡ true) (λ e q. ap is_le q) es h)
+
+  all_below : (es : List (K × X)) → All (λ e. R e.0 k ≡ Less) es → below es ≡ es
+  all_below es h = all_pass (λ e. is_lt (R e.0 k)) es (All-weaker (λ (e : K × X). R e.0 k ≡ Less) (λ e. is_lt (R e.0 k) ≡ true) (λ e q. ap is_lt q) es h)
+
+  none_above : (es : List (K × X)) → All (λ e. R e.0 k ≡ Less) es → above es ≡ []
+  none_above es h =
+      none_pass (λ e. is_lt (R k e.0)) es
+      (All-weaker (λ (e : K × X). R e.0 k ≡ Less) (λ e. is_lt (R k e.0) ≡ false) (λ e q. ap is_lt (o.antisymm k e.0 ∙ ap ordering_reverse q)) es h)
+
+  none_from : (es : List (K × X)) → All (λ e. R e.0 k ≡ Less) es → entries_from R es k ≡ []
+  none_from es h =
+      none_pass (λ e. is_le (R k e.0)) es
+      (All-weaker (λ (e : K × X). R e.0 k ≡ Less) (λ e. is_le (R k e.0) ≡ false) (λ e q. ap is_le (o.antisymm k e.0 ∙ ap ordering_reverse q)) es h)
+
+  -- behind an entry that isn't below the key all are above it
+  behind_less : (e : K × X) (es : List (K × X)) → R k e.0 ≡ Less → T (is_sorted R (e ∷ es)) → All (λ e. R k e.0 ≡ Less) es
+  behind_less e es q h = behind e.0 es (λ y p. o.trans k e.0 y q p) (T-and_first _ _ h)
+
+  behind_equal : (e : K × X) (es : List (K × X)) → R k e.0 ≡ Equal → T (is_sorted R (e ∷ es)) → All (λ e. R k e.0 ≡ Less) es
+  behind_equal e es q h = behind e.0 es (λ y p. o.congr k e.0 y q ∙ p) (T-and_first _ _ h)
+
+  split_at : (es : List (K × X)) → T (is_sorted R es) → es ≡ below es ++ (own es ++ above es)
+  split_at [] h = refl
+  split_at (e ∷ es) h =
+      let rest = split_at es (T-and_second _ _ h) in
+      elim (R k e.0) as (λ r. R k e.0 ≡ r → e ∷ es ≡ cond (is_lt (ordering_reverse r)) (e ∷ below es) (below es) ++ (cond (is_eq r) (e ∷ own es) (own es) ++ cond (is_lt r) (e ∷ above es) (above es))) [
+        | Less ↦ λ q.
+            let all = behind_less e es q h in
+            ap (λ l. e ∷ l) (sym (all_above es all)) ∙ (λ i. sym (none_below es all) i ++ (sym (none_own es all) i ++ (e ∷ above es)))
+        | Equal ↦ λ q.
+            let none = none_below es (behind_equal e es q h) in
+            ap (λ l. e ∷ l) (rest ∙ ap (λ l. l ++ (own es ++ above es)) none) ∙ ap (λ l. l ++ ((e ∷ own es) ++ above es)) (sym none)
+        | Greater ↦ λ q. ap (λ l. e ∷ l) rest
+      ] refl ∙ ap (λ r. cond (is_lt r) (e ∷ below es) (below es) ++ (own (e ∷ es) ++ above (e ∷ es))) (sym (o.antisymm e.0 k))
+
+  from_split : (es : List (K × X)) → T (is_sorted R es) → entries_from R es k ≡ own es ++ above es
+  from_split [] h = refl
+  from_split (e ∷ es) h =
+      let from = entries_from R es k in
+      let rest = from_split es (T-and_second _ _ h) in
+      elim (R k e.0) as (λ r. R k e.0 ≡ r → cond (is_le r) (e ∷ from) from ≡ cond (is_eq r) (e ∷ own es) (own es) ++ cond (is_lt r) (e ∷ above es) (above es)) [
+        | Less ↦ λ q.
+            let none = none_own es (behind_less e es q h) in
+            ap (λ l. e ∷ l) (rest ∙ ap (λ l. l ++ above es) none) ∙ ap (λ l. l ++ (e ∷ above es)) (sym none)
+        | Equal ↦ λ q. ap (λ l. e ∷ l) rest
+        | Greater ↦ λ q. rest
+      ] refl
+
+  length-own : (es : List (K × X)) → T (is_sorted R es) → length (own es) ≡ cond (is_some (find R k es)) 1 0
+  length-own [] h = refl
+  length-own (e ∷ es) h =
+      elim (R k e.0) as (λ r. R k e.0 ≡ r → length (cond (is_eq r) (e ∷ own es) (own es)) ≡ cond (is_some (cond (is_eq r) (Some e.1) (find R k es))) 1 0) [
+        | Less ↦ λ q. length-own es (T-and_second _ _ h)
+        | Equal ↦ λ q. ap (λ (l : List (K × X)). length (e ∷ l)) (none_own es (behind_equal e es q h))
+        | Greater ↦ λ q. length-own es (T-and_second _ _ h)
+      ] refl
+
+  -- at the place behind those that are below it
+  module _ (es : List (K × X)) (h : T (is_sorted R es)) (place : ℕ) (at : place ≡ length (below es)) where
+    drop_place : drop place es ≡ entries_from R es k
+    drop_place = ap (drop place) (split_at es h) ∙ drop_at (below es) (own es ++ above es) place (sym at) ∙ sym (from_split es h)
+
+    take_place : take place es ≡ below es
+    take_place = ap (take place) (split_at es h) ∙ take_at (below es) (own es ++ above es) place (sym at)
+
+    drop_behind : (is_held : Bool) → is_held ≡ is_some (find R k es) → drop (place + cond is_held 1 0) es ≡ above es
+    drop_behind is_held held =
+        let counted : length (below es ++ own es) ≡ place + cond is_held 1 0 = length-append (below es) (own es) ∙ (λ i. sym at i + (length-own es h ∙ ap (λ b. cond b 1 0) (sym held)) i) in
+        ap (drop (place + cond is_held 1 0)) (split_at es h ∙ sym (append_assoc (below es) (own es) (above es)))
+        ∙ drop_at (below es ++ own es) (above es) (place + cond is_held 1 0) counted
+
+  -- between lower entries and higher ones
+  module _ (lower mid upper : List (K × X)) (low : All (λ e. R e.0 k ≡ Less) lower) (high : All (λ e. R k e.0 ≡ Less) upper) where
+    above_between : above (lower ++ (mid ++ upper)) ≡ above mid ++ upper
+    above_between =
+        filter-append (λ e. is_lt (R k e.0)) lower (mid ++ upper) ∙ ap (λ l. l ++ above (mid ++ upper)) (none_above lower low)
+        ∙ filter-append (λ e. is_lt (R k e.0)) mid upper ∙ ap (λ l. above mid ++ l) (all_above upper high)
+
+    from_between : entries_from R (lower ++ (mid ++ upper)) k ≡ entries_from R mid k ++ upper
+    from_between =
+        filter-append (λ e. is_le (R k e.0)) lower (mid ++ upper) ∙ ap (λ l. l ++ entries_from R (mid ++ upper) k) (none_from lower low)
+        ∙ filter-append (λ e. is_le (R k e.0)) mid upper ∙ ap (λ l. entries_from R mid k ++ l) (all_from upper high)
+
+    below_between : below (lower ++ (mid ++ upper)) ≡ lower ++ below mid
+    below_between =
+        filter-append (λ e. is_lt (R e.0 k)) lower (mid ++ upper)
+        ∙ (λ i. all_below lower low i ++ filter-append (λ e. is_lt (R e.0 k)) mid upper i)
+        ∙ ap (λ l. lower ++ (below mid ++ l)) (none_below upper high) ∙ ap (λ l. lower ++ l) (append-nil (below mid))
+
+-- ---- a content
+
+module _ {K V : Type 0} {cmp : K → K → Ordering} (o : IsTotalOrder cmp) where
+  list_own : (k : K) (c : Content K V) → T (is_sorted cmp c) → list_at cmp c k ≡ values_of (own o k c)
+  list_own k [] h = refl
+  list_own k (e ∷ es) h =
+      elim (cmp k e.0) as (λ r. cmp k e.0 ≡ r → unwrap_or (cond (is_eq r) (Some e.1) (find cmp k es)) [] ≡ values_of (cond (is_eq r) (e ∷ own o k es) (own o k es))) [
+        | Less ↦ λ q. list_own k es (T-and_second _ _ h)
+        | Equal ↦ λ q. sym (append-nil e.1) ∙ ap (λ (l : Content K V). e.1 ++ values_of l) (sym (none_own o k es (behind_equal o k e es q h)))
+        | Greater ↦ λ q. list_own k es (T-and_second _ _ h)
+      ] refl
+
+  -- the values of lower lists, of a key's own and of higher ones
+  pub values_split : (k : K) (c : Content K V) → T (is_sorted cmp c) → values_of c ≡ values_of (entries_below cmp c k) ++ (list_at cmp c k ++ values_of (entries_above cmp c k))
+  values_split k c h =
+      ap values_of (split_at o k c h)
+      ∙ flat_map-append (λ (e : K × List V). e.1) (below o k c) (own o k c ++ above o k c)
+      ∙ ap (λ l. values_of (below o k c) ++ l)
+      (flat_map-append (λ (e : K × List V). e.1) (own o k c) (above o k c) ∙ ap (λ l. l ++ values_of (above o k c)) (sym (list_own k c h)))
+
+  -- what holds of the list at each index key
+  lists_have : (P : K → V → Type 0) (c : Content K V) → T (is_sorted cmp c) → ((k : K) → All (P k) (list_at cmp c k)) → All (λ (e : K × List V). All (P e.0) e.1) c
+  lists_have P [] h all = All-nil (λ (e : K × List V). All (P e.0) e.1)
+  lists_have P (e ∷ es) h all =
+      All-cons (λ (e : K × List V). All (P e.0) e.1) e es
+      (subst (λ r. All (P e.0) (unwrap_or (cond (is_eq r) (Some e.1) (find cmp e.0 es)) [])) (tied_itself o e.0) (all e.0))
+      (lists_have P es (T-and_second _ _ h) (λ k.
+      elim (cmp k e.0) as (λ r. cmp k e.0 ≡ r → All (P k) (unwrap_or (cond (is_eq r) (Some e.1) (find cmp k es)) []) → All (P k) (list_at cmp es k)) [
+        | Less ↦ λ p x. x
+        | Equal ↦ λ p x. subst (All (P k)) (sym (list_at-below_all o k e.0 es (λ y q. o.congr k e.0 y p ∙ q) (T-and_first _ _ h))) (All-nil (P k))
+        | Greater ↦ λ p x. x
+      ] refl (all k)))
+
+  values_have : (P : V → Type 0) (c : Content K V) → All (λ (e : K × List V). All P e.1) c → All P (values_of c)
+  values_have P [] h = All-nil P
+  values_have P (e ∷ es) h =
+      All-append P e.1 (values_of es) (All-head (λ (e : K × List V). All P e.1) e es h) (values_have P es (All-tail (λ (e : K × List V). All P e.1) e es h))
+
+  -- of the values under index keys that are told of
+  values_told : (P : K → V → Type 0) (Q : K → Type 0) (S : V → Type 0) → ((k : K) (v : V) → P k v → Q k → S v) → (c : Content K V)
+      → All (λ (e : K × List V). All (P e.0) e.1) c → All (λ (e : K × List V). Q e.0) c → All S (values_of c)
+  values_told P Q S f c p q =
+      values_have S c
+      (All-weaker (λ (e : K × List V). All (P e.0) e.1 × Q e.0) (λ (e : K × List V). All S e.1) (λ e h. All-weaker (P e.0) S (λ v u. f e.0 v u h.1) e.1 h.0) c (both c p q))
+
+-- ---- entries of values, in order
+
+module _ {V X : Type 0} (entry : V → List ℕ × X) where
+  abbrev key : V → List ℕ
+  key v = (entry v).0
+
+  below_mapped : (x : List ℕ) (vs ws : List V) → T (below_all byte_cmp x (map entry vs)) → All (λ w. byte_cmp x (key w) ≡ Less) ws → T (below_all byte_cmp x (map entry (vs ++ ws)))
+  below_mapped x [] [] h all = tt
+  below_mapped x [] (w ∷ ws) h all =
+      T-and _ _ (subst (λ r. T (is_lt r)) (sym (All-head (λ w. byte_cmp x (key w) ≡ Less) w ws all)) tt) (below_mapped x [] ws tt (All-tail (λ w. byte_cmp x (key w) ≡ Less) w ws all))
+  below_mapped x (v ∷ vs) ws h all = T-and _ _ (T-and_first _ _ h) (below_mapped x vs ws (T-and_second _ _ h) all)
+
+  sorted_mapped : (vs ws : List V) → T (is_sorted byte_cmp (map entry vs)) → T (is_sorted byte_cmp (map entry ws)) → All (λ v. All (λ w. byte_cmp (key v) (key w) ≡ Less) ws) vs
+      → T (is_sorted byte_cmp (map entry (vs ++ ws)))
+  sorted_mapped [] ws h k all = k
+  sorted_mapped (v ∷ vs) ws h k all =
+      T-and _ _ (below_mapped (key v) vs ws (T-and_first _ _ h) (All-head (λ v. All (λ w. byte_cmp (key v) (key w) ≡ Less) ws) v vs all))
+      (sorted_mapped vs ws (T-and_second _ _ h) k (All-tail (λ v. All (λ w. byte_cmp (key v) (key w) ≡ Less) ws) v vs all))
+
+  module _ {K : Type 0} {cmp : K → K → Ordering} (o : IsTotalOrder cmp) (slot : List ℕ → K) (keeps : KeepsOrder cmp slot) where
+    abbrev Filed : K → V → Type 0
+    Filed k v = IsBytes (key v) × (slot (key v) ≡ k)
+
+    less_by_slot : (a b : List ℕ) → IsBytes a → IsBytes b → cmp (slot a) (slot b) ≡ Less → byte_cmp a b ≡ Less
+    less_by_slot a b p q e =
+        let back : is_gt (cmp (slot b) (slot a)) ≡ true = ap is_gt (o.antisymm (slot b) (slot a) ∙ ap ordering_reverse e) in
+        let never : is_gt (byte_cmp b a) ≡ false → ⊥ = λ h. false≢true (sym (keeps b a q p h) ∙ back) in
+        elim (byte_cmp a b) as (λ r. byte_cmp b a ≡ ordering_reverse r → r ≡ Less) [
+          | Less ↦ λ t. refl
+          | Equal ↦ λ t. absurd (never (ap is_gt t))
+          | Greater ↦ λ t. absurd (never (ap is_gt t))
+        ] (nat_list_cmp_total.antisymm b a)
+
+    all_sorted : (c : Content K V) → T (is_sorted cmp c) → All (λ (e : K × List V). All (Filed e.0) e.1) c → All (λ (e : K × List V). T (is_sorted byte_cmp (map entry e.1))) c
+        → T (is_sorted byte_cmp (map entry (values_of c)))
+    all_sorted [] h filed sorted = tt
+    all_sorted (e ∷ es) h filed sorted =
+        let rest = All-tail (λ (e : K × List V). All (Filed e.0) e.1) e es filed in
+        let higher : All (λ (f : K × List V). cmp e.0 f.0 ≡ Less) es = behind o e.0 e.0 es (λ y q. q) (T-and_first _ _ h) in
+        sorted_mapped e.1 (values_of es) (All-head (λ (e : K × List V). T (is_sorted byte_cmp (map entry e.1))) e es sorted)
+        (all_sorted es (T-and_second _ _ h) rest (All-tail (λ (e : K × List V). T (is_sorted byte_cmp (map entry e.1))) e es sorted))
+        (All-weaker (Filed e.0) (λ v. All (λ w. byte_cmp (key v) (key w) ≡ Less) (values_of es))
+        (λ v u. values_told o Filed (λ k. cmp e.0 k ≡ Less) (λ w. byte_cmp (key v) (key w) ≡ Less)
+        (λ k w f q. less_by_slot (key v) (key w) u.0 f.0 ((λ i. cmp (u.1 i) (f.1 i)) ∙ q)) es rest higher)
+        e.1 (All-head (λ (e : K × List V). All (Filed e.0) e.1) e es filed))
+
+-- ---- an index
+
+module _ {K : Type 0} {cmp : K → K → Ordering} (o : IsTotalOrder cmp) (whole : List ℕ) (s : View K ℕ) (end : ℕ) (t : Tail) (lawful : IsLawful cmp s.content) (keeps : KeepsOrder cmp s.slot) (kept : Keeps cmp whole s end t) where
   abbrev log : List ℕ
   log = take end whole
+
+  abbrev entry : ℕ → Pair
+  entry = entry_at log
 
   abbrev h : Indexes cmp log s
   h = kept.indexed
@@ -105,116 +293,142 @@ module _ {K : Type 0} {cmp : K → K → Ordering} (o : IsTotalOrder cmp) (whole
   abbrev all : List ℕ
   all = values_of s.content
 
-  IsFiled-content : IsFiled (key_at log) cmp s.slot s.content
-  IsFiled-content k = All-weaker (IsUnder log s.slot k) (λ p. IsBytes (key_at log p) × (s.slot (key_at log p) ≡ k)) (λ p q. (q.1, q.2)) (run_at cmp s k) (h.live k)
+  abbrev Under : K → ℕ → Type 0
+  Under k p = IsUnder log s.slot k p
 
-  live_values : All (IsLive log) all
-  live_values = all_have o (IsLive log) s.content lawful.0 (λ k. All-weaker (IsUnder log s.slot k) (IsLive log) (λ p q. q.0) (run_at cmp s k) (h.live k))
+  all_under : All (λ (e : K × List ℕ). All (Under e.0) e.1) s.content
+  all_under = lists_have o Under s.content lawful.0 h.live
 
-  pub live_value : (p : ℕ) → Contains all p → IsLive log p
-  live_value p among = All-contains (IsLive log) all p live_values among
+  all_filed : All (λ (e : K × List ℕ). All (Filed entry o s.slot keeps e.0) e.1) s.content
+  all_filed =
+      All-weaker (λ (e : K × List ℕ). All (Under e.0) e.1) (λ (e : K × List ℕ). All (Filed entry o s.slot keeps e.0) e.1)
+      (λ e u. All-weaker (Under e.0) (Filed entry o s.slot keeps e.0) (λ p q. (q.1, q.2)) e.1 u) s.content all_under
 
-  -- what is read at a live position is its key
-  read_at : (p : ℕ) → IsLive log p → key_read log p ≡ key_at log p
-  read_at p live = ap (λ k. unwrap_or k []) (key_in-live log p live)
+  lists_sorted : All (λ (e : K × List ℕ). T (is_sorted byte_cmp (map entry e.1))) s.content
+  lists_sorted = sorted_in s.content lawful.0 h.sorted
+    where
+      sorted_in : (c : Content K ℕ) → T (is_sorted cmp c) → ((k : K) → T (is_sorted byte_cmp (map entry (list_at cmp c k)))) → All (λ (e : K × List ℕ). T (is_sorted byte_cmp (map entry e.1))) c
+      sorted_in [] h f = All-nil (λ (e : K × List ℕ). T (is_sorted byte_cmp (map entry e.1)))
+      sorted_in (e ∷ es) h f =
+          All-cons (λ (e : K × List ℕ). T (is_sorted byte_cmp (map entry e.1))) e es
+          (subst (λ r. T (is_sorted byte_cmp (map entry (unwrap_or (cond (is_eq r) (Some e.1) (find cmp e.0 es)) [])))) (tied_itself o e.0) (f e.0))
+          (sorted_in es (T-and_second _ _ h) (λ k.
+          elim (cmp k e.0) as (λ r. cmp k e.0 ≡ r → T (is_sorted byte_cmp (map entry (unwrap_or (cond (is_eq r) (Some e.1) (find cmp k es)) []))) → T (is_sorted byte_cmp (map entry (list_at cmp es k)))) [
+            | Less ↦ λ p x. x
+            | Equal ↦ λ p x. subst (λ l. T (is_sorted byte_cmp (map entry l))) (sym (list_at-below_all o k e.0 es (λ y q. o.congr k e.0 y p ∙ q) (T-and_first _ _ h))) tt
+            | Greater ↦ λ p x. x
+          ] refl (f k)))
 
-  pub read_filed : IsFiledIn (key_read log) cmp s
-  read_filed k =
-      All-weaker (IsUnder log s.slot k) (λ p. IsBytes (key_read log p) × (s.slot (key_read log p) ≡ k))
-      (λ p q. (subst IsBytes (sym (read_at p q.0)) q.1, ap s.slot (read_at p q.0) ∙ q.2)) (run_at cmp s k) (h.live k)
+  sorted : T (is_sorted byte_cmp (map entry all))
+  sorted = all_sorted entry o s.slot keeps s.content lawful.0 all_filed lists_sorted
 
-  abbrev entry_read : ℕ → Pair
-  entry_read p = (key_read log p, (entry_at log p).1)
-
-  entry_read_at : (p : ℕ) → IsLive log p → entry_read p ≡ entry_at log p
-  entry_read_at p live = ap (λ k. (k, (entry_at log p).1)) (read_at p live)
-
-  all_read_at : (ps : List ℕ) → All (IsLive log) ps → map entry_read ps ≡ map (entry_at log) ps
-  all_read_at [] live = refl
-  all_read_at (p ∷ ps) live = λ i. entry_read_at p (All-head (IsLive log) p ps live) i ∷ all_read_at ps (All-tail (IsLive log) p ps live) i
-
-  found_read_at : (r : Option ℕ) → IfSome r (IsLive log) → option_map entry_read r ≡ option_map (entry_at log) r
-  found_read_at None live = refl
-  found_read_at (Some p) live = ap (λ e. Some e) (entry_read_at p live)
-
-  -- each key's value is that of the first position that has it
-  find_read : (q : List ℕ) → find byte_cmp q (entries m) ≡ find byte_cmp q (map entry_read all)
-  find_read q =
-      sym (get-entries m q) ∙ ap (λ x. get x q) (kept_held cmp whole s end t kept) ∙ sym (h.found q) ∙ sym (own_list (entry_at log) o s.slot q s.content lawful.0 IsFiled-content)
-      ∙ ap (find byte_cmp q) (sym (all_read_at all live_values))
+  pub entries_held : map entry all ≡ entries m
+  entries_held =
+      sym (entries-from_sorted byte_cmp (map entry all) sorted)
+      ∙ ap entries (same_map nat_list_cmp_total exact_bytes (from_sorted (map entry all)) m (λ q.
+      get-from_sorted byte_cmp (map entry all) q sorted
+      ∙ own_list entry o s.slot q s.content lawful.0 (λ k. All-weaker (Under k) (Filed entry o s.slot keeps k) (λ p u. (u.1, u.2)) (run_at cmp s k) (h.live k))
+      ∙ h.found q ∙ ap (λ x. get x q) (sym (kept_held cmp whole s end t kept))))
 
   -- the position that is found is live, and its entry is told
   abbrev pub IsTold : Option ℕ → Option Pair → Type 0
-  IsTold r answer = IfSome r (IsLive log) × (option_map (entry_at log) r ≡ answer)
+  IsTold r answer = IfSome r (IsLive log) × (option_map entry r ≡ answer)
 
-  live_least : {order : ℕ → ℕ → Ordering} → IsTotalOrder order → (l : List ℕ) (r : Option ℕ) → IsLeast order l r → All (IsLive log) l → IfSome r (IsLive log)
-  live_least total l None least live = tt
-  live_least total l (Some p) least live = least_has total (IsLive log) l p least live
+  live_in : (p : K × List ℕ → Bool) → All (IsLive log) (values_of (filter p s.content))
+  live_in p =
+      values_have o (IsLive log) (filter p s.content)
+      (All-weaker (λ (e : K × List ℕ). All (Under e.0) e.1) (λ (e : K × List ℕ). All (IsLive log) e.1) (λ e u. All-weaker (Under e.0) (IsLive log) (λ q v. v.0) e.1 u) (filter p s.content)
+      (All-filter p (λ (e : K × List ℕ). All (Under e.0) e.1) s.content all_under))
 
-  abbrev up : IsTotalOrder (cmp_keys (key_read log))
-  up = on_total (key_read log) nat_list_cmp_total
+  live_all : All (IsLive log) all
+  live_all =
+      values_have o (IsLive log) s.content
+      (All-weaker (λ (e : K × List ℕ). All (Under e.0) e.1) (λ (e : K × List ℕ). All (IsLive log) e.1) (λ e u. All-weaker (Under e.0) (IsLive log) (λ q v. v.0) e.1 u) s.content all_under)
 
-  pub next_told : (key : List ℕ) (r : Option ℕ) → IsFullNext (key_read log) s.content key r → IsTold r (entry_after m key)
-  next_told key r least =
-      let live = live_least up (above (key_read log) key all) r least (All-filter (λ p. is_lt (byte_cmp key (key_read log p))) (IsLive log) all live_values) in
-      (live, sym (found_read_at r live) ∙ first_entry-IsLeast entry_read all m find_read key r least)
+  live_at : (k : K) → All (IsLive log) (run_at cmp s k)
+  live_at k = All-weaker (Under k) (IsLive log) (λ q v. v.0) (run_at cmp s k) (h.live k)
 
-  pub prev_told : (key : List ℕ) (r : Option ℕ) → IsFullPrev (key_read log) s.content key r → IsTold r (entry_before m key)
-  prev_told key r least =
-      let live = live_least (back_total up) (below (key_read log) key all) r least (All-filter (λ p. is_lt (byte_cmp (key_read log p) key)) (IsLive log) all live_values) in
-      (live, sym (found_read_at r live) ∙ last_entry-IsLeast entry_read all m find_read key r least)
+  pub first_told : IsTold (first_entry all) (first_entry (entries m))
+  first_told = (first_has (IsLive log) all live_all, first_entry-map entry all ∙ ap first_entry entries_held)
 
-  -- ---- the greatest key of all
+  pub last_told : IsTold (last_entry all) (last_entry (entries m))
+  last_told = (last_has (IsLive log) None all tt live_all, sym (last_or-map entry None all) ∙ ap last_entry entries_held)
 
-  read_bytes : All (λ p. IsBytes (key_read log p)) all
-  read_bytes = all_have o (λ p. IsBytes (key_read log p)) s.content lawful.0 (λ k. All-weaker (λ p. IsBytes (key_read log p) × (s.slot (key_read log p) ≡ k)) (λ p. IsBytes (key_read log p)) (λ p q. q.0) (run_at cmp s k) (read_filed k))
+  -- ---- beside a key, whose place in its list is known
 
-  below_past : {X : Type 0} (key : X → List ℕ) (l : List X) → All (λ x. IsBytes (key x)) l → filter (λ x. is_lt (byte_cmp (key x) past_bytes)) l ≡ l
-  below_past key l h =
-      all_pass (λ x. is_lt (byte_cmp (key x) past_bytes)) l
-      (All-weaker (λ x. IsBytes (key x)) (λ x. is_lt (byte_cmp (key x) past_bytes) ≡ true) (λ x b. ap is_lt (bytes_below (key x) b)) l h)
+  module _ (a : List ℕ) (bytes : IsBytes a) where
+    abbrev k : K
+    k = s.slot a
 
-  pub last_told : (r : Option ℕ) → IsFullLast (key_read log) s.content r → IsTold r (last_entry (entries m))
-  last_told r least =
-      let live = live_least (back_total up) all r least live_values in
-      let keys = keys_found (entries m) (λ q f. found_among entry_read all read_bytes q (ap is_some (sym (find_read q)) ∙ f)) in (
-        live,
-        sym (found_read_at r live)
-            ∙ last_entry-IsLeast entry_read all m find_read past_bytes r
-            (subst (λ l. IsLeast (flip_args (cmp_keys (key_read log))) l r) (sym (below_past (key_read log) all read_bytes)) least)
-            ∙ ap last_entry (below_past (λ (e : Pair). e.0) (entries m) keys),
+    abbrev run : List ℕ
+    run = run_of cmp s a
+
+    abbrev lower : List ℕ
+    lower = values_of (entries_below cmp s.content k)
+
+    abbrev upper : List ℕ
+    upper = values_of (entries_above cmp s.content k)
+
+    lower_less : All (λ (e : Pair). byte_cmp e.0 a ≡ Less) (map entry lower)
+    lower_less =
+        All-map (λ (e : Pair). byte_cmp e.0 a ≡ Less) entry lower
+        (values_told o (Filed entry o s.slot keeps) (λ x. is_lt (cmp x k) ≡ true) (λ p. byte_cmp (entry p).0 a ≡ Less)
+        (λ x p u q. less_by_slot entry o s.slot keeps (entry p).0 a u.0 bytes (ap (λ y. cmp y k) u.1 ∙ Less-is_lt _ (subst T (sym q) tt)))
+        (entries_below cmp s.content k)
+        (All-filter (λ (e : K × List ℕ). is_lt (cmp e.0 k)) (λ (e : K × List ℕ). All (Filed entry o s.slot keeps e.0) e.1) s.content all_filed)
+        (filter_passes (λ (e : K × List ℕ). is_lt (cmp e.0 k)) s.content))
+
+    upper_more : All (λ (e : Pair). byte_cmp a e.0 ≡ Less) (map entry upper)
+    upper_more =
+        All-map (λ (e : Pair). byte_cmp a e.0 ≡ Less) entry upper
+        (values_told o (Filed entry o s.slot keeps) (λ x. is_lt (cmp k x) ≡ true) (λ p. byte_cmp a (entry p).0 ≡ Less)
+        (λ x p u q. less_by_slot entry o s.slot keeps a (entry p).0 bytes u.0 (ap (λ y. cmp k y) u.1 ∙ Less-is_lt _ (subst T (sym q) tt)))
+        (entries_above cmp s.content k)
+        (All-filter (λ (e : K × List ℕ). is_lt (cmp k e.0)) (λ (e : K × List ℕ). All (Filed entry o s.slot keeps e.0) e.1) s.content all_filed)
+        (filter_passes (λ (e : K × List ℕ). is_lt (cmp k e.0)) s.content))
+
+    entries_split : entries m ≡ map entry lower ++ (map entry run ++ map entry upper)
+    entries_split =
+        sym entries_held ∙ ap (map entry) (values_split o k s.content lawful.0)
+        ∙ map-append entry lower (run ++ upper) ∙ ap (λ l. map entry lower ++ l) (map-append entry run upper)
+
+    live_from : (place : ℕ) → All (IsLive log) (positions_from cmp s k place)
+    live_from place = All-append (IsLive log) (drop place run) upper (All-drop (IsLive log) place run (live_at k)) (live_in (λ (e : K × List ℕ). is_lt (cmp k e.0)))
+
+    live_before : (place : ℕ) → All (IsLive log) (positions_before cmp s k place)
+    live_before place = All-append (IsLive log) lower (take place run) (live_in (λ (e : K × List ℕ). is_lt (cmp e.0 k))) (All-take (IsLive log) place run (live_at k))
+
+    entries-positions_from : (place : ℕ) → map entry (positions_from cmp s k place) ≡ drop place (map entry run) ++ map entry upper
+    entries-positions_from place = map-append entry (drop place run) upper ∙ ap (λ l. l ++ map entry upper) (sym (drop-map entry place run))
+
+    entries-positions_before : (place : ℕ) → map entry (positions_before cmp s k place) ≡ map entry lower ++ take place (map entry run)
+    entries-positions_before place = map-append entry lower (take place run) ∙ ap (λ l. map entry lower ++ l) (sym (take-map entry place run))
+
+    module _ (place : ℕ) (is_held : Bool) (at : IsPlace entry a run place is_held) where
+      pub above_told : IsTold (first_entry (positions_from cmp s k (place + cond is_held 1 0))) (entry_after m a)
+      above_told =
+          let behind = place + cond is_held 1 0 in (
+            first_has (IsLive log) (positions_from cmp s k behind) (live_from behind),
+            first_entry-map entry (positions_from cmp s k behind)
+                ∙ ap first_entry (entries-positions_from behind
+                ∙ ap (λ l. l ++ map entry upper) (drop_behind nat_list_cmp_total a (map entry run) (h.sorted k) place at.below is_held at.held)
+                ∙ sym (ap (λ es. entries_above byte_cmp es a) entries_split ∙ above_between nat_list_cmp_total a (map entry lower) (map entry run) (map entry upper) lower_less upper_more)),
+          )
+
+      pub from_told : IsTold (first_entry (positions_from cmp s k place)) (entry_from m a)
+      from_told = (
+        first_has (IsLive log) (positions_from cmp s k place) (live_from place),
+        first_entry-map entry (positions_from cmp s k place)
+            ∙ ap first_entry (entries-positions_from place
+            ∙ ap (λ l. l ++ map entry upper) (drop_place nat_list_cmp_total a (map entry run) (h.sorted k) place at.below)
+            ∙ sym (ap (λ es. entries_from byte_cmp es a) entries_split ∙ from_between nat_list_cmp_total a (map entry lower) (map entry run) (map entry upper) lower_less upper_more)),
       )
 
--- ---- the first entry of all, by the empty key
-
-find-empty_key : (x : ℕ) (xs : List ℕ) (es : List Pair) → T (below_all byte_cmp (x ∷ xs) es) → find byte_cmp [] es ≡ None
-find-empty_key x xs [] h = refl
-find-empty_key x xs (e ∷ es) h =
-    elim (e.0) as (λ k. T (is_lt (byte_cmp (x ∷ xs) k)) → cond (is_eq (byte_cmp [] k)) (Some e.1) (find byte_cmp [] es) ≡ None) [
-      | [] ↦ λ t. absurd t
-      | y ∷ ys ↦ λ t. find-empty_key x xs es (T-and_second _ _ h)
-    ] (T-and_first _ _ h)
-
-first_is : (v : List ℕ) (es : List Pair) → T (is_sorted byte_cmp es) → find byte_cmp [] es ≡ Some v → Some ([], v) ≡ first_entry es
-first_is v [] h at = absurd (false≢true (ap is_some at))
-first_is v (e ∷ es) h at =
-    elim (e.0) as (λ k. T (below_all byte_cmp k es) → cond (is_eq (byte_cmp [] k)) (Some e.1) (find byte_cmp [] es) ≡ Some v → ◌≡◌ {A = Option Pair} (Some ([], v)) (Some (k, e.1))) [
-      | [] ↦ λ below is. ap (λ o. Some ([], unwrap_or o v)) (sym is)
-      | x ∷ xs ↦ λ below is. absurd (false≢true (ap is_some (sym (find-empty_key x xs es below) ∙ is)))
-    ] (T-and_first _ _ h) at
-
-entries_above-empty_key : (es : List Pair) → find byte_cmp [] es ≡ None → entries_above byte_cmp es [] ≡ es
-entries_above-empty_key [] none = refl
-entries_above-empty_key (e ∷ es) none =
-    elim (e.0) as (λ k. cond (is_eq (byte_cmp [] k)) (Some e.1) (find byte_cmp [] es) ≡ None
-    → ◌≡◌ {A = List Pair} (cond (is_lt (byte_cmp [] k)) ((k, e.1) ∷ entries_above byte_cmp es []) (entries_above byte_cmp es [])) ((k, e.1) ∷ es)) [
-      | [] ↦ λ is. absurd (false≢true (sym (ap is_some is)))
-      | x ∷ xs ↦ λ is. ap (λ l. (x ∷ xs, e.1) ∷ l) (entries_above-empty_key es is)
-    ] none
-
-module _ (m : Values) where
-  pub first_held : (v : List ℕ) → Some v ≡ get m [] → Some ([], v) ≡ first_entry (entries m)
-  first_held v at = first_is v (entries m) (entries_sorted m) (sym (get-entries m []) ∙ sym at)
-
-  pub first_entry-above_empty_key : None ≡ get m [] → first_entry (entries_above byte_cmp (entries m) []) ≡ first_entry (entries m)
-  first_entry-above_empty_key none = ap first_entry (entries_above-empty_key (entries m) (sym (get-entries m []) ∙ sym none))
+      pub below_told : IsTold (last_entry (positions_before cmp s k place)) (entry_before m a)
+      below_told = (
+        last_has (IsLive log) None (positions_before cmp s k place) tt (live_before place),
+        sym (last_or-map entry None (positions_before cmp s k place))
+            ∙ ap last_entry (entries-positions_before place
+            ∙ ap (λ l. map entry lower ++ l) (take_place nat_list_cmp_total a (map entry run) (h.sorted k) place at.below)
+            ∙ sym (ap (λ es. entries_below byte_cmp es a) entries_split ∙ below_between nat_list_cmp_total a (map entry lower) (map entry run) (map entry upper) lower_less upper_more)),
+      )

@@ -8,6 +8,7 @@ pub mod MemoryDevice
 pub mod MemoryFolder
 pub mod Names
 pub mod Places
+pub mod Positions
 pub mod Reads
 pub mod Record
 pub mod Salvage

@@ -1,15 +1,20 @@
 //! Neighbours of a key among those that have a value.
-ghost use Rattle.std.specs.Prelude.{◌≡◌, [], IfOk, IfErr};
+ghost use Rattle.std.specs.Prelude.{◌≡◌, ◌≤◌, ◌<◌, ◌+◌, ◌∷◌, [], if◌then◌else◌, length, take, IfOk, IfErr, IfSome, MatchOption};
 ghost use Rattle.std.specs.FinMap.{entries};
 ghost use Rattle.std.specs.Option.{option_map};
 ghost use Rattle.key_index_flat.specs.Neighbours.{first_entry, last_entry};
+ghost use Rattle.key_index_flat.specs.Values.{values_of};
+ghost use Rattle.key_index_flat.specs.View.{run_at, run_of};
 ghost use Rattle.key_index_store.specs.Device.{IsRead, Sees};
+ghost use Rattle.key_index_store.specs.Indexed.{IsIn, IsLive, entry_at};
+ghost use Rattle.key_index_store.specs.Positions.{positions_before, positions_from};
 ghost use Rattle.key_index_store.specs.Stored.{MayRead, entry_after, entry_before, entry_from, gap_in, held_by, in_bytes};
 
-use super::find::{InList, find, find_place, known};
+use super::find::{InList, find, find_place};
+use super::log::Log;
 use super::{Fault, Store};
 use crate::device::Device;
-use key_index_flat::index::OrderedLists;
+use key_index_flat::index::{OrderedLists, Values};
 use std::alloc::AllocError;
 
 /// The neighbours between which a key without a value lies, each with its value: none in front of the first key, none behind the last.
@@ -35,12 +40,17 @@ pub struct Passed {
     pub passed: Vec<Unreadable>,
 }
 
-/// The position at a place of an index key's list, or the first one of the next list.
+/// The position at a place of an index key's list, or else the first one of the next list, with its index key and its place there.
 fn position_from<I: OrderedLists<Value = u64>>(
     index: &I,
     slot: I::Key,
     place: usize,
-) -> Option<(I::Key, usize, u64)> {
+) -> Option<(I::Key, usize, u64)>
+    ensures found { MatchOption result (positions_from I.Key.cmp (I.view index.now) slot place ≡ []) (λ f.
+        positions_from I.Key.cmp (I.view index.now) slot place
+        ≡ f.2 ∷ positions_from I.Key.cmp (I.view index.now) f.0 (f.1 + 1)) }
+    ensures bound { IfSome result (λ f. f.1 < usize.MAX) }
+{
     if place < index.run_len(slot) {
         return Some((slot, place, *index.value_at(slot, place)));
     }
@@ -48,37 +58,141 @@ fn position_from<I: OrderedLists<Value = u64>>(
     Some((slot, 0, *values.next()?))
 }
 
-/// The position behind which a place of a key's list is, or the last one of the previous list.
-fn position_before<I: OrderedLists<Value = u64>>(index: &I, key: &[u8], place: usize) -> Option<u64> {
+/// The place behind a key's own, if it is held, in the list of its index key.
+fn place_behind<I: OrderedLists<Value = u64>>(
+    index: &I,
+    slot: I::Key,
+    place: usize,
+    is_held: bool,
+) -> usize
+    requires { IsIn (run_at I.Key.cmp (I.view index.now) slot) place is_held }
+    ensures { result ≡ place + (if is_held then 1 else 0) }
+{
+    if is_held && place < index.run_len(slot) {
+        place + 1
+    } else {
+        place
+    }
+}
+
+/// The first position behind a key whose place in its list is known.
+fn position_above<I: OrderedLists<Value = u64>>(index: &I, key: &[u8], place: InList) -> Option<u64>
+    requires { IsIn (run_of I.Key.cmp (I.view index.now) key.now) place.place place.is_held }
+    ensures { result ≡ first_entry (positions_from I.Key.cmp (I.view index.now)
+        ((I.view index.now).slot key.now) (place.place + (if place.is_held then 1 else 0))) }
+{
+    let slot = index.slot_of(key);
+    let behind = place_behind(index, slot, place.place, place.is_held);
+    match position_from(index, slot, behind) {
+        Some((_, _, position)) => Some(position),
+        None => None,
+    }
+}
+
+/// The last of some positions.
+fn last_of(values: Values<'_, u64>) -> Option<u64>
+    ensures { result ≡ last_entry values.entry }
+{
+    let mut last = None;
+    for position in values {
+        last = Some(*position);
+    }
+    last
+}
+
+/// The last position in front of a place in a key's list.
+fn position_below<I: OrderedLists<Value = u64>>(index: &I, key: &[u8], place: usize) -> Option<u64>
+    requires { place ≤ length (run_of I.Key.cmp (I.view index.now) key.now) }
+    ensures { result ≡ last_entry (positions_before I.Key.cmp (I.view index.now)
+        ((I.view index.now).slot key.now) place) }
+{
     if place != 0 {
         return Some(*index.value_at(index.slot_of(key), place - 1));
     }
     match index.prev_translated_key(key) {
-        Some((values, false)) => values.last().copied(),
+        Some((values, false)) => last_of(values),
         _ => None,
     }
 }
 
+/// The first position of all.
+fn first_position<I: OrderedLists<Value = u64>>(index: &I) -> Option<u64>
+    ensures { result ≡ first_entry (values_of (I.view index.now).content) }
+{
+    match index.first_translated_key() {
+        Some(mut values) => values.next().copied(),
+        None => None,
+    }
+}
+
+/// The last position of all.
+fn last_position<I: OrderedLists<Value = u64>>(index: &I) -> Option<u64>
+    ensures { result ≡ last_entry (values_of (I.view index.now).content) }
+{
+    match index.last_translated_key() {
+        Some(values) => last_of(values),
+        None => None,
+    }
+}
+
+/// Puts the record at a position behind those that don't read.
+fn pass<D: Device>(
+    log: &mut Log<D>,
+    passed: &mut Vec<Unreadable>,
+    position: u64,
+) -> Result<(), Fault>
+    ensures read { IsRead D.seen D.may_leave log.old.device log.new.device }
+    ensures end { log.new.end ≡ log.old.end }
+    ensures fault { IfErr result MayRead }
+{
+    let length = log.length_at(position)?;
+    let record = Unreadable {
+        place: position,
+        length,
+    };
+    match passed.push(record) {
+        Ok(()) => Ok(()),
+        Err(failed) => Err(AllocError::from(failed).into()),
+    }
+}
+
+/// The first entry that reads from a place of an index key's list on, and which records in front of it don't.
+fn readable_from<D: Device, I: OrderedLists<Value = u64>>(
+    log: &mut Log<D>,
+    index: &I,
+    slot: I::Key,
+    place: usize,
+) -> Result<Passed, Fault>
+    ensures entry { Sees (D.seen log.new.device) (λ bytes. log.old.end ≤ length bytes
+        → IfSome (first_entry (positions_from I.Key.cmp (I.view index.now) slot place)) (IsLive (take log.old.end bytes))
+        → IfOk result (λ p. in_bytes p.entry ≡ option_map (entry_at (take log.old.end bytes))
+        (first_entry (positions_from I.Key.cmp (I.view index.now) slot place)))) }
+    ensures all { Sees (D.seen log.new.device) (λ bytes. log.old.end ≤ length bytes
+        → IfSome (first_entry (positions_from I.Key.cmp (I.view index.now) slot place)) (IsLive (take log.old.end bytes))
+        → IfOk result (λ p. p.passed.items ≡ [])) }
+    ensures read { IsRead D.seen D.may_leave log.old.device log.new.device }
+    ensures end { log.new.end ≡ log.old.end }
+    ensures fault { Sees (D.seen log.new.device) (λ bytes. log.old.end ≤ length bytes
+        → IfSome (first_entry (positions_from I.Key.cmp (I.view index.now) slot place)) (IsLive (take log.old.end bytes))
+        → IfErr result MayRead) }
+{
+    let mut passed = Vec::new(log.alloc);
+    let (mut slot, mut place) = (slot, place);
+    while let Some((there, found, position)) = position_from(index, slot, place) {
+        match log.entry(Some(position)) {
+            Ok(entry) => return Ok(Passed { entry, passed }),
+            Err(Fault::Damaged) => pass(log, &mut passed, position)?,
+            Err(fault) => return Err(fault),
+        }
+        (slot, place) = (there, found + 1);
+    }
+    Ok(Passed {
+        entry: None,
+        passed,
+    })
+}
+
 impl<D: Device, I: OrderedLists<Value = u64>> Store<D, I> {
-    fn place_of(&mut self, key: &[u8]) -> Result<InList, Fault> {
-        let (alloc, end) = (self.log.alloc, self.log.end);
-        find_place(alloc, &mut self.log.device, &self.index, key, end)
-    }
-
-    /// The entry behind a place of a key's list.
-    fn entry_above(&mut self, key: &[u8], place: InList) -> Result<Option<(Vec<u8>, Vec<u8>)>, Fault> {
-        let slot = self.index.slot_of(key);
-        let place = place.place + place.is_held as usize;
-        let position = position_from(&self.index, slot, place).map(|found| found.2);
-        self.log.entry(position)
-    }
-
-    /// The entry in front of a place of a key's list.
-    fn entry_below(&mut self, key: &[u8], place: InList) -> Result<Option<(Vec<u8>, Vec<u8>)>, Fault> {
-        let position = position_before(&self.index, key, place.place);
-        self.log.entry(position)
-    }
-
     /// The least key strictly above one, of those that have a value, with its value. `None` where none is above: it doesn't go round.
     pub fn next(&mut self, key: &[u8]) -> Result<Option<(Vec<u8>, Vec<u8>)>, Fault>
         ensures next { Sees (D.seen self.new) (λ log. IfOk result (λ o.
@@ -86,8 +200,9 @@ impl<D: Device, I: OrderedLists<Value = u64>> Store<D, I> {
         ensures read { IsRead D.seen D.may_leave self.old self.new }
         ensures fault { Sees (D.seen self.new) (λ log. IfErr result MayRead) }
     {
-        let place = self.place_of(key)?;
-        self.entry_above(key, place)
+        let (alloc, end) = (self.log.alloc, self.log.end);
+        let place = find_place(alloc, &mut self.log.device, &self.index, key, end)?;
+        self.log.entry(position_above(&self.index, key, place))
     }
 
     /// The greatest key strictly below one, of those that have a value, with its value. `None` where none is below: it doesn't go
@@ -98,8 +213,10 @@ impl<D: Device, I: OrderedLists<Value = u64>> Store<D, I> {
         ensures read { IsRead D.seen D.may_leave self.old self.new }
         ensures fault { Sees (D.seen self.new) (λ log. IfErr result MayRead) }
     {
-        let place = self.place_of(key)?;
-        self.entry_below(key, place)
+        let (alloc, end) = (self.log.alloc, self.log.end);
+        let place = find_place(alloc, &mut self.log.device, &self.index, key, end)?;
+        self.log
+            .entry(position_below(&self.index, key, place.place))
     }
 
     /// The neighbours between which a key without a value lies. `None` where it has one.
@@ -109,11 +226,15 @@ impl<D: Device, I: OrderedLists<Value = u64>> Store<D, I> {
         ensures read { IsRead D.seen D.may_leave self.old self.new }
         ensures fault { Sees (D.seen self.new) (λ log. IfErr result MayRead) }
     {
-        let place = self.place_of(key)?;
+        let (alloc, end) = (self.log.alloc, self.log.end);
+        let place = find_place(alloc, &mut self.log.device, &self.index, key, end)?;
         if place.is_held {
             return Ok(None);
         }
-        let (before, after) = (self.entry_below(key, place)?, self.entry_above(key, place)?);
+        let below = position_below(&self.index, key, place.place);
+        let above = position_above(&self.index, key, place);
+        let before = self.log.entry(below)?;
+        let after = self.log.entry(above)?;
         Ok(Some(Gap { before, after }))
     }
 
@@ -124,11 +245,7 @@ impl<D: Device, I: OrderedLists<Value = u64>> Store<D, I> {
         ensures read { IsRead D.seen D.may_leave self.old self.new }
         ensures fault { Sees (D.seen self.new) (λ log. IfErr result MayRead) }
     {
-        let position = match self.index.first_translated_key() {
-            Some(mut values) => values.next().copied(),
-            None => None,
-        };
-        self.log.entry(position)
+        self.log.entry(first_position(&self.index))
     }
 
     /// The greatest key that has a value, with its value.
@@ -138,41 +255,7 @@ impl<D: Device, I: OrderedLists<Value = u64>> Store<D, I> {
         ensures read { IsRead D.seen D.may_leave self.old self.new }
         ensures fault { Sees (D.seen self.new) (λ log. IfErr result MayRead) }
     {
-        let position = match self.index.last_translated_key() {
-            Some(values) => values.last().copied(),
-            None => None,
-        };
-        self.log.entry(position)
-    }
-
-    /// The first entry that reads from a place of an index key's list on, and which records in front of it don't.
-    fn readable_from(&mut self, slot: I::Key, place: usize) -> Result<Passed, Fault> {
-        let mut passed = Vec::new(self.log.alloc);
-        let (mut slot, mut place) = (slot, place);
-        for _ in 0..=self.index.items() {
-            let Some((there, found, position)) = position_from(&self.index, slot, place) else {
-                break;
-            };
-            match self.log.entry(Some(position)) {
-                Ok(entry) => return Ok(Passed { entry, passed }),
-                Err(Fault::Damaged) => {
-                    let length = self.log.length_at(position)?;
-                    let record = Unreadable {
-                        place: position,
-                        length,
-                    };
-                    if let Err(failed) = passed.push(record) {
-                        return Err(AllocError::from(failed).into());
-                    }
-                }
-                Err(fault) => return Err(fault),
-            }
-            (slot, place) = (there, found + 1);
-        }
-        Ok(Passed {
-            entry: None,
-            passed,
-        })
+        self.log.entry(last_position(&self.index))
     }
 
     /// The least key that is at least this one, of those that have a value and read, with its value, and which records may have had a
@@ -186,7 +269,8 @@ impl<D: Device, I: OrderedLists<Value = u64>> Store<D, I> {
     {
         let (alloc, end) = (self.log.alloc, self.log.end);
         let found = find(alloc, &mut self.log.device, &self.index, key, end)?;
-        self.readable_from(self.index.slot_of(key), found.place)
+        let slot = self.index.slot_of(key);
+        readable_from(&mut self.log, &self.index, slot, found.place)
     }
 
     /// The same, of the keys strictly above this one.
@@ -199,7 +283,8 @@ impl<D: Device, I: OrderedLists<Value = u64>> Store<D, I> {
     {
         let (alloc, end) = (self.log.alloc, self.log.end);
         let found = find(alloc, &mut self.log.device, &self.index, key, end)?;
-        let place = found.place + found.front.is_some() as usize;
-        self.readable_from(self.index.slot_of(key), place)
+        let slot = self.index.slot_of(key);
+        let behind = place_behind(&self.index, slot, found.place, found.front.is_some());
+        readable_from(&mut self.log, &self.index, slot, behind)
     }
 }

@@ -1,0 +1,16 @@
+-- The positions that an index holds, in the order of their index keys and, under one of them, in list order, on both sides of a place
+-- in an index key's list.
+--     positions_from    from the place on
+--     positions_before  those before it
+use Rattle.std.specs.Prelude.{ℕ, List, ◌++◌, take, drop}
+use Rattle.std.specs.declared.cmp.Ordering.{Ordering}
+use Rattle.key_index_flat.specs.Neighbours.{entries_above, entries_below}
+use Rattle.key_index_flat.specs.Values.{values_of}
+use Rattle.key_index_flat.specs.View.{View, run_at}
+
+module _ {K V : Type 0} (cmp : K → K → Ordering) where
+  abbrev pub positions_from : View K V → K → ℕ → List V
+  positions_from s k place = drop place (run_at cmp s k) ++ values_of (entries_above cmp s.content k)
+
+  abbrev pub positions_before : View K V → K → ℕ → List V
+  positions_before s k place = values_of (entries_below cmp s.content k) ++ take place (run_at cmp s k)
