@@ -12,5 +12,6 @@ pub mod ReadLemmas
 pub mod RecordLemmas
 pub mod ReplayLemmas
 pub mod SalvageLemmas
+pub mod SortedLemmas
 pub mod StoreLemmas
 pub mod TranslatorLemmas

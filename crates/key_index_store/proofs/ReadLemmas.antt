@@ -1,16 +1,12 @@
 -- On reads of the front of a record: what is read tells as much as all that stands there.
 --     front_tells, step_tells  the key;  and how far it is to the next place that a salvage looks at
 --     whole_tells     the record, where all of it was asked for
---     match_same, match_other, match_readable  a candidate whose key is known, beside the one that is sought
 use Rattle.std.proofs.Common.{◌≡◌, ◌⊎◌, ℕ, zero, suc, ◌+◌, ◌-◌, ◌≤◌, ◌<◌, min, Bool, true, false, cond, List, [], ◌∷◌, ◌++◌, slice_get, get_or, length, take, drop, Option, Some, Result, Ok, Err, inl, inr, refl, sym, ap, subst, ◌∙◌, take-append-drop, length-take, length-drop, arith}
 use Rattle.std.specs.Result.{OnOk, is_ok}
 use Rattle.std.proofs.lemmas.Bool.{cases_lt}
 use Rattle.std.proofs.lemmas.Bool.{false≢true}
 use Rattle.std.proofs.lemmas.List.{drop-take, nil_from_length, take_all}
-use Rattle.std.specs.Str.{bytes_eq}
-use Rattle.key_index_store.specs.Indexed.{IsLive, key_at, match_of}
-use Rattle.key_index_store.specs.declared.store.find.Match.{Match}
-use Rattle.key_index_store.specs.declared.store.find.Match.TheVariants.{Same, Other, Unreadable}
+use Rattle.key_index_store.specs.Indexed.{IsLive, key_at}
 use Rattle.key_index_store.specs.Record.{has_head, key_in, reading, record_length, value_place}
 use Rattle.key_index_store.specs.Reads.{wanted}
 use Rattle.key_index_store.specs.Salvage.{step}
@@ -91,29 +87,29 @@ module _ (log : List ℕ) (limit p : ℕ) (within : limit ≤ length log) where
     pub all_read : n ≡ limit - p → v ≡ x
     all_read all = is ∙ taken_in n le ∙ take_all n x (omega (arith, all, length-x))
 
-  -- what is read at first
-  pub first_suffices : (w : Bool) (v : List ℕ) (want : ℕ) → v ≡ take (min (limit - p) 1024) (drop p log) → want ≡ wanted w p v → min want (limit - p) ≤ length v → Suffices w p v x
-  first_suffices w v want is same enough =
-      let size = length-read v (min (limit - p) 1024) (omega arith) is in
-      elim (cases_lt 1024 (limit - p)) [
-        | inl more ↦ inr (omega (arith, size, more), omega (arith, same, enough, size, more))
-        | inr le ↦ inl (all_read v (min (limit - p) 1024) (omega arith) is (omega (arith, le)))
+  -- what is read at first: a block, which has room for a head
+  pub first_suffices : (block : ℕ) → 13 ≤ block → (w : Bool) (v : List ℕ) (want : ℕ) → v ≡ take (min (limit - p) block) (drop p log) → want ≡ wanted w p v → min want (limit - p) ≤ length v → Suffices w p v x
+  first_suffices block room w v want is same enough =
+      let size = length-read v (min (limit - p) block) (omega arith) is in
+      elim (cases_lt block (limit - p)) [
+        | inl more ↦ inr (omega (arith, size, more, room), omega (arith, same, enough, size, more))
+        | inr le ↦ inl (all_read v (min (limit - p) block) (omega arith) is (omega (arith, le)))
       ]
 
   wanted_front : (w : Bool) (a b : List ℕ) → 13 ≤ length a → wanted w p (a ++ b) ≡ wanted w p a
   wanted_front w a b h = (λ i. cond (head_front a b h p i) (cond w (record_length_front a b h i) (value_place_front a b h i)) 0)
 
   -- and what is read where that is less than it wants
-  pub more_suffices : (w : Bool) (v u : List ℕ) (want : ℕ) → v ≡ take (min (limit - p) 1024) (drop p log) → want ≡ wanted w p v → length v < min want (limit - p)
+  pub more_suffices : (block : ℕ) → 13 ≤ block → (w : Bool) (v u : List ℕ) (want : ℕ) → v ≡ take (min (limit - p) block) (drop p log) → want ≡ wanted w p v → length v < min want (limit - p)
       → u ≡ take (min want (limit - p)) (drop p log) → Suffices w p u x
-  more_suffices w v u want is same less read =
-      let size = length-read v (min (limit - p) 1024) (omega arith) is in
+  more_suffices block room w v u want is same less read =
+      let size = length-read v (min (limit - p) block) (omega arith) is in
       let long = length-read u (min want (limit - p)) (omega arith) read in
       elim (cases_lt want (limit - p)) [
         | inl lt ↦ (
-            let front : v ≡ take (length v) u = read-in_front v (min (limit - p) 1024) (omega arith) is ∙ sym (ap (take (length v)) (read-in_front u (min want (limit - p)) (omega arith) read) ∙ take-take (length v) (length u) x (omega (arith, long, less))) in
+            let front : v ≡ take (length v) u = read-in_front v (min (limit - p) block) (omega arith) is ∙ sym (ap (take (length v)) (read-in_front u (min want (limit - p)) (omega arith) read) ∙ take-take (length v) (length u) x (omega (arith, long, less))) in
             let whole : v ++ drop (length v) u ≡ u = ap (λ l. l ++ drop (length v) u) front ∙ take-append-drop (length v) u in
-            let thirteen : 13 ≤ length v = omega (arith, size, less) in
+            let thirteen : 13 ≤ length v = omega (arith, size, less, room, lt) in
             let wants : wanted w p u ≡ want = sym (ap (wanted w p) whole) ∙ wanted_front w v (drop (length v) u) thirteen ∙ sym same in
             inr (omega (arith, long, less, thirteen), omega (arith, wants, long)))
         | inr le ↦ inl (all_read u (min want (limit - p)) (omega arith) read (omega (arith, le)))
@@ -123,32 +119,7 @@ pub on_ok_told : {A E : Type 0} {P : Type 0} (r : Result A E) → is_ok r ≡ tr
 on_ok_told (Ok x) e h = h
 on_ok_told (Err x) e h = absurd (false≢true e)
 
--- ---- a candidate's key
-
-module _ (o : Option (List ℕ)) (key k : List ℕ) (m : Match) (is : m ≡ match_of o key) (known : o ≡ Some k) where
-  told : m ≡ cond (bytes_eq k key) Same Other
-  told = is ∙ ap (λ x. match_of x key) known
-
-  tested : (b : Bool) → bytes_eq k key ≡ b → m ≡ cond b Same Other
-  tested b e = told ∙ ap (λ t. cond t Same Other) e
-
-  pub match_same : m ≡ Same → bytes_eq k key ≡ true
-  match_same same = elim (bytes_eq k key) as (λ b. bytes_eq k key ≡ b → b ≡ true) [
-    | true ↦ λ e. refl
-    | false ↦ λ e. (let other = tested false e in absurd (cc))
-  ] refl
-
-  pub match_other : m ≡ Other → bytes_eq k key ≡ false
-  match_other same = elim (bytes_eq k key) as (λ b. bytes_eq k key ≡ b → b ≡ false) [
-    | true ↦ λ e. (let other = tested true e in absurd (cc))
-    | false ↦ λ e. refl
-  ] refl
-
-  pub match_readable : ¬ (m ≡ Unreadable)
-  match_readable same = elim (bytes_eq k key) as (λ b. bytes_eq k key ≡ b → ⊥) [
-    | true ↦ λ e. (let other = tested true e in absurd (cc))
-    | false ↦ λ e. (let other = tested false e in absurd (cc))
-  ] refl
+-- ---- the key of a live record
 
 pub key_in-live : (log : List ℕ) (p : ℕ) → IsLive log p → key_in p (drop p log) ≡ Some (key_at log p)
 key_in-live log p live = key_in-whole p (drop p log) _ live

@@ -67,6 +67,13 @@ fn wanted(bytes: &[u8], position: u64, is_whole: bool) -> u64
     }
 }
 
+/// How many bytes of a record are read at first. A head has room in them.
+fn block_of(is_whole: bool) -> u64
+    ensures { 13 ≤ result }
+{
+    if is_whole { BLOCK } else { KEY_BLOCK }
+}
+
 /// The front of the record at a position, in the first `limit` bytes of a log: its head and its key at least, and the whole record where
 /// that is asked.
 pub(crate) fn read_front<D: Device>(
@@ -89,8 +96,7 @@ pub(crate) fn read_front<D: Device>(
     ensures fault { IfErr result MayRead }
 {
     let rest = limit.saturating_sub(position);
-    let block = if is_whole { BLOCK } else { KEY_BLOCK };
-    let block = read_bytes(alloc, device, position, rest.min(block))?;
+    let block = read_bytes(alloc, device, position, rest.min(block_of(is_whole)))?;
     let wanted = wanted(block.as_slice(), position, is_whole).min(rest);
     if wanted <= block.len() as u64 {
         return Ok(block);

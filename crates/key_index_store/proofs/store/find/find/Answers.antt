@@ -1,70 +1,130 @@
-use Rattle.std.proofs.Common.{All, [], ◌∷◌, length, take, refl, sym, ap, subst, slice_get, ◌∙◌, length-append, arith}
-use Rattle.std.proofs.lemmas.Iterator.Consumers.{YieldsList-turn, YieldsList-so_far, YieldsList-from_first}
-use Rattle.std.specs.Option.{option_map}
-use Rattle.key_index_store.specs.Indexed.{IsLive, entry_at, key_at, value_in}
-use Rattle.key_index_store.specs.Record.{key_in}
-use Rattle.key_index_flat.proofs.entries.EntryLemmas.{key-slice_get, look-at_place, passed_by}
-use Rattle.key_index_store.proofs.ReadLemmas.{key_in-live, slice_get-here, match_other, match_readable, match_same}
-use Rattle.key_index_store.specs.laws.ReadLaws.{read-then}
-use Rattle.key_index_store.proofs.store.find.find.Goals.{in-Other, in-Unreadable}
+use Rattle.std.proofs.Common.{◌≡◌, ◌≤◌, ◌<◌, ◌+◌, ◌-◌, ◌/◌, ℕ, Some, is_some, length, map, take, slice_get, refl, sym, ap, subst, ◌∙◌, arith}
+use Rattle.std.proofs.lemmas.Bool.{false≢true}
+use Rattle.std.proofs.lemmas.List.{length-map}
+use Rattle.std.proofs.lemmas.Option.{slice_get-map}
+use Rattle.std.specs.Option.{IfSome, option_map}
+use Rattle.key_index_flat.specs.FullKeys.{byte_cmp}
+use Rattle.key_index_flat.specs.View.{run_at, run_of}
+use Rattle.key_index_store.specs.Indexed.{entry_at, key_at}
+use Rattle.key_index_store.specs.laws.ReadLaws.{read-none, read-then}
+use Rattle.key_index_store.proofs.SortedLemmas.{IsBetween, between_all, between_none, between-Greater, between-Less, place-Equal}
+use Rattle.key_index_store.proofs.store.find.find.Goals.{in-Less, in-Greater}
 use Rattle.key_index_store.proofs.store.find.find.Goals as goal
 
-pub returns-in-Same-clause-at : goal.returns-in-Same-clause-at
-returns-in-Same-clause-at g c = λ log seen within live.
-    let front = take c.args.limit log in
-    let key = c.args.key.now in
-    let all = c.into_iter-position-iterator.result in
-    let road = YieldsList-from_first (λ x. x.now) (λ values. values) all refl in
-    let turn = YieldsList-turn road c.loop-position.yielded _ c.loop-position.yielded_by _ _ c.in-Some.position c.in-Some.is c.next.ensures.steps in
-    let here : IsLive front c.in-Some.position.now = subst (IsLive front) (sym turn.1) (subst (All (IsLive front)) (sym c.into_iter-position-iterator.ensures.into_iter_gives) live (length c.loop-position.yielded) c.in-Some.position.now turn.0) in
-    let told = ap (key_in c.in-Some.position.now) c.as_slice.ensures.value ∙ c.in_ok-bytes.ensures.key log seen within ∙ key_in-live front c.in-Some.position.now here in
-    let own = match_same _ key _ c.match_of.result c.match_of.ensures told c.in-Same.is in
-    (λ i. option_map (key_at front) (slice_get (sym c.into_iter-position-iterator.ensures.into_iter_gives i) (c.loop-position.invariant.counted i)))
-    ∙ key-slice_get (entry_at front) key all (length c.loop-position.yielded) c.in-Some.position.now turn.0 turn.1 own
-
-pub returns-in-Same-clause-value : goal.returns-in-Same-clause-value
-returns-in-Same-clause-value g c = λ log seen within live.
-    let front = take c.args.limit log in
-    let key = c.args.key.now in
-    let all = c.into_iter-position-iterator.result in
-    let road = YieldsList-from_first (λ x. x.now) (λ values. values) all refl in
-    let turn = YieldsList-turn road c.loop-position.yielded _ c.loop-position.yielded_by _ _ c.in-Some.position c.in-Some.is c.next.ensures.steps in
-    let so_far = YieldsList-so_far road c.loop-position.yielded _ c.loop-position.yielded_by in
-    let here : IsLive front c.in-Some.position.now = subst (IsLive front) (sym turn.1) (subst (All (IsLive front)) (sym c.into_iter-position-iterator.ensures.into_iter_gives) live (length c.loop-position.yielded) c.in-Some.position.now turn.0) in
-    let told = ap (key_in c.in-Some.position.now) c.as_slice.ensures.value ∙ c.in_ok-bytes.ensures.key log seen within ∙ key_in-live front c.in-Some.position.now here in
-    let own = match_same _ key _ c.match_of.result c.match_of.ensures told c.in-Same.is in
-    let before = c.loop-position.invariant.none log (c.in_ok-bytes.ensures.read.stays log seen) within live in
-    let found = look-at_place (entry_at front) key all (length c.loop-position.yielded) c.in-Some.position.now turn.0 turn.1 (ap (value_in front key) (sym so_far) ∙ before.0) own in
-    sym (ap (value_in front key) (sym c.into_iter-position-iterator.ensures.into_iter_gives) ∙ found)
-
-pub returns-in-Same-clause-found : goal.returns-in-Same-clause-found
-returns-in-Same-clause-found g c =
-    let all = c.into_iter-position-iterator.result in
-    let road = YieldsList-from_first (λ x. x.now) (λ values. values) all refl in
-    let turn = YieldsList-turn road c.loop-position.yielded _ c.loop-position.yielded_by _ _ c.in-Some.position c.in-Some.is c.next.ensures.steps in
-    (λ i. slice_get (sym c.into_iter-position-iterator.ensures.into_iter_gives i) (c.loop-position.invariant.counted i))
-    ∙ slice_get-here all (length c.loop-position.yielded) c.in-Some.position.now turn.0 turn.1
-
-pub loop-position-preserved : goal.loop-position-preserved
-loop-position-preserved g c =
-    let key = c.args.key.now in
-    let all = c.into_iter-position-iterator.result in
-    let road = YieldsList-from_first (λ x. x.now) (λ values. values) all refl in
-    let turn = YieldsList-turn road c.loop-position.yielded _ c.loop-position.yielded_by _ _ c.in-Some.position c.in-Some.is c.next.ensures.steps in
-    let long = length-append c.loop-position.yielded (c.in-Some.position ∷ []) in
+pub loop-low-init : goal.loop-low-init
+loop-low-init g c =
+    let s = g.I.Runs.view c.args.index.now in
+    let run = run_of g.I.Key.Ord.cmp s c.args.key.now in
+    let all : c.run_len-high.result ≡ length run = c.run_len-high.ensures ∙ ap (λ k. length (run_at g.I.Key.Ord.cmp s k)) c.slot_of-slot.ensures in
     record {
-      counted = omega (arith, long, c.loop-position.invariant.counted);
-      read = read-then _ _ _ c.loop-position.invariant.read c.in_ok-bytes.ensures.read;
-      none = λ log seen within live.
-          let front = take c.args.limit log in
-          let before = c.loop-position.invariant.none log (c.in_ok-bytes.ensures.read.stays log seen) within live in
-          let here : IsLive front c.in-Some.position.now = subst (IsLive front) (sym turn.1) (subst (All (IsLive front)) (sym c.into_iter-position-iterator.ensures.into_iter_gives) live (length c.loop-position.yielded) c.in-Some.position.now turn.0) in
-          let told = ap (key_in c.in-Some.position.now) c.as_slice.ensures.value ∙ c.in_ok-bytes.ensures.key log seen within ∙ key_in-live front c.in-Some.position.now here in
-          elim c.match-match_of.branch [
-            | in-Other w ↦ (
-              passed_by (entry_at front) (λ p. p.now) key c.loop-position.yielded c.in-Some.position before.0 (match_other _ key _ c.match_of.result c.match_of.ensures told w.in-Other.is),
-              w.is_unreadable-is ∙ before.1,
-            )
-            | in-Unreadable w ↦ absurd (match_readable _ key _ c.match_of.result c.match_of.ensures told w.in-Unreadable.is)
-          ];
+      above = omega arith;
+      within = omega (arith, all);
+      read = read-none c.args.device.now;
+      place = λ log seen within is_run.
+          let es = map (entry_at (take c.args.limit log)) run in
+          (subst (IsBetween es c.args.key.now 0) (length-map run (entry_at (take c.args.limit log)) ∙ sym all) (between_all es c.args.key.now is_run.1), refl);
     }
+
+pub readable_from-requires : goal.readable_from-requires
+readable_from-requires g c = c.loop-low.invariant.within
+
+pub returns-in_err-there-clause-read : goal.returns-in_err-there-clause-read
+returns-in_err-there-clause-read g c = read-then _ _ _ c.loop-low.invariant.read c.in_err-there.ensures.read
+
+pub loop-low-preserved-in_default : goal.loop-low-preserved-in_default
+loop-low-preserved-in_default g c = record {
+  above = omega (arith, c.loop-low-test.true);
+  within = omega (arith, c.loop-low-test.true, c.loop-low.invariant.within);
+  read = read-then _ _ _ c.loop-low.invariant.read c.in_ok-there.ensures.read;
+  place = λ log seen within is_run.
+      let first = c.in_ok-there.ensures.first log seen within is_run.0 (omega (arith, c.loop-low-test.true)) in
+      absurd (false≢true (sym (ap is_some c.in_default.is) ∙ first.0));
+}
+
+pub returns-in-Equal-clause-at : goal.returns-in-Equal-clause-at
+returns-in-Equal-clause-at g c = λ log seen within is_run.
+    let front = take c.args.limit log in
+    let key = c.args.key.now in
+    let run = run_of g.I.Key.Ord.cmp (g.I.Runs.view c.args.index.now) key in
+    let es = map (entry_at front) run in
+    let middle = c.loop-low.low + (c.loop-low.high - c.loop-low.low) / 2 in
+    let r = c.in-Some.there in
+    let first = c.in_ok-there.ensures.first log seen within is_run.0 (omega (arith, c.loop-low-test.true)) in
+    let told = subst (λ o. IfSome o (λ r. (r.place ≡ middle) × (r.side ≡ byte_cmp (key_at front r.front.position) key))) c.in-Some.is first.1 in
+    let stands = subst (λ o. IfSome o (λ r. (middle ≤ r.place) × (r.place < c.loop-low.high) × (slice_get run r.place ≡ Some r.front.position))) c.in-Some.is c.in_ok-there.ensures.within in
+    let at = slice_get-map (entry_at front) run r.place ∙ ap (option_map (entry_at front)) stands.2 in
+    let before = c.loop-low.invariant.place log (c.in_ok-there.ensures.read.stays log seen) within is_run in
+    let own = place-Equal es key is_run.1 c.loop-low.low c.loop-low.high before.0 r.place (entry_at front r.front.position) at (sym told.1 ∙ c.in-Equal.is) in
+    record { below = own.0; held = own.1 }
+
+pub returns-in-Equal-clause-within : goal.returns-in-Equal-clause-within
+returns-in-Equal-clause-within g c =
+    let run = run_of g.I.Key.Ord.cmp (g.I.Runs.view c.args.index.now) c.args.key.now in
+    let middle = c.loop-low.low + (c.loop-low.high - c.loop-low.low) / 2 in
+    let stands = subst (λ o. IfSome o (λ r. (middle ≤ r.place) × (r.place < c.loop-low.high) × (slice_get run r.place ≡ Some r.front.position))) c.in-Some.is c.in_ok-there.ensures.within in
+    omega (arith, stands.1, c.loop-low.invariant.within)
+
+pub returns-in-Equal-clause-read : goal.returns-in-Equal-clause-read
+returns-in-Equal-clause-read g c = read-then _ _ _ c.loop-low.invariant.read c.in_ok-there.ensures.read
+
+pub loop-low-preserved : goal.loop-low-preserved
+loop-low-preserved g c =
+    let run = run_of g.I.Key.Ord.cmp (g.I.Runs.view c.args.index.now) c.args.key.now in
+    let middle = c.loop-low.low + (c.loop-low.high - c.loop-low.low) / 2 in
+    let stands = subst (λ o. IfSome o (λ r. (middle ≤ r.place) × (r.place < c.loop-low.high) × (slice_get run r.place ≡ Some r.front.position))) c.in-Some.is c.in_ok-there.ensures.within in
+    elim c.match-there.branch [
+      | in-Less w ↦ record {
+        above = omega (arith, w.low-is, w.high-is, stands.1);
+        within = omega (arith, w.high-is, c.loop-low.invariant.within);
+        read = read-then _ _ _ c.loop-low.invariant.read c.in_ok-there.ensures.read;
+        place = λ log seen within is_run.
+            let front = take c.args.limit log in
+            let key = c.args.key.now in
+            let run = run_of g.I.Key.Ord.cmp (g.I.Runs.view c.args.index.now) key in
+            let es = map (entry_at front) run in
+            let middle = c.loop-low.low + (c.loop-low.high - c.loop-low.low) / 2 in
+            let r = c.in-Some.there in
+            let first = c.in_ok-there.ensures.first log seen within is_run.0 (omega (arith, c.loop-low-test.true)) in
+            let told = subst (λ o. IfSome o (λ r. (r.place ≡ middle) × (r.side ≡ byte_cmp (key_at front r.front.position) key))) c.in-Some.is first.1 in
+            let stands = subst (λ o. IfSome o (λ r. (middle ≤ r.place) × (r.place < c.loop-low.high) × (slice_get run r.place ≡ Some r.front.position))) c.in-Some.is c.in_ok-there.ensures.within in
+            let at = slice_get-map (entry_at front) run r.place ∙ ap (option_map (entry_at front)) stands.2 in
+            let before = c.loop-low.invariant.place log (c.in_ok-there.ensures.read.stays log seen) within is_run in
+            let less = between-Less es key is_run.1 c.loop-low.low c.loop-low.high before.0 r.place (entry_at front r.front.position) at (sym told.1 ∙ w.in-Less.is) in
+            (subst (λ (x : ℕ × ℕ). IsBetween es key x.0 x.1) (λ i. (sym w.low-is i, sym w.high-is i)) less, w.is_hidden-is ∙ before.1);
+      }
+      | in-Greater w ↦ record {
+        above = omega (arith, w.low-is, w.high-is);
+        within = omega (arith, w.high-is, c.loop-low-test.true, c.loop-low.invariant.within);
+        read = read-then _ _ _ c.loop-low.invariant.read c.in_ok-there.ensures.read;
+        place = λ log seen within is_run.
+            let front = take c.args.limit log in
+            let key = c.args.key.now in
+            let run = run_of g.I.Key.Ord.cmp (g.I.Runs.view c.args.index.now) key in
+            let es = map (entry_at front) run in
+            let middle = c.loop-low.low + (c.loop-low.high - c.loop-low.low) / 2 in
+            let r = c.in-Some.there in
+            let first = c.in_ok-there.ensures.first log seen within is_run.0 (omega (arith, c.loop-low-test.true)) in
+            let told = subst (λ o. IfSome o (λ r. (r.place ≡ middle) × (r.side ≡ byte_cmp (key_at front r.front.position) key))) c.in-Some.is first.1 in
+            let stands = subst (λ o. IfSome o (λ r. (middle ≤ r.place) × (r.place < c.loop-low.high) × (slice_get run r.place ≡ Some r.front.position))) c.in-Some.is c.in_ok-there.ensures.within in
+            let at = slice_get-map (entry_at front) run r.place ∙ ap (option_map (entry_at front)) stands.2 in
+            let before = c.loop-low.invariant.place log (c.in_ok-there.ensures.read.stays log seen) within is_run in
+            let over = between-Greater es key is_run.1 c.loop-low.low c.loop-low.high before.0 r.place (entry_at front r.front.position) at (sym told.1 ∙ w.in-Greater.is) in
+            (subst (λ (x : ℕ × ℕ). IsBetween es key x.0 x.1) (λ i. (sym w.low-is i, (told.0 ∙ sym w.high-is) i)) over, ?);
+      }
+    ]
+
+pub returns-clause-at : goal.returns-clause-at
+returns-clause-at g c = λ log seen within is_run.
+    let es = map (entry_at (take c.args.limit log)) (run_of g.I.Key.Ord.cmp (g.I.Runs.view c.args.index.now) c.args.key.now) in
+    let end : c.loop-low.high ≡ c.loop-low.low = omega (arith, c.loop-low.invariant.above, c.loop-low-test.false) in
+    let none = between_none es c.args.key.now is_run.1 c.loop-low.low (subst (IsBetween es c.args.key.now c.loop-low.low) end (c.loop-low.invariant.place log seen within is_run).0) in
+    record { below = none.0; held = none.1 }
+
+pub returns-clause-seen : goal.returns-clause-seen
+returns-clause-seen g c = λ log seen within is_run. (c.loop-low.invariant.place log seen within is_run).1
+
+pub returns-clause-within : goal.returns-clause-within
+returns-clause-within g c = omega (arith, c.loop-low.invariant.above, c.loop-low.invariant.within)
+
+pub returns-clause-read : goal.returns-clause-read
+returns-clause-read g c = c.loop-low.invariant.read

@@ -1,13 +1,22 @@
-use Rattle.std.proofs.Common.{◌≡◌, ◌≤◌, false, All, None, length, map, take}
+use Rattle.std.proofs.Common.{◌-◌, ◌≡◌, ◌≤◌, false, length, map, take}
+
+use Rattle.key_index_store.proofs.SortedLemmas.{IsBetween}
+use Rattle.key_index_flat.specs.View.{run_of}
 use Rattle.key_index_store.specs.Device.{IsRead, Sees}
-use Rattle.key_index_store.specs.Indexed.{IsLive, value_in}
+use Rattle.key_index_store.specs.Indexed.{IsRun, entry_at}
 use Rattle.key_index_store.proofs.store.find.find.Given as goal
 
--- none so far has the key, and each one reads
-abbrev pub invariant-loop-position : goal.invariant-loop-position
-invariant-loop-position g l = record {
-  counted : l.place ≡ length l.yielded;
+-- where the list is in order, the key's place is not in front of low, nor behind high; and where it is held, in front of high
+abbrev pub invariant-loop-low : goal.invariant-loop-low
+invariant-loop-low g l = record {
+  above : l.low ≤ l.high;
+  within : l.high ≤ length (run_of g.I.Key.Ord.cmp (g.I.Runs.view l.fn.index) l.key);
   read : IsRead g.D.Device.seen g.D.Device.may_leave l.fn.device l.device;
-  none : Sees (g.D.Device.seen l.device) (λ log. l.limit ≤ length log → All (IsLive (take l.limit log)) l.fn.positions
-      → (value_in (take l.limit log) l.key (map (λ p. p.now) l.yielded) ≡ None) × (l.is_unreadable ≡ false));
+  place : Sees (g.D.Device.seen l.device) (λ log. l.limit ≤ length log
+      → IsRun (take l.limit log) (run_of g.I.Key.Ord.cmp (g.I.Runs.view l.fn.index) l.key)
+      → IsBetween (map (entry_at (take l.limit log)) (run_of g.I.Key.Ord.cmp (g.I.Runs.view l.fn.index) l.key)) l.key l.low l.high
+      × (l.is_hidden ≡ false));
 }
+
+abbrev pub decreases-loop-low : goal.decreases-loop-low
+decreases-loop-low g l = l.high - l.low

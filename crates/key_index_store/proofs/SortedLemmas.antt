@@ -1,0 +1,287 @@
+-- On entries that stand in the order of their keys, by an order without ties: the place of a key is how many keys are below it.
+--     place_within                      it is in the list, or behind its last entry
+--     place_above, place_at_most        an entry with a lesser key stands in front of it, and each other one doesn't
+--     place_own                         an entry stands at the place of its own key
+--     key-place, place_below            a key that is held stands at its place
+--     place_before                      in front of each entry with a greater key
+--     insert-put, set-put, remove-without   an entry put in there, set there, or taken out
+--     map-insert, map-remove            the same of what the entries are read of
+--     IsBetween                         what a search knows of the place: before the first step, after each one, and at the end
+--     All-insert, length-insert         a list with one item more
+--     remove-insert                     what went in goes out again
+use Rattle.std.proofs.Common.{◌≡◌, ℕ, zero, suc, ◌+◌, ◌<◌, ◌≤◌, Bool, true, false, cond, not, T, List, [], ◌∷◌, ◌++◌, length, map, take, drop, Option, Some, None, is_some, slice_get, slice_set, All, refl, sym, ap, subst, ◌∙◌, length-append, length-take, length-drop, arith}
+use Rattle.std.proofs.lemmas.Bool.{false≢true}
+use Rattle.std.proofs.lemmas.List.Elements.{All-append, All-cons, All-drop, All-take}
+use Rattle.std.proofs.lemmas.Map.Lookups.{exact_bytes}
+use Rattle.std.specs.Cmp.{IsTotalOrder, tied_itself}
+use Rattle.std.specs.Cmp.Lexicographic.{nat_list_cmp_total}
+use Rattle.std.specs.FinMap.{find, is_sorted, put}
+use Rattle.std.specs.FinMap.Entries.{below_all, by_order, where_key}
+use Rattle.std.specs.Option.{option_map}
+use Rattle.std.specs.Ordering.{eq_by_cmp, is_eq, is_lt, ordering_reverse}
+use Rattle.std.specs.Prelude.{insert, remove}
+use Rattle.std.specs.declared.cmp.Ordering.{Ordering}
+use Rattle.std.specs.declared.cmp.Ordering.TheVariants.{Less, Equal, Greater}
+use Rattle.key_index_flat.specs.FullKeys.{byte_cmp}
+use Rattle.key_index_flat.specs.Neighbours.{entries_below}
+use Rattle.key_index_flat.specs.laws.Laws.{T-and_first, T-and_second}
+use Rattle.key_index_flat.proofs.content.ContentLemmas.{Equal-is_eq, Less-is_lt}
+use Rattle.key_index_flat.proofs.entries.EntryLemmas.{some_injective, some_not_none}
+
+-- ---- any list
+
+pub All-insert : {X : Type 0} (P : X → Type 0) (l : List X) (i : ℕ) (x : X) → P x → All P l → All P (insert l i x)
+All-insert P l i x h all = All-append P (take i l) (x ∷ drop i l) (All-take P i l all) (All-cons P x (drop i l) h (All-drop P i l all))
+
+pub map-insert : {X Y : Type 0} (f : X → Y) (l : List X) (i : ℕ) (x : X) → map f (insert l i x) ≡ insert (map f l) i (f x)
+map-insert f l zero x = refl
+map-insert f [] (suc i) x = refl
+map-insert f (y ∷ ys) (suc i) x = ap (λ l. f y ∷ l) (map-insert f ys i x)
+
+pub map-remove : {X Y : Type 0} (f : X → Y) (l : List X) (i : ℕ) → map f (remove l i) ≡ remove (map f l) i
+map-remove f [] zero = refl
+map-remove f [] (suc i) = refl
+map-remove f (y ∷ ys) zero = refl
+map-remove f (y ∷ ys) (suc i) = ap (λ l. f y ∷ l) (map-remove f ys i)
+
+pub map-slice_set : {X Y : Type 0} (f : X → Y) (l : List X) (i : ℕ) (x : X) → map f (slice_set l i x) ≡ slice_set (map f l) i (f x)
+map-slice_set f [] i x = refl
+map-slice_set f (y ∷ ys) zero x = refl
+map-slice_set f (y ∷ ys) (suc i) x = ap (λ l. f y ∷ l) (map-slice_set f ys i x)
+
+pub length-insert : {X : Type 0} (l : List X) (i : ℕ) (x : X) → length (insert l i x) ≡ length l + 1
+length-insert l i x = omega (arith, length-append (take i l) (x ∷ drop i l), length-take i l, length-drop i l)
+
+pub remove-insert : {X : Type 0} (l : List X) (i : ℕ) (x : X) → i ≤ length l → remove (insert l i x) i ≡ l
+remove-insert [] zero x h = refl
+remove-insert [] (suc i) x h = absurd (omega (arith, h))
+remove-insert (y ∷ ys) zero x h = refl
+remove-insert (y ∷ ys) (suc i) x h = ap (λ l. y ∷ l) (remove-insert ys i x (omega (arith, h)))
+
+-- ---- orders
+
+not_less : (r : Ordering) → r ≡ Less → is_lt r ≡ false → ⊥
+not_less r e n = false≢true (sym n ∙ ap is_lt e)
+
+is_lt-Less : (r : Ordering) → is_lt r ≡ true → r ≡ Less
+is_lt-Less r t = Less-is_lt r (subst T (sym t) tt)
+
+module _ {K : Type 0} {R : K → K → Ordering} (o : IsTotalOrder R) where
+  turned : (x y : K) (r : Ordering) → R x y ≡ r → R y x ≡ ordering_reverse r
+  turned x y r p = o.antisymm y x ∙ ap ordering_reverse p
+
+module _ {K X : Type 0} {R : K → K → Ordering} (o : IsTotalOrder R) (exact : (x y : K) → R x y ≡ Equal → x ≡ y) where
+  abbrev place_of : List (K × X) → K → ℕ
+  place_of es k = length (entries_below R es k)
+
+  -- ---- the place of a key behind a first entry
+
+  none_below : (k x : K) (es : List (K × X)) → is_lt (R x k) ≡ false → T (below_all R x es) → entries_below R es k ≡ []
+  none_below k x [] n h = refl
+  none_below k x (e ∷ es) n h =
+      elim (is_lt (R e.0 k)) as (λ b. is_lt (R e.0 k) ≡ b → cond b (e ∷ entries_below R es k) (entries_below R es k) ≡ []) [
+        | true ↦ λ t. absurd (not_less (R x k) (o.trans x e.0 k (Less-is_lt _ (T-and_first _ _ h)) (is_lt-Less _ t)) n)
+        | false ↦ λ t. none_below k x es n (T-and_second _ _ h)
+      ] refl
+
+  first_counts : (k : K) (e : K × X) (es : List (K × X)) → R e.0 k ≡ Less → entries_below R (e ∷ es) k ≡ e ∷ entries_below R es k
+  first_counts k e es p = ap (λ r. cond (is_lt r) (e ∷ entries_below R es k) (entries_below R es k)) p
+
+  first_place : (k : K) (e : K × X) (es : List (K × X)) → T (is_sorted R (e ∷ es)) → is_lt (R e.0 k) ≡ false → entries_below R (e ∷ es) k ≡ []
+  first_place k e es h n = ap (λ b. cond b (e ∷ entries_below R es k) (entries_below R es k)) n ∙ none_below k e.0 es n (T-and_first _ _ h)
+
+  find-below_all : (k x : K) (es : List (K × X)) → R k x ≡ Less → T (below_all R x es) → find R k es ≡ None
+  find-below_all k x [] p h = refl
+  find-below_all k x (e ∷ es) p h =
+      ap (λ r. cond (is_eq r) (Some e.1) (find R k es)) (o.trans k x e.0 p (Less-is_lt _ (T-and_first _ _ h))) ∙ find-below_all k x es p (T-and_second _ _ h)
+
+  not_held : (k : K) (e : K × X) (es : List (K × X)) → T (is_sorted R (e ∷ es)) → R k e.0 ≡ Less → is_some (find R k es) ≡ true → ⊥
+  not_held k e es h p f = false≢true (sym (ap is_some (find-below_all k e.0 es p (T-and_first _ _ h))) ∙ f)
+
+  -- ---- an entry at a place
+
+  entry_above : (k : K) (es : List (K × X)) (i : ℕ) (e : K × X) → T (below_all R k es) → slice_get es i ≡ Some e → R k e.0 ≡ Less
+  entry_above k [] i e h at = absurd (some_not_none e (sym at))
+  entry_above k (x ∷ xs) zero e h at = ap (λ (y : K × X). R k y.0) (sym (some_injective x e at)) ∙ Less-is_lt _ (T-and_first _ _ h)
+  entry_above k (x ∷ xs) (suc i) e h at = entry_above k xs i e (T-and_second _ _ h) at
+
+  pub place_within : (es : List (K × X)) (k : K) → place_of es k ≤ length es
+  place_within [] k = omega arith
+  place_within (x ∷ xs) k =
+      let rest = place_within xs k in
+      elim (is_lt (R x.0 k)) as (λ b. length (cond b (x ∷ entries_below R xs k) (entries_below R xs k)) ≤ length (x ∷ xs)) [
+        | true ↦ omega (arith, rest)
+        | false ↦ omega (arith, rest)
+      ]
+
+  pub place_above : (es : List (K × X)) (k : K) (i : ℕ) (e : K × X) → T (is_sorted R es) → slice_get es i ≡ Some e → R e.0 k ≡ Less → i < place_of es k
+  place_above [] k i e h at less = absurd (some_not_none e (sym at))
+  place_above (x ∷ xs) k zero e h at less =
+      let first = ap (λ l. length l) (first_counts k x xs (ap (λ (y : K × X). R y.0 k) (some_injective x e at) ∙ less)) in
+      omega (arith, first)
+  place_above (x ∷ xs) k (suc i) e h at less =
+      let rest = place_above xs k i e (T-and_second _ _ h) at less in
+      let first = ap (λ l. length l) (first_counts k x xs (o.trans x.0 e.0 k (entry_above x.0 xs i e (T-and_first _ _ h) at) less)) in
+      omega (arith, first, rest)
+
+  pub place_at_most : (es : List (K × X)) (k : K) (i : ℕ) (e : K × X) → T (is_sorted R es) → slice_get es i ≡ Some e → is_lt (R e.0 k) ≡ false → place_of es k ≤ i
+  place_at_most [] k i e h at n = absurd (some_not_none e (sym at))
+  place_at_most (x ∷ xs) k zero e h at n =
+      let none = ap (λ l. length l) (first_place k x xs h (ap (λ (y : K × X). is_lt (R y.0 k)) (some_injective x e at) ∙ n)) in
+      omega (arith, none)
+  place_at_most (x ∷ xs) k (suc i) e h at n =
+      let rest = place_at_most xs k i e (T-and_second _ _ h) at n in
+      elim (is_lt (R x.0 k)) as (λ b. length (cond b (x ∷ entries_below R xs k) (entries_below R xs k)) ≤ suc i) [
+        | true ↦ omega (arith, rest)
+        | false ↦ omega (arith, rest)
+      ]
+
+  found_more : (k : K) (e : K × X) (es : List (K × X)) → is_some (find R k es) ≡ true → is_some (find R k (e ∷ es)) ≡ true
+  found_more k e es f =
+      elim (eq_by_cmp R k e.0) as (λ b. is_some (cond b (Some e.1) (find R k es)) ≡ true) [
+        | true ↦ refl
+        | false ↦ f
+      ]
+
+  pub place_own : (es : List (K × X)) (i : ℕ) (e : K × X) → T (is_sorted R es) → slice_get es i ≡ Some e → (i ≡ place_of es e.0) × (is_some (find R e.0 es) ≡ true)
+  place_own [] i e h at = absurd (some_not_none e (sym at))
+  place_own (x ∷ xs) zero e h at =
+      let same : R x.0 e.0 ≡ Equal = ap (λ (y : K × X). R y.0 e.0) (some_injective x e at) ∙ tied_itself o e.0 in
+      let none = ap (λ l. length l) (first_place e.0 x xs h (ap is_lt same)) in
+      (omega (arith, none), ap (λ r. is_some (cond (is_eq r) (Some x.1) (find R e.0 xs))) (turned o x.0 e.0 Equal same))
+  place_own (x ∷ xs) (suc i) e h at =
+      let rest = place_own xs i e (T-and_second _ _ h) at in
+      let first = ap (λ l. length l) (first_counts e.0 x xs (entry_above x.0 xs i e (T-and_first _ _ h) at)) in
+      (omega (arith, first, rest.0), found_more e.0 x xs rest.1)
+
+  -- ---- a key that is held
+
+  pub key-place : (es : List (K × X)) (k : K) → T (is_sorted R es) → is_some (find R k es) ≡ true → option_map (λ (e : K × X). e.0) (slice_get es (place_of es k)) ≡ Some k
+  key-place [] k h f = absurd (false≢true f)
+  key-place (x ∷ xs) k h f =
+      elim (R k x.0) as (λ r. R k x.0 ≡ r → is_some (cond (is_eq r) (Some x.1) (find R k xs)) ≡ true → option_map (λ (e : K × X). e.0) (slice_get (x ∷ xs) (place_of (x ∷ xs) k)) ≡ Some k) [
+        | Less ↦ λ p g. absurd (not_held k x xs h p g)
+        | Equal ↦ λ p g.
+            ap (λ l. option_map (λ (e : K × X). e.0) (slice_get (x ∷ xs) (length l))) (first_place k x xs h (ap is_lt (turned o k x.0 Equal p)))
+            ∙ ap (λ y. Some y) (sym (exact k x.0 p))
+        | Greater ↦ λ p g.
+            ap (λ l. option_map (λ (e : K × X). e.0) (slice_get (x ∷ xs) (length l))) (first_counts k x xs (turned o k x.0 Greater p))
+            ∙ key-place xs k (T-and_second _ _ h) g
+      ] refl f
+
+  key_within : (es : List (K × X)) (k : K) (i : ℕ) → option_map (λ (e : K × X). e.0) (slice_get es i) ≡ Some k → i < length es
+  key_within [] k i at = absurd (some_not_none k (sym at))
+  key_within (x ∷ xs) k zero at = omega arith
+  key_within (x ∷ xs) k (suc i) at = let rest = key_within xs k i at in omega (arith, rest)
+
+  pub place_below : (es : List (K × X)) (k : K) → T (is_sorted R es) → is_some (find R k es) ≡ true → place_of es k < length es
+  place_below es k h f = key_within es k (place_of es k) (key-place es k h f)
+
+  pub place_before : (es : List (K × X)) (k : K) (i : ℕ) (e : K × X) → T (is_sorted R es) → slice_get es i ≡ Some e → R e.0 k ≡ Greater → is_some (find R k es) ≡ true → place_of es k < i
+  place_before [] k i e h at over f = absurd (some_not_none e (sym at))
+  place_before (x ∷ xs) k zero e h at over f =
+      absurd (not_held k x xs h (turned o x.0 k Greater first) (sym (ap (λ r. is_some (cond (is_eq r) (Some x.1) (find R k xs))) (turned o x.0 k Greater first)) ∙ f))
+    where
+      first : R x.0 k ≡ Greater
+      first = ap (λ (y : K × X). R y.0 k) (some_injective x e at) ∙ over
+  place_before (x ∷ xs) k (suc i) e h at over f =
+      elim (R k x.0) as (λ r. R k x.0 ≡ r → is_some (cond (is_eq r) (Some x.1) (find R k xs)) ≡ true → place_of (x ∷ xs) k < suc i) [
+        | Less ↦ λ p g. absurd (not_held k x xs h p g)
+        | Equal ↦ λ p g. (let none = ap (λ l. length l) (first_place k x xs h (ap is_lt (turned o k x.0 Equal p))) in omega (arith, none))
+        | Greater ↦ λ p g. (
+            let rest = place_before xs k i e (T-and_second _ _ h) at over g in
+            let one = ap (λ l. length l) (first_counts k x xs (turned o k x.0 Greater p)) in
+            omega (arith, rest, one))
+      ] refl f
+
+  -- ---- an edit at the place of a key
+
+  pub insert-put : (es : List (K × X)) (k : K) (v : X) → T (is_sorted R es) → is_some (find R k es) ≡ false → insert es (place_of es k) (k, v) ≡ put R k v es
+  insert-put [] k v h n = refl
+  insert-put (x ∷ xs) k v h n =
+      elim (R k x.0) as (λ r. R k x.0 ≡ r → is_some (cond (is_eq r) (Some x.1) (find R k xs)) ≡ false
+          → insert (x ∷ xs) (place_of (x ∷ xs) k) (k, v) ≡ by_order r ((k, v) ∷ x ∷ xs) ((x.0, v) ∷ xs) (x ∷ put R k v xs)) [
+        | Less ↦ λ p m. ap (λ l. insert (x ∷ xs) (length l) (k, v)) (first_place k x xs h (ap is_lt (turned o k x.0 Less p)))
+        | Equal ↦ λ p m. absurd (false≢true (sym m))
+        | Greater ↦ λ p m.
+            ap (λ l. insert (x ∷ xs) (length l) (k, v)) (first_counts k x xs (turned o k x.0 Greater p)) ∙ ap (λ l. x ∷ l) (insert-put xs k v (T-and_second _ _ h) m)
+      ] refl n
+
+  pub set-put : (es : List (K × X)) (k : K) (v : X) → T (is_sorted R es) → is_some (find R k es) ≡ true → slice_set es (place_of es k) (k, v) ≡ put R k v es
+  set-put [] k v h f = absurd (false≢true f)
+  set-put (x ∷ xs) k v h f =
+      elim (R k x.0) as (λ r. R k x.0 ≡ r → is_some (cond (is_eq r) (Some x.1) (find R k xs)) ≡ true
+          → slice_set (x ∷ xs) (place_of (x ∷ xs) k) (k, v) ≡ by_order r ((k, v) ∷ x ∷ xs) ((x.0, v) ∷ xs) (x ∷ put R k v xs)) [
+        | Less ↦ λ p g. absurd (not_held k x xs h p g)
+        | Equal ↦ λ p g.
+            ap (λ l. slice_set (x ∷ xs) (length l) (k, v)) (first_place k x xs h (ap is_lt (turned o k x.0 Equal p))) ∙ ap (λ y. (y, v) ∷ xs) (exact k x.0 p)
+        | Greater ↦ λ p g.
+            ap (λ l. slice_set (x ∷ xs) (length l) (k, v)) (first_counts k x xs (turned o k x.0 Greater p)) ∙ ap (λ l. x ∷ l) (set-put xs k v (T-and_second _ _ h) g)
+      ] refl f
+
+  -- the entries of other keys
+  abbrev pub without : K → List (K × X) → List (K × X)
+  without k es = where_key R (λ x. not (eq_by_cmp R k x)) es
+
+  without_above : (k : K) (es : List (K × X)) → T (below_all R k es) → without k es ≡ es
+  without_above k [] h = refl
+  without_above k (e ∷ es) h =
+      ap (λ r. cond (not (is_eq r)) (e ∷ without k es) (without k es)) (Less-is_lt _ (T-and_first _ _ h)) ∙ ap (λ l. e ∷ l) (without_above k es (T-and_second _ _ h))
+
+  pub remove-without : (es : List (K × X)) (k : K) → T (is_sorted R es) → is_some (find R k es) ≡ true → remove es (place_of es k) ≡ without k es
+  remove-without [] k h f = absurd (false≢true f)
+  remove-without (x ∷ xs) k h f =
+      elim (R k x.0) as (λ r. R k x.0 ≡ r → is_some (cond (is_eq r) (Some x.1) (find R k xs)) ≡ true
+          → remove (x ∷ xs) (place_of (x ∷ xs) k) ≡ cond (not (is_eq r)) (x ∷ without k xs) (without k xs)) [
+        | Less ↦ λ p g. absurd (not_held k x xs h p g)
+        | Equal ↦ λ p g.
+            ap (λ l. remove (x ∷ xs) (length l)) (first_place k x xs h (ap is_lt (turned o k x.0 Equal p)))
+            ∙ sym (without_above k xs (subst (λ y. T (below_all R y xs)) (sym (exact k x.0 p)) (T-and_first _ _ h)))
+        | Greater ↦ λ p g.
+            ap (λ l. remove (x ∷ xs) (length l)) (first_counts k x xs (turned o k x.0 Greater p)) ∙ ap (λ l. x ∷ l) (remove-without xs k (T-and_second _ _ h) g)
+      ] refl f
+
+-- ---- a search among entries in the order of their keys, which are bytes
+
+-- the key's place is not in front of low, nor behind high, and where it is held, in front of high
+pub record IsBetween (es : List (List ℕ × List ℕ)) (key : List ℕ) (low high : ℕ) : Type 0 where
+  pub after : low ≤ length (entries_below byte_cmp es key)
+  pub before : length (entries_below byte_cmp es key) ≤ high
+  pub held : is_some (find byte_cmp key es) ≡ true → length (entries_below byte_cmp es key) < high
+
+module _ (es : List (List ℕ × List ℕ)) (key : List ℕ) (h : T (is_sorted byte_cmp es)) where
+  pub between_all : IsBetween es key 0 (length es)
+  between_all = record {
+    after = omega arith;
+    before = place_within nat_list_cmp_total exact_bytes es key;
+    held = place_below nat_list_cmp_total exact_bytes es key h;
+  }
+
+  module _ (low high : ℕ) (b : IsBetween es key low high) (i : ℕ) (e : List ℕ × List ℕ) (at : slice_get es i ≡ Some e) where
+    pub between-Less : byte_cmp e.0 key ≡ Less → IsBetween es key (i + 1) high
+    between-Less less = let more = place_above nat_list_cmp_total exact_bytes es key i e h at less in record {
+      after = omega (arith, more);
+      before = b.before;
+      held = b.held;
+    }
+
+    pub between-Greater : byte_cmp e.0 key ≡ Greater → IsBetween es key low i
+    between-Greater over = record {
+      after = b.after;
+      before = place_at_most nat_list_cmp_total exact_bytes es key i e h at (ap is_lt over);
+      held = place_before nat_list_cmp_total exact_bytes es key i e h at over;
+    }
+
+    pub place-Equal : byte_cmp e.0 key ≡ Equal → (i ≡ length (entries_below byte_cmp es key)) × (true ≡ is_some (find byte_cmp key es))
+    place-Equal tied =
+        let own = place_own nat_list_cmp_total exact_bytes es i e h at in
+        let is = exact_bytes e.0 key tied in
+        (own.0 ∙ ap (λ k. length (entries_below byte_cmp es k)) is, sym own.1 ∙ ap (λ k. is_some (find byte_cmp k es)) is)
+
+  pub between_none : (low : ℕ) → IsBetween es key low low → (low ≡ length (entries_below byte_cmp es key)) × (false ≡ is_some (find byte_cmp key es))
+  between_none low b =
+      let here : low ≡ length (entries_below byte_cmp es key) = omega (arith, b.after, b.before) in
+      (here, elim (is_some (find byte_cmp key es)) as (λ f. is_some (find byte_cmp key es) ≡ f → false ≡ f) [
+        | true ↦ λ f. (let less = b.held f in absurd (omega (arith, here, less)))
+        | false ↦ λ f. refl
+      ] refl)
