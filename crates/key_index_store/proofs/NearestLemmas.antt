@@ -1,12 +1,16 @@
 -- On the neighbours of a key: where each list stands in the order of its keys, the positions of an index stand for the entries of the map.
 --     IsTold                                  of a position that is found: it is live, and its entry is the one that is asked for
+--     next_list, next_filled                  behind the last place of a list stand the values of the next one, which has some
+--     values_split                            of a content stand the values under lower index keys first, then those of one, then those of higher ones
+--     last_value, last_lower                  the last value of all, and the last one below a key
+--     last_taken                              the last of some items, and of the first ones of a list
 --     entries_held                            the entries of all positions are those of the map
 --     above_told, from_told, below_told       the nearest position above a key, from it on, and below it
 --     first_told, last_told                   the first and the last of all
-use Rattle.std.proofs.Common.{◌≡◌, ◌<◌, ◌+◌, ℕ, suc, Bool, true, false, cond, List, [], ◌∷◌, ◌++◌, map, length, take, drop, T, All, Option, Some, None, is_some, unwrap_or, refl, sym, ap, subst, ◌∙◌, append_assoc, append-nil, arith}
+use Rattle.std.proofs.Common.{◌≡◌, ◌≤◌, ◌<◌, ◌+◌, ◌-◌, ℕ, zero, suc, Bool, true, false, cond, List, [], ◌∷◌, ◌++◌, map, length, take, drop, T, All, Option, Some, None, is_some, unwrap_or, refl, sym, ap, subst, ◌∙◌, append_assoc, append-nil, length-append, slice_get, arith}
 use Rattle.std.proofs.lemmas.Bool.{false≢true}
 use Rattle.std.proofs.lemmas.Grind.{flat_map-append}
-use Rattle.std.proofs.lemmas.List.{drop_at, drop-map, map-append, take_at, take-map}
+use Rattle.std.proofs.lemmas.List.{drop_all, drop_at, drop-map, map-append, take_at, take-map}
 use Rattle.std.proofs.lemmas.List.Elements.{All-append, All-cons, All-drop, All-filter, All-head, All-map, All-nil, All-tail, All-take, All-weaker, filter-append, filter_passes}
 use Rattle.std.proofs.lemmas.Map.Lookups.{exact_bytes}
 use Rattle.std.specs.Cmp.{IsTotalOrder, tied_itself}
@@ -18,17 +22,18 @@ use Rattle.std.specs.Option.{IfSome, option_map}
 use Rattle.std.specs.Ordering.{is_eq, is_gt, is_le, is_lt, ordering_reverse}
 use Rattle.std.specs.declared.cmp.Ordering.{Ordering}
 use Rattle.std.specs.declared.cmp.Ordering.TheVariants.{Less, Equal, Greater}
-use Rattle.key_index_flat.specs.Content.{Content, IsLawful, list_at}
-use Rattle.key_index_flat.specs.FullKeys.{IsBytes, byte_cmp}
-use Rattle.key_index_flat.specs.Neighbours.{KeepsOrder, entries_above, entries_below, first_entry, last_entry}
+use Rattle.key_index_flat.specs.Content.{Content, IsLawful, all_filled, is_filled, list_at}
+use Rattle.key_index_flat.specs.FullKeys.{IsBytes, byte_cmp, unflagged}
+use Rattle.key_index_flat.specs.Neighbours.{KeepsOrder, entries_above, entries_below, first_entry, last_entry, last_list, or_cycled, prev_list}
 use Rattle.key_index_flat.specs.Values.{values_of}
 use Rattle.key_index_flat.specs.View.{View, run_at, run_of}
 use Rattle.key_index_flat.specs.Walk.{entries_from}
-use Rattle.key_index_flat.specs.laws.Laws.{T-and, T-and_first, T-and_second}
+use Rattle.key_index_flat.specs.laws.Laws.{T-and, T-and_first, T-and_second, all_filled-where_key}
 use Rattle.key_index_flat.proofs.content.ContentLemmas.{Less-is_lt, list_at-below_all}
 use Rattle.key_index_flat.proofs.entries.MapLemmas.{own_list}
 use Rattle.key_index_flat.proofs.neighbours.NeighbourLemmas.{last_or-map}
-use Rattle.key_index_store.specs.Indexed.{Indexes, IsLive, IsPlace, IsUnder, Keeps, entry_at, key_at}
+use Rattle.key_index_flat.proofs.neighbours.WalkLemmas.{above_next}
+use Rattle.key_index_store.specs.Indexed.{Indexes, IsLive, IsPlace, IsRun, IsUnder, Keeps, entry_at}
 use Rattle.key_index_store.specs.Positions.{positions_before, positions_from}
 use Rattle.key_index_store.specs.Stored.{Values, entry_after, entry_before, entry_from, held_by}
 use Rattle.key_index_store.specs.declared.store.Tail.{Tail}
@@ -37,11 +42,15 @@ use Rattle.key_index_store.proofs.KeepLemmas.{kept_held}
 abbrev pub Pair : Type 0
 Pair = List ℕ × List ℕ
 
+-- the position that is found is live, and its entry is told
+abbrev pub IsTold : List ℕ → Option ℕ → Option Pair → Type 0
+IsTold log r answer = IfSome r (IsLive log) × (option_map (entry_at log) r ≡ answer)
+
 -- ---- lists
 
-both : {X : Type 0} {P Q : X → Type 0} (l : List X) → All P l → All Q l → All (λ x. P x × Q x) l
-both {P = P} {Q = Q} [] p q = All-nil (λ x. P x × Q x)
-both {P = P} {Q = Q} (x ∷ xs) p q = All-cons (λ x. P x × Q x) x xs (All-head P x xs p, All-head Q x xs q) (both xs (All-tail P x xs p) (All-tail Q x xs q))
+both : {X : Type 0} (P Q : X → Type 0) (l : List X) → All P l → All Q l → All (λ x. P x × Q x) l
+both P Q [] p q = All-nil (λ x. P x × Q x)
+both P Q (x ∷ xs) p q = All-cons (λ x. P x × Q x) x xs (All-head P x xs p, All-head Q x xs q) (both P Q xs (All-tail P x xs p) (All-tail Q x xs q))
 
 all_pass : {X : Type 0} (p : X → Bool) (l : List X) → All (λ x. p x ≡ true) l → filter p l ≡ l
 all_pass p [] h = refl
@@ -65,6 +74,27 @@ last_has : {X : Type 0} (P : X → Type 0) (o : Option X) (l : List X) → IfSom
 last_has P o [] at h = at
 last_has P o (x ∷ xs) at h = last_has P (Some x) xs (All-head P x xs h) (All-tail P x xs h)
 
+last_or-append : {X : Type 0} (o : Option X) (xs ys : List X) → last_or o (xs ++ ys) ≡ last_or (last_or o xs) ys
+last_or-append o [] ys = refl
+last_or-append o (x ∷ xs) ys = last_or-append (Some x) xs ys
+
+is_some-last_or : {X : Type 0} (x : X) (xs : List X) → is_some (last_or (Some x) xs) ≡ true
+is_some-last_or x [] = refl
+is_some-last_or x (y ∷ ys) = is_some-last_or y ys
+
+take-next : {X : Type 0} (l : List X) (n : ℕ) (x : X) → slice_get l n ≡ Some x → take (suc n) l ≡ take n l ++ x ∷ []
+take-next [] n x at = absurd (false≢true (ap is_some at))
+take-next (y ∷ ys) zero x at = ap (λ z. z ∷ []) (ap (λ o. unwrap_or o y) at)
+take-next (y ∷ ys) (suc n) x at = ap (λ l. y ∷ l) (take-next ys n x at)
+
+-- behind some items stand the first ones of a list
+pub last_taken : {X : Type 0} (lower l : List X) (place : ℕ) (x : X) → 0 < place → slice_get l (place - 1) ≡ Some x → Some x ≡ last_entry (lower ++ take place l)
+last_taken lower l zero x some at = absurd (omega (arith, some))
+last_taken lower l (suc n) x some at =
+    sym (last_or-append None lower (take (suc n) l)
+    ∙ ap (last_or (last_or None lower)) (take-next l n x (subst (λ m. slice_get l m ≡ Some x) (omega arith) at))
+    ∙ last_or-append (last_or None lower) (take n l) (x ∷ []))
+
 -- ---- entries in the order of their keys, beside a key
 
 module _ {K X : Type 0} {R : K → K → Ordering} (o : IsTotalOrder R) (k : K) where
@@ -77,6 +107,10 @@ module _ {K X : Type 0} {R : K → K → Ordering} (o : IsTotalOrder R) (k : K) 
 
   abbrev below : List (K × X) → List (K × X)
   below es = entries_below R es k
+
+  -- its own and those above it
+  abbrev from : List (K × X) → List (K × X)
+  from es = filter (λ e. is_le (R k e.0)) es
 
   behind : (x : K) (es : List (K × X)) → ((y : K) → R x y ≡ Less → R k y ≡ Less) → T (below_all R x es) → All (λ e. R k e.0 ≡ Less) es
   behind x [] through h = All-nil (λ (e : K × X). R k e.0 ≡ Less)
@@ -93,7 +127,7 @@ module _ {K X : Type 0} {R : K → K → Ordering} (o : IsTotalOrder R) (k : K) 
   all_above : (es : List (K × X)) → All (λ e. R k e.0 ≡ Less) es → above es ≡ es
   all_above es h = all_pass (λ e. is_lt (R k e.0)) es (All-weaker (λ (e : K × X). R k e.0 ≡ Less) (λ e. is_lt (R k e.0) ≡ true) (λ e q. ap is_lt q) es h)
 
-  all_from : (es : List (K × X)) → All (λ e. R k e.0 ≡ Less) es → entries_from R es k ≡ es
+  all_from : (es : List (K × X)) → All (λ e. R k e.0 ≡ Less) es → from es ≡ es
   all_from es h = all_pass (λ e. is_le (R k e.0)) es (All-weaker (λ (e : K × X). R k e.0 ≡ Less) (λ e. is_le (R k e.0) ≡ true) (λ e q. ap is_le q) es h)
 
   all_below : (es : List (K × X)) → All (λ e. R e.0 k ≡ Less) es → below es ≡ es
@@ -104,7 +138,7 @@ module _ {K X : Type 0} {R : K → K → Ordering} (o : IsTotalOrder R) (k : K) 
       none_pass (λ e. is_lt (R k e.0)) es
       (All-weaker (λ (e : K × X). R e.0 k ≡ Less) (λ e. is_lt (R k e.0) ≡ false) (λ e q. ap is_lt (o.antisymm k e.0 ∙ ap ordering_reverse q)) es h)
 
-  none_from : (es : List (K × X)) → All (λ e. R e.0 k ≡ Less) es → entries_from R es k ≡ []
+  none_from : (es : List (K × X)) → All (λ e. R e.0 k ≡ Less) es → from es ≡ []
   none_from es h =
       none_pass (λ e. is_le (R k e.0)) es
       (All-weaker (λ (e : K × X). R e.0 k ≡ Less) (λ e. is_le (R k e.0) ≡ false) (λ e q. ap is_le (o.antisymm k e.0 ∙ ap ordering_reverse q)) es h)
@@ -130,12 +164,11 @@ module _ {K X : Type 0} {R : K → K → Ordering} (o : IsTotalOrder R) (k : K) 
         | Greater ↦ λ q. ap (λ l. e ∷ l) rest
       ] refl ∙ ap (λ r. cond (is_lt r) (e ∷ below es) (below es) ++ (own (e ∷ es) ++ above (e ∷ es))) (sym (o.antisymm e.0 k))
 
-  from_split : (es : List (K × X)) → T (is_sorted R es) → entries_from R es k ≡ own es ++ above es
+  from_split : (es : List (K × X)) → T (is_sorted R es) → from es ≡ own es ++ above es
   from_split [] h = refl
   from_split (e ∷ es) h =
-      let from = entries_from R es k in
       let rest = from_split es (T-and_second _ _ h) in
-      elim (R k e.0) as (λ r. R k e.0 ≡ r → cond (is_le r) (e ∷ from) from ≡ cond (is_eq r) (e ∷ own es) (own es) ++ cond (is_lt r) (e ∷ above es) (above es)) [
+      elim (R k e.0) as (λ r. R k e.0 ≡ r → cond (is_le r) (e ∷ from es) (from es) ≡ cond (is_eq r) (e ∷ own es) (own es) ++ cond (is_lt r) (e ∷ above es) (above es)) [
         | Less ↦ λ q.
             let none = none_own es (behind_less e es q h) in
             ap (λ l. e ∷ l) (rest ∙ ap (λ l. l ++ above es) none) ∙ ap (λ l. l ++ (e ∷ above es)) (sym none)
@@ -154,7 +187,7 @@ module _ {K X : Type 0} {R : K → K → Ordering} (o : IsTotalOrder R) (k : K) 
 
   -- at the place behind those that are below it
   module _ (es : List (K × X)) (h : T (is_sorted R es)) (place : ℕ) (at : place ≡ length (below es)) where
-    drop_place : drop place es ≡ entries_from R es k
+    drop_place : drop place es ≡ from es
     drop_place = ap (drop place) (split_at es h) ∙ drop_at (below es) (own es ++ above es) place (sym at) ∙ sym (from_split es h)
 
     take_place : take place es ≡ below es
@@ -173,10 +206,10 @@ module _ {K X : Type 0} {R : K → K → Ordering} (o : IsTotalOrder R) (k : K) 
         filter-append (λ e. is_lt (R k e.0)) lower (mid ++ upper) ∙ ap (λ l. l ++ above (mid ++ upper)) (none_above lower low)
         ∙ filter-append (λ e. is_lt (R k e.0)) mid upper ∙ ap (λ l. above mid ++ l) (all_above upper high)
 
-    from_between : entries_from R (lower ++ (mid ++ upper)) k ≡ entries_from R mid k ++ upper
+    from_between : from (lower ++ (mid ++ upper)) ≡ from mid ++ upper
     from_between =
-        filter-append (λ e. is_le (R k e.0)) lower (mid ++ upper) ∙ ap (λ l. l ++ entries_from R (mid ++ upper) k) (none_from lower low)
-        ∙ filter-append (λ e. is_le (R k e.0)) mid upper ∙ ap (λ l. entries_from R mid k ++ l) (all_from upper high)
+        filter-append (λ e. is_le (R k e.0)) lower (mid ++ upper) ∙ ap (λ l. l ++ from (mid ++ upper)) (none_from lower low)
+        ∙ filter-append (λ e. is_le (R k e.0)) mid upper ∙ ap (λ l. from mid ++ l) (all_from upper high)
 
     below_between : below (lower ++ (mid ++ upper)) ≡ lower ++ below mid
     below_between =
@@ -186,7 +219,37 @@ module _ {K X : Type 0} {R : K → K → Ordering} (o : IsTotalOrder R) (k : K) 
 
 -- ---- a content
 
+-- where no list is empty
+module _ {K V : Type 0} where
+  last_behind : (o : Option V) (e : K × List V) (es : Content K V) → T (all_filled (e ∷ es)) → last_or o (values_of (e ∷ es)) ≡ last_entry (unwrap_or (option_map (λ (f : K × List V). f.1) (last_or (Some e) es)) [])
+  last_behind o e [] h = ap (last_or o) (append-nil e.1) ∙ of e.1 (T-and_first _ _ h)
+    where
+      of : (l : List V) → T (is_filled l) → last_or o l ≡ last_entry l
+      of [] t = absurd t
+      of (x ∷ xs) t = refl
+  last_behind o e (f ∷ fs) h = last_or-append o e.1 (values_of (f ∷ fs)) ∙ last_behind (last_or o e.1) f fs (T-and_second (is_filled e.1) _ h)
+
+  pub last_value : (c : Content K V) → T (all_filled c) → last_entry (values_of c) ≡ last_entry (unwrap_or (last_list c) [])
+  last_value [] h = refl
+  last_value (e ∷ es) h = last_behind None e es h
+
+  uncycled : (d : Content K V) (other : Option (K × List V)) → T (all_filled d) → last_entry (values_of d) ≡ last_entry (unflagged (option_map (λ n. (n.0.1, n.1)) (or_cycled (last_entry d) other)))
+  uncycled [] None h = refl
+  uncycled [] (Some f) h = refl
+  uncycled (e ∷ es) other h = last_behind None e es h ∙ of (last_or (Some e) es) (is_some-last_or e es)
+    where
+      of : (r : Option (K × List V)) → is_some r ≡ true → last_entry (unwrap_or (option_map (λ (f : K × List V). f.1) r) []) ≡ last_entry (unflagged (option_map (λ n. (n.0.1, n.1)) (or_cycled r other)))
+      of None t = absurd (false≢true t)
+      of (Some f) t = refl
+
 module _ {K V : Type 0} {cmp : K → K → Ordering} (o : IsTotalOrder cmp) where
+  -- the last value of the lists below a key
+  pub last_lower : (s : View K V) (k : K) (place : ℕ) → IsLawful cmp s.content → place ≡ 0 → last_entry (unflagged (prev_list cmp s.content k)) ≡ last_entry (positions_before cmp s k place)
+  last_lower s k place h none =
+      let lower = entries_below cmp s.content k in
+      sym (ap (λ n. last_entry (values_of lower ++ take n (run_at cmp s k))) none ∙ ap last_entry (append-nil (values_of lower))
+      ∙ uncycled lower (last_entry s.content) (all_filled-where_key o (λ x. is_lt (cmp x k)) s.content h.1))
+
   list_own : (k : K) (c : Content K V) → T (is_sorted cmp c) → list_at cmp c k ≡ values_of (own o k c)
   list_own k [] h = refl
   list_own k (e ∷ es) h =
@@ -203,6 +266,44 @@ module _ {K V : Type 0} {cmp : K → K → Ordering} (o : IsTotalOrder cmp) wher
       ∙ flat_map-append (λ (e : K × List V). e.1) (below o k c) (own o k c ++ above o k c)
       ∙ ap (λ l. values_of (below o k c) ++ l)
       (flat_map-append (λ (e : K × List V). e.1) (own o k c) (above o k c) ∙ ap (λ l. l ++ values_of (above o k c)) (sym (list_own k c h)))
+
+  -- the list of the first entry above a key
+  above_list : (k : K) (c : Content K V) (e : K × List V) → T (is_sorted cmp c) → first_entry (entries_above cmp c k) ≡ Some e → list_at cmp c e.0 ≡ e.1
+  above_list k [] e h is = absurd (false≢true (ap is_some is))
+  above_list k (d ∷ ds) e h is =
+      let past : first_entry (entries_above cmp ds k) ≡ Some e → list_at cmp (d ∷ ds) e.0 ≡ e.1 = λ found.
+      let over : cmp d.0 e.0 ≡ Less =
+      subst (λ (r : Option (K × List V)). IfSome r (λ f. cmp d.0 f.0 ≡ Less)) found
+      (first_has (λ (f : K × List V). cmp d.0 f.0 ≡ Less) (entries_above cmp ds k)
+      (All-filter (λ (f : K × List V). is_lt (cmp k f.0)) (λ (f : K × List V). cmp d.0 f.0 ≡ Less) ds (behind o d.0 d.0 ds (λ y q. q) (T-and_first _ _ h)))) in
+      ap (λ r. unwrap_or (cond (is_eq r) (Some d.1) (find cmp e.0 ds)) []) (o.antisymm e.0 d.0 ∙ ap ordering_reverse over) ∙ above_list k ds e (T-and_second _ _ h) found in
+      elim (is_lt (cmp k d.0)) as (λ b. first_entry (cond b (d ∷ entries_above cmp ds k) (entries_above cmp ds k)) ≡ Some e → list_at cmp (d ∷ ds) e.0 ≡ e.1) [
+        | true ↦ λ found.
+            let same : d ≡ e = ap (λ (r : Option (K × List V)). unwrap_or r d) found in
+            ap (λ (f : K × List V). list_at cmp (d ∷ ds) f.0) (sym same) ∙ ap (λ r. unwrap_or (cond (is_eq r) (Some d.1) (find cmp d.0 ds)) []) (tied_itself o d.0) ∙ ap (λ (f : K × List V). f.1) same
+        | false ↦ past
+      ] is
+
+  above_filled : (k : K) (c : Content K V) (e : K × List V) → IsLawful cmp c → first_entry (entries_above cmp c k) ≡ Some e → T (is_filled e.1)
+  above_filled k c e h is = of (entries_above cmp c k) (all_filled-where_key o (λ x. is_lt (cmp k x)) c h.1) is
+    where
+      of : (l : Content K V) → T (all_filled l) → first_entry l ≡ Some e → T (is_filled e.1)
+      of [] t f = absurd (false≢true (ap is_some f))
+      of (d ∷ ds) t f = subst (λ (g : K × List V). T (is_filled g.1)) (ap (λ (r : Option (K × List V)). unwrap_or r d) f) (T-and_first _ _ t)
+
+  -- where a list ends, the next one begins
+  module _ (s : View K V) (h : IsLawful cmp s.content) (k there : K) (place : ℕ) (values : List V) (past : length (run_at cmp s k) ≤ place)
+      (next : first_entry (entries_above cmp s.content k) ≡ Some (there, values)) where
+    pub next_list : (v : V) (rest : List V) → values ≡ v ∷ rest → positions_from cmp s k place ≡ v ∷ positions_from cmp s there 1
+    next_list v rest is =
+        let run : run_at cmp s there ≡ v ∷ rest = above_list k s.content (there, values) h.0 next ∙ is in
+        ap (λ l. l ++ values_of (entries_above cmp s.content k)) (drop_all place (run_at cmp s k) past)
+        ∙ ap values_of (above_next o s.content k (there, values) h.0 next)
+        ∙ ap (λ l. l ++ values_of (entries_above cmp s.content there)) is
+        ∙ ap (λ l. v ∷ (drop 1 l ++ values_of (entries_above cmp s.content there))) (sym run)
+
+    pub next_filled : values ≡ [] → ⊥
+    next_filled none = subst (λ l. T (is_filled l)) none (above_filled k s.content (there, values) h next)
 
   -- what holds of the list at each index key
   lists_have : (P : K → V → Type 0) (c : Content K V) → T (is_sorted cmp c) → ((k : K) → All (P k) (list_at cmp c k)) → All (λ (e : K × List V). All (P e.0) e.1) c
@@ -227,7 +328,7 @@ module _ {K V : Type 0} {cmp : K → K → Ordering} (o : IsTotalOrder cmp) wher
       → All (λ (e : K × List V). All (P e.0) e.1) c → All (λ (e : K × List V). Q e.0) c → All S (values_of c)
   values_told P Q S f c p q =
       values_have S c
-      (All-weaker (λ (e : K × List V). All (P e.0) e.1 × Q e.0) (λ (e : K × List V). All S e.1) (λ e h. All-weaker (P e.0) S (λ v u. f e.0 v u h.1) e.1 h.0) c (both c p q))
+      (All-weaker (λ (e : K × List V). All (P e.0) e.1 × Q e.0) (λ (e : K × List V). All S e.1) (λ e h. All-weaker (P e.0) S (λ v u. f e.0 v u h.1) e.1 h.0) c (both (λ (e : K × List V). All (P e.0) e.1) (λ (e : K × List V). Q e.0) c p q))
 
 -- ---- entries of values, in order
 
@@ -330,10 +431,6 @@ module _ {K : Type 0} {cmp : K → K → Ordering} (o : IsTotalOrder cmp) (whole
       ∙ own_list entry o s.slot q s.content lawful.0 (λ k. All-weaker (Under k) (Filed entry o s.slot keeps k) (λ p u. (u.1, u.2)) (run_at cmp s k) (h.live k))
       ∙ h.found q ∙ ap (λ x. get x q) (sym (kept_held cmp whole s end t kept))))
 
-  -- the position that is found is live, and its entry is told
-  abbrev pub IsTold : Option ℕ → Option Pair → Type 0
-  IsTold r answer = IfSome r (IsLive log) × (option_map entry r ≡ answer)
-
   live_in : (p : K × List ℕ → Bool) → All (IsLive log) (values_of (filter p s.content))
   live_in p =
       values_have o (IsLive log) (filter p s.content)
@@ -348,10 +445,13 @@ module _ {K : Type 0} {cmp : K → K → Ordering} (o : IsTotalOrder cmp) (whole
   live_at : (k : K) → All (IsLive log) (run_at cmp s k)
   live_at k = All-weaker (Under k) (IsLive log) (λ q v. v.0) (run_at cmp s k) (h.live k)
 
-  pub first_told : IsTold (first_entry all) (first_entry (entries m))
+  pub in_run : (k : K) → IsRun log (run_at cmp s k)
+  in_run k = (live_at k, h.sorted k)
+
+  pub first_told : IsTold log (first_entry all) (first_entry (entries m))
   first_told = (first_has (IsLive log) all live_all, first_entry-map entry all ∙ ap first_entry entries_held)
 
-  pub last_told : IsTold (last_entry all) (last_entry (entries m))
+  pub last_told : IsTold log (last_entry all) (last_entry (entries m))
   last_told = (last_has (IsLive log) None all tt live_all, sym (last_or-map entry None all) ∙ ap last_entry entries_held)
 
   -- ---- beside a key, whose place in its list is known
@@ -405,7 +505,7 @@ module _ {K : Type 0} {cmp : K → K → Ordering} (o : IsTotalOrder cmp) (whole
     entries-positions_before place = map-append entry lower (take place run) ∙ ap (λ l. map entry lower ++ l) (sym (take-map entry place run))
 
     module _ (place : ℕ) (is_held : Bool) (at : IsPlace entry a run place is_held) where
-      pub above_told : IsTold (first_entry (positions_from cmp s k (place + cond is_held 1 0))) (entry_after m a)
+      pub above_told : IsTold log (first_entry (positions_from cmp s k (place + cond is_held 1 0))) (entry_after m a)
       above_told =
           let behind = place + cond is_held 1 0 in (
             first_has (IsLive log) (positions_from cmp s k behind) (live_from behind),
@@ -415,7 +515,7 @@ module _ {K : Type 0} {cmp : K → K → Ordering} (o : IsTotalOrder cmp) (whole
                 ∙ sym (ap (λ es. entries_above byte_cmp es a) entries_split ∙ above_between nat_list_cmp_total a (map entry lower) (map entry run) (map entry upper) lower_less upper_more)),
           )
 
-      pub from_told : IsTold (first_entry (positions_from cmp s k place)) (entry_from m a)
+      pub from_told : IsTold log (first_entry (positions_from cmp s k place)) (entry_from m a)
       from_told = (
         first_has (IsLive log) (positions_from cmp s k place) (live_from place),
         first_entry-map entry (positions_from cmp s k place)
@@ -424,7 +524,7 @@ module _ {K : Type 0} {cmp : K → K → Ordering} (o : IsTotalOrder cmp) (whole
             ∙ sym (ap (λ es. entries_from byte_cmp es a) entries_split ∙ from_between nat_list_cmp_total a (map entry lower) (map entry run) (map entry upper) lower_less upper_more)),
       )
 
-      pub below_told : IsTold (last_entry (positions_before cmp s k place)) (entry_before m a)
+      pub below_told : IsTold log (last_entry (positions_before cmp s k place)) (entry_before m a)
       below_told = (
         last_has (IsLive log) None (positions_before cmp s k place) tt (live_before place),
         sym (last_or-map entry None (positions_before cmp s k place))

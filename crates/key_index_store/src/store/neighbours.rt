@@ -110,8 +110,8 @@ fn position_below<I: OrderedLists<Value = u64>>(index: &I, key: &[u8], place: us
         return Some(*index.value_at(index.slot_of(key), place - 1));
     }
     match index.prev_translated_key(key) {
-        Some((values, false)) => last_of(values),
-        _ => None,
+        Some((values, is_cycled)) => if is_cycled { None } else { last_of(values) },
+        None => None,
     }
 }
 

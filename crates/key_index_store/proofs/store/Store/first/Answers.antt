@@ -1,21 +1,25 @@
-use Rattle.std.proofs.Common.{◌≡◌, Some, None, [], sym, ap, ◌∙◌}
+use Rattle.std.proofs.Common.{take, sym, subst, ◌∙◌}
 use Rattle.std.proofs.lemmas.Result.{IfOk-weaker}
-use Rattle.std.specs.FinMap.{get}
-use Rattle.std.specs.Option.{option_map}
-use Rattle.key_index_store.specs.Stored.{entry_after, held_by}
-use Rattle.key_index_store.proofs.NearestLemmas.{first_entry-above_empty_key, first_held}
+use Rattle.std.specs.FinMap.{entries}
+use Rattle.key_index_flat.specs.Neighbours.{first_entry}
+use Rattle.key_index_store.specs.Stored.{held_by}
+use Rattle.key_index_store.proofs.NearestLemmas.{IsTold, first_told}
 use Rattle.key_index_store.proofs.store.Store.first.Goals as goal
-
-pub returns-in-Some-clause-first : goal.returns-in-Some-clause-first
-returns-in-Some-clause-first g c = λ log seen.
-    let m = held_by log in
-    let value = c.in-Some.value.items in
-    let at : Some value ≡ get m [] = ap (option_map (λ v. v.items)) (sym c.in-Some.is) ∙ c.in_ok-value.ensures.value log seen ∙ ap (get m) c.as_slice-empty.ensures in
-    (λ i. Some (c.new.ensures.items i, value)) ∙ first_held m value at
 
 pub returns-clause-first : goal.returns-clause-first
 returns-clause-first g c = λ log seen.
-    let m = held_by log in
-    let before = c.next.ensures.read.stays log seen in
-    let at : None ≡ get m [] = ap (option_map (λ v. v.items)) (sym c.in_default.is) ∙ c.in_ok-value.ensures.value log before ∙ ap (get m) c.as_slice-empty.ensures in
-    IfOk-weaker c.next.result _ _ (λ o told. told ∙ ap (entry_after m) c.as_slice-empty.ensures ∙ first_entry-above_empty_key m at) (c.next.ensures.next log seen)
+    let s = c.self.inside in
+    let view = g.I.Runs.view s.index in
+    let kept = c.self.invariant.0 log (c.entry.ensures.read.stays log seen) in
+    let told = subst (λ r. IsTold (take s.log.end log) r (first_entry (entries (held_by log)))) (sym c.first_position.ensures)
+    (first_told g.met.I.Key.Ord.total log view s.log.end s.tail (g.met.I.Runs.lawful s.index) (g.met.I.Ordered.keeps_order s.index) kept) in
+    IfOk-weaker c.entry.result _ _ (λ o is. is ∙ told.1) (c.entry.ensures.entry log seen kept.within told.0)
+
+pub returns-clause-fault : goal.returns-clause-fault
+returns-clause-fault g c = λ log seen.
+    let s = c.self.inside in
+    let view = g.I.Runs.view s.index in
+    let kept = c.self.invariant.0 log (c.entry.ensures.read.stays log seen) in
+    let told = subst (λ r. IsTold (take s.log.end log) r (first_entry (entries (held_by log)))) (sym c.first_position.ensures)
+    (first_told g.met.I.Key.Ord.total log view s.log.end s.tail (g.met.I.Runs.lawful s.index) (g.met.I.Ordered.keeps_order s.index) kept) in
+    c.entry.ensures.fault log seen kept.within told.0
