@@ -40,22 +40,40 @@ pub struct Passed {
     pub passed: Vec<Unreadable>,
 }
 
-/// The position at a place of an index key's list, or else the first one of the next list, with its index key and its place there.
+/// A position, and where it stands in its index.
+#[derive(Drop)]
+struct Standing<K: Copy> {
+    slot: K,
+    place: usize,
+    position: u64,
+}
+
+/// The position at a place of an index key's list, or else the first one of the next list.
 fn position_from<I: OrderedLists<Value = u64>>(
     index: &I,
     slot: I::Key,
     place: usize,
-) -> Option<(I::Key, usize, u64)>
+) -> Option<Standing<I::Key>>
     ensures found { MatchOption result (positions_from I.Key.cmp (I.view index.now) slot place ≡ []) (λ f.
         positions_from I.Key.cmp (I.view index.now) slot place
-        ≡ f.2 ∷ positions_from I.Key.cmp (I.view index.now) f.0 (f.1 + 1)) }
-    ensures bound { IfSome result (λ f. f.1 < usize.MAX) }
+        ≡ f.position ∷ positions_from I.Key.cmp (I.view index.now) f.slot (f.place + 1)) }
+    ensures bound { IfSome result (λ f. f.place < usize.MAX) }
 {
     if place < index.run_len(slot) {
-        return Some((slot, place, *index.value_at(slot, place)));
+        let position = *index.value_at(slot, place);
+        return Some(Standing {
+            slot,
+            place,
+            position,
+        });
     }
     let (slot, mut values) = index.entry_above(slot)?;
-    Some((slot, 0, *values.next()?))
+    let position = *values.next()?;
+    Some(Standing {
+        slot,
+        place: 0,
+        position,
+    })
 }
 
 /// The place behind a key's own, if it is held, in the list of its index key.
@@ -84,7 +102,7 @@ fn position_above<I: OrderedLists<Value = u64>>(index: &I, key: &[u8], place: In
     let slot = index.slot_of(key);
     let behind = place_behind(index, slot, place.place, place.is_held);
     match position_from(index, slot, behind) {
-        Some((_, _, position)) => Some(position),
+        Some(found) => Some(found.position),
         None => None,
     }
 }
@@ -178,13 +196,13 @@ fn readable_from<D: Device, I: OrderedLists<Value = u64>>(
 {
     let mut passed = Vec::new(log.alloc);
     let (mut slot, mut place) = (slot, place);
-    while let Some((there, found, position)) = position_from(index, slot, place) {
-        match log.entry(Some(position)) {
+    while let Some(found) = position_from(index, slot, place) {
+        match log.entry(Some(found.position)) {
             Ok(entry) => return Ok(Passed { entry, passed }),
-            Err(Fault::Damaged) => pass(log, &mut passed, position)?,
+            Err(Fault::Damaged) => pass(log, &mut passed, found.position)?,
             Err(fault) => return Err(fault),
         }
-        (slot, place) = (there, found + 1);
+        (slot, place) = (found.slot, found.place + 1);
     }
     Ok(Passed {
         entry: None,
