@@ -1,5 +1,5 @@
 -- On a store: what it holds before and after a call.
---     live_run                   the positions of a key are live
+--     live_run, is_run           the positions of a key are live, and in the order of their keys
 --     remove_absent              a key without a value is taken out
 --     len-after_records          records leave no more keys than there are records
 --     refusal-Memory             so an index of the records of fewer bytes than `usize::MAX` is never full
@@ -15,9 +15,9 @@ use Rattle.key_index_flat.specs.FullKeys.{byte_cmp}
 use Rattle.key_index_flat.specs.View.{View, growth_fault_in, items_in, run_of}
 use Rattle.key_index_flat.specs.declared.index.Fault.TheVariants as index_fault
 use Rattle.key_index_flat.proofs.content.ContentLemmas.{Equal-is_eq}
-use Rattle.key_index_store.specs.Indexed.{Indexes, IsLive, IsUnder}
+use Rattle.key_index_store.specs.Indexed.{Indexes, IsLive, IsPlace, IsRun, IsUnder, entry_at}
 use Rattle.key_index_store.specs.Record.{Entry}
-use Rattle.key_index_store.specs.Stored.{Values, after_record, records_of, refusal_of, with_value}
+use Rattle.key_index_store.specs.Stored.{Values, after_record, held_by, records_of, refusal_of, with_value}
 use Rattle.key_index_store.specs.declared.store.Fault.TheVariants as fault
 use Rattle.std.proofs.lemmas.Map.Lookups.{exact_bytes}
 use Rattle.key_index_flat.proofs.entries.EntryLemmas.{same}
@@ -27,6 +27,13 @@ module _ {K : Type 0} (cmp : K → K → Ordering) where
   -- the positions of a key are live
   pub live_run : (log : List ℕ) (s : View K ℕ) (key : List ℕ) → Indexes cmp log s → All (IsLive log) (run_of cmp s key)
   live_run log s key h = All-weaker (IsUnder log s.slot (s.slot key)) (IsLive log) (λ p q. q.0) (run_of cmp s key) (h.live (s.slot key))
+
+  pub is_run : (log : List ℕ) (s : View K ℕ) (key : List ℕ) → Indexes cmp log s → IsRun log (run_of cmp s key)
+  is_run log s key h = (live_run log s key h, h.sorted (s.slot key))
+
+  -- by the place of a key, whether it has a value
+  pub place-get : (log : List ℕ) (s : View K ℕ) (key : List ℕ) (place : ℕ) (is_held : Bool) → Indexes cmp log s → IsPlace (entry_at log) key (run_of cmp s key) place is_held → is_held ≡ is_some (get (held_by log) key)
+  place-get log s key place is_held h at = at.held ∙ ap is_some (h.found key)
 
 -- ---- a key that has no value
 
