@@ -1,26 +1,65 @@
-use Rattle.std.proofs.Common.{rules, ◌≡◌, ◌↔◌, ◌⊎◌, ◌<◌, ◌≤◌, ◌^◌, ◌-◌, ◌||◌, ◌≢◌, ◌+◌, ℕ, List, [], ◌++◌, if◌then◌else◌, length, map, take, drop, slice_get, true, false, Some, None, is_some, All, IsSome, IsTrue, IfSome, IfOk, IfErr, OnOk, OnErr, ◌*◌, ◌/◌, ◌%◌, Bool, nat_eq, nat_lt, ◌∷◌, slice_index_or, slice_set, bit_and, bit_or, w8, w32, w64, Bor, MutBor}
-use Rattle.std.specs.Option.{option_map}
-use Rattle.key_index_flat.specs.FullKeys.{IsBytes}
-use Rattle.key_index_flat.specs.View.{growth_fault_in, run_of, with_edit, with_pruned}
-use Rattle.key_index_store.specs.Device.{Adds, AddsAtMost, Changes, IsBegun, IsKnown, IsRead, NoMore, Sees, Stays}
-use Rattle.key_index_store.specs.Indexed.{Indexes, IsIn, IsRun, Keeps, KeepsLists, Settles}
-use Rattle.key_index_store.specs.Record.{Complete, Entry, Fits, IsFound, IsWithin, Stops, encoded, entry_of, log_of, outcome_of, reading, size_of}
-use Rattle.key_index_store.specs.Salvage.{HaveHeads, MaySalvage, found_at, gap_of, gaps_in, places_of, salvaged}
-use Rattle.key_index_store.specs.Stored.{HasChanged, HasRefused, HasRoom, LeavesSame, IsRefused, LeavesBeforeOrAfter, MayRead, MayRefuse, refusal_of, end_of, held_by, is_zeros, tail_in, tail_of, with_record, with_value, without_tail}
+use Rattle.std.proofs.Common.{rules, ◌≡◌, Some, is_some, length, take, drop, sym, ap, subst, slice_get, ◌∙◌}
+use Rattle.std.proofs.lemmas.Bool.{false≢true}
+use Rattle.std.specs.FinMap.{get}
+use Rattle.std.specs.Option.{IfSome}
+use Rattle.key_index_flat.specs.View.{run_of}
+use Rattle.key_index_flat.proofs.content.ChainLemmas.{None-is_some}
+use Rattle.key_index_store.specs.Indexed.{IsFront, IsLive}
+use Rattle.key_index_store.specs.Stored.{held_by}
+use Rattle.key_index_store.proofs.KeepLemmas.{kept_held}
+use Rattle.key_index_store.proofs.StoreLemmas.{All-slice_get, is_run, place-get, value-get}
 use Rattle.key_index_store.proofs.store.Store.get.Goals as goal
 
--- src/store.rt:301:13
 pub returns-in_err-known-clause-fault : goal.returns-in_err-known-clause-fault
-returns-in_err-known-clause-fault g c = ?
+returns-in_err-known-clause-fault g c = λ log seen.
+    let h = c.self.invariant.0 log (c.in_ok-found.ensures.read.stays log seen) in
+    let front = take c.self.inside.log.end log in
+    let shown = c.in_ok-found.ensures.seen log seen h.within (is_run g.I.Key.Ord.cmp front (g.I.Runs.view c.self.inside.index) c.args.key.now h.indexed) in
+    absurd (false≢true (sym shown ∙ c.in_err-known.ensures.fault.1))
 
--- src/store.rt:302:13
 pub returns-in_default-clause-value : goal.returns-in_default-clause-value
-returns-in_default-clause-value g c = ?
+returns-in_default-clause-value g c = λ log seen.
+    let key = c.args.key.now in
+    let h = c.self.invariant.0 log (c.in_ok-found.ensures.read.stays log seen) in
+    let front = take c.self.inside.log.end log in
+    let s = g.I.Runs.view c.self.inside.index in
+    let f = c.in_ok-found.found in
+    let at = c.in_ok-found.ensures.at log seen h.within (is_run g.I.Key.Ord.cmp front s key h.indexed) in
+    let absent = sym (place-get g.I.Key.Ord.cmp front s key f.place (is_some f.front) h.indexed at) ∙ ap is_some c.in_default.is in
+    sym (ap (λ m. get m key) (kept_held g.I.Key.Ord.cmp log s c.self.inside.log.end c.self.inside.tail h) ∙ None-is_some (get (held_by front) key) absent)
 
--- src/store.rt:305:21
 pub returns-in_err-value-clause-fault : goal.returns-in_err-value-clause-fault
-returns-in_err-value-clause-fault g c = ?
+returns-in_err-value-clause-fault g c = λ log seen.
+    let key = c.args.key.now in
+    let mid = c.in_err-value.ensures.read.stays log seen in
+    let h = c.self.invariant.0 log (c.in_ok-found.ensures.read.stays log mid) in
+    let front = take c.self.inside.log.end log in
+    let s = g.I.Runs.view c.self.inside.index in
+    let ps = run_of g.I.Key.Ord.cmp s key in
+    let place = c.in_ok-found.found.place in
+    let p = c.in-Some.front.position in
+    let run = is_run g.I.Key.Ord.cmp front s key h.indexed in
+    let stands = subst (λ o. IfSome o (λ r. slice_get ps place ≡ Some r.position)) c.in-Some.is c.in_ok-found.ensures.found in
+    let begins = subst (λ o. IfSome o (IsFront front)) c.in-Some.is (c.in_ok-found.ensures.front log mid h.within) in
+    let here = All-slice_get (IsLive front) ps place p run.0 stands in
+    let may = c.in_err-value.ensures.fault log seen h.within (subst (λ l. l ≡ take (length l) (drop p front)) (sym c.as_slice-bytes.ensures.value) begins) here in
+    search (rules, may)
 
--- src/store.rt:292:5
 pub returns-clause-value : goal.returns-clause-value
-returns-clause-value g c = ?
+returns-clause-value g c = λ log seen.
+    let key = c.args.key.now in
+    let mid = c.in_ok-value.ensures.read.stays log seen in
+    let h = c.self.invariant.0 log (c.in_ok-found.ensures.read.stays log mid) in
+    let front = take c.self.inside.log.end log in
+    let s = g.I.Runs.view c.self.inside.index in
+    let ps = run_of g.I.Key.Ord.cmp s key in
+    let f = c.in_ok-found.found in
+    let p = c.in-Some.front.position in
+    let run = is_run g.I.Key.Ord.cmp front s key h.indexed in
+    let stands = subst (λ o. IfSome o (λ r. slice_get ps f.place ≡ Some r.position)) c.in-Some.is c.in_ok-found.ensures.found in
+    let begins = subst (λ o. IfSome o (IsFront front)) c.in-Some.is (c.in_ok-found.ensures.front log mid h.within) in
+    let here = All-slice_get (IsLive front) ps f.place p run.0 stands in
+    let told = c.in_ok-value.ensures.value log seen h.within (subst (λ l. l ≡ take (length l) (drop p front)) (sym c.as_slice-bytes.ensures.value) begins) here in
+    let at = c.in_ok-found.ensures.at log mid h.within run in
+    ap (λ v. Some v) told ∙ value-get g.I.Key.Ord.cmp front s key f.place (is_some f.front) h.indexed at (ap is_some c.in-Some.is) p stands
+    ∙ ap (λ m. get m key) (sym (kept_held g.I.Key.Ord.cmp log s c.self.inside.log.end c.self.inside.tail h))
