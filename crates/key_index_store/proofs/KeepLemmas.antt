@@ -18,7 +18,7 @@ use Rattle.key_index_flat.specs.FullKeys.{IsBytes}
 use Rattle.key_index_flat.specs.View.{View, growth_fault_in, items_in, run_of}
 use Rattle.key_index_flat.specs.declared.index.Fault.TheVariants as index_fault
 use Rattle.key_index_store.specs.Device.{Adds, IsBegun}
-use Rattle.key_index_store.specs.Indexed.{Indexes, IsAt, IsTail, Keeps, KeepsLists, Settles, entry_at}
+use Rattle.key_index_store.specs.Indexed.{Indexes, IsPlace, IsTail, Keeps, KeepsLists, Settles, entry_at}
 use Rattle.key_index_store.specs.Record.{Entry, Fits, Outcome, Complete, Torn, Damaged, Stops, encoded, log_of, reading, size_of}
 use Rattle.key_index_store.specs.Stored.{HasChanged, HasRefused, HasRoom, IsBeforeOrAfter, MayRead, MayRefuse, after_record, end_of, held_by, is_zeros, records_of, refusal_of, tail_by, tail_in, tail_of, with_record, with_value, without_tail}
 use Rattle.key_index_store.specs.declared.store.Fault.{Fault}
@@ -137,7 +137,7 @@ begun_undamaged place r n fits less = of (take n (encoded place r)) (begun_torn 
     of (b ∷ l) is e = torn (is_zeros (b ∷ l)) (reading place (b ∷ l)) is e
 
 -- a log that ends with its records, and one more record or a part of it
-module _ {K : Type 0} {cmp : K → K → Ordering} (o : IsTotalOrder cmp) (exact : (x y : K) → cmp x y ≡ Equal → x ≡ y) (first : Bool) (log : List ℕ) (s : View K ℕ) (end : ℕ) (h : Keeps cmp log s end tail.Nothing) (r : Entry) (fits : Fits r) where
+module _ {K : Type 0} {cmp : K → K → Ordering} (o : IsTotalOrder cmp) (exact : (x y : K) → cmp x y ≡ Equal → x ≡ y) (log : List ℕ) (s : View K ℕ) (end : ℕ) (h : Keeps cmp log s end tail.Nothing) (r : Entry) (fits : Fits r) where
   pub end-at : end ≡ length log
   end-at = omega (arith, h.within, length-drop end log, ap (λ l. length l) h.told)
 
@@ -151,14 +151,15 @@ module _ {K : Type 0} {cmp : K → K → Ordering} (o : IsTotalOrder cmp) (exact
   held_written =
       ap (λ n. held_by (log ++ encoded n r)) end-at ∙ held_more log r (record { spelled = indexed-all.spelled; fit = indexed-all.fit }) fits
 
-  pub written_keeps : IsBytes r.key → (t : View K ℕ) → IsLawful cmp s.content → IsLawful cmp t.content → (positions : List ℕ) → positions ≡ run_of cmp s r.key → (b : Bool) → b ≡ is_some r.value → (place : Option ℕ)
-      → IsAt (entry_at (take end log)) r.key positions place → Settles cmp first s r.key b place end t → (longer : ℕ) → longer ≡ end + size_of r → Keeps cmp (log ++ encoded end r) t longer tail.Nothing
-  written_keeps bytes t hs ht positions run b has place at is longer size =
+  pub written_keeps : IsBytes r.key → (t : View K ℕ) → IsLawful cmp s.content → (b : Bool) → b ≡ is_some r.value → (place : ℕ) (is_held : Bool)
+      → IsPlace (entry_at (take end log)) r.key (run_of cmp s r.key) place is_held → Settles cmp s r.key b is_held place end t → (longer : ℕ) → longer ≡ end + size_of r
+      → Keeps cmp (log ++ encoded end r) t longer tail.Nothing
+  written_keeps bytes t hs b has place is_held at is longer size =
       let more : List ℕ = log ++ encoded end r in
       let all : longer ≡ length more = omega (arith, size, end-at, length-append log (encoded end r), length-encoded end r) in
       let whole : take longer more ≡ more = take_all longer more (omega (arith, all)) in
       let none : drop longer more ≡ [] = nil_from_length (drop longer more) (omega (arith, length-drop longer more, all)) in
-      let filed = Indexes-filed o exact first log [] (take end log) r fits bytes s t hs ht indexed-all (all_front ∙ sym (append-nil log)) r.key positions refl run b has place at end end-at is in
+      let filed = Indexes-filed o exact log [] (take end log) r fits bytes s t hs indexed-all (all_front ∙ sym (append-nil log)) b has place is_held at end end-at is in
       record {
         within = omega (arith, all);
         indexed = subst (λ l. Indexes cmp l t) (sym whole) filed;
@@ -214,7 +215,7 @@ module _ (old mid : List ℕ) (room : HasRoom old mid) (r : Entry) where
     fault = may;
   }
 
-  module _ {K : Type 0} {cmp : K → K → Ordering} (o : IsTotalOrder cmp) (exact : (x y : K) → cmp x y ≡ Equal → x ≡ y) (first : Bool) (s : View K ℕ) (end : ℕ) (t : Tail) (h : Keeps cmp mid s end t) (fits : Fits r) where
+  module _ {K : Type 0} {cmp : K → K → Ordering} (o : IsTotalOrder cmp) (exact : (x y : K) → cmp x y ≡ Equal → x ≡ y) (s : View K ℕ) (end : ℕ) (t : Tail) (h : Keeps cmp mid s end t) (fits : Fits r) where
     pub all_kept : end ≡ length mid
     all_kept = sym (kept_end cmp mid s end t h) ∙ room.all
 
@@ -227,21 +228,21 @@ module _ (old mid : List ℕ) (room : HasRoom old mid) (r : Entry) where
     pub begun_refused : (n : ℕ) → (n < length (encoded end r)) ⊎ (n ≡ 0) → (f : Fault) → MayRefuse old r f → HasRefused old r f (mid ++ take n (encoded end r))
     begun_refused n less f may = record {
       refused = (
-        held_begun o exact first mid s end at_end r fits n (begun_size end r n less) ∙ room.held,
+        held_begun o exact mid s end at_end r fits n (begun_size end r n less) ∙ room.held,
         inr (subst (λ p. IsBegun (encoded p r) (without_tail old) (mid ++ take n (encoded end r))) at_old (n, ap (λ l. l ++ take n (encoded end r)) room.cut, less)),
       );
       fault = may;
     }
 
     pub held_any : (n : ℕ) → IsBeforeOrAfter old r (mid ++ take n (encoded end r))
-    held_any n = elim (held_part o exact first mid s end at_end r fits n) [
+    held_any n = elim (held_part o exact mid s end at_end r fits n) [
       | inl same ↦ inl (same ∙ room.held)
       | inr more ↦ inr (more ∙ ap (λ m. after_record m r) room.held)
     ]
 
     pub written_changed : (had : Bool) → had ≡ is_some (get (held_by old) r.key) → (is_some r.value || had) ≡ true → HasChanged old r had (mid ++ encoded end r)
     written_changed had was some = record {
-      held = held_written o exact first mid s end at_end r fits ∙ ap (λ m. after_record m r) room.held;
+      held = held_written o exact mid s end at_end r fits ∙ ap (λ m. after_record m r) room.held;
       was_there = was;
       logged = (λ i. room.cut i ++ encoded (at_old i) r) ∙ sym (ap (λ b. cond b (with_record old r) (without_tail old)) some);
       undamaged = room.undamaged;

@@ -1,7 +1,7 @@
 -- On entries that stand in the order of their keys, by an order without ties: the place of a key is how many keys are below it.
 --     place_within                      it is in the list, or behind its last entry
 --     place_above, place_at_most        an entry with a lesser key stands in front of it, and each other one doesn't
---     place_own                         an entry stands at the place of its own key
+--     place_own                         an entry stands at the place of its own key, and is found
 --     key-place, place_below            a key that is held stands at its place
 --     place_before                      in front of each entry with a greater key
 --     insert-put, set-put, remove-without   an entry put in there, set there, or taken out
@@ -136,23 +136,18 @@ module _ {K X : Type 0} {R : K → K → Ordering} (o : IsTotalOrder R) (exact :
         | false ↦ omega (arith, rest)
       ]
 
-  found_more : (k : K) (e : K × X) (es : List (K × X)) → is_some (find R k es) ≡ true → is_some (find R k (e ∷ es)) ≡ true
-  found_more k e es f =
-      elim (eq_by_cmp R k e.0) as (λ b. is_some (cond b (Some e.1) (find R k es)) ≡ true) [
-        | true ↦ refl
-        | false ↦ f
-      ]
-
-  pub place_own : (es : List (K × X)) (i : ℕ) (e : K × X) → T (is_sorted R es) → slice_get es i ≡ Some e → (i ≡ place_of es e.0) × (is_some (find R e.0 es) ≡ true)
+  pub place_own : (es : List (K × X)) (i : ℕ) (e : K × X) → T (is_sorted R es) → slice_get es i ≡ Some e → (i ≡ place_of es e.0) × (find R e.0 es ≡ Some e.1)
   place_own [] i e h at = absurd (some_not_none e (sym at))
   place_own (x ∷ xs) zero e h at =
-      let same : R x.0 e.0 ≡ Equal = ap (λ (y : K × X). R y.0 e.0) (some_injective x e at) ∙ tied_itself o e.0 in
+      let is = some_injective x e at in
+      let same : R x.0 e.0 ≡ Equal = ap (λ (y : K × X). R y.0 e.0) is ∙ tied_itself o e.0 in
       let none = ap (λ l. length l) (first_place e.0 x xs h (ap is_lt same)) in
-      (omega (arith, none), ap (λ r. is_some (cond (is_eq r) (Some x.1) (find R e.0 xs))) (turned o x.0 e.0 Equal same))
+      (omega (arith, none), ap (λ r. cond (is_eq r) (Some x.1) (find R e.0 xs)) (turned o x.0 e.0 Equal same) ∙ ap (λ (y : K × X). Some y.1) is)
   place_own (x ∷ xs) (suc i) e h at =
       let rest = place_own xs i e (T-and_second _ _ h) at in
-      let first = ap (λ l. length l) (first_counts e.0 x xs (entry_above x.0 xs i e (T-and_first _ _ h) at)) in
-      (omega (arith, first, rest.0), found_more e.0 x xs rest.1)
+      let less = entry_above x.0 xs i e (T-and_first _ _ h) at in
+      let first = ap (λ l. length l) (first_counts e.0 x xs less) in
+      (omega (arith, first, rest.0), ap (λ r. cond (is_eq r) (Some x.1) (find R e.0 xs)) (turned o x.0 e.0 Less less) ∙ rest.1)
 
   -- ---- a key that is held
 
@@ -276,7 +271,7 @@ module _ (es : List (List ℕ × List ℕ)) (key : List ℕ) (h : T (is_sorted b
     place-Equal tied =
         let own = place_own nat_list_cmp_total exact_bytes es i e h at in
         let is = exact_bytes e.0 key tied in
-        (own.0 ∙ ap (λ k. length (entries_below byte_cmp es k)) is, sym own.1 ∙ ap (λ k. is_some (find byte_cmp k es)) is)
+        (own.0 ∙ ap (λ k. length (entries_below byte_cmp es k)) is, sym (ap is_some own.1) ∙ ap (λ k. is_some (find byte_cmp k es)) is)
 
   pub between_none : (low : ℕ) → IsBetween es key low low → (low ≡ length (entries_below byte_cmp es key)) × (false ≡ is_some (find byte_cmp key es))
   between_none low b =

@@ -1,13 +1,15 @@
 -- On a store: what it holds before and after a call.
---     live_run                   the positions of a key are live
+--     live_run, is_run           the positions of a key are live, and in the order of their keys
+--     place-get, value-get       by the place of a key, whether it has a value, and which one
 --     remove_absent              a key without a value is taken out
 --     len-after_records          records leave no more keys than there are records
 --     refusal-Memory             so an index of the records of fewer bytes than `usize::MAX` is never full
-use Rattle.std.proofs.Common.{◌≡◌, ◌==◌, ◌↔◌, ℕ, zero, suc, slice_get, ◌+◌, ◌-◌, ◌^◌, ◌<◌, ◌≤◌, if◌then◌else◌, Bool, true, false, cond, List, [], ◌∷◌, length, Option, Some, None, is_some, All, refl, sym, ap, subst, ◌∙◌, arith}
+use Rattle.std.proofs.Common.{◌≡◌, ◌==◌, ◌↔◌, ℕ, zero, suc, slice_get, ◌+◌, ◌-◌, ◌^◌, ◌<◌, ◌≤◌, if◌then◌else◌, Bool, true, false, cond, List, [], ◌∷◌, length, map, Option, Some, None, is_some, All, refl, sym, ap, subst, ◌∙◌, arith}
 use Rattle.std.proofs.lemmas.List.Elements.{All-head, All-tail, All-weaker}
 use Rattle.std.proofs.lemmas.Bool.{eq-eqb, eqb-true, false≢true, ne_eqb}
+use Rattle.std.proofs.lemmas.Option.{slice_get-map}
 use Rattle.std.specs.Cmp.Lexicographic.{nat_list_cmp_total}
-use Rattle.std.specs.FinMap.{empty, empty_of_len, get, len, len-empty, len-insert, len-remove, remove, get-remove, same_map}
+use Rattle.std.specs.FinMap.{empty, empty_of_len, find, get, len, len-empty, len-insert, len-remove, remove, get-remove, same_map}
 use Rattle.std.specs.List.{fold}
 use Rattle.std.specs.Option.{option_map, unwrap_or}
 use Rattle.std.specs.declared.cmp.Ordering.{Ordering}
@@ -15,18 +17,40 @@ use Rattle.key_index_flat.specs.FullKeys.{byte_cmp}
 use Rattle.key_index_flat.specs.View.{View, growth_fault_in, items_in, run_of}
 use Rattle.key_index_flat.specs.declared.index.Fault.TheVariants as index_fault
 use Rattle.key_index_flat.proofs.content.ContentLemmas.{Equal-is_eq}
-use Rattle.key_index_store.specs.Indexed.{Indexes, IsLive, IsUnder}
+use Rattle.key_index_store.specs.Indexed.{Indexes, IsLive, IsPlace, IsRun, IsUnder, entry_at}
 use Rattle.key_index_store.specs.Record.{Entry}
-use Rattle.key_index_store.specs.Stored.{Values, after_record, records_of, refusal_of, with_value}
+use Rattle.key_index_store.specs.Stored.{Values, after_record, held_by, records_of, refusal_of, with_value}
 use Rattle.key_index_store.specs.declared.store.Fault.TheVariants as fault
 use Rattle.std.proofs.lemmas.Map.Lookups.{exact_bytes}
-use Rattle.key_index_flat.proofs.entries.EntryLemmas.{same}
+use Rattle.key_index_flat.proofs.entries.EntryLemmas.{same, some_injective}
 use Rattle.key_index_store.proofs.LogLemmas.{count_le}
+use Rattle.key_index_store.proofs.SortedLemmas.{key-place, place_own}
 
 module _ {K : Type 0} (cmp : K → K → Ordering) where
   -- the positions of a key are live
   pub live_run : (log : List ℕ) (s : View K ℕ) (key : List ℕ) → Indexes cmp log s → All (IsLive log) (run_of cmp s key)
   live_run log s key h = All-weaker (IsUnder log s.slot (s.slot key)) (IsLive log) (λ p q. q.0) (run_of cmp s key) (h.live (s.slot key))
+
+  pub is_run : (log : List ℕ) (s : View K ℕ) (key : List ℕ) → Indexes cmp log s → IsRun log (run_of cmp s key)
+  is_run log s key h = (live_run log s key h, h.sorted (s.slot key))
+
+  -- by the place of a key, whether it has a value
+  pub place-get : (log : List ℕ) (s : View K ℕ) (key : List ℕ) (place : ℕ) (is_held : Bool) → Indexes cmp log s → IsPlace (entry_at log) key (run_of cmp s key) place is_held → is_held ≡ is_some (get (held_by log) key)
+  place-get log s key place is_held h at = at.held ∙ ap is_some (h.found key)
+
+  -- and which one
+  pub value-get : (log : List ℕ) (s : View K ℕ) (key : List ℕ) (place : ℕ) (is_held : Bool) → Indexes cmp log s → IsPlace (entry_at log) key (run_of cmp s key) place is_held → is_held ≡ true
+      → (p : ℕ) → slice_get (run_of cmp s key) place ≡ Some p → Some ((entry_at log p).1) ≡ get (held_by log) key
+  value-get log s key place is_held h at held p stands =
+      let e = entry_at log p in
+      let es = map (entry_at log) (run_of cmp s key) in
+      let sorted = h.sorted (s.slot key) in
+      let there : slice_get es place ≡ Some e = slice_get-map (entry_at log) (run_of cmp s key) place ∙ ap (option_map (entry_at log)) stands in
+      let own = place_own nat_list_cmp_total exact_bytes es place e sorted there in
+      let is : e.0 ≡ key =
+      some_injective e.0 key (sym (ap (option_map (λ (x : List ℕ × List ℕ). x.0)) there) ∙ ap (λ n. option_map (λ (x : List ℕ × List ℕ). x.0) (slice_get es n)) at.below
+          ∙ key-place nat_list_cmp_total exact_bytes es key sorted (sym at.held ∙ held)) in
+      sym own.1 ∙ ap (λ k. find byte_cmp k es) is ∙ h.found key
 
 -- ---- a key that has no value
 

@@ -1,5 +1,5 @@
 //! A key-value store on a log. The index keeps positions alone: it gives those that a shortened key may mean, and the log confirms.
-ghost use Rattle.std.specs.Prelude.{◌≡◌, ◌↔◌, ◌⊎◌, ◌<◌, ◌≤◌, ◌^◌, ◌-◌, ◌||◌, ◌≢◌, ◌+◌, ℕ, List, [], ◌++◌, if◌then◌else◌, length, map, take, drop, slice_get, false, Some, None, is_some, All, IsSome, IsTrue, IfSome, IfOk, IfErr, OnOk, OnErr};
+ghost use Rattle.std.specs.Prelude.{◌≡◌, ◌↔◌, ◌⊎◌, ◌<◌, ◌≤◌, ◌^◌, ◌-◌, ◌||◌, ◌≢◌, ◌+◌, ℕ, List, [], ◌++◌, if◌then◌else◌, length, map, take, drop, slice_get, true, false, Some, None, is_some, All, IsSome, IsTrue, IfSome, IfOk, IfErr, OnOk, OnErr};
 ghost use Rattle.std.specs.FinMap as map;
 ghost use Rattle.std.specs.Option.{option_map};
 ghost use Rattle.key_index_flat.specs.FullKeys.{IsBytes};

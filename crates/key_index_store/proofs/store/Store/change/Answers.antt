@@ -1,16 +1,17 @@
-use Rattle.std.proofs.Common.{rules, ◌≡◌, ◌⊎◌, ◌<◌, ◌++◌, ◌||◌, List, Bor, true, ℕ, All, length, take, not, is_some, None, inl, inr, refl, sym, ap, subst, ◌∙◌}
+use Rattle.std.proofs.Common.{rules, ◌≡◌, ◌⊎◌, ◌<◌, ◌++◌, ◌||◌, List, Bor, true, ℕ, length, take, not, is_some, None, inl, inr, refl, sym, ap, subst, ◌∙◌}
+use Rattle.std.proofs.lemmas.Bool.{not-false, not-true}
 use Rattle.std.specs.FinMap.{get, len}
 use Rattle.std.specs.Option.{option_map}
 use Rattle.key_index_store.specs.Device.{Changes}
-use Rattle.key_index_store.specs.Indexed.{IsLive, Keeps, value_in}
+use Rattle.key_index_store.specs.Indexed.{Keeps}
 use Rattle.key_index_store.specs.Record.{Entry, encoded}
 use Rattle.key_index_store.specs.Stored.{HasChanged, HasRefused, IsBeforeOrAfter, held_by}
 use Rattle.key_index_store.specs.declared.store.Tail.TheVariants as tail
 use Rattle.key_index_flat.proofs.content.ChainLemmas.{None-is_some}
 use Rattle.key_index_store.proofs.IndexLemmas.{some_mapped}
 use Rattle.key_index_store.proofs.KeepLemmas.{adds_weaker, all_kept, append-refuse, at_end, begun_keeps, begun_refused, begun_size, full-refuse, held_any, kept_held, may_read-refuse, not_added, nothing_changed, or-true, refused_early, room-refuse, written_changed, written_keeps}
-use Rattle.key_index_store.proofs.StoreLemmas.{live_run, mapped_none}
-use Rattle.key_index_store.proofs.store.Store.change.Goals.{else-is_none-via-then-is_none+else-is_none-2, else-is_none-via-else-is_none}
+use Rattle.key_index_store.proofs.StoreLemmas.{is_run, mapped_none, place-get}
+use Rattle.key_index_store.proofs.store.Store.change.Goals.{else-is_none-via-then-is_none+else-not-place, else-is_none-via-else-is_none}
 use Rattle.key_index_store.proofs.store.Store.change.Goals as goal
 
 pub returns-in_err-make_room-clause-refused : goal.returns-in_err-make_room-clause-refused
@@ -29,22 +30,22 @@ returns-in_err-place-clause-refused g c =
     let room = c.in_ok-make_room.ensures.room mid (sym (ap g.D.Device.seen c.self.view_is) ∙ mid_seen) in
     let h = c.self.invariant.0 mid mid_seen in
     let front = take c.self.inside.log.end mid in
-    let live = subst (All (IsLive front)) (sym c.positions_of-positions.ensures.run) (live_run g.I.Key.Ord.cmp front (g.I.Runs.view c.self.inside.index) c.args.key.now h.indexed) in
-    (room.0, room.1, refused_early room.0 mid room.2 r c.in_err-place.field-0.0 (may_read-refuse room.0 r c.in_err-place.field-0.0 (c.in_err-place.ensures.fault mid seen h.within live))) in
+    let run = is_run g.I.Key.Ord.cmp front (g.I.Runs.view c.self.inside.index) c.args.key.now h.indexed in
+    (room.0, room.1, refused_early room.0 mid room.2 r c.in_err-place.field-0.0 (may_read-refuse room.0 r c.in_err-place.field-0.0 (c.in_err-place.ensures.fault mid seen h.within run))) in
     search (rules, told)
 
-pub returns-then-is_none-2-clause-changed : goal.returns-then-is_none-2-clause-changed
-returns-then-is_none-2-clause-changed g c = λ mid seen.
+pub returns-then-not-place-clause-changed : goal.returns-then-not-place-clause-changed
+returns-then-not-place-clause-changed g c = λ mid seen.
     let r : Entry = record { key = c.args.key.now; value = option_map {T = Bor (List ℕ)} (λ v. v.now) c.args.value } in
     let mid_seen = c.in_ok-place.ensures.read.stays mid seen in
     let room = c.in_ok-make_room.ensures.room mid (sym (ap g.D.Device.seen c.self.view_is) ∙ mid_seen) in
     let h = c.self.invariant.0 mid mid_seen in
     let front = take c.self.inside.log.end mid in
-    let live = subst (All (IsLive front)) (sym c.positions_of-positions.ensures.run) (live_run g.I.Key.Ord.cmp front (g.I.Runs.view c.self.inside.index) c.args.key.now h.indexed) in
-    let told : is_some c.in_ok-place.place ≡ is_some (get (held_by mid) c.args.key.now) =
-    c.in_ok-place.ensures.held mid seen h.within live
-    ∙ ap is_some (ap (value_in front c.args.key.now) c.positions_of-positions.ensures.run ∙ h.indexed.found c.args.key.now ∙ ap (λ m. get m c.args.key.now) (sym (kept_held g.I.Key.Ord.cmp mid (g.I.Runs.view c.self.inside.index) c.self.inside.log.end c.self.inside.tail h))) in
-    let absent = None-is_some (get (held_by mid) r.key) (sym told ∙ c.is_none-then-is_none.ensures ∙ ap not c.if-is_none-2.true) in
+    let run = is_run g.I.Key.Ord.cmp front (g.I.Runs.view c.self.inside.index) c.args.key.now h.indexed in
+    let told : c.in_ok-place.place.is_held ≡ is_some (get (held_by mid) c.args.key.now) =
+    place-get g.I.Key.Ord.cmp front (g.I.Runs.view c.self.inside.index) c.args.key.now c.in_ok-place.place.place c.in_ok-place.place.is_held h.indexed (c.in_ok-place.ensures.at mid seen h.within run)
+    ∙ ap (λ m. is_some (get m c.args.key.now)) (sym (kept_held g.I.Key.Ord.cmp mid (g.I.Runs.view c.self.inside.index) c.self.inside.log.end c.self.inside.tail h)) in
+    let absent = None-is_some (get (held_by mid) r.key) (sym told ∙ not-true _ c.if-not-place.true) in
     let deleted = mapped_none {A = Bor (List ℕ)} (λ v. v.now) c.args.value (sym (some_mapped {A = Bor (List ℕ)} (λ v. v.now) c.args.value) ∙ c.is_none.ensures ∙ ap not c.if-is_none.true) in
     (room.0, room.1, nothing_changed room.0 mid room.2 r (ap (option_map {T = Bor (List ℕ)} (λ v. v.now)) deleted) absent)
 
@@ -57,11 +58,11 @@ invariant_of-self-in-Err g c = (
       let mid_seen = c.in_ok-place.ensures.read.stays mid failed.1 in
       let room = c.in_ok-make_room.ensures.room mid (sym (ap g.D.Device.seen c.self.view_is) ∙ mid_seen) in
       let h = c.self.invariant.0 mid mid_seen in
-      let part = failed.2 (all_kept room.0 mid room.2 r g.met.I.Key.Ord.total g.met.I.Runs.exact g.I.Unordered.INSERT_FIRST (g.I.Runs.view c.self.inside.index) c.self.inside.log.end c.self.inside.tail h c.requires) in
+      let part = failed.2 (all_kept room.0 mid room.2 r g.met.I.Key.Ord.total g.met.I.Runs.exact (g.I.Runs.view c.self.inside.index) c.self.inside.log.end c.self.inside.tail h c.requires) in
       let is : new ≡ mid ++ take part.0 (encoded c.self.inside.log.end r) = part.1 in
       let less : (part.0 < length (encoded c.self.inside.log.end r)) ⊎ (part.0 ≡ 0) = part.2 in
       subst (λ l. Keeps g.I.Key.Ord.cmp l (g.I.Runs.view c.append.new.index) c.self.inside.log.end tail.Torn) (sym is)
-      (begun_keeps g.met.I.Key.Ord.total g.met.I.Runs.exact g.I.Unordered.INSERT_FIRST mid (g.I.Runs.view c.self.inside.index) c.self.inside.log.end (at_end room.0 mid room.2 r g.met.I.Key.Ord.total g.met.I.Runs.exact g.I.Unordered.INSERT_FIRST (g.I.Runs.view c.self.inside.index) c.self.inside.log.end c.self.inside.tail h c.requires) r c.requires part.0 (begun_size c.self.inside.log.end r part.0 less) (g.I.Runs.view c.append.new.index) c.in-Err.ensures.refused),
+      (begun_keeps g.met.I.Key.Ord.total g.met.I.Runs.exact mid (g.I.Runs.view c.self.inside.index) c.self.inside.log.end (at_end room.0 mid room.2 r g.met.I.Key.Ord.total g.met.I.Runs.exact (g.I.Runs.view c.self.inside.index) c.self.inside.log.end c.self.inside.tail h c.requires) r c.requires part.0 (begun_size c.self.inside.log.end r part.0 less) (g.I.Runs.view c.append.new.index) c.in-Err.ensures.refused),
   λ synced new seen none.
       let r : Entry = record { key = c.args.key.now; value = option_map {T = Bor (List ℕ)} (λ v. v.now) c.args.value } in
       let failed = c.in-Err.ensures.failed new seen in
@@ -69,7 +70,7 @@ invariant_of-self-in-Err g c = (
       let mid_seen = c.in_ok-place.ensures.read.stays mid failed.1 in
       let room = c.in_ok-make_room.ensures.room mid (sym (ap g.D.Device.seen c.self.view_is) ∙ mid_seen) in
       let h = c.self.invariant.0 mid mid_seen in
-      c.self.invariant.1 synced mid mid_seen (c.in_ok-place.ensures.read.crash None (not_added (c.in-Err.ensures.crash mid failed.1 (all_kept room.0 mid room.2 r g.met.I.Key.Ord.total g.met.I.Runs.exact g.I.Unordered.INSERT_FIRST (g.I.Runs.view c.self.inside.index) c.self.inside.log.end c.self.inside.tail h c.requires) None none))),
+      c.self.invariant.1 synced mid mid_seen (c.in_ok-place.ensures.read.crash None (not_added (c.in-Err.ensures.crash mid failed.1 (all_kept room.0 mid room.2 r g.met.I.Key.Ord.total g.met.I.Runs.exact (g.I.Runs.view c.self.inside.index) c.self.inside.log.end c.self.inside.tail h c.requires) None none))),
 )
 
 pub returns-in-Err-clause-refused : goal.returns-in-Err-clause-refused
@@ -80,18 +81,18 @@ returns-in-Err-clause-refused g c = λ new seen.
     let mid_seen = c.in_ok-place.ensures.read.stays mid failed.1 in
     let room = c.in_ok-make_room.ensures.room mid (sym (ap g.D.Device.seen c.self.view_is) ∙ mid_seen) in
     let h = c.self.invariant.0 mid mid_seen in
-    let part = failed.2 (all_kept room.0 mid room.2 r g.met.I.Key.Ord.total g.met.I.Runs.exact g.I.Unordered.INSERT_FIRST (g.I.Runs.view c.self.inside.index) c.self.inside.log.end c.self.inside.tail h c.requires) in
+    let part = failed.2 (all_kept room.0 mid room.2 r g.met.I.Key.Ord.total g.met.I.Runs.exact (g.I.Runs.view c.self.inside.index) c.self.inside.log.end c.self.inside.tail h c.requires) in
     let is : new ≡ mid ++ take part.0 (encoded c.self.inside.log.end r) = part.1 in
     let less : (part.0 < length (encoded c.self.inside.log.end r)) ⊎ (part.0 ≡ 0) = part.2 in
     let front = take c.self.inside.log.end mid in
-    let live = subst (All (IsLive front)) (sym c.positions_of-positions.ensures.run) (live_run g.I.Key.Ord.cmp front (g.I.Runs.view c.self.inside.index) c.args.key.now h.indexed) in
-    let told : is_some c.in_ok-place.place ≡ is_some (get (held_by mid) c.args.key.now) =
-    c.in_ok-place.ensures.held mid failed.1 h.within live
-    ∙ ap is_some (ap (value_in front c.args.key.now) c.positions_of-positions.ensures.run ∙ h.indexed.found c.args.key.now ∙ ap (λ m. get m c.args.key.now) (sym (kept_held g.I.Key.Ord.cmp mid (g.I.Runs.view c.self.inside.index) c.self.inside.log.end c.self.inside.tail h))) in
+    let run = is_run g.I.Key.Ord.cmp front (g.I.Runs.view c.self.inside.index) c.args.key.now h.indexed in
+    let told : c.in_ok-place.place.is_held ≡ is_some (get (held_by mid) c.args.key.now) =
+    place-get g.I.Key.Ord.cmp front (g.I.Runs.view c.self.inside.index) c.args.key.now c.in_ok-place.place.place c.in_ok-place.place.is_held h.indexed (c.in_ok-place.ensures.at mid failed.1 h.within run)
+    ∙ ap (λ m. is_some (get m c.args.key.now)) (sym (kept_held g.I.Key.Ord.cmp mid (g.I.Runs.view c.self.inside.index) c.self.inside.log.end c.self.inside.tail h)) in
     let may = append-refuse room.0 r c.in-Err.fault (λ full.
-    let absent = None-is_some (get (held_by mid) r.key) (sym told ∙ ap is_some full.0) in
+    let absent = None-is_some (get (held_by mid) r.key) (sym told ∙ full.0) in
     full-refuse (g.I.Runs.view c.self.inside.index) room.0 r c.in-Err.fault (h.indexed.counted ∙ ap (λ m. len m) (sym (kept_held g.I.Key.Ord.cmp mid (g.I.Runs.view c.self.inside.index) c.self.inside.log.end c.self.inside.tail h) ∙ room.2.held)) (ap (λ m. get m r.key) (sym room.2.held) ∙ absent) full.1) c.in-Err.ensures.fault in
-    (room.0, room.1, subst (HasRefused room.0 r c.in-Err.fault) (sym is) (begun_refused room.0 mid room.2 r g.met.I.Key.Ord.total g.met.I.Runs.exact g.I.Unordered.INSERT_FIRST (g.I.Runs.view c.self.inside.index) c.self.inside.log.end c.self.inside.tail h c.requires part.0 less c.in-Err.fault may))
+    (room.0, room.1, subst (HasRefused room.0 r c.in-Err.fault) (sym is) (begun_refused room.0 mid room.2 r g.met.I.Key.Ord.total g.met.I.Runs.exact (g.I.Runs.view c.self.inside.index) c.self.inside.log.end c.self.inside.tail h c.requires part.0 less c.in-Err.fault may))
 
 pub returns-in-Err-clause-crash : goal.returns-in-Err-clause-crash
 returns-in-Err-clause-crash g c = λ new seen.
@@ -101,14 +102,14 @@ returns-in-Err-clause-crash g c = λ new seen.
     let mid_seen = c.in_ok-place.ensures.read.stays mid failed.1 in
     let room = c.in_ok-make_room.ensures.room mid (sym (ap g.D.Device.seen c.self.view_is) ∙ mid_seen) in
     let h = c.self.invariant.0 mid mid_seen in
-    let part = failed.2 (all_kept room.0 mid room.2 r g.met.I.Key.Ord.total g.met.I.Runs.exact g.I.Unordered.INSERT_FIRST (g.I.Runs.view c.self.inside.index) c.self.inside.log.end c.self.inside.tail h c.requires) in
+    let part = failed.2 (all_kept room.0 mid room.2 r g.met.I.Key.Ord.total g.met.I.Runs.exact (g.I.Runs.view c.self.inside.index) c.self.inside.log.end c.self.inside.tail h c.requires) in
     let is : new ≡ mid ++ take part.0 (encoded c.self.inside.log.end r) = part.1 in
     let less : (part.0 < length (encoded c.self.inside.log.end r)) ⊎ (part.0 ≡ 0) = part.2 in (
       room.0,
       room.1,
-      λ c' left. elim (c.in-Err.ensures.crash mid failed.1 (all_kept room.0 mid room.2 r g.met.I.Key.Ord.total g.met.I.Runs.exact g.I.Unordered.INSERT_FIRST (g.I.Runs.view c.self.inside.index) c.self.inside.log.end c.self.inside.tail h c.requires) c' left) [
+      λ c' left. elim (c.in-Err.ensures.crash mid failed.1 (all_kept room.0 mid room.2 r g.met.I.Key.Ord.total g.met.I.Runs.exact (g.I.Runs.view c.self.inside.index) c.self.inside.log.end c.self.inside.tail h c.requires) c' left) [
         | inl could ↦ adds_weaker (λ l same. inl same) (c.in_ok-make_room.ensures.crash room.0 room.1) c' (subst (λ d. g.D.Device.may_leave d c') c.self.view_is (c.in_ok-place.ensures.read.crash c' could))
-        | inr more ↦ inr (more.0, more.1, subst (IsBeforeOrAfter room.0 r) (sym more.2.1) (held_any room.0 mid room.2 r g.met.I.Key.Ord.total g.met.I.Runs.exact g.I.Unordered.INSERT_FIRST (g.I.Runs.view c.self.inside.index) c.self.inside.log.end c.self.inside.tail h c.requires more.2.0))
+        | inr more ↦ inr (more.0, more.1, subst (IsBeforeOrAfter room.0 r) (sym more.2.1) (held_any room.0 mid room.2 r g.met.I.Key.Ord.total g.met.I.Runs.exact (g.I.Runs.view c.self.inside.index) c.self.inside.log.end c.self.inside.tail h c.requires more.2.0))
       ],
     )
 
@@ -121,14 +122,14 @@ invariant_of-self-in-Ok g c = (
       let mid_seen = c.in_ok-place.ensures.read.stays mid written.1 in
       let room = c.in_ok-make_room.ensures.room mid (sym (ap g.D.Device.seen c.self.view_is) ∙ mid_seen) in
       let h = c.self.invariant.0 mid mid_seen in
-      let is : new ≡ mid ++ encoded c.self.inside.log.end r = written.2 (all_kept room.0 mid room.2 r g.met.I.Key.Ord.total g.met.I.Runs.exact g.I.Unordered.INSERT_FIRST (g.I.Runs.view c.self.inside.index) c.self.inside.log.end c.self.inside.tail h c.requires) in
+      let is : new ≡ mid ++ encoded c.self.inside.log.end r = written.2 (all_kept room.0 mid room.2 r g.met.I.Key.Ord.total g.met.I.Runs.exact (g.I.Runs.view c.self.inside.index) c.self.inside.log.end c.self.inside.tail h c.requires) in
       let front = take c.self.inside.log.end mid in
-      let live = subst (All (IsLive front)) (sym c.positions_of-positions.ensures.run) (live_run g.I.Key.Ord.cmp front (g.I.Runs.view c.self.inside.index) c.args.key.now h.indexed) in
-      let at = c.in_ok-place.ensures.at mid written.1 h.within live in
+      let run = is_run g.I.Key.Ord.cmp front (g.I.Runs.view c.self.inside.index) c.args.key.now h.indexed in
+      let at = c.in_ok-place.ensures.at mid written.1 h.within run in
       subst (λ l. Keeps g.I.Key.Ord.cmp l (g.I.Runs.view c.append.new.index) c.in-Ok.longer tail.Nothing) (sym is)
-      (written_keeps g.met.I.Key.Ord.total g.met.I.Runs.exact g.I.Unordered.INSERT_FIRST mid (g.I.Runs.view c.self.inside.index) c.self.inside.log.end (at_end room.0 mid room.2 r g.met.I.Key.Ord.total g.met.I.Runs.exact g.I.Unordered.INSERT_FIRST (g.I.Runs.view c.self.inside.index) c.self.inside.log.end c.self.inside.tail h c.requires) r c.requires
-      c.positions_of-positions.ensures.bytes (g.I.Runs.view c.append.new.index) (g.met.I.Runs.lawful c.self.inside.index) (g.met.I.Runs.lawful c.append.new.index) c.positions_of-positions.result c.positions_of-positions.ensures.run
-      (is_some c.args.value) (some_mapped {A = Bor (List ℕ)} (λ v. v.now) c.args.value) c.in_ok-place.place at c.in-Ok.ensures.settled c.in-Ok.longer c.in-Ok.ensures.longer),
+      (written_keeps g.met.I.Key.Ord.total g.met.I.Runs.exact mid (g.I.Runs.view c.self.inside.index) c.self.inside.log.end (at_end room.0 mid room.2 r g.met.I.Key.Ord.total g.met.I.Runs.exact (g.I.Runs.view c.self.inside.index) c.self.inside.log.end c.self.inside.tail h c.requires) r c.requires
+      c.in_ok-place.ensures.bytes (g.I.Runs.view c.append.new.index) (g.met.I.Runs.lawful c.self.inside.index)
+      (is_some c.args.value) (some_mapped {A = Bor (List ℕ)} (λ v. v.now) c.args.value) c.in_ok-place.place.place c.in_ok-place.place.is_held at c.in-Ok.ensures.settled c.in-Ok.longer c.in-Ok.ensures.longer),
   λ _ new seen none.
       let r : Entry = record { key = c.args.key.now; value = option_map {T = Bor (List ℕ)} (λ v. v.now) c.args.value } in
       let written = c.in-Ok.ensures.written new seen in
@@ -137,7 +138,7 @@ invariant_of-self-in-Ok g c = (
       let mid_known = sym (ap g.D.Device.seen c.self.view_is) ∙ mid_seen in
       let room = c.in_ok-make_room.ensures.room mid mid_known in
       let h = c.self.invariant.0 mid mid_seen in
-      let could = c.in_ok-place.ensures.read.crash None (not_added (c.in-Ok.ensures.crash mid written.1 (all_kept room.0 mid room.2 r g.met.I.Key.Ord.total g.met.I.Runs.exact g.I.Unordered.INSERT_FIRST (g.I.Runs.view c.self.inside.index) c.self.inside.log.end c.self.inside.tail h c.requires) None none)) in
+      let could = c.in_ok-place.ensures.read.crash None (not_added (c.in-Ok.ensures.crash mid written.1 (all_kept room.0 mid room.2 r g.met.I.Key.Ord.total g.met.I.Runs.exact (g.I.Runs.view c.self.inside.index) c.self.inside.log.end c.self.inside.tail h c.requires) None none)) in
       c.in_ok-make_room.ensures.known mid mid_known (subst (λ d. g.D.Device.may_leave d None) c.self.view_is could),
 )
 
@@ -149,18 +150,18 @@ returns-in-Ok-clause-changed g c = λ new seen.
     let mid_seen = c.in_ok-place.ensures.read.stays mid written.1 in
     let room = c.in_ok-make_room.ensures.room mid (sym (ap g.D.Device.seen c.self.view_is) ∙ mid_seen) in
     let h = c.self.invariant.0 mid mid_seen in
-    let is : new ≡ mid ++ encoded c.self.inside.log.end r = written.2 (all_kept room.0 mid room.2 r g.met.I.Key.Ord.total g.met.I.Runs.exact g.I.Unordered.INSERT_FIRST (g.I.Runs.view c.self.inside.index) c.self.inside.log.end c.self.inside.tail h c.requires) in
+    let is : new ≡ mid ++ encoded c.self.inside.log.end r = written.2 (all_kept room.0 mid room.2 r g.met.I.Key.Ord.total g.met.I.Runs.exact (g.I.Runs.view c.self.inside.index) c.self.inside.log.end c.self.inside.tail h c.requires) in
     let front = take c.self.inside.log.end mid in
-    let live = subst (All (IsLive front)) (sym c.positions_of-positions.ensures.run) (live_run g.I.Key.Ord.cmp front (g.I.Runs.view c.self.inside.index) c.args.key.now h.indexed) in
-    let told : is_some c.in_ok-place.place ≡ is_some (get (held_by mid) c.args.key.now) =
-    c.in_ok-place.ensures.held mid written.1 h.within live
-    ∙ ap is_some (ap (value_in front c.args.key.now) c.positions_of-positions.ensures.run ∙ h.indexed.found c.args.key.now ∙ ap (λ m. get m c.args.key.now) (sym (kept_held g.I.Key.Ord.cmp mid (g.I.Runs.view c.self.inside.index) c.self.inside.log.end c.self.inside.tail h))) in
-    let had : c.is_some.result ≡ is_some (get (held_by room.0) r.key) = c.is_some.ensures ∙ told ∙ ap (λ m. is_some (get m r.key)) room.2.held in
-    let some : (is_some r.value || c.is_some.result) ≡ true = elim c.else-is_none.branch [
-      | else-is_none-via-then-is_none+else-is_none-2 w ↦ ap (λ b. is_some r.value || b) (c.is_some.ensures ∙ w.if-is_none-2.ensures) ∙ or-true (is_some r.value)
-      | else-is_none-via-else-is_none w ↦ ap (λ b. b || c.is_some.result) (sym (some_mapped {A = Bor (List ℕ)} (λ v. v.now) c.args.value) ∙ w.if-is_none.ensures)
+    let run = is_run g.I.Key.Ord.cmp front (g.I.Runs.view c.self.inside.index) c.args.key.now h.indexed in
+    let told : c.in_ok-place.place.is_held ≡ is_some (get (held_by mid) c.args.key.now) =
+    place-get g.I.Key.Ord.cmp front (g.I.Runs.view c.self.inside.index) c.args.key.now c.in_ok-place.place.place c.in_ok-place.place.is_held h.indexed (c.in_ok-place.ensures.at mid written.1 h.within run)
+    ∙ ap (λ m. is_some (get m c.args.key.now)) (sym (kept_held g.I.Key.Ord.cmp mid (g.I.Runs.view c.self.inside.index) c.self.inside.log.end c.self.inside.tail h)) in
+    let had : c.in_ok-place.place.is_held ≡ is_some (get (held_by room.0) r.key) = told ∙ ap (λ m. is_some (get m r.key)) room.2.held in
+    let some : (is_some r.value || c.in_ok-place.place.is_held) ≡ true = elim c.else-is_none.branch [
+      | else-is_none-via-then-is_none+else-not-place w ↦ ap (λ b. is_some r.value || b) (not-false _ w.if-not-place.false) ∙ or-true (is_some r.value)
+      | else-is_none-via-else-is_none w ↦ ap (λ b. b || c.in_ok-place.place.is_held) (sym (some_mapped {A = Bor (List ℕ)} (λ v. v.now) c.args.value) ∙ w.if-is_none.ensures)
     ] in
-    (room.0, room.1, subst (HasChanged room.0 r c.is_some.result) (sym is) (written_changed room.0 mid room.2 r g.met.I.Key.Ord.total g.met.I.Runs.exact g.I.Unordered.INSERT_FIRST (g.I.Runs.view c.self.inside.index) c.self.inside.log.end c.self.inside.tail h c.requires c.is_some.result had some))
+    (room.0, room.1, subst (HasChanged room.0 r c.in_ok-place.place.is_held) (sym is) (written_changed room.0 mid room.2 r g.met.I.Key.Ord.total g.met.I.Runs.exact (g.I.Runs.view c.self.inside.index) c.self.inside.log.end c.self.inside.tail h c.requires c.in_ok-place.place.is_held had some))
 
 pub returns-in-Ok-clause-crash : goal.returns-in-Ok-clause-crash
 returns-in-Ok-clause-crash g c = λ new seen.
@@ -170,12 +171,12 @@ returns-in-Ok-clause-crash g c = λ new seen.
     let mid_seen = c.in_ok-place.ensures.read.stays mid written.1 in
     let room = c.in_ok-make_room.ensures.room mid (sym (ap g.D.Device.seen c.self.view_is) ∙ mid_seen) in
     let h = c.self.invariant.0 mid mid_seen in
-    let is : new ≡ mid ++ encoded c.self.inside.log.end r = written.2 (all_kept room.0 mid room.2 r g.met.I.Key.Ord.total g.met.I.Runs.exact g.I.Unordered.INSERT_FIRST (g.I.Runs.view c.self.inside.index) c.self.inside.log.end c.self.inside.tail h c.requires) in (
+    let is : new ≡ mid ++ encoded c.self.inside.log.end r = written.2 (all_kept room.0 mid room.2 r g.met.I.Key.Ord.total g.met.I.Runs.exact (g.I.Runs.view c.self.inside.index) c.self.inside.log.end c.self.inside.tail h c.requires) in (
       room.0,
       room.1,
-      λ c' left. elim (c.in-Ok.ensures.crash mid written.1 (all_kept room.0 mid room.2 r g.met.I.Key.Ord.total g.met.I.Runs.exact g.I.Unordered.INSERT_FIRST (g.I.Runs.view c.self.inside.index) c.self.inside.log.end c.self.inside.tail h c.requires) c' left) [
+      λ c' left. elim (c.in-Ok.ensures.crash mid written.1 (all_kept room.0 mid room.2 r g.met.I.Key.Ord.total g.met.I.Runs.exact (g.I.Runs.view c.self.inside.index) c.self.inside.log.end c.self.inside.tail h c.requires) c' left) [
         | inl could ↦ adds_weaker (λ l same. inl same) (c.in_ok-make_room.ensures.crash room.0 room.1) c' (subst (λ d. g.D.Device.may_leave d c') c.self.view_is (c.in_ok-place.ensures.read.crash c' could))
-        | inr more ↦ inr (more.0, more.1, subst (IsBeforeOrAfter room.0 r) (sym more.2.1) (held_any room.0 mid room.2 r g.met.I.Key.Ord.total g.met.I.Runs.exact g.I.Unordered.INSERT_FIRST (g.I.Runs.view c.self.inside.index) c.self.inside.log.end c.self.inside.tail h c.requires more.2.0))
+        | inr more ↦ inr (more.0, more.1, subst (IsBeforeOrAfter room.0 r) (sym more.2.1) (held_any room.0 mid room.2 r g.met.I.Key.Ord.total g.met.I.Runs.exact (g.I.Runs.view c.self.inside.index) c.self.inside.log.end c.self.inside.tail h c.requires more.2.0))
       ],
     )
 
@@ -188,11 +189,11 @@ returns-in-Ok-clause-known g c = λ new seen none.
     let mid_known = sym (ap g.D.Device.seen c.self.view_is) ∙ mid_seen in
     let room = c.in_ok-make_room.ensures.room mid mid_known in
     let h = c.self.invariant.0 mid mid_seen in
-    let could = c.in_ok-place.ensures.read.crash None (not_added (c.in-Ok.ensures.crash mid written.1 (all_kept room.0 mid room.2 r g.met.I.Key.Ord.total g.met.I.Runs.exact g.I.Unordered.INSERT_FIRST (g.I.Runs.view c.self.inside.index) c.self.inside.log.end c.self.inside.tail h c.requires) None none)) in
+    let could = c.in_ok-place.ensures.read.crash None (not_added (c.in-Ok.ensures.crash mid written.1 (all_kept room.0 mid room.2 r g.met.I.Key.Ord.total g.met.I.Runs.exact (g.I.Runs.view c.self.inside.index) c.self.inside.log.end c.self.inside.tail h c.requires) None none)) in
     c.in_ok-make_room.ensures.known mid mid_known (subst (λ d. g.D.Device.may_leave d None) c.self.view_is could)
 
-pub returns-then-is_none-2-clause-known : goal.returns-then-is_none-2-clause-known
-returns-then-is_none-2-clause-known g c = λ mid seen none.
+pub returns-then-not-place-clause-known : goal.returns-then-not-place-clause-known
+returns-then-not-place-clause-known g c = λ mid seen none.
     let mid_known = sym (ap g.D.Device.seen c.self.view_is) ∙ c.in_ok-place.ensures.read.stays mid seen in
     c.in_ok-make_room.ensures.known mid mid_known (subst (λ d. g.D.Device.may_leave d None) c.self.view_is (c.in_ok-place.ensures.read.crash None none))
 
@@ -201,8 +202,8 @@ returns-in_err-make_room-clause-crash g c = λ new seen.
     let before = c.in_err-make_room.ensures.refused new seen in
     (new, before, adds_weaker (λ l same. inl same) (c.in_err-make_room.ensures.crash new before))
 
-pub returns-then-is_none-2-clause-crash : goal.returns-then-is_none-2-clause-crash
-returns-then-is_none-2-clause-crash g c = λ mid seen.
+pub returns-then-not-place-clause-crash : goal.returns-then-not-place-clause-crash
+returns-then-not-place-clause-crash g c = λ mid seen.
     let mid_known = sym (ap g.D.Device.seen c.self.view_is) ∙ c.in_ok-place.ensures.read.stays mid seen in
     let room = c.in_ok-make_room.ensures.room mid mid_known in (
       room.0,

@@ -1,20 +1,21 @@
-use Rattle.std.proofs.Common.{rules, ◌≡◌, Some, None, All, length, take, drop, sym, ap, subst, slice_get, ◌∙◌}
+use Rattle.std.proofs.Common.{rules, ◌≡◌, Some, is_some, length, take, drop, sym, ap, subst, slice_get, ◌∙◌}
+use Rattle.std.proofs.lemmas.Bool.{false≢true}
 use Rattle.std.specs.FinMap.{get}
-use Rattle.std.specs.Option.{IfSome, option_map}
-use Rattle.key_index_store.specs.Device.{IsRead}
-use Rattle.key_index_store.specs.Indexed.{IsLive, entry_at, value_in}
-use Rattle.key_index_store.specs.laws.ReadLaws.{read-then}
+use Rattle.std.specs.Option.{IfSome}
+use Rattle.key_index_flat.specs.View.{run_of}
+use Rattle.key_index_flat.proofs.content.ChainLemmas.{None-is_some}
+use Rattle.key_index_store.specs.Indexed.{IsFront, IsLive}
+use Rattle.key_index_store.specs.Stored.{held_by}
 use Rattle.key_index_store.proofs.KeepLemmas.{kept_held}
-use Rattle.key_index_store.proofs.StoreLemmas.{All-slice_get, live_run}
+use Rattle.key_index_store.proofs.StoreLemmas.{All-slice_get, is_run, place-get, value-get}
 use Rattle.key_index_store.proofs.store.Store.get.Goals as goal
 
-pub returns-in_err-found-clause-fault : goal.returns-in_err-found-clause-fault
-returns-in_err-found-clause-fault g c = λ log seen.
-    let h = c.self.invariant.0 log (c.in_err-found.ensures.read.stays log seen) in
+pub returns-in_err-known-clause-fault : goal.returns-in_err-known-clause-fault
+returns-in_err-known-clause-fault g c = λ log seen.
+    let h = c.self.invariant.0 log (c.in_ok-found.ensures.read.stays log seen) in
     let front = take c.self.inside.log.end log in
-    let live = subst (All (IsLive front)) (sym c.positions_of-positions.ensures.run) (live_run g.I.Key.Ord.cmp front (g.I.Runs.view c.self.inside.index) c.args.key.now h.indexed) in
-    let may = c.in_err-found.ensures.fault log seen h.within live in
-    search (rules, may)
+    let shown = c.in_ok-found.ensures.seen log seen h.within (is_run g.I.Key.Ord.cmp front (g.I.Runs.view c.self.inside.index) c.args.key.now h.indexed) in
+    absurd (false≢true (sym shown ∙ c.in_err-known.ensures.fault.1))
 
 pub returns-in_default-clause-value : goal.returns-in_default-clause-value
 returns-in_default-clause-value g c = λ log seen.
@@ -22,14 +23,10 @@ returns-in_default-clause-value g c = λ log seen.
     let h = c.self.invariant.0 log (c.in_ok-found.ensures.read.stays log seen) in
     let front = take c.self.inside.log.end log in
     let s = g.I.Runs.view c.self.inside.index in
-    let live = subst (All (IsLive front)) (sym c.positions_of-positions.ensures.run) (live_run g.I.Key.Ord.cmp front s key h.indexed) in
-    ap (option_map (λ f. (entry_at front f.position).1)) (sym c.in_default.is) ∙ c.in_ok-found.ensures.value log seen h.within live
-    ∙ ap (value_in front key) c.positions_of-positions.ensures.run ∙ h.indexed.found key ∙ ap (λ m. get m key) (sym (kept_held g.I.Key.Ord.cmp log (g.I.Runs.view c.self.inside.index) c.self.inside.log.end c.self.inside.tail h))
-
-pub invariant_of-self-in_err-value : goal.invariant_of-self-in_err-value
-invariant_of-self-in_err-value g c =
-    let read = read-then _ _ _ c.in_ok-found.ensures.read c.in_err-value.ensures.read in
-    (λ log seen. c.self.invariant.0 log (read.stays log seen), λ synced log seen none. c.self.invariant.1 synced log (read.stays log seen) (read.crash None none))
+    let f = c.in_ok-found.found in
+    let at = c.in_ok-found.ensures.at log seen h.within (is_run g.I.Key.Ord.cmp front s key h.indexed) in
+    let absent = sym (place-get g.I.Key.Ord.cmp front s key f.place (is_some f.front) h.indexed at) ∙ ap is_some c.in_default.is in
+    sym (ap (λ m. get m key) (kept_held g.I.Key.Ord.cmp log s c.self.inside.log.end c.self.inside.tail h) ∙ None-is_some (get (held_by front) key) absent)
 
 pub returns-in_err-value-clause-fault : goal.returns-in_err-value-clause-fault
 returns-in_err-value-clause-fault g c = λ log seen.
@@ -38,21 +35,15 @@ returns-in_err-value-clause-fault g c = λ log seen.
     let h = c.self.invariant.0 log (c.in_ok-found.ensures.read.stays log mid) in
     let front = take c.self.inside.log.end log in
     let s = g.I.Runs.view c.self.inside.index in
-    let live = subst (All (IsLive front)) (sym c.positions_of-positions.ensures.run) (live_run g.I.Key.Ord.cmp front s key h.indexed) in
-    let at = subst (λ o. IfSome o (λ f. slice_get c.positions_of-positions.result f.place ≡ Some f.position)) c.in-Some.is c.in_ok-found.ensures.found in
-    let begins = subst (λ o. IfSome o (λ f. f.bytes.items ≡ take (length f.bytes.items) (drop f.position front))) c.in-Some.is (c.in_ok-found.ensures.front log mid h.within) in
-    let here = All-slice_get (IsLive front) c.positions_of-positions.result c.in-Some.found.place c.in-Some.found.position live at in
-    let may = c.in_err-value.ensures.fault log seen h.within (subst (λ l. l ≡ take (length l) (drop c.in-Some.found.position front)) (sym c.as_slice-front.ensures.value) begins) here in
+    let ps = run_of g.I.Key.Ord.cmp s key in
+    let place = c.in_ok-found.found.place in
+    let p = c.in-Some.front.position in
+    let run = is_run g.I.Key.Ord.cmp front s key h.indexed in
+    let stands = subst (λ o. IfSome o (λ r. slice_get ps place ≡ Some r.position)) c.in-Some.is c.in_ok-found.ensures.found in
+    let begins = subst (λ o. IfSome o (IsFront front)) c.in-Some.is (c.in_ok-found.ensures.front log mid h.within) in
+    let here = All-slice_get (IsLive front) ps place p run.0 stands in
+    let may = c.in_err-value.ensures.fault log seen h.within (subst (λ l. l ≡ take (length l) (drop p front)) (sym c.as_slice-bytes.ensures.value) begins) here in
     search (rules, may)
-
-pub invariant_of-self-2 : goal.invariant_of-self-2
-invariant_of-self-2 g c =
-    let read = read-then _ _ _ c.in_ok-found.ensures.read c.in_ok-value.ensures.read in
-    (λ log seen. c.self.invariant.0 log (read.stays log seen), λ synced log seen none. c.self.invariant.1 synced log (read.stays log seen) (read.crash None none))
-
-pub returns-clause-read : goal.returns-clause-read
-returns-clause-read g c =
-    subst (λ d. IsRead g.D.Device.seen g.D.Device.may_leave d c.read_value.new.device) c.self.view_is (read-then _ _ _ c.in_ok-found.ensures.read c.in_ok-value.ensures.read)
 
 pub returns-clause-value : goal.returns-clause-value
 returns-clause-value g c = λ log seen.
@@ -61,11 +52,14 @@ returns-clause-value g c = λ log seen.
     let h = c.self.invariant.0 log (c.in_ok-found.ensures.read.stays log mid) in
     let front = take c.self.inside.log.end log in
     let s = g.I.Runs.view c.self.inside.index in
-    let live = subst (All (IsLive front)) (sym c.positions_of-positions.ensures.run) (live_run g.I.Key.Ord.cmp front s key h.indexed) in
-    let at = subst (λ o. IfSome o (λ f. slice_get c.positions_of-positions.result f.place ≡ Some f.position)) c.in-Some.is c.in_ok-found.ensures.found in
-    let begins = subst (λ o. IfSome o (λ f. f.bytes.items ≡ take (length f.bytes.items) (drop f.position front))) c.in-Some.is (c.in_ok-found.ensures.front log mid h.within) in
-    let here = All-slice_get (IsLive front) c.positions_of-positions.result c.in-Some.found.place c.in-Some.found.position live at in
-    let told = c.in_ok-value.ensures.value log seen h.within (subst (λ l. l ≡ take (length l) (drop c.in-Some.found.position front)) (sym c.as_slice-front.ensures.value) begins) here in
-    let value = c.in_ok-found.ensures.value log mid h.within live in
-    ap (λ v. Some v) told ∙ ap (option_map (λ f. (entry_at front f.position).1)) (sym c.in-Some.is) ∙ value
-    ∙ ap (value_in front key) c.positions_of-positions.ensures.run ∙ h.indexed.found key ∙ ap (λ m. get m key) (sym (kept_held g.I.Key.Ord.cmp log (g.I.Runs.view c.self.inside.index) c.self.inside.log.end c.self.inside.tail h))
+    let ps = run_of g.I.Key.Ord.cmp s key in
+    let f = c.in_ok-found.found in
+    let p = c.in-Some.front.position in
+    let run = is_run g.I.Key.Ord.cmp front s key h.indexed in
+    let stands = subst (λ o. IfSome o (λ r. slice_get ps f.place ≡ Some r.position)) c.in-Some.is c.in_ok-found.ensures.found in
+    let begins = subst (λ o. IfSome o (IsFront front)) c.in-Some.is (c.in_ok-found.ensures.front log mid h.within) in
+    let here = All-slice_get (IsLive front) ps f.place p run.0 stands in
+    let told = c.in_ok-value.ensures.value log seen h.within (subst (λ l. l ≡ take (length l) (drop p front)) (sym c.as_slice-bytes.ensures.value) begins) here in
+    let at = c.in_ok-found.ensures.at log mid h.within run in
+    ap (λ v. Some v) told ∙ value-get g.I.Key.Ord.cmp front s key f.place (is_some f.front) h.indexed at (ap is_some c.in-Some.is) p stands
+    ∙ ap (λ m. get m key) (sym (kept_held g.I.Key.Ord.cmp log s c.self.inside.log.end c.self.inside.tail h))

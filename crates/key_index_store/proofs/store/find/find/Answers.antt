@@ -1,5 +1,5 @@
-use Rattle.std.proofs.Common.{◌≡◌, ◌≤◌, ◌<◌, ◌+◌, ◌-◌, ◌/◌, ℕ, Some, is_some, length, map, take, slice_get, refl, sym, ap, subst, ◌∙◌, arith}
-use Rattle.std.proofs.lemmas.Bool.{false≢true}
+use Rattle.std.proofs.Common.{◌≡◌, ◌≤◌, ◌<◌, ◌+◌, ◌-◌, ◌/◌, ℕ, not, Some, is_some, length, map, take, slice_get, refl, sym, ap, subst, ◌∙◌, arith}
+use Rattle.std.proofs.lemmas.Bool.{eq-eqb, false≢true}
 use Rattle.std.proofs.lemmas.List.{length-map}
 use Rattle.std.proofs.lemmas.Option.{slice_get-map}
 use Rattle.std.specs.Option.{IfSome, option_map}
@@ -109,7 +109,7 @@ loop-low-preserved g c =
             let at = slice_get-map (entry_at front) run r.place ∙ ap (option_map (entry_at front)) stands.2 in
             let before = c.loop-low.invariant.place log (c.in_ok-there.ensures.read.stays log seen) within is_run in
             let over = between-Greater es key is_run.1 c.loop-low.low c.loop-low.high before.0 r.place (entry_at front r.front.position) at (sym told.1 ∙ w.in-Greater.is) in
-            (subst (λ (x : ℕ × ℕ). IsBetween es key x.0 x.1) (λ i. (sym w.low-is i, (told.0 ∙ sym w.high-is) i)) over, ?);
+            (subst (λ (x : ℕ × ℕ). IsBetween es key x.0 x.1) (λ i. (sym w.low-is i, (told.0 ∙ sym w.high-is) i)) over, w.is_hidden-is ∙ ap not (eq-eqb _ _ told.0));
       }
     ]
 
