@@ -3,6 +3,7 @@
 --     next_list, next_filled                  behind the last place of a list stand the values of the next one, which has some
 --     values_split                            of a content stand the values under lower index keys first, then those of one, then those of higher ones
 --     last_value, last_lower                  the last value of all, and the last one below a key
+--     place_in                                a place in a list, by what stands there if something does
 --     last_taken                              the last of some items, and of the first ones of a list
 --     entries_held                            the entries of all positions are those of the map
 --     above_told, from_told, below_told       the nearest position above a key, from it on, and below it
@@ -33,7 +34,7 @@ use Rattle.key_index_flat.proofs.content.ContentLemmas.{Less-is_lt, list_at-belo
 use Rattle.key_index_flat.proofs.entries.MapLemmas.{own_list}
 use Rattle.key_index_flat.proofs.neighbours.NeighbourLemmas.{last_or-map}
 use Rattle.key_index_flat.proofs.neighbours.WalkLemmas.{above_next}
-use Rattle.key_index_store.specs.Indexed.{Indexes, IsLive, IsPlace, IsRun, IsUnder, Keeps, entry_at}
+use Rattle.key_index_store.specs.Indexed.{Indexes, IsLive, IsIn, IsPlace, IsUnder, Keeps, entry_at}
 use Rattle.key_index_store.specs.Positions.{positions_before, positions_from}
 use Rattle.key_index_store.specs.Stored.{Values, entry_after, entry_before, entry_from, held_by}
 use Rattle.key_index_store.specs.declared.store.Tail.{Tail}
@@ -86,6 +87,16 @@ take-next : {X : Type 0} (l : List X) (n : ℕ) (x : X) → slice_get l n ≡ So
 take-next [] n x at = absurd (false≢true (ap is_some at))
 take-next (y ∷ ys) zero x at = ap (λ z. z ∷ []) (ap (λ o. unwrap_or o y) at)
 take-next (y ∷ ys) (suc n) x at = ap (λ l. y ∷ l) (take-next ys n x at)
+
+place_within : {X : Type 0} (l : List X) (n : ℕ) (x : X) → slice_get l n ≡ Some x → n < length l
+place_within [] n x at = absurd (false≢true (ap is_some at))
+place_within (y ∷ ys) zero x at = omega arith
+place_within (y ∷ ys) (suc n) x at = let rest = place_within ys n x at in omega (arith, rest)
+
+-- a place where an item may stand
+pub place_in : {X : Type 0} (of : X → ℕ) (l : List ℕ) (n : ℕ) (o : Option X) → n ≤ length l → IfSome o (λ x. slice_get l n ≡ Some (of x)) → IsIn l n (is_some o)
+place_in of l n None within at = within
+place_in of l n (Some x) within at = place_within l n (of x) at
 
 -- behind some items stand the first ones of a list
 pub last_taken : {X : Type 0} (lower l : List X) (place : ℕ) (x : X) → 0 < place → slice_get l (place - 1) ≡ Some x → Some x ≡ last_entry (lower ++ take place l)
@@ -444,9 +455,6 @@ module _ {K : Type 0} {cmp : K → K → Ordering} (o : IsTotalOrder cmp) (whole
 
   live_at : (k : K) → All (IsLive log) (run_at cmp s k)
   live_at k = All-weaker (Under k) (IsLive log) (λ q v. v.0) (run_at cmp s k) (h.live k)
-
-  pub in_run : (k : K) → IsRun log (run_at cmp s k)
-  in_run k = (live_at k, h.sorted k)
 
   pub first_told : IsTold log (first_entry all) (first_entry (entries m))
   first_told = (first_has (IsLive log) all live_all, first_entry-map entry all ∙ ap first_entry entries_held)

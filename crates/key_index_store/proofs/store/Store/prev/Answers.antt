@@ -1,15 +1,19 @@
 use Rattle.std.proofs.Common.{rules, take, sym, subst, ◌∙◌}
 use Rattle.std.proofs.lemmas.Result.{IfOk-weaker}
 use Rattle.key_index_store.specs.Stored.{entry_before, held_by}
-use Rattle.key_index_store.proofs.NearestLemmas.{IsTold, below_told, in_run}
+use Rattle.key_index_store.proofs.NearestLemmas.{IsTold, below_told}
+use Rattle.key_index_store.proofs.StoreLemmas.{is_run}
 use Rattle.key_index_store.proofs.store.Store.prev.Goals as goal
 
 pub returns-in_err-place-clause-fault : goal.returns-in_err-place-clause-fault
 returns-in_err-place-clause-fault g c = λ log seen.
     let s = c.self.inside in
     let view = g.I.Runs.view s.index in
+    let cmp = g.I.Key.Ord.cmp in
+    let key = c.args.key.now in
+    let front = take s.log.end log in
     let kept = c.self.invariant.0 log (c.in_err-place.ensures.read.stays log seen) in
-    let run = in_run g.met.I.Key.Ord.total log view s.log.end s.tail (g.met.I.Runs.lawful s.index) (g.met.I.Ordered.keeps_order s.index) kept (view.slot c.args.key.now) in
+    let run = is_run cmp front view key kept.indexed in
     let may = c.in_err-place.ensures.fault log seen kept.within run in
     search (rules, may)
 
@@ -17,30 +21,30 @@ pub returns-clause-prev : goal.returns-clause-prev
 returns-clause-prev g c = λ log seen.
     let s = c.self.inside in
     let view = g.I.Runs.view s.index in
+    let cmp = g.I.Key.Ord.cmp in
     let key = c.args.key.now in
+    let front = take s.log.end log in
     let place = c.in_ok-place.place in
     let mid = c.entry.ensures.read.stays log seen in
     let kept = c.self.invariant.0 log (c.in_ok-place.ensures.read.stays log mid) in
-    let total = g.met.I.Key.Ord.total in
-    let lawful = g.met.I.Runs.lawful s.index in
-    let keeps = g.met.I.Ordered.keeps_order s.index in
-    let at = c.in_ok-place.ensures.at log mid kept.within (in_run total log view s.log.end s.tail lawful keeps kept (view.slot key)) in
-    let told = subst (λ r. IsTold (take s.log.end log) r (entry_before (held_by log) key)) (sym c.position_below.ensures)
-    (below_told total log view s.log.end s.tail lawful keeps kept key c.in_ok-place.ensures.bytes place.place place.is_held at) in
+    let run = is_run cmp front view key kept.indexed in
+    let at = c.in_ok-place.ensures.at log mid kept.within run in
+    let told = subst (λ r. IsTold front r (entry_before (held_by log) key)) (sym c.position_below.ensures)
+        (below_told g.met.I.Key.Ord.total log view s.log.end s.tail (g.met.I.Runs.lawful s.index) (g.met.I.Ordered.keeps_order s.index) kept key c.in_ok-place.ensures.bytes place.place place.is_held at) in
     IfOk-weaker c.entry.result _ _ (λ o is. is ∙ told.1) (c.entry.ensures.entry log seen kept.within told.0)
 
 pub returns-clause-fault : goal.returns-clause-fault
 returns-clause-fault g c = λ log seen.
     let s = c.self.inside in
     let view = g.I.Runs.view s.index in
+    let cmp = g.I.Key.Ord.cmp in
     let key = c.args.key.now in
+    let front = take s.log.end log in
     let place = c.in_ok-place.place in
     let mid = c.entry.ensures.read.stays log seen in
     let kept = c.self.invariant.0 log (c.in_ok-place.ensures.read.stays log mid) in
-    let total = g.met.I.Key.Ord.total in
-    let lawful = g.met.I.Runs.lawful s.index in
-    let keeps = g.met.I.Ordered.keeps_order s.index in
-    let at = c.in_ok-place.ensures.at log mid kept.within (in_run total log view s.log.end s.tail lawful keeps kept (view.slot key)) in
-    let told = subst (λ r. IsTold (take s.log.end log) r (entry_before (held_by log) key)) (sym c.position_below.ensures)
-    (below_told total log view s.log.end s.tail lawful keeps kept key c.in_ok-place.ensures.bytes place.place place.is_held at) in
+    let run = is_run cmp front view key kept.indexed in
+    let at = c.in_ok-place.ensures.at log mid kept.within run in
+    let told = subst (λ r. IsTold front r (entry_before (held_by log) key)) (sym c.position_below.ensures)
+        (below_told g.met.I.Key.Ord.total log view s.log.end s.tail (g.met.I.Runs.lawful s.index) (g.met.I.Ordered.keeps_order s.index) kept key c.in_ok-place.ensures.bytes place.place place.is_held at) in
     c.entry.ensures.fault log seen kept.within told.0
