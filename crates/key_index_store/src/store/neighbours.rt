@@ -7,7 +7,7 @@ ghost use Rattle.key_index_flat.specs.Values.{values_of};
 ghost use Rattle.key_index_flat.specs.View.{run_at, run_of};
 ghost use Rattle.key_index_store.specs.Device.{IsRead, Sees};
 ghost use Rattle.key_index_store.specs.Indexed.{IsIn, IsLive, entry_at};
-ghost use Rattle.key_index_store.specs.Positions.{positions_before, positions_from};
+ghost use Rattle.key_index_store.specs.Positions.{first_from, last_before, positions_from};
 ghost use Rattle.key_index_store.specs.Stored.{MayRead, entry_after, entry_before, entry_from, gap_in, held_by, in_bytes};
 
 use super::find::{InList, find, find_place};
@@ -86,6 +86,7 @@ fn place_behind<I: OrderedLists<Value = u64>>(
     requires { IsIn (run_at I.Key.cmp (I.view index.now) slot) place is_held }
     ensures { result ≡ place + (if is_held then 1 else 0) }
 {
+    // A key that is held stands within its list.
     if is_held && place < index.run_len(slot) {
         place + 1
     } else {
@@ -96,8 +97,8 @@ fn place_behind<I: OrderedLists<Value = u64>>(
 /// The first position behind a key whose place in its list is known.
 fn position_above<I: OrderedLists<Value = u64>>(index: &I, key: &[u8], place: InList) -> Option<u64>
     requires { IsIn (run_of I.Key.cmp (I.view index.now) key.now) place.place place.is_held }
-    ensures { result ≡ first_entry (positions_from I.Key.cmp (I.view index.now)
-        ((I.view index.now).slot key.now) (place.place + (if place.is_held then 1 else 0))) }
+    ensures { let s = I.view index.now in
+        result ≡ first_from I.Key.cmp s (s.slot key.now) (place.place + (if place.is_held then 1 else 0)) }
 {
     let slot = index.slot_of(key);
     let behind = place_behind(index, slot, place.place, place.is_held);
@@ -121,8 +122,7 @@ fn last_of(values: Values<'_, u64>) -> Option<u64>
 /// The last position in front of a place in a key's list.
 fn position_below<I: OrderedLists<Value = u64>>(index: &I, key: &[u8], place: usize) -> Option<u64>
     requires { place ≤ length (run_of I.Key.cmp (I.view index.now) key.now) }
-    ensures { result ≡ last_entry (positions_before I.Key.cmp (I.view index.now)
-        ((I.view index.now).slot key.now) place) }
+    ensures { let s = I.view index.now in result ≡ last_before I.Key.cmp s (s.slot key.now) place }
 {
     if place != 0 {
         return Some(*index.value_at(index.slot_of(key), place - 1));
@@ -182,16 +182,16 @@ fn readable_from<D: Device, I: OrderedLists<Value = u64>>(
     place: usize,
 ) -> Result<Passed, Fault>
     ensures entry { Sees (D.seen log.new.device) (λ bytes. log.old.end ≤ length bytes
-        → IfSome (first_entry (positions_from I.Key.cmp (I.view index.now) slot place)) (IsLive (take log.old.end bytes))
-        → IfOk result (λ p. in_bytes p.entry ≡ option_map (entry_at (take log.old.end bytes))
-        (first_entry (positions_from I.Key.cmp (I.view index.now) slot place)))) }
+        → IfSome (first_from I.Key.cmp (I.view index.now) slot place) (IsLive (take log.old.end bytes))
+        → IfOk result (λ p. in_bytes p.entry
+        ≡ option_map (entry_at (take log.old.end bytes)) (first_from I.Key.cmp (I.view index.now) slot place))) }
     ensures all { Sees (D.seen log.new.device) (λ bytes. log.old.end ≤ length bytes
-        → IfSome (first_entry (positions_from I.Key.cmp (I.view index.now) slot place)) (IsLive (take log.old.end bytes))
+        → IfSome (first_from I.Key.cmp (I.view index.now) slot place) (IsLive (take log.old.end bytes))
         → IfOk result (λ p. p.passed.items ≡ [])) }
     ensures read { IsRead D.seen D.may_leave log.old.device log.new.device }
     ensures end { log.new.end ≡ log.old.end }
     ensures fault { Sees (D.seen log.new.device) (λ bytes. log.old.end ≤ length bytes
-        → IfSome (first_entry (positions_from I.Key.cmp (I.view index.now) slot place)) (IsLive (take log.old.end bytes))
+        → IfSome (first_from I.Key.cmp (I.view index.now) slot place) (IsLive (take log.old.end bytes))
         → IfErr result MayRead) }
 {
     let mut passed = Vec::new(log.alloc);

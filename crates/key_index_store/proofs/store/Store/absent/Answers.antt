@@ -47,7 +47,7 @@ returns-in_err-before-clause-fault g c = λ log seen.
     let run = is_run cmp front view key kept.indexed in
     let at = c.in_ok-place.ensures.at log mid kept.within run in
     let below = subst (λ r. IsTold front r (entry_before (held_by log) key)) (sym c.position_below-below.ensures)
-        (below_told g.met.I.Key.Ord.total log view s.log.end s.tail (g.met.I.Runs.lawful s.index) (g.met.I.Ordered.keeps_order s.index) kept key c.in_ok-place.ensures.bytes place.place place.is_held at) in
+    (below_told g.met.I.Key.Ord.total log view s.log.end s.tail (g.met.I.Runs.lawful s.index) (g.met.I.Ordered.keeps_order s.index) kept key c.in_ok-place.ensures.bytes place.place place.is_held at) in
     let may = c.in_err-before.ensures.fault log seen kept.within below.0 in
     search (rules, may)
 
@@ -64,9 +64,9 @@ returns-in_err-after-clause-fault g c = λ log seen.
     let run = is_run cmp front view key kept.indexed in
     let at = c.in_ok-place.ensures.at log mid kept.within run in
     let above = subst (λ r. IsTold front r (entry_after (held_by log) key)) (sym c.position_above-above.ensures)
-        (above_told g.met.I.Key.Ord.total log view s.log.end s.tail (g.met.I.Runs.lawful s.index) (g.met.I.Ordered.keeps_order s.index) kept key c.in_ok-place.ensures.bytes place.place place.is_held at) in
+    (above_told g.met.I.Key.Ord.total log view s.log.end s.tail (g.met.I.Runs.lawful s.index) (g.met.I.Ordered.keeps_order s.index) kept key c.in_ok-place.ensures.bytes place.place place.is_held at) in
     let may = subst (λ e. e ≤ length log → IfSome c.position_above-above.result (IsLive (take e log)) → MayRead c.in_err-after.field-0.0) c.in_ok-before.ensures.end
-        (c.in_err-after.ensures.fault log seen) kept.within above.0 in
+    (c.in_err-after.ensures.fault log seen) kept.within above.0 in
     search (rules, may)
 
 pub returns-clause-absent : goal.returns-clause-absent
@@ -83,12 +83,12 @@ returns-clause-absent g c = λ log seen.
     let run = is_run cmp front view key kept.indexed in
     let at = c.in_ok-place.ensures.at log mid kept.within run in
     let below = subst (λ r. IsTold front r (entry_before (held_by log) key)) (sym c.position_below-below.ensures)
-        (below_told g.met.I.Key.Ord.total log view s.log.end s.tail (g.met.I.Runs.lawful s.index) (g.met.I.Ordered.keeps_order s.index) kept key c.in_ok-place.ensures.bytes place.place place.is_held at) in
+    (below_told g.met.I.Key.Ord.total log view s.log.end s.tail (g.met.I.Runs.lawful s.index) (g.met.I.Ordered.keeps_order s.index) kept key c.in_ok-place.ensures.bytes place.place place.is_held at) in
     let above = subst (λ r. IsTold front r (entry_after (held_by log) key)) (sym c.position_above-above.ensures)
-        (above_told g.met.I.Key.Ord.total log view s.log.end s.tail (g.met.I.Runs.lawful s.index) (g.met.I.Ordered.keeps_order s.index) kept key c.in_ok-place.ensures.bytes place.place place.is_held at) in
+    (above_told g.met.I.Key.Ord.total log view s.log.end s.tail (g.met.I.Runs.lawful s.index) (g.met.I.Ordered.keeps_order s.index) kept key c.in_ok-place.ensures.bytes place.place place.is_held at) in
     let before = c.in_ok-before.ensures.entry log between kept.within below.0 ∙ below.1 in
     let after = subst (λ e. e ≤ length log → IfSome c.position_above-above.result (IsLive (take e log)) → in_bytes c.in_ok-after.after ≡ option_map (entry_at (take e log)) c.position_above-above.result)
-        c.in_ok-before.ensures.end (c.in_ok-after.ensures.entry log seen) kept.within above.0 ∙ above.1 in
+    c.in_ok-before.ensures.end (c.in_ok-after.ensures.entry log seen) kept.within above.0 ∙ above.1 in
     let held = place-get cmp front view key place.place place.is_held kept.indexed at ∙ ap (λ m. is_some (get m key)) (sym (kept_held cmp log view s.log.end s.tail kept)) in
     (λ i. Some (before i, after i))
     ∙ ap (λ b. cond b None (Some (entry_before (held_by log) key, entry_after (held_by log) key))) (sym c.if-place.false ∙ held)

@@ -30,7 +30,7 @@ returns-clause-prev g c = λ log seen.
     let run = is_run cmp front view key kept.indexed in
     let at = c.in_ok-place.ensures.at log mid kept.within run in
     let told = subst (λ r. IsTold front r (entry_before (held_by log) key)) (sym c.position_below.ensures)
-        (below_told g.met.I.Key.Ord.total log view s.log.end s.tail (g.met.I.Runs.lawful s.index) (g.met.I.Ordered.keeps_order s.index) kept key c.in_ok-place.ensures.bytes place.place place.is_held at) in
+    (below_told g.met.I.Key.Ord.total log view s.log.end s.tail (g.met.I.Runs.lawful s.index) (g.met.I.Ordered.keeps_order s.index) kept key c.in_ok-place.ensures.bytes place.place place.is_held at) in
     IfOk-weaker c.entry.result _ _ (λ o is. is ∙ told.1) (c.entry.ensures.entry log seen kept.within told.0)
 
 pub returns-clause-fault : goal.returns-clause-fault
@@ -46,5 +46,5 @@ returns-clause-fault g c = λ log seen.
     let run = is_run cmp front view key kept.indexed in
     let at = c.in_ok-place.ensures.at log mid kept.within run in
     let told = subst (λ r. IsTold front r (entry_before (held_by log) key)) (sym c.position_below.ensures)
-        (below_told g.met.I.Key.Ord.total log view s.log.end s.tail (g.met.I.Runs.lawful s.index) (g.met.I.Ordered.keeps_order s.index) kept key c.in_ok-place.ensures.bytes place.place place.is_held at) in
+    (below_told g.met.I.Key.Ord.total log view s.log.end s.tail (g.met.I.Runs.lawful s.index) (g.met.I.Ordered.keeps_order s.index) kept key c.in_ok-place.ensures.bytes place.place place.is_held at) in
     c.entry.ensures.fault log seen kept.within told.0

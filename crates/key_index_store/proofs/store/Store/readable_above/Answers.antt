@@ -33,8 +33,8 @@ returns-clause-entry g c = λ log seen.
     let at = c.in_ok-found.ensures.at log mid kept.within run in
     let place = ap (λ b. found.place + cond b 1 0) (sym c.is_some.ensures) ∙ sym c.place_behind-behind.ensures in
     let told = subst (λ n. IsTold front (first_entry (positions_from cmp view c.slot_of-slot.result n)) (entry_after (held_by log) key)) place
-        (subst (λ k. IsTold front (first_entry (positions_from cmp view k (found.place + cond (is_some found.front) 1 0))) (entry_after (held_by log) key)) (sym c.slot_of-slot.ensures)
-        (above_told g.met.I.Key.Ord.total log view s.log.end s.tail (g.met.I.Runs.lawful s.index) (g.met.I.Ordered.keeps_order s.index) kept key (bytes_in key c.type_inv.key) found.place (is_some found.front) at)) in
+    (subst (λ k. IsTold front (first_entry (positions_from cmp view k (found.place + cond (is_some found.front) 1 0))) (entry_after (held_by log) key)) (sym c.slot_of-slot.ensures)
+    (above_told g.met.I.Key.Ord.total log view s.log.end s.tail (g.met.I.Runs.lawful s.index) (g.met.I.Ordered.keeps_order s.index) kept key (bytes_in key c.type_inv.key) found.place (is_some found.front) at)) in
     IfOk-weaker c.readable_from.result _ _ (λ o is. is ∙ told.1) (c.readable_from.ensures.entry log seen kept.within told.0)
 
 pub returns-clause-all : goal.returns-clause-all
@@ -51,8 +51,8 @@ returns-clause-all g c = λ log seen.
     let at = c.in_ok-found.ensures.at log mid kept.within run in
     let place = ap (λ b. found.place + cond b 1 0) (sym c.is_some.ensures) ∙ sym c.place_behind-behind.ensures in
     let told = subst (λ n. IsTold front (first_entry (positions_from cmp view c.slot_of-slot.result n)) (entry_after (held_by log) key)) place
-        (subst (λ k. IsTold front (first_entry (positions_from cmp view k (found.place + cond (is_some found.front) 1 0))) (entry_after (held_by log) key)) (sym c.slot_of-slot.ensures)
-        (above_told g.met.I.Key.Ord.total log view s.log.end s.tail (g.met.I.Runs.lawful s.index) (g.met.I.Ordered.keeps_order s.index) kept key (bytes_in key c.type_inv.key) found.place (is_some found.front) at)) in
+    (subst (λ k. IsTold front (first_entry (positions_from cmp view k (found.place + cond (is_some found.front) 1 0))) (entry_after (held_by log) key)) (sym c.slot_of-slot.ensures)
+    (above_told g.met.I.Key.Ord.total log view s.log.end s.tail (g.met.I.Runs.lawful s.index) (g.met.I.Ordered.keeps_order s.index) kept key (bytes_in key c.type_inv.key) found.place (is_some found.front) at)) in
     c.readable_from.ensures.all log seen kept.within told.0
 
 pub returns-clause-fault : goal.returns-clause-fault
@@ -69,6 +69,6 @@ returns-clause-fault g c = λ log seen.
     let at = c.in_ok-found.ensures.at log mid kept.within run in
     let place = ap (λ b. found.place + cond b 1 0) (sym c.is_some.ensures) ∙ sym c.place_behind-behind.ensures in
     let told = subst (λ n. IsTold front (first_entry (positions_from cmp view c.slot_of-slot.result n)) (entry_after (held_by log) key)) place
-        (subst (λ k. IsTold front (first_entry (positions_from cmp view k (found.place + cond (is_some found.front) 1 0))) (entry_after (held_by log) key)) (sym c.slot_of-slot.ensures)
-        (above_told g.met.I.Key.Ord.total log view s.log.end s.tail (g.met.I.Runs.lawful s.index) (g.met.I.Ordered.keeps_order s.index) kept key (bytes_in key c.type_inv.key) found.place (is_some found.front) at)) in
+    (subst (λ k. IsTold front (first_entry (positions_from cmp view k (found.place + cond (is_some found.front) 1 0))) (entry_after (held_by log) key)) (sym c.slot_of-slot.ensures)
+    (above_told g.met.I.Key.Ord.total log view s.log.end s.tail (g.met.I.Runs.lawful s.index) (g.met.I.Ordered.keeps_order s.index) kept key (bytes_in key c.type_inv.key) found.place (is_some found.front) at)) in
     c.readable_from.ensures.fault log seen kept.within told.0

@@ -21,7 +21,7 @@ returns-clause-entry g c = λ log seen.
     let run = is_run cmp front view key kept.indexed in
     let at = c.in_ok-found.ensures.at log mid kept.within run in
     let told = subst (λ k. IsTold front (first_entry (positions_from cmp view k found.place)) (entry_from (held_by log) key)) (sym c.slot_of-slot.ensures)
-        (from_told g.met.I.Key.Ord.total log view s.log.end s.tail (g.met.I.Runs.lawful s.index) (g.met.I.Ordered.keeps_order s.index) kept key (bytes_in key c.type_inv.key) found.place (is_some found.front) at) in
+    (from_told g.met.I.Key.Ord.total log view s.log.end s.tail (g.met.I.Runs.lawful s.index) (g.met.I.Ordered.keeps_order s.index) kept key (bytes_in key c.type_inv.key) found.place (is_some found.front) at) in
     IfOk-weaker c.readable_from.result _ _ (λ o is. is ∙ told.1) (c.readable_from.ensures.entry log seen kept.within told.0)
 
 pub returns-clause-all : goal.returns-clause-all
@@ -37,7 +37,7 @@ returns-clause-all g c = λ log seen.
     let run = is_run cmp front view key kept.indexed in
     let at = c.in_ok-found.ensures.at log mid kept.within run in
     let told = subst (λ k. IsTold front (first_entry (positions_from cmp view k found.place)) (entry_from (held_by log) key)) (sym c.slot_of-slot.ensures)
-        (from_told g.met.I.Key.Ord.total log view s.log.end s.tail (g.met.I.Runs.lawful s.index) (g.met.I.Ordered.keeps_order s.index) kept key (bytes_in key c.type_inv.key) found.place (is_some found.front) at) in
+    (from_told g.met.I.Key.Ord.total log view s.log.end s.tail (g.met.I.Runs.lawful s.index) (g.met.I.Ordered.keeps_order s.index) kept key (bytes_in key c.type_inv.key) found.place (is_some found.front) at) in
     c.readable_from.ensures.all log seen kept.within told.0
 
 pub returns-clause-fault : goal.returns-clause-fault
@@ -53,5 +53,5 @@ returns-clause-fault g c = λ log seen.
     let run = is_run cmp front view key kept.indexed in
     let at = c.in_ok-found.ensures.at log mid kept.within run in
     let told = subst (λ k. IsTold front (first_entry (positions_from cmp view k found.place)) (entry_from (held_by log) key)) (sym c.slot_of-slot.ensures)
-        (from_told g.met.I.Key.Ord.total log view s.log.end s.tail (g.met.I.Runs.lawful s.index) (g.met.I.Ordered.keeps_order s.index) kept key (bytes_in key c.type_inv.key) found.place (is_some found.front) at) in
+    (from_told g.met.I.Key.Ord.total log view s.log.end s.tail (g.met.I.Runs.lawful s.index) (g.met.I.Ordered.keeps_order s.index) kept key (bytes_in key c.type_inv.key) found.place (is_some found.front) at) in
     c.readable_from.ensures.fault log seen kept.within told.0

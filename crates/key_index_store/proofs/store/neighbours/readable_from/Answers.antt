@@ -1,4 +1,4 @@
-use Rattle.std.proofs.Common.{◌≡◌, ◌≤◌, ◌∷◌, ℕ, Option, Some, length, take, inl, inr, sym, ap, subst, ◌∙◌}
+use Rattle.std.proofs.Common.{◌≡◌, ◌≤◌, ℕ, Option, Some, length, take, inl, inr, sym, ap, subst, ◌∙◌}
 use Rattle.std.specs.Option.{IfSome, option_map}
 use Rattle.key_index_flat.specs.Neighbours.{first_entry}
 use Rattle.key_index_store.specs.Indexed.{IsLive, entry_at}
