@@ -1,6 +1,7 @@
 -- An index of positions in a log. A position is live where the log has a complete record with a value.
 --     entry_at, key_at      the key and the value of the record at a position
 --     IsLive, IsUnder       a position is live;  and stands under the index key of its full key, which is bytes
+--     IsLatest              no later record has the key of the one at a position
 --     value_in              the value of the first record in a list of positions that has a key
 --     IsAt                  the place of a key in a list, by the entries of its positions;  or that it isn't there
 --     key_read, HasKeys     the key that a read of the head and the key at a position gives;  keys of positions that a device has
@@ -12,7 +13,7 @@
 --     Keeps                 what a store keeps of its log: where the complete records end, what stands behind them, and the index of them
 --     Settles               after the position of a key's newest record was filed: in the place of the older one, or as a new one
 --     KeepsLists            no list is another
-use Rattle.std.specs.Prelude.{◌≡◌, ◌-◌, ◌≤◌, ℕ, Bool, if◌then◌else◌, true, false, List, [], map, length, drop, take, remove, slice_get, slice_set, Option, Some, None, All, unwrap_or}
+use Rattle.std.specs.Prelude.{◌≡◌, ◌-◌, ◌≤◌, ℕ, Bool, if◌then◌else◌, true, false, List, [], ◌∷◌, ◌++◌, map, length, drop, take, remove, slice_get, slice_set, Option, Some, None, All, unwrap_or}
 use Rattle.std.specs.FinMap.{find, get, len}
 use Rattle.std.specs.List.{IsDistinct}
 use Rattle.std.specs.Option.{option_map}
@@ -21,7 +22,8 @@ use Rattle.std.specs.Str.{bytes_eq}
 use Rattle.std.specs.declared.cmp.Ordering.{Ordering}
 use Rattle.key_index_flat.specs.FullKeys.{IsBytes, byte_cmp}
 use Rattle.key_index_flat.specs.View.{View, after_insert, items_in, run_at, run_of, with_edit, with_pruned}
-use Rattle.key_index_store.specs.Record.{Fits, Outcome, Complete, Torn, Damaged, Stops, bytes_of, key_in, log_of, reading}
+use Rattle.key_index_store.specs.Salvage.{has_key}
+use Rattle.key_index_store.specs.Record.{Entry, Fits, Outcome, Complete, Torn, Damaged, Stops, bytes_of, key_in, log_of, reading}
 use Rattle.key_index_store.specs.Stored.{held_by, records_of, tail_of}
 use Rattle.key_index_store.specs.declared.store.find.Match.{Match}
 use Rattle.key_index_store.specs.declared.store.find.Match.TheVariants.{Same, Other, Unreadable}
@@ -60,6 +62,15 @@ module _ (log : List ℕ) where
   abbrev pub key_read : ℕ → List ℕ
   key_read p = unwrap_or (key_in p (drop p log)) []
 
+  -- the place of a record whose key no later one has
+  pub record IsLatest (p : ℕ) : Type 0 where
+    pub before : List Entry
+    pub here : Entry
+    pub after : List Entry
+    pub split : records_of log ≡ before ++ here ∷ after
+    pub place : p ≡ length (log_of before)
+    pub last : has_key here.key after ≡ false
+
 -- where its bytes are seen, and a limit is within them: the keys that its first bytes have
 abbrev pub HasKeys : Option (List ℕ) → ℕ → (ℕ → List ℕ) → Type 0
 HasKeys seen limit keys = (log : List ℕ) × (seen ≡ Some log) × (limit ≤ length log) × (keys ≡ key_read (take limit log))
@@ -75,6 +86,7 @@ module _ {K : Type 0} (cmp : K → K → Ordering) where
     pub fit : All Fits (records_of log)
     pub live : (k : K) → All (IsUnder log s.slot k) (run_at cmp s k)
     pub once : (k : K) → IsDistinct (eq_by_cmp byte_cmp) (map (key_at log) (run_at cmp s k))
+    pub latest : (k : K) → All (IsLatest log) (run_at cmp s k)
     pub found : (key : List ℕ) → value_in log key (run_of cmp s key) ≡ get (held_by log) key
     pub counted : items_in s ≡ len (held_by log)
 
