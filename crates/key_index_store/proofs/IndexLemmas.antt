@@ -21,11 +21,12 @@ use Rattle.key_index_flat.specs.View.{View, after_insert, put_value, run_at, run
 use Rattle.key_index_flat.proofs.content.ContentLemmas.{item_count-with_list, list_at-with_list, Equal-is_eq, with_list-same, with_list-twice}
 use Rattle.key_index_flat.proofs.content.ChainLemmas.{None-is_some}
 use Rattle.key_index_flat.proofs.runs.ViewLemmas.{content-same_view, same_slot}
-use Rattle.key_index_store.specs.Indexed.{Indexes, IsAt, IsLive, IsUnder, KeepsLists, Settles, entry_at, key_at, parts_of, value_in, without_newest}
+use Rattle.key_index_store.specs.Indexed.{Indexes, IsLatest, IsAt, IsLive, IsUnder, KeepsLists, Settles, entry_at, key_at, parts_of, value_in, without_newest}
 use Rattle.key_index_store.specs.Record.{Entry, Fits, Complete, bytes_of, encoded}
 use Rattle.key_index_store.specs.Stored.{Values, held_by, with_value}
 use Rattle.std.proofs.lemmas.Map.Lookups.{exact_bytes}
-use Rattle.key_index_flat.proofs.entries.EntryLemmas.{is_some-look, none_distinct, out_all, out_distinct, out_look, All-put_value, put_distinct, put_look, same, set_keys, set_look, length-put_value}
+use Rattle.key_index_flat.proofs.entries.EntryLemmas.{is_some-look, none_apart, none_distinct, out_all, out_distinct, out_look, All-put_value, put_distinct, put_look, same, set_keys, set_look, length-put_value}
+use Rattle.key_index_store.proofs.LatestLemmas.{All-both, apart_all, apart_out, apart_set, latest_last, latest_more}
 use Rattle.key_index_store.proofs.LogLemmas.{Spelled, entries_there, entry_there, held_more, live_more, nothing_held, read_last, spelled_more, spelled_none}
 
 -- ---- where a key stands in a list
@@ -101,6 +102,26 @@ module _ {K : Type 0} {cmp : K → K → Ordering} (o : IsTotalOrder cmp) (exact
         (keys_in (entry_at log) (run_at cmp s k) ∙ ap (map (λ (x : List ℕ × List ℕ). x.0)) (sym (map-entry_at_longer k)) ∙ sym (keys_in (entry_at longer) (run_at cmp s k)))
         (h.once k)
 
+    -- a record of another key stands behind them
+    latest_in : (k : K) → All (λ p. same (key_at longer p) r.key ≡ false → IsLatest longer p) (run_at cmp s k)
+    latest_in k = All-weaker (λ p. IsUnder log s.slot k p × IsLatest log p) (λ p. same (key_at longer p) r.key ≡ false → IsLatest longer p)
+        (λ p q other. latest_more log r Spelled-log fits p q.0.0
+        (ap (λ (e : List ℕ × List ℕ). same e.0 r.key) (sym (entry_there log (encoded (length log) r) p q.0.0)) ∙ other) q.1)
+        (run_at cmp s k) (All-both (IsUnder log s.slot k) (IsLatest log) (run_at cmp s k) (h.live k) (h.latest k))
+
+    latest_other : (k : K) → eq_by_cmp cmp k slot ≡ false → All (IsLatest longer) (run_at cmp s k)
+    latest_other k other = All-weaker (λ p. (same (key_at longer p) r.key ≡ false → IsLatest longer p) × Under k p) (IsLatest longer)
+        (λ p q. q.0 (apart p q.1))
+        (run_at cmp s k) (All-both (λ p. same (key_at longer p) r.key ≡ false → IsLatest longer p) (Under k) (run_at cmp s k) (latest_in k) (All-Under k))
+      where
+        apart : (p : ℕ) → Under k p → same (key_at longer p) r.key ≡ false
+        apart p under =
+            elim (same (key_at longer p) r.key) as (λ b. same (key_at longer p) r.key ≡ b → b ≡ false) [
+              | true ↦ λ e. absurd (false≢true (sym other
+                  ∙ ap (λ q. eq_by_cmp cmp q slot) (sym under.2 ∙ ap s.slot (exact_bytes (key_at longer p) r.key (Equal-is_eq _ e))) ∙ ap is_eq (tied_itself o slot)))
+              | false ↦ λ e. refl
+            ] refl
+
     found_in : (a : List ℕ) → value_in longer a (run_of cmp s a) ≡ get (held_by log) a
     found_in a = ap (find byte_cmp a) (map-entry_at_longer (s.slot a)) ∙ h.found a
 
@@ -108,7 +129,7 @@ module _ {K : Type 0} {cmp : K → K → Ordering} (o : IsTotalOrder cmp) (exact
     held_by-longer = held_more log r Spelled-log fits
 
     -- another list at the index key
-    module _ (l : List ℕ) (content : t.content ≡ with_list cmp s.content slot l) (slots : t.slot ≡ s.slot) (live : All (Under slot) l) (once : IsDistinct same (map (key_at longer) l))
+    module _ (l : List ℕ) (content : t.content ≡ with_list cmp s.content slot l) (slots : t.slot ≡ s.slot) (live : All (Under slot) l) (latest : All (IsLatest longer) l) (once : IsDistinct same (map (key_at longer) l))
         (one : (a : List ℕ) → value_in longer a l ≡ cond (same a r.key) r.value (value_in longer a run)) (counted : item_count t.content ≡ len (with_value (held_by log) r.key r.value)) where
       run_at-edited : (k : K) → run_at cmp t k ≡ cond (eq_by_cmp cmp k slot) l (run_at cmp s k)
       run_at-edited k = ap (λ c. list_at cmp c k) content ∙ list_at-with_list o s.content slot l k
@@ -119,6 +140,13 @@ module _ {K : Type 0} {cmp : K → K → Ordering} (o : IsTotalOrder cmp) (exact
             | true ↦ λ e. subst (λ q. All (Under q) l) (sym (exact k slot (Equal-is_eq _ e))) live
             | false ↦ λ e. All-Under k
           ] refl))
+
+      latest_after : (k : K) → All (IsLatest longer) (run_at cmp t k)
+      latest_after k = subst (All (IsLatest longer)) (sym (run_at-edited k))
+          (elim (eq_by_cmp cmp k slot) as (λ b. eq_by_cmp cmp k slot ≡ b → All (IsLatest longer) (cond b l (run_at cmp s k))) [
+            | true ↦ λ e. latest
+            | false ↦ λ e. latest_other k e
+          ] refl)
 
       IsDistinct-edited : (k : K) → IsDistinct same (map (key_at longer) (run_at cmp t k))
       IsDistinct-edited k = subst (λ m. IsDistinct same (map (key_at longer) m)) (sym (run_at-edited k))
@@ -150,6 +178,7 @@ module _ {K : Type 0} {cmp : K → K → Ordering} (o : IsTotalOrder cmp) (exact
         fit = (spelled_more log r Spelled-log fits).fit;
         live = live_after;
         once = IsDistinct-edited;
+        latest = latest_after;
         found = found_after;
         counted = counted ∙ ap (λ m. len m) (sym held_by-longer);
       }
@@ -182,6 +211,9 @@ module _ {K : Type 0} {cmp : K → K → Ordering} (o : IsTotalOrder cmp) (exact
       own_key : key_at longer last ≡ r.key
       own_key = ap (λ (e : List ℕ × List ℕ). e.0) entry_at-last
 
+      last_latest : IsLatest longer last
+      last_latest = latest_last log r Spelled-log fits (sym has) own_key
+
       own_value : Some ((entry_at longer last).1) ≡ r.value
       own_value = ap (λ (e : List ℕ × List ℕ). Some e.1) entry_at-last ∙ sym (some_bytes r.value has)
 
@@ -197,6 +229,7 @@ module _ {K : Type 0} {cmp : K → K → Ordering} (o : IsTotalOrder cmp) (exact
           let counts = ap (λ c. item_count c + length run) content ∙ item_count-with_list o s.content slot l hs in
           let more = len_with ∙ ap (λ x. cond (is_some x) (len (held_by log)) (len (held_by log) + 1)) none in
           Indexes-longer l content (same_slot is) (All-put_value (Under slot) first last run last_under (All-Under slot))
+          (All-put_value (IsLatest longer) first last run last_latest (apart_all (IsLatest longer) (key_at longer) r.key run (none_apart (entry_at longer) r.key run none) (latest_in slot)))
           (put_distinct (entry_at longer) first run last (ap (λ k. value_in longer k run) own_key ∙ none) (once_in slot))
           (λ a. put_look (entry_at longer) first a r.key run last own_key none ∙ ap (λ x. cond (same a r.key) x (value_in longer a run)) own_value)
           (omega (arith, counts, more, length-put_value first last run, h.counted))
@@ -208,6 +241,7 @@ module _ {K : Type 0} {cmp : K → K → Ordering} (o : IsTotalOrder cmp) (exact
           let counts = ap (λ c. item_count c + length run) content ∙ item_count-with_list o s.content slot l hs in
           let more = len_with ∙ ap (λ x. cond x (len (held_by log)) (len (held_by log) + 1)) (is_some-look (entry_at longer) r.key run i at) in
           Indexes-longer l content (same_slot is) (All-set (Under slot) run i last last_under (All-Under slot))
+          (apart_set (IsLatest longer) (key_at longer) r.key run i last (once_in slot) at (latest_in slot) last_latest)
           (subst (IsDistinct same) (sym (set_keys (entry_at longer) run i last (at ∙ ap (λ k. Some k) (sym own_key)))) (once_in slot))
           (λ a. set_look (entry_at longer) a r.key run i last own_key (once_in slot) at ∙ ap (λ x. cond (same a r.key) x (value_in longer a run)) own_value)
           (omega (arith, counts, more, length-set run i last, h.counted))
@@ -224,7 +258,7 @@ module _ {K : Type 0} {cmp : K → K → Ordering} (o : IsTotalOrder cmp) (exact
           let content : t.content ≡ with_list cmp s.content slot l = content-same_view is in
           let counts = ap (λ c. item_count c + length run) content ∙ item_count-with_list o s.content slot l hs in
           let less = len_without ∙ ap (λ x. cond x (len (held_by log) - 1) (len (held_by log))) (is_some-look (entry_at longer) r.key run i at) in
-          Indexes-longer l content (same_slot is) (out_all (Under slot) run i (All-Under slot)) (out_distinct (entry_at longer) run i (once_in slot))
+          Indexes-longer l content (same_slot is) (out_all (Under slot) run i (All-Under slot)) (apart_out (IsLatest longer) (key_at longer) r.key run i (once_in slot) at (latest_in slot)) (out_distinct (entry_at longer) run i (once_in slot))
           (λ a. out_look (entry_at longer) a r.key run i (once_in slot) at ∙ ap (λ x. cond (same a r.key) x (value_in longer a run)) (sym (None-is_some r.value (sym has))))
           (omega (arith, counts, less, length-remove run i (place_below (entry_at longer) r.key run i at), h.counted))
 
@@ -232,7 +266,8 @@ module _ {K : Type 0} {cmp : K → K → Ordering} (o : IsTotalOrder cmp) (exact
       settled_none none is =
           let content : t.content ≡ with_list cmp s.content slot run = content-same_view is ∙ sym (with_list-same o exact s.content slot hs) in
           let less = len_without ∙ ap (λ x. cond (is_some x) (len (held_by log) - 1) (len (held_by log))) none in
-          Indexes-longer run content (same_slot is) (All-Under slot) (once_in slot)
+          Indexes-longer run content (same_slot is) (All-Under slot)
+          (apart_all (IsLatest longer) (key_at longer) r.key run (none_apart (entry_at longer) r.key run none) (latest_in slot)) (once_in slot)
           (λ a. elim (same a r.key) as (λ b. same a r.key ≡ b → value_in longer a run ≡ cond b r.value (value_in longer a run)) [
             | true ↦ λ e. ap (λ k. value_in longer k run) (exact_bytes a r.key (Equal-is_eq _ e)) ∙ none ∙ sym (None-is_some r.value (sym has))
             | false ↦ λ e. refl
@@ -312,6 +347,7 @@ module _ {K : Type 0} (cmp : K → K → Ordering) where
     fit = spelled_none.fit;
     live = λ k. subst (λ c. All (IsUnder [] s.slot k) (list_at cmp c k)) (sym none) (All-nil (IsUnder [] s.slot k));
     once = λ k. subst (λ c. IsDistinct same (map (key_at []) (list_at cmp c k))) (sym none) none_distinct;
+    latest = λ k. subst (λ c. All (IsLatest []) (list_at cmp c k)) (sym none) (All-nil (IsLatest []));
     found = λ a. ap (λ c. value_in [] a (list_at cmp c (s.slot a))) none ∙ sym (ap (λ m. get m a) held_none ∙ get-empty byte_cmp a);
     counted = ap item_count none ∙ sym (ap (λ m. len m) held_none ∙ len-empty byte_cmp (List ℕ));
   }
@@ -325,6 +361,7 @@ module _ {K : Type 0} (cmp : K → K → Ordering) where
     fit = h.fit;
     live = λ k. subst (λ (p : Content K ℕ × (List ℕ → K)). All (IsUnder log p.1 k) (list_at cmp p.0 k)) (sym (pair same)) (h.live k);
     once = λ k. subst (λ c. IsDistinct (eq_by_cmp byte_cmp) (map (key_at log) (list_at cmp c k))) (sym same.0) (h.once k);
+    latest = λ k. subst (λ c. All (IsLatest log) (list_at cmp c k)) (sym same.0) (h.latest k);
     found = λ a. (λ i. value_in log a (list_at cmp (same.0 i) (same.1 i a))) ∙ h.found a;
     counted = ap item_count same.0 ∙ h.counted;
   }

@@ -13,7 +13,7 @@
 --     Keeps                 what a store keeps of its log: where the complete records end, what stands behind them, and the index of them
 --     Settles               after the position of a key's newest record was filed: in the place of the older one, or as a new one
 --     KeepsLists            no list is another
-use Rattle.std.specs.Prelude.{◌≡◌, ◌-◌, ◌≤◌, ℕ, Bool, if◌then◌else◌, true, false, List, [], ◌∷◌, ◌++◌, map, length, drop, take, remove, slice_get, slice_set, Option, Some, None, All, unwrap_or}
+use Rattle.std.specs.Prelude.{◌≡◌, ◌-◌, ◌≤◌, ℕ, Bool, if◌then◌else◌, true, false, List, [], ◌∷◌, ◌++◌, map, length, drop, take, remove, slice_get, slice_set, Option, Some, None, is_some, All, unwrap_or}
 use Rattle.std.specs.FinMap.{find, get, len}
 use Rattle.std.specs.List.{IsDistinct}
 use Rattle.std.specs.Option.{option_map}
@@ -62,13 +62,15 @@ module _ (log : List ℕ) where
   abbrev pub key_read : ℕ → List ℕ
   key_read p = unwrap_or (key_in p (drop p log)) []
 
-  -- the place of a record whose key no later one has
+  -- the place of a record that has a value, and whose key no later one has
   pub record IsLatest (p : ℕ) : Type 0 where
     pub before : List Entry
     pub here : Entry
     pub after : List Entry
     pub split : records_of log ≡ before ++ here ∷ after
     pub place : p ≡ length (log_of before)
+    pub key : key_at p ≡ here.key
+    pub valued : is_some here.value ≡ true
     pub last : has_key here.key after ≡ false
 
 -- where its bytes are seen, and a limit is within them: the keys that its first bytes have

@@ -1,6 +1,6 @@
 //! The name of a store's file, and fresh files that take a name.
 ghost use Rattle.std.specs.Prelude.{◌≡◌, ◌≢◌, ◌↔◌, ◌<◌, ℕ, List, Some, Ok, true, [], length, string_bytes, IsErr, IsTrue, IfOk, OnOk, OnErr};
-ghost use Rattle.key_index_store.specs.Device.{Changes, IsDurable, IsRead, Sees};
+ghost use Rattle.key_index_store.specs.Device.{Changes, IsDurable, IsRead, Sees, Stays};
 ghost use Rattle.key_index_store.specs.Names.{is_made, known, noted};
 ghost use Rattle.key_index_store.specs.Places.{IsFresh, IsGiven, IsOnDisk, IsSame, LeavesEither, LeavesNoMore, SparesOthers};
 ghost use Rattle.key_index_store.specs.Record.{log_of};
@@ -400,6 +400,33 @@ impl<F: Folder> Place<F> {
         self.finish(fresh, copied, into)
     }
 
+    /// Opens what was copied to a fresh file, which gets the name that it takes once it is on the disk. A refused copy gets none.
+    fn open_copy<C: Device + Drop, I: Unordered<Value = u64> + Drop>(
+        &mut self,
+        alloc: Global,
+        fresh: &Fresh,
+        into: C,
+        index: I,
+    ) -> Result<Store<C, I>, NameFault<F::Error>>
+        requires fresh { IsFresh self.old.calls fresh.now }
+        requires empty { (I.view index).content ≡ [] }
+        ensures read { IfOk result (λ copy. Stays (C.seen into) (C.seen copy)) }
+        ensures durable { IfOk result (λ copy. IsDurable (C.seen copy) (C.may_leave copy)) }
+        ensures given { OnOk result (IsGiven fresh.now self.new.calls) }
+        ensures either { LeavesEither fresh.now self.old.calls self.new.calls }
+        ensures same { IsSame self.old self.new }
+    {
+        let mut copy = match Store::open(alloc, into, index) {
+            Ok(copy) => copy,
+            Err(refused) => return self.refuse(fresh, refused.fault),
+        };
+        if let Err(fault) = copy.sync() {
+            return self.refuse(fresh, fault);
+        }
+        self.give(fresh, copy.device())?;
+        Ok(copy)
+    }
+
     /// Copies a store to a fresh file at another name, or in the place of its own, and goes on there. `sync` brings the name to the disk.
     /// A store of which some records no longer read goes on without them at another name, and not in its own place.
     pub fn move_to<D: Device, C: Device + Drop, I: Unordered<Value = u64> + Drop>(
@@ -430,14 +457,7 @@ impl<F: Folder> Place<F> {
         if is_own && copied.records != store.len() as u64 {
             return self.refuse(&fresh, Fault::Damaged);
         }
-        let mut copy = match Store::open(alloc, into, index) {
-            Ok(copy) => copy,
-            Err(refused) => return self.refuse(&fresh, refused.fault),
-        };
-        if let Err(fault) = copy.sync() {
-            return self.refuse(&fresh, fault);
-        }
-        self.give(&fresh, copy.device())?;
+        let copy = self.open_copy(alloc, &fresh, into, index)?;
         self.name = fresh.target;
         self.file = fresh.file;
         self.is_on_disk = false;

@@ -1,8 +1,8 @@
 //! The records of a log, or those that leave its map, copied to a fresh one, behind damage too.
 ghost use Rattle.std.specs.Prelude.{◌≡◌, ◌⊎◌, ◌<◌, ◌≤◌, ◌+◌, ◌-◌, ℕ, List, [], ◌++◌, length, map, min, take, drop, IfOk, IfErr, OnErr, OnOk};
 ghost use Rattle.key_index_store.specs.Device.{Changes, IsBegun, IsRead, Sees};
-ghost use Rattle.key_index_store.specs.Record.{Fits, encoded, entry_of, key_in, log_of};
-ghost use Rattle.key_index_store.specs.Salvage.{Gap, MaySalvage, copied, gap_of, gaps_at, gaps_in, is_listed, step, unknown};
+ghost use Rattle.key_index_store.specs.Record.{Fits, encoded_from, entry_of, key_in, log_of, size_of};
+ghost use Rattle.key_index_store.specs.Salvage.{Gap, MaySalvage, copied, gap_of, gaps_at, gaps_in, is_listed, keeps, kept_of, step, unknown};
 
 use crate::device::Device;
 use crate::record::{Reading, Record, decode, encode, has_head, key_in, record_length};
@@ -10,7 +10,6 @@ use crate::store::Fault;
 use crate::store::find::{length_of, read_front};
 use key_index_flat::index::{Unordered, Values};
 use std::alloc::{AllocError, Global};
-use std::marker::Model;
 
 /// What was copied of a log, and what wasn't.
 #[derive(Debug, Drop, PartialEq, Eq)]
@@ -98,32 +97,11 @@ fn leave_out(
     Ok(next)
 }
 
-/// Which records of a log are copied: each one, or those whose positions an index has.
-#[derive(Drop)]
-pub(crate) struct Kept<'a, I: Unordered<Value = u64>> {
-    pub(crate) index: Option<&'a I>,
-}
-
-impl<'a, I: Unordered<Value = u64>> Model for Kept<'a, I> {
-    ghost use Rattle.std.specs.Prelude.{ℕ, List, Bool};
-    ghost use Rattle.std.specs.Option.{option_map};
-    ghost use Rattle.key_index_store.specs.Salvage.{keeps};
-
-    ghost Value = { ℕ → List ℕ → Bool };
-
-    ghost view = { λ k. keeps I.Key.cmp (option_map (λ i. I.view i.now) k.index) };
-}
-
-impl<I: Unordered<Value = u64>> Kept<'_, I> {
-    /// Whether the record of a key at a place is copied.
-    fn keeps(&self, place: u64, key: &[u8]) -> bool
-        ensures { result ≡ self.now place key.now }
-    {
-        let Some(index) = self.index else {
-            return true;
-        };
-        is_listed(index.get(key), place)
-    }
+/// Whether the record of a key at a place is copied: each one is, or those whose positions an index has.
+fn is_kept<I: Unordered<Value = u64>>(index: &I, is_all: bool, place: u64, key: &[u8]) -> bool
+    ensures { result ≡ keeps I.Key.cmp (I.view index.now) is_all place key.now }
+{
+    is_all || is_listed(index.get(key), place)
 }
 
 /// Whether a list has a position.
@@ -138,23 +116,37 @@ fn is_listed(positions: Values<'_, u64>, place: u64) -> bool
     false
 }
 
-/// Writes a record at the end of a log, which it lengthens.
-fn write<C: Device>(
+/// Writes the record of a place at the end of a log, if it is kept. Gives how many records were written, and how many bytes.
+fn write<C: Device, I: Unordered<Value = u64>>(
     alloc: Global,
+    index: &I,
+    is_all: bool,
     into: &mut C,
     end: u64,
-    record: Record<'_>,
-) -> Result<(), Fault>
-    requires { Fits (entry_of record) }
+    place: u64,
+    whole: Record<'_>,
+) -> Result<(u64, u64), Fault>
+    requires { Fits (entry_of whole) }
+    ensures records { IfOk result (λ n. (n.0 ≤ 1)
+        × (n.0 ≡ length (kept_of (keeps I.Key.cmp (I.view index.now) is_all) place (entry_of whole.entry)))) }
+    ensures bytes { IfOk result (λ n. (n.1 ≤ size_of (entry_of whole.entry)) × (n.1 ≡ length (encoded_from end
+        (kept_of (keeps I.Key.cmp (I.view index.now) is_all) place (entry_of whole.entry))))) }
     ensures written { OnOk result (Changes (C.seen into.old) (C.seen into.new) (λ old new. end ≡ length old
-        → new ≡ old ++ encoded end (entry_of record))) }
+        → new ≡ old ++ encoded_from end
+        (kept_of (keeps I.Key.cmp (I.view index.now) is_all) place (entry_of whole.entry)))) }
     ensures begun { OnErr result (Changes (C.seen into.old) (C.seen into.new) (λ old new. end ≡ length old
-        → IsBegun (encoded end (entry_of record)) old new)) }
+        → IsBegun (encoded_from end
+        (kept_of (keeps I.Key.cmp (I.view index.now) is_all) place (entry_of whole.entry))) old new)) }
     ensures fault { IfErr result (λ f. (f ≡ Fault.Memory) ⊎ (f ≡ Fault.WriteFailed)) }
 {
-    let bytes = encode(alloc, end, record.key, record.value)?;
-    let written = into.write_at(end, bytes.as_slice());
-    written.map_err(|_| Fault::WriteFailed)
+    if !is_kept(index, is_all, place, whole.key) {
+        return Ok((0, 0));
+    }
+    let bytes = encode(alloc, end, whole.key, whole.value)?;
+    match into.write_at(end, bytes.as_slice()) {
+        Ok(()) => Ok((1, whole.length())),
+        Err(_) => Err(Fault::WriteFailed),
+    }
 }
 
 /// Copies the records of the first `len` bytes of a log that are kept to a fresh one, in their order, behind damage too: behind a head
@@ -165,13 +157,14 @@ pub(crate) fn copy<D: Device, C: Device, I: Unordered<Value = u64>>(
     from: &mut D,
     into: &mut C,
     len: u64,
-    kept: Kept<'_, I>,
+    index: &I,
+    is_all: bool,
 ) -> Result<Salvaged, Fault>
     ensures copied { OnOk result (Sees (D.seen from.new) (λ log. len ≤ length log
         → Changes (C.seen into.old) (C.seen into.new) (λ old new.
-        (old ≡ []) × (new ≡ log_of (copied kept (take len log)))))) }
+        (old ≡ []) × (new ≡ log_of (copied (keeps I.Key.cmp (I.view index.now) is_all) (take len log)))))) }
     ensures records { IfOk result (λ s. Sees (D.seen from.new) (λ log. len ≤ length log
-        → s.records ≡ length (copied kept (take len log)))) }
+        → s.records ≡ length (copied (keeps I.Key.cmp (I.view index.now) is_all) (take len log)))) }
     ensures left_out { IfOk result (λ s. Sees (D.seen from.new) (λ log. len ≤ length log
         → Sees (C.seen into.new) (λ bytes. s.left_out ≡ len - length bytes))) }
     ensures gaps { IfOk result (λ s. Sees (D.seen from.new) (λ log. len ≤ length log
@@ -179,7 +172,7 @@ pub(crate) fn copy<D: Device, C: Device, I: Unordered<Value = u64>>(
     // Where it fails, it has appended a front of that, and nothing to a log that had bytes.
     ensures begun { Sees (D.seen from.new) (λ log. len ≤ length log
         → Changes (C.seen into.old) (C.seen into.new) (λ old new.
-        (n : ℕ) × (new ≡ old ++ take n (log_of (copied kept (take len log)))))) }
+        (n : ℕ) × (new ≡ old ++ take n (log_of (copied (keeps I.Key.cmp (I.view index.now) is_all) (take len log)))))) }
     ensures stays { Changes (C.seen into.old) (C.seen into.new) (λ old new. 0 < length old → new ≡ old) }
     ensures read { IsRead D.seen D.may_leave from.old from.new }
     ensures fault { IfErr result (MaySalvage (C.seen into.new)) }
@@ -198,11 +191,9 @@ pub(crate) fn copy<D: Device, C: Device, I: Unordered<Value = u64>>(
         match decode(rest, position) {
             Reading::Complete(record) => {
                 note(&mut gaps, since, position)?;
-                if kept.keeps(position, record.key) {
-                    write(alloc, into, end, record)?;
-                    end = end.saturating_add(record.length());
-                    records += 1;
-                }
+                let written = write(alloc, index, is_all, into, end, position, record)?;
+                records += written.0;
+                end = end.saturating_add(written.1);
                 (position, since) = (next, next);
             }
             Reading::Damaged => {

@@ -17,7 +17,7 @@ mod replay;
 
 use crate::device::Device;
 use crate::record::encode;
-use crate::salvage::{Kept, Salvaged, copy};
+use crate::salvage::{Salvaged, copy};
 use find::{find, find_place, length_of, read_value};
 use key_index_flat::index::{self, Refused, Unordered, Values};
 use log::Log;
@@ -526,8 +526,7 @@ impl<D: Device, I: Unordered<Value = u64>> Store<D, I> {
         ensures fault { IfErr result (MaySalvage (C.seen into.new)) }
     {
         let len = length_of(&mut self.log.device)?;
-        let every: Kept<'_, I> = Kept { index: None };
-        copy(self.log.alloc, &mut self.log.device, into, len, every)
+        copy(self.log.alloc, &mut self.log.device, into, len, &self.index, true)
     }
 
     /// Copies the records that leave the map to a fresh log, in their order: of each key that has a value the newest one. It reads the
@@ -549,11 +548,8 @@ impl<D: Device, I: Unordered<Value = u64>> Store<D, I> {
         ensures read { IsRead D.seen D.may_leave self.old self.new }
         ensures fault { IfErr result (MaySalvage (C.seen into.new)) }
     {
-        let live = Kept {
-            index: Some(&self.index),
-        };
-        let end = self.log.end;
-        copy(self.log.alloc, &mut self.log.device, into, end, live)
+        let (alloc, end) = (self.log.alloc, self.log.end);
+        copy(alloc, &mut self.log.device, into, end, &self.index, false)
     }
 
     /// The device.
