@@ -2,7 +2,7 @@
 --     Indexes-Settles, Indexes-filed       the index of the longer log
 --     Settles-insert, KeepsLists-undone    a position that was put in is taken out again
 --     indexes_none, indexes_kept           an empty index, and one with the same lists
-use Rattle.std.proofs.Common.{◌≡◌, ℕ, ◌+◌, ◌-◌, ◌<◌, ◌≤◌, Bool, true, false, cond, not, T, List, [], ◌++◌, length, map, Option, Some, None, is_some, slice_set, All, refl, sym, ap, subst, ◌∙◌, arith}
+use Rattle.std.proofs.Common.{◌≡◌, ℕ, ◌+◌, ◌-◌, ◌<◌, ◌≤◌, Bool, true, false, cond, not, T, List, [], ◌++◌, length, map, Option, Some, None, is_some, slice_get, slice_set, All, refl, sym, ap, subst, ◌∙◌, arith}
 use Rattle.std.proofs.lemmas.Bool.{false≢true}
 use Rattle.std.proofs.lemmas.List.{length-map}
 use Rattle.std.proofs.lemmas.List.Elements.{All-weaker, All-set, All-nil}
@@ -23,12 +23,13 @@ use Rattle.key_index_flat.specs.View.{View, run_at, run_of, with_edit, with_prun
 use Rattle.key_index_flat.proofs.content.ContentLemmas.{item_count-with_list, list_at-with_list, Equal-is_eq, with_list-same, with_list-twice}
 use Rattle.key_index_flat.proofs.content.ChainLemmas.{None-is_some}
 use Rattle.key_index_flat.proofs.runs.ViewLemmas.{content-same_view, same_slot}
-use Rattle.key_index_flat.proofs.entries.EntryLemmas.{out_all, same}
-use Rattle.key_index_store.specs.Indexed.{Indexes, IsLive, IsPlace, IsUnder, KeepsLists, Settles, entry_at, parts_of, value_in}
+use Rattle.key_index_flat.proofs.entries.EntryLemmas.{none_apart, out_all, same}
+use Rattle.key_index_store.specs.Indexed.{Indexes, IsLatest, IsLive, IsPlace, IsUnder, KeepsLists, Settles, entry_at, key_at, parts_of, value_in}
 use Rattle.key_index_store.specs.Record.{Entry, Fits, Complete, bytes_of, encoded}
 use Rattle.key_index_store.specs.Stored.{Values, held_by, with_value}
+use Rattle.key_index_store.proofs.LatestLemmas.{All-both, apart_all, apart_out, apart_set, latest_last, latest_more}
 use Rattle.key_index_store.proofs.LogLemmas.{Spelled, entries_there, entry_there, held_more, live_more, nothing_held, read_last, spelled_more, spelled_none}
-use Rattle.key_index_store.proofs.SortedLemmas.{All-insert, insert-put, length-insert, map-insert, map-remove, map-slice_set, remove-insert, remove-without, set-put, without}
+use Rattle.key_index_store.proofs.SortedLemmas.{All-insert, insert-put, key-place, length-insert, map-insert, map-remove, map-slice_set, remove-insert, remove-without, set-put, without}
 
 pub some_mapped : {A B : Type 0} (f : A → B) (o : Option A) → is_some o ≡ is_some (option_map f o)
 some_mapped f None = refl
@@ -83,6 +84,26 @@ module _ {K : Type 0} {cmp : K → K → Ordering} (o : IsTotalOrder cmp) (exact
     sorted_in : (k : K) → T (is_sorted byte_cmp (map (entry_at longer) (run_at cmp s k)))
     sorted_in k = subst (λ es. T (is_sorted byte_cmp es)) (sym (map-entry_at_longer k)) (h.sorted k)
 
+    -- a record of another key stands behind them
+    latest_in : (k : K) → All (λ p. same (key_at longer p) r.key ≡ false → IsLatest longer p) (run_at cmp s k)
+    latest_in k = All-weaker (λ p. IsUnder log s.slot k p × IsLatest log p) (λ p. same (key_at longer p) r.key ≡ false → IsLatest longer p)
+        (λ p q other. latest_more log r Spelled-log fits p q.0.0
+        (ap (λ (e : List ℕ × List ℕ). same e.0 r.key) (sym (entry_there log (encoded (length log) r) p q.0.0)) ∙ other) q.1)
+        (run_at cmp s k) (All-both (IsUnder log s.slot k) (IsLatest log) (run_at cmp s k) (h.live k) (h.latest k))
+
+    latest_other : (k : K) → eq_by_cmp cmp k slot ≡ false → All (IsLatest longer) (run_at cmp s k)
+    latest_other k other = All-weaker (λ p. (same (key_at longer p) r.key ≡ false → IsLatest longer p) × Under k p) (IsLatest longer)
+        (λ p q. q.0 (apart p q.1))
+        (run_at cmp s k) (All-both (λ p. same (key_at longer p) r.key ≡ false → IsLatest longer p) (Under k) (run_at cmp s k) (latest_in k) (All-Under k))
+      where
+        apart : (p : ℕ) → Under k p → same (key_at longer p) r.key ≡ false
+        apart p under =
+            elim (same (key_at longer p) r.key) as (λ b. same (key_at longer p) r.key ≡ b → b ≡ false) [
+              | true ↦ λ e. absurd (false≢true (sym other
+                  ∙ ap (λ q. eq_by_cmp cmp q slot) (sym under.2 ∙ ap s.slot (exact_bytes (key_at longer p) r.key (Equal-is_eq _ e))) ∙ ap is_eq (tied_itself o slot)))
+              | false ↦ λ e. refl
+            ] refl
+
     found_in : (a : List ℕ) → value_in longer a (run_of cmp s a) ≡ get (held_by log) a
     found_in a = ap (find byte_cmp a) (map-entry_at_longer (s.slot a)) ∙ h.found a
 
@@ -90,7 +111,7 @@ module _ {K : Type 0} {cmp : K → K → Ordering} (o : IsTotalOrder cmp) (exact
     held_by-longer = held_more log r Spelled-log fits
 
     -- another list at the index key
-    module _ (l : List ℕ) (content : t.content ≡ with_list cmp s.content slot l) (slots : t.slot ≡ s.slot) (live : All (Under slot) l) (sorted : T (is_sorted byte_cmp (map (entry_at longer) l)))
+    module _ (l : List ℕ) (content : t.content ≡ with_list cmp s.content slot l) (slots : t.slot ≡ s.slot) (live : All (Under slot) l) (latest : All (IsLatest longer) l) (sorted : T (is_sorted byte_cmp (map (entry_at longer) l)))
         (one : (a : List ℕ) → value_in longer a l ≡ cond (same a r.key) r.value (value_in longer a run)) (counted : item_count t.content ≡ len (with_value (held_by log) r.key r.value)) where
       run_at-edited : (k : K) → run_at cmp t k ≡ cond (eq_by_cmp cmp k slot) l (run_at cmp s k)
       run_at-edited k = ap (λ c. list_at cmp c k) content ∙ list_at-with_list o s.content slot l k
@@ -101,6 +122,13 @@ module _ {K : Type 0} {cmp : K → K → Ordering} (o : IsTotalOrder cmp) (exact
             | true ↦ λ e. subst (λ q. All (Under q) l) (sym (exact k slot (Equal-is_eq _ e))) live
             | false ↦ λ e. All-Under k
           ] refl))
+
+      latest_after : (k : K) → All (IsLatest longer) (run_at cmp t k)
+      latest_after k = subst (All (IsLatest longer)) (sym (run_at-edited k))
+          (elim (eq_by_cmp cmp k slot) as (λ b. eq_by_cmp cmp k slot ≡ b → All (IsLatest longer) (cond b l (run_at cmp s k))) [
+            | true ↦ λ e. latest
+            | false ↦ λ e. latest_other k e
+          ] refl)
 
       sorted_after : (k : K) → T (is_sorted byte_cmp (map (entry_at longer) (run_at cmp t k)))
       sorted_after k = subst (λ m. T (is_sorted byte_cmp (map (entry_at longer) m))) (sym (run_at-edited k))
@@ -132,6 +160,7 @@ module _ {K : Type 0} {cmp : K → K → Ordering} (o : IsTotalOrder cmp) (exact
         fit = (spelled_more log r Spelled-log fits).fit;
         live = live_after;
         sorted = sorted_after;
+        latest = latest_after;
         found = found_after;
         counted = counted ∙ ap (λ m. len m) (sym held_by-longer);
       }
@@ -155,6 +184,15 @@ module _ {K : Type 0} {cmp : K → K → Ordering} (o : IsTotalOrder cmp) (exact
     length-es : length es ≡ length run
     length-es = length-map run (entry_at longer)
 
+    -- where no position has the key, and where one has it
+    latest_all : is_some (value_in longer r.key run) ≡ false → All (IsLatest longer) run
+    latest_all absent =
+        apart_all (IsLatest longer) (entry_at longer) r.key run (none_apart (entry_at longer) r.key run (None-is_some (value_in longer r.key run) absent)) (latest_in slot)
+
+    key_there : (place : ℕ) → IsPlace (entry_at longer) r.key run place true → option_map (λ (e : List ℕ × List ℕ). e.0) (slice_get es place) ≡ Some r.key
+    key_there place at =
+        ap (λ i. option_map (λ (e : List ℕ × List ℕ). e.0) (slice_get es i)) at.below ∙ key-place nat_list_cmp_total exact_bytes es r.key (sorted_in slot) (sym at.held)
+
     held_key : is_some (value_in longer r.key run) ≡ is_some (get (held_by log) r.key)
     held_key = ap is_some (found_in r.key)
 
@@ -168,6 +206,9 @@ module _ {K : Type 0} {cmp : K → K → Ordering} (o : IsTotalOrder cmp) (exact
       last_under =
           (last_live, subst (λ (e : List ℕ × List ℕ). IsBytes e.0) (sym entry_at-last) bytes, ap (λ (e : List ℕ × List ℕ). s.slot e.0) entry_at-last)
 
+      last_latest : IsLatest longer last
+      last_latest = latest_last log r Spelled-log fits (sym has) (ap (λ (e : List ℕ × List ℕ). e.0) entry_at-last)
+
       len_with : len (with_value (held_by log) r.key r.value) ≡ cond (is_some (value_in longer r.key run)) (len (held_by log)) (len (held_by log) + 1)
       len_with =
           ap (λ x. len (with_value (held_by log) r.key x)) (some_bytes r.value has) ∙ len-insert nat_list_cmp_total (held_by log) r.key (bytes_of r.value)
@@ -179,22 +220,24 @@ module _ {K : Type 0} {cmp : K → K → Ordering} (o : IsTotalOrder cmp) (exact
       counted_put false l counts long more = omega (arith, counts, long, more, length-es, h.counted)
 
       -- a list with the entry put in
-      settled_put : (l : List ℕ) → t.content ≡ with_list cmp s.content slot l → t.slot ≡ s.slot → All (Under slot) l → map (entry_at longer) l ≡ put byte_cmp r.key (bytes_of r.value) es → Indexes cmp longer t
-      settled_put l content slots live entries =
+      settled_put : (l : List ℕ) → t.content ≡ with_list cmp s.content slot l → t.slot ≡ s.slot → All (Under slot) l → All (IsLatest longer) l → map (entry_at longer) l ≡ put byte_cmp r.key (bytes_of r.value) es → Indexes cmp longer t
+      settled_put l content slots live latest entries =
           let counts = ap (λ c. item_count c + length run) content ∙ item_count-with_list o s.content slot l hs in
           let long = sym (length-map l (entry_at longer)) ∙ ap (λ m. length m) entries ∙ length-put byte_cmp nat_list_cmp_total r.key (bytes_of r.value) es (sorted_in slot) in
-          Indexes-longer l content slots live (subst (λ m. T (is_sorted byte_cmp m)) (sym entries) (is_sorted-put byte_cmp nat_list_cmp_total r.key (bytes_of r.value) es (sorted_in slot)))
+          Indexes-longer l content slots live latest (subst (λ m. T (is_sorted byte_cmp m)) (sym entries) (is_sorted-put byte_cmp nat_list_cmp_total r.key (bytes_of r.value) es (sorted_in slot)))
           (λ a. ap (find byte_cmp a) entries ∙ find-put byte_cmp nat_list_cmp_total a r.key (bytes_of r.value) es ∙ ap (λ x. cond (same a r.key) x (find byte_cmp a es)) (sym (some_bytes r.value has)))
           (counted_put (is_some (find byte_cmp r.key es)) l counts long len_with)
 
       settled_new : (place : ℕ) → IsPlace (entry_at longer) r.key run place false → t ≡ with_edit cmp s slot (λ l. insert l place last) → Indexes cmp longer t
       settled_new place at is =
           settled_put (insert run place last) (content-same_view is) (same_slot is) (All-insert (Under slot) run place last last_under (All-Under slot))
+          (All-insert (IsLatest longer) run place last last_latest (latest_all (sym at.held)))
           (map-insert (entry_at longer) run place last ∙ (λ i. insert es (at.below i) (entry_at-last i)) ∙ insert-put nat_list_cmp_total exact_bytes es r.key (bytes_of r.value) (sorted_in slot) (sym at.held))
 
       settled_held : (place : ℕ) → IsPlace (entry_at longer) r.key run place true → t ≡ with_edit cmp s slot (λ l. slice_set l place last) → Indexes cmp longer t
       settled_held place at is =
           settled_put (slice_set run place last) (content-same_view is) (same_slot is) (All-set (Under slot) run place last last_under (All-Under slot))
+          (apart_set (IsLatest longer) (entry_at longer) r.key run place last (sorted_in slot) (key_there place at) (latest_in slot) last_latest)
           (map-slice_set (entry_at longer) run place last ∙ (λ i. slice_set es (at.below i) (entry_at-last i)) ∙ set-put nat_list_cmp_total exact_bytes es r.key (bytes_of r.value) (sorted_in slot) (sym at.held))
 
     module _ (has : false ≡ is_some r.value) where
@@ -219,6 +262,7 @@ module _ {K : Type 0} {cmp : K → K → Ordering} (o : IsTotalOrder cmp) (exact
           let long = sym (length-map l (entry_at longer)) ∙ ap (λ m. length m) entries in
           let less = len_without ∙ ap (λ b. cond b (len (held_by log) - 1) (len (held_by log))) (sym at.held) in
           Indexes-longer l content (same_slot is) (out_all (Under slot) run place (All-Under slot))
+          (apart_out (IsLatest longer) (entry_at longer) r.key run place (sorted_in slot) (key_there place at) (latest_in slot))
           (subst (λ m. T (is_sorted byte_cmp m)) (sym entries) (is_sorted-where_key byte_cmp (λ x. not (same r.key x)) es (sorted_in slot)))
           (λ a. ap (find byte_cmp a) entries ∙ find-where_key byte_cmp (λ x. not (same r.key x)) a (λ x e. ap (λ k. not (same r.key k)) (sym (exact_bytes a x e))) es
               ∙ ap (λ b. cond (not b) (find byte_cmp a es) None) ((eq_by_cmp_equiv nat_list_cmp_total).symm r.key a) ∙ none_or (same a r.key) (find byte_cmp a es))
@@ -229,7 +273,7 @@ module _ {K : Type 0} {cmp : K → K → Ordering} (o : IsTotalOrder cmp) (exact
           let none = None-is_some (value_in longer r.key run) absent in
           let content : t.content ≡ with_list cmp s.content slot run = content-same_view is ∙ sym (with_list-same o exact s.content slot hs) in
           let less = len_without ∙ ap (λ x. cond (is_some x) (len (held_by log) - 1) (len (held_by log))) none in
-          Indexes-longer run content (same_slot is) (All-Under slot) (sorted_in slot)
+          Indexes-longer run content (same_slot is) (All-Under slot) (latest_all absent) (sorted_in slot)
           (λ a. elim (same a r.key) as (λ b. same a r.key ≡ b → value_in longer a run ≡ cond b r.value (value_in longer a run)) [
             | true ↦ λ e. ap (λ k. value_in longer k run) (exact_bytes a r.key (Equal-is_eq _ e)) ∙ none ∙ sym (None-is_some r.value (sym has))
             | false ↦ λ e. refl
@@ -295,6 +339,7 @@ module _ {K : Type 0} (cmp : K → K → Ordering) where
     fit = spelled_none.fit;
     live = λ k. subst (λ c. All (IsUnder [] s.slot k) (list_at cmp c k)) (sym none) (All-nil (IsUnder [] s.slot k));
     sorted = λ k. subst (λ c. T (is_sorted byte_cmp (map (entry_at []) (list_at cmp c k)))) (sym none) tt;
+    latest = λ k. subst (λ c. All (IsLatest []) (list_at cmp c k)) (sym none) (All-nil (IsLatest []));
     found = λ a. ap (λ c. value_in [] a (list_at cmp c (s.slot a))) none ∙ sym (ap (λ m. get m a) held_none ∙ get-empty byte_cmp a);
     counted = ap item_count none ∙ sym (ap (λ m. len m) held_none ∙ len-empty byte_cmp (List ℕ));
   }
@@ -308,6 +353,7 @@ module _ {K : Type 0} (cmp : K → K → Ordering) where
     fit = h.fit;
     live = λ k. subst (λ (p : Content K ℕ × (List ℕ → K)). All (IsUnder log p.1 k) (list_at cmp p.0 k)) (sym (pair same)) (h.live k);
     sorted = λ k. subst (λ c. T (is_sorted byte_cmp (map (entry_at log) (list_at cmp c k)))) (sym same.0) (h.sorted k);
+    latest = λ k. subst (λ c. All (IsLatest log) (list_at cmp c k)) (sym same.0) (h.latest k);
     found = λ a. (λ i. value_in log a (list_at cmp (same.0 i) (same.1 i a))) ∙ h.found a;
     counted = ap item_count same.0 ∙ h.counted;
   }

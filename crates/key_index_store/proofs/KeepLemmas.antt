@@ -28,14 +28,14 @@ use Rattle.key_index_store.specs.declared.store.Tail.TheVariants as tail
 use Rattle.key_index_store.proofs.IndexLemmas.{Indexes-filed, indexes_kept}
 use Rattle.key_index_store.proofs.LogLemmas.{held_more, spelled_records}
 use Rattle.key_index_store.proofs.RecordLemmas.{begun_torn, length-encoded}
-use Rattle.key_index_store.proofs.SalvageLemmas.{none_behind, salvaged_split, spelled}
+use Rattle.key_index_store.proofs.SalvageLemmas.{every, none_behind, salvaged_split, spelled}
 use Rattle.key_index_store.proofs.StoreLemmas.{remove_absent}
 
 module _ {K : Type 0} (cmp : K → K → Ordering) (log : List ℕ) (s : View K ℕ) (end : ℕ) (t : Tail) (h : Keeps cmp log s end t) where
   front_end : length (log_of (records_of (take end log))) ≡ end
   front_end = ap (λ l. length l) h.indexed.spelled ∙ omega (arith, length-take end log, h.within)
 
-  kept_records : records_of log ≡ records_of (take end log)
+  pub kept_records : records_of log ≡ records_of (take end log)
   kept_records =
       ap records_of (sym (take-append-drop end log) ∙ ap (λ l. l ++ drop end log) (sym h.indexed.spelled))
       ∙ spelled_records (records_of (take end log)) (drop end log) h.indexed.fit (subst (λ n. Stops (reading n (drop end log))) (sym front_end) h.stops)
@@ -57,7 +57,7 @@ module _ {K : Type 0} (cmp : K → K → Ordering) (log : List ℕ) (s : View K 
   pub undamaged_spelled : ¬ (tail_in log ≡ tail.Damaged) → spelled log ≡ without_tail log
   undamaged_spelled undamaged =
       let stops = subst (λ n. Stops (reading n (drop n log))) (sym kept_end) h.stops in
-      ap log_of (salvaged_split log ∙ ap (λ l. records_of log ++ l) (none_behind log (end_of log) stops undamaged) ∙ append-nil (records_of log))
+      ap log_of (salvaged_split log ∙ ap (λ l. records_of log ++ l) (none_behind every log (end_of log) stops undamaged) ∙ append-nil (records_of log))
       ∙ ap log_of kept_records ∙ h.indexed.spelled ∙ sym kept_front
 
   take_twice : take end (take end log) ≡ take end log

@@ -1,13 +1,14 @@
 pub mod ChecksumLemmas
-pub mod CompactLemmas
 pub mod CrashLemmas
 pub mod HeaderLemmas
 pub mod HistoryLemmas
 pub mod IndexLemmas
 pub mod KeepLemmas
+pub mod LatestLemmas
 pub mod LogLemmas
 pub mod NameLemmas
 pub mod NearestLemmas
+pub mod NewestLemmas
 pub mod ReadLemmas
 pub mod RecordLemmas
 pub mod ReplayLemmas

@@ -1,6 +1,7 @@
 -- An index of positions in a log. A position is live where the log has a complete record with a value.
 --     entry_at, key_at      the key and the value of the record at a position
 --     IsLive, IsUnder       a position is live;  and stands under the index key of its full key, which is bytes
+--     IsLatest              no later record has the key of the one at a position
 --     value_in              the value of the first record in a list of positions that has a key
 --     IsPlace, IsIn         the place of a key in a list, by the entries of its positions;  it is there, or may be put in there
 --     IsRun                 a list of live positions in the order of their keys
@@ -12,13 +13,14 @@
 --     Keeps                 what a store keeps of its log: where the complete records end, what stands behind them, and the index of them
 --     Settles               after the position of a key's newest record was filed: in the place of the older one, or as a new one
 --     KeepsLists            no list is another
-use Rattle.std.specs.Prelude.{◌≡◌, ◌-◌, ◌≤◌, ◌<◌, T, ℕ, Bool, true, false, List, [], map, length, drop, take, insert, remove, slice_set, Option, Some, None, is_some, All}
+use Rattle.std.specs.Prelude.{◌≡◌, ◌-◌, ◌≤◌, ◌<◌, T, ℕ, Bool, true, false, List, [], ◌∷◌, ◌++◌, map, length, drop, take, insert, remove, slice_set, Option, Some, None, is_some, All}
 use Rattle.std.specs.FinMap.{find, get, is_sorted, len}
 use Rattle.std.specs.declared.cmp.Ordering.{Ordering}
 use Rattle.key_index_flat.specs.FullKeys.{IsBytes, byte_cmp}
 use Rattle.key_index_flat.specs.Neighbours.{entries_below}
 use Rattle.key_index_flat.specs.View.{View, items_in, run_at, run_of, with_edit, with_pruned}
-use Rattle.key_index_store.specs.Record.{Fits, Outcome, Complete, Torn, Damaged, Stops, bytes_of, log_of, reading}
+use Rattle.key_index_store.specs.Salvage.{has_key}
+use Rattle.key_index_store.specs.Record.{Entry, Fits, Outcome, Complete, Torn, Damaged, Stops, bytes_of, log_of, reading}
 use Rattle.key_index_store.specs.Stored.{held_by, records_of, tail_of}
 use Rattle.key_index_store.specs.declared.store.find.Front.{Front}
 use Rattle.key_index_store.specs.declared.store.Tail.{Tail}
@@ -62,6 +64,17 @@ module _ (log : List ℕ) where
   abbrev pub IsFront : Front → Type 0
   IsFront f = f.bytes.items ≡ take (length f.bytes.items) (drop f.position log)
 
+  -- the place of a record that has a value, and whose key no later one has
+  pub record IsLatest (p : ℕ) : Type 0 where
+    pub before : List Entry
+    pub here : Entry
+    pub after : List Entry
+    pub split : records_of log ≡ before ++ here ∷ after
+    pub place : p ≡ length (log_of before)
+    pub key : key_at p ≡ here.key
+    pub valued : is_some here.value ≡ true
+    pub last : has_key here.key after ≡ false
+
 abbrev pub IsTail : Tail → ℕ → List ℕ → Type 0
 IsTail tail.Nothing place rest = rest ≡ []
 IsTail tail.Torn place rest = ¬ (tail_of place rest ≡ tail.Damaged)
@@ -73,6 +86,7 @@ module _ {K : Type 0} (cmp : K → K → Ordering) where
     pub fit : All Fits (records_of log)
     pub live : (k : K) → All (IsUnder log s.slot k) (run_at cmp s k)
     pub sorted : (k : K) → T (is_sorted byte_cmp (map (entry_at log) (run_at cmp s k)))
+    pub latest : (k : K) → All (IsLatest log) (run_at cmp s k)
     pub found : (key : List ℕ) → value_in log key (run_of cmp s key) ≡ get (held_by log) key
     pub counted : items_in s ≡ len (held_by log)
 

@@ -3,12 +3,18 @@
 --                   further on; the end where that is nearer
 --     places_in     all of them, from the first byte on
 --     salvaged      the records that stand there, in order
+--     copied, keeps  those of them that are kept;  all, or those that an index has
+--     newest        of records one behind the other, those that leave the map: what a compaction copies
 --     gaps_in       the bytes between them: where they stand, how many they are, and the key of the record that stood there,
 --                   where its head and its key read
 --     HaveHeads, places_of  bytes that have the heads of records which were written one behind the other;  where these were written
 --     MaySalvage    why it may be refused, by the bytes of the log that was to be fresh
-use Rattle.std.specs.Prelude.{◌≡◌, ℕ, zero, suc, ◌+◌, ◌-◌, ◌<◌, ◌++◌, min, List, [], ◌∷◌, length, take, drop, Option, Some, None, nat_lt, option_map, if◌then◌else◌}
-use Rattle.std.specs.List.{flat_map}
+use Rattle.std.specs.Prelude.{◌≡◌, ◌==◌, ◌&&◌, ◌||◌, ℕ, zero, suc, ◌+◌, ◌-◌, ◌<◌, ◌++◌, Bool, true, false, not, is_some, min, List, [], ◌∷◌, length, take, drop, Option, Some, None, nat_lt, option_map, if◌then◌else◌}
+use Rattle.std.specs.List.{filter, flat_map, list_any}
+use Rattle.std.specs.Ordering.{eq_by_cmp}
+use Rattle.std.specs.declared.cmp.Ordering.{Ordering}
+use Rattle.key_index_flat.specs.FullKeys.{byte_cmp}
+use Rattle.key_index_flat.specs.View.{View, run_of}
 use Rattle.key_index_store.specs.declared.salvage.LeftOut.{LeftOut}
 use Rattle.key_index_store.specs.declared.store.Fault.{Fault}
 use Rattle.key_index_store.specs.declared.store.Fault.TheVariants as fault
@@ -41,6 +47,33 @@ found_at log places = flat_map (λ place. found (reading place (drop place log))
 
 abbrev pub salvaged : List ℕ → List Entry
 salvaged log = found_at log (places_in log)
+
+-- those of the records at a place that are kept, by the place and their keys
+abbrev pub kept : (ℕ → List ℕ → Bool) → ℕ → List Entry → List Entry
+kept keeps place rs = filter (λ r. keeps place r.key) rs
+
+abbrev pub kept_of : (ℕ → List ℕ → Bool) → ℕ → Entry → List Entry
+kept_of keeps place r = kept keeps place (r ∷ [])
+
+abbrev pub copied : (ℕ → List ℕ → Bool) → List ℕ → List Entry
+copied keeps log = flat_map (λ place. kept keeps place (found (reading place (drop place log)))) (places_in log)
+
+abbrev pub is_listed : ℕ → List ℕ → Bool
+is_listed place positions = list_any (λ p. p == place) positions
+
+-- all of them, or those whose positions an index has in the lists of their keys
+abbrev pub keeps : {K : Type 0} → (K → K → Ordering) → View K ℕ → Bool → ℕ → List ℕ → Bool
+keeps cmp s is_all place key = is_all || is_listed place (run_of cmp s key)
+
+-- ---- what a compaction copies
+
+abbrev pub has_key : List ℕ → List Entry → Bool
+has_key key rs = list_any (λ r. eq_by_cmp byte_cmp key r.key) rs
+
+-- the records that leave the map: they have a value, and no later one has their key
+abbrev pub newest : List Entry → List Entry
+newest [] = []
+newest (r ∷ rs) = if is_some r.value && not (has_key r.key rs) then r ∷ newest rs else newest rs
 
 pub record Gap : Type 0 where
   pub place : ℕ

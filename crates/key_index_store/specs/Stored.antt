@@ -5,15 +5,12 @@
 --     end_of              how many bytes they take
 --     entry_after, entry_from, entry_before  the entry with the least key strictly above one, at least one, and with the greatest strictly below
 --     gap_in              of a key without a value both of them
---     entries_behind      the entries with keys above one, or all where none is given
 --     in_bytes            an entry that the code has
 --     without_tail, with_record  without what stands behind the complete records;  and with one more record
 --     IsBeforeOrAfter, LeavesBeforeOrAfter  a log of the same map as before a record was appended, or as after it;  what a crash leaves
 --     IsRefused           after a call was refused that would have appended a record
 --     MayRead, MayRefuse  why a call may be refused
 --     HasChanged, HasRefused  after a call that appends a record where one is wanted
---     compacted           a log that has a record of each entry of a map, in the order of the keys, and nothing else
---     EntriesFit, IsCopy  each entry of a map has a record;  that log, which leaves the map
 --     tail_in             what stands behind the last complete record
 use Rattle.std.specs.Prelude.{◌≡◌, ◌⊎◌, ◌+◌, ◌-◌, ◌^◌, ◌==◌, ◌&&◌, ◌||◌, ℕ, zero, suc, Bool, true, List, [], ◌∷◌, ◌++◌, length, map, take, drop, Option, Some, None, is_some, if◌then◌else◌, Vec}
 use Rattle.std.specs.FinMap.{FinMap, empty, entries, get, insert, len, remove}
@@ -76,10 +73,6 @@ entry_before m key = last_entry (entries_below byte_cmp (entries m) key)
 abbrev pub gap_in : Values → List ℕ → Option (Option (List ℕ × List ℕ) × Option (List ℕ × List ℕ))
 gap_in m key = if is_some (get m key) then None else Some (entry_before m key, entry_after m key)
 
-abbrev pub entries_behind : Option (List ℕ) → Values → List (List ℕ × List ℕ)
-entries_behind None m = entries m
-entries_behind (Some key) m = entries_above byte_cmp (entries m) key
-
 abbrev pub in_bytes : Option (Vec ℕ Global × Vec ℕ Global) → Option (List ℕ × List ℕ)
 in_bytes o = option_map (λ e. (e.0.items, e.1.items)) o
 
@@ -108,16 +101,6 @@ IsRefused old r new = (held_by new ≡ held_by old) × ((new ≡ old) ⊎ IsBegu
 -- the record of an entry
 abbrev pub put_of : List ℕ × List ℕ → Entry
 put_of e = record { key = e.0; value = Some e.1 }
-
-abbrev pub compacted : Values → List ℕ
-compacted m = log_of (map put_of (entries m))
-
--- each entry has a record
-abbrev pub EntriesFit : Values → Type 0
-EntriesFit m = (key value : List ℕ) → get m key ≡ Some value → Fits (put_of (key, value))
-
-abbrev pub IsCopy : Values → List ℕ → Type 0
-IsCopy m log = (log ≡ compacted m) × (held_by log ≡ m)
 
 -- ---- what stands behind the records
 

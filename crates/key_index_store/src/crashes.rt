@@ -18,7 +18,7 @@ use crate::memory_device::MemoryDevice;
 use crate::memory_folder::MemoryFolder;
 use crate::place::{Fresh, Place};
 use crate::store::{Fault, Store};
-use key_index_flat::index::{OrderedLists, Unordered};
+use key_index_flat::index::Unordered;
 use std::alloc::Global;
 
 /// The store on what a crash leaves that loses the last `lost` bytes, but none that is synced.
@@ -219,7 +219,8 @@ pub fn two_sessions_unsynced<I: Unordered<Value = u64> + Drop>(
 
 /// A store goes on over a copy in the place of its file, whose name is on the disk, and a crash comes in the call or behind it, whether it
 /// was refused or not: at the name is the old file or the fresh one.
-pub fn moved_in_place<D: Device, C: Device + Drop, I: OrderedLists<Value = u64> + Drop>(
+pub fn moved_in_place<D: Device, C: Device + Drop, I: Unordered<Value = u64> + Drop>(
+    alloc: Global,
     mut place: Place<MemoryFolder>,
     store: &mut Store<D, I>,
     fresh: Fresh,
@@ -233,7 +234,7 @@ pub fn moved_in_place<D: Device, C: Device + Drop, I: OrderedLists<Value = u64> 
     requires empty { (I.view index).content ≡ [] }
     ensures { (result ≡ Some place.file) ⊎ (result ≡ Some fresh.file) }
 {
-    let _moved = place.move_to(store, fresh, disk, index);
+    let _moved = place.move_to(alloc, store, fresh, disk, index);
     let (folder, name) = place.into_parts();
     folder.crash(lost).file(name.as_str())
 }

@@ -1,18 +1,18 @@
 //! The name of a store's file, and fresh files that take a name.
-ghost use Rattle.std.specs.Prelude.{◌≡◌, ◌≢◌, ◌↔◌, ◌<◌, ℕ, List, Some, true, [], length, string_bytes, IsErr, IsTrue, IfOk, OnOk, OnErr};
-ghost use Rattle.key_index_store.specs.Device.{Changes, IsDurable, IsRead, Sees};
+ghost use Rattle.std.specs.Prelude.{◌≡◌, ◌≢◌, ◌↔◌, ◌<◌, ℕ, List, Some, Ok, true, [], length, string_bytes, IsErr, IsTrue, IfOk, OnOk, OnErr};
+ghost use Rattle.key_index_store.specs.Device.{Changes, IsDurable, IsRead, Sees, Stays};
 ghost use Rattle.key_index_store.specs.Names.{is_made, known, noted};
 ghost use Rattle.key_index_store.specs.Places.{IsFresh, IsGiven, IsOnDisk, IsSame, LeavesEither, LeavesNoMore, SparesOthers};
 ghost use Rattle.key_index_store.specs.Record.{log_of};
-ghost use Rattle.key_index_store.specs.Salvage.{salvaged};
-ghost use Rattle.key_index_store.specs.Stored.{held_by};
+ghost use Rattle.key_index_store.specs.Salvage.{newest, salvaged};
+ghost use Rattle.key_index_store.specs.Stored.{held_by, records_of};
 ghost use Rattle.key_index_store.specs.declared.folder.NameCall.TheVariants.{Made, Synced};
 
 use crate::device::Device;
 use crate::folder::{Folder, Identity};
 use crate::salvage::Salvaged;
 use crate::store::{Fault, Store};
-use key_index_flat::index::{OrderedLists, Unordered};
+use key_index_flat::index::Unordered;
 use std::alloc::{AllocError, Global};
 use std::marker::Model;
 
@@ -322,33 +322,31 @@ impl<F: Folder> Place<F> {
         give_up(&mut self.folder, fresh);
     }
 
-    /// Copies a store to a fresh file, which gets its name once it is whole and on the disk. A refused copy gets none.
-    fn copy<D: Device, C: Device + Drop, I: OrderedLists<Value = u64> + Drop>(
+    /// Gives a fresh file the name that it takes, once what was copied to it is on the disk. A refused copy gets none.
+    fn finish<C: Device>(
         &mut self,
-        store: &mut Store<D, I>,
         fresh: &Fresh,
-        disk: C,
-        index: I,
-    ) -> Result<Store<C, I>, NameFault<F::Error>>
-        requires fresh { IsFresh self.old.calls fresh.now }
-        requires empty { (I.view index).content ≡ [] }
-        ensures held { IfOk result (λ copy. Sees (D.seen store.new) (λ log. Sees (C.seen copy) (λ bytes.
-            held_by bytes ≡ held_by log))) }
-        ensures durable { IfOk result (λ copy. IsDurable (C.seen copy) (C.may_leave copy)) }
-        ensures given { OnOk result (IsGiven fresh.now self.new.calls) }
+        copied: Result<Salvaged, Fault>,
+        into: &mut C,
+    ) -> Result<Salvaged, NameFault<F::Error>>
+        requires { IsFresh self.old.calls fresh.now }
+        ensures copied { IfOk result (λ s. copied ≡ Ok s) }
+        ensures seen { C.seen into.new ≡ C.seen into.old }
+        ensures durable { OnOk result (IsDurable (C.seen into.new) (C.may_leave into.new)) }
+        ensures on_disk { OnOk result (IsOnDisk self.new.calls (string_bytes fresh.now.target) fresh.now.file) }
         ensures either { LeavesEither fresh.now self.old.calls self.new.calls }
-        ensures read { IsRead D.seen D.may_leave store.old store.new }
         ensures same { IsSame self.old self.new }
     {
-        let mut copy = match store.compact(disk, index) {
-            Ok(copy) => copy,
-            Err(refused) => return self.refuse(fresh, refused.fault),
+        let copied = match copied {
+            Ok(copied) => copied,
+            Err(fault) => return self.refuse(fresh, fault),
         };
-        if let Err(fault) = copy.sync() {
-            return self.refuse(fresh, fault);
+        if into.sync().is_err() {
+            return self.refuse(fresh, Fault::WriteFailed);
         }
-        self.give(fresh, copy.device())?;
-        Ok(copy)
+        self.give(fresh, into)?;
+        sync(&mut self.folder, fresh.target.as_str())?;
+        Ok(copied)
     }
 
     /// Removes a fresh file, and refuses.
@@ -360,51 +358,6 @@ impl<F: Folder> Place<F> {
     {
         self.give_up(fresh);
         Err(NameFault::Store(fault))
-    }
-
-    /// Copies a store to a fresh file at another name.
-    pub fn copy_to<D: Device, C: Device + Drop, I: OrderedLists<Value = u64> + Drop>(
-        &mut self,
-        store: &mut Store<D, I>,
-        fresh: &Fresh,
-        disk: C,
-        index: I,
-    ) -> Result<(), NameFault<F::Error>>
-        requires fresh { IsFresh self.old.calls fresh.now }
-        requires empty { (I.view index).content ≡ [] }
-        ensures on_disk { OnOk result (IsOnDisk self.new.calls (string_bytes fresh.now.target) fresh.now.file) }
-        ensures either { LeavesEither fresh.now self.old.calls self.new.calls }
-        ensures read { IsRead D.seen D.may_leave store.old store.new }
-        ensures same { IsSame self.old self.new }
-    {
-        let _copy = self.copy(store, fresh, disk, index)?;
-        sync(&mut self.folder, fresh.target.as_str())
-    }
-
-    /// Copies a store to a fresh file at another name, or in the place of its own, and goes on there. `sync` brings the name to the disk.
-    pub fn move_to<D: Device, C: Device + Drop, I: OrderedLists<Value = u64> + Drop>(
-        &mut self,
-        store: &mut Store<D, I>,
-        fresh: Fresh,
-        disk: C,
-        index: I,
-    ) -> Result<Store<C, I>, NameFault<F::Error>>
-        requires fresh { IsFresh self.old.calls fresh }
-        requires empty { (I.view index).content ≡ [] }
-        ensures held { IfOk result (λ copy. Sees (D.seen store.new) (λ log. Sees (C.seen copy) (λ bytes.
-            held_by bytes ≡ held_by log))) }
-        ensures durable { IfOk result (λ copy. IsDurable (C.seen copy) (C.may_leave copy)) }
-        ensures moved { OnOk result ((self.new.name ≡ string_bytes fresh.target) × (self.new.file ≡ fresh.file)) }
-        ensures given { OnOk result (IsGiven fresh self.new.calls) }
-        ensures stayed { OnErr result (IsSame self.old self.new) }
-        ensures either { LeavesEither fresh self.old.calls self.new.calls }
-        ensures read { IsRead D.seen D.may_leave store.old store.new }
-    {
-        let copy = self.copy(store, &fresh, disk, index)?;
-        self.name = fresh.target;
-        self.file = fresh.file;
-        self.is_on_disk = false;
-        Ok(copy)
     }
 
     /// Salvages what reads of a store to a fresh file at another name.
@@ -423,15 +376,91 @@ impl<F: Folder> Place<F> {
         ensures read { IsRead D.seen D.may_leave store.old store.new }
         ensures same { IsSame self.old self.new }
     {
-        let salvaged = match store.salvage(into) {
-            Ok(salvaged) => salvaged,
-            Err(fault) => return self.refuse(fresh, fault),
+        let salvaged = store.salvage(into);
+        self.finish(fresh, salvaged, into)
+    }
+
+    /// Copies the records that leave the map of a store to a fresh file at another name.
+    pub fn copy_to<D: Device, C: Device, I: Unordered<Value = u64>>(
+        &mut self,
+        store: &mut Store<D, I>,
+        fresh: &Fresh,
+        into: &mut C,
+    ) -> Result<Salvaged, NameFault<F::Error>>
+        requires fresh { IsFresh self.old.calls fresh.now }
+        ensures copied { OnOk result (Sees (D.seen store.new) (λ log. Changes (C.seen into.old) (C.seen into.new)
+            (λ old new. (old ≡ []) × (new ≡ log_of (newest (records_of log)))))) }
+        ensures durable { OnOk result (IsDurable (C.seen into.new) (C.may_leave into.new)) }
+        ensures on_disk { OnOk result (IsOnDisk self.new.calls (string_bytes fresh.now.target) fresh.now.file) }
+        ensures either { LeavesEither fresh.now self.old.calls self.new.calls }
+        ensures read { IsRead D.seen D.may_leave store.old store.new }
+        ensures same { IsSame self.old self.new }
+    {
+        let copied = store.compact(into);
+        self.finish(fresh, copied, into)
+    }
+
+    /// Opens what was copied to a fresh file, which gets the name that it takes once it is on the disk. A refused copy gets none.
+    fn open_copy<C: Device + Drop, I: Unordered<Value = u64> + Drop>(
+        &mut self,
+        alloc: Global,
+        fresh: &Fresh,
+        into: C,
+        index: I,
+    ) -> Result<Store<C, I>, NameFault<F::Error>>
+        requires fresh { IsFresh self.old.calls fresh.now }
+        requires empty { (I.view index).content ≡ [] }
+        ensures read { IfOk result (λ copy. Stays (C.seen into) (C.seen copy)) }
+        ensures durable { IfOk result (λ copy. IsDurable (C.seen copy) (C.may_leave copy)) }
+        ensures given { OnOk result (IsGiven fresh.now self.new.calls) }
+        ensures either { LeavesEither fresh.now self.old.calls self.new.calls }
+        ensures same { IsSame self.old self.new }
+    {
+        let mut copy = match Store::open(alloc, into, index) {
+            Ok(copy) => copy,
+            Err(refused) => return self.refuse(fresh, refused.fault),
         };
-        if into.sync().is_err() {
-            return self.refuse(fresh, Fault::WriteFailed);
+        if let Err(fault) = copy.sync() {
+            return self.refuse(fresh, fault);
         }
-        self.give(fresh, into)?;
-        sync(&mut self.folder, fresh.target.as_str())?;
-        Ok(salvaged)
+        self.give(fresh, copy.device())?;
+        Ok(copy)
+    }
+
+    /// Copies a store to a fresh file at another name, or in the place of its own, and goes on there. `sync` brings the name to the disk.
+    /// A store of which some records no longer read goes on without them at another name, and not in its own place.
+    pub fn move_to<D: Device, C: Device + Drop, I: Unordered<Value = u64> + Drop>(
+        &mut self,
+        alloc: Global,
+        store: &mut Store<D, I>,
+        fresh: Fresh,
+        into: C,
+        index: I,
+    ) -> Result<(Store<C, I>, Salvaged), NameFault<F::Error>>
+        requires fresh { IsFresh self.old.calls fresh }
+        requires empty { (I.view index).content ≡ [] }
+        ensures held { IfOk result (λ r. Sees (D.seen store.new) (λ log. Sees (C.seen r.0) (λ bytes.
+            held_by bytes ≡ held_by log))) }
+        ensures durable { IfOk result (λ r. IsDurable (C.seen r.0) (C.may_leave r.0)) }
+        ensures moved { OnOk result ((self.new.name ≡ string_bytes fresh.target) × (self.new.file ≡ fresh.file)) }
+        ensures given { OnOk result (IsGiven fresh self.new.calls) }
+        ensures stayed { OnErr result (IsSame self.old self.new) }
+        ensures either { LeavesEither fresh self.old.calls self.new.calls }
+        ensures read { IsRead D.seen D.may_leave store.old store.new }
+    {
+        let mut into = into;
+        let copied = match store.compact(&mut into) {
+            Ok(copied) => copied,
+            Err(fault) => return self.refuse(&fresh, fault),
+        };
+        let is_own = fresh.target.as_str() == self.name.as_str();
+        if is_own && copied.records != store.len() as u64 {
+            return self.refuse(&fresh, Fault::Damaged);
+        }
+        let copy = self.open_copy(alloc, &fresh, into, index)?;
+        self.name = fresh.target;
+        self.file = fresh.file;
+        self.is_on_disk = false;
+        Ok((copy, copied))
     }
 }

@@ -1,28 +1,28 @@
-//! The records of a damaged log, copied to a fresh one.
-ghost use Rattle.std.specs.Prelude.{◌≡◌, ◌⊎◌, ◌<◌, ◌≤◌, ◌+◌, ◌-◌, ℕ, List, [], ◌++◌, length, map, min, take, drop, IfOk, IfErr, OnOk};
-ghost use Rattle.key_index_store.specs.Device.{Changes, IsRead, Sees};
-ghost use Rattle.key_index_store.specs.Record.{key_in, log_of};
-ghost use Rattle.key_index_store.specs.Salvage.{Gap, MaySalvage, gap_of, gaps_at, gaps_in, salvaged, step, unknown};
-ghost use Rattle.key_index_store.specs.Stored.{records_of};
+//! The records of a log, or those that leave its map, copied to a fresh one, behind damage too.
+ghost use Rattle.std.specs.Prelude.{◌≡◌, ◌⊎◌, ◌<◌, ◌≤◌, ◌+◌, ◌-◌, ℕ, List, [], ◌++◌, length, map, min, take, drop, IfOk, IfErr, OnErr, OnOk};
+ghost use Rattle.key_index_store.specs.Device.{Changes, IsBegun, IsRead, Sees};
+ghost use Rattle.key_index_store.specs.Record.{Fits, encoded_from, entry_of, key_in, log_of, size_of};
+ghost use Rattle.key_index_store.specs.Salvage.{Gap, MaySalvage, copied, gap_of, gaps_at, gaps_in, is_listed, keeps, kept_of, step, unknown};
 
 use crate::device::Device;
-use crate::record::{Reading, decode, encode, has_head, key_in, record_length};
+use crate::record::{Reading, Record, decode, encode, has_head, key_in, record_length};
 use crate::store::Fault;
 use crate::store::find::{length_of, read_front};
+use key_index_flat::index::{Unordered, Values};
 use std::alloc::{AllocError, Global};
 
-/// What a salvage copied, and what it left out.
+/// What was copied of a log, and what wasn't.
 #[derive(Debug, Drop, PartialEq, Eq)]
 pub struct Salvaged {
-    /// How many records were copied, those of deletions too.
+    /// How many records were copied.
     pub records: u64,
-    /// How many bytes of the log are no record's.
+    /// How many bytes of the log were not.
     pub left_out: u64,
-    /// Where they are, in their order.
+    /// Where those of them are that are no record's, in their order.
     pub gaps: Vec<LeftOut>,
 }
 
-/// Bytes of a log that a salvage left out.
+/// Bytes of a log that are no record's.
 #[derive(Debug, Drop, PartialEq, Eq)]
 pub struct LeftOut {
     /// Where they stand in the log.
@@ -97,34 +97,89 @@ fn leave_out(
     Ok(next)
 }
 
-/// Copies each whole record of a log to a fresh one, in their order, behind damage too: behind a head that reads it goes on behind
-/// the whole record, and looks byte by byte only where none does. So what a value holds is not taken for a record while its own
-/// record's head reads.
-pub fn salvage<D: Device, C: Device>(
+/// Whether the record of a key at a place is copied: each one is, or those whose positions an index has.
+fn is_kept<I: Unordered<Value = u64>>(index: &I, is_all: bool, place: u64, key: &[u8]) -> bool
+    ensures { result ≡ keeps I.Key.cmp (I.view index.now) is_all place key.now }
+{
+    is_all || is_listed(index.get(key), place)
+}
+
+/// Whether a list has a position.
+fn is_listed(positions: Values<'_, u64>, place: u64) -> bool
+    ensures { result ≡ is_listed place positions.entry }
+{
+    for position in positions {
+        if *position == place {
+            return true;
+        }
+    }
+    false
+}
+
+/// Writes the record of a place at the end of a log, if it is kept. Gives how many records were written, and how many bytes.
+fn write<C: Device, I: Unordered<Value = u64>>(
+    alloc: Global,
+    index: &I,
+    is_all: bool,
+    into: &mut C,
+    end: u64,
+    place: u64,
+    whole: Record<'_>,
+) -> Result<(u64, u64), Fault>
+    requires { Fits (entry_of whole) }
+    ensures records { IfOk result (λ n. (n.0 ≤ 1)
+        × (n.0 ≡ length (kept_of (keeps I.Key.cmp (I.view index.now) is_all) place (entry_of whole.entry)))) }
+    ensures bytes { IfOk result (λ n. (n.1 ≤ size_of (entry_of whole.entry)) × (n.1 ≡ length (encoded_from end
+        (kept_of (keeps I.Key.cmp (I.view index.now) is_all) place (entry_of whole.entry))))) }
+    ensures written { OnOk result (Changes (C.seen into.old) (C.seen into.new) (λ old new. end ≡ length old
+        → new ≡ old ++ encoded_from end
+        (kept_of (keeps I.Key.cmp (I.view index.now) is_all) place (entry_of whole.entry)))) }
+    ensures begun { OnErr result (Changes (C.seen into.old) (C.seen into.new) (λ old new. end ≡ length old
+        → IsBegun (encoded_from end
+        (kept_of (keeps I.Key.cmp (I.view index.now) is_all) place (entry_of whole.entry))) old new)) }
+    ensures fault { IfErr result (λ f. (f ≡ Fault.Memory) ⊎ (f ≡ Fault.WriteFailed)) }
+{
+    if !is_kept(index, is_all, place, whole.key) {
+        return Ok((0, 0));
+    }
+    let bytes = encode(alloc, end, whole.key, whole.value)?;
+    match into.write_at(end, bytes.as_slice()) {
+        Ok(()) => Ok((1, whole.length())),
+        Err(_) => Err(Fault::WriteFailed),
+    }
+}
+
+/// Copies the records of the first `len` bytes of a log that are kept to a fresh one, in their order, behind damage too: behind a head
+/// that reads it goes on behind the whole record, and looks byte by byte only where none does. So what a value holds is not taken for a
+/// record while its own record's head reads.
+pub(crate) fn copy<D: Device, C: Device, I: Unordered<Value = u64>>(
     alloc: Global,
     from: &mut D,
     into: &mut C,
+    len: u64,
+    index: &I,
+    is_all: bool,
 ) -> Result<Salvaged, Fault>
-    ensures copied { OnOk result (Sees (D.seen from.new) (λ log. Changes (C.seen into.old) (C.seen into.new)
-        (λ old new. (old ≡ []) × (new ≡ log_of (salvaged log))))) }
-    // The records in front of any damage come first.
-    ensures front { OnOk result (Sees (D.seen from.new) (λ log. Sees (C.seen into.new) (λ bytes.
-        (more : List ℕ) × (bytes ≡ log_of (records_of log) ++ more)))) }
-    ensures records { IfOk result (λ s. Sees (D.seen from.new) (λ log. s.records ≡ length (salvaged log))) }
-    ensures left_out { IfOk result (λ s. Sees (D.seen from.new) (λ log. Sees (C.seen into.new) (λ bytes.
-        s.left_out ≡ length log - length bytes))) }
-    ensures gaps { IfOk result (λ s. Sees (D.seen from.new) (λ log. map gap_of s.gaps.items ≡ gaps_in log)) }
+    ensures copied { OnOk result (Sees (D.seen from.new) (λ log. len ≤ length log
+        → Changes (C.seen into.old) (C.seen into.new) (λ old new.
+        (old ≡ []) × (new ≡ log_of (copied (keeps I.Key.cmp (I.view index.now) is_all) (take len log)))))) }
+    ensures records { IfOk result (λ s. Sees (D.seen from.new) (λ log. len ≤ length log
+        → s.records ≡ length (copied (keeps I.Key.cmp (I.view index.now) is_all) (take len log)))) }
+    ensures left_out { IfOk result (λ s. Sees (D.seen from.new) (λ log. len ≤ length log
+        → Sees (C.seen into.new) (λ bytes. s.left_out ≡ len - length bytes))) }
+    ensures gaps { IfOk result (λ s. Sees (D.seen from.new) (λ log. len ≤ length log
+        → map gap_of s.gaps.items ≡ gaps_in (take len log))) }
     // Where it fails, it has appended a front of that, and nothing to a log that had bytes.
-    ensures begun { Sees (D.seen from.new) (λ log. Changes (C.seen into.old) (C.seen into.new) (λ old new.
-        (n : ℕ) × (new ≡ old ++ take n (log_of (salvaged log))))) }
-    ensures kept { Changes (C.seen into.old) (C.seen into.new) (λ old new. 0 < length old → new ≡ old) }
+    ensures begun { Sees (D.seen from.new) (λ log. len ≤ length log
+        → Changes (C.seen into.old) (C.seen into.new) (λ old new.
+        (n : ℕ) × (new ≡ old ++ take n (log_of (copied (keeps I.Key.cmp (I.view index.now) is_all) (take len log)))))) }
+    ensures stays { Changes (C.seen into.old) (C.seen into.new) (λ old new. 0 < length old → new ≡ old) }
     ensures read { IsRead D.seen D.may_leave from.old from.new }
     ensures fault { IfErr result (MaySalvage (C.seen into.new)) }
 {
     if length_of(into)? != 0 {
         return Err(Fault::NotEmpty);
     }
-    let len = length_of(from)?;
     let (mut start, mut position, mut end, mut records) = (0, 0, 0, 0);
     let (mut since, mut gaps) = (0, Vec::new(alloc));
     let mut block = read_front(alloc, from, start, len, true)?;
@@ -136,11 +191,9 @@ pub fn salvage<D: Device, C: Device>(
         match decode(rest, position) {
             Reading::Complete(record) => {
                 note(&mut gaps, since, position)?;
-                let bytes = encode(alloc, end, record.key, record.value)?;
-                let written = into.write_at(end, bytes.as_slice());
-                written.map_err(|_| Fault::WriteFailed)?;
-                end = end.saturating_add(record.length());
-                records += 1;
+                let written = write(alloc, index, is_all, into, end, position, record)?;
+                records += written.0;
+                end = end.saturating_add(written.1);
                 (position, since) = (next, next);
             }
             Reading::Damaged => {

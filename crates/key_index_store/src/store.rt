@@ -7,10 +7,9 @@ ghost use Rattle.key_index_flat.specs.View.{growth_fault_in, run_of, with_edit, 
 ghost use Rattle.key_index_store.specs.Device.{Adds, AddsAtMost, Changes, IsBegun, IsKnown, IsRead, NoMore, Sees, Stays};
 ghost use Rattle.key_index_store.specs.Indexed.{Indexes, IsIn, IsRun, Keeps, KeepsLists, Settles};
 ghost use Rattle.key_index_store.specs.Record.{Complete, Entry, Fits, IsFound, IsWithin, Stops, encoded, entry_of, log_of, outcome_of, reading, size_of};
-ghost use Rattle.key_index_store.specs.Salvage.{HaveHeads, MaySalvage, found_at, gap_of, gaps_in, places_of, salvaged};
-ghost use Rattle.key_index_store.specs.Stored.{HasChanged, HasRefused, HasRoom, LeavesSame, IsRefused, LeavesBeforeOrAfter, MayRead, MayRefuse, refusal_of, end_of, held_by, is_zeros, tail_in, tail_of, with_record, with_value, without_tail};
+ghost use Rattle.key_index_store.specs.Salvage.{HaveHeads, MaySalvage, found_at, gap_of, gaps_in, newest, places_of, salvaged};
+ghost use Rattle.key_index_store.specs.Stored.{records_of, HasChanged, HasRefused, HasRoom, LeavesSame, IsRefused, LeavesBeforeOrAfter, MayRead, MayRefuse, refusal_of, end_of, held_by, is_zeros, tail_in, tail_of, with_record, with_value, without_tail};
 
-mod compact;
 pub(crate) mod find;
 mod log;
 mod neighbours;
@@ -18,7 +17,7 @@ mod replay;
 
 use crate::device::Device;
 use crate::record::encode;
-use crate::salvage::{Salvaged, salvage};
+use crate::salvage::{Salvaged, copy};
 use find::{InList, find, find_place, known, length_of, read_value};
 use key_index_flat::index::{self, Refused, Unordered};
 use log::Log;
@@ -504,7 +503,31 @@ impl<D: Device, I: Unordered<Value = u64>> Store<D, I> {
         ensures read { IsRead D.seen D.may_leave self.old self.new }
         ensures fault { IfErr result (MaySalvage (C.seen into.new)) }
     {
-        salvage(self.log.alloc, &mut self.log.device, into)
+        let len = length_of(&mut self.log.device)?;
+        copy(self.log.alloc, &mut self.log.device, into, len, &self.index, true)
+    }
+
+    /// Copies the records that leave the map to a fresh log, in their order: of each key that has a value the newest one. It reads the
+    /// log once, from its first record to its last, and goes on behind damage, as a salvage does: a record that was read when the log
+    /// was opened and no longer reads is left out, so where fewer records are told than there are keys, something is missing.
+    pub fn compact<C: Device>(&mut self, into: &mut C) -> Result<Salvaged, Fault>
+        ensures copied { OnOk result (Sees (D.seen self.new) (λ log. Changes (C.seen into.old) (C.seen into.new)
+            (λ old new. (old ≡ []) × (new ≡ log_of (newest (records_of log)))))) }
+        ensures held { OnOk result (Sees (D.seen self.new) (λ log. Sees (C.seen into.new) (λ bytes.
+            held_by bytes ≡ held_by log))) }
+        ensures records { IfOk result (λ s. Sees (D.seen self.new) (λ log. s.records ≡ map.len (held_by log))) }
+        ensures left_out { IfOk result (λ s. Sees (D.seen self.new) (λ log. Sees (C.seen into.new) (λ bytes.
+            s.left_out ≡ end_of log - length bytes))) }
+        ensures gaps { IfOk result (λ s. Sees (D.seen self.new) (λ log. s.gaps.items ≡ [])) }
+        // Where it fails, it has appended a front of that, and nothing to a log that had bytes.
+        ensures begun { Sees (D.seen self.new) (λ log. Changes (C.seen into.old) (C.seen into.new) (λ old new.
+            (n : ℕ) × (new ≡ old ++ take n (log_of (newest (records_of log)))))) }
+        ensures kept { Changes (C.seen into.old) (C.seen into.new) (λ old new. 0 < length old → new ≡ old) }
+        ensures read { IsRead D.seen D.may_leave self.old self.new }
+        ensures fault { IfErr result (MaySalvage (C.seen into.new)) }
+    {
+        let (alloc, end) = (self.log.alloc, self.log.end);
+        copy(alloc, &mut self.log.device, into, end, &self.index, false)
     }
 
     /// The device.

@@ -37,6 +37,9 @@ pub const COMMANDS: &str =
   count            count N
   sync             ok: what was written is on the disk
   cut              ok: bytes behind the last whole record are cut off
+  dead             dead N: how many bytes a compaction frees
+  compact [FILE2]  ok: FILE has the newest record of each key alone; or FILE2 has, and FILE stays
+  move FILE2       the same, and the session goes on over FILE2
   salvage FILE2    salvaged N records, M bytes left out: FILE2 has each whole record of FILE
   help             these lines
   quit             the session ends
@@ -49,9 +52,9 @@ With an order:
   last             the same, of the greatest key
   scan K N         entry K V for each of N keys from K on, and then end
   scan-prefix K N  the same, of keys that begin with K
-  dead             dead N: how many bytes a compaction frees
-  compact [FILE2]  ok: FILE has one record of each key; or FILE2 has, and FILE stays
-  move FILE2       the same, and the session goes on over FILE2";
+
+Where records don't read any more, dead, compact FILE2 and move FILE2 go on without them, and tell
+gap N M for each M bytes at the place N of FILE, and the status is 1.";
 
 /// What is said behind the commands.
 pub const STATUS: &str = "

@@ -29,7 +29,10 @@ pub enum Command {
     Sync,
     Cut,
     Help,
-    /// With the name of a file.
+    Dead,
+    /// With the name of a file; without one, in place.
+    Compact(Option<String>),
+    Move(String),
     Salvage(String),
     InOrder(InOrder),
 }
@@ -46,10 +49,6 @@ pub enum InOrder {
     Scan(Vec<u8>, u64),
     /// The same, of keys that begin with that one.
     ScanPrefix(Vec<u8>, u64),
-    Dead,
-    /// With the name of a file; without one, in place.
-    Compact(Option<String>),
-    Move(String),
 }
 
 /// A word of a line, or the text between its quotes.
@@ -208,6 +207,10 @@ pub fn parse(alloc: Global, line: &[u8]) -> Result<Command, Refusal> {
         "cut" => Command::Cut,
         "help" => Command::Help,
         "salvage" => Command::Salvage(words.name()?),
+        "dead" => Command::Dead,
+        "compact" if words.rest.is_empty() => Command::Compact(None),
+        "compact" => Command::Compact(Some(words.name()?)),
+        "move" => Command::Move(words.name()?),
         name => Command::InOrder(in_order(name, &mut words)?),
     };
     if words.rest.is_empty() {
@@ -227,10 +230,6 @@ fn in_order(name: &str, words: &mut Words<'_>) -> Result<InOrder, Refusal> {
         "last" => InOrder::Last,
         "scan" => InOrder::Scan(words.bytes(K)?, words.number()?),
         "scan-prefix" => InOrder::ScanPrefix(words.bytes(K)?, words.number()?),
-        "dead" => InOrder::Dead,
-        "compact" if words.rest.is_empty() => InOrder::Compact(None),
-        "compact" => InOrder::Compact(Some(words.name()?)),
-        "move" => InOrder::Move(words.name()?),
         _ => return Err(Refusal::NoCommand),
     };
     Ok(command)

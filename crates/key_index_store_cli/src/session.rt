@@ -11,7 +11,7 @@ use crate::order::Order;
 use key_index_flat::index::Factory;
 use key_index_store::file_folder::FileFolder;
 use key_index_store::place::Place;
-use key_index_store::salvage::LeftOut;
+use key_index_store::salvage::{LeftOut, Salvaged};
 use key_index_store::store::{Fault, Store, Tail};
 use std::io;
 use std::io::{BufRead, BufReader, BufWriter, Stdin, Stdout, Write};
@@ -306,6 +306,74 @@ impl<I: Factory<Translator = T, Value = u64> + Drop, T: Copy> Session<'_, I> {
         }
     }
 
+    /// Writes which bytes don't read, where a copy lacks a key for that.
+    fn write_gaps(&mut self, copied: &Salvaged, output: &mut Output) -> Result<(), Refusal> {
+        if copied.records == self.store.len() as u64 {
+            return Ok(());
+        }
+        for gap in &copied.gaps {
+            self.context.write_gap(gap.place, gap.length, output)?;
+        }
+        Ok(())
+    }
+
+    /// How many bytes of the file a compaction leaves out.
+    fn dead(&mut self, output: &mut Output) -> Answered {
+        let (_, behind) = self.tail()?;
+        let mut nothing = Counter {
+            from: u64::MAX,
+            count: 0,
+        };
+        let copied = self.store.compact(&mut nothing)?;
+        self.write_gaps(&copied, output)?;
+        Ok(Answer::Number("dead", copied.left_out.saturating_add(behind)))
+    }
+
+    /// Copies the store to a fresh file at a path.
+    fn copy_to(&mut self, target: &str, output: &mut Output) -> Answered {
+        let (rt, place) = (self.context.rt, &mut self.context.place);
+        let (fresh, mut disk, _empty) = make(rt, place, Some(target))?;
+        match place.copy_to(&mut self.store, &fresh, &mut disk) {
+            Ok(copied) => {
+                self.write_gaps(&copied, output)?;
+                Ok(DONE)
+            }
+            Err(fault) => Err(refusal_of(rt, target, fault)),
+        }
+    }
+
+    /// Goes on over a copy, at a path or in the place of the file.
+    fn move_to(&mut self, target: Option<&str>, output: &mut Output) -> Answered
+        requires { I.makes }
+    {
+        let (rt, place) = (self.context.rt, &mut self.context.place);
+        let Ok(index) = I::new(rt.alloc(), self.translator) else {
+            return Err(Refusal::For("memory"));
+        };
+        let (fresh, disk, _empty) = make(rt, place, target)?;
+        match place.move_to(rt.alloc(), &mut self.store, fresh, disk, index) {
+            Ok((copy, copied)) => {
+                self.write_gaps(&copied, output)?;
+                self.store = copy;
+                self.context.is_read_only = false;
+                self.context.is_changed = true;
+                self.sync()
+            }
+            Err(fault) => Err(refusal_of(rt, place.name(), fault)),
+        }
+    }
+
+    /// Puts a copy in the place of the file. A file with damage is kept, since a copy has nothing that stands behind it.
+    fn compact(&mut self, output: &mut Output) -> Answered
+        requires { I.makes }
+    {
+        self.context.check_writable()?;
+        if self.store.tail()? == Tail::Damaged {
+            return Err(Refusal::For("damaged"));
+        }
+        self.move_to(None, output)
+    }
+
     fn answer<O: Order<I, T>>(&mut self, command: Command, output: &mut Output) -> Answered
         requires { I.makes }
     {
@@ -319,6 +387,10 @@ impl<I: Factory<Translator = T, Value = u64> + Drop, T: Copy> Session<'_, I> {
             Command::Cut => self.cut(),
             Command::Help => Ok(Answer::Word(COMMANDS)),
             Command::Salvage(target) => self.salvage(target.as_str()),
+            Command::Dead => self.dead(output),
+            Command::Compact(None) => self.compact(output),
+            Command::Compact(Some(target)) => self.copy_to(target.as_str(), output),
+            Command::Move(target) => self.move_to(Some(target.as_str()), output),
             Command::InOrder(command) => O::answer(self, command, output),
         }
     }

@@ -1,43 +1,45 @@
-use Rattle.std.proofs.Common.{inl, inr, sym, ap, ◌∙◌, arith}
-use Rattle.std.proofs.lemmas.List.{nil_from_length}
-use Rattle.key_index_store.proofs.CompactLemmas.{kept_fit}
+use Rattle.std.proofs.Common.{List, ℕ, length, take, sym, ap, ◌∙◌, ◌++◌, ◌-◌}
+use Rattle.std.proofs.lemmas.Result.{IfOk-weaker, on_ok_weaker}
+use Rattle.key_index_store.specs.Record.{log_of}
+use Rattle.key_index_store.specs.Salvage.{gap_of}
+use Rattle.key_index_store.specs.Stored.{held_by}
+use Rattle.key_index_store.proofs.KeepLemmas.{kept_end}
+use Rattle.key_index_store.proofs.NewestLemmas.{kept_count, kept_gaps, kept_newest, map-nil, newest_log}
 use Rattle.key_index_store.proofs.store.Store.compact.Goals as goal
 
-pub returns-in-Ok-copy_to-clause-compacted : goal.returns-in-Ok-copy_to-clause-compacted
-returns-in-Ok-copy_to-clause-compacted g c = λ log seen new now.
-    let keeps = c.self.invariant.0 log (ap g.D.Device.seen c.self.view_is ∙ c.in-Ok-copy_to.ensures.read.stays log seen) in
-    let fit = kept_fit g.I.Key.Ord.cmp log (g.I.Runs.view c.self.inside.index) c.self.inside.log.end c.self.inside.tail keeps in
-    let told = c.in-Ok-copy_to.ensures.copied log seen fit new now in
-    let old = ap g.C.Device.seen (sym c.without_records-copy.ensures) ∙ told.1 in
-    let count = c.in-Ok-eq0.ensures.told told.0 old in
-    let none = nil_from_length told.0 (omega (arith, count, c.in-Ok-eq0.field-0-test)) in
-    (told.0, c.length_of.ensures.read.stays told.0 old, (none, (told.2 none).0))
+pub returns-clause-copied : goal.returns-clause-copied
+returns-clause-copied g c = on_ok_weaker c.copy.result (λ copied log seen new now.
+    let h = c.self.invariant.0 log (c.copy.ensures.read.stays log seen) in
+    let made = copied log seen h.within new now in
+    (made.0, made.1, (made.2.0, made.2.1 ∙ ap log_of (kept_newest g.I.Key.Ord.cmp log (g.I.Runs.view c.self.inside.index) c.self.inside.log.end c.self.inside.tail h)))) c.copy.ensures.copied
 
-pub returns-in-Ok-copy_to-clause-held : goal.returns-in-Ok-copy_to-clause-held
-returns-in-Ok-copy_to-clause-held g c = λ log seen new now.
-    let keeps = c.self.invariant.0 log (ap g.D.Device.seen c.self.view_is ∙ c.in-Ok-copy_to.ensures.read.stays log seen) in
-    let fit = kept_fit g.I.Key.Ord.cmp log (g.I.Runs.view c.self.inside.index) c.self.inside.log.end c.self.inside.tail keeps in
-    let told = c.in-Ok-copy_to.ensures.copied log seen fit new now in
-    let count = c.in-Ok-eq0.ensures.told told.0 (ap g.C.Device.seen (sym c.without_records-copy.ensures) ∙ told.1) in
-    (told.2 (nil_from_length told.0 (omega (arith, count, c.in-Ok-eq0.field-0-test)))).1
+pub returns-clause-held : goal.returns-clause-held
+returns-clause-held g c = on_ok_weaker c.copy.result (λ copied log seen new now.
+    let h = c.self.invariant.0 log (c.copy.ensures.read.stays log seen) in
+    let made = copied log seen h.within new now in
+    ap held_by (made.2.1 ∙ ap log_of (kept_newest g.I.Key.Ord.cmp log (g.I.Runs.view c.self.inside.index) c.self.inside.log.end c.self.inside.tail h))
+    ∙ newest_log g.I.Key.Ord.cmp log (g.I.Runs.view c.self.inside.index) c.self.inside.log.end c.self.inside.tail h) c.copy.ensures.copied
 
-pub returns-in-Err-copy_to-clause-fault : goal.returns-in-Err-copy_to-clause-fault
-returns-in-Err-copy_to-clause-fault g c = λ log seen new now.
-    let keeps = c.self.invariant.0 log (ap g.D.Device.seen c.self.view_is ∙ c.in-Err-copy_to.ensures.read.stays log seen) in
-    let fit = kept_fit g.I.Key.Ord.cmp log (g.I.Runs.view c.self.inside.index) c.self.inside.log.end c.self.inside.tail keeps in
-    let told = c.in-Err-copy_to.ensures.fault log seen fit new (ap g.C.Device.seen (sym c.into_device.ensures) ∙ now) in
-    let count = c.in-Ok-eq0.ensures.told told.0 (ap g.C.Device.seen (sym c.without_records-copy.ensures) ∙ told.1) in
-    elim (told.2 (nil_from_length told.0 (omega (arith, count, c.in-Ok-eq0.field-0-test)))) [
-      | inl read ↦ inl read
-      | inr write ↦ inr (inl write)
-    ]
+pub returns-clause-records : goal.returns-clause-records
+returns-clause-records g c = IfOk-weaker c.copy.result _ _ (λ x records log seen.
+    let h = c.self.invariant.0 log (c.copy.ensures.read.stays log seen) in
+    records log seen h.within ∙ kept_count g.I.Key.Ord.cmp log (g.I.Runs.view c.self.inside.index) c.self.inside.log.end c.self.inside.tail h) c.copy.ensures.records
 
-pub returns-in-Err-copy_to-clause-kept : goal.returns-in-Err-copy_to-clause-kept
-returns-in-Err-copy_to-clause-kept g c = λ new now.
-    let told = c.in-Err-copy_to.ensures.known new (ap g.C.Device.seen (sym c.into_device.ensures) ∙ now) in
-    let old = ap g.C.Device.seen (sym c.without_records-copy.ensures) ∙ told.1 in
-    let count = c.in-Ok-eq0.ensures.told told.0 old in (
-      told.0,
-      c.length_of.ensures.read.stays told.0 old,
-      λ some. absurd (omega (arith, some, count, c.in-Ok-eq0.field-0-test)),
-    )
+pub returns-clause-left_out : goal.returns-clause-left_out
+returns-clause-left_out g c = IfOk-weaker c.copy.result _ _ (λ x left_out log seen bytes now.
+    let h = c.self.invariant.0 log (c.copy.ensures.read.stays log seen) in
+    left_out log seen h.within bytes now
+    ∙ ap (λ n. n - length bytes) (sym (kept_end g.I.Key.Ord.cmp log (g.I.Runs.view c.self.inside.index) c.self.inside.log.end c.self.inside.tail h))) c.copy.ensures.left_out
+
+pub returns-clause-gaps : goal.returns-clause-gaps
+returns-clause-gaps g c = IfOk-weaker c.copy.result _ _ (λ x gaps log seen.
+    let h = c.self.invariant.0 log (c.copy.ensures.read.stays log seen) in
+    map-nil gap_of x.gaps.items (gaps log seen h.within
+    ∙ kept_gaps g.I.Key.Ord.cmp log (g.I.Runs.view c.self.inside.index) c.self.inside.log.end c.self.inside.tail h)) c.copy.ensures.gaps
+
+pub returns-clause-begun : goal.returns-clause-begun
+returns-clause-begun g c = λ log seen new now.
+    let h = c.self.invariant.0 log (c.copy.ensures.read.stays log seen) in
+    let part = c.copy.ensures.begun log seen h.within new now in
+    (part.0, part.1, (part.2.0, part.2.1
+    ∙ ap (λ rs. part.0 ++ take part.2.0 (log_of rs)) (kept_newest g.I.Key.Ord.cmp log (g.I.Runs.view c.self.inside.index) c.self.inside.log.end c.self.inside.tail h)))
