@@ -8,6 +8,7 @@ from cases.store import (
     HEADER,
     KINDS,
     SUM,
+    VALUE,
     Sessions,
     answers,
     case_of_store,
@@ -18,12 +19,14 @@ from cases.store import (
     fresh_files,
     gaps,
     grown,
+    headed,
     opened,
     reading,
     record,
     run,
     shared_out,
     step,
+    summed,
     told_of,
     unchanged,
     word,
@@ -296,6 +299,23 @@ def has_long_records_changed_beneath(file, kind):
             beneath = Beneath(log, turned(log, 8 * (place + off) + numbers.next() % 8))
             compare("the gaps of the model", beneath.gaps, [f"gap {place} {length}"])
             beneath.check(file, kind, keys=[key])
+
+
+@case_of_store(*KINDS)
+def has_a_head_in_a_value_beneath(file, kind):
+    """Of a record whose value holds a head that was made for the place where it stands, of a record of this length: where the
+    own head is damaged, what that one spans is not looked at, and all of it is told as a gap, nothing taken out of it."""
+    first, behind = (b"a", b"1"), [(bytes([number]), b"behind") for number in range(4)]
+    place = len(file_of(first, (b"b", b""))) - SUM.size - len(HEADER)
+    spans = [0, 7, len(record(0, *behind[0])), 3 * len(record(0, *behind[0])), 2**20]
+    for span, bit in product(spans, shared_out(kind, range(8 * (HEAD.size + SUM.size)))):
+        log = file_of(first, (b"b", headed(place, VALUE, 0, span) + summed(b"")), *behind)
+        beneath = Beneath(log, turned(log, 8 * len(file_of(first)) + bit))
+        told = sum(int(gap.split()[2]) for gap in beneath.gaps)
+        compare("the bytes of the copy, and of the gaps", told + len(copy_of(beneath.live)), len(log))
+        compare("what is copied", beneath.live.items() <= dict([first, *behind]).items(), True)
+        beneath.check(file, kind, keys=[b"b"])
+        beneath.check_in_place(file, kind)
 
 
 @case_of_store(*KINDS)
