@@ -97,6 +97,17 @@ def file_of(*entries):
     return grown(HEADER, *entries)
 
 
+def copy_of(entries):
+    """The bytes of a file to which these are copied, where nothing was: without any entry it has no header."""
+    return file_of(*entries.items()) if entries else b""
+
+
+def dead_in(log, entries):
+    """How many bytes behind the header of a file are no part of the records of these entries."""
+    live = sum(FRAME + len(key) + len(value) for key, value in entries.items())
+    return max(0, len(log) - len(HEADER) - live)
+
+
 def is_summed(part):
     """Whether bytes end in the checksum of those in front."""
     return len(part) >= SUM.size and part == summed(part[: -SUM.size])
@@ -127,7 +138,8 @@ def reading(log, place):
 
 
 def opened(log):
-    """The entries of a file's bytes, where its last whole record ends, and what stands behind it."""
+    """The entries of a file's bytes in the order of their records, where its last whole record ends, and what stands behind
+    it."""
     entries, end, tail = replayed(bytes(log))
     return dict(entries), end, tail
 
@@ -142,9 +154,9 @@ def replayed(log):
         if isinstance(found, str):
             return entries, end, found if any(log[end:]) else TORN
         key, value, length = found
-        entries[key] = value
-        if value is None:
-            del entries[key]
+        entries.pop(key, None)
+        if value is not None:
+            entries[key] = value
         end += length
     return entries, end, NOTHING
 
@@ -282,7 +294,8 @@ def unchanged(file, log):
 
 
 class Sessions:
-    """Sessions over a file, and what they have to answer by the entries that were put and not deleted."""
+    """Sessions over a file, and what they have to answer by the entries that were put and not deleted, in the order in which
+    they were put last."""
 
     def __init__(self, file, kind, *flags, log=None):
         """Over a file that holds these bytes; without any, there is none."""
@@ -322,6 +335,7 @@ class Sessions:
         if self.tail == DAMAGED:
             self.ask(f"put {word(key)} {word(value)}", "refused damaged")
             return
+        self.entries.pop(key, None)
         self.entries[key] = value
         self.log(key, value)
         self.ask(f"put {word(key)} {word(value)}", "ok")
@@ -378,13 +392,11 @@ class Sessions:
         self.ask(f"scan-prefix {word(key)} {count}", [*map(self.shows, found[:count]), "end"])
 
     def copied(self):
-        """The bytes of a file that has a record of each key, the least first."""
-        return bytearray(file_of(*sorted(self.entries.items())) if self.entries else b"")
+        """The bytes of a file that has the newest record of each key, in the order of the log."""
+        return bytearray(copy_of(self.entries))
 
     def dead(self):
-        size = len(self.logs[self.file]) - len(HEADER)
-        live = sum(FRAME + len(key) + len(value) for key, value in self.entries.items())
-        self.ask("dead", f"dead {max(0, size - live)}")
+        self.ask("dead", f"dead {dead_in(self.logs[self.file], self.entries)}")
 
     def compact(self, file=None):
         """To a file, or in place."""
@@ -436,6 +448,6 @@ class Sessions:
             compare(f"{file.name} over {self.kind}", file.read_bytes().hex(), bytes(log).hex())
         self.lines, self.wanted, self.status = [], [], 0
         log = bytes(self.logs[self.file])
-        compare("the model", opened(log)[0], self.entries)
+        compare("the model", [*opened(log)[0].items()], [*self.entries.items()])
         self.told = told_of(log)
         self.first, self.logs = self.file, {self.file: self.logs[self.file]}

@@ -84,7 +84,7 @@ def is_changed(file, kind, log):
             sessions.put(present, b"new")
         sessions.put(b"thirty", b"put")
         sessions.hold(ALIKE)
-        if kind in IN_ORDER and first == "delete":
+        if first == "delete":
             sessions.dead()
             sessions.compact()
         sessions.check()
@@ -264,9 +264,9 @@ def begins_with_a_part_of_the_header(file, kind):
         sessions.delete(b"a")
         sessions.cut()
         sessions.salvage(file.with_name(f"{length}.log"))
+        sessions.dead()
         if kind in IN_ORDER:
             sessions.ends()
-            sessions.dead()
         sessions.check()
         sessions.put(b"a", b"1")
         sessions.check()
@@ -318,13 +318,12 @@ def is_no_store(file, kind):
     for log in FOREIGN:
         sessions = Sessions(store, kind, log=whole)
         sessions.ask(f"salvage {file}", "refused not empty")
-        if kind in IN_ORDER:
-            sessions.ask(f"compact {file}", "refused not empty")
-            sessions.ask(f"move {file}", "refused not empty")
-            part = store.with_name("store.log.part")
-            part.write_bytes(log)
-            sessions.logs[part] = log
-            sessions.compact()
+        sessions.ask(f"compact {file}", "refused not empty")
+        sessions.ask(f"move {file}", "refused not empty")
+        part = store.with_name("store.log.part")
+        part.write_bytes(log)
+        sessions.logs[part] = log
+        sessions.compact()
         file.write_bytes(log)
         sessions.logs[file] = log
         sessions.hold(ALIKE)
@@ -340,7 +339,7 @@ def is_read_without_its_header(file, kind):
     fronts = [HEADER[:place] + bytes([HEADER[place] ^ 1 << place % 8]) + HEADER[place + 1 :] for place in range(len(HEADER))]
     for front in [*shared_out(kind, fronts), bytes(len(HEADER)), HEADER]:
         sessions = Sessions(file, kind, "--headless", log=front + whole[len(HEADER) :])
-        for line in ("put 61 31", "delete 74686972", "cut", *["compact"] * (kind in IN_ORDER)):
+        for line in ("put 61 31", "delete 74686972", "cut", "compact"):
             sessions.ask(line, "refused read-only")
         sessions.hold(ALIKE)
         sessions.salvage(file.with_name("saved.log"))
@@ -393,14 +392,13 @@ def is_damaged_at_the_end(file, kind):
     sessions.cut()
     sessions.count()
     sessions.check()
-    if kind in IN_ORDER:
-        sessions = Sessions(file, kind, log=log + b"no record stands here")
-        sessions.move(file.with_name("moved.log"))
-        sessions.count()
-        sessions.check()
+    sessions = Sessions(file, kind, log=log + b"no record stands here")
+    sessions.move(file.with_name("moved.log"))
+    sessions.count()
+    sessions.check()
 
 
-@case_of_store(*IN_ORDER)
+@case_of_store(*KINDS)
 def is_copied_in_front_of_damage(file, kind):
     """By a word of its own: the copy has what the file answers, and the file keeps what is behind."""
     log, ends = thirty()
@@ -408,10 +406,12 @@ def is_copied_in_front_of_damage(file, kind):
         sessions = Sessions(file, kind, log=log[:end] + b"no record stands here" + log[end:])
         sessions.compact(file.with_name(f"{number}.log"))
         sessions.compact()
-        sessions.ends()
-        sessions.scan(b"", 9)
-        for key in ALIKE:
-            sessions.neighbours(key)
+        sessions.dead()
+        if kind in IN_ORDER:
+            sessions.ends()
+            sessions.scan(b"", 9)
+            for key in ALIKE:
+                sessions.neighbours(key)
         sessions.move(file.with_name(f"{number}.moved.log"))
         sessions.put(b"thir", word(b"moved").encode())
         sessions.hold(ALIKE)

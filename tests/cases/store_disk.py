@@ -82,15 +82,17 @@ def is_not_read_at_a_place(file, kind):
         file.write_bytes(log)
         answers([file, kind], ["count"], [], f"refused read: {file}\n", 1, UNREADABLE=place)
         unchanged(file, log)
-    first = file_of((b"same", b"1"))
+    first = file_of((b"same", b"longer than what is read at first" * 99))
     sessions = Sessions(file, kind, log=grown(first, (b"other", b"2"), (b"third", b"3")))
     for line in ("get", "has", "put", "delete"):
         sessions.ask(f"{line} {word(b'other')}" + " 34" * (line == "put"), "refused read")
     sessions.get(b"nothing")
     sessions.get(b"same")
     sessions.count()
+    for line in ("dead", f"compact {file}.copy", f"move {file}.copy", "compact"):
+        sessions.ask(line, "refused read")
     if kind in IN_ORDER:
-        for line in ("next 6f", "prev 73", "absent 70", "first", "scan - 9", f"compact {file}.copy", "compact"):
+        for line in ("next 6f", "prev 73", "absent 70", "first", "scan - 9"):
             sessions.ask(line, "refused read")
         sessions.ask("last", sessions.shows(b"third"))
     sessions.put(b"same", b"4")
@@ -115,7 +117,7 @@ def is_cut_where_it_is_not_read(file, kind):
     compare("what is told", told_behind, {"with 1 whole records\n", "with 0 whole records or more\n"})
 
 
-@case_of_store(*IN_ORDER)
+@case_of_store(*KINDS)
 def is_not_copied(file, kind):
     """Where a write fails: there is no copy, and no part of one, and the session goes on. An empty file that was there
     stays."""
@@ -129,7 +131,6 @@ def is_not_copied(file, kind):
             sessions.lines, sessions.wanted = [], []
             sessions.ask(line, "refused write")
             sessions.hold([b"apple", b"berry"])
-            sessions.ends()
             sessions.check(FILE_ROOM=room)
             there = {path.name: path.read_bytes() for path in file.parent.iterdir()}
             compare(f"{line} with room for {room}", there, {file.name: log, **({copy.name: b""} if room % 2 else {})})

@@ -39,7 +39,7 @@ CALLS = {
     "unlink": ["whole"],
 }
 
-# Calls that a session makes so often that the kinds with an order share them out.
+# Calls that a session makes so often that the kinds with an order share them out, and those without one.
 SHARED = ("pread", "pwrite", "fsync")
 
 # What a refusal may say where a call of the system fails.
@@ -137,9 +137,11 @@ class Followed:
 def lines_of(file, kind):
     """A session of all commands."""
     lines = ["get 61", "put 64 34", "put 61 3131", "delete 62", "delete 7a", "get 62", "has 63", "sync", "count"]
+    scan = ["scan - 9"] * (kind in IN_ORDER)
     if kind in IN_ORDER:
-        lines += ["next 61", "prev 64", "absent 6161", "first", "last", "scan - 9", f"compact {file}.one", "put 65 35"]
-        lines += ["compact", "put 66 -", "delete 61", "get 66", f"move {file}.two", "put 67 37", "scan - 9"]
+        lines += ["next 61", "prev 64", "absent 6161", "first", "last"]
+    lines += [*scan, f"compact {file}.one", "put 65 35", "compact", "put 66 -", "delete 61", "get 66", f"move {file}.two"]
+    lines += ["put 67 37", *scan]
     return [*lines, "cut", "put 68 38", "delete 63", "get 61", "get 64", "count"]
 
 
@@ -203,8 +205,9 @@ THREE = file_of((b"a", b"0"), (b"b", b"2"), (b"a", b"1"), (b"c", b"3"))
 def each_fails(file, kind, name):
     """Each call of a name fails in each way, alone and with those behind it. How many sessions that were."""
     sessions, first, step = 0, 1, 1
-    if name in SHARED and kind in IN_ORDER:
-        first, step = 1 + IN_ORDER.index(kind), len(IN_ORDER)
+    if name in SHARED:
+        alike = [other for other in KINDS if (other in IN_ORDER) == (kind in IN_ORDER)]
+        first, step = 1 + alike.index(kind), len(alike)
     starts = [(THREE, []), (None, ["--durable"]), (grown(THREE, (b"d", b"torn"))[:-1], [])]
     for log, flags in starts[: 2 if name == "pread" else 3]:
         for how in ["none", *CALLS[name]]:
@@ -226,7 +229,7 @@ def register_each_call():
     for name in CALLS:
 
         def fails_anywhere(file, kind, name=name):
-            if each_fails(file, kind, name) == 0 and kind in IN_ORDER and name != "unlink":
+            if each_fails(file, kind, name) == 0 and name != "unlink":
                 raise Wrong(f"{name} is never called")
 
         fails_anywhere.__name__ = f"{name}_fails"

@@ -5,13 +5,13 @@ import time
 from itertools import count
 
 from cases.store import (
-    IN_ORDER,
     KINDS,
     TORN,
     Sessions,
     answers,
     case_of_store,
     compare,
+    copy_of,
     file_of,
     fresh_files,
     grown,
@@ -51,14 +51,13 @@ def is_busy(file, kind):
         first.ask("put 78 31", "ok")
         first.ask("delete 78", "ok")
         is_refused(file)
-        if kind in IN_ORDER:
-            first.ask("compact", "ok")
-            is_refused(file)
-            first.ask("put 78 31", "ok")
-            first.ask("delete 78", "ok")
-            first.ask(f"move {moved}", "ok")
-            is_refused(moved)
-            answers([file, kind], ["count"], [count])
+        first.ask("compact", "ok")
+        is_refused(file)
+        first.ask("put 78 31", "ok")
+        first.ask("delete 78", "ok")
+        first.ask(f"move {moved}", "ok")
+        is_refused(moved)
+        answers([file, kind], ["count"], [count])
         first.end()
     answers([file, kind], ["count"], [count])
     with Talk(file, kind) as killed:
@@ -73,7 +72,7 @@ def is_busy_as_a_place(file, kind):
     log, _ = thirty()
     file.write_bytes(log)
     other = file.with_name("other.log")
-    lines = ["salvage", *["compact", "move"] * (kind in IN_ORDER)]
+    lines = ("salvage", "compact", "move")
     with Talk(other, "ordered") as second:
         second.ask("count", "count 0")
         for line in lines:
@@ -92,7 +91,7 @@ def is_busy_as_a_place(file, kind):
 def is_no_part_of_another(file, kind):
     """A file whose name ends in `.part` is a file as each other one: copies to names beside it leave it."""
     part = file.with_name("b.part")
-    for line in ("salvage", *["compact", "move"] * (kind in IN_ORDER)):
+    for line in ("salvage", "compact", "move"):
         target = file.with_name("b")
         target.unlink(missing_ok=True)
         sessions = Sessions(part, kind, "--durable", log=file_of((b"a", b"1"), (b"b", b"2")))
@@ -104,7 +103,7 @@ def is_no_part_of_another(file, kind):
         sessions.check()
 
 
-@case_of_store(*IN_ORDER)
+@case_of_store(*KINDS)
 def is_made_while_it_is_copied(file, kind):
     """Another session makes the file to which a copy is on its way: what it was told is there stays there."""
     log = file_of(*((b"%05d" % number, b"v") for number in range(3000)))
@@ -179,7 +178,7 @@ def is_at_a_call(file, kind, calls, heard):
     sessions.check()
 
 
-@case_of_store(*IN_ORDER)
+@case_of_store(*KINDS)
 def is_killed_in_a_compaction(file, kind):
     """At some time, in place or on the way to another file: the file is as it was, or whole, and the other one is whole
     or not there. A fresh file that is left over is told, and stays."""
@@ -187,7 +186,7 @@ def is_killed_in_a_compaction(file, kind):
     records = [(b"%05d" % (number % 700), b"%d" % number * 9) for number in range(1400)]
     log = file_of(*records)
     entries = opened(log)[0]
-    whole = file_of(*sorted(entries.items()))
+    whole = copy_of(entries)
     for number in range(max(4, KILLS // 4)):
         for left in file.parent.iterdir():
             left.unlink()
@@ -226,15 +225,14 @@ SEVEN = file_of(
 def is_killed_at_each_call(file, kind):
     """In front of each call of the system, and behind it: the file has what some of the lines leave, from the first one
     on, or is whole; a copy is whole, or not there; and both open, as if the part that remains were not there."""
-    whole = file_of(*sorted(opened(SEVEN)[0].items()))
+    whole = copy_of(opened(SEVEN)[0])
     target = file.with_name("copy.log")
     put = (b"a", b"put")
     puts = [SEVEN, grown(SEVEN, put), grown(SEVEN, put, (b"c", None))]
     sessions = [(["put 61 707574", "delete 63"], puts, [None]), ([f"salvage {target}"], [SEVEN], [None, SEVEN])]
-    if kind in IN_ORDER:
-        sessions.append((["compact", "put 61 707574"], [SEVEN, whole, grown(whole, put)], [None]))
-        sessions.append(([f"compact {target}"], [SEVEN], [None, whole]))
-        sessions.append(([f"move {target}", "put 61 707574"], [SEVEN], [None, whole, grown(whole, put)]))
+    sessions.append((["compact", "put 61 707574"], [SEVEN, whole, grown(whole, put)], [None]))
+    sessions.append(([f"compact {target}"], [SEVEN], [None, whole]))
+    sessions.append(([f"move {target}", "put 61 707574"], [SEVEN], [None, whole, grown(whole, put)]))
     for lines, files, targets in sessions:
         for flags in ([], ["--durable"]) if lines[0].startswith("put") else ([],):
             for name in ("open", "statx", "flock", "pread", "pwrite", "ftruncate", "fsync", "rename", "link", "unlink", "fchmod"):
@@ -242,7 +240,7 @@ def is_killed_at_each_call(file, kind):
                     killed_at_each(file, target, [*flags, file, kind], lines, files, targets, FAIL=name, FAIL_HOW=how)
 
 
-@case_of_store(*IN_ORDER)
+@case_of_store(*KINDS)
 def is_killed_with_two_names(file, kind):
     """The process is killed as a copy has its name and that of the fresh file too: no later command changes the bytes of
     that copy, nor one in place those of its other names."""
@@ -282,7 +280,7 @@ def killed_at_each(file, target, words, lines, files, targets, **fault):
             break
         compare(f"{lines} {fault} {number}: the status", status, -9)
         sessions = Sessions(file, words[-1], log=file.read_bytes())
-        if there is None and words[-1] in IN_ORDER:
+        if there is None:
             sessions.compact(target)
         sessions.put(b"more", b"1")
         sessions.hold([b"", b"a", b"b", b"c"])

@@ -36,6 +36,9 @@ COMMANDS = {
     "count": "",
     "sync": "",
     "cut": "",
+    "dead": "",
+    "compact": "[FILE2]",
+    "move": "FILE2",
     "salvage": "FILE2",
     "help": "",
     "quit": "",
@@ -46,9 +49,6 @@ COMMANDS = {
     "last": "",
     "scan": "K N",
     "scan-prefix": "K N",
-    "dead": "",
-    "compact": "[FILE2]",
-    "move": "FILE2",
 }
 
 # What is told of a word that is not the one that is wanted.
@@ -241,6 +241,8 @@ def ask_parsed(sessions, number, line):
         getattr(sessions, name)(*values)
     elif name == "sync":
         sessions.ask("sync", "ok")
+    elif name == "dead":
+        sessions.dead()
     elif sessions.kind not in IN_ORDER:
         sessions.ask(name, "refused unordered")
     elif name in ("scan", "scan-prefix"):
@@ -249,8 +251,6 @@ def ask_parsed(sessions, number, line):
     elif name in ("first", "last"):
         sessions.ends()
         del sessions.wanted[-1 if name == "first" else -2]
-    elif name == "dead":
-        sessions.dead()
     else:
         sessions.neighbours(*values)
         sessions.wanted[-3:] = [sessions.wanted[-3:][("next", "prev", "absent").index(name)]]
@@ -341,14 +341,14 @@ def ends_with_a_status(file, kind):
         (["salvage /", "count"], opens, "cannot open /: Is a directory (os error 21)\n", 1),
         (['salvage "a\0b"', "count"], opens, "cannot open a\0b: file name contained an unexpected NUL byte\n", 1),
         (["count"], ["count 1"], "", 0),
+        (["dead", "compact", "count"], ["dead 0", "ok", "count 1"], "", 0),
+        (["first"], ["entry 61 31"] if kind in IN_ORDER else ["refused unordered"], "", int(kind not in IN_ORDER)),
     ]:
         answers([file, kind], lines, wanted, told, status)
-    order = ("ok", 0) if kind in IN_ORDER else ("refused unordered", 1)
-    answers([file, kind], ["compact", "count"], [order[0], "count 1"], "", order[1])
     compare("what is there", sorted(path.name for path in file.parent.iterdir()), [file.name])
 
 
-@case_of_store(*IN_ORDER)
+@case_of_store(*KINDS)
 def is_named_by_words_of_all_kinds(file, kind):
     """Files of copies: with spaces and quotes, and where a name is relative to the folder of the session."""
     sessions = Sessions(file, kind)

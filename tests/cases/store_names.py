@@ -4,7 +4,6 @@ import os
 from itertools import count
 
 from cases.store import (
-    IN_ORDER,
     KINDS,
     Sessions,
     answers,
@@ -22,7 +21,7 @@ from cases.store_process import Talk, as_reader, without_rights
 ONE = file_of((b"a", b"1"))
 
 
-def gone(session, file, kind, is_durable):
+def gone(session, file, is_durable):
     """What a session answers whose file has lost its name, and how it goes on over a copy."""
     session.ask("get 61", "value 31")
     session.ask("sync", "refused gone")
@@ -31,16 +30,14 @@ def gone(session, file, kind, is_durable):
             session.ask(line, "refused gone")
     session.ask("count", "count 1")
     saved = file.with_name("saved.log")
-    if kind not in IN_ORDER:
-        session.ask(f"salvage {saved}", "salvaged 1 records, 0 bytes left out")
-        unchanged(saved, ONE)
-        session.end("" if is_durable else f"cannot sync {file}\n", 1)
-        return
+    session.ask(f"salvage {file.with_name('salvaged.log')}", "salvaged 1 records, 0 bytes left out")
+    session.ask("dead", "dead 0")
     session.ask("compact", "refused gone")
     session.ask(f"compact {file.with_name('other.log')}", "ok")
     session.ask(f"move {saved}", "ok")
     session.ask("put 63 33", "ok")
     session.end("", 1)
+    unchanged(file.with_name("salvaged.log"), ONE)
     unchanged(file.with_name("other.log"), ONE)
     unchanged(saved, grown(ONE, (b"c", b"3")))
 
@@ -59,7 +56,7 @@ def is_lost_under_a_session(file, kind):
                 file.rename(file.with_name("moved.log"))
             if number // 2 == 2:
                 answers(["--durable", file], ["put 62 32", "count"], ["ok", "count 1"])
-            gone(session, file, kind, bool(flags))
+            gone(session, file, bool(flags))
         compare("whether a file is there", file.exists(), number // 2 == 2)
         if number // 2 == 2:
             unchanged(file, file_of((b"b", b"2")))
@@ -81,7 +78,7 @@ def is_a_link_to_another_folder(file, kind):
     link = links / "link.log"
     link.symlink_to("../real/run.log")
     links.chmod(0o311)
-    lines = ["put 61 30", "put 61 31", "compact" if kind in IN_ORDER else "sync", "put 62 32"]
+    lines = ["put 61 30", "put 61 31", "compact", "put 62 32"]
     given = as_reader(before, ["--durable", link, kind], lines)
     compare("answers, standard error, status", given, (["ok"] * 4, "", 0))
     compare("whether it is a link", link.is_symlink(), True)
@@ -129,9 +126,8 @@ def is_told_what_is_left_over(file, kind):
         path.write_bytes(b"left")
     sessions = Sessions(file, kind, log=log)
     sessions.put(b"b", b"2")
-    if kind in IN_ORDER:
-        sessions.compact()
-        sessions.compact(file.with_name("copy.log"))
+    sessions.compact()
+    sessions.compact(file.with_name("copy.log"))
     sessions.hold([b"a", b"b"])
     compare("how many are told", left_over(file).count("\n"), 2)
     sessions.check()

@@ -17,6 +17,8 @@ from cases.store import (
     answers,
     case_of_store,
     compare,
+    copy_of,
+    dead_in,
     file_of,
     grown,
     opened,
@@ -232,7 +234,7 @@ def has_a_limit_of_its_size(file, kind):
         sessions.check()
 
 
-@case_of_store(*IN_ORDER)
+@case_of_store(*KINDS)
 def is_copied_below_a_limit(file, kind):
     """A copy that is longer is refused, and leaves nothing; one that is not is made, also of a longer file."""
     sessions = Sessions(file, kind)
@@ -308,14 +310,14 @@ def only_reads(file, kind, log, behind, before, flags):
         first.ask("count", f"count {len(entries)}")
         compare("two at once", as_reader(before, words, ["count"])[0], [f"count {len(entries)}"])
         answers([file, kind], ["count"], [], f"refused busy: {file}\n", 1)
-    if kind in IN_ORDER:
-        moved = file.with_name("moved.log")
-        moved.unlink(missing_ok=True)
-        lines = ["compact", f"move {moved}", "put 7a 31", "get 7a", "compact"]
-        given = as_reader(before, words, lines)
-        compare(STATUS, given, (["refused read-only", "ok", "ok", "value 31", "ok"], told_of(log + behind), 1))
-        compare("what was moved", opened(moved.read_bytes())[0], {**entries, b"z": b"1"})
-        unchanged(file, log + behind)
+    moved = file.with_name("moved.log")
+    moved.unlink(missing_ok=True)
+    lines = ["dead", "compact", f"move {moved}", "put 7a 31", "get 7a", "compact"]
+    given = as_reader(before, words, lines)
+    wanted = [f"dead {dead_in(log + behind, entries)}", "refused read-only", "ok", "ok", "value 31", "ok"]
+    compare(STATUS, given, (wanted, told_of(log + behind), 1))
+    unchanged(moved, copy_of({**entries, b"z": b"1"}))
+    unchanged(file, log + behind)
 
 
 @case_of_store(*KINDS)
@@ -370,9 +372,8 @@ def may_only_be_read(file, kind):
     given = as_reader(before, [closed / "new.log", kind], ["count"])
     new = closed / "new.log"
     compare("no rights to make it", given, ([], f"cannot open {new}: Permission denied (os error 13)\n", 1))
-    if kind in IN_ORDER:
-        given, told, status = as_reader(before, [inner, kind], ["compact", "count"])
-        compare("no rights to make a part", (given, status), (["refused open", f"count {len(entries)}"], 1))
-        compare("the reason", told, f"cannot open {inner}: Permission denied (os error 13)\n")
+    given, told, status = as_reader(before, [inner, kind], ["compact", "count"])
+    compare("no rights to make a part", (given, status), (["refused open", f"count {len(entries)}"], 1))
+    compare("the reason", told, f"cannot open {inner}: Permission denied (os error 13)\n")
     closed.chmod(0o755)
     unchanged(inner, log)

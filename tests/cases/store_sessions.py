@@ -144,8 +144,8 @@ def has_the_empty_key(file, kind):
     sessions.has(b"")
     sessions.has(b"\0")
     keys = [b"", b"\0", b"\0\0"]
+    sessions.move(file.with_name("copy.log"))
     if kind in IN_ORDER:
-        sessions.move(file.with_name("copy.log"))
         compare_neighbours(sessions, [*keys, *keys, FRONT] * 10)
     sessions.hold(keys)
     sessions.check()
@@ -170,10 +170,10 @@ def has_no_keys(file, kind):
         sessions.ends()
         sessions.neighbours(b"a")
         sessions.scan(b"", 5)
-        sessions.dead()
-        sessions.compact(file.with_name("empty.log"))
-        sessions.compact()
-        sessions.move(file.with_name("moved.log"))
+    sessions.dead()
+    sessions.compact(file.with_name("empty.log"))
+    sessions.compact()
+    sessions.move(file.with_name("moved.log"))
     sessions.check()
     sessions.put(b"a", b"b")
     sessions.delete(b"a")
@@ -181,8 +181,8 @@ def has_no_keys(file, kind):
     sessions.count()
     if kind in IN_ORDER:
         sessions.ends()
-        sessions.dead()
-        sessions.compact()
+    sessions.dead()
+    sessions.compact()
     sessions.check()
 
 
@@ -294,15 +294,14 @@ def holds_long_records(file, kind):
     sessions.check()
     sessions.hold(keys)
     sessions.salvage(file.with_name("saved.log"))
-    if kind in IN_ORDER:
-        sessions.dead()
-        sessions.compact()
-        sessions.dead()
-        sessions.hold(keys)
+    sessions.dead()
+    sessions.compact()
+    sessions.dead()
+    sessions.hold(keys)
     sessions.check()
 
 
-@case_of_store(*IN_ORDER)
+@case_of_store(*KINDS)
 def is_not_copied_over_bytes(file, kind):
     """A file that has bytes is no place for a copy, nor is the file itself; an empty one is, and what is there beside it
     stays."""
@@ -332,7 +331,7 @@ def is_not_copied_over_bytes(file, kind):
         fresh.unlink()
 
 
-@case_of_store(*IN_ORDER)
+@case_of_store(*KINDS)
 def is_compacted_through_a_link(file, kind):
     """Where FILE is a link, the file that it leads to is replaced; the new file keeps the permissions."""
     link = file.with_name("link.log")
@@ -381,7 +380,7 @@ def holds_many_alike(file, kind):
         raise Wrong("2,000 keys that are alike took more than ten seconds of processor time")
 
 
-@case_of_store(*IN_ORDER)
+@case_of_store(*KINDS)
 def tells_what_is_dead(file, kind):
     """Bytes of older records, of deletions, and of what stands behind the last whole record."""
     log = file_of((b"a", b"1"), (b"a", b"22"), (b"b", b""), (b"b", None))
@@ -404,17 +403,19 @@ def answers_each_command(file, kind):
     """A kind without an order refuses the commands that ask for one, and goes on."""
     sessions = Sessions(file, kind)
     sessions.put(b"a", b"1")
-    for line in ["next 61", "prev 61", "absent 61", "first", "last", "scan - 1", "scan-prefix - 1", "dead", "compact"]:
+    for line in ["next 61", "prev 61", "absent 61", "first", "last", "scan - 1", "scan-prefix - 1"]:
         if kind not in IN_ORDER:
             sessions.ask(line, "refused unordered")
-    if kind not in IN_ORDER:
-        sessions.ask("compact copy.log", "refused unordered")
-        sessions.ask("move copy.log", "refused unordered")
+    sessions.dead()
+    sessions.compact()
+    sessions.compact(file.with_name("copy.log"))
+    sessions.move(file.with_name("moved.log"))
     sessions.ask("sync", "ok")
     sessions.cut()
     sessions.hold([b"a"])
     sessions.check()
     help_text = subprocess.run([Store.path, "--help"], capture_output=True, text=True, check=True).stdout
-    for line in ("put", "get", "has", "delete", "count", "sync", "cut", "salvage", "next", "prev", "absent", "first"):
+    named = ("put", "get", "has", "delete", "count", "sync", "cut", "dead", "compact", "move", "salvage", "next", "prev", "first")
+    for line in named:
         compare(f"--help tells {line}", f"  {line} " in help_text or f"  {line}," in help_text, True)
     compare(f"--help tells {kind}", f"\n  {kind} " in help_text, True)
