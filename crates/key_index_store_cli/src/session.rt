@@ -353,10 +353,11 @@ impl<I: Factory<Translator = T, Value = u64> + Drop, T: Copy> Session<'_, I> {
         let (fresh, disk, _empty) = make(rt, place, target)?;
         match place.move_to(rt.alloc(), &mut self.store, fresh, disk, index) {
             Ok((copy, copied)) => {
-                self.write_gaps(&copied, output)?;
+                let told = self.write_gaps(&copied, output);
                 self.store = copy;
                 self.context.is_read_only = false;
                 self.context.is_changed = true;
+                told?;
                 self.sync()
             }
             Err(fault) => Err(refusal_of(rt, place.name(), fault)),
