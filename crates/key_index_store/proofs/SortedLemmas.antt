@@ -145,10 +145,9 @@ module _ {K X : Type 0} {R : K → K → Ordering} (o : IsTotalOrder R) (exact :
       (omega (arith, none), ap (λ r. cond (is_eq r) (Some x.1) (find R e.0 xs)) (turned o x.0 e.0 Equal same) ∙ ap (λ (y : K × X). Some y.1) is)
   place_own (x ∷ xs) (suc i) e h at =
       let rest = place_own xs i e (T-and_second _ _ h) at in
-      let here : i ≡ place_of xs e.0 = rest.0 in
       let less = entry_above x.0 xs i e (T-and_first _ _ h) at in
       let first = ap (λ l. length l) (first_counts e.0 x xs less) in
-      (omega (arith, first, here), ap (λ r. cond (is_eq r) (Some x.1) (find R e.0 xs)) (turned o x.0 e.0 Less less) ∙ rest.1)
+      (omega (arith, first, rest.0), ap (λ r. cond (is_eq r) (Some x.1) (find R e.0 xs)) (turned o x.0 e.0 Less less) ∙ rest.1)
 
   -- ---- a key that is held
 
