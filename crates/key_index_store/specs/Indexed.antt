@@ -6,7 +6,7 @@
 --     IsRun                 a list of live positions in the order of their keys
 --     IsFront               bytes at the front of the record at a position
 --     Indexes               the log is complete records, and the index has the position of each key's newest one that has a value, once,
---                           under the index key of the key
+--                           under the index key of the key, where the positions stand in the order of their keys
 --     IsTail                what a store knows of the bytes behind the records: after a write that failed, where a torn one may stand,
 --                           nothing may
 --     Keeps                 what a store keeps of its log: where the complete records end, what stands behind them, and the index of them
