@@ -7,13 +7,17 @@
 --     IsRun                 a list of live positions in the order of their keys
 --     IsFront               bytes at the front of the record at a position
 --     Indexes               the log is complete records, and the index has the position of each key's newest one that has a value, once,
---                           under the index key of the key
+--                           under the index key of the key, where the positions stand in the order of their keys
 --     IsTail                what a store knows of the bytes behind the records: after a write that failed, where a torn one may stand,
 --                           nothing may
 --     Keeps                 what a store keeps of its log: where the complete records end, what stands behind them, and the index of them
 --     Settles               after the position of a key's newest record was filed: in the place of the older one, or as a new one
 --     KeepsLists            no list is another
+<<<<<<< HEAD
 use Rattle.std.specs.Prelude.{◌≡◌, ◌-◌, ◌≤◌, ◌<◌, T, ℕ, Bool, true, false, List, [], ◌∷◌, ◌++◌, map, length, drop, take, insert, remove, slice_set, Option, Some, None, is_some, All}
+=======
+use Rattle.std.specs.Prelude.{◌≡◌, ◌≤◌, ◌<◌, T, ℕ, Bool, true, false, List, [], map, length, drop, take, insert, remove, slice_set, Option, Some, is_some, All}
+>>>>>>> sorted
 use Rattle.std.specs.FinMap.{find, get, is_sorted, len}
 use Rattle.std.specs.declared.cmp.Ordering.{Ordering}
 use Rattle.key_index_flat.specs.FullKeys.{IsBytes, byte_cmp}
