@@ -3,7 +3,7 @@
 ghost use Rattle.std.specs.Prelude.{◌≡◌, ◌⊎◌, ◌-◌, [], length, max, take, drop, string_bytes, Some, None, Err, IfOk};
 ghost use Rattle.std.specs.FinMap as map;
 ghost use Rattle.std.specs.Option.{option_map};
-ghost use Rattle.key_index_store.specs.Device.{Changes, IsFirst, IsLeft, NoMore, Sees};
+ghost use Rattle.key_index_store.specs.Device.{Changes, IsFirst, IsLeft, Sees};
 ghost use Rattle.key_index_store.specs.FileDevice.{FileLeaves, calls_of, file_seen, first_of};
 ghost use Rattle.key_index_store.specs.Header.{Behind, IsHeaded, held_behind};
 ghost use Rattle.key_index_store.specs.MemoryDevice.{MayLeave, held, kept};
@@ -56,8 +56,8 @@ pub fn put_and_sync<I: Unordered<Value = u64> + Drop>(
     after_crash(alloc, store, lost, index)
 }
 
-/// A key is set in a store that is synced, and a crash comes in the call or behind it, whether the call was refused or not: the map is
-/// the one from before, or has the key with its value.
+/// A store is synced and then a key is set, and a crash comes in that call or behind it, whether the call was refused or not: the map
+/// is the one from before, or has the key with its value.
 pub fn put_alone<I: Unordered<Value = u64> + Drop>(
     alloc: Global,
     mut store: Store<MemoryDevice, I>,
@@ -66,11 +66,11 @@ pub fn put_alone<I: Unordered<Value = u64> + Drop>(
     lost: usize,
     index: I,
 ) -> Result<Store<MemoryDevice, I>, Fault>
-    requires synced { NoMore (λ c. c ≡ Some (held store)) (MayLeave store) }
-    requires fresh { (I.view index).content ≡ [] }
+    requires { (I.view index).content ≡ [] }
     ensures { IfOk result (λ opened. (held_by (held opened) ≡ held_by (held store))
         ⊎ (held_by (held opened) ≡ map.insert (held_by (held store)) key.now value.now)) }
 {
+    store.sync()?;
     let _ = store.put(key, value);
     after_crash(alloc, store, lost, index)
 }
