@@ -221,7 +221,7 @@ module _ {K : Type 0} {cmp : K → K → Ordering} (o : IsTotalOrder cmp) (exact
           Indexes-longer l content (same_slot is) (out_all (Under slot) run place (All-Under slot))
           (subst (λ m. T (is_sorted byte_cmp m)) (sym entries) (is_sorted-where_key byte_cmp (λ x. not (same r.key x)) es (sorted_in slot)))
           (λ a. ap (find byte_cmp a) entries ∙ find-where_key byte_cmp (λ x. not (same r.key x)) a (λ x e. ap (λ k. not (same r.key k)) (sym (exact_bytes a x e))) es
-              ∙ ap (λ b. cond (not b) (find byte_cmp a es) None) ((eq_by_cmp_equiv nat_list_cmp_total).symm r.key a) ∙ none_or (same a r.key) (find byte_cmp a es))
+          ∙ ap (λ b. cond (not b) (find byte_cmp a es) None) ((eq_by_cmp_equiv nat_list_cmp_total).symm r.key a) ∙ none_or (same a r.key) (find byte_cmp a es))
           (omega (arith, counts, less, left, one, long, length-es, h.counted))
 
       settled_none : is_some (value_in longer r.key run) ≡ false → t ≡ s → Indexes cmp longer t

@@ -1,7 +1,7 @@
 -- On reads of the front of a record: what is read tells as much as all that stands there.
 --     front_tells, step_tells  the key;  and how far it is to the next place that a salvage looks at
 --     whole_tells     the record, where all of it was asked for
-use Rattle.std.proofs.Common.{◌≡◌, ◌⊎◌, ℕ, zero, suc, ◌+◌, ◌-◌, ◌≤◌, ◌<◌, min, Bool, true, false, cond, List, [], ◌∷◌, ◌++◌, slice_get, get_or, length, take, drop, Option, Some, Result, Ok, Err, inl, inr, refl, sym, ap, subst, ◌∙◌, take-append-drop, length-take, length-drop, arith}
+use Rattle.std.proofs.Common.{◌≡◌, ◌⊎◌, ℕ, zero, suc, ◌+◌, ◌-◌, ◌≤◌, ◌<◌, min, Bool, true, false, cond, List, [], ◌∷◌, ◌++◌, length, take, drop, Some, Result, Ok, Err, inl, inr, refl, sym, ap, subst, ◌∙◌, take-append-drop, length-take, length-drop, arith}
 use Rattle.std.specs.Result.{OnOk, is_ok}
 use Rattle.std.proofs.lemmas.Bool.{cases_lt}
 use Rattle.std.proofs.lemmas.Bool.{false≢true}
@@ -123,8 +123,3 @@ on_ok_told (Err x) e h = absurd (false≢true e)
 
 pub key_in-live : (log : List ℕ) (p : ℕ) → IsLive log p → key_in p (drop p log) ≡ Some (key_at log p)
 key_in-live log p live = key_in-whole p (drop p log) _ live
-
-pub slice_get-here : (l : List ℕ) (n v : ℕ) → n < length l → v ≡ get_or l n v → slice_get l n ≡ Some v
-slice_get-here [] n v less is = absurd (omega (arith, less))
-slice_get-here (x ∷ xs) zero v less is = ap (λ y. Some y) (sym is)
-slice_get-here (x ∷ xs) (suc n) v less is = slice_get-here xs n v (omega (arith, less)) is

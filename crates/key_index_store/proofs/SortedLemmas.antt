@@ -9,7 +9,7 @@
 --     IsBetween                         what a search knows of the place: before the first step, after each one, and at the end
 --     All-insert, length-insert         a list with one item more
 --     remove-insert                     what went in goes out again
-use Rattle.std.proofs.Common.{◌≡◌, ℕ, zero, suc, ◌+◌, ◌<◌, ◌≤◌, Bool, true, false, cond, not, T, List, [], ◌∷◌, ◌++◌, length, map, take, drop, Option, Some, None, is_some, slice_get, slice_set, All, refl, sym, ap, subst, ◌∙◌, length-append, length-take, length-drop, arith}
+use Rattle.std.proofs.Common.{◌≡◌, ℕ, zero, suc, ◌+◌, ◌<◌, ◌≤◌, true, false, cond, not, T, List, [], ◌∷◌, length, map, take, drop, Some, None, is_some, slice_get, slice_set, All, refl, sym, ap, subst, ◌∙◌, length-append, length-take, length-drop, arith}
 use Rattle.std.proofs.lemmas.Bool.{false≢true}
 use Rattle.std.proofs.lemmas.List.Elements.{All-append, All-cons, All-drop, All-take}
 use Rattle.std.proofs.lemmas.Map.Lookups.{exact_bytes}
@@ -25,7 +25,7 @@ use Rattle.std.specs.declared.cmp.Ordering.TheVariants.{Less, Equal, Greater}
 use Rattle.key_index_flat.specs.FullKeys.{byte_cmp}
 use Rattle.key_index_flat.specs.Neighbours.{entries_below}
 use Rattle.key_index_flat.specs.laws.Laws.{T-and_first, T-and_second}
-use Rattle.key_index_flat.proofs.content.ContentLemmas.{Equal-is_eq, Less-is_lt}
+use Rattle.key_index_flat.proofs.content.ContentLemmas.{Less-is_lt}
 use Rattle.key_index_flat.proofs.entries.EntryLemmas.{some_injective, some_not_none}
 
 -- ---- any list
@@ -120,7 +120,7 @@ module _ {K X : Type 0} {R : K → K → Ordering} (o : IsTotalOrder R) (exact :
       let first = ap (λ l. length l) (first_counts k x xs (ap (λ (y : K × X). R y.0 k) (some_injective x e at) ∙ less)) in
       omega (arith, first)
   place_above (x ∷ xs) k (suc i) e h at less =
-      let rest = place_above xs k i e (T-and_second _ _ h) at less in
+      let rest : i < place_of xs k = place_above xs k i e (T-and_second _ _ h) at less in
       let first = ap (λ l. length l) (first_counts k x xs (o.trans x.0 e.0 k (entry_above x.0 xs i e (T-and_first _ _ h) at) less)) in
       omega (arith, first, rest)
 
@@ -130,7 +130,7 @@ module _ {K X : Type 0} {R : K → K → Ordering} (o : IsTotalOrder R) (exact :
       let none = ap (λ l. length l) (first_place k x xs h (ap (λ (y : K × X). is_lt (R y.0 k)) (some_injective x e at) ∙ n)) in
       omega (arith, none)
   place_at_most (x ∷ xs) k (suc i) e h at n =
-      let rest = place_at_most xs k i e (T-and_second _ _ h) at n in
+      let rest : place_of xs k ≤ i = place_at_most xs k i e (T-and_second _ _ h) at n in
       elim (is_lt (R x.0 k)) as (λ b. length (cond b (x ∷ entries_below R xs k) (entries_below R xs k)) ≤ suc i) [
         | true ↦ omega (arith, rest)
         | false ↦ omega (arith, rest)
@@ -184,7 +184,7 @@ module _ {K X : Type 0} {R : K → K → Ordering} (o : IsTotalOrder R) (exact :
         | Less ↦ λ p g. absurd (not_held k x xs h p g)
         | Equal ↦ λ p g. (let none = ap (λ l. length l) (first_place k x xs h (ap is_lt (turned o k x.0 Equal p))) in omega (arith, none))
         | Greater ↦ λ p g. (
-            let rest = place_before xs k i e (T-and_second _ _ h) at over g in
+            let rest : place_of xs k < i = place_before xs k i e (T-and_second _ _ h) at over g in
             let one = ap (λ l. length l) (first_counts k x xs (turned o k x.0 Greater p)) in
             omega (arith, rest, one))
       ] refl f
@@ -195,7 +195,7 @@ module _ {K X : Type 0} {R : K → K → Ordering} (o : IsTotalOrder R) (exact :
   insert-put [] k v h n = refl
   insert-put (x ∷ xs) k v h n =
       elim (R k x.0) as (λ r. R k x.0 ≡ r → is_some (cond (is_eq r) (Some x.1) (find R k xs)) ≡ false
-          → insert (x ∷ xs) (place_of (x ∷ xs) k) (k, v) ≡ by_order r ((k, v) ∷ x ∷ xs) ((x.0, v) ∷ xs) (x ∷ put R k v xs)) [
+      → insert (x ∷ xs) (place_of (x ∷ xs) k) (k, v) ≡ by_order r ((k, v) ∷ x ∷ xs) ((x.0, v) ∷ xs) (x ∷ put R k v xs)) [
         | Less ↦ λ p m. ap (λ l. insert (x ∷ xs) (length l) (k, v)) (first_place k x xs h (ap is_lt (turned o k x.0 Less p)))
         | Equal ↦ λ p m. absurd (false≢true (sym m))
         | Greater ↦ λ p m.
@@ -206,7 +206,7 @@ module _ {K X : Type 0} {R : K → K → Ordering} (o : IsTotalOrder R) (exact :
   set-put [] k v h f = absurd (false≢true f)
   set-put (x ∷ xs) k v h f =
       elim (R k x.0) as (λ r. R k x.0 ≡ r → is_some (cond (is_eq r) (Some x.1) (find R k xs)) ≡ true
-          → slice_set (x ∷ xs) (place_of (x ∷ xs) k) (k, v) ≡ by_order r ((k, v) ∷ x ∷ xs) ((x.0, v) ∷ xs) (x ∷ put R k v xs)) [
+      → slice_set (x ∷ xs) (place_of (x ∷ xs) k) (k, v) ≡ by_order r ((k, v) ∷ x ∷ xs) ((x.0, v) ∷ xs) (x ∷ put R k v xs)) [
         | Less ↦ λ p g. absurd (not_held k x xs h p g)
         | Equal ↦ λ p g.
             ap (λ l. slice_set (x ∷ xs) (length l) (k, v)) (first_place k x xs h (ap is_lt (turned o k x.0 Equal p))) ∙ ap (λ y. (y, v) ∷ xs) (exact k x.0 p)
@@ -227,7 +227,7 @@ module _ {K X : Type 0} {R : K → K → Ordering} (o : IsTotalOrder R) (exact :
   remove-without [] k h f = absurd (false≢true f)
   remove-without (x ∷ xs) k h f =
       elim (R k x.0) as (λ r. R k x.0 ≡ r → is_some (cond (is_eq r) (Some x.1) (find R k xs)) ≡ true
-          → remove (x ∷ xs) (place_of (x ∷ xs) k) ≡ cond (not (is_eq r)) (x ∷ without k xs) (without k xs)) [
+      → remove (x ∷ xs) (place_of (x ∷ xs) k) ≡ cond (not (is_eq r)) (x ∷ without k xs) (without k xs)) [
         | Less ↦ λ p g. absurd (not_held k x xs h p g)
         | Equal ↦ λ p g.
             ap (λ l. remove (x ∷ xs) (length l)) (first_place k x xs h (ap is_lt (turned o k x.0 Equal p)))
@@ -275,8 +275,10 @@ module _ (es : List (List ℕ × List ℕ)) (key : List ℕ) (h : T (is_sorted b
 
   pub between_none : (low : ℕ) → IsBetween es key low low → (low ≡ length (entries_below byte_cmp es key)) × (false ≡ is_some (find byte_cmp key es))
   between_none low b =
-      let here : low ≡ length (entries_below byte_cmp es key) = omega (arith, b.after, b.before) in
-      (here, elim (is_some (find byte_cmp key es)) as (λ f. is_some (find byte_cmp key es) ≡ f → false ≡ f) [
-        | true ↦ λ f. (let less = b.held f in absurd (omega (arith, here, less)))
-        | false ↦ λ f. refl
-      ] refl)
+      let here : low ≡ length (entries_below byte_cmp es key) = omega (arith, b.after, b.before) in (
+        here,
+        elim (is_some (find byte_cmp key es)) as (λ f. is_some (find byte_cmp key es) ≡ f → false ≡ f) [
+          | true ↦ λ f. (let less = b.held f in absurd (omega (arith, here, less)))
+          | false ↦ λ f. refl
+        ] refl,
+      )

@@ -49,7 +49,7 @@ module _ {K : Type 0} (cmp : K → K → Ordering) where
       let own = place_own nat_list_cmp_total exact_bytes es place e sorted there in
       let is : e.0 ≡ key =
       some_injective e.0 key (sym (ap (option_map (λ (x : List ℕ × List ℕ). x.0)) there) ∙ ap (λ n. option_map (λ (x : List ℕ × List ℕ). x.0) (slice_get es n)) at.below
-          ∙ key-place nat_list_cmp_total exact_bytes es key sorted (sym at.held ∙ held)) in
+      ∙ key-place nat_list_cmp_total exact_bytes es key sorted (sym at.held ∙ held)) in
       sym own.1 ∙ ap (λ k. find byte_cmp k es) is ∙ h.found key
 
 -- ---- a key that has no value

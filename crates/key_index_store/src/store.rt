@@ -1,14 +1,13 @@
 //! A key-value store on a log. The index keeps positions alone: it gives those that a shortened key may mean, and the log confirms.
-ghost use Rattle.std.specs.Prelude.{◌≡◌, ◌↔◌, ◌⊎◌, ◌<◌, ◌≤◌, ◌^◌, ◌-◌, ◌||◌, ◌≢◌, ◌+◌, ℕ, List, [], ◌++◌, if◌then◌else◌, length, map, take, drop, slice_get, true, false, Some, None, is_some, All, IsSome, IsTrue, IfSome, IfOk, IfErr, OnOk, OnErr};
+ghost use Rattle.std.specs.Prelude.{◌≡◌, ◌↔◌, ◌⊎◌, ◌<◌, ◌^◌, ◌-◌, ◌||◌, ◌≢◌, ◌+◌, ℕ, List, [], ◌++◌, if◌then◌else◌, length, map, take, true, false, Some, None, is_some, IsTrue, IfOk, IfErr, OnOk, OnErr};
 ghost use Rattle.std.specs.FinMap as map;
 ghost use Rattle.std.specs.Option.{option_map};
-ghost use Rattle.key_index_flat.specs.FullKeys.{IsBytes};
-ghost use Rattle.key_index_flat.specs.View.{growth_fault_in, run_of, with_edit, with_pruned};
+ghost use Rattle.key_index_flat.specs.View.{growth_fault_in, run_of};
 ghost use Rattle.key_index_store.specs.Device.{Adds, AddsAtMost, Changes, IsBegun, IsKnown, IsRead, NoMore, Sees, Stays};
-ghost use Rattle.key_index_store.specs.Indexed.{Indexes, IsIn, IsRun, Keeps, KeepsLists, Settles};
-ghost use Rattle.key_index_store.specs.Record.{Complete, Entry, Fits, IsFound, IsWithin, Stops, encoded, entry_of, log_of, outcome_of, reading, size_of};
+ghost use Rattle.key_index_store.specs.Indexed.{IsIn, Keeps, KeepsLists, Settles};
+ghost use Rattle.key_index_store.specs.Record.{Entry, Fits, encoded, log_of, size_of};
 ghost use Rattle.key_index_store.specs.Salvage.{HaveHeads, MaySalvage, found_at, gap_of, gaps_in, places_of, salvaged};
-ghost use Rattle.key_index_store.specs.Stored.{HasChanged, HasRefused, HasRoom, LeavesSame, IsRefused, LeavesBeforeOrAfter, MayRead, MayRefuse, refusal_of, end_of, held_by, is_zeros, tail_in, tail_of, with_record, with_value, without_tail};
+ghost use Rattle.key_index_store.specs.Stored.{HasChanged, HasRefused, HasRoom, LeavesSame, IsRefused, LeavesBeforeOrAfter, MayRead, MayRefuse, refusal_of, end_of, held_by, tail_in, with_record, without_tail};
 
 mod compact;
 pub(crate) mod find;
@@ -112,7 +111,9 @@ fn settle<I: Unordered<Value = u64>>(
     let slot = index.slot_of(key);
     match (has_value, place.is_held) {
         (true, true) => index.set_at(slot, place.place, position),
-        (true, false) => index.insert_at(slot, place.place, position).map_err(fault_of)?,
+        (true, false) => index
+            .insert_at(slot, place.place, position)
+            .map_err(fault_of)?,
         (false, true) => {
             index.remove_at(slot, place.place);
         }

@@ -1,5 +1,5 @@
 //! Reads of records, and the search of a key among positions.
-ghost use Rattle.std.specs.Prelude.{◌≡◌, ◌≤◌, ◌<◌, ◌^◌, ◌-◌, ℕ, List, length, take, drop, slice_get, true, false, Some, is_some, All, IsSome, IfSome, IfOk, IfErr, IsTrue, option_map};
+ghost use Rattle.std.specs.Prelude.{◌≡◌, ◌≤◌, ◌<◌, ◌^◌, ◌-◌, ℕ, length, take, drop, slice_get, true, false, Some, is_some, All, IsSome, IfSome, IfOk, IfErr, IsTrue, option_map};
 ghost use Rattle.key_index_flat.specs.FullKeys.{IsBytes, byte_cmp};
 ghost use Rattle.key_index_flat.specs.View.{run_of};
 ghost use Rattle.key_index_store.specs.Device.{IsRead, Sees};
@@ -162,7 +162,8 @@ fn readable_from<D: Device, I: Unordered<Value = u64>>(
     requires { to ≤ length (run_of I.Key.cmp (I.view index.now) key.now) }
     ensures first { Sees (D.seen device.new) (λ log. limit ≤ length log
         → All (IsLive (take limit log)) (run_of I.Key.cmp (I.view index.now) key.now) → from < to
-        → IfOk result (λ o. IsSome o × IfSome o (λ r. (r.place ≡ from) × (r.side ≡ byte_cmp (key_at (take limit log) r.front.position) key.now)))) }
+        → IfOk result (λ o. IsSome o × IfSome o (λ r. (r.place ≡ from)
+        × (r.side ≡ byte_cmp (key_at (take limit log) r.front.position) key.now)))) }
     ensures front { Sees (D.seen device.new) (λ log. limit ≤ length log → IfOk result (λ o. IfSome o (λ r.
         IsFront (take limit log) r.front))) }
     ensures within { IfOk result (λ o. IfSome o (λ r. (from ≤ r.place) × (r.place < to)

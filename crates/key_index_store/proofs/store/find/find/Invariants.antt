@@ -1,5 +1,4 @@
 use Rattle.std.proofs.Common.{◌-◌, ◌≡◌, ◌≤◌, false, length, map, take}
-
 use Rattle.key_index_store.proofs.SortedLemmas.{IsBetween}
 use Rattle.key_index_flat.specs.View.{run_of}
 use Rattle.key_index_store.specs.Device.{IsRead, Sees}

@@ -1,9 +1,9 @@
-use Rattle.std.proofs.Common.{◌≡◌, Less, Some, None, length, take, slice_get, refl, sym, ap, ◌∙◌, arith}
+use Rattle.std.proofs.Common.{◌≡◌, Less, Some, take, slice_get, refl, sym, ap, ◌∙◌, arith}
 use Rattle.std.specs.Option.{option_map, unwrap_or}
 use Rattle.key_index_flat.specs.FullKeys.{byte_cmp}
 use Rattle.key_index_flat.specs.View.{run_at, run_of}
 use Rattle.key_index_flat.proofs.entries.EntryLemmas.{some_not_none}
-use Rattle.key_index_store.specs.Indexed.{IsLive, key_at}
+use Rattle.key_index_store.specs.Indexed.{IsLive}
 use Rattle.key_index_store.specs.Record.{key_in}
 use Rattle.key_index_store.specs.laws.ReadLaws.{read-then}
 use Rattle.key_index_store.proofs.ReadLemmas.{key_in-live}

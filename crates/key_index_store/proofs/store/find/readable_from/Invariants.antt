@@ -1,4 +1,4 @@
-use Rattle.std.proofs.Common.{◌≡◌, ◌≤◌, ◌<◌, All, length, take}
+use Rattle.std.proofs.Common.{◌≡◌, ◌≤◌, All, length, take}
 use Rattle.key_index_flat.specs.View.{run_of}
 use Rattle.key_index_store.specs.Device.{IsRead, Sees}
 use Rattle.key_index_store.specs.Indexed.{IsLive}
