@@ -3,7 +3,7 @@
 ghost use Rattle.std.specs.Prelude.{◌≡◌, ◌⊎◌, ◌-◌, [], length, max, take, drop, string_bytes, Some, None, Err, IfOk};
 ghost use Rattle.std.specs.FinMap as map;
 ghost use Rattle.std.specs.Option.{option_map};
-ghost use Rattle.key_index_store.specs.Device.{Changes, IsFirst, IsLeft, Sees};
+ghost use Rattle.key_index_store.specs.Device.{Changes, IsFirst, IsLeft, NoMore, Sees};
 ghost use Rattle.key_index_store.specs.FileDevice.{FileLeaves, calls_of, file_seen, first_of};
 ghost use Rattle.key_index_store.specs.Header.{Behind, IsHeaded, held_behind};
 ghost use Rattle.key_index_store.specs.MemoryDevice.{MayLeave, held, kept};
