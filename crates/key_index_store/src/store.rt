@@ -20,7 +20,7 @@ use crate::salvage::{Salvaged, copy};
 use find::{InList, find, find_place, known, length_of, read_value};
 use key_index_flat::index::{self, Refused, Unordered};
 use log::Log;
-pub use neighbours::Gap;
+pub use neighbours::{Gap, Passed, Unreadable};
 use replay::replay;
 use std::alloc::{AllocError, Global};
 use std::marker::Model;

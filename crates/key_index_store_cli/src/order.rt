@@ -5,6 +5,7 @@ use crate::failure::Refusal;
 use crate::line::InOrder;
 use crate::session::{Output, Session};
 use key_index_flat::index::{Factory, OrderedLists};
+use key_index_store::store::Passed;
 
 /// What runs the commands that ask for the order of the keys.
 pub trait Order<I: Factory<Translator = T, Value = u64> + Drop, T: Copy> {
@@ -44,14 +45,14 @@ impl<I: OrderedLists<Value = u64> + Factory<Translator = T> + Drop, T: Copy> Ses
     fn scan(&mut self, start: &[u8], count: u64, prefix: &[u8], output: &mut Output) -> Answered {
         let mut last: Option<Vec<u8>> = None;
         for _ in 0..count {
-            let found = match &last {
+            let Passed { entry, passed } = match &last {
                 Some(key) => self.store.readable_above(key)?,
                 None => self.store.readable_at_least(start)?,
             };
-            for record in &found.passed {
+            for record in &passed {
                 self.context.write_gap(record.place, record.length, output)?;
             }
-            let Some((key, value)) = found.entry else {
+            let Some((key, value)) = entry else {
                 break;
             };
             if !key.starts_with(prefix) {
