@@ -53,8 +53,9 @@ With an order:
   scan K N         entry K V for each of N keys from K on, and then end
   scan-prefix K N  the same, of keys that begin with K
 
-Where records don't read any more, dead, compact FILE2 and move FILE2 go on without them, and tell
-gap N M for each M bytes at the place N of FILE, and the status is 1.";
+Where records don't read any more, scan, scan-prefix, dead, compact FILE2 and move FILE2 go on
+without them. They tell gap N M for M bytes at the place N of FILE (a scan tells an M of 0 where it
+isn't known), and the status is 1.";
 
 /// What is said behind the commands.
 pub const STATUS: &str = "
