@@ -365,6 +365,49 @@ def has_long_records_that_do_not_read(file, kind):
 
 
 @case_of_store(*KINDS)
+def has_noise_in_its_lists(file, kind):
+    """Spans of noise or of zeros in files of sixty calls, of 24 keys, some alike: each call at each of the keys."""
+    keys = [*keys_of("mixed", 9), *keys_of("alike", 7), *keys_of("zeros", 5), *keys_of("alone", 3)]
+    numbers = Numbers(KINDS.index(kind) + 61)
+    hidden = 0
+    for _ in range(60):
+        calls, values = [], {}
+        for _ in range(60):
+            number = numbers.next()
+            key, value = keys[number % len(keys)], bytes([number >> 32 & 0xFF]) * (number >> 40 & 15)
+            if number >> 60 < 4 and key in values:
+                calls.append((key, None))
+                del values[key]
+            else:
+                calls.append((key, value))
+                values[key] = value
+        log = file_of(*calls)
+        held = Held(kind, log)
+        compare("the entries", held.values, values)
+        for _ in range(1 + numbers.next() % 5):
+            one, other = numbers.next(), numbers.next()
+            place = len(HEADER) + one % (len(log) - len(HEADER))
+            size = min(1 + other % (1, 20, 200, 1000)[one >> 40 & 3], len(log) - place)
+            noise = bytes(numbers.next() & 0xFF for _ in range(size))
+            held.log[place : place + size] = noise if one >> 50 & 1 else bytes(size)
+        held.look()
+        hidden += len(held.broken)
+        file.write_bytes(log)
+        with Talk(file, kind) as session:
+            session.ask("count", f"count {len(values)}")
+            file.write_bytes(held.log)
+            held.read(beside(keys))
+            held.speak(session)
+            held.change(keys)
+            held.read(keys)
+            held.speak(session)
+            session.end("", held.status)
+        unchanged(file, bytes(held.log))
+    if not 60 < hidden < 60 * len(keys) // 2:
+        raise Wrong(f"{hidden} records don't read, in 60 files")
+
+
+@case_of_store(*KINDS)
 def goes_on_beside_records_that_do_not_read(file, kind):
     """Two thousand random calls, of 64 keys of which eight each are alike; each twentieth time a bit of a record is turned,
     or one that was is turned back, and then all of it reads as before."""
