@@ -7,7 +7,7 @@ ghost use Rattle.key_index_store.specs.Salvage.{Gap, MaySalvage, copied, gap_of,
 use crate::device::Device;
 use crate::record::{Reading, Record, decode, encode, has_head, key_in, record_length};
 use crate::store::Fault;
-use crate::store::find::{length_of, read_front};
+use crate::store::find::{BLOCK, length_of, read_front};
 use key_index_flat::index::{Unordered, Values};
 use std::alloc::{AllocError, Global};
 
@@ -182,7 +182,7 @@ pub(crate) fn copy<D: Device, C: Device, I: Unordered<Value = u64>>(
     }
     let (mut start, mut position, mut end, mut records) = (0, 0, 0, 0);
     let (mut since, mut gaps) = (0, Vec::new(alloc));
-    let mut block = read_front(alloc, from, start, len, true)?;
+    let mut block = read_front(alloc, from, start, len, true, BLOCK)?;
     // Each round goes on by a record or a byte, or reads a block at a place where none was read yet: so the time is linear, and each
     // byte is read a few times at most. Behind a head that tells of more bytes than there are, nothing is looked for.
     while position < len {
@@ -205,7 +205,7 @@ pub(crate) fn copy<D: Device, C: Device, I: Unordered<Value = u64>>(
                 position = next;
             }
             Reading::Torn => {
-                block = read_front(alloc, from, position, len, true)?;
+                block = read_front(alloc, from, position, len, true, BLOCK)?;
                 start = position;
             }
         }

@@ -58,6 +58,10 @@ impl<I: OrderedLists<Value = u64> + Factory<Translator = T> + Drop, T: Copy> Ses
             if !key.starts_with(prefix) {
                 break;
             }
+            // Where another file was put beneath the session, a scan may come back.
+            if last.is_some_and(|last| key <= last) {
+                return Err(Refusal::For("damaged"));
+            }
             last = Some(Vec::from_slice(self.context.rt.alloc(), &key)?);
             self.context.write_entry((key, value), output)?;
         }

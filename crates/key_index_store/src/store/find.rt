@@ -16,10 +16,10 @@ use key_index_flat::index::Unordered;
 use std::alloc::Global;
 use std::cmp::Ordering;
 
-/// How many bytes of a record are read at first, where the whole of it is wanted.
-const BLOCK: u64 = 1024;
+/// How many bytes of a record are read at first, where the whole of it may be wanted.
+pub(crate) const BLOCK: u64 = 1024;
 
-/// How many bytes are read at first where its key is.
+/// How many bytes are read at first where its key alone is.
 const KEY_BLOCK: u64 = 128;
 
 /// How many bytes a log has.
@@ -67,22 +67,17 @@ fn wanted(bytes: &[u8], position: u64, is_whole: bool) -> u64
     }
 }
 
-/// How many bytes of a record are read at first. A head has room in them.
-fn block_of(is_whole: bool) -> u64
-    ensures { 13 ≤ result }
-{
-    if is_whole { BLOCK } else { KEY_BLOCK }
-}
-
 /// The front of the record at a position, in the first `limit` bytes of a log: its head and its key at least, and the whole record where
-/// that is asked.
+/// that is asked. So many bytes are read at first, in which a head has room.
 pub(crate) fn read_front<D: Device>(
     alloc: Global,
     device: &mut D,
     position: u64,
     limit: u64,
     is_whole: bool,
+    block: u64,
 ) -> Result<Vec<u8>, Fault>
+    requires { 13 ≤ block }
     ensures front { Sees (D.seen device.new) (λ log. limit ≤ length log → IfOk result (λ v.
         v.items ≡ take (length v.items) (drop position (take limit log)))) }
     ensures key { Sees (D.seen device.new) (λ log. limit ≤ length log → IfOk result (λ v.
@@ -96,10 +91,10 @@ pub(crate) fn read_front<D: Device>(
     ensures fault { IfErr result MayRead }
 {
     let rest = limit.saturating_sub(position);
-    let block = read_bytes(alloc, device, position, rest.min(block_of(is_whole)))?;
-    let wanted = wanted(block.as_slice(), position, is_whole).min(rest);
-    if wanted <= block.len() as u64 {
-        return Ok(block);
+    let bytes = read_bytes(alloc, device, position, rest.min(block))?;
+    let wanted = wanted(bytes.as_slice(), position, is_whole).min(rest);
+    if wanted <= bytes.len() as u64 {
+        return Ok(bytes);
     }
     read_bytes(alloc, device, position, wanted)
 }
@@ -158,8 +153,10 @@ fn readable_from<D: Device, I: Unordered<Value = u64>>(
     from: usize,
     to: usize,
     limit: u64,
+    block: u64,
 ) -> Result<Option<Readable>, Fault>
-    requires { to ≤ length (run_of I.Key.cmp (I.view index.now) key.now) }
+    requires block { 13 ≤ block }
+    requires within { to ≤ length (run_of I.Key.cmp (I.view index.now) key.now) }
     ensures first { Sees (D.seen device.new) (λ log. limit ≤ length log
         → All (IsLive (take limit log)) (run_of I.Key.cmp (I.view index.now) key.now) → from < to
         → IfOk result (λ o. IsSome o × IfSome o (λ r. (r.place ≡ from)
@@ -174,7 +171,7 @@ fn readable_from<D: Device, I: Unordered<Value = u64>>(
     let slot = index.slot_of(key);
     for place in from..to {
         let position = *index.value_at(slot, place);
-        let bytes = read_front(alloc, device, position, limit, false)?;
+        let bytes = read_front(alloc, device, position, limit, false, block)?;
         if let Some(side) = side_of(bytes.as_slice(), position, key) {
             return Ok(Some(Readable {
                 place,
@@ -184,6 +181,13 @@ fn readable_from<D: Device, I: Unordered<Value = u64>>(
         }
     }
     Ok(None)
+}
+
+/// How many bytes of each record of a list are read at first. Of a record that is alone the value may be wanted too.
+fn block_of(is_alone: bool) -> u64
+    ensures { 13 ≤ result }
+{
+    if is_alone { BLOCK } else { KEY_BLOCK }
 }
 
 /// Looks a key up in its list, in the first `limit` bytes of a log, by as many reads as the length of the list has binary digits. Where
@@ -212,10 +216,11 @@ pub(super) fn find<D: Device, I: Unordered<Value = u64>>(
 {
     let slot = index.slot_of(key);
     let (mut low, mut high) = (0, index.run_len(slot));
+    let block = block_of(high == 1);
     let mut is_hidden = false;
     while low < high {
         let middle = low + (high - low) / 2;
-        let Some(there) = readable_from(alloc, device, index, key, middle, high, limit)? else {
+        let Some(there) = readable_from(alloc, device, index, key, middle, high, limit, block)? else {
             (high, is_hidden) = (middle, true);
             continue;
         };
@@ -314,6 +319,6 @@ pub(super) fn read_value<D: Device>(
     if is_whole(front) {
         return copy_value(alloc, front);
     }
-    let bytes = read_front(alloc, device, position, limit, true)?;
+    let bytes = read_front(alloc, device, position, limit, true, BLOCK)?;
     copy_value(alloc, bytes.as_slice())
 }

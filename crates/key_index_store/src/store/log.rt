@@ -6,7 +6,7 @@ ghost use Rattle.key_index_store.specs.Indexed.{IsLive, entry_at};
 ghost use Rattle.key_index_store.specs.Stored.{MayRead, in_bytes};
 
 use super::Fault;
-use super::find::{copy_value, read_front};
+use super::find::{BLOCK, copy_value, read_front};
 use crate::device::Device;
 use crate::record::{has_head, key_in, record_length};
 use std::alloc::Global;
@@ -36,7 +36,7 @@ impl<D: Device> Log<D> {
         let Some(position) = position else {
             return Ok(None);
         };
-        let bytes = read_front(self.alloc, &mut self.device, position, self.end, true)?;
+        let bytes = read_front(self.alloc, &mut self.device, position, self.end, true, BLOCK)?;
         let Some(key) = key_in(bytes.as_slice(), position) else {
             return Err(Fault::Damaged);
         };
@@ -51,7 +51,7 @@ impl<D: Device> Log<D> {
         ensures end { self.new.end ≡ self.old.end }
         ensures fault { IfErr result MayRead }
     {
-        let bytes = read_front(self.alloc, &mut self.device, position, self.end, false)?;
+        let bytes = read_front(self.alloc, &mut self.device, position, self.end, false, BLOCK)?;
         if !has_head(bytes.as_slice(), position) {
             return Ok(0);
         }

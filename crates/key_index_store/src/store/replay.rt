@@ -5,7 +5,7 @@ ghost use Rattle.key_index_store.specs.Indexed.{Indexes, Keeps};
 ghost use Rattle.key_index_store.specs.Record.{Damaged, Fits, Stops, Torn, encoded, reading};
 ghost use Rattle.key_index_store.specs.Stored.{MayRead, is_zeros, tail_of};
 
-use super::find::{find_place, length_of, read_bytes, read_front};
+use super::find::{self, find_place, length_of, read_bytes, read_front};
 use super::{Fault, Tail, settle};
 use crate::device::Device;
 use crate::record::{Reading, decode};
@@ -150,7 +150,7 @@ fn file_one<D: Device, I: Unordered<Value = u64>>(
     ensures fault { Sees (D.seen device.new) (λ log. len ≡ length log
         → Indexes I.Key.cmp (take end log) (I.view index.old) → IfErr result MayRead) }
 {
-    let bytes = read_front(alloc, device, end, len, true)?;
+    let bytes = read_front(alloc, device, end, len, true, find::BLOCK)?;
     let is_torn = match decode(bytes.as_slice(), end) {
         Reading::Complete(record) => {
             file(

@@ -25,8 +25,8 @@ loop-low-init g c =
           (subst (IsBetween es c.args.key.now 0) (length-map run (entry_at (take c.args.limit log)) ∙ sym all) (between_all es c.args.key.now is_run.1), refl);
     }
 
-pub readable_from-requires : goal.readable_from-requires
-readable_from-requires g c = c.loop-low.invariant.within
+pub readable_from-requires-clause-within : goal.readable_from-requires-clause-within
+readable_from-requires-clause-within g c = c.loop-low.invariant.within
 
 pub returns-in_err-there-clause-read : goal.returns-in_err-there-clause-read
 returns-in_err-there-clause-read g c = read-then _ _ _ c.loop-low.invariant.read c.in_err-there.ensures.read
