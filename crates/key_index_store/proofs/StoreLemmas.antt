@@ -2,25 +2,30 @@
 --     live_run, is_run           the positions of a key are live, and in the order of their keys
 --     place-get, value-get       by the place of a key, whether it has a value, and which one
 --     remove_absent              a key without a value is taken out
+--     is_at-listed               a position is listed where the record that its key is found by stands there
 --     len-after_records          records leave no more keys than there are records
 --     refusal-Memory             so an index of the records of fewer bytes than `usize::MAX` is never full
-use Rattle.std.proofs.Common.{◌≡◌, ◌==◌, ◌↔◌, ℕ, zero, suc, slice_get, ◌+◌, ◌-◌, ◌^◌, ◌<◌, ◌≤◌, if◌then◌else◌, Bool, true, false, cond, List, [], ◌∷◌, length, map, Option, Some, None, is_some, All, refl, sym, ap, subst, ◌∙◌, arith}
+use Rattle.std.proofs.Common.{◌≡◌, ◌==◌, ◌↔◌, ℕ, zero, suc, T, inl, inr, slice_get, ◌+◌, ◌-◌, ◌^◌, ◌<◌, ◌≤◌, if◌then◌else◌, Bool, true, false, cond, List, [], ◌∷◌, length, map, Option, Some, None, is_some, All, refl, sym, ap, subst, ◌∙◌, arith}
 use Rattle.std.proofs.lemmas.List.Elements.{All-head, All-tail, All-weaker}
-use Rattle.std.proofs.lemmas.Bool.{eq-eqb, eqb-true, false≢true, ne_eqb}
+use Rattle.std.proofs.lemmas.Bool.{eq-eqb, eqb-true, false≢true, ne_eqb, or_cases, or_left, or_right}
 use Rattle.std.proofs.lemmas.Option.{slice_get-map}
+use Rattle.std.specs.Cmp.{both_ways}
 use Rattle.std.specs.Cmp.Lexicographic.{nat_list_cmp_total}
-use Rattle.std.specs.FinMap.{empty, empty_of_len, find, get, len, len-empty, len-insert, len-remove, remove, get-remove, same_map}
+use Rattle.std.specs.FinMap.{empty, empty_of_len, find, get, is_sorted, len, len-empty, len-insert, len-remove, remove, get-remove, same_map}
 use Rattle.std.specs.List.{fold}
-use Rattle.std.specs.Option.{option_map, unwrap_or}
+use Rattle.std.specs.Option.{IfSome, option_map, unwrap_or}
 use Rattle.std.specs.declared.cmp.Ordering.{Ordering}
 use Rattle.key_index_flat.specs.FullKeys.{byte_cmp}
+use Rattle.key_index_flat.specs.Neighbours.{entries_below}
 use Rattle.key_index_flat.specs.View.{View, growth_fault_in, items_in, run_of}
 use Rattle.key_index_flat.specs.declared.index.Fault.TheVariants as index_fault
 use Rattle.key_index_flat.proofs.content.ContentLemmas.{Equal-is_eq}
-use Rattle.key_index_store.specs.Indexed.{Indexes, IsLive, IsPlace, IsRun, IsUnder, entry_at}
+use Rattle.key_index_store.specs.Indexed.{Indexes, IsLive, IsPlace, IsRun, IsUnder, entry_at, is_at, key_at}
 use Rattle.key_index_store.specs.Record.{Entry}
+use Rattle.key_index_store.specs.Salvage.{is_listed}
 use Rattle.key_index_store.specs.Stored.{Values, after_record, held_by, records_of, refusal_of, with_value}
 use Rattle.key_index_store.specs.declared.store.Fault.TheVariants as fault
+use Rattle.key_index_store.specs.declared.store.find.Front.{Front}
 use Rattle.std.proofs.lemmas.Map.Lookups.{exact_bytes}
 use Rattle.key_index_flat.proofs.entries.EntryLemmas.{same, some_injective}
 use Rattle.key_index_store.proofs.LogLemmas.{count_le}
@@ -104,3 +109,40 @@ pub All-slice_get : (P : ℕ → Type 0) (l : List ℕ) (i p : ℕ) → All P l 
 All-slice_get P [] i p all at = absurd (cc)
 All-slice_get P (x ∷ xs) zero p all at = subst P (ap (λ o. unwrap_or o x) at) (All-head P x xs all)
 All-slice_get P (x ∷ xs) (suc i) p all at = All-slice_get P xs i p (All-tail P x xs all) at
+
+-- ---- a position is listed where the record that is found by its key stands there
+
+listed-stands : (ps : List ℕ) (p : ℕ) → is_listed p ps ≡ true → (i : ℕ) × (slice_get ps i ≡ Some p)
+listed-stands [] p t = absurd (false≢true t)
+listed-stands (x ∷ ps) p t = elim (or_cases (x == p) (is_listed p ps) t) [
+  | inl first ↦ (0, ap (λ q. Some q) (eqb-true x p first))
+  | inr rest ↦ (let at = listed-stands ps p rest in (suc at.0, at.1))
+]
+
+stands-listed : (ps : List ℕ) (p i : ℕ) → slice_get ps i ≡ Some p → is_listed p ps ≡ true
+stands-listed [] p i at = absurd (cc)
+stands-listed (x ∷ ps) p zero at = or_left (x == p) (is_listed p ps) (eq-eqb x p (some_injective x p at))
+stands-listed (x ∷ ps) p (suc i) at = or_right (x == p) (is_listed p ps) (stands-listed ps p i at)
+
+module _ (log ps : List ℕ) (p : ℕ) (sorted : T (is_sorted byte_cmp (map (entry_at log) ps))) where
+  abbrev es : List (List ℕ × List ℕ)
+  es = map (entry_at log) ps
+
+  own : (i : ℕ) → slice_get ps i ≡ Some p → (i ≡ length (entries_below byte_cmp es (key_at log p))) × (find byte_cmp (key_at log p) es ≡ Some ((entry_at log p).1))
+  own i at = place_own nat_list_cmp_total exact_bytes es i (entry_at log p) sorted (slice_get-map (entry_at log) ps i ∙ ap (option_map (entry_at log)) at)
+
+  found-listed : (place : ℕ) (front : Option Front) → IsPlace (entry_at log) (key_at log p) ps place (is_some front) → IfSome front (λ f. slice_get ps place ≡ Some f.position) → is_at front p ≡ is_listed p ps
+  found-listed place None at stands = both_ways false (is_listed p ps) (λ e. absurd (false≢true e)) (λ t.
+      let there = listed-stands ps p t in
+      absurd (false≢true (at.held ∙ ap is_some (own there.0 there.1).1)))
+  found-listed place (Some f) at stands = both_ways (f.position == p) (is_listed p ps)
+      (λ t. stands-listed ps p place (stands ∙ ap (λ q. Some q) (eqb-true f.position p t)))
+      (λ t.
+      let there = listed-stands ps p t in
+      let same : there.0 ≡ place = (own there.0 there.1).0 ∙ sym at.below in
+      eq-eqb f.position p (some_injective f.position p (sym stands ∙ ap (slice_get ps) (sym same) ∙ there.1)))
+
+pub is_at-listed : (log ps key : List ℕ) (p : ℕ) → IsRun log ps → key_at log p ≡ key → (place : ℕ) (front : Option Front) → IsPlace (entry_at log) key ps place (is_some front)
+    → IfSome front (λ f. slice_get ps place ≡ Some f.position) → is_at front p ≡ is_listed p ps
+is_at-listed log ps key p run is place front at stands =
+    found-listed log ps p run.1 place front (subst (λ k. IsPlace (entry_at log) k ps place (is_some front)) (sym is) at) stands

@@ -5,7 +5,8 @@
 --     value_in              the value of the first record in a list of positions that has a key
 --     IsPlace, IsIn         the place of a key in a list, by the entries of its positions;  it is there, or may be put in there
 --     IsRun                 a list of live positions in the order of their keys
---     IsFront               bytes at the front of the record at a position
+--     IsFront, is_at        bytes at the front of the record at a position;  at this one
+--     HasRuns               so is each list of an index, where not all records are kept
 --     Indexes               the log is complete records, and the index has the position of each key's newest one that has a value, once,
 --                           under the index key of the key, where the positions stand in the order of their keys
 --     IsTail                what a store knows of the bytes behind the records: after a write that failed, where a torn one may stand,
@@ -13,7 +14,7 @@
 --     Keeps                 what a store keeps of its log: where the complete records end, what stands behind them, and the index of them
 --     Settles               after the position of a key's newest record was filed: in the place of the older one, or as a new one
 --     KeepsLists            no list is another
-use Rattle.std.specs.Prelude.{◌≡◌, ◌-◌, ◌≤◌, ◌<◌, T, ℕ, Bool, true, false, List, [], ◌∷◌, ◌++◌, map, length, drop, take, insert, remove, slice_set, Option, Some, None, is_some, All}
+use Rattle.std.specs.Prelude.{◌≡◌, ◌==◌, ◌-◌, ◌≤◌, ◌<◌, T, ℕ, Bool, true, false, List, [], ◌∷◌, ◌++◌, map, length, drop, take, insert, remove, slice_set, Option, Some, None, is_some, All}
 use Rattle.std.specs.FinMap.{find, get, is_sorted, len}
 use Rattle.std.specs.declared.cmp.Ordering.{Ordering}
 use Rattle.key_index_flat.specs.FullKeys.{IsBytes, byte_cmp}
@@ -75,6 +76,10 @@ module _ (log : List ℕ) where
     pub valued : is_some here.value ≡ true
     pub last : has_key here.key after ≡ false
 
+abbrev pub is_at : Option Front → ℕ → Bool
+is_at None place = false
+is_at (Some f) place = f.position == place
+
 abbrev pub IsTail : Tail → ℕ → List ℕ → Type 0
 IsTail tail.Nothing place rest = rest ≡ []
 IsTail tail.Torn place rest = ¬ (tail_of place rest ≡ tail.Damaged)
@@ -89,6 +94,9 @@ module _ {K : Type 0} (cmp : K → K → Ordering) where
     pub latest : (k : K) → All (IsLatest log) (run_at cmp s k)
     pub found : (key : List ℕ) → value_in log key (run_of cmp s key) ≡ get (held_by log) key
     pub counted : items_in s ≡ len (held_by log)
+
+  abbrev pub HasRuns : View K ℕ → Bool → List ℕ → Type 0
+  HasRuns s is_all log = is_all ≡ false → (key : List ℕ) → IsRun log (run_of cmp s key)
 
   pub record Keeps (log : List ℕ) (s : View K ℕ) (end : ℕ) (tail : Tail) : Type 0 where
     pub within : end ≤ length log

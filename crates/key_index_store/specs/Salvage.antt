@@ -4,6 +4,7 @@
 --     places_in     all of them, from the first byte on
 --     salvaged      the records that stand there, in order
 --     copied, keeps  those of them that are kept;  all, or those that an index has
+--     one_if        a record, if it is kept
 --     newest        of records one behind the other, those that leave the map: what a compaction copies
 --     gaps_in       the bytes between them: where they stand, how many they are, and the key of the record that stood there,
 --                   where its head and its key read
@@ -54,6 +55,9 @@ kept keeps place rs = filter (λ r. keeps place r.key) rs
 
 abbrev pub kept_of : (ℕ → List ℕ → Bool) → ℕ → Entry → List Entry
 kept_of keeps place r = kept keeps place (r ∷ [])
+
+abbrev pub one_if : Bool → Entry → List Entry
+one_if is_kept r = if is_kept then r ∷ [] else []
 
 abbrev pub copied : (ℕ → List ℕ → Bool) → List ℕ → List Entry
 copied keeps log = flat_map (λ place. kept keeps place (found (reading place (drop place log)))) (places_in log)

@@ -1,13 +1,15 @@
 //! The records of a log, or those that leave its map, copied to a fresh one, behind damage too.
 ghost use Rattle.std.specs.Prelude.{◌≡◌, ◌⊎◌, ◌<◌, ◌≤◌, ◌+◌, ◌-◌, ℕ, List, [], ◌++◌, length, map, min, take, drop, IfOk, IfErr, OnErr, OnOk};
 ghost use Rattle.key_index_store.specs.Device.{Changes, IsBegun, IsRead, Sees};
+ghost use Rattle.key_index_store.specs.Indexed.{HasRuns, is_at, key_at};
 ghost use Rattle.key_index_store.specs.Record.{Fits, encoded_from, entry_of, key_in, log_of, size_of};
-ghost use Rattle.key_index_store.specs.Salvage.{Gap, MaySalvage, copied, gap_of, gaps_at, gaps_in, is_listed, keeps, kept_of, step, unknown};
+ghost use Rattle.key_index_store.specs.Salvage.{Gap, MaySalvage, copied, gap_of, gaps_at, gaps_in, is_listed, keeps, one_if, step, unknown};
+ghost use Rattle.key_index_store.specs.Stored.{MayRead};
 
 use crate::device::Device;
 use crate::record::{Reading, Record, decode, encode, has_head, key_in, record_length};
 use crate::store::Fault;
-use crate::store::find::{BLOCK, length_of, read_front};
+use crate::store::find::{BLOCK, Front, find, length_of, read_front};
 use key_index_flat::index::{Unordered, Values};
 use std::alloc::{AllocError, Global};
 
@@ -97,11 +99,34 @@ fn leave_out(
     Ok(next)
 }
 
+/// How many positions a list has at most that is gone along.
+const FEW: usize = 64;
+
 /// Whether the record of a key at a place is copied: each one is, or those whose positions an index has.
-fn is_kept<I: Unordered<Value = u64>>(index: &I, is_all: bool, place: u64, key: &[u8]) -> bool
-    ensures { result ≡ keeps I.Key.cmp (I.view index.now) is_all place key.now }
+fn is_kept<D: Device, I: Unordered<Value = u64>>(
+    alloc: Global,
+    from: &mut D,
+    len: u64,
+    index: &I,
+    is_all: bool,
+    place: u64,
+    key: &[u8],
+) -> Result<bool, Fault>
+    ensures told { Sees (D.seen from.new) (λ log. len ≤ length log
+        → HasRuns I.Key.cmp (I.view index.now) is_all (take len log) → key_at (take len log) place ≡ key.now
+        → IfOk result (λ t. t ≡ keeps I.Key.cmp (I.view index.now) is_all place key.now)) }
+    ensures read { IsRead D.seen D.may_leave from.old from.new }
+    ensures fault { IfErr result MayRead }
 {
-    is_all || is_listed(index.get(key), place)
+    if is_all {
+        return Ok(true);
+    }
+    let positions = index.get(key);
+    if positions.len() <= FEW {
+        return Ok(is_listed(positions, place));
+    }
+    let found = find(alloc, from, index, key, len)?;
+    Ok(is_at(&found.front, place))
 }
 
 /// Whether a list has a position.
@@ -116,30 +141,35 @@ fn is_listed(positions: Values<'_, u64>, place: u64) -> bool
     false
 }
 
+/// Whether the record that was found stands at a place.
+fn is_at(front: &Option<Front>, place: u64) -> bool
+    ensures { result ≡ is_at front.now place }
+{
+    match front {
+        Some(front) => front.position == place,
+        None => false,
+    }
+}
+
 /// Writes the record of a place at the end of a log, if it is kept. Gives how many records were written, and how many bytes.
-fn write<C: Device, I: Unordered<Value = u64>>(
+fn write<C: Device>(
     alloc: Global,
-    index: &I,
-    is_all: bool,
     into: &mut C,
     end: u64,
-    place: u64,
+    is_kept: bool,
     whole: Record<'_>,
 ) -> Result<(u64, u64), Fault>
     requires { Fits (entry_of whole) }
-    ensures records { IfOk result (λ n. (n.0 ≤ 1)
-        × (n.0 ≡ length (kept_of (keeps I.Key.cmp (I.view index.now) is_all) place (entry_of whole.entry)))) }
-    ensures bytes { IfOk result (λ n. (n.1 ≤ size_of (entry_of whole.entry)) × (n.1 ≡ length (encoded_from end
-        (kept_of (keeps I.Key.cmp (I.view index.now) is_all) place (entry_of whole.entry))))) }
+    ensures records { IfOk result (λ n. (n.0 ≤ 1) × (n.0 ≡ length (one_if is_kept (entry_of whole.entry)))) }
+    ensures bytes { IfOk result (λ n. (n.1 ≤ size_of (entry_of whole.entry))
+        × (n.1 ≡ length (encoded_from end (one_if is_kept (entry_of whole.entry))))) }
     ensures written { OnOk result (Changes (C.seen into.old) (C.seen into.new) (λ old new. end ≡ length old
-        → new ≡ old ++ encoded_from end
-        (kept_of (keeps I.Key.cmp (I.view index.now) is_all) place (entry_of whole.entry)))) }
+        → new ≡ old ++ encoded_from end (one_if is_kept (entry_of whole.entry)))) }
     ensures begun { OnErr result (Changes (C.seen into.old) (C.seen into.new) (λ old new. end ≡ length old
-        → IsBegun (encoded_from end
-        (kept_of (keeps I.Key.cmp (I.view index.now) is_all) place (entry_of whole.entry))) old new)) }
+        → IsBegun (encoded_from end (one_if is_kept (entry_of whole.entry))) old new)) }
     ensures fault { IfErr result (λ f. (f ≡ Fault.Memory) ⊎ (f ≡ Fault.WriteFailed)) }
 {
-    if !is_kept(index, is_all, place, whole.key) {
+    if !is_kept {
         return Ok((0, 0));
     }
     let bytes = encode(alloc, end, whole.key, whole.value)?;
@@ -151,7 +181,7 @@ fn write<C: Device, I: Unordered<Value = u64>>(
 
 /// Copies the records of the first `len` bytes of a log that are kept to a fresh one, in their order, behind damage too: behind a head
 /// that reads it goes on behind the whole record, and looks byte by byte only where none does. So what a value holds is not taken for a
-/// record while its own record's head reads.
+/// record while its own record's head reads. Where not all are kept, each list of the index is a run.
 pub(crate) fn copy<D: Device, C: Device, I: Unordered<Value = u64>>(
     alloc: Global,
     from: &mut D,
@@ -161,16 +191,21 @@ pub(crate) fn copy<D: Device, C: Device, I: Unordered<Value = u64>>(
     is_all: bool,
 ) -> Result<Salvaged, Fault>
     ensures copied { OnOk result (Sees (D.seen from.new) (λ log. len ≤ length log
+        → HasRuns I.Key.cmp (I.view index.now) is_all (take len log)
         → Changes (C.seen into.old) (C.seen into.new) (λ old new.
         (old ≡ []) × (new ≡ log_of (copied (keeps I.Key.cmp (I.view index.now) is_all) (take len log)))))) }
     ensures records { IfOk result (λ s. Sees (D.seen from.new) (λ log. len ≤ length log
+        → HasRuns I.Key.cmp (I.view index.now) is_all (take len log)
         → s.records ≡ length (copied (keeps I.Key.cmp (I.view index.now) is_all) (take len log)))) }
     ensures left_out { IfOk result (λ s. Sees (D.seen from.new) (λ log. len ≤ length log
+        → HasRuns I.Key.cmp (I.view index.now) is_all (take len log)
         → Sees (C.seen into.new) (λ bytes. s.left_out ≡ len - length bytes))) }
     ensures gaps { IfOk result (λ s. Sees (D.seen from.new) (λ log. len ≤ length log
+        → HasRuns I.Key.cmp (I.view index.now) is_all (take len log)
         → map gap_of s.gaps.items ≡ gaps_in (take len log))) }
     // Where it fails, it has appended a front of that, and nothing to a log that had bytes.
     ensures begun { Sees (D.seen from.new) (λ log. len ≤ length log
+        → HasRuns I.Key.cmp (I.view index.now) is_all (take len log)
         → Changes (C.seen into.old) (C.seen into.new) (λ old new.
         (n : ℕ) × (new ≡ old ++ take n (log_of (copied (keeps I.Key.cmp (I.view index.now) is_all) (take len log)))))) }
     ensures stays { Changes (C.seen into.old) (C.seen into.new) (λ old new. 0 < length old → new ≡ old) }
@@ -191,7 +226,8 @@ pub(crate) fn copy<D: Device, C: Device, I: Unordered<Value = u64>>(
         match decode(rest, position) {
             Reading::Complete(record) => {
                 note(&mut gaps, since, position)?;
-                let written = write(alloc, index, is_all, into, end, position, record)?;
+                let is_kept = is_kept(alloc, from, len, index, is_all, position, record.key)?;
+                let written = write(alloc, into, end, is_kept, record)?;
                 records += written.0;
                 end = end.saturating_add(written.1);
                 (position, since) = (next, next);

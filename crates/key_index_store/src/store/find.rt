@@ -110,20 +110,20 @@ pub(super) struct InList {
 
 /// The bytes at the front of a record.
 #[derive(Drop)]
-pub(super) struct Front {
-    pub(super) position: u64,
-    pub(super) bytes: Vec<u8>,
+pub(crate) struct Front {
+    pub(crate) position: u64,
+    pub(crate) bytes: Vec<u8>,
 }
 
 /// A key that was looked up in its list.
 #[derive(Drop)]
-pub(super) struct Found {
+pub(crate) struct Found {
     /// How many keys of the list are below it.
-    pub(super) place: usize,
+    pub(crate) place: usize,
     /// Its record, if it has one.
-    pub(super) front: Option<Front>,
+    pub(crate) front: Option<Front>,
     /// Records that don't read stand at the place: one of them may be its own.
-    pub(super) is_hidden: bool,
+    pub(crate) is_hidden: bool,
 }
 
 /// A record of a list whose key reads, and how that key compares with another one.
@@ -192,7 +192,7 @@ fn block_of(is_alone: bool) -> u64
 
 /// Looks a key up in its list, in the first `limit` bytes of a log, by as many reads as the length of the list has binary digits. Where
 /// a record doesn't read, the next one that does tells on which side the key is.
-pub(super) fn find<D: Device, I: Unordered<Value = u64>>(
+pub(crate) fn find<D: Device, I: Unordered<Value = u64>>(
     alloc: Global,
     device: &mut D,
     index: &I,

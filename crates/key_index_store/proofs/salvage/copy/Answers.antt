@@ -1,8 +1,9 @@
-use Rattle.std.proofs.Common.{rules, ◌≡◌, ◌+◌, ◌-◌, ◌≤◌, ◌++◌, ℕ, List, false, true, length, [], map, min, take, drop, refl, sym, ap, ◌∙◌, append-nil, append_assoc, length-take, arith}
+use Rattle.std.proofs.Common.{rules, ◌≡◌, ◌+◌, ◌-◌, ◌≤◌, ◌++◌, ℕ, List, false, true, length, [], map, min, take, drop, refl, sym, ap, subst, ◌∙◌, append-nil, append_assoc, length-take, arith}
 use Rattle.std.proofs.lemmas.List.{nil_from_length}
-use Rattle.key_index_store.specs.Device.{Sees}
-use Rattle.key_index_store.specs.Record.{Complete, Damaged, Entry, Torn, entry_of, key_in, reading, size_of}
-use Rattle.key_index_store.specs.Salvage.{gap_of, gaps_at, gaps_from, keeps, step, unknown}
+use Rattle.key_index_store.specs.Device.{IsBegun, Sees}
+use Rattle.key_index_store.specs.Indexed.{HasRuns, parts_of}
+use Rattle.key_index_store.specs.Record.{Complete, Damaged, Entry, Torn, encoded_from, entry_of, key_in, reading, size_of}
+use Rattle.key_index_store.specs.Salvage.{gap_of, gaps_at, gaps_from, keeps, one_if, step, unknown}
 use Rattle.key_index_store.specs.laws.ReadLaws.{read-then}
 use Rattle.key_index_store.proofs.SalvageLemmas.{Told, copied_all, copied_begun, copied_next, copied_none, copied_part, counted_all, kept_none, next_whole, noted_all, rest_places, scan_at, scan_next, there, told_at}
 use Rattle.key_index_store.proofs.salvage.copy.Goals as goal
@@ -14,17 +15,17 @@ pub loop-position-init : goal.loop-position-init
 loop-position-init g c = record {
   order = omega arith;
   few = omega arith;
-  behind = λ log seen le. omega arith;
+  behind = λ log seen le runs. omega arith;
   read = c.in_ok-block.ensures.read;
   fresh = λ new seen_new.
       let told : c.in_ok-length_of.field-0 ≡ length new = c.in_ok-length_of.ensures.told new seen_new in
       (new, c.length_of.ensures.read.stays new seen_new, nil_from_length new (omega (arith, told, c.if-branch-ne0.false)));
-  scan = λ log seen le.
+  scan = λ log seen le runs.
       let front : List ℕ = take c.args.len log in
       scan_at (keeps g.I.Key.Ord.cmp (g.I.Runs.view c.args.index.now) c.args.is_all) front c.in_ok-block.block.items c.args.len 0 0 0 _ (omega (arith, length-take c.args.len log, le))
       (c.in_ok-block.ensures.front log seen le) (c.in_ok-block.ensures.whole refl log seen le) (c.in_ok-block.ensures.step log seen le) (c.in_ok-block.ensures.key log seen le)
       (omega arith) (ap (λ l. map gap_of l ++ gaps_from front 0 (rest_places front 0)) c.new-gaps.ensures.items);
-  copied = λ log seen le new seen_new.
+  copied = λ log seen le runs new seen_new.
       let told : c.in_ok-length_of.field-0 ≡ length new = c.in_ok-length_of.ensures.told new seen_new in
       (new, c.length_of.ensures.read.stays new seen_new, copied_none (keeps g.I.Key.Ord.cmp (g.I.Runs.view c.args.index.now) c.args.is_all) (take c.args.len log) new (omega (arith, told, c.if-branch-ne0.false)));
 }
@@ -33,8 +34,8 @@ pub returns-in_err-block-in-Torn-2-clause-read : goal.returns-in_err-block-in-To
 returns-in_err-block-in-Torn-2-clause-read g c = read-then _ _ _ c.loop-position.invariant.read c.read_front-in-Torn-2.ensures.read
 
 pub returns-in_err-block-in-Torn-2-clause-begun : goal.returns-in_err-block-in-Torn-2-clause-begun
-returns-in_err-block-in-Torn-2-clause-begun g c = λ log seen le new seen_new.
-    let was = c.loop-position.invariant.copied log (c.read_front-in-Torn-2.ensures.read.stays log seen) le new seen_new in
+returns-in_err-block-in-Torn-2-clause-begun g c = λ log seen le runs new seen_new.
+    let was = c.loop-position.invariant.copied log (c.read_front-in-Torn-2.ensures.read.stays log seen) le runs new seen_new in
     (was.0, was.1, copied_part (keeps g.I.Key.Ord.cmp (g.I.Runs.view c.args.index.now) c.args.is_all) (take c.args.len log) c.loop-position.position c.loop-position.end was.0 new was.2)
 
 pub returns-in_err-block-in-Torn-2-clause-stays : goal.returns-in_err-block-in-Torn-2-clause-stays
@@ -48,39 +49,39 @@ loop-position-preserved g c = record {
   behind = λ log seen. c.loop-position.invariant.behind log (c.in_ok-block-in-Torn-2.ensures.read.stays log seen);
   read = read-then _ _ _ c.loop-position.invariant.read c.in_ok-block-in-Torn-2.ensures.read;
   fresh = c.loop-position.invariant.fresh;
-  scan = λ log seen le.
-      let was = c.loop-position.invariant.scan log (c.in_ok-block-in-Torn-2.ensures.read.stays log seen) le in
+  scan = λ log seen le runs.
+      let was = c.loop-position.invariant.scan log (c.in_ok-block-in-Torn-2.ensures.read.stays log seen) le runs in
       scan_at (keeps g.I.Key.Ord.cmp (g.I.Runs.view c.args.index.now) c.args.is_all) (take c.args.len log) c.in_ok-block-in-Torn-2.block.items c.args.len c.loop-position.position c.loop-position.records c.loop-position.since _ was.told
       (c.in_ok-block-in-Torn-2.ensures.front log seen le) (c.in_ok-block-in-Torn-2.ensures.whole refl log seen le) (c.in_ok-block-in-Torn-2.ensures.step log seen le) (c.in_ok-block-in-Torn-2.ensures.key log seen le) was.counted was.noted;
   copied = λ log seen. c.loop-position.invariant.copied log (c.in_ok-block-in-Torn-2.ensures.read.stays log seen);
 }
 
 pub returns-clause-copied : goal.returns-clause-copied
-returns-clause-copied g c = λ log seen le new seen_new.
-    let was = c.loop-position.invariant.copied log seen le new seen_new in
-    let told = (c.loop-position.invariant.scan log seen le).told in
+returns-clause-copied g c = λ log seen le runs new seen_new.
+    let was = c.loop-position.invariant.copied log seen le runs new seen_new in
+    let told = (c.loop-position.invariant.scan log seen le runs).told in
     let all = copied_all (keeps g.I.Key.Ord.cmp (g.I.Runs.view c.args.index.now) c.args.is_all) (take c.args.len log) c.loop-position.position c.loop-position.end was.0 new was.2 (omega (arith, told, c.loop-position-test.false)) in
     (was.0, was.1, (was.2.none, all))
 
 pub returns-clause-records : goal.returns-clause-records
-returns-clause-records g c = λ log seen le. counted_all (c.loop-position.invariant.scan log seen le) c.loop-position-test.false
+returns-clause-records g c = λ log seen le runs. counted_all (c.loop-position.invariant.scan log seen le runs) c.loop-position-test.false
 
 pub returns-clause-left_out : goal.returns-clause-left_out
-returns-clause-left_out g c = λ log seen le new seen_new.
-    let was = c.loop-position.invariant.copied log seen le new seen_new in
+returns-clause-left_out g c = λ log seen le runs new seen_new.
+    let was = c.loop-position.invariant.copied log seen le runs new seen_new in
     omega (arith, was.2.size, c.saturating_sub.ensures)
 
 pub returns-clause-begun : goal.returns-clause-begun
-returns-clause-begun g c = λ log seen le new seen_new.
-    let was = c.loop-position.invariant.copied log seen le new seen_new in
+returns-clause-begun g c = λ log seen le runs new seen_new.
+    let was = c.loop-position.invariant.copied log seen le runs new seen_new in
     (was.0, was.1, copied_part (keeps g.I.Key.Ord.cmp (g.I.Runs.view c.args.index.now) c.args.is_all) (take c.args.len log) c.loop-position.position c.loop-position.end was.0 new was.2)
 
 pub returns-clause-stays : goal.returns-clause-stays
 returns-clause-stays g c = λ new seen_new. (let was = c.loop-position.invariant.fresh new seen_new in (was.0, was.1, kept_none was.0 new was.2))
 
 pub returns-in_err-note-in-Complete-clause-begun : goal.returns-in_err-note-in-Complete-clause-begun
-returns-in_err-note-in-Complete-clause-begun g c = λ log seen le new seen_new.
-    let was = c.loop-position.invariant.copied log seen le new seen_new in
+returns-in_err-note-in-Complete-clause-begun g c = λ log seen le runs new seen_new.
+    let was = c.loop-position.invariant.copied log seen le runs new seen_new in
     (was.0, was.1, copied_part (keeps g.I.Key.Ord.cmp (g.I.Runs.view c.args.index.now) c.args.is_all) (take c.args.len log) c.loop-position.position c.loop-position.end was.0 new was.2)
 
 pub returns-in_err-note-in-Complete-clause-stays : goal.returns-in_err-note-in-Complete-clause-stays
@@ -88,8 +89,8 @@ returns-in_err-note-in-Complete-clause-stays g c =
     λ new seen_new. (let was = c.loop-position.invariant.fresh new seen_new in (was.0, was.1, kept_none was.0 new was.2))
 
 pub returns-in_err-since-in-Damaged-clause-begun : goal.returns-in_err-since-in-Damaged-clause-begun
-returns-in_err-since-in-Damaged-clause-begun g c = λ log seen le new seen_new.
-    let was = c.loop-position.invariant.copied log seen le new seen_new in
+returns-in_err-since-in-Damaged-clause-begun g c = λ log seen le runs new seen_new.
+    let was = c.loop-position.invariant.copied log seen le runs new seen_new in
     (was.0, was.1, copied_part (keeps g.I.Key.Ord.cmp (g.I.Runs.view c.args.index.now) c.args.is_all) (take c.args.len log) c.loop-position.position c.loop-position.end was.0 new was.2)
 
 pub returns-in_err-since-in-Damaged-clause-stays : goal.returns-in_err-since-in-Damaged-clause-stays
@@ -97,8 +98,8 @@ returns-in_err-since-in-Damaged-clause-stays g c =
     λ new seen_new. (let was = c.loop-position.invariant.fresh new seen_new in (was.0, was.1, kept_none was.0 new was.2))
 
 pub returns-in_err-since-in-Torn-clause-begun : goal.returns-in_err-since-in-Torn-clause-begun
-returns-in_err-since-in-Torn-clause-begun g c = λ log seen le new seen_new.
-    let was = c.loop-position.invariant.copied log seen le new seen_new in
+returns-in_err-since-in-Torn-clause-begun g c = λ log seen le runs new seen_new.
+    let was = c.loop-position.invariant.copied log seen le runs new seen_new in
     (was.0, was.1, copied_part (keeps g.I.Key.Ord.cmp (g.I.Runs.view c.args.index.now) c.args.is_all) (take c.args.len log) c.loop-position.position c.loop-position.end was.0 new was.2)
 
 pub returns-in_err-since-in-Torn-clause-stays : goal.returns-in_err-since-in-Torn-clause-stays
@@ -106,8 +107,8 @@ returns-in_err-since-in-Torn-clause-stays g c =
     λ new seen_new. (let was = c.loop-position.invariant.fresh new seen_new in (was.0, was.1, kept_none was.0 new was.2))
 
 pub returns-in_err-note-clause-begun : goal.returns-in_err-note-clause-begun
-returns-in_err-note-clause-begun g c = λ log seen le new seen_new.
-    let was = c.loop-position.invariant.copied log seen le new seen_new in
+returns-in_err-note-clause-begun g c = λ log seen le runs new seen_new.
+    let was = c.loop-position.invariant.copied log seen le runs new seen_new in
     (was.0, was.1, copied_part (keeps g.I.Key.Ord.cmp (g.I.Runs.view c.args.index.now) c.args.is_all) (take c.args.len log) c.loop-position.position c.loop-position.end was.0 new was.2)
 
 pub returns-in_err-note-clause-stays : goal.returns-in_err-note-clause-stays
@@ -123,19 +124,19 @@ loop-position-preserved-in-Damaged g c = let inv = c.loop-position.invariant in
     let next = c.next_place-next.result in
     let is = c.next_place-next.ensures.value ∙ ap (λ l. min (position + step position l) c.args.len) rest in
     let on : position + 1 ≤ next = omega (arith, c.next_place-next.ensures.on c.loop-position-test.true) in
-    let told : Sees (g.D.Device.seen c.loop-position.from) (λ log. c.args.len ≤ length log → Told (take c.args.len log) bytes position Damaged) =
-    λ log seen le. told_at (inv.scan log seen le) inv.order Damaged (sym (c.in-Damaged.ensures.exact ∙ ap (reading position) rest)) (λ e. absurd (cc)) in
+    let told : Sees (g.D.Device.seen c.loop-position.from) (λ log. c.args.len ≤ length log → HasRuns g.I.Key.Ord.cmp (g.I.Runs.view c.args.index.now) c.args.is_all (take c.args.len log) → Told (take c.args.len log) bytes position Damaged) =
+    λ log seen le runs. told_at (inv.scan log seen le runs) inv.order Damaged (sym (c.in-Damaged.ensures.exact ∙ ap (reading position) rest)) (λ e. absurd (cc)) in
     record {
       order = omega (arith, inv.order, on);
       few = omega (arith, inv.few, on);
-      behind = λ log seen le. omega (arith, inv.behind log seen le, on);
+      behind = λ log seen le runs. omega (arith, inv.behind log seen le runs, on);
       read = inv.read;
       fresh = inv.fresh;
-      scan = λ log seen le. scan_next (inv.scan log seen le) c.loop-position-test.true bytes Damaged (told log seen le) next is c.loop-position.records c.in_ok-since-in-Damaged.since _ (omega arith)
+      scan = λ log seen le runs. scan_next (inv.scan log seen le runs) c.loop-position-test.true bytes Damaged (told log seen le runs) next is c.loop-position.records c.in_ok-since-in-Damaged.since _ (omega arith)
           (λ behind. c.in_ok-since-in-Damaged.ensures.noted behind ∙ ap (λ l. map gap_of c.loop-position.gaps.items ++ gaps_at c.loop-position.since position next [] (key_in position l) behind) rest);
-      copied = λ log seen le new seen_new.
-          let was = inv.copied log seen le new seen_new in
-          (was.0, was.1, copied_next (inv.scan log seen le) c.loop-position-test.true bytes Damaged (told log seen le) next is was.2 c.loop-position.end new (omega arith) (sym (append-nil new)));
+      copied = λ log seen le runs new seen_new.
+          let was = inv.copied log seen le runs new seen_new in
+          (was.0, was.1, copied_next (inv.scan log seen le runs) c.loop-position-test.true bytes Damaged (told log seen le runs) next is was.2 c.loop-position.end new (omega arith) (sym (append-nil new)));
     }
 
 pub loop-position-preserved-then-start-position : goal.loop-position-preserved-then-start-position
@@ -147,19 +148,19 @@ loop-position-preserved-then-start-position g c = let inv = c.loop-position.inva
     let next = c.next_place-next.result in
     let is = c.next_place-next.ensures.value ∙ ap (λ l. min (position + step position l) c.args.len) rest in
     let on : position + 1 ≤ next = omega (arith, c.next_place-next.ensures.on c.loop-position-test.true) in
-    let told : Sees (g.D.Device.seen c.loop-position.from) (λ log. c.args.len ≤ length log → Told (take c.args.len log) bytes position Torn) =
-    λ log seen le. told_at (inv.scan log seen le) inv.order Torn (sym (c.in-Torn.ensures.exact ∙ ap (reading position) rest)) (λ e. omega (arith, c.if-start-position.true)) in
+    let told : Sees (g.D.Device.seen c.loop-position.from) (λ log. c.args.len ≤ length log → HasRuns g.I.Key.Ord.cmp (g.I.Runs.view c.args.index.now) c.args.is_all (take c.args.len log) → Told (take c.args.len log) bytes position Torn) =
+    λ log seen le runs. told_at (inv.scan log seen le runs) inv.order Torn (sym (c.in-Torn.ensures.exact ∙ ap (reading position) rest)) (λ e. omega (arith, c.if-start-position.true)) in
     record {
       order = omega (arith, inv.order, on);
       few = omega (arith, inv.few, on);
-      behind = λ log seen le. omega (arith, inv.behind log seen le, on);
+      behind = λ log seen le runs. omega (arith, inv.behind log seen le runs, on);
       read = inv.read;
       fresh = inv.fresh;
-      scan = λ log seen le. scan_next (inv.scan log seen le) c.loop-position-test.true bytes Torn (told log seen le) next is c.loop-position.records c.in_ok-since-in-Torn.since _ (omega arith)
+      scan = λ log seen le runs. scan_next (inv.scan log seen le runs) c.loop-position-test.true bytes Torn (told log seen le runs) next is c.loop-position.records c.in_ok-since-in-Torn.since _ (omega arith)
           (λ behind. c.in_ok-since-in-Torn.ensures.noted behind ∙ ap (λ l. map gap_of c.loop-position.gaps.items ++ gaps_at c.loop-position.since position next [] (key_in position l) behind) rest);
-      copied = λ log seen le new seen_new.
-          let was = inv.copied log seen le new seen_new in
-          (was.0, was.1, copied_next (inv.scan log seen le) c.loop-position-test.true bytes Torn (told log seen le) next is was.2 c.loop-position.end new (omega arith) (sym (append-nil new)));
+      copied = λ log seen le runs new seen_new.
+          let was = inv.copied log seen le runs new seen_new in
+          (was.0, was.1, copied_next (inv.scan log seen le runs) c.loop-position-test.true bytes Torn (told log seen le runs) next is was.2 c.loop-position.end new (omega arith) (sym (append-nil new)));
     }
 
 pub loop-position-preserved-in-Complete : goal.loop-position-preserved-in-Complete
@@ -172,50 +173,75 @@ loop-position-preserved-in-Complete g c = let inv = c.loop-position.invariant in
     let next = c.next_place-next.result in
     let is = c.next_place-next.ensures.value ∙ ap (λ l. min (position + step position l) c.args.len) rest in
     let on : position + 1 ≤ next = omega (arith, c.next_place-next.ensures.on c.loop-position-test.true) in
-    let told : Sees (g.D.Device.seen c.loop-position.from) (λ log. c.args.len ≤ length log → Told (take c.args.len log) bytes position (Complete r)) =
-    λ log seen le. told_at (inv.scan log seen le) inv.order (Complete r) (sym (c.in-Complete.ensures.exact ∙ ap (reading position) rest)) (λ e. absurd (cc)) in
-    let far : Sees (g.D.Device.seen c.loop-position.from) (λ log. c.args.len ≤ length log → (next ≡ position + size_of r) × (position + size_of r ≤ c.args.len)) =
-    λ log seen le.
-    let w = next_whole (take c.args.len log) position r (told log seen le).reads in
-    (there (inv.scan log seen le) c.loop-position-test.true bytes (Complete r) (told log seen le) next is ∙ w.0, omega (arith, w.1, (inv.scan log seen le).told)) in
+    let stays = c.in_ok-is_kept-in-Complete.ensures.read.stays in
+    let keeps_it = keeps g.I.Key.Ord.cmp (g.I.Runs.view c.args.index.now) c.args.is_all in
+    let told : Sees (g.D.Device.seen c.loop-position.from) (λ log. c.args.len ≤ length log → HasRuns g.I.Key.Ord.cmp (g.I.Runs.view c.args.index.now) c.args.is_all (take c.args.len log) → Told (take c.args.len log) bytes position (Complete r)) =
+    λ log seen le runs. told_at (inv.scan log seen le runs) inv.order (Complete r) (sym (c.in-Complete.ensures.exact ∙ ap (reading position) rest)) (λ e. absurd (cc)) in
+    let far : Sees (g.D.Device.seen c.loop-position.from) (λ log. c.args.len ≤ length log → HasRuns g.I.Key.Ord.cmp (g.I.Runs.view c.args.index.now) c.args.is_all (take c.args.len log) → (next ≡ position + size_of r) × (position + size_of r ≤ c.args.len)) =
+    λ log seen le runs.
+    let w = next_whole (take c.args.len log) position r (told log seen le runs).reads in
+    (there (inv.scan log seen le runs) c.loop-position-test.true bytes (Complete r) (told log seen le runs) next is ∙ w.0, omega (arith, w.1, (inv.scan log seen le runs).told)) in
     let wrote = c.in_ok-written-in-Complete.ensures in
-    let end : Sees (g.D.Device.seen c.loop-position.from) (λ log. c.args.len ≤ length log → c.saturating_add-end.result ≡ c.loop-position.end + c.in_ok-written-in-Complete.written.1) =
-    λ log seen le. omega (arith, (far log seen le).1, inv.behind log seen le, wrote.bytes.0, c.saturating_add-end.ensures) in
+    let end : Sees (g.D.Device.seen c.loop-position.from) (λ log. c.args.len ≤ length log → HasRuns g.I.Key.Ord.cmp (g.I.Runs.view c.args.index.now) c.args.is_all (take c.args.len log) → c.saturating_add-end.result ≡ c.loop-position.end + c.in_ok-written-in-Complete.written.1) =
+    λ log seen le runs. omega (arith, (far log seen le runs).1, inv.behind log seen le runs, wrote.bytes.0, c.saturating_add-end.ensures) in
+    let kept : Sees (g.D.Device.seen c.is_kept.new.from) (λ log. c.args.len ≤ length log → HasRuns g.I.Key.Ord.cmp (g.I.Runs.view c.args.index.now) c.args.is_all (take c.args.len log) → c.in_ok-is_kept-in-Complete.is_kept ≡ keeps_it position r.key) =
+    λ log seen le runs. c.in_ok-is_kept-in-Complete.ensures.told log seen le runs (ap (λ o. (parts_of o).0) (told log (stays log seen) le runs).reads) in
     record {
       order = omega (arith, inv.order, on);
       few = omega (arith, inv.few, on, wrote.records.0);
-      behind = λ log seen le. omega (arith, inv.behind log seen le, end log seen le, (far log seen le).0, wrote.bytes.0);
-      read = inv.read;
+      behind = λ log seen le runs. (let at = stays log seen in omega (arith, inv.behind log at le runs, end log at le runs, (far log at le runs).0, wrote.bytes.0));
+      read = read-then _ _ _ inv.read c.in_ok-is_kept-in-Complete.ensures.read;
       fresh = λ new seen_new. inv.fresh (wrote.written new seen_new).0 (wrote.written new seen_new).1;
-      scan = λ log seen le. scan_next (inv.scan log seen le) c.loop-position-test.true bytes (Complete r) (told log seen le) next is (c.loop-position.records + c.in_ok-written-in-Complete.written.0) next _
-          (ap (λ n. c.loop-position.records + n) wrote.records.1)
+      scan = λ log seen le runs.
+          let at = stays log seen in
+          scan_next (inv.scan log at le runs) c.loop-position-test.true bytes (Complete r) (told log at le runs) next is (c.loop-position.records + c.in_ok-written-in-Complete.written.0) next _
+          (ap (λ n. c.loop-position.records + n) (wrote.records.1 ∙ ap (λ b. length (one_if b r)) (kept log seen le runs)))
           (λ behind. ap (λ l. l ++ behind next) c.in_ok-note-in-Complete.ensures ∙ append_assoc (map gap_of c.loop-position.gaps.items) (unknown c.loop-position.since position) (behind next));
-      copied = λ log seen le new seen_new.
+      copied = λ log seen le runs new seen_new.
+          let at = stays log seen in
           let more = wrote.written new seen_new in
-          let was = inv.copied log seen le more.0 more.1 in (
+          let was = inv.copied log at le runs more.0 more.1 in
+          let own = ap (λ b. encoded_from c.loop-position.end (one_if b r)) (kept log seen le runs) in (
             was.0,
             was.1,
-            copied_next (inv.scan log seen le) c.loop-position-test.true bytes (Complete r) (told log seen le) next is was.2 c.saturating_add-end.result new
-                (omega (arith, end log seen le, wrote.bytes.1)) (more.2 was.2.size),
+            copied_next (inv.scan log at le runs) c.loop-position-test.true bytes (Complete r) (told log at le runs) next is was.2 c.saturating_add-end.result new
+                (omega (arith, end log at le runs, wrote.bytes.1, ap (λ l. length l) own)) (more.2 was.2.size ∙ ap (λ l. more.0 ++ l) own),
           );
     }
 
 pub returns-clause-gaps : goal.returns-clause-gaps
-returns-clause-gaps g c = λ log seen le.
-    noted_all (c.loop-position.invariant.scan log seen le) c.loop-position-test.false _ c.in_ok-note.ensures
+returns-clause-gaps g c = λ log seen le runs.
+    noted_all (c.loop-position.invariant.scan log seen le runs) c.loop-position-test.false _ c.in_ok-note.ensures
 
 pub returns-in_err-written-in-Complete-clause-begun : goal.returns-in_err-written-in-Complete-clause-begun
-returns-in_err-written-in-Complete-clause-begun g c = λ log seen le new seen_new.
+returns-in_err-written-in-Complete-clause-begun g c = λ log seen le runs new seen_new.
     let inv = c.loop-position.invariant in
     let r : Entry = entry_of c.in-Complete.record in
+    let at = c.in_ok-is_kept-in-Complete.ensures.read.stays log seen in
     let rest = c.bytes_from-rest.ensures ∙ ap (drop (c.loop-position.position - c.loop-position.start)) c.as_slice.ensures.value in
-    let told = told_at (inv.scan log seen le) inv.order (Complete r) (sym (c.in-Complete.ensures.exact ∙ ap (reading c.loop-position.position) rest)) (λ e. absurd (cc)) in
+    let told = told_at (inv.scan log at le runs) inv.order (Complete r) (sym (c.in-Complete.ensures.exact ∙ ap (reading c.loop-position.position) rest)) (λ e. absurd (cc)) in
+    let kept = c.in_ok-is_kept-in-Complete.ensures.told log seen le runs (ap (λ o. (parts_of o).0) told.reads) in
     let failed = c.in_err-written-in-Complete.ensures.begun new seen_new in
-    let was = inv.copied log seen le failed.0 failed.1 in
-    (was.0, was.1, copied_begun was.2 r told.reads new (failed.2 was.2.size))
+    let was = inv.copied log at le runs failed.0 failed.1 in
+    (was.0, was.1, copied_begun was.2 r told.reads new (subst (λ b. IsBegun (encoded_from c.loop-position.end (one_if b r)) failed.0 new) kept (failed.2 was.2.size)))
 
 pub returns-in_err-written-in-Complete-clause-stays : goal.returns-in_err-written-in-Complete-clause-stays
 returns-in_err-written-in-Complete-clause-stays g c = λ new seen_new.
     let failed = c.in_err-written-in-Complete.ensures.begun new seen_new in
     let was = c.loop-position.invariant.fresh failed.0 failed.1 in
     (was.0, was.1, kept_none was.0 new was.2)
+
+pub returns-in_err-written-in-Complete-clause-read : goal.returns-in_err-written-in-Complete-clause-read
+returns-in_err-written-in-Complete-clause-read g c = read-then _ _ _ c.loop-position.invariant.read c.in_ok-is_kept-in-Complete.ensures.read
+
+pub returns-in_err-is_kept-in-Complete-clause-read : goal.returns-in_err-is_kept-in-Complete-clause-read
+returns-in_err-is_kept-in-Complete-clause-read g c = read-then _ _ _ c.loop-position.invariant.read c.in_err-is_kept-in-Complete.ensures.read
+
+pub returns-in_err-is_kept-in-Complete-clause-begun : goal.returns-in_err-is_kept-in-Complete-clause-begun
+returns-in_err-is_kept-in-Complete-clause-begun g c = λ log seen le runs new seen_new.
+    let was = c.loop-position.invariant.copied log (c.in_err-is_kept-in-Complete.ensures.read.stays log seen) le runs new seen_new in
+    (was.0, was.1, copied_part (keeps g.I.Key.Ord.cmp (g.I.Runs.view c.args.index.now) c.args.is_all) (take c.args.len log) c.loop-position.position c.loop-position.end was.0 new was.2)
+
+pub returns-in_err-is_kept-in-Complete-clause-stays : goal.returns-in_err-is_kept-in-Complete-clause-stays
+returns-in_err-is_kept-in-Complete-clause-stays g c =
+    λ new seen_new. (let was = c.loop-position.invariant.fresh new seen_new in (was.0, was.1, kept_none was.0 new was.2))
