@@ -1,7 +1,7 @@
 -- On which record is the newest of its key.
 --     latest_more, latest_last   it stays so behind a record of another key;  the one that is appended is so
 --     apart_set, apart_out       what holds of each position but that of a key, where that one is another's or goes out
-use Rattle.std.proofs.Common.{◌≡◌, ℕ, zero, suc, ◌||◌, Bool, true, false, List, [], ◌∷◌, ◌++◌, T, length, map, remove, slice_get, slice_set, Option, Some, None, is_some, All, refl, sym, ap, subst, ◌∙◌, append_assoc}
+use Rattle.std.proofs.Common.{◌≡◌, ℕ, zero, suc, ◌||◌, true, false, List, [], ◌∷◌, ◌++◌, T, length, map, remove, slice_get, slice_set, Some, is_some, All, refl, sym, ap, subst, ◌∙◌, append_assoc}
 use Rattle.std.proofs.lemmas.List.Elements.{All-cons, All-head, All-nil, All-tail}
 use Rattle.std.proofs.lemmas.List.Folds.{list_any-append}
 use Rattle.std.specs.FinMap.{is_sorted}
@@ -12,7 +12,7 @@ use Rattle.std.specs.Option.{option_map}
 use Rattle.key_index_flat.specs.FullKeys.{byte_cmp}
 use Rattle.key_index_flat.specs.laws.Laws.{T-and_first, T-and_second}
 use Rattle.key_index_flat.proofs.content.ContentLemmas.{Less-is_lt}
-use Rattle.key_index_flat.proofs.entries.EntryLemmas.{head_apart, none_apart, same, some_injective, some_not_none}
+use Rattle.key_index_flat.proofs.entries.EntryLemmas.{head_apart, same, some_injective, some_not_none}
 use Rattle.key_index_store.specs.Indexed.{IsLatest, IsLive, key_at}
 use Rattle.key_index_store.specs.Record.{Entry, Fits, encoded}
 use Rattle.key_index_store.specs.Salvage.{has_key}

@@ -1,7 +1,7 @@
 -- On the records that a compaction copies: those that an index has are the newest of their keys, which leave the same map.
 --     newest_held, newest_count   they leave the map of all, and are as many as it has keys
 --     listed_newest               those whose positions an index has
-use Rattle.std.proofs.Common.{◌≡◌, ◌⊎◌, ◌==◌, ◌&&◌, ◌||◌, ℕ, zero, suc, ◌+◌, ◌-◌, ◌<◌, ◌≤◌, Bool, true, false, not, cond, List, [], ◌∷◌, ◌++◌, length, map, take, Option, Some, None, is_some, All, inl, inr, refl, sym, ap, subst, ◌∙◌, append-nil, append_assoc, arith}
+use Rattle.std.proofs.Common.{◌≡◌, ◌==◌, ◌&&◌, ◌||◌, ℕ, suc, ◌+◌, Bool, true, false, not, cond, List, [], ◌∷◌, ◌++◌, length, map, take, Option, Some, None, is_some, All, refl, sym, ap, subst, ◌∙◌, append-nil, append_assoc, arith}
 use Rattle.std.proofs.lemmas.Bool.{eq-eqb, eqb-true, false≢true}
 use Rattle.std.proofs.lemmas.List.Elements.{All-cons, All-head, All-tail}
 use Rattle.std.proofs.lemmas.List.Folds.{list_any-append}
@@ -11,7 +11,6 @@ use Rattle.std.specs.List.{fold}
 use Rattle.std.specs.declared.cmp.Ordering.{Ordering}
 use Rattle.std.proofs.lemmas.Map.Lookups.{exact_bytes}
 use Rattle.key_index_flat.specs.FullKeys.{byte_cmp}
-use Rattle.key_index_flat.proofs.content.ChainLemmas.{None-is_some}
 use Rattle.key_index_flat.proofs.entries.EntryLemmas.{head_apart, same, same_is, same_itself}
 use Rattle.key_index_flat.specs.View.{View, run_of}
 use Rattle.key_index_store.specs.Indexed.{Indexes, IsLatest, Keeps, entry_at}
@@ -233,7 +232,7 @@ found_position : (entry : ℕ → List ℕ × List ℕ) (k v : List ℕ) (l : Li
 found_position entry k v [] h = absurd (false≢true (ap is_some h))
 found_position entry k v (p ∷ ps) h =
     elim (same k (entry p).0) as (λ b. same k (entry p).0 ≡ b → cond b (Some (entry p).1) (find byte_cmp k (map entry ps)) ≡ Some v
-        → (q : ℕ) × (is_listed q (p ∷ ps) ≡ true) × ((entry q).0 ≡ k)) [
+    → (q : ℕ) × (is_listed q (p ∷ ps) ≡ true) × ((entry q).0 ≡ k)) [
       | true ↦ λ e _. (p, ap (λ b. b || is_listed p ps) (eq-eqb p p refl), sym (same_is k (entry p).0 e))
       | false ↦ λ e g. (let rest = found_position entry k v ps g in (rest.0, ap (λ b. (p == rest.0) || b) rest.1 ∙ or_true (p == rest.0), rest.2))
     ] refl h

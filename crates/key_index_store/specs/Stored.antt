@@ -12,7 +12,7 @@
 --     MayRead, MayRefuse  why a call may be refused
 --     HasChanged, HasRefused  after a call that appends a record where one is wanted
 --     tail_in             what stands behind the last complete record
-use Rattle.std.specs.Prelude.{◌≡◌, ◌⊎◌, ◌+◌, ◌-◌, ◌^◌, ◌==◌, ◌&&◌, ◌||◌, ℕ, zero, suc, Bool, true, List, [], ◌∷◌, ◌++◌, length, map, take, drop, Option, Some, None, is_some, if◌then◌else◌, Vec}
+use Rattle.std.specs.Prelude.{◌≡◌, ◌⊎◌, ◌+◌, ◌-◌, ◌^◌, ◌==◌, ◌&&◌, ◌||◌, ℕ, zero, suc, Bool, true, List, [], ◌∷◌, ◌++◌, length, take, drop, Option, Some, None, is_some, if◌then◌else◌, Vec}
 use Rattle.std.specs.FinMap.{FinMap, empty, entries, get, insert, len, remove}
 use Rattle.std.specs.List.{fold}
 use Rattle.std.specs.Option.{option_map}

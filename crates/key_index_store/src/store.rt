@@ -505,7 +505,14 @@ impl<D: Device, I: Unordered<Value = u64>> Store<D, I> {
         ensures fault { IfErr result (MaySalvage (C.seen into.new)) }
     {
         let len = length_of(&mut self.log.device)?;
-        copy(self.log.alloc, &mut self.log.device, into, len, &self.index, true)
+        copy(
+            self.log.alloc,
+            &mut self.log.device,
+            into,
+            len,
+            &self.index,
+            true,
+        )
     }
 
     /// Copies the records that leave the map to a fresh log, in their order: of each key that has a value the newest one. It reads the

@@ -178,7 +178,12 @@ impl Context<'_> {
     }
 
     /// Writes where bytes of the file don't read, and how many they are.
-    pub fn write_gap(&mut self, place: u64, length: u64, output: &mut Output) -> Result<(), Refusal> {
+    pub fn write_gap(
+        &mut self,
+        place: u64,
+        length: u64,
+        output: &mut Output,
+    ) -> Result<(), Refusal> {
         self.is_well = false;
         match writeln!(output, "gap {} {length}", place.saturating_add(HEADER)) {
             Ok(()) => Ok(()),

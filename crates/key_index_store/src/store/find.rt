@@ -220,7 +220,8 @@ pub(crate) fn find<D: Device, I: Unordered<Value = u64>>(
     let mut is_hidden = false;
     while low < high {
         let middle = low + (high - low) / 2;
-        let Some(there) = readable_from(alloc, device, index, key, middle, high, limit, block)? else {
+        let Some(there) = readable_from(alloc, device, index, key, middle, high, limit, block)?
+        else {
             (high, is_hidden) = (middle, true);
             continue;
         };

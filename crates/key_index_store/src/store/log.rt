@@ -36,7 +36,14 @@ impl<D: Device> Log<D> {
         let Some(position) = position else {
             return Ok(None);
         };
-        let bytes = read_front(self.alloc, &mut self.device, position, self.end, true, BLOCK)?;
+        let bytes = read_front(
+            self.alloc,
+            &mut self.device,
+            position,
+            self.end,
+            true,
+            BLOCK,
+        )?;
         let Some(key) = key_in(bytes.as_slice(), position) else {
             return Err(Fault::Damaged);
         };
@@ -51,7 +58,14 @@ impl<D: Device> Log<D> {
         ensures end { self.new.end ≡ self.old.end }
         ensures fault { IfErr result MayRead }
     {
-        let bytes = read_front(self.alloc, &mut self.device, position, self.end, false, BLOCK)?;
+        let bytes = read_front(
+            self.alloc,
+            &mut self.device,
+            position,
+            self.end,
+            false,
+            BLOCK,
+        )?;
         if !has_head(bytes.as_slice(), position) {
             return Ok(0);
         }

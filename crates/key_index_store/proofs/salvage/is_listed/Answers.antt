@@ -1,4 +1,4 @@
-use Rattle.std.proofs.Common.{◌≡◌, ◌==◌, ◌||◌, true, false, ap, sym, ◌∙◌}
+use Rattle.std.proofs.Common.{ap, sym}
 use Rattle.key_index_store.specs.Salvage.{is_listed}
 use Rattle.key_index_store.proofs.salvage.is_listed.Goals as goal
 

@@ -1,4 +1,4 @@
-use Rattle.std.proofs.Common.{◌≡◌, ◌≤◌, rules, cond, List, Option, Some, None, ℕ, is_some, length, take, sym, ap, subst, ◌∙◌}
+use Rattle.std.proofs.Common.{◌≡◌, ◌≤◌, rules, cond, Some, None, is_some, length, take, sym, ap, subst, ◌∙◌}
 use Rattle.std.specs.FinMap.{get}
 use Rattle.std.specs.Option.{IfSome, option_map}
 use Rattle.key_index_store.specs.Indexed.{IsLive, entry_at}

@@ -1,4 +1,4 @@
-use Rattle.std.proofs.Common.{◌+◌, cond, is_some, take, sym, ap, subst, ◌∙◌}
+use Rattle.std.proofs.Common.{is_some, take, sym, subst, ◌∙◌}
 use Rattle.std.proofs.lemmas.Result.{IfOk-weaker}
 use Rattle.key_index_flat.specs.Neighbours.{first_entry}
 use Rattle.key_index_flat.proofs.entries.EntryLemmas.{bytes_in}
