@@ -14,7 +14,7 @@
 --     Keeps                 what a store keeps of its log: where the complete records end, what stands behind them, and the index of them
 --     Settles               after the position of a key's newest record was filed: in the place of the older one, or as a new one
 --     KeepsLists            no list is another
-use Rattle.std.specs.Prelude.{◌≡◌, ◌==◌, ◌-◌, ◌≤◌, ◌<◌, T, ℕ, Bool, true, false, List, [], ◌∷◌, ◌++◌, map, length, drop, take, insert, remove, slice_set, Option, Some, None, is_some, All}
+use Rattle.std.specs.Prelude.{◌≡◌, ◌==◌, ◌≤◌, ◌<◌, T, ℕ, Bool, true, false, List, [], ◌∷◌, ◌++◌, map, length, drop, take, insert, remove, slice_set, Option, Some, None, is_some, All}
 use Rattle.std.specs.FinMap.{find, get, is_sorted, len}
 use Rattle.std.specs.declared.cmp.Ordering.{Ordering}
 use Rattle.key_index_flat.specs.FullKeys.{IsBytes, byte_cmp}

@@ -10,7 +10,7 @@
 --                   where its head and its key read
 --     HaveHeads, places_of  bytes that have the heads of records which were written one behind the other;  where these were written
 --     MaySalvage    why it may be refused, by the bytes of the log that was to be fresh
-use Rattle.std.specs.Prelude.{◌≡◌, ◌==◌, ◌&&◌, ◌||◌, ℕ, zero, suc, ◌+◌, ◌-◌, ◌<◌, ◌++◌, Bool, true, false, not, is_some, min, List, [], ◌∷◌, length, take, drop, Option, Some, None, nat_lt, option_map, if◌then◌else◌}
+use Rattle.std.specs.Prelude.{◌≡◌, ◌==◌, ◌&&◌, ◌||◌, ℕ, zero, suc, ◌+◌, ◌-◌, ◌<◌, ◌++◌, Bool, not, is_some, min, List, [], ◌∷◌, length, take, drop, Option, Some, None, nat_lt, option_map, if◌then◌else◌}
 use Rattle.std.specs.List.{filter, flat_map, list_any}
 use Rattle.std.specs.Ordering.{eq_by_cmp}
 use Rattle.std.specs.declared.cmp.Ordering.{Ordering}

@@ -1,4 +1,4 @@
-use Rattle.std.proofs.Common.{rules, ◌≡◌, ◌+◌, ◌-◌, ◌≤◌, ◌++◌, ℕ, List, false, true, length, [], map, min, take, drop, refl, sym, ap, subst, ◌∙◌, append-nil, append_assoc, length-take, arith}
+use Rattle.std.proofs.Common.{◌≡◌, ◌+◌, ◌-◌, ◌≤◌, ◌++◌, ℕ, List, length, [], map, min, take, drop, refl, sym, ap, subst, ◌∙◌, append-nil, append_assoc, length-take, arith}
 use Rattle.std.proofs.lemmas.List.{nil_from_length}
 use Rattle.key_index_store.specs.Device.{IsBegun, Sees}
 use Rattle.key_index_store.specs.Indexed.{HasRuns, parts_of}

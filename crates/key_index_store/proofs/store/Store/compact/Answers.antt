@@ -1,4 +1,4 @@
-use Rattle.std.proofs.Common.{List, ℕ, length, take, sym, ap, ◌∙◌, ◌++◌, ◌-◌}
+use Rattle.std.proofs.Common.{length, take, sym, ap, ◌∙◌, ◌++◌, ◌-◌}
 use Rattle.std.proofs.lemmas.Result.{IfOk-weaker, on_ok_weaker}
 use Rattle.key_index_store.specs.Record.{log_of}
 use Rattle.key_index_store.specs.Salvage.{gap_of}
