@@ -302,6 +302,26 @@ def has_long_records_changed_beneath(file, kind):
 
 
 @case_of_store(*KINDS)
+def has_long_lists_beneath(file, kind):
+    """Three hundred keys that are alike in their first 32 bytes, each seventh put twice, each tenth deleted: all records read, or
+    some don't, whose keys stand side by side in their order. All others are copied."""
+    keys = [b"thirty-two bytes that are alike, " + b"%03d" % number for number in range(300)]
+    order = [keys[number * 7 % 300] for number in range(300)]
+    calls = [(key, key[-3:]) for key in order] + [(key, b"newer") for key in keys[::7]] + [(key, None) for key in keys[::10]]
+    log = file_of(*calls)
+    places = live_places(log)
+    for first, count in [(0, 0), *shared_out(kind, [(first, count) for first in range(0, 300, 60) for count in (1, 3, 70)])]:
+        lost = [key for key in keys[first : first + count] if key in places]
+        changed = log
+        for key in lost:
+            changed = turned(changed, 8 * (places[key] + HEAD.size + SUM.size))
+        beneath = Beneath(log, changed)
+        compare("how many the model copies", len(beneath.live), len(places) - len(lost))
+        beneath.check(file, kind, keys=lost)
+        beneath.check_in_place(file, kind)
+
+
+@case_of_store(*KINDS)
 def has_a_head_in_a_value_beneath(file, kind):
     """Of a record whose value holds a head that was made for the place where it stands, of a record of this length: where the
     own head is damaged, what that one spans is not looked at, and all of it is told as a gap, nothing taken out of it."""

@@ -102,7 +102,8 @@ fn leave_out(
 /// How many positions a list has at most that is gone along.
 const FEW: usize = 64;
 
-/// Whether the record of a key at a place is copied: each one is, or those whose positions an index has.
+/// Whether the record of a key at a place of a log is copied: each one is, or those whose positions an index has. In a long list the key
+/// is looked up by a few reads, in the first `len` bytes: to go along it for each record would take the square of its length.
 fn is_kept<D: Device, I: Unordered<Value = u64>>(
     alloc: Global,
     from: &mut D,
@@ -219,7 +220,8 @@ pub(crate) fn copy<D: Device, C: Device, I: Unordered<Value = u64>>(
     let (mut since, mut gaps) = (0, Vec::new(alloc));
     let mut block = read_front(alloc, from, start, len, true, BLOCK)?;
     // Each round goes on by a record or a byte, or reads a block at a place where none was read yet: so the time is linear, and each
-    // byte is read a few times at most. Behind a head that tells of more bytes than there are, nothing is looked for.
+    // byte is read a few times at most, but where keys are looked up in long lists. Behind a head that tells of more bytes than there
+    // are, nothing is looked for.
     while position < len {
         let rest = bytes_from(block.as_slice(), position - start);
         let next = next_place(rest, position, len);

@@ -504,20 +504,15 @@ impl<D: Device, I: Unordered<Value = u64>> Store<D, I> {
         ensures read { IsRead D.seen D.may_leave self.old self.new }
         ensures fault { IfErr result (MaySalvage (C.seen into.new)) }
     {
+        let alloc = self.log.alloc;
         let len = length_of(&mut self.log.device)?;
-        copy(
-            self.log.alloc,
-            &mut self.log.device,
-            into,
-            len,
-            &self.index,
-            true,
-        )
+        copy(alloc, &mut self.log.device, into, len, &self.index, true)
     }
 
     /// Copies the records that leave the map to a fresh log, in their order: of each key that has a value the newest one. It reads the
-    /// log once, from its first record to its last, and goes on behind damage, as a salvage does: a record that was read when the log
-    /// was opened and no longer reads is left out, so where fewer records are told than there are keys, something is missing.
+    /// log once, from its first record to its last, and looks up by more reads each key that shares its index key with many. It goes on
+    /// behind damage, as a salvage does: a record that was read when the log was opened and no longer reads is left out, so where fewer
+    /// records are told than there are keys, something is missing.
     pub fn compact<C: Device>(&mut self, into: &mut C) -> Result<Salvaged, Fault>
         ensures copied { OnOk result (Sees (D.seen self.new) (λ log. Changes (C.seen into.old) (C.seen into.new)
             (λ old new. (old ≡ []) × (new ≡ log_of (newest (records_of log)))))) }
