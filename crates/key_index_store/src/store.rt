@@ -1,8 +1,8 @@
 //! A key-value store on a log. The index keeps positions alone: it gives those that a shortened key may mean, and the log confirms.
-ghost use Rattle.std.specs.Prelude.{◌≡◌, ◌↔◌, ◌⊎◌, ◌<◌, ◌^◌, ◌-◌, ◌||◌, ◌≢◌, ◌+◌, ℕ, List, [], ◌++◌, if◌then◌else◌, length, map, take, true, false, Some, None, is_some, IsTrue, IfOk, IfErr, OnOk, OnErr};
+ghost use Rattle.std.specs.Prelude.{◌≡◌, ◌↔◌, ◌⊎◌, ◌<◌, ◌≤◌, ◌^◌, ◌-◌, ◌||◌, ◌≢◌, ◌+◌, ℕ, List, [], ◌++◌, if◌then◌else◌, insert, length, map, take, true, false, Some, None, is_some, IsTrue, IfOk, IfErr, OnOk, OnErr};
 ghost use Rattle.std.specs.FinMap as map;
 ghost use Rattle.std.specs.Option.{option_map};
-ghost use Rattle.key_index_flat.specs.View.{growth_fault_in, run_of};
+ghost use Rattle.key_index_flat.specs.View.{growth_fault_in, run_of, with_edit};
 ghost use Rattle.key_index_store.specs.Device.{Adds, AddsAtMost, Changes, IsBegun, IsKnown, IsRead, NoMore, Sees, Stays};
 ghost use Rattle.key_index_store.specs.Indexed.{IsIn, Keeps, KeepsLists, Settles};
 ghost use Rattle.key_index_store.specs.Record.{Entry, Fits, encoded, log_of, size_of};
@@ -92,6 +92,28 @@ impl<D: Device, I: Unordered<Value = u64>> Model for Store<D, I> {
         × (s.is_synced ≡ true → Sees (D.seen s.log.device) (λ log. IsKnown (D.may_leave s.log.device))) };
 }
 
+/// Puts a position in at a place of a key's list. The first one of a list goes in by its key, which lets an index in partitions grow.
+fn put_in<I: Unordered<Value = u64>>(
+    index: &mut I,
+    key: &[u8],
+    place: usize,
+    position: u64,
+) -> Result<(), Fault>
+    requires { place ≤ length (run_of I.Key.cmp (I.view index.old) key.now) }
+    ensures put { OnOk result (let s = I.view index.old in
+        I.view index.new ≡ with_edit I.Key.cmp s (s.slot key.now) (λ l. insert l place position)) }
+    ensures refused { OnErr result (I.view index.new ≡ I.view index.old) }
+    ensures fault { IfErr result (λ f. f ≡ refusal_of (growth_fault_in (I.view index.old))) }
+{
+    let slot = index.slot_of(key);
+    let put = if index.run_len(slot) == 0 {
+        index.insert(key, position)
+    } else {
+        index.insert_at(slot, place, position)
+    };
+    put.map_err(fault_of)
+}
+
 /// Files the position of a key's newest record: in the place of the older one, or as a new one; of a deletion removes the older one.
 fn settle<I: Unordered<Value = u64>>(
     index: &mut I,
@@ -110,9 +132,7 @@ fn settle<I: Unordered<Value = u64>>(
     let slot = index.slot_of(key);
     match (has_value, place.is_held) {
         (true, true) => index.set_at(slot, place.place, position),
-        (true, false) => index
-            .insert_at(slot, place.place, position)
-            .map_err(fault_of)?,
+        (true, false) => put_in(index, key, place.place, position)?,
         (false, true) => {
             index.remove_at(slot, place.place);
         }
