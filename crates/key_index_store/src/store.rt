@@ -96,20 +96,21 @@ impl<D: Device, I: Unordered<Value = u64>> Model for Store<D, I> {
 fn put_in<I: Unordered<Value = u64>>(
     index: &mut I,
     key: &[u8],
-    place: usize,
+    place: InList,
     position: u64,
 ) -> Result<(), Fault>
-    requires { place ≤ length (run_of I.Key.cmp (I.view index.old) key.now) }
+    requires within { place.place ≤ length (run_of I.Key.cmp (I.view index.old) key.now) }
+    requires empty { place.is_empty ≡ true → length (run_of I.Key.cmp (I.view index.old) key.now) ≡ 0 }
     ensures put { OnOk result (let s = I.view index.old in
-        I.view index.new ≡ with_edit I.Key.cmp s (s.slot key.now) (λ l. insert l place position)) }
+        I.view index.new ≡ with_edit I.Key.cmp s (s.slot key.now) (λ l. insert l place.place position)) }
     ensures refused { OnErr result (I.view index.new ≡ I.view index.old) }
     ensures fault { IfErr result (λ f. f ≡ refusal_of (growth_fault_in (I.view index.old))) }
 {
-    let slot = index.slot_of(key);
-    let put = if index.run_len(slot) == 0 {
+    let put = if place.is_empty {
         index.insert(key, position)
     } else {
-        index.insert_at(slot, place, position)
+        let slot = index.slot_of(key);
+        index.insert_at(slot, place.place, position)
     };
     put.map_err(fault_of)
 }
@@ -122,7 +123,8 @@ fn settle<I: Unordered<Value = u64>>(
     place: InList,
     position: u64,
 ) -> Result<(), Fault>
-    requires { IsIn (run_of I.Key.cmp (I.view index.old) key.now) place.place place.is_held }
+    requires place { IsIn (run_of I.Key.cmp (I.view index.old) key.now) place.place place.is_held }
+    requires empty { place.is_empty ≡ true → length (run_of I.Key.cmp (I.view index.old) key.now) ≡ 0 }
     ensures settled { OnOk result (Settles I.Key.cmp
         (I.view index.old) key.now has_value place.is_held place.place position (I.view index.new)) }
     ensures refused { OnErr result (I.view index.new ≡ I.view index.old) }
@@ -132,7 +134,7 @@ fn settle<I: Unordered<Value = u64>>(
     let slot = index.slot_of(key);
     match (has_value, place.is_held) {
         (true, true) => index.set_at(slot, place.place, position),
-        (true, false) => put_in(index, key, place.place, position)?,
+        (true, false) => put_in(index, key, place, position)?,
         (false, true) => {
             index.remove_at(slot, place.place);
         }
@@ -163,6 +165,7 @@ fn write<D: Device, I: Unordered<Value = u64>>(
 ) -> Result<(), Fault>
     requires known { has_value ≡ false → place.is_held ≡ true }
     requires place { IsIn (run_of I.Key.cmp (I.view index.old) key.now) place.place place.is_held }
+    requires empty { place.is_empty ≡ true → length (run_of I.Key.cmp (I.view index.old) key.now) ≡ 0 }
     ensures written { OnOk result (Changes (D.seen device.old) (D.seen device.new) (λ old new.
         position ≡ length old → new ≡ old ++ bytes.now)) }
     ensures failed { OnErr result (Changes (D.seen device.old) (D.seen device.new) (λ old new.
@@ -202,6 +205,7 @@ fn append<D: Device, I: Unordered<Value = u64>>(
     requires fits { Fits (record { key = key.now; value = option_map (λ v. v.now) value }) }
     requires known { is_some value ≡ false → place.is_held ≡ true }
     requires place { IsIn (run_of I.Key.cmp (I.view index.old) key.now) place.place place.is_held }
+    requires empty { place.is_empty ≡ true → length (run_of I.Key.cmp (I.view index.old) key.now) ≡ 0 }
     ensures longer { IfOk result (λ longer. longer ≡ end
         + size_of (record { key = key.now; value = option_map (λ v. v.now) value.entry })) }
     ensures written { OnOk result (Changes (D.seen device.old) (D.seen device.new) (λ old new. end ≡ length old

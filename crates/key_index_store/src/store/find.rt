@@ -106,6 +106,8 @@ pub(super) struct InList {
     pub(super) place: usize,
     /// The next one is the key.
     pub(super) is_held: bool,
+    /// There is no list.
+    pub(super) is_empty: bool,
 }
 
 /// The bytes at the front of a record.
@@ -124,6 +126,8 @@ pub(crate) struct Found {
     pub(crate) front: Option<Front>,
     /// Records that don't read stand at the place: one of them may be its own.
     pub(crate) is_hidden: bool,
+    /// There is no list.
+    pub(crate) is_empty: bool,
 }
 
 /// A record of a list whose key reads, and how that key compares with another one.
@@ -211,12 +215,13 @@ pub(crate) fn find<D: Device, I: Unordered<Value = u64>>(
     ensures found { IfOk result (λ f. IfSome f.front (λ r.
         slice_get (run_of I.Key.cmp (I.view index.now) key.now) f.place ≡ Some r.position)) }
     ensures within { IfOk result (λ f. f.place ≤ length (run_of I.Key.cmp (I.view index.now) key.now)) }
+    ensures empty { IfOk result (λ f. f.is_empty ≡ true → length (run_of I.Key.cmp (I.view index.now) key.now) ≡ 0) }
     ensures read { IsRead D.seen D.may_leave device.old device.new }
     ensures fault { IfErr result MayRead }
 {
     let slot = index.slot_of(key);
     let (mut low, mut high) = (0, index.run_len(slot));
-    let block = block_of(high == 1);
+    let (block, is_empty) = (block_of(high == 1), high == 0);
     let mut is_hidden = false;
     while low < high {
         let middle = low + (high - low) / 2;
@@ -232,6 +237,7 @@ pub(crate) fn find<D: Device, I: Unordered<Value = u64>>(
                     place: there.place,
                     front: Some(there.front),
                     is_hidden: false,
+                    is_empty,
                 });
             }
             Ordering::Greater => (high, is_hidden) = (middle, there.place != middle),
@@ -241,12 +247,14 @@ pub(crate) fn find<D: Device, I: Unordered<Value = u64>>(
         place: low,
         front: None,
         is_hidden,
+        is_empty,
     })
 }
 
 /// Where a key that was looked up stands, if that is known.
 pub(super) fn known(found: &Found) -> Result<InList, Fault>
-    ensures place { IfOk result (λ p. (p.place ≡ found.now.place) × (p.is_held ≡ is_some found.now.front)) }
+    ensures place { IfOk result (λ p. (p.place ≡ found.now.place) × (p.is_held ≡ is_some found.now.front)
+        × (p.is_empty ≡ found.now.is_empty)) }
     ensures fault { IfErr result (λ f. (f ≡ Fault.Damaged) × (found.now.is_hidden ≡ true)) }
 {
     if found.is_hidden {
@@ -255,6 +263,7 @@ pub(super) fn known(found: &Found) -> Result<InList, Fault>
     Ok(InList {
         place: found.place,
         is_held: found.front.is_some(),
+        is_empty: found.is_empty,
     })
 }
 
@@ -270,6 +279,7 @@ pub(super) fn find_place<D: Device, I: Unordered<Value = u64>>(
         → IsRun (take limit log) (run_of I.Key.cmp (I.view index.now) key.now) → IfOk result (λ p.
         IsPlace (entry_at (take limit log)) key.now (run_of I.Key.cmp (I.view index.now) key.now) p.place p.is_held)) }
     ensures within { IfOk result (λ p. IsIn (run_of I.Key.cmp (I.view index.now) key.now) p.place p.is_held) }
+    ensures empty { IfOk result (λ p. p.is_empty ≡ true → length (run_of I.Key.cmp (I.view index.now) key.now) ≡ 0) }
     ensures bytes { IsBytes key.now }
     ensures read { IsRead D.seen D.may_leave device.old device.new }
     ensures fault { Sees (D.seen device.new) (λ log. limit ≤ length log
