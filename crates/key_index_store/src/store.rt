@@ -131,11 +131,14 @@ fn settle<I: Unordered<Value = u64>>(
     ensures sure { OnErr result (place.is_held ≡ false) }
     ensures fault { IfErr result (λ f. f ≡ refusal_of (growth_fault_in (I.view index.old))) }
 {
-    let slot = index.slot_of(key);
     match (has_value, place.is_held) {
-        (true, true) => index.set_at(slot, place.place, position),
+        (true, true) => {
+            let slot = index.slot_of(key);
+            index.set_at(slot, place.place, position);
+        }
         (true, false) => put_in(index, key, place, position)?,
         (false, true) => {
+            let slot = index.slot_of(key);
             index.remove_at(slot, place.place);
         }
         (false, false) => {}

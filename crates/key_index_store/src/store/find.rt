@@ -153,12 +153,14 @@ fn readable_from<D: Device, I: Unordered<Value = u64>>(
     alloc: Global,
     device: &mut D,
     index: &I,
+    slot: I::Key,
     key: &[u8],
     from: usize,
     to: usize,
     limit: u64,
     block: u64,
 ) -> Result<Option<Readable>, Fault>
+    requires slot { slot ≡ (I.view index.now).slot key.now }
     requires block { 13 ≤ block }
     requires within { to ≤ length (run_of I.Key.cmp (I.view index.now) key.now) }
     ensures first { Sees (D.seen device.new) (λ log. limit ≤ length log
@@ -172,7 +174,6 @@ fn readable_from<D: Device, I: Unordered<Value = u64>>(
     ensures read { IsRead D.seen D.may_leave device.old device.new }
     ensures fault { IfErr result MayRead }
 {
-    let slot = index.slot_of(key);
     for place in from..to {
         let position = *index.value_at(slot, place);
         let bytes = read_front(alloc, device, position, limit, false, block)?;
@@ -225,7 +226,9 @@ pub(crate) fn find<D: Device, I: Unordered<Value = u64>>(
     let mut is_hidden = false;
     while low < high {
         let middle = low + (high - low) / 2;
-        let Some(there) = readable_from(alloc, device, index, key, middle, high, limit, block)?
+        let Some(there) = readable_from(
+            alloc, device, index, slot, key, middle, high, limit, block,
+        )?
         else {
             (high, is_hidden) = (middle, true);
             continue;

@@ -16,7 +16,7 @@ returns-in-Some-clause-first g c = λ log seen within live less.
     let s = g.I.Runs.view c.args.index.now in
     let run = run_of g.I.Key.Ord.cmp s c.args.key.now in
     let p = c.value_at-position.result.now in
-    let at : slice_get run c.loop-place.place ≡ Some p = ap (λ k. slice_get (run_at g.I.Key.Ord.cmp s k) c.loop-place.place) (sym c.slot_of-slot.ensures) ∙ c.value_at-position.ensures in
+    let at : slice_get run c.loop-place.place ≡ Some p = ap (λ k. slice_get (run_at g.I.Key.Ord.cmp s k) c.loop-place.place) (sym c.requires.slot) ∙ c.value_at-position.ensures in
     let here = All-slice_get (IsLive front) run c.loop-place.place p live at in
     let told = ap (key_in p) c.as_slice.ensures.value ∙ c.in_ok-bytes.ensures.key log seen within ∙ key_in-live front p here in
     let side = ap (λ o. unwrap_or o Less) (sym c.in-Some.is ∙ c.side_of.ensures ∙ ap (option_map (λ k. byte_cmp k c.args.key.now)) told) in
@@ -31,7 +31,7 @@ loop-place-preserved g c = record {
       let s = g.I.Runs.view c.args.index.now in
       let run = run_of g.I.Key.Ord.cmp s c.args.key.now in
       let p = c.value_at-position.result.now in
-      let at : slice_get run c.loop-place.place ≡ Some p = ap (λ k. slice_get (run_at g.I.Key.Ord.cmp s k) c.loop-place.place) (sym c.slot_of-slot.ensures) ∙ c.value_at-position.ensures in
+      let at : slice_get run c.loop-place.place ≡ Some p = ap (λ k. slice_get (run_at g.I.Key.Ord.cmp s k) c.loop-place.place) (sym c.requires.slot) ∙ c.value_at-position.ensures in
       let here = All-slice_get (IsLive front) run c.loop-place.place p live at in
       let told = ap (key_in p) c.as_slice.ensures.value ∙ c.in_ok-bytes.ensures.key log seen within ∙ key_in-live front p here in
       absurd (some_not_none _ (sym (c.side_of.ensures ∙ ap (option_map (λ k. byte_cmp k c.args.key.now)) told) ∙ c.in_default.is));
