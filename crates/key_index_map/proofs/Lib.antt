@@ -12,3 +12,4 @@ pub mod Moving
 pub mod Deeds
 pub mod Lanes
 pub mod Joined
+pub mod Crosses

@@ -3,5 +3,6 @@
 
 pub mod map;
 pub(crate) mod room;
+mod row;
 pub mod table;
 pub(crate) mod tags;

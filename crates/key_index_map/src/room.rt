@@ -26,6 +26,10 @@ impl<T, A: Allocator> Model for Block<T, A> {
         (owned_block (A.dealloc_token b.alloc) (array_of T.row b.len) b.at) };
 }
 
+unsafe impl<T, A: Allocator + Send> Send for Block<T, A> {}
+
+unsafe impl<T, A: Allocator + Send> Sync for Block<T, A> {}
+
 /// The right to give the room of `len` places at `at` back to `alloc`. It takes no space.
 pub(crate) struct Deed<T, A: Allocator> {
     mark: PhantomData<*const (T, A)>,
@@ -37,6 +41,10 @@ pub(crate) struct Deed<T, A: Allocator> {
 impl<T, A: Allocator> Model for Deed<T, A> {
     ghost also_owns = { λ d. leased (A.dealloc_token d.alloc) T.row d.at d.len };
 }
+
+unsafe impl<T, A: Allocator + Send> Send for Deed<T, A> {}
+
+unsafe impl<T, A: Allocator + Send> Sync for Deed<T, A> {}
 
 /// Memory for so many values.
 fn allocate<T, A: Allocator>(alloc: &A, len: usize) -> Result<Block<T, A>, AllocError>

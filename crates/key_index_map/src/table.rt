@@ -8,8 +8,8 @@ ghost use Rattle.key_index_map.specs.Tags.{IsIn};
 ghost use Rattle.key_index_map.specs.Table.{Cells, IsAt, IsEmptyIn, IsFreeIn, IsFirstFree, IsTagWithout, NoneIn, Found, Seen, Stopped, Updates, hash_of, tag_of, home, home_in, held, is_held, limit, pairs, with_value};
 
 use crate::room::{Block, Deed, free, release, row_of, try_allocate};
+use crate::row::Row;
 use crate::tags::{EMPTY, GROUP, Tags};
-use core::slots::Slots;
 use std::alloc::{AllocError, Global};
 use std::hash::{BuildHasher, BuildHasherDefault, FoldHasher, Hash};
 use std::marker::Model;
@@ -182,7 +182,7 @@ impl<K, V> Drop for Room<K, V> {
 /// Pairs in cells, each with a tag. `left` is how many empty cells may have one yet.
 pub struct Table<K: Ord + Hash + Copy, V> {
     // What a look-up reads stands together.
-    row: Slots<(K, V)>,
+    row: Row<(K, V)>,
     tags: Tags,
     deed: Deed<(K, V), Global>,
     len: usize,
@@ -514,7 +514,7 @@ impl<K: Ord + Hash + Copy, V> Table<K, V> {
             }
             group += 1;
         }
-        release(tags.allocator(), row, deed);
+        release(tags.allocator(), row.into_slots(), deed);
     }
 
     /// Makes room for more pairs, in more cells or in as many without marks of removed pairs. A refusal changes nothing.
@@ -728,7 +728,7 @@ impl<K: Ord + Hash + Copy, V> Room<K, V> {
         let (row, deed) = row_of(block);
         Table {
             tags,
-            row,
+            row: Row::new(row),
             deed,
             len: 0,
             left: limit(cells),
@@ -755,7 +755,7 @@ fn next_held(tags: &Tags, from: usize, end: usize) -> usize
 #[derive(Drop)]
 pub struct Iter<'a, K, V> {
     tags: &'a Tags,
-    row: &'a Slots<(K, V)>,
+    row: &'a Row<(K, V)>,
     next: usize,
 }
 
@@ -805,6 +805,6 @@ impl<K: Ord + Hash + Copy, V: Drop> Drop for Table<K, V> {
             }
             cell += 1;
         }
-        release(tags.allocator(), row, deed);
+        release(tags.allocator(), row.into_slots(), deed);
     }
 }

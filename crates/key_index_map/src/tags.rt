@@ -3,7 +3,7 @@ ghost use Rattle.std.specs.Prelude.{◌≡◌, ◌≢◌, ℕ, ◌+◌, ◌*◌,
 ghost use Rattle.key_index_map.specs.Tags.{IsIn};
 
 use crate::room::{Deed, release, row_of, try_allocate};
-use core::slots::Slots;
+use crate::row::Row;
 use std::alloc::{AllocError, Global};
 use std::marker::Model;
 use std::simd::prelude::*;
@@ -16,7 +16,7 @@ pub(crate) const EMPTY: u8 = 0;
 
 /// A tag for each place of some groups. Contracts see the tags of all places in a row.
 pub(crate) struct Tags {
-    groups: Slots<[u8; 16]>,
+    groups: Row<[u8; 16]>,
     deed: Deed<[u8; 16], Global>,
     alloc: Global,
 }
@@ -59,7 +59,8 @@ impl Tags {
         let Some(_) = groups.checked_mul(GROUP) else {
             return Err(AllocError);
         };
-        let (mut row, deed) = row_of(try_allocate(&alloc, groups)?);
+        let (row, deed) = row_of(try_allocate(&alloc, groups)?);
+        let mut row = Row::new(row);
         let mut group = 0;
         while group < groups {
             row.put(group, [EMPTY; 16]);
@@ -153,6 +154,6 @@ impl Drop for Tags {
             deed,
             alloc,
         } = self;
-        release(&alloc, groups, deed);
+        release(&alloc, groups.into_slots(), deed);
     }
 }
