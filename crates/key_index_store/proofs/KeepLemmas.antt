@@ -3,6 +3,7 @@
 --     undamaged_spelled                           what a salvage copies of it where there is no damage
 --     cut_keeps                                   after the tail was cut off
 --     HasRoom, at_end                             a record that is to stand behind the others: refused, written, or nothing to write
+--     same_front                                  it makes room behind the same records
 --     written_keeps, begun_keeps                  after a record was written behind the others, or a part of it
 use Rattle.std.proofs.Common.{◌≡◌, ◌≢◌, ◌⊎◌, ◌<◌, ℕ, ◌+◌, ◌-◌, ◌^◌, ◌==◌, ◌||◌, if◌then◌else◌, None, Some, Bool, true, false, cond, List, [], ◌∷◌, ◌++◌, length, take, drop, Option, is_some, Result, Ok, Err, inl, inr, refl, sym, ap, subst, ◌∙◌, length-append, length-take, length-drop, take-append-drop, arith}
 use Rattle.std.proofs.lemmas.List.{append-nil, drop_at, nil_from_length, take_all, take-append-le}
@@ -208,9 +209,12 @@ begun_size place r n (inr none) = inr none
 
 -- ---- a record that is to stand behind the others: the log before the call, and where room was made
 
+pub same_front : (old mid : List ℕ) → HasRoom old mid → without_tail mid ≡ without_tail old
+same_front old mid room = take_all (end_of mid) mid (omega (arith, room.all)) ∙ room.cut
+
 module _ (old mid : List ℕ) (room : HasRoom old mid) (r : Entry) where
-  pub refused_early : (f : Fault) → MayRefuse old r f → HasRefused old r f mid
-  refused_early f may = record {
+  pub refused_early : (hides : List ℕ → List ℕ → Type 0) (f : Fault) → MayRefuse hides old r f → HasRefused hides old r f mid
+  refused_early hides f may = record {
     refused = (room.held, inr (0, room.cut ∙ sym (append-nil (without_tail old)), inr refl));
     fault = may;
   }
@@ -225,8 +229,8 @@ module _ (old mid : List ℕ) (room : HasRoom old mid) (r : Entry) where
     pub at_end : Keeps cmp mid s end tail.Nothing
     at_end = ends_keep cmp mid s end t h all_kept
 
-    pub begun_refused : (n : ℕ) → (n < length (encoded end r)) ⊎ (n ≡ 0) → (f : Fault) → MayRefuse old r f → HasRefused old r f (mid ++ take n (encoded end r))
-    begun_refused n less f may = record {
+    pub begun_refused : (hides : List ℕ → List ℕ → Type 0) (n : ℕ) → (n < length (encoded end r)) ⊎ (n ≡ 0) → (f : Fault) → MayRefuse hides old r f → HasRefused hides old r f (mid ++ take n (encoded end r))
+    begun_refused hides n less f may = record {
       refused = (
         held_begun o exact mid s end at_end r fits n (begun_size end r n less) ∙ room.held,
         inr (subst (λ p. IsBegun (encoded p r) (without_tail old) (mid ++ take n (encoded end r))) at_old (n, ap (λ l. l ++ take n (encoded end r)) room.cut, less)),
@@ -260,27 +264,32 @@ module _ (old mid : List ℕ) (room : HasRoom old mid) (r : Entry) where
       none : get (held_by old) r.key ≡ None
       none = ap (λ m. get m r.key) (sym room.held) ∙ absent
 
--- ---- why it is refused
+-- ---- why it is refused, by what hides a key
 
-pub may_read-refuse : (log : List ℕ) (r : Entry) (f : Fault) → MayRead f → MayRefuse log r f
-may_read-refuse log r f (inl is) = subst (MayRefuse log r) (sym is) tt
-may_read-refuse log r f (inr is) = subst (MayRefuse log r) (sym is) tt
+module _ (hides : List ℕ → List ℕ → Type 0) (log : List ℕ) (r : Entry) (f : Fault) where
+  pub may_read-refuse : MayRead f → MayRefuse hides log r f
+  may_read-refuse (inl is) = subst (MayRefuse hides log r) (sym is) tt
+  may_read-refuse (inr is) = subst (MayRefuse hides log r) (sym is) tt
 
-pub room-refuse : (log : List ℕ) (r : Entry) (f : Fault) → (f ≡ fault.WriteFailed) ⊎ ((f ≡ fault.Damaged) × (tail_in log ≡ tail.Damaged)) → MayRefuse log r f
-room-refuse log r f (inl is) = subst (MayRefuse log r) (sym is) tt
-room-refuse log r f (inr is) = subst (MayRefuse log r) (sym is.0) is.1
+  pub hidden-refuse : MayRead f ⊎ ((f ≡ fault.Damaged) × hides log r.key) → MayRefuse hides log r f
+  hidden-refuse (inl may) = may_read-refuse may
+  hidden-refuse (inr is) = subst (MayRefuse hides log r) (sym is.0) (inr is.1)
 
-pub append-refuse : {X : Type 0} (log : List ℕ) (r : Entry) (f : Fault) → (X → MayRefuse log r f) → (f ≡ fault.WriteFailed) ⊎ (f ≡ fault.Memory) ⊎ X → MayRefuse log r f
-append-refuse log r f full (inl is) = subst (MayRefuse log r) (sym is) tt
-append-refuse log r f full (inr (inl is)) = subst (MayRefuse log r) (sym is) tt
-append-refuse log r f full (inr (inr x)) = full x
+  pub room-refuse : (f ≡ fault.WriteFailed) ⊎ ((f ≡ fault.Damaged) × (tail_in log ≡ tail.Damaged)) → MayRefuse hides log r f
+  room-refuse (inl is) = subst (MayRefuse hides log r) (sym is) tt
+  room-refuse (inr is) = subst (MayRefuse hides log r) (sym is.0) (inl is.1)
 
-pub full-refuse : {K : Type 0} (s : View K ℕ) (log : List ℕ) (r : Entry) (f : Fault) → items_in s ≡ len (held_by log) → get (held_by log) r.key ≡ None → f ≡ refusal_of (growth_fault_in s) → MayRefuse log r f
-full-refuse s log r f counted none is = subst (MayRefuse log r) (sym is) (of (items_in s == 2 ^ 64 - 1) refl)
-  where
-    of : (b : Bool) → (items_in s == 2 ^ 64 - 1) ≡ b → MayRefuse log r (refusal_of (if b then index_fault.Full else index_fault.Memory))
-    of true e = (none, sym counted ∙ eqb-true _ _ e)
-    of false e = tt
+  pub append-refuse : {X : Type 0} → (X → MayRefuse hides log r f) → (f ≡ fault.WriteFailed) ⊎ (f ≡ fault.Memory) ⊎ X → MayRefuse hides log r f
+  append-refuse full (inl is) = subst (MayRefuse hides log r) (sym is) tt
+  append-refuse full (inr (inl is)) = subst (MayRefuse hides log r) (sym is) tt
+  append-refuse full (inr (inr x)) = full x
+
+  pub full-refuse : {K : Type 0} (s : View K ℕ) → items_in s ≡ len (held_by log) → get (held_by log) r.key ≡ None → f ≡ refusal_of (growth_fault_in s) → MayRefuse hides log r f
+  full-refuse s counted none is = subst (MayRefuse hides log r) (sym is) (of (items_in s == 2 ^ 64 - 1) refl)
+    where
+      of : (b : Bool) → (items_in s == 2 ^ 64 - 1) ≡ b → MayRefuse hides log r (refusal_of (if b then index_fault.Full else index_fault.Memory))
+      of true e = (none, sym counted ∙ eqb-true _ _ e)
+      of false e = tt
 
 -- ---- outcomes
 

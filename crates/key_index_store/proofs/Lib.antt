@@ -1,5 +1,7 @@
 pub mod ChecksumLemmas
 pub mod CrashLemmas
+pub mod DamageLemmas
+pub mod GivenLemmas
 pub mod HeaderLemmas
 pub mod HistoryLemmas
 pub mod IndexLemmas
@@ -13,6 +15,7 @@ pub mod ReadLemmas
 pub mod RecordLemmas
 pub mod ReplayLemmas
 pub mod SalvageLemmas
+pub mod SearchLemmas
 pub mod SortedLemmas
 pub mod StoreLemmas
 pub mod TranslatorLemmas

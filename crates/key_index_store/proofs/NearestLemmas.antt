@@ -6,12 +6,14 @@
 --     place_in                                a place in a list, by what stands there if something does
 --     last_taken                              the last of some items, and of the first ones of a list
 --     entries_held                            the entries of all positions are those of the map
---     above_told, from_told, below_told       the nearest position above a key, from it on, and below it
+--     above_told, below_told                  the nearest position above a key, and below it
+--     above_all, from_all                     all entries above a key, and from it on, of positions that begin no later than its place
+--     live_from                               these positions are live
 --     first_told, last_told                   the first and the last of all
 use Rattle.std.proofs.Common.{◌≡◌, ◌≤◌, ◌<◌, ◌+◌, ◌-◌, ℕ, zero, suc, Bool, true, false, cond, List, [], ◌∷◌, ◌++◌, map, length, take, drop, T, All, Option, Some, None, is_some, unwrap_or, refl, sym, ap, subst, ◌∙◌, append_assoc, append-nil, length-append, slice_get, arith}
 use Rattle.std.proofs.lemmas.Bool.{false≢true}
 use Rattle.std.proofs.lemmas.Grind.{flat_map-append}
-use Rattle.std.proofs.lemmas.List.{drop_all, drop_at, drop-map, map-append, take_at, take-map}
+use Rattle.std.proofs.lemmas.List.{drop_all, drop_at, drop-append-le, drop-map, map-append, take_at, take-map}
 use Rattle.std.proofs.lemmas.List.Elements.{All-append, All-cons, All-drop, All-filter, All-head, All-map, All-nil, All-tail, All-take, All-weaker, filter-append, filter_passes}
 use Rattle.std.proofs.lemmas.Map.Lookups.{exact_bytes}
 use Rattle.std.specs.Cmp.{IsTotalOrder, tied_itself}
@@ -36,7 +38,7 @@ use Rattle.key_index_flat.proofs.neighbours.NeighbourLemmas.{last_or-map}
 use Rattle.key_index_flat.proofs.neighbours.WalkLemmas.{above_next}
 use Rattle.key_index_store.specs.Indexed.{Indexes, IsLive, IsIn, IsPlace, IsUnder, Keeps, entry_at}
 use Rattle.key_index_store.specs.Positions.{positions_before, positions_from}
-use Rattle.key_index_store.specs.Stored.{Values, entry_after, entry_before, entry_from, held_by}
+use Rattle.key_index_store.specs.Stored.{Values, entry_after, entry_before, held_by}
 use Rattle.key_index_store.specs.declared.store.Tail.{Tail}
 use Rattle.key_index_store.proofs.KeepLemmas.{kept_held}
 
@@ -175,18 +177,6 @@ module _ {K X : Type 0} {R : K → K → Ordering} (o : IsTotalOrder R) (k : K) 
         | Greater ↦ λ q. ap (λ l. e ∷ l) rest
       ] refl ∙ ap (λ r. cond (is_lt r) (e ∷ below es) (below es) ++ (own (e ∷ es) ++ above (e ∷ es))) (sym (o.antisymm e.0 k))
 
-  from_split : (es : List (K × X)) → T (is_sorted R es) → from es ≡ own es ++ above es
-  from_split [] h = refl
-  from_split (e ∷ es) h =
-      let rest = from_split es (T-and_second _ _ h) in
-      elim (R k e.0) as (λ r. R k e.0 ≡ r → cond (is_le r) (e ∷ from es) (from es) ≡ cond (is_eq r) (e ∷ own es) (own es) ++ cond (is_lt r) (e ∷ above es) (above es)) [
-        | Less ↦ λ q.
-            let none = none_own es (behind_less e es q h) in
-            ap (λ l. e ∷ l) (rest ∙ ap (λ l. l ++ above es) none) ∙ ap (λ l. l ++ (e ∷ above es)) (sym none)
-        | Equal ↦ λ q. ap (λ l. e ∷ l) rest
-        | Greater ↦ λ q. rest
-      ] refl
-
   length-own : (es : List (K × X)) → T (is_sorted R es) → length (own es) ≡ cond (is_some (find R k es)) 1 0
   length-own [] h = refl
   length-own (e ∷ es) h =
@@ -198,9 +188,6 @@ module _ {K X : Type 0} {R : K → K → Ordering} (o : IsTotalOrder R) (k : K) 
 
   -- at the place behind those that are below it
   module _ (es : List (K × X)) (h : T (is_sorted R es)) (place : ℕ) (at : place ≡ length (below es)) where
-    drop_place : drop place es ≡ from es
-    drop_place = ap (drop place) (split_at es h) ∙ drop_at (below es) (own es ++ above es) place (sym at) ∙ sym (from_split es h)
-
     take_place : take place es ≡ below es
     take_place = ap (take place) (split_at es h) ∙ take_at (below es) (own es ++ above es) place (sym at)
 
@@ -209,6 +196,34 @@ module _ {K X : Type 0} {R : K → K → Ordering} (o : IsTotalOrder R) (k : K) 
         let counted : length (below es ++ own es) ≡ place + cond is_held 1 0 = length-append (below es) (own es) ∙ (λ i. sym at i + (length-own es h ∙ ap (λ b. cond b 1 0) (sym held)) i) in
         ap (drop (place + cond is_held 1 0)) (split_at es h ∙ sym (append_assoc (below es) (own es) (above es)))
         ∙ drop_at (below es ++ own es) (above es) (place + cond is_held 1 0) counted
+
+  -- from a place on that is not behind those that are below it
+  module _ (es : List (K × X)) (h : T (is_sorted R es)) (place : ℕ) (low : place ≤ length (below es)) where
+    all_lower : All (λ e. R e.0 k ≡ Less) (below es)
+    all_lower =
+        All-weaker (λ (e : K × X). is_lt (R e.0 k) ≡ true) (λ e. R e.0 k ≡ Less) (λ e q. Less-is_lt _ (subst T (sym q) tt)) (below es) (filter_passes (λ e. is_lt (R e.0 k)) es)
+
+    abbrev not_below : List (K × X)
+    not_below = own es ++ above es
+
+    drop_low : drop place es ≡ drop place (below es) ++ not_below
+    drop_low = ap (drop place) (split_at es h) ∙ drop-append-le place (below es) not_below low
+
+    above_drop : above (drop place es) ≡ above es
+    above_drop =
+        ap above drop_low ∙ above_behind (drop place (below es)) (All-drop (λ (e : K × X). R e.0 k ≡ Less) place (below es) all_lower)
+        ∙ sym (ap above (split_at es h) ∙ above_behind (below es) all_lower)
+      where
+        above_behind : (xs : List (K × X)) → All (λ e. R e.0 k ≡ Less) xs → above (xs ++ not_below) ≡ above not_below
+        above_behind xs all = filter-append (λ e. is_lt (R k e.0)) xs not_below ∙ ap (λ l. l ++ above not_below) (none_above xs all)
+
+    from_drop : from (drop place es) ≡ from es
+    from_drop =
+        ap from drop_low ∙ from_behind (drop place (below es)) (All-drop (λ (e : K × X). R e.0 k ≡ Less) place (below es) all_lower)
+        ∙ sym (ap from (split_at es h) ∙ from_behind (below es) all_lower)
+      where
+        from_behind : (xs : List (K × X)) → All (λ e. R e.0 k ≡ Less) xs → from (xs ++ not_below) ≡ from not_below
+        from_behind xs all = filter-append (λ e. is_le (R k e.0)) xs not_below ∙ ap (λ l. l ++ from not_below) (none_from xs all)
 
   -- between lower entries and higher ones
   module _ (lower mid upper : List (K × X)) (low : All (λ e. R e.0 k ≡ Less) lower) (high : All (λ e. R k e.0 ≡ Less) upper) where
@@ -500,7 +515,7 @@ module _ {K : Type 0} {cmp : K → K → Ordering} (o : IsTotalOrder cmp) (whole
         sym entries_held ∙ ap (map entry) (values_split o k s.content lawful.0)
         ∙ map-append entry lower (run ++ upper) ∙ ap (λ l. map entry lower ++ l) (map-append entry run upper)
 
-    live_from : (place : ℕ) → All (IsLive log) (positions_from cmp s k place)
+    pub live_from : (place : ℕ) → All (IsLive log) (positions_from cmp s k place)
     live_from place = All-append (IsLive log) (drop place run) upper (All-drop (IsLive log) place run (live_at k)) (live_in (λ (e : K × List ℕ). is_lt (cmp k e.0)))
 
     live_before : (place : ℕ) → All (IsLive log) (positions_before cmp s k place)
@@ -523,15 +538,6 @@ module _ {K : Type 0} {cmp : K → K → Ordering} (o : IsTotalOrder cmp) (whole
                 ∙ sym (ap (λ es. entries_above byte_cmp es a) entries_split ∙ above_between nat_list_cmp_total a (map entry lower) (map entry run) (map entry upper) lower_less upper_more)),
           )
 
-      pub from_told : IsTold log (first_entry (positions_from cmp s k place)) (entry_from m a)
-      from_told = (
-        first_has (IsLive log) (positions_from cmp s k place) (live_from place),
-        first_entry-map entry (positions_from cmp s k place)
-            ∙ ap first_entry (entries-positions_from place
-            ∙ ap (λ l. l ++ map entry upper) (drop_place nat_list_cmp_total a (map entry run) (h.sorted k) place at.below)
-            ∙ sym (ap (λ es. entries_from byte_cmp es a) entries_split ∙ from_between nat_list_cmp_total a (map entry lower) (map entry run) (map entry upper) lower_less upper_more)),
-      )
-
       pub below_told : IsTold log (last_entry (positions_before cmp s k place)) (entry_before m a)
       below_told = (
         last_has (IsLive log) None (positions_before cmp s k place) tt (live_before place),
@@ -540,3 +546,19 @@ module _ {K : Type 0} {cmp : K → K → Ordering} (o : IsTotalOrder cmp) (whole
             ∙ ap (λ l. map entry lower ++ l) (take_place nat_list_cmp_total a (map entry run) (h.sorted k) place at.below)
             ∙ sym (ap (λ es. entries_below byte_cmp es a) entries_split ∙ below_between nat_list_cmp_total a (map entry lower) (map entry run) (map entry upper) lower_less upper_more)),
       )
+
+    -- the positions from a place on that is not behind the key's own
+    module _ (place : ℕ) (low : place ≤ length (entries_below byte_cmp (map entry run) a)) where
+      pub above_all : entries_above byte_cmp (map entry (positions_from cmp s k place)) a ≡ entries_above byte_cmp (entries m) a
+      above_all =
+          ap (λ es. entries_above byte_cmp es a) (entries-positions_from place)
+          ∙ above_between nat_list_cmp_total a [] (drop place (map entry run)) (map entry upper) (All-nil (λ (e : Pair). byte_cmp e.0 a ≡ Less)) upper_more
+          ∙ ap (λ l. l ++ map entry upper) (above_drop nat_list_cmp_total a (map entry run) (h.sorted k) place low)
+          ∙ sym (ap (λ es. entries_above byte_cmp es a) entries_split ∙ above_between nat_list_cmp_total a (map entry lower) (map entry run) (map entry upper) lower_less upper_more)
+
+      pub from_all : entries_from byte_cmp (map entry (positions_from cmp s k place)) a ≡ entries_from byte_cmp (entries m) a
+      from_all =
+          ap (λ es. entries_from byte_cmp es a) (entries-positions_from place)
+          ∙ from_between nat_list_cmp_total a [] (drop place (map entry run)) (map entry upper) (All-nil (λ (e : Pair). byte_cmp e.0 a ≡ Less)) upper_more
+          ∙ ap (λ l. l ++ map entry upper) (from_drop nat_list_cmp_total a (map entry run) (h.sorted k) place low)
+          ∙ sym (ap (λ es. entries_from byte_cmp es a) entries_split ∙ from_between nat_list_cmp_total a (map entry lower) (map entry run) (map entry upper) lower_less upper_more)

@@ -1,6 +1,7 @@
 -- On the records that a compaction copies: those that an index has are the newest of their keys, which leave the same map.
 --     newest_held, newest_count   they leave the map of all, and are as many as it has keys
---     listed_newest               those whose positions an index has
+--     latest_listed               the newest one of a key that has a value is one whose position an index has
+--     copied_newest               those whose positions an index has
 use Rattle.std.proofs.Common.{◌≡◌, ◌==◌, ◌&&◌, ◌||◌, ℕ, suc, ◌+◌, Bool, true, false, not, cond, List, [], ◌∷◌, ◌++◌, length, map, take, Option, Some, None, is_some, All, refl, sym, ap, subst, ◌∙◌, append-nil, append_assoc, arith}
 use Rattle.std.proofs.lemmas.Bool.{eq-eqb, eqb-true, false≢true}
 use Rattle.std.proofs.lemmas.List.Elements.{All-cons, All-head, All-tail}
@@ -270,6 +271,11 @@ module _ {K : Type 0} (cmp : K → K → Ordering) (log : List ℕ) (s : View K 
       of false false listed latest_is = listed ∙ sym latest_is
       of true false listed latest_is = absurd (false≢true (is true false listed latest_is refl))
       of false true listed latest_is = absurd (false≢true (back false true listed latest_is refl))
+
+  -- the newest record of a key that has a value is there
+  pub latest_listed : (p : ℕ) (l : IsLatest log p) → is_listed p (run_of cmp s l.here.key) ≡ true
+  latest_listed p l =
+      ap (λ q. is_listed q (run_of cmp s l.here.key)) l.place ∙ listed_is l.before l.here l.after l.split ∙ (λ i. l.valued i && not (l.last i))
 
   kept_from : (b rs : List Entry) (place : ℕ) → records_of log ≡ b ++ rs → place ≡ size_in b → kept_records (keeps cmp s false) place rs ≡ newest rs
   kept_from b [] place split at = refl

@@ -21,7 +21,7 @@ use Rattle.std.specs.declared.result.Result.{Result}
 use Rattle.std.specs.declared.result.Result.TheVariants.{Ok, Err}
 use Rattle.key_index_store.specs.Device.{IsBegun}
 use Rattle.key_index_store.specs.Record.{Entry, Fits, Outcome, Complete, Torn, Damaged, Stops, behind_head, encoded, encoded_from, fields_of, has_head, key_in, key_length, log_of, mark_of, marked, part, reading, record_length, size_of, value_in_record}
-use Rattle.key_index_store.specs.Salvage.{HaveHeads, Gap, copied, keeps, kept, kept_of, places_in, found, found_at, gaps_at, gaps_from, gaps_in, next_place, places_from, places_of, salvaged, step, unknown}
+use Rattle.key_index_store.specs.Salvage.{HaveHeads, Gap, copied, keeps, kept, places_in, found, found_at, gaps_at, gaps_from, gaps_in, next_place, places_from, places_of, salvaged, step, unknown}
 use Rattle.key_index_store.specs.Stored.{end_of, first_and, is_zeros, records_of, records_up_to, tail_by, tail_of}
 use Rattle.key_index_store.specs.declared.store.Tail.TheVariants as tail
 use Rattle.key_index_store.proofs.LogLemmas.{encoded_from-append, from_zero, length-encoded_from}
@@ -138,6 +138,9 @@ kept_in keeps log places = flat_map (λ place. kept keeps place (found (reading 
 
 abbrev pub copied_from : (ℕ → List ℕ → Bool) → List ℕ → ℕ → List Entry
 copied_from keeps log p = kept_in keeps log (rest_places log p)
+
+abbrev pub kept_of : (ℕ → List ℕ → Bool) → ℕ → Entry → List Entry
+kept_of keeps place r = kept keeps place (r ∷ [])
 
 -- of records one behind the other
 abbrev pub kept_records : (ℕ → List ℕ → Bool) → ℕ → List Entry → List Entry
@@ -538,6 +541,10 @@ kept_none old new none some = absurd (omega (arith, some, ap (λ l. length l) no
 pub on_ok_from : {A E F : Type 0} (P : Type 0) (r : Result A E) (q : Result A F) → IfOk r (λ x. q ≡ Ok x) → OnOk q P → OnOk r P
 on_ok_from P (Ok x) q is p = subst (λ t. OnOk t P) is p
 on_ok_from P (Err e) q is p = tt
+
+pub if_ok_from : {A E F : Type 0} (P : A → Type 0) (r : Result A E) (q : Result A F) → IfOk r (λ x. q ≡ Ok x) → IfOk q P → IfOk r P
+if_ok_from P (Ok x) q is p = subst (λ t. IfOk t P) is p
+if_ok_from P (Err e) q is p = tt
 
 pub on_err_if : {A E P : Type 0} (r : Result A E) → P → OnErr r P
 on_err_if (Ok x) p = tt

@@ -9,7 +9,7 @@
 --     IsBetween                         what a search knows of the place: before the first step, after each one, and at the end
 --     All-insert, length-insert         a list with one item more
 --     remove-insert                     what went in goes out again
-use Rattle.std.proofs.Common.{◌≡◌, ℕ, zero, suc, ◌+◌, ◌<◌, ◌≤◌, true, false, cond, not, T, List, [], ◌∷◌, length, map, take, drop, Some, None, is_some, slice_get, slice_set, All, refl, sym, ap, subst, ◌∙◌, length-append, length-take, length-drop, arith}
+use Rattle.std.proofs.Common.{◌≡◌, ℕ, zero, suc, ◌+◌, ◌<◌, ◌≤◌, true, false, cond, not, Bool, T, List, [], ◌∷◌, length, map, take, drop, Some, None, is_some, slice_get, slice_set, All, refl, sym, ap, subst, ◌∙◌, length-append, length-take, length-drop, arith}
 use Rattle.std.proofs.lemmas.Bool.{false≢true}
 use Rattle.std.proofs.lemmas.List.Elements.{All-append, All-cons, All-drop, All-take}
 use Rattle.std.proofs.lemmas.Map.Lookups.{exact_bytes}
@@ -25,6 +25,7 @@ use Rattle.std.specs.declared.cmp.Ordering.TheVariants.{Less, Equal, Greater}
 use Rattle.key_index_flat.specs.FullKeys.{byte_cmp}
 use Rattle.key_index_flat.specs.Neighbours.{entries_below}
 use Rattle.key_index_flat.specs.laws.Laws.{T-and_first, T-and_second}
+use Rattle.key_index_store.specs.Indexed.{count_to}
 use Rattle.key_index_flat.proofs.content.ContentLemmas.{Less-is_lt}
 use Rattle.key_index_flat.proofs.entries.EntryLemmas.{some_injective, some_not_none}
 
@@ -238,34 +239,38 @@ module _ {K X : Type 0} {R : K → K → Ordering} (o : IsTotalOrder R) (exact :
 
 -- ---- a search among entries in the order of their keys, which are bytes
 
--- the key's place is not in front of low, nor behind high, and where it is held, in front of high
+-- no fewer keys than low are below the key, and no more than high are at most it
 pub record IsBetween (es : List (List ℕ × List ℕ)) (key : List ℕ) (low high : ℕ) : Type 0 where
   pub after : low ≤ length (entries_below byte_cmp es key)
-  pub before : length (entries_below byte_cmp es key) ≤ high
-  pub held : is_some (find byte_cmp key es) ≡ true → length (entries_below byte_cmp es key) < high
+  pub before : count_to key es ≤ high
+
+count_to_of : (b : Bool) (n high : ℕ) → n ≤ high → (b ≡ true → n < high) → n + (cond b 1 0) ≤ high
+count_to_of true n high le less = omega (arith, less refl)
+count_to_of false n high le less = omega (arith, le)
 
 module _ (es : List (List ℕ × List ℕ)) (key : List ℕ) (h : T (is_sorted byte_cmp es)) where
+  count_to_within : (high : ℕ) → length (entries_below byte_cmp es key) ≤ high → (is_some (find byte_cmp key es) ≡ true → length (entries_below byte_cmp es key) < high) → count_to key es ≤ high
+  count_to_within high = count_to_of (is_some (find byte_cmp key es)) (length (entries_below byte_cmp es key)) high
+
   pub between_all : IsBetween es key 0 (length es)
   between_all = record {
     after = omega arith;
-    before = place_within nat_list_cmp_total exact_bytes es key;
-    held = place_below nat_list_cmp_total exact_bytes es key h;
+    before = count_to_within (length es) (place_within nat_list_cmp_total exact_bytes es key) (place_below nat_list_cmp_total exact_bytes es key h);
   }
 
-  module _ (low high : ℕ) (b : IsBetween es key low high) (i : ℕ) (e : List ℕ × List ℕ) (at : slice_get es i ≡ Some e) where
-    pub between-Less : byte_cmp e.0 key ≡ Less → IsBetween es key (i + 1) high
-    between-Less less = let more = place_above nat_list_cmp_total exact_bytes es key i e h at less in record {
-      after = omega (arith, more);
-      before = b.before;
-      held = b.held;
-    }
+  module _ (i : ℕ) (e : List ℕ × List ℕ) (at : slice_get es i ≡ Some e) where
+    module _ (low high : ℕ) (b : IsBetween es key low high) where
+      pub between-Less : byte_cmp e.0 key ≡ Less → IsBetween es key (i + 1) high
+      between-Less less = let more = place_above nat_list_cmp_total exact_bytes es key i e h at less in record {
+        after = omega (arith, more);
+        before = b.before;
+      }
 
-    pub between-Greater : byte_cmp e.0 key ≡ Greater → IsBetween es key low i
-    between-Greater over = record {
-      after = b.after;
-      before = place_at_most nat_list_cmp_total exact_bytes es key i e h at (ap is_lt over);
-      held = place_before nat_list_cmp_total exact_bytes es key i e h at over;
-    }
+      pub between-Greater : byte_cmp e.0 key ≡ Greater → IsBetween es key low i
+      between-Greater over = record {
+        after = b.after;
+        before = count_to_within i (place_at_most nat_list_cmp_total exact_bytes es key i e h at (ap is_lt over)) (place_before nat_list_cmp_total exact_bytes es key i e h at over);
+      }
 
     pub place-Equal : byte_cmp e.0 key ≡ Equal → (i ≡ length (entries_below byte_cmp es key)) × (true ≡ is_some (find byte_cmp key es))
     place-Equal tied =
@@ -274,11 +279,9 @@ module _ (es : List (List ℕ × List ℕ)) (key : List ℕ) (h : T (is_sorted b
         (own.0 ∙ ap (λ k. length (entries_below byte_cmp es k)) is, sym (ap is_some own.1) ∙ ap (λ k. is_some (find byte_cmp k es)) is)
 
   pub between_none : (low : ℕ) → IsBetween es key low low → (low ≡ length (entries_below byte_cmp es key)) × (false ≡ is_some (find byte_cmp key es))
-  between_none low b =
-      let here : low ≡ length (entries_below byte_cmp es key) = omega (arith, b.after, b.before) in (
-        here,
-        elim (is_some (find byte_cmp key es)) as (λ f. is_some (find byte_cmp key es) ≡ f → false ≡ f) [
-          | true ↦ λ f. (let less = b.held f in absurd (omega (arith, here, less)))
-          | false ↦ λ f. refl
-        ] refl,
-      )
+  between_none low b = of (is_some (find byte_cmp key es)) refl b.before
+    where
+      of : (t : Bool) → is_some (find byte_cmp key es) ≡ t → length (entries_below byte_cmp es key) + cond t 1 0 ≤ low
+          → (low ≡ length (entries_below byte_cmp es key)) × (false ≡ is_some (find byte_cmp key es))
+      of true e le = absurd (omega (arith, le, b.after))
+      of false e le = (omega (arith, le, b.after), sym e)

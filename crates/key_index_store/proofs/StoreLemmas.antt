@@ -2,6 +2,7 @@
 --     live_run, is_run           the positions of a key are live, and in the order of their keys
 --     place-get, value-get       by the place of a key, whether it has a value, and which one
 --     remove_absent              a key without a value is taken out
+--     listed-stands              where a position that is listed stands
 --     is_at-listed               a position is listed where the record that its key is found by stands there
 --     len-after_records          records leave no more keys than there are records
 --     refusal-Memory             so an index of the records of fewer bytes than `usize::MAX` is never full
@@ -112,7 +113,7 @@ All-slice_get P (x ∷ xs) (suc i) p all at = All-slice_get P xs i p (All-tail P
 
 -- ---- a position is listed where the record that is found by its key stands there
 
-listed-stands : (ps : List ℕ) (p : ℕ) → is_listed p ps ≡ true → (i : ℕ) × (slice_get ps i ≡ Some p)
+pub listed-stands : (ps : List ℕ) (p : ℕ) → is_listed p ps ≡ true → (i : ℕ) × (slice_get ps i ≡ Some p)
 listed-stands [] p t = absurd (false≢true t)
 listed-stands (x ∷ ps) p t = elim (or_cases (x == p) (is_listed p ps) t) [
   | inl first ↦ (0, ap (λ q. Some q) (eqb-true x p first))

@@ -5,8 +5,11 @@
 --     value_in              the value of the first record in a list of positions that has a key
 --     IsPlace, IsIn         the place of a key in a list, by the entries of its positions;  it is there, or may be put in there
 --     IsRun                 a list of live positions in the order of their keys
---     IsFront, is_at        bytes at the front of the record at a position;  at this one
---     HasRuns               so is each list of an index, where not all records are kept
+--     IsFront, is_at        bytes that were given of the front of the record at a position;  at this one
+--     AreDamaged            of the records at a list's positions, from one place to another, other bytes were given than they have
+--     IsHiddenIn            the place of a key in a list isn't known: damaged records stand where it stands or would stand
+--     IsFirstIn             the first record of a list whose key reads, from one place to another, and on which side of a key it is
+--     HasRuns               so is each list of an index, where not all records are kept, and no record is damaged
 --     Indexes               the log is complete records, and the index has the position of each key's newest one that has a value, once,
 --                           under the index key of the key, where the positions stand in the order of their keys
 --     IsTail                what a store knows of the bytes behind the records: after a write that failed, where a torn one may stand,
@@ -14,7 +17,7 @@
 --     Keeps                 what a store keeps of its log: where the complete records end, what stands behind them, and the index of them
 --     Settles               after the position of a key's newest record was filed: in the place of the older one, or as a new one
 --     KeepsLists            no list is another
-use Rattle.std.specs.Prelude.{◌≡◌, ◌==◌, ◌≤◌, ◌<◌, T, ℕ, Bool, true, false, List, [], ◌∷◌, ◌++◌, map, length, drop, take, insert, remove, slice_set, Option, Some, None, is_some, All}
+use Rattle.std.specs.Prelude.{◌≡◌, ◌==◌, ◌≤◌, ◌<◌, ◌+◌, if◌then◌else◌, T, ℕ, Bool, true, false, List, [], ◌∷◌, ◌++◌, map, length, drop, take, insert, remove, slice_get, slice_set, Option, Some, None, is_some, All}
 use Rattle.std.specs.FinMap.{find, get, is_sorted, len}
 use Rattle.std.specs.declared.cmp.Ordering.{Ordering}
 use Rattle.key_index_flat.specs.FullKeys.{IsBytes, byte_cmp}
@@ -23,7 +26,9 @@ use Rattle.key_index_flat.specs.View.{View, items_in, run_at, run_of, with_edit,
 use Rattle.key_index_store.specs.Salvage.{has_key}
 use Rattle.key_index_store.specs.Record.{Entry, Fits, Outcome, Complete, Torn, Damaged, Stops, bytes_of, log_of, reading}
 use Rattle.key_index_store.specs.Stored.{held_by, records_of, tail_of}
+use Rattle.key_index_store.specs.Device.{Gives, IsUndamaged}
 use Rattle.key_index_store.specs.declared.store.find.Front.{Front}
+use Rattle.key_index_store.specs.declared.store.find.Readable.{Readable}
 use Rattle.key_index_store.specs.declared.store.Tail.{Tail}
 use Rattle.key_index_store.specs.declared.store.Tail.TheVariants as tail
 
@@ -61,9 +66,8 @@ module _ (log : List ℕ) where
   abbrev pub IsRun : List ℕ → Type 0
   IsRun ps = All IsLive ps × T (is_sorted byte_cmp (map entry_at ps))
 
-  -- the bytes at the front of a record
-  abbrev pub IsFront : Front → Type 0
-  IsFront f = f.bytes.items ≡ take (length f.bytes.items) (drop f.position log)
+  abbrev pub IsFront : (ℕ → Type 0) → Front → Type 0
+  IsFront damaged f = Gives damaged f.position (take (length f.bytes.items) (drop f.position log)) f.bytes.items
 
   -- the place of a record that has a value, and whose key no later one has
   pub record IsLatest (p : ℕ) : Type 0 where
@@ -75,6 +79,27 @@ module _ (log : List ℕ) where
     pub key : key_at p ≡ here.key
     pub valued : is_some here.value ≡ true
     pub last : has_key here.key after ≡ false
+
+abbrev pub AreDamaged : (ℕ → Type 0) → List ℕ → ℕ → ℕ → Type 0
+AreDamaged damaged ps from to = (i p : ℕ) → from ≤ i → i < to → slice_get ps i ≡ Some p → damaged p
+
+-- how many keys of some entries are at most a key
+abbrev pub count_to : List ℕ → List (List ℕ × List ℕ) → ℕ
+count_to key es = length (entries_below byte_cmp es key) + (if is_some (find byte_cmp key es) then 1 else 0)
+
+-- by the entries of a list's positions: those from the place on, up to another one, are damaged, and the key stands there, or would
+pub record IsHiddenIn (damaged : ℕ → Type 0) (entry : ℕ → List ℕ × List ℕ) (key ps : List ℕ) (place : ℕ) : Type 0 where
+  pub behind : ℕ
+  pub some : place < behind
+  pub within : behind ≤ length ps
+  pub unread : AreDamaged damaged ps place behind
+  pub low : place ≤ length (entries_below byte_cmp (map entry ps) key)
+  pub high : count_to key (map entry ps) ≤ behind
+
+abbrev pub IsFirstIn : (ℕ → Type 0) → (ℕ → List ℕ) → List ℕ → List ℕ → ℕ → ℕ → Option Readable → Type 0
+IsFirstIn damaged key_at key ps from to None = AreDamaged damaged ps from to
+IsFirstIn damaged key_at key ps from to (Some r) =
+    AreDamaged damaged ps from r.place × (r.side ≡ byte_cmp (key_at r.front.position) key)
 
 abbrev pub is_at : Option Front → ℕ → Bool
 is_at None place = false
@@ -95,8 +120,8 @@ module _ {K : Type 0} (cmp : K → K → Ordering) where
     pub found : (key : List ℕ) → value_in log key (run_of cmp s key) ≡ get (held_by log) key
     pub counted : items_in s ≡ len (held_by log)
 
-  abbrev pub HasRuns : View K ℕ → Bool → List ℕ → Type 0
-  HasRuns s is_all log = is_all ≡ false → (key : List ℕ) → IsRun log (run_of cmp s key)
+  abbrev pub HasRuns : View K ℕ → (ℕ → Type 0) → Bool → List ℕ → Type 0
+  HasRuns s damaged is_all log = is_all ≡ false → IsUndamaged damaged × ((key : List ℕ) → IsRun log (run_of cmp s key))
 
   pub record Keeps (log : List ℕ) (s : View K ℕ) (end : ℕ) (tail : Tail) : Type 0 where
     pub within : end ≤ length log

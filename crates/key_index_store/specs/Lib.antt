@@ -1,4 +1,5 @@
 pub mod Checksum
+pub mod Damage
 pub mod Device
 pub mod FileDevice
 pub mod Header

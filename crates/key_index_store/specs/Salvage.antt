@@ -53,9 +53,6 @@ salvaged log = found_at log (places_in log)
 abbrev pub kept : (ℕ → List ℕ → Bool) → ℕ → List Entry → List Entry
 kept keeps place rs = filter (λ r. keeps place r.key) rs
 
-abbrev pub kept_of : (ℕ → List ℕ → Bool) → ℕ → Entry → List Entry
-kept_of keeps place r = kept keeps place (r ∷ [])
-
 abbrev pub one_if : Bool → Entry → List Entry
 one_if is_kept r = if is_kept then r ∷ [] else []
 

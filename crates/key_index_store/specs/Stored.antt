@@ -3,13 +3,14 @@
 --     records_of          the complete records at the front of a log
 --     held_by             the map that they leave, from the empty one on
 --     end_of              how many bytes they take
---     entry_after, entry_from, entry_before  the entry with the least key strictly above one, at least one, and with the greatest strictly below
+--     entry_after, entry_before  the entry with the least key strictly above one, and with the greatest strictly below
 --     gap_in              of a key without a value both of them
 --     in_bytes            an entry that the code has
 --     without_tail, with_record  without what stands behind the complete records;  and with one more record
 --     IsBeforeOrAfter, LeavesBeforeOrAfter  a log of the same map as before a record was appended, or as after it;  what a crash leaves
 --     IsRefused           after a call was refused that would have appended a record
 --     MayRead, MayRefuse  why a call may be refused
+--     MayOpen       why a log may not be opened
 --     HasChanged, HasRefused  after a call that appends a record where one is wanted
 --     tail_in             what stands behind the last complete record
 use Rattle.std.specs.Prelude.{◌≡◌, ◌⊎◌, ◌+◌, ◌-◌, ◌^◌, ◌==◌, ◌&&◌, ◌||◌, ℕ, zero, suc, Bool, true, List, [], ◌∷◌, ◌++◌, length, take, drop, Option, Some, None, is_some, if◌then◌else◌, Vec}
@@ -19,7 +20,6 @@ use Rattle.std.specs.Option.{option_map}
 use Rattle.std.specs.declared.alloc.Global.{Global}
 use Rattle.key_index_flat.specs.FullKeys.{byte_cmp}
 use Rattle.key_index_flat.specs.Neighbours.{entries_above, entries_below, first_entry, last_entry}
-use Rattle.key_index_flat.specs.Walk.{entries_from}
 use Rattle.key_index_flat.specs.declared.index.Fault as index
 use Rattle.key_index_flat.specs.declared.index.Fault.TheVariants as index_fault
 use Rattle.key_index_store.specs.Device.{Adds, IsBegun}
@@ -63,9 +63,6 @@ end_of log = length (log_of (records_of log))
 
 abbrev pub entry_after : Values → List ℕ → Option (List ℕ × List ℕ)
 entry_after m key = first_entry (entries_above byte_cmp (entries m) key)
-
-abbrev pub entry_from : Values → List ℕ → Option (List ℕ × List ℕ)
-entry_from m key = first_entry (entries_from byte_cmp (entries m) key)
 
 abbrev pub entry_before : Values → List ℕ → Option (List ℕ × List ℕ)
 entry_before m key = last_entry (entries_below byte_cmp (entries m) key)
@@ -133,15 +130,19 @@ refusal_of index_fault.TooFar = fault.Full
 abbrev pub MayRead : Fault → Type 0
 MayRead f = (f ≡ fault.Memory) ⊎ (f ≡ fault.ReadFailed)
 
--- one that would append a record. Each of the others may come at any time
-abbrev pub MayRefuse : List ℕ → Entry → Fault → Type 0
-MayRefuse log r fault.TooLong = ¬ Fits r
-MayRefuse log r fault.Damaged = tail_in log ≡ tail.Damaged
-MayRefuse log r fault.Full = (get (held_by log) r.key ≡ None) × (len (held_by log) ≡ 2 ^ 64 - 1)
-MayRefuse log r fault.NotEmpty = ⊥
-MayRefuse log r fault.Memory = Unit {0}
-MayRefuse log r fault.ReadFailed = Unit {0}
-MayRefuse log r fault.WriteFailed = Unit {0}
+-- one that reads records again while it opens a log, by the damage that was noted
+abbrev pub MayOpen : (ℕ → Type 0) → Fault → Type 0
+MayOpen damaged f = MayRead f ⊎ ((f ≡ fault.Damaged) × ((place : ℕ) × damaged place))
+
+-- one that would append a record, by what hides a key. Each of the others may come at any time
+abbrev pub MayRefuse : (List ℕ → List ℕ → Type 0) → List ℕ → Entry → Fault → Type 0
+MayRefuse hides log r fault.TooLong = ¬ Fits r
+MayRefuse hides log r fault.Damaged = (tail_in log ≡ tail.Damaged) ⊎ hides log r.key
+MayRefuse hides log r fault.Full = (get (held_by log) r.key ≡ None) × (len (held_by log) ≡ 2 ^ 64 - 1)
+MayRefuse hides log r fault.NotEmpty = ⊥
+MayRefuse hides log r fault.Memory = Unit {0}
+MayRefuse hides log r fault.ReadFailed = Unit {0}
+MayRefuse hides log r fault.WriteFailed = Unit {0}
 
 -- ---- a call that appends a record, or finds that none is wanted: had tells whether the key had a value
 
@@ -159,6 +160,7 @@ pub record HasChanged (old : List ℕ) (r : Entry) (had : Bool) (new : List ℕ)
   pub logged : new ≡ (if is_some r.value || had then with_record old r else without_tail old)
   pub undamaged : ¬ (tail_in old ≡ tail.Damaged)
 
-pub record HasRefused (old : List ℕ) (r : Entry) (f : Fault) (new : List ℕ) : Type 0 where
+pub record HasRefused (hides : List ℕ → List ℕ → Type 0) (old : List ℕ) (r : Entry) (f : Fault) (new : List ℕ) :
+    Type 0 where
   pub refused : IsRefused old r new
-  pub fault : MayRefuse old r f
+  pub fault : MayRefuse hides old r f

@@ -1,6 +1,6 @@
 //! What a log needs of a file: its length, reads and writes at a place, a new length, and that what was written is forced to the disk.
-ghost use Rattle.std.specs.Prelude.{◌≡◌, ◌≤◌, List, length, take, drop, Some, IfOk, OnOk, OnErr, Option, ℕ, ◌++◌};
-ghost use Rattle.key_index_store.specs.Device.{Adds, AddsAtMost, Changes, IsBegun, NoMore, Sees, Stays};
+ghost use Rattle.std.specs.Prelude.{◌≡◌, ◌≤◌, ◌+◌, List, length, take, drop, Some, IfOk, OnOk, OnErr, Option, ℕ, ◌++◌};
+ghost use Rattle.key_index_store.specs.Device.{Adds, AddsAtMost, Changes, Gives, IsBegun, KeepsDamage, NoMore, Sees, Stays};
 
 /// A call of a device that failed.
 #[derive(Clone, Copy, Debug, PartialEq, Eq)]
@@ -8,7 +8,8 @@ pub struct Failed;
 
 /// A device. Of a file no contract can say what it gives back. So what its calls do is said of the bytes that are `seen`: the content of
 /// the device, while each of its answers was that of a device which has that content; none once an answer was not. That the file gives
-/// back what it was given is the one premise of all that is said of a store over it.
+/// back what it was given is the one premise of all that is said of a store over it; but for `read_record`, which may be given a damaged
+/// record.
 pub trait Device {
     /// Its bytes, while it has given no wrong answer.
     ghost seen: { Self → Option (List ℕ) };
@@ -16,10 +17,14 @@ pub trait Device {
     /// What a crash at this moment may leave: some bytes; or `None`, which stands for any, as of a file of which nothing was synced yet.
     ghost may_leave: { Self → Option (List ℕ) → Type 0 };
 
+    /// The places of the records of which `read_record` was given other bytes than there are.
+    ghost damaged: { Self → ℕ → Type 0 };
+
     /// How many bytes there are.
     fn len(&mut self) -> Result<u64, Failed>
         ensures told { Sees (seen self.new) (λ bytes. IfOk result (λ n. n ≡ length bytes)) }
         ensures stays { Stays (seen self.old) (seen self.new) }
+        ensures damage { KeepsDamage (damaged self.old) (damaged self.new) }
         ensures crash { NoMore (may_leave self.old) (may_leave self.new) };
 
     /// Fills a buffer with the bytes from a position on. It fails where there are fewer.
@@ -27,6 +32,17 @@ pub trait Device {
         ensures told { Sees (seen self.new) (λ bytes. OnOk result
             (buffer.new ≡ take (length buffer.old) (drop position bytes))) }
         ensures stays { Stays (seen self.old) (seen self.new) }
+        ensures damage { KeepsDamage (damaged self.old) (damaged self.new) }
+        ensures crash { NoMore (may_leave self.old) (may_leave self.new) };
+
+    /// Fills a buffer with the bytes from the front of the record on that stands at a place of a log, which begins at a position. It fails
+    /// where there are fewer. What it gives of a damaged record is no wrong answer, while none of its parts has a checksum but those that
+    /// are the record's own: so damage hides this record, and no other.
+    fn read_record(&mut self, log: u64, place: u64, buffer: &mut [u8]) -> Result<(), Failed>
+        ensures told { Sees (seen self.new) (λ bytes. OnOk result (Gives (damaged self.new) place
+            (take (length buffer.old) (drop (log + place) bytes)) buffer.new)) }
+        ensures stays { Stays (seen self.old) (seen self.new) }
+        ensures damage { KeepsDamage (damaged self.old) (damaged self.new) }
         ensures crash { NoMore (may_leave self.old) (may_leave self.new) };
 
     /// Writes bytes at a position. What it does is said where that is the end. Where it fails, it has written fewer than all of them.

@@ -63,11 +63,13 @@ fn write_some(file: &File, limit: u64, position: u64, bytes: &[u8]) -> Result<us
 }
 
 impl Device for FileDevice {
-    ghost use Rattle.key_index_store.specs.FileDevice.{file_seen, FileLeaves};
+    ghost use Rattle.key_index_store.specs.FileDevice.{FileLeaves, IsDamagedIn, file_seen};
 
     ghost seen = { file_seen };
 
     ghost may_leave = { FileLeaves };
+
+    ghost damaged = { IsDamagedIn };
 
     fn len(&mut self) -> Result<u64, Failed> {
         let len = self.file.metadata().map_err(failed)?.len();
@@ -78,6 +80,13 @@ impl Device for FileDevice {
     fn read_at(&mut self, position: u64, buffer: &mut [u8]) -> Result<(), Failed> {
         self.file.read_exact_at(buffer, position).map_err(failed)?;
         self.history = self.history.and(&Call::Gave(position), buffer);
+        Ok(())
+    }
+
+    fn read_record(&mut self, log: u64, place: u64, buffer: &mut [u8]) -> Result<(), Failed> {
+        let position = log.checked_add(place).ok_or(Failed)?;
+        self.file.read_exact_at(buffer, position).map_err(failed)?;
+        self.history = self.history.and(&Call::GaveRecord(log, place), buffer);
         Ok(())
     }
 

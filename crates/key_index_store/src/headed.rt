@@ -81,8 +81,8 @@ impl<D: Device> Headed<D> {
         ensures headed { IfOk result (λ h. Sees (D.seen h) IsHeaded) }
         ensures refused { IfErr result (λ e. e.reason ≢ OpenError.ReadFailed → Sees (D.seen e.device)
             (λ bytes. (¬ IsHeaded bytes) × (e.reason ≡ refusal_in (take 16 bytes)))) }
-        ensures read { IfOk result (λ h. IsRead D.seen D.may_leave device h) }
-        ensures kept { IfErr result (λ e. IsRead D.seen D.may_leave device e.device) }
+        ensures read { IfOk result (λ h. IsRead D.seen D.damaged D.may_leave device h) }
+        ensures kept { IfErr result (λ e. IsRead D.seen D.damaged D.may_leave device e.device) }
     {
         match headed_length(&mut device) {
             Ok(len) => Ok(Headed {
@@ -141,7 +141,7 @@ fn headed_length<D: Device>(device: &mut D) -> Result<u64, OpenError>
     ensures headed { OnOk result (Sees (D.seen device.new) IsHeaded) }
     ensures refused { IfErr result (λ e. e ≢ OpenError.ReadFailed → Sees (D.seen device.new)
         (λ bytes. (¬ IsHeaded bytes) × (e ≡ refusal_in (take 16 bytes)))) }
-    ensures read { IsRead D.seen D.may_leave device.old device.new }
+    ensures read { IsRead D.seen D.damaged D.may_leave device.old device.new }
 {
     let len = device.len()?;
     let count = len.min(LENGTH) as usize;
@@ -179,6 +179,8 @@ impl<D: Device> Device for Headed<D> {
 
     ghost may_leave = { λ d. Behind (D.may_leave d) };
 
+    ghost damaged = { λ d. D.damaged d };
+
     fn len(&mut self) -> Result<u64, Failed> {
         let len = self.device.len()?;
         self.end = Some(len);
@@ -188,6 +190,11 @@ impl<D: Device> Device for Headed<D> {
     fn read_at(&mut self, position: u64, buffer: &mut [u8]) -> Result<(), Failed> {
         let place = position.checked_add(LENGTH).ok_or(Failed)?;
         self.device.read_at(place, buffer)
+    }
+
+    fn read_record(&mut self, log: u64, place: u64, buffer: &mut [u8]) -> Result<(), Failed> {
+        let log = log.checked_add(LENGTH).ok_or(Failed)?;
+        self.device.read_record(log, place, buffer)
     }
 
     /// Fails where the position is not the end. What is missing of the header is written with the bytes.

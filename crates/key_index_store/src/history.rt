@@ -14,6 +14,8 @@ pub(crate) enum Call {
     Told(u64),
     /// It gave these bytes from a position on.
     Gave(u64),
+    /// It gave these bytes from the front of the record on that stands at a place of the log that begins at a position.
+    GaveRecord(u64, u64),
     /// It took these bytes at a position.
     Took(u64),
     /// It took this for its length.

@@ -15,4 +15,5 @@ pub mod place;
 pub mod record;
 pub mod salvage;
 pub mod store;
+pub mod threads;
 pub mod translator;

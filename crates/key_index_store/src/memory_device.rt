@@ -43,6 +43,8 @@ impl Device for MemoryDevice {
 
     ghost may_leave = { MayLeave };
 
+    ghost damaged = { λ _ _. ⊥ };
+
     /// It doesn't fail.
     fn len(&mut self) -> Result<u64, Failed>
         ensures told { result ≡ Ok (length (held self.old)) }
@@ -59,6 +61,15 @@ impl Device for MemoryDevice {
         let rest = self.bytes.get(position as usize..).ok_or(Failed)?;
         buffer.copy_from_slice(rest.get(..buffer.len()).ok_or(Failed)?);
         Ok(())
+    }
+
+    fn read_record(&mut self, log: u64, place: u64, buffer: &mut [u8]) -> Result<(), Failed>
+        ensures told { OnOk result (buffer.new ≡ take (length buffer.old) (drop (log + place) (held self.old))) }
+        ensures within { IsTrue (is_ok result) ↔ (log + place + length buffer.old ≤ length (held self.old)) }
+        ensures same { self.new ≡ self.old }
+    {
+        let position = log.checked_add(place).ok_or(Failed)?;
+        self.read_at(position, buffer)
     }
 
     /// Fails where the position is not the end, or where there is no memory, and then changes nothing.

@@ -1,10 +1,11 @@
 //! The name of a store's file, and fresh files that take a name.
-ghost use Rattle.std.specs.Prelude.{◌≡◌, ◌≢◌, ◌↔◌, ◌<◌, ℕ, List, Some, Ok, true, [], length, string_bytes, IsErr, IsTrue, IfOk, OnOk, OnErr};
-ghost use Rattle.key_index_store.specs.Device.{Changes, IsDurable, IsRead, Sees, Stays};
+ghost use Rattle.std.specs.FinMap.{len};
+ghost use Rattle.std.specs.Prelude.{◌≡◌, ◌≢◌, ◌↔◌, ◌<◌, ℕ, List, Some, Ok, true, [], length, map, string_bytes, IsErr, IsTrue, IfOk, OnOk, OnErr};
+ghost use Rattle.key_index_store.specs.Device.{Changes, IsDurable, IsRead, Sees, SeesAll, Stays};
 ghost use Rattle.key_index_store.specs.Names.{is_made, known, noted};
 ghost use Rattle.key_index_store.specs.Places.{IsFresh, IsGiven, IsOnDisk, IsSame, LeavesEither, LeavesNoMore, SparesOthers};
 ghost use Rattle.key_index_store.specs.Record.{log_of};
-ghost use Rattle.key_index_store.specs.Salvage.{newest, salvaged};
+ghost use Rattle.key_index_store.specs.Salvage.{gap_of, gaps_in, newest, salvaged};
 ghost use Rattle.key_index_store.specs.Stored.{held_by, records_of};
 ghost use Rattle.key_index_store.specs.declared.folder.NameCall.TheVariants.{Made, Synced};
 
@@ -370,10 +371,12 @@ impl<F: Folder> Place<F> {
         requires fresh { IsFresh self.old.calls fresh.now }
         ensures copied { OnOk result (Sees (D.seen store.new) (λ log. Changes (C.seen into.old) (C.seen into.new)
             (λ old new. (old ≡ []) × (new ≡ log_of (salvaged log))))) }
+        ensures records { IfOk result (λ s. Sees (D.seen store.new) (λ log. s.records ≡ length (salvaged log))) }
+        ensures gaps { IfOk result (λ s. Sees (D.seen store.new) (λ log. map gap_of s.gaps.items ≡ gaps_in log)) }
         ensures durable { OnOk result (IsDurable (C.seen into.new) (C.may_leave into.new)) }
         ensures on_disk { OnOk result (IsOnDisk self.new.calls (string_bytes fresh.now.target) fresh.now.file) }
         ensures either { LeavesEither fresh.now self.old.calls self.new.calls }
-        ensures read { IsRead D.seen D.may_leave store.old store.new }
+        ensures read { IsRead D.seen D.damaged D.may_leave store.old store.new }
         ensures same { IsSame self.old self.new }
     {
         let salvaged = store.salvage(into);
@@ -388,25 +391,31 @@ impl<F: Folder> Place<F> {
         into: &mut C,
     ) -> Result<Salvaged, NameFault<F::Error>>
         requires fresh { IsFresh self.old.calls fresh.now }
-        ensures copied { OnOk result (Sees (D.seen store.new) (λ log. Changes (C.seen into.old) (C.seen into.new)
-            (λ old new. (old ≡ []) × (new ≡ log_of (newest (records_of log)))))) }
+        ensures copied { OnOk result (SeesAll (D.seen store.new) (D.damaged store.new) (λ log.
+            Changes (C.seen into.old) (C.seen into.new) (λ old new.
+            (old ≡ []) × (new ≡ log_of (newest (records_of log)))))) }
+        ensures records { IfOk result (λ s. SeesAll (D.seen store.new) (D.damaged store.new) (λ log.
+            s.records ≡ len (held_by log))) }
+        ensures gaps { IfOk result (λ s. SeesAll (D.seen store.new) (D.damaged store.new) (λ log. s.gaps.items ≡ [])) }
         ensures durable { OnOk result (IsDurable (C.seen into.new) (C.may_leave into.new)) }
         ensures on_disk { OnOk result (IsOnDisk self.new.calls (string_bytes fresh.now.target) fresh.now.file) }
         ensures either { LeavesEither fresh.now self.old.calls self.new.calls }
-        ensures read { IsRead D.seen D.may_leave store.old store.new }
+        ensures read { IsRead D.seen D.damaged D.may_leave store.old store.new }
         ensures same { IsSame self.old self.new }
     {
         let copied = store.compact(into);
         self.finish(fresh, copied, into)
     }
 
-    /// Opens what was copied to a fresh file, which gets the name that it takes once it is on the disk. A refused copy gets none.
+    /// Opens what was copied to a fresh file, which gets the name that it takes once it is on the disk. A refused copy gets none, and one
+    /// that opens with more or fewer keys than records were copied.
     fn open_copy<C: Device + Drop, I: Unordered<Value = u64> + Drop>(
         &mut self,
         alloc: Global,
         fresh: &Fresh,
         into: C,
         index: I,
+        records: u64,
     ) -> Result<Store<C, I>, NameFault<F::Error>>
         requires fresh { IsFresh self.old.calls fresh.now }
         requires empty { (I.view index).content ≡ [] }
@@ -420,6 +429,9 @@ impl<F: Folder> Place<F> {
             Ok(copy) => copy,
             Err(refused) => return self.refuse(fresh, refused.fault),
         };
+        if copy.len() as u64 != records {
+            return self.refuse(fresh, Fault::Damaged);
+        }
         if let Err(fault) = copy.sync() {
             return self.refuse(fresh, fault);
         }
@@ -439,14 +451,17 @@ impl<F: Folder> Place<F> {
     ) -> Result<(Store<C, I>, Salvaged), NameFault<F::Error>>
         requires fresh { IsFresh self.old.calls fresh }
         requires empty { (I.view index).content ≡ [] }
-        ensures held { IfOk result (λ r. Sees (D.seen store.new) (λ log. Sees (C.seen r.0) (λ bytes.
-            held_by bytes ≡ held_by log))) }
+        ensures held { IfOk result (λ r. SeesAll (D.seen store.new) (D.damaged store.new) (λ log.
+            Sees (C.seen r.0) (λ bytes. held_by bytes ≡ held_by log))) }
+        ensures records { IfOk result (λ r. SeesAll (D.seen store.new) (D.damaged store.new) (λ log.
+            r.1.records ≡ len (held_by log))) }
+        ensures gaps { IfOk result (λ r. SeesAll (D.seen store.new) (D.damaged store.new) (λ log. r.1.gaps.items ≡ [])) }
         ensures durable { IfOk result (λ r. IsDurable (C.seen r.0) (C.may_leave r.0)) }
         ensures moved { OnOk result ((self.new.name ≡ string_bytes fresh.target) × (self.new.file ≡ fresh.file)) }
         ensures given { OnOk result (IsGiven fresh self.new.calls) }
         ensures stayed { OnErr result (IsSame self.old self.new) }
         ensures either { LeavesEither fresh self.old.calls self.new.calls }
-        ensures read { IsRead D.seen D.may_leave store.old store.new }
+        ensures read { IsRead D.seen D.damaged D.may_leave store.old store.new }
     {
         let mut into = into;
         let copied = match store.compact(&mut into) {
@@ -457,7 +472,7 @@ impl<F: Folder> Place<F> {
         if is_own && copied.records != store.len() as u64 {
             return self.refuse(&fresh, Fault::Damaged);
         }
-        let copy = self.open_copy(alloc, &fresh, into, index)?;
+        let copy = self.open_copy(alloc, &fresh, into, index, copied.records)?;
         self.name = fresh.target;
         self.file = fresh.file;
         self.is_on_disk = false;

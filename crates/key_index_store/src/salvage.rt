@@ -114,9 +114,9 @@ fn is_kept<D: Device, I: Unordered<Value = u64>>(
     key: &[u8],
 ) -> Result<bool, Fault>
     ensures told { Sees (D.seen from.new) (λ log. len ≤ length log
-        → HasRuns I.Key.cmp (I.view index.now) is_all (take len log) → key_at (take len log) place ≡ key.now
+        → HasRuns I.Key.cmp (I.view index.now) (D.damaged from.new) is_all (take len log) → key_at (take len log) place ≡ key.now
         → IfOk result (λ t. t ≡ keeps I.Key.cmp (I.view index.now) is_all place key.now)) }
-    ensures read { IsRead D.seen D.may_leave from.old from.new }
+    ensures read { IsRead D.seen D.damaged D.may_leave from.old from.new }
     ensures fault { IfErr result MayRead }
 {
     if is_all {
@@ -192,25 +192,25 @@ pub(crate) fn copy<D: Device, C: Device, I: Unordered<Value = u64>>(
     is_all: bool,
 ) -> Result<Salvaged, Fault>
     ensures copied { OnOk result (Sees (D.seen from.new) (λ log. len ≤ length log
-        → HasRuns I.Key.cmp (I.view index.now) is_all (take len log)
+        → HasRuns I.Key.cmp (I.view index.now) (D.damaged from.new) is_all (take len log)
         → Changes (C.seen into.old) (C.seen into.new) (λ old new.
         (old ≡ []) × (new ≡ log_of (copied (keeps I.Key.cmp (I.view index.now) is_all) (take len log)))))) }
     ensures records { IfOk result (λ s. Sees (D.seen from.new) (λ log. len ≤ length log
-        → HasRuns I.Key.cmp (I.view index.now) is_all (take len log)
+        → HasRuns I.Key.cmp (I.view index.now) (D.damaged from.new) is_all (take len log)
         → s.records ≡ length (copied (keeps I.Key.cmp (I.view index.now) is_all) (take len log)))) }
     ensures left_out { IfOk result (λ s. Sees (D.seen from.new) (λ log. len ≤ length log
-        → HasRuns I.Key.cmp (I.view index.now) is_all (take len log)
+        → HasRuns I.Key.cmp (I.view index.now) (D.damaged from.new) is_all (take len log)
         → Sees (C.seen into.new) (λ bytes. s.left_out ≡ len - length bytes))) }
     ensures gaps { IfOk result (λ s. Sees (D.seen from.new) (λ log. len ≤ length log
-        → HasRuns I.Key.cmp (I.view index.now) is_all (take len log)
+        → HasRuns I.Key.cmp (I.view index.now) (D.damaged from.new) is_all (take len log)
         → map gap_of s.gaps.items ≡ gaps_in (take len log))) }
     // Where it fails, it has appended a front of that, and nothing to a log that had bytes.
     ensures begun { Sees (D.seen from.new) (λ log. len ≤ length log
-        → HasRuns I.Key.cmp (I.view index.now) is_all (take len log)
+        → HasRuns I.Key.cmp (I.view index.now) (D.damaged from.new) is_all (take len log)
         → Changes (C.seen into.old) (C.seen into.new) (λ old new.
         (n : ℕ) × (new ≡ old ++ take n (log_of (copied (keeps I.Key.cmp (I.view index.now) is_all) (take len log)))))) }
     ensures stays { Changes (C.seen into.old) (C.seen into.new) (λ old new. 0 < length old → new ≡ old) }
-    ensures read { IsRead D.seen D.may_leave from.old from.new }
+    ensures read { IsRead D.seen D.damaged D.may_leave from.old from.new }
     ensures fault { IfErr result (MaySalvage (C.seen into.new)) }
 {
     if length_of(into)? != 0 {

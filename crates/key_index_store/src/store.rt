@@ -3,11 +3,12 @@ ghost use Rattle.std.specs.Prelude.{◌≡◌, ◌↔◌, ◌⊎◌, ◌<◌, �
 ghost use Rattle.std.specs.FinMap as map;
 ghost use Rattle.std.specs.Option.{option_map};
 ghost use Rattle.key_index_flat.specs.View.{growth_fault_in, run_of, with_edit};
-ghost use Rattle.key_index_store.specs.Device.{Adds, AddsAtMost, Changes, IsBegun, IsKnown, IsRead, NoMore, Sees, Stays};
+ghost use Rattle.key_index_store.specs.Damage.{Hides, MayMiss};
+ghost use Rattle.key_index_store.specs.Device.{Adds, AddsAtMost, Changes, IsBegun, IsKnown, IsRead, NoMore, Sees, SeesAll, Stays};
 ghost use Rattle.key_index_store.specs.Indexed.{IsIn, Keeps, KeepsLists, Settles};
 ghost use Rattle.key_index_store.specs.Record.{Entry, Fits, encoded, log_of, size_of};
 ghost use Rattle.key_index_store.specs.Salvage.{HaveHeads, MaySalvage, found_at, gap_of, gaps_in, newest, places_of, salvaged};
-ghost use Rattle.key_index_store.specs.Stored.{HasChanged, HasRefused, HasRoom, LeavesSame, IsRefused, LeavesBeforeOrAfter, MayRead, MayRefuse, refusal_of, end_of, held_by, records_of, tail_in, with_record, without_tail};
+ghost use Rattle.key_index_store.specs.Stored.{HasChanged, HasRefused, HasRoom, LeavesSame, IsRefused, LeavesBeforeOrAfter, MayOpen, MayRefuse, refusal_of, end_of, held_by, records_of, tail_in, with_record, without_tail};
 
 pub(crate) mod find;
 mod log;
@@ -263,9 +264,9 @@ impl<D: Device, I: Unordered<Value = u64>> Store<D, I> {
         D: Drop,
         I: Drop,
         requires { (I.view index).content ≡ [] }
-        ensures read { IfOk result (λ store. IsRead D.seen D.may_leave device store) }
-        ensures refused { IfErr result (λ e. IsRead D.seen D.may_leave device e.device) }
-        ensures fault { IfErr result (λ e. Sees (D.seen e.device) (λ log. MayRead e.fault)) }
+        ensures read { IfOk result (λ store. IsRead D.seen D.damaged D.may_leave device store) }
+        ensures refused { IfErr result (λ e. IsRead D.seen D.damaged D.may_leave device e.device) }
+        ensures fault { IfErr result (λ e. Sees (D.seen e.device) (λ log. MayOpen (D.damaged e.device) e.fault)) }
     {
         match replay(alloc, &mut device, &mut index) {
             Ok((end, tail)) => Ok(Store {
@@ -301,7 +302,7 @@ impl<D: Device, I: Unordered<Value = u64>> Store<D, I> {
     /// What stands behind them. Where that may be a torn record, it asks the device for its length.
     pub fn tail(&mut self) -> Result<Tail, Fault>
         ensures told { Sees (D.seen self.new) (λ log. IfOk result (λ t. t ≡ tail_in log)) }
-        ensures read { IsRead D.seen D.may_leave self.old self.new }
+        ensures read { IsRead D.seen D.damaged D.may_leave self.old self.new }
         ensures fault { IfErr result (λ f. f ≡ Fault.ReadFailed) }
     {
         match self.tail {
@@ -319,8 +320,8 @@ impl<D: Device, I: Unordered<Value = u64>> Store<D, I> {
     pub fn get(&mut self, key: &[u8]) -> Result<Option<Vec<u8>>, Fault>
         ensures value { Sees (D.seen self.new) (λ log. IfOk result (λ o.
             option_map (λ v. v.items) o ≡ map.get (held_by log) key.now)) }
-        ensures read { IsRead D.seen D.may_leave self.old self.new }
-        ensures fault { Sees (D.seen self.new) (λ log. IfErr result MayRead) }
+        ensures read { IsRead D.seen D.damaged D.may_leave self.old self.new }
+        ensures fault { Sees (D.seen self.new) (λ log. IfErr result (MayMiss (D.damaged self.new) log key.now)) }
     {
         let (alloc, end) = (self.log.alloc, self.log.end);
         let found = find(alloc, &mut self.log.device, &self.index, key, end)?;
@@ -337,8 +338,8 @@ impl<D: Device, I: Unordered<Value = u64>> Store<D, I> {
     pub fn contains_key(&mut self, key: &[u8]) -> Result<bool, Fault>
         ensures held { Sees (D.seen self.new) (λ log. IfOk result (λ has.
             has ≡ is_some (map.get (held_by log) key.now))) }
-        ensures read { IsRead D.seen D.may_leave self.old self.new }
-        ensures fault { Sees (D.seen self.new) (λ log. IfErr result MayRead) }
+        ensures read { IsRead D.seen D.damaged D.may_leave self.old self.new }
+        ensures fault { Sees (D.seen self.new) (λ log. IfErr result (MayMiss (D.damaged self.new) log key.now)) }
     {
         let (alloc, end) = (self.log.alloc, self.log.end);
         let place = find_place(alloc, &mut self.log.device, &self.index, key, end)?;
@@ -362,7 +363,7 @@ impl<D: Device, I: Unordered<Value = u64>> Store<D, I> {
         ensures crash { Changes (D.seen self.old) (D.seen self.new) (λ old new. LeavesBeforeOrAfter old
             (record { key = key.now; value = Some value.now }) (D.may_leave self.old) (D.may_leave self.new)) }
         ensures fault { IfErr result (λ f. Changes (D.seen self.old) (D.seen self.new) (λ old new.
-            MayRefuse old (record { key = key.now; value = Some value.now }) f)) }
+            MayRefuse (Hides (D.damaged self.new)) old (record { key = key.now; value = Some value.now }) f)) }
     {
         if key.len() > u32::MAX as usize || value.len() > u32::MAX as usize {
             return Err(Fault::TooLong);
@@ -387,7 +388,7 @@ impl<D: Device, I: Unordered<Value = u64>> Store<D, I> {
         ensures crash { Changes (D.seen self.old) (D.seen self.new) (λ old new. LeavesBeforeOrAfter old
             (record { key = key.now; value = None }) (D.may_leave self.old) (D.may_leave self.new)) }
         ensures fault { IfErr result (λ f. Changes (D.seen self.old) (D.seen self.new) (λ old new.
-            MayRefuse old (record { key = key.now; value = None }) f)) }
+            MayRefuse (Hides (D.damaged self.new)) old (record { key = key.now; value = None }) f)) }
     {
         if key.len() > u32::MAX as usize {
             return Err(Fault::TooLong);
@@ -430,7 +431,8 @@ impl<D: Device, I: Unordered<Value = u64>> Store<D, I> {
         ensures changed { IfOk result (λ had. Changes (D.seen self.old) (D.seen self.new) (λ old new.
             HasChanged old (record { key = key.now; value = option_map (λ v. v.now) value.entry }) had new)) }
         ensures refused { IfErr result (λ f. Changes (D.seen self.old) (D.seen self.new) (λ old new.
-            HasRefused old (record { key = key.now; value = option_map (λ v. v.now) value.entry }) f new)) }
+            HasRefused (Hides (D.damaged self.new)) old
+            (record { key = key.now; value = option_map (λ v. v.now) value.entry }) f new)) }
         ensures known { OnOk result (Sees (D.seen self.new) (λ log. IsKnown (D.may_leave self.new))) }
         ensures crash { Changes (D.seen self.old) (D.seen self.new) (λ old new. LeavesBeforeOrAfter old
             (record { key = key.now; value = option_map (λ v. v.now) value.entry })
@@ -503,7 +505,7 @@ impl<D: Device, I: Unordered<Value = u64>> Store<D, I> {
     /// How many bytes the log has, those behind the records too. It asks the device.
     pub fn log_len(&mut self) -> Result<u64, Fault>
         ensures told { Sees (D.seen self.new) (λ log. IfOk result (λ n. n ≡ length log)) }
-        ensures read { IsRead D.seen D.may_leave self.old self.new }
+        ensures read { IsRead D.seen D.damaged D.may_leave self.old self.new }
         ensures fault { IfErr result (λ f. f ≡ Fault.ReadFailed) }
     {
         length_of(&mut self.log.device)
@@ -528,7 +530,7 @@ impl<D: Device, I: Unordered<Value = u64>> Store<D, I> {
         ensures begun { Sees (D.seen self.new) (λ log. Changes (C.seen into.old) (C.seen into.new) (λ old new.
             (n : ℕ) × (new ≡ old ++ take n (log_of (salvaged log))))) }
         ensures kept { Changes (C.seen into.old) (C.seen into.new) (λ old new. 0 < length old → new ≡ old) }
-        ensures read { IsRead D.seen D.may_leave self.old self.new }
+        ensures read { IsRead D.seen D.damaged D.may_leave self.old self.new }
         ensures fault { IfErr result (MaySalvage (C.seen into.new)) }
     {
         let alloc = self.log.alloc;
@@ -541,19 +543,22 @@ impl<D: Device, I: Unordered<Value = u64>> Store<D, I> {
     /// behind damage, as a salvage does: a record that was read when the log was opened and no longer reads is left out, so where fewer
     /// records are told than there are keys, something is missing.
     pub fn compact<C: Device>(&mut self, into: &mut C) -> Result<Salvaged, Fault>
-        ensures copied { OnOk result (Sees (D.seen self.new) (λ log. Changes (C.seen into.old) (C.seen into.new)
-            (λ old new. (old ≡ []) × (new ≡ log_of (newest (records_of log)))))) }
-        ensures held { OnOk result (Sees (D.seen self.new) (λ log. Sees (C.seen into.new) (λ bytes.
+        ensures copied { OnOk result (SeesAll (D.seen self.new) (D.damaged self.new) (λ log.
+            Changes (C.seen into.old) (C.seen into.new) (λ old new.
+            (old ≡ []) × (new ≡ log_of (newest (records_of log)))))) }
+        ensures held { OnOk result (SeesAll (D.seen self.new) (D.damaged self.new) (λ log. Sees (C.seen into.new) (λ bytes.
             held_by bytes ≡ held_by log))) }
-        ensures records { IfOk result (λ s. Sees (D.seen self.new) (λ log. s.records ≡ map.len (held_by log))) }
-        ensures left_out { IfOk result (λ s. Sees (D.seen self.new) (λ log. Sees (C.seen into.new) (λ bytes.
-            s.left_out ≡ end_of log - length bytes))) }
-        ensures gaps { IfOk result (λ s. Sees (D.seen self.new) (λ log. s.gaps.items ≡ [])) }
+        ensures records { IfOk result (λ s. SeesAll (D.seen self.new) (D.damaged self.new) (λ log.
+            s.records ≡ map.len (held_by log))) }
+        ensures left_out { IfOk result (λ s. SeesAll (D.seen self.new) (D.damaged self.new) (λ log.
+            Sees (C.seen into.new) (λ bytes. s.left_out ≡ end_of log - length bytes))) }
+        ensures gaps { IfOk result (λ s. SeesAll (D.seen self.new) (D.damaged self.new) (λ log. s.gaps.items ≡ [])) }
         // Where it fails, it has appended a front of that, and nothing to a log that had bytes.
-        ensures begun { Sees (D.seen self.new) (λ log. Changes (C.seen into.old) (C.seen into.new) (λ old new.
+        ensures begun { SeesAll (D.seen self.new) (D.damaged self.new) (λ log.
+            Changes (C.seen into.old) (C.seen into.new) (λ old new.
             (n : ℕ) × (new ≡ old ++ take n (log_of (newest (records_of log)))))) }
         ensures kept { Changes (C.seen into.old) (C.seen into.new) (λ old new. 0 < length old → new ≡ old) }
-        ensures read { IsRead D.seen D.may_leave self.old self.new }
+        ensures read { IsRead D.seen D.damaged D.may_leave self.old self.new }
         ensures fault { IfErr result (MaySalvage (C.seen into.new)) }
     {
         let (alloc, end) = (self.log.alloc, self.log.end);

@@ -15,11 +15,17 @@ impl Device for Counter {
 
     ghost may_leave = { λ _ _. ⊤ };
 
+    ghost damaged = { λ _ _. ⊤ };
+
     fn len(&mut self) -> Result<u64, Failed> {
         Ok(0)
     }
 
     fn read_at(&mut self, _position: u64, _buffer: &mut [u8]) -> Result<(), Failed> {
+        Err(Failed)
+    }
+
+    fn read_record(&mut self, _log: u64, _place: u64, _buffer: &mut [u8]) -> Result<(), Failed> {
         Err(Failed)
     }
 

@@ -1,17 +1,17 @@
 //! Reads of records, and the search of a key among positions.
-ghost use Rattle.std.specs.Prelude.{◌≡◌, ◌≤◌, ◌<◌, ◌^◌, ◌-◌, ℕ, length, take, drop, slice_get, true, false, Some, is_some, All, IsSome, IfSome, IfOk, IfErr, IsTrue, option_map};
+ghost use Rattle.std.specs.Prelude.{◌≡◌, ◌⊎◌, ◌≤◌, ◌<◌, ◌^◌, ◌-◌, ℕ, length, take, drop, slice_get, true, false, Some, None, is_some, All, IfSome, IfOk, IfErr, OnOk, option_map};
 ghost use Rattle.key_index_flat.specs.FullKeys.{IsBytes, byte_cmp};
 ghost use Rattle.key_index_flat.specs.View.{run_of};
-ghost use Rattle.key_index_store.specs.Device.{IsRead, Sees};
-ghost use Rattle.key_index_store.specs.Indexed.{IsFront, IsIn, IsLive, IsPlace, IsRun, entry_at, key_at};
+ghost use Rattle.key_index_store.specs.Device.{Gives, IsRead, Sees};
+ghost use Rattle.key_index_store.specs.Indexed.{IsFirstIn, IsFront, IsHiddenIn, IsIn, IsLive, IsPlace, IsRun, entry_at, key_at};
 ghost use Rattle.key_index_store.specs.Reads.{wanted};
-ghost use Rattle.key_index_store.specs.Record.{Complete, Entry, bytes_of, key_in, reading, record_length};
+ghost use Rattle.key_index_store.specs.Record.{Stops, bytes_of, entry_of, key_in, reading};
 ghost use Rattle.key_index_store.specs.Salvage.{step};
 ghost use Rattle.key_index_store.specs.Stored.{MayRead};
 
 use super::Fault;
 use crate::device::Device;
-use crate::record::{HEAD, has_head, key_in, key_length, record_length, value_in};
+use crate::record::{HEAD, Reading, Record, decode, has_head, key_in, key_length, record_length};
 use key_index_flat::index::Unordered;
 use std::alloc::Global;
 use std::cmp::Ordering;
@@ -25,7 +25,7 @@ const KEY_BLOCK: u64 = 128;
 /// How many bytes a log has.
 pub(crate) fn length_of<D: Device>(device: &mut D) -> Result<u64, Fault>
     ensures told { Sees (D.seen device.new) (λ log. IfOk result (λ n. n ≡ length log)) }
-    ensures read { IsRead D.seen D.may_leave device.old device.new }
+    ensures read { IsRead D.seen D.damaged D.may_leave device.old device.new }
     ensures fault { IfErr result (λ f. f ≡ Fault.ReadFailed) }
 {
     match device.len() {
@@ -43,7 +43,7 @@ pub(super) fn read_bytes<D: Device>(
 ) -> Result<Vec<u8>, Fault>
     ensures told { Sees (D.seen device.new) (λ log. IfOk result (λ v. v.items ≡ take count (drop position log))) }
     ensures counted { IfOk result (λ v. length v.items ≡ count) }
-    ensures read { IsRead D.seen D.may_leave device.old device.new }
+    ensures read { IsRead D.seen D.damaged D.may_leave device.old device.new }
     ensures fault { IfErr result MayRead }
 {
     let mut bytes = vec![in alloc; 0; count as usize]?;
@@ -87,7 +87,7 @@ pub(crate) fn read_front<D: Device>(
     ensures within { IfOk result (λ v. length v.items ≤ limit - position) }
     ensures whole { is_whole ≡ true → Sees (D.seen device.new) (λ log. limit ≤ length log → IfOk result (λ v.
         reading position v.items ≡ reading position (drop position (take limit log)))) }
-    ensures read { IsRead D.seen D.may_leave device.old device.new }
+    ensures read { IsRead D.seen D.damaged D.may_leave device.old device.new }
     ensures fault { IfErr result MayRead }
 {
     let rest = limit.saturating_sub(position);
@@ -97,6 +97,56 @@ pub(crate) fn read_front<D: Device>(
         return Ok(bytes);
     }
     read_bytes(alloc, device, position, wanted)
+}
+
+/// Some bytes from the front of the record at a position.
+fn read_part<D: Device>(
+    alloc: Global,
+    device: &mut D,
+    position: u64,
+    count: u64,
+) -> Result<Vec<u8>, Fault>
+    ensures given { Sees (D.seen device.new) (λ log. IfOk result (λ v.
+        Gives (D.damaged device.new) position (take count (drop position log)) v.items)) }
+    ensures counted { IfOk result (λ v. length v.items ≡ count) }
+    ensures read { IsRead D.seen D.damaged D.may_leave device.old device.new }
+    ensures fault { IfErr result MayRead }
+{
+    let mut bytes = vec![in alloc; 0; count as usize]?;
+    let read = device.read_record(0, position, bytes.as_mut_slice());
+    read.map_err(|_| Fault::ReadFailed)?;
+    Ok(bytes)
+}
+
+/// The front of the record at a position, in the first `limit` bytes of a log: its head and its key at least, and the whole record where
+/// that is asked, unless it is damaged. So many bytes are read at first, in which a head has room.
+pub(super) fn read_record<D: Device>(
+    alloc: Global,
+    device: &mut D,
+    position: u64,
+    limit: u64,
+    is_whole: bool,
+    block: u64,
+) -> Result<Vec<u8>, Fault>
+    requires { 13 ≤ block }
+    ensures given { Sees (D.seen device.new) (λ log. limit ≤ length log → IfOk result (λ v. Gives (D.damaged device.new)
+        position (take (length v.items) (drop position (take limit log))) v.items)) }
+    ensures key { Sees (D.seen device.new) (λ log. limit ≤ length log → IfOk result (λ v.
+        (key_in position v.items ≡ key_in position (drop position (take limit log)))
+        ⊎ (D.damaged device.new position × (key_in position v.items ≡ None)))) }
+    ensures whole { is_whole ≡ true → Sees (D.seen device.new) (λ log. limit ≤ length log → IfOk result (λ v.
+        (reading position v.items ≡ reading position (drop position (take limit log)))
+        ⊎ (D.damaged device.new position × Stops (reading position v.items)))) }
+    ensures read { IsRead D.seen D.damaged D.may_leave device.old device.new }
+    ensures fault { IfErr result MayRead }
+{
+    let rest = limit.saturating_sub(position);
+    let bytes = read_part(alloc, device, position, rest.min(block))?;
+    let wanted = wanted(bytes.as_slice(), position, is_whole).min(rest);
+    if wanted <= bytes.len() as u64 {
+        return Ok(bytes);
+    }
+    read_part(alloc, device, position, wanted)
 }
 
 /// Where a key stands in the list of its index key, which is in the order of full keys, or where it would stand.
@@ -132,10 +182,10 @@ pub(crate) struct Found {
 
 /// A record of a list whose key reads, and how that key compares with another one.
 #[derive(Drop)]
-struct Readable {
-    place: usize,
-    side: Ordering,
-    front: Front,
+pub(crate) struct Readable {
+    pub(crate) place: usize,
+    pub(crate) side: Ordering,
+    pub(crate) front: Front,
 }
 
 /// How the key of the record at the front of some bytes compares with another one, if it reads.
@@ -164,19 +214,19 @@ fn readable_from<D: Device, I: Unordered<Value = u64>>(
     requires block { 13 ≤ block }
     requires within { to ≤ length (run_of I.Key.cmp (I.view index.now) key.now) }
     ensures first { Sees (D.seen device.new) (λ log. limit ≤ length log
-        → All (IsLive (take limit log)) (run_of I.Key.cmp (I.view index.now) key.now) → from < to
-        → IfOk result (λ o. IsSome o × IfSome o (λ r. (r.place ≡ from)
-        × (r.side ≡ byte_cmp (key_at (take limit log) r.front.position) key.now)))) }
+        → All (IsLive (take limit log)) (run_of I.Key.cmp (I.view index.now) key.now)
+        → IfOk result (IsFirstIn (D.damaged device.new) (key_at (take limit log)) key.now
+        (run_of I.Key.cmp (I.view index.now) key.now) from to)) }
     ensures front { Sees (D.seen device.new) (λ log. limit ≤ length log → IfOk result (λ o. IfSome o (λ r.
-        IsFront (take limit log) r.front))) }
+        IsFront (take limit log) (D.damaged device.new) r.front))) }
     ensures within { IfOk result (λ o. IfSome o (λ r. (from ≤ r.place) × (r.place < to)
         × (slice_get (run_of I.Key.cmp (I.view index.now) key.now) r.place ≡ Some r.front.position))) }
-    ensures read { IsRead D.seen D.may_leave device.old device.new }
+    ensures read { IsRead D.seen D.damaged D.may_leave device.old device.new }
     ensures fault { IfErr result MayRead }
 {
     for place in from..to {
         let position = *index.value_at(slot, place);
-        let bytes = read_front(alloc, device, position, limit, false, block)?;
+        let bytes = read_record(alloc, device, position, limit, false, block)?;
         if let Some(side) = side_of(bytes.as_slice(), position, key) {
             return Ok(Some(Readable {
                 place,
@@ -205,19 +255,22 @@ pub(crate) fn find<D: Device, I: Unordered<Value = u64>>(
     limit: u64,
 ) -> Result<Found, Fault>
     ensures at { Sees (D.seen device.new) (λ log. limit ≤ length log
-        → IsRun (take limit log) (run_of I.Key.cmp (I.view index.now) key.now) → IfOk result (λ f.
+        → IsRun (take limit log) (run_of I.Key.cmp (I.view index.now) key.now)
+        → IfOk result (λ f. f.is_hidden ≡ false →
         IsPlace (entry_at (take limit log)) key.now (run_of I.Key.cmp (I.view index.now) key.now)
         f.place (is_some f.front))) }
-    ensures seen { Sees (D.seen device.new) (λ log. limit ≤ length log
+    ensures hidden { Sees (D.seen device.new) (λ log. limit ≤ length log
         → IsRun (take limit log) (run_of I.Key.cmp (I.view index.now) key.now)
-        → IfOk result (λ f. f.is_hidden ≡ false)) }
+        → IfOk result (λ f. f.is_hidden ≡ true → IsHiddenIn (D.damaged device.new) (entry_at (take limit log)) key.now
+        (run_of I.Key.cmp (I.view index.now) key.now) f.place)) }
+    ensures none { IfOk result (λ f. f.is_hidden ≡ true → is_some f.front ≡ false) }
     ensures front { Sees (D.seen device.new) (λ log. limit ≤ length log → IfOk result (λ f. IfSome f.front
-        (IsFront (take limit log)))) }
+        (IsFront (take limit log) (D.damaged device.new)))) }
     ensures found { IfOk result (λ f. IfSome f.front (λ r.
         slice_get (run_of I.Key.cmp (I.view index.now) key.now) f.place ≡ Some r.position)) }
     ensures within { IfOk result (λ f. f.place ≤ length (run_of I.Key.cmp (I.view index.now) key.now)) }
     ensures empty { IfOk result (λ f. f.is_empty ≡ true → length (run_of I.Key.cmp (I.view index.now) key.now) ≡ 0) }
-    ensures read { IsRead D.seen D.may_leave device.old device.new }
+    ensures read { IsRead D.seen D.damaged D.may_leave device.old device.new }
     ensures fault { IfErr result MayRead }
 {
     let slot = index.slot_of(key);
@@ -258,6 +311,7 @@ pub(crate) fn find<D: Device, I: Unordered<Value = u64>>(
 pub(super) fn known(found: &Found) -> Result<InList, Fault>
     ensures place { IfOk result (λ p. (p.place ≡ found.now.place) × (p.is_held ≡ is_some found.now.front)
         × (p.is_empty ≡ found.now.is_empty)) }
+    ensures seen { OnOk result (found.now.is_hidden ≡ false) }
     ensures fault { IfErr result (λ f. (f ≡ Fault.Damaged) × (found.now.is_hidden ≡ true)) }
 {
     if found.is_hidden {
@@ -284,33 +338,24 @@ pub(super) fn find_place<D: Device, I: Unordered<Value = u64>>(
     ensures within { IfOk result (λ p. IsIn (run_of I.Key.cmp (I.view index.now) key.now) p.place p.is_held) }
     ensures empty { IfOk result (λ p. p.is_empty ≡ true → length (run_of I.Key.cmp (I.view index.now) key.now) ≡ 0) }
     ensures bytes { IsBytes key.now }
-    ensures read { IsRead D.seen D.may_leave device.old device.new }
+    ensures read { IsRead D.seen D.damaged D.may_leave device.old device.new }
     ensures fault { Sees (D.seen device.new) (λ log. limit ≤ length log
-        → IsRun (take limit log) (run_of I.Key.cmp (I.view index.now) key.now) → IfErr result MayRead) }
+        → IsRun (take limit log) (run_of I.Key.cmp (I.view index.now) key.now) → IfErr result (λ f. MayRead f
+        ⊎ ((f ≡ Fault.Damaged) × ((place : ℕ) × IsHiddenIn (D.damaged device.new) (entry_at (take limit log)) key.now
+        (run_of I.Key.cmp (I.view index.now) key.now) place)))) }
 {
     let found = find(alloc, device, index, key, limit)?;
     known(&found)
 }
 
-/// Whether the whole record stands at the front of some bytes, by its lengths.
-fn is_whole(bytes: &[u8]) -> bool
-    ensures long { IsTrue result → (13 ≤ length bytes.now) × (record_length bytes.now ≤ length bytes.now) }
-    ensures complete { (place : ℕ) (r : Entry) → reading place bytes.now ≡ Complete r → IsTrue result }
+/// The value of a record, copied.
+pub(super) fn copy_value(alloc: Global, whole: &Record<'_>) -> Result<Vec<u8>, Fault>
+    ensures value { IfOk result (λ v. v.items ≡ bytes_of (entry_of whole.now).value) }
+    ensures fault { IfErr result (λ f. f ≡ Fault.Memory) }
 {
-    bytes.len() >= HEAD && record_length(bytes) <= bytes.len() as u64
-}
-
-/// The value of the record at the front of some bytes, copied.
-pub(super) fn copy_value(alloc: Global, bytes: &[u8]) -> Result<Vec<u8>, Fault>
-    ensures value { (place : ℕ) (r : Entry) → reading place bytes.now ≡ Complete r → IfOk result (λ v. v.items ≡ bytes_of r.value) }
-    ensures fault { (place : ℕ) (r : Entry) → reading place bytes.now ≡ Complete r → IfErr result MayRead }
-{
-    if !is_whole(bytes) {
-        return Err(Fault::Damaged);
-    }
-    match value_in(bytes) {
+    match whole.value {
         Some(value) => Ok(Vec::from_slice(alloc, value)?),
-        None => Err(Fault::Damaged),
+        None => Ok(Vec::new(alloc)),
     }
 }
 
@@ -323,16 +368,18 @@ pub(super) fn read_value<D: Device>(
     front: &[u8],
 ) -> Result<Vec<u8>, Fault>
     ensures value { Sees (D.seen device.new) (λ log. limit ≤ length log
-        → front.now ≡ take (length front.now) (drop position (take limit log)) → IsLive (take limit log) position
-        → IfOk result (λ v. v.items ≡ (entry_at (take limit log) position).1)) }
-    ensures read { IsRead D.seen D.may_leave device.old device.new }
-    ensures fault { Sees (D.seen device.new) (λ log. limit ≤ length log
-        → front.now ≡ take (length front.now) (drop position (take limit log)) → IsLive (take limit log) position
-        → IfErr result MayRead) }
+        → Gives (D.damaged device.old) position (take (length front.now) (drop position (take limit log))) front.now
+        → IsLive (take limit log) position → IfOk result (λ v. v.items ≡ (entry_at (take limit log) position).1)) }
+    ensures read { IsRead D.seen D.damaged D.may_leave device.old device.new }
+    ensures fault { Sees (D.seen device.new) (λ log. limit ≤ length log → IsLive (take limit log) position
+        → IfErr result (λ f. MayRead f ⊎ ((f ≡ Fault.Damaged) × D.damaged device.new position))) }
 {
-    if is_whole(front) {
-        return copy_value(alloc, front);
+    if let Reading::Complete(record) = decode(front, position) {
+        return copy_value(alloc, &record);
     }
-    let bytes = read_front(alloc, device, position, limit, true, BLOCK)?;
-    copy_value(alloc, bytes.as_slice())
+    let bytes = read_record(alloc, device, position, limit, true, BLOCK)?;
+    match decode(bytes.as_slice(), position) {
+        Reading::Complete(record) => copy_value(alloc, &record),
+        Reading::Torn | Reading::Damaged => Err(Fault::Damaged),
+    }
 }

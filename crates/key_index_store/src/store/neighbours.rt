@@ -1,14 +1,18 @@
 //! Neighbours of a key among those that have a value.
-ghost use Rattle.std.specs.Prelude.{◌≡◌, ◌≤◌, ◌<◌, ◌+◌, ◌∷◌, [], if◌then◌else◌, length, take, IfOk, IfErr, IfSome, MatchOption};
+ghost use Rattle.std.specs.Prelude.{◌≡◌, ◌⊎◌, ◌≤◌, ◌<◌, ◌+◌, ◌∷◌, ◌++◌, [], ℕ, if◌then◌else◌, length, map, take, All, IfOk, IfErr, IfSome, MatchOption, OnOk};
 ghost use Rattle.std.specs.FinMap.{entries};
 ghost use Rattle.std.specs.Option.{option_map};
-ghost use Rattle.key_index_flat.specs.Neighbours.{first_entry, last_entry};
+ghost use Rattle.std.specs.Ordering.{is_le, is_lt};
+ghost use Rattle.key_index_flat.specs.FullKeys.{byte_cmp};
+ghost use Rattle.key_index_flat.specs.Neighbours.{entries_above, first_entry, last_entry};
 ghost use Rattle.key_index_flat.specs.Values.{values_of};
 ghost use Rattle.key_index_flat.specs.View.{run_at, run_of};
+ghost use Rattle.key_index_flat.specs.Walk.{entries_from};
+ghost use Rattle.key_index_store.specs.Damage.{MayMiss, MayMissAt, Passes, beyond};
 ghost use Rattle.key_index_store.specs.Device.{IsRead, Sees};
 ghost use Rattle.key_index_store.specs.Indexed.{IsIn, IsLive, entry_at};
 ghost use Rattle.key_index_store.specs.Positions.{first_from, last_before, positions_from};
-ghost use Rattle.key_index_store.specs.Stored.{MayRead, entry_after, entry_before, entry_from, gap_in, held_by, in_bytes};
+ghost use Rattle.key_index_store.specs.Stored.{MayRead, entry_after, entry_before, gap_in, held_by, in_bytes};
 
 use super::find::{InList, find, find_place};
 use super::log::Log;
@@ -16,6 +20,7 @@ use super::{Fault, Store};
 use crate::device::Device;
 use key_index_flat::index::{OrderedLists, Values};
 use std::alloc::AllocError;
+use std::cmp::Ordering;
 
 /// The neighbours between which a key without a value lies, each with its value: none in front of the first key, none behind the last.
 #[derive(Drop)]
@@ -159,7 +164,9 @@ fn pass<D: Device>(
     passed: &mut Vec<Unreadable>,
     position: u64,
 ) -> Result<(), Fault>
-    ensures read { IsRead D.seen D.may_leave log.old.device log.new.device }
+    ensures passed { OnOk result ((n : ℕ) × (passed.new.items ≡ passed.old.items
+        ++ record { place = position; length = n } ∷ [])) }
+    ensures read { IsRead D.seen D.damaged D.may_leave log.old.device log.new.device }
     ensures end { log.new.end ≡ log.old.end }
     ensures fault { IfErr result MayRead }
 {
@@ -174,33 +181,56 @@ fn pass<D: Device>(
     }
 }
 
-/// The first entry that reads from a place of an index key's list on, and which records in front of it don't.
+/// Whether a key is above another one, or the same where that is wanted.
+fn is_beyond(key: &[u8], other: &[u8], is_above: bool) -> bool
+    ensures { let side = byte_cmp other.now key.now in result ≡ (if is_above then is_lt side else is_le side) }
+{
+    match other.cmp(key) {
+        Ordering::Less => true,
+        Ordering::Equal => !is_above,
+        Ordering::Greater => false,
+    }
+}
+
+/// The first entry beyond a key that reads, from a place of an index key's list on, and which records in front of it don't.
 fn readable_from<D: Device, I: OrderedLists<Value = u64>>(
     log: &mut Log<D>,
     index: &I,
     slot: I::Key,
     place: usize,
+    key: &[u8],
+    is_above: bool,
 ) -> Result<Passed, Fault>
     ensures entry { Sees (D.seen log.new.device) (λ bytes. log.old.end ≤ length bytes
-        → IfSome (first_from I.Key.cmp (I.view index.now) slot place) (IsLive (take log.old.end bytes))
-        → IfOk result (λ p. in_bytes p.entry
-        ≡ option_map (entry_at (take log.old.end bytes)) (first_from I.Key.cmp (I.view index.now) slot place))) }
-    ensures all { Sees (D.seen log.new.device) (λ bytes. log.old.end ≤ length bytes
-        → IfSome (first_from I.Key.cmp (I.view index.now) slot place) (IsLive (take log.old.end bytes))
-        → IfOk result (λ p. p.passed.items ≡ [])) }
-    ensures read { IsRead D.seen D.may_leave log.old.device log.new.device }
+        → All (IsLive (take log.old.end bytes)) (positions_from I.Key.cmp (I.view index.now) slot place)
+        → IfOk result (Passes (beyond is_above key.now (map (entry_at (take log.old.end bytes))
+        (positions_from I.Key.cmp (I.view index.now) slot place))))) }
+    ensures damaged { Sees (D.seen log.new.device) (λ bytes. log.old.end ≤ length bytes
+        → All (IsLive (take log.old.end bytes)) (positions_from I.Key.cmp (I.view index.now) slot place)
+        → IfOk result (λ p. All (λ u. D.damaged log.new.device u.place) p.passed.items)) }
+    ensures read { IsRead D.seen D.damaged D.may_leave log.old.device log.new.device }
     ensures end { log.new.end ≡ log.old.end }
-    ensures fault { Sees (D.seen log.new.device) (λ bytes. log.old.end ≤ length bytes
-        → IfSome (first_from I.Key.cmp (I.view index.now) slot place) (IsLive (take log.old.end bytes))
-        → IfErr result MayRead) }
+    ensures fault { IfErr result MayRead }
 {
     let mut passed = Vec::new(log.alloc);
     let (mut slot, mut place) = (slot, place);
     while let Some(found) = position_from(index, slot, place) {
         match log.entry(Some(found.position)) {
-            Ok(entry) => return Ok(Passed { entry, passed }),
-            Err(Fault::Damaged) => pass(log, &mut passed, found.position)?,
-            Err(fault) => return Err(fault),
+            Ok(Some(entry)) => {
+                if is_beyond(entry.0.as_slice(), key, is_above) {
+                    return Ok(Passed {
+                        entry: Some(entry),
+                        passed,
+                    });
+                }
+            }
+            Ok(None) => {}
+            Err(fault) => {
+                if fault != Fault::Damaged {
+                    return Err(fault);
+                }
+                pass(log, &mut passed, found.position)?;
+            }
         }
         (slot, place) = (found.slot, found.place + 1);
     }
@@ -215,8 +245,9 @@ impl<D: Device, I: OrderedLists<Value = u64>> Store<D, I> {
     pub fn next(&mut self, key: &[u8]) -> Result<Option<(Vec<u8>, Vec<u8>)>, Fault>
         ensures next { Sees (D.seen self.new) (λ log. IfOk result (λ o.
             in_bytes o ≡ entry_after (held_by log) key.now)) }
-        ensures read { IsRead D.seen D.may_leave self.old self.new }
-        ensures fault { Sees (D.seen self.new) (λ log. IfErr result MayRead) }
+        ensures read { IsRead D.seen D.damaged D.may_leave self.old self.new }
+        ensures fault { Sees (D.seen self.new) (λ log. IfErr result (λ f. MayMiss (D.damaged self.new) log key.now f
+            ⊎ MayMissAt (D.damaged self.new) log (entry_after (held_by log) key.now) f)) }
     {
         let (alloc, end) = (self.log.alloc, self.log.end);
         let place = find_place(alloc, &mut self.log.device, &self.index, key, end)?;
@@ -228,8 +259,9 @@ impl<D: Device, I: OrderedLists<Value = u64>> Store<D, I> {
     pub fn prev(&mut self, key: &[u8]) -> Result<Option<(Vec<u8>, Vec<u8>)>, Fault>
         ensures prev { Sees (D.seen self.new) (λ log. IfOk result (λ o.
             in_bytes o ≡ entry_before (held_by log) key.now)) }
-        ensures read { IsRead D.seen D.may_leave self.old self.new }
-        ensures fault { Sees (D.seen self.new) (λ log. IfErr result MayRead) }
+        ensures read { IsRead D.seen D.damaged D.may_leave self.old self.new }
+        ensures fault { Sees (D.seen self.new) (λ log. IfErr result (λ f. MayMiss (D.damaged self.new) log key.now f
+            ⊎ MayMissAt (D.damaged self.new) log (entry_before (held_by log) key.now) f)) }
     {
         let (alloc, end) = (self.log.alloc, self.log.end);
         let place = find_place(alloc, &mut self.log.device, &self.index, key, end)?;
@@ -241,8 +273,10 @@ impl<D: Device, I: OrderedLists<Value = u64>> Store<D, I> {
     pub fn absent(&mut self, key: &[u8]) -> Result<Option<Gap>, Fault>
         ensures absent { Sees (D.seen self.new) (λ log. IfOk result (λ o.
             option_map (λ gap. (in_bytes gap.before, in_bytes gap.after)) o ≡ gap_in (held_by log) key.now)) }
-        ensures read { IsRead D.seen D.may_leave self.old self.new }
-        ensures fault { Sees (D.seen self.new) (λ log. IfErr result MayRead) }
+        ensures read { IsRead D.seen D.damaged D.may_leave self.old self.new }
+        ensures fault { Sees (D.seen self.new) (λ log. IfErr result (λ f. MayMiss (D.damaged self.new) log key.now f
+            ⊎ MayMissAt (D.damaged self.new) log (entry_before (held_by log) key.now) f
+            ⊎ MayMissAt (D.damaged self.new) log (entry_after (held_by log) key.now) f)) }
     {
         let (alloc, end) = (self.log.alloc, self.log.end);
         let place = find_place(alloc, &mut self.log.device, &self.index, key, end)?;
@@ -260,8 +294,9 @@ impl<D: Device, I: OrderedLists<Value = u64>> Store<D, I> {
     pub fn first(&mut self) -> Result<Option<(Vec<u8>, Vec<u8>)>, Fault>
         ensures first { Sees (D.seen self.new) (λ log. IfOk result (λ o.
             in_bytes o ≡ first_entry (entries (held_by log)))) }
-        ensures read { IsRead D.seen D.may_leave self.old self.new }
-        ensures fault { Sees (D.seen self.new) (λ log. IfErr result MayRead) }
+        ensures read { IsRead D.seen D.damaged D.may_leave self.old self.new }
+        ensures fault { Sees (D.seen self.new) (λ log. IfErr result (MayMissAt (D.damaged self.new) log
+            (first_entry (entries (held_by log))))) }
     {
         self.log.entry(first_position(&self.index))
     }
@@ -270,8 +305,9 @@ impl<D: Device, I: OrderedLists<Value = u64>> Store<D, I> {
     pub fn last(&mut self) -> Result<Option<(Vec<u8>, Vec<u8>)>, Fault>
         ensures last { Sees (D.seen self.new) (λ log. IfOk result (λ o.
             in_bytes o ≡ last_entry (entries (held_by log)))) }
-        ensures read { IsRead D.seen D.may_leave self.old self.new }
-        ensures fault { Sees (D.seen self.new) (λ log. IfErr result MayRead) }
+        ensures read { IsRead D.seen D.damaged D.may_leave self.old self.new }
+        ensures fault { Sees (D.seen self.new) (λ log. IfErr result (MayMissAt (D.damaged self.new) log
+            (last_entry (entries (held_by log))))) }
     {
         self.log.entry(last_position(&self.index))
     }
@@ -279,30 +315,31 @@ impl<D: Device, I: OrderedLists<Value = u64>> Store<D, I> {
     /// The least key that is at least this one, of those that have a value and read, with its value, and which records may have had a
     /// nearer one: those that don't read.
     pub fn readable_at_least(&mut self, key: &[u8]) -> Result<Passed, Fault>
-        ensures entry { Sees (D.seen self.new) (λ log. IfOk result (λ p.
-            in_bytes p.entry ≡ entry_from (held_by log) key.now)) }
-        ensures all { Sees (D.seen self.new) (λ log. IfOk result (λ p. p.passed.items ≡ [])) }
-        ensures read { IsRead D.seen D.may_leave self.old self.new }
-        ensures fault { Sees (D.seen self.new) (λ log. IfErr result MayRead) }
+        ensures entry { Sees (D.seen self.new) (λ log. IfOk result (Passes
+            (entries_from byte_cmp (entries (held_by log)) key.now))) }
+        ensures damaged { Sees (D.seen self.new) (λ log. IfOk result (λ p.
+            All (λ u. D.damaged self.new u.place) p.passed.items)) }
+        ensures read { IsRead D.seen D.damaged D.may_leave self.old self.new }
+        ensures fault { IfErr result MayRead }
     {
         let (alloc, end) = (self.log.alloc, self.log.end);
         let found = find(alloc, &mut self.log.device, &self.index, key, end)?;
         let slot = self.index.slot_of(key);
-        readable_from(&mut self.log, &self.index, slot, found.place)
+        readable_from(&mut self.log, &self.index, slot, found.place, key, false)
     }
 
     /// The same, of the keys strictly above this one.
     pub fn readable_above(&mut self, key: &[u8]) -> Result<Passed, Fault>
-        ensures entry { Sees (D.seen self.new) (λ log. IfOk result (λ p.
-            in_bytes p.entry ≡ entry_after (held_by log) key.now)) }
-        ensures all { Sees (D.seen self.new) (λ log. IfOk result (λ p. p.passed.items ≡ [])) }
-        ensures read { IsRead D.seen D.may_leave self.old self.new }
-        ensures fault { Sees (D.seen self.new) (λ log. IfErr result MayRead) }
+        ensures entry { Sees (D.seen self.new) (λ log. IfOk result (Passes
+            (entries_above byte_cmp (entries (held_by log)) key.now))) }
+        ensures damaged { Sees (D.seen self.new) (λ log. IfOk result (λ p.
+            All (λ u. D.damaged self.new u.place) p.passed.items)) }
+        ensures read { IsRead D.seen D.damaged D.may_leave self.old self.new }
+        ensures fault { IfErr result MayRead }
     {
         let (alloc, end) = (self.log.alloc, self.log.end);
         let found = find(alloc, &mut self.log.device, &self.index, key, end)?;
         let slot = self.index.slot_of(key);
-        let behind = place_behind(&self.index, slot, found.place, found.front.is_some());
-        readable_from(&mut self.log, &self.index, slot, behind)
+        readable_from(&mut self.log, &self.index, slot, found.place, key, true)
     }
 }

@@ -3,7 +3,7 @@ ghost use Rattle.std.specs.Prelude.{◌≡◌, ◌≤◌, ◌<◌, ◌+◌, ◌^
 ghost use Rattle.key_index_store.specs.Device.{IsRead, Sees};
 ghost use Rattle.key_index_store.specs.Indexed.{Indexes, Keeps};
 ghost use Rattle.key_index_store.specs.Record.{Damaged, Fits, Stops, Torn, encoded, reading};
-ghost use Rattle.key_index_store.specs.Stored.{MayRead, is_zeros, tail_of};
+ghost use Rattle.key_index_store.specs.Stored.{MayOpen, MayRead, is_zeros, tail_of};
 
 use super::find::{self, find_place, length_of, read_bytes, read_front};
 use super::{Fault, Tail, settle};
@@ -29,9 +29,9 @@ fn file<D: Device, I: Unordered<Value = u64>>(
         → Indexes I.Key.cmp (take position log) (I.view index.old) → OnOk result
         (Indexes I.Key.cmp (take position log ++ encoded position (record { key = key.now; value = value }))
         (I.view index.new))) }
-    ensures read { IsRead D.seen D.may_leave device.old device.new }
+    ensures read { IsRead D.seen D.damaged D.may_leave device.old device.new }
     ensures fault { Sees (D.seen device.new) (λ log. position ≤ length log → position < usize.MAX
-        → Indexes I.Key.cmp (take position log) (I.view index.old) → IfErr result MayRead) }
+        → Indexes I.Key.cmp (take position log) (I.view index.old) → IfErr result (MayOpen (D.damaged device.new))) }
 {
     let place = find_place(alloc, device, index, key, position)?;
     settle(index, key, has_value, place, position)
@@ -50,9 +50,9 @@ fn file_all<D: Device, I: Unordered<Value = u64>>(
         → Indexes I.Key.cmp (take position log) (I.view index.old)
         → IfOk result (λ n. Indexes I.Key.cmp (take (position + n) log) (I.view index.new))) }
     ensures within { IfOk result (λ n. n ≤ length bytes.now) }
-    ensures read { IsRead D.seen D.may_leave device.old device.new }
+    ensures read { IsRead D.seen D.damaged D.may_leave device.old device.new }
     ensures fault { Sees (D.seen device.new) (λ log. bytes.now ≡ take (length bytes.now) (drop position log)
-        → Indexes I.Key.cmp (take position log) (I.view index.old) → IfErr result MayRead) }
+        → Indexes I.Key.cmp (take position log) (I.view index.old) → IfErr result (MayOpen (D.damaged device.new))) }
 {
     let mut rest = bytes;
     let mut place = position;
@@ -82,7 +82,7 @@ fn are_zeros<D: Device>(
 ) -> Result<bool, Fault>
     ensures told { Sees (D.seen device.new) (λ log. len ≡ length log → IfOk result (λ are.
         are ≡ is_zeros (drop position log))) }
-    ensures read { IsRead D.seen D.may_leave device.old device.new }
+    ensures read { IsRead D.seen D.damaged D.may_leave device.old device.new }
     ensures fault { IfErr result MayRead }
 {
     let mut position = position;
@@ -118,7 +118,7 @@ fn tail_at<D: Device>(
     ensures told { Sees (D.seen device.new) (λ log. len ≡ length log
         → (reading end (drop end log) ≡ (if is_torn then Torn else Damaged))
         → IfOk result (λ t. t ≡ tail_of end (drop end log))) }
-    ensures read { IsRead D.seen D.may_leave device.old device.new }
+    ensures read { IsRead D.seen D.damaged D.may_leave device.old device.new }
     ensures fault { IfErr result MayRead }
 {
     if end >= len {
@@ -146,9 +146,9 @@ fn file_one<D: Device, I: Unordered<Value = u64>>(
     ensures tail { Sees (D.seen device.new) (λ log. len ≡ length log → IfOk result (λ r. IfErr r (λ t.
         (t ≡ tail_of end (drop end log)) × Stops (reading end (drop end log))))) }
     ensures same { IfOk result (λ r. OnErr r (I.view index.new ≡ I.view index.old)) }
-    ensures read { IsRead D.seen D.may_leave device.old device.new }
+    ensures read { IsRead D.seen D.damaged D.may_leave device.old device.new }
     ensures fault { Sees (D.seen device.new) (λ log. len ≡ length log
-        → Indexes I.Key.cmp (take end log) (I.view index.old) → IfErr result MayRead) }
+        → Indexes I.Key.cmp (take end log) (I.view index.old) → IfErr result (MayOpen (D.damaged device.new))) }
 {
     let bytes = read_front(alloc, device, end, len, true, find::BLOCK)?;
     let is_torn = match decode(bytes.as_slice(), end) {
@@ -178,8 +178,8 @@ pub(super) fn replay<D: Device, I: Unordered<Value = u64>>(
     requires { (I.view index.old).content ≡ [] }
     ensures kept { Sees (D.seen device.new) (λ log. IfOk result (λ r. Keeps I.Key.cmp log (I.view index.new) r.0 r.1)) }
     ensures exact { Sees (D.seen device.new) (λ log. IfOk result (λ r. r.1 ≡ tail_of r.0 (drop r.0 log))) }
-    ensures read { IsRead D.seen D.may_leave device.old device.new }
-    ensures fault { Sees (D.seen device.new) (λ log. IfErr result MayRead) }
+    ensures read { IsRead D.seen D.damaged D.may_leave device.old device.new }
+    ensures fault { Sees (D.seen device.new) (λ log. IfErr result (MayOpen (D.damaged device.new))) }
 {
     let len = length_of(device)?;
     let mut end = 0;

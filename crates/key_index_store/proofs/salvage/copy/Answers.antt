@@ -5,6 +5,7 @@ use Rattle.key_index_store.specs.Indexed.{HasRuns, parts_of}
 use Rattle.key_index_store.specs.Record.{Complete, Damaged, Entry, Torn, encoded_from, entry_of, key_in, reading, size_of}
 use Rattle.key_index_store.specs.Salvage.{gap_of, gaps_at, gaps_from, keeps, one_if, step, unknown}
 use Rattle.key_index_store.specs.laws.ReadLaws.{read-then}
+use Rattle.key_index_store.proofs.DamageLemmas.{runs_before}
 use Rattle.key_index_store.proofs.SalvageLemmas.{Told, copied_all, copied_begun, copied_next, copied_none, copied_part, counted_all, kept_none, next_whole, noted_all, rest_places, scan_at, scan_next, there, told_at}
 use Rattle.key_index_store.proofs.salvage.copy.Goals as goal
 
@@ -35,7 +36,7 @@ returns-in_err-block-in-Torn-2-clause-read g c = read-then _ _ _ c.loop-position
 
 pub returns-in_err-block-in-Torn-2-clause-begun : goal.returns-in_err-block-in-Torn-2-clause-begun
 returns-in_err-block-in-Torn-2-clause-begun g c = λ log seen le runs new seen_new.
-    let was = c.loop-position.invariant.copied log (c.read_front-in-Torn-2.ensures.read.stays log seen) le runs new seen_new in
+    let was = c.loop-position.invariant.copied log (c.read_front-in-Torn-2.ensures.read.stays log seen) le (runs_before g.I.Key.Ord.cmp (g.I.Runs.view c.args.index.now) _ _ c.args.is_all (take c.args.len log) c.read_front-in-Torn-2.ensures.read.damage runs) new seen_new in
     (was.0, was.1, copied_part (keeps g.I.Key.Ord.cmp (g.I.Runs.view c.args.index.now) c.args.is_all) (take c.args.len log) c.loop-position.position c.loop-position.end was.0 new was.2)
 
 pub returns-in_err-block-in-Torn-2-clause-stays : goal.returns-in_err-block-in-Torn-2-clause-stays
@@ -46,14 +47,14 @@ pub loop-position-preserved : goal.loop-position-preserved
 loop-position-preserved g c = record {
   order = omega arith;
   few = c.loop-position.invariant.few;
-  behind = λ log seen. c.loop-position.invariant.behind log (c.in_ok-block-in-Torn-2.ensures.read.stays log seen);
+  behind = λ log seen le runs. c.loop-position.invariant.behind log (c.in_ok-block-in-Torn-2.ensures.read.stays log seen) le (runs_before g.I.Key.Ord.cmp (g.I.Runs.view c.args.index.now) _ _ c.args.is_all (take c.args.len log) c.in_ok-block-in-Torn-2.ensures.read.damage runs);
   read = read-then _ _ _ c.loop-position.invariant.read c.in_ok-block-in-Torn-2.ensures.read;
   fresh = c.loop-position.invariant.fresh;
   scan = λ log seen le runs.
-      let was = c.loop-position.invariant.scan log (c.in_ok-block-in-Torn-2.ensures.read.stays log seen) le runs in
+      let was = c.loop-position.invariant.scan log (c.in_ok-block-in-Torn-2.ensures.read.stays log seen) le (runs_before g.I.Key.Ord.cmp (g.I.Runs.view c.args.index.now) _ _ c.args.is_all (take c.args.len log) c.in_ok-block-in-Torn-2.ensures.read.damage runs) in
       scan_at (keeps g.I.Key.Ord.cmp (g.I.Runs.view c.args.index.now) c.args.is_all) (take c.args.len log) c.in_ok-block-in-Torn-2.block.items c.args.len c.loop-position.position c.loop-position.records c.loop-position.since _ was.told
       (c.in_ok-block-in-Torn-2.ensures.front log seen le) (c.in_ok-block-in-Torn-2.ensures.whole refl log seen le) (c.in_ok-block-in-Torn-2.ensures.step log seen le) (c.in_ok-block-in-Torn-2.ensures.key log seen le) was.counted was.noted;
-  copied = λ log seen. c.loop-position.invariant.copied log (c.in_ok-block-in-Torn-2.ensures.read.stays log seen);
+  copied = λ log seen le runs. c.loop-position.invariant.copied log (c.in_ok-block-in-Torn-2.ensures.read.stays log seen) le (runs_before g.I.Key.Ord.cmp (g.I.Runs.view c.args.index.now) _ _ c.args.is_all (take c.args.len log) c.in_ok-block-in-Torn-2.ensures.read.damage runs);
 }
 
 pub returns-clause-copied : goal.returns-clause-copied
@@ -124,7 +125,7 @@ loop-position-preserved-in-Damaged g c = let inv = c.loop-position.invariant in
     let next = c.next_place-next.result in
     let is = c.next_place-next.ensures.value ∙ ap (λ l. min (position + step position l) c.args.len) rest in
     let on : position + 1 ≤ next = omega (arith, c.next_place-next.ensures.on c.loop-position-test.true) in
-    let told : Sees (g.D.Device.seen c.loop-position.from) (λ log. c.args.len ≤ length log → HasRuns g.I.Key.Ord.cmp (g.I.Runs.view c.args.index.now) c.args.is_all (take c.args.len log) → Told (take c.args.len log) bytes position Damaged) =
+    let told : Sees (g.D.Device.seen c.loop-position.from) (λ log. c.args.len ≤ length log → HasRuns g.I.Key.Ord.cmp (g.I.Runs.view c.args.index.now) (g.D.Device.damaged c.loop-position.from) c.args.is_all (take c.args.len log) → Told (take c.args.len log) bytes position Damaged) =
     λ log seen le runs. told_at (inv.scan log seen le runs) inv.order Damaged (sym (c.in-Damaged.ensures.exact ∙ ap (reading position) rest)) (λ e. absurd (cc)) in
     record {
       order = omega (arith, inv.order, on);
@@ -148,7 +149,7 @@ loop-position-preserved-then-start-position g c = let inv = c.loop-position.inva
     let next = c.next_place-next.result in
     let is = c.next_place-next.ensures.value ∙ ap (λ l. min (position + step position l) c.args.len) rest in
     let on : position + 1 ≤ next = omega (arith, c.next_place-next.ensures.on c.loop-position-test.true) in
-    let told : Sees (g.D.Device.seen c.loop-position.from) (λ log. c.args.len ≤ length log → HasRuns g.I.Key.Ord.cmp (g.I.Runs.view c.args.index.now) c.args.is_all (take c.args.len log) → Told (take c.args.len log) bytes position Torn) =
+    let told : Sees (g.D.Device.seen c.loop-position.from) (λ log. c.args.len ≤ length log → HasRuns g.I.Key.Ord.cmp (g.I.Runs.view c.args.index.now) (g.D.Device.damaged c.loop-position.from) c.args.is_all (take c.args.len log) → Told (take c.args.len log) bytes position Torn) =
     λ log seen le runs. told_at (inv.scan log seen le runs) inv.order Torn (sym (c.in-Torn.ensures.exact ∙ ap (reading position) rest)) (λ e. omega (arith, c.if-start-position.true)) in
     record {
       order = omega (arith, inv.order, on);
@@ -175,37 +176,39 @@ loop-position-preserved-in-Complete g c = let inv = c.loop-position.invariant in
     let on : position + 1 ≤ next = omega (arith, c.next_place-next.ensures.on c.loop-position-test.true) in
     let stays = c.in_ok-is_kept-in-Complete.ensures.read.stays in
     let keeps_it = keeps g.I.Key.Ord.cmp (g.I.Runs.view c.args.index.now) c.args.is_all in
-    let told : Sees (g.D.Device.seen c.loop-position.from) (λ log. c.args.len ≤ length log → HasRuns g.I.Key.Ord.cmp (g.I.Runs.view c.args.index.now) c.args.is_all (take c.args.len log) → Told (take c.args.len log) bytes position (Complete r)) =
+    let told : Sees (g.D.Device.seen c.loop-position.from) (λ log. c.args.len ≤ length log → HasRuns g.I.Key.Ord.cmp (g.I.Runs.view c.args.index.now) (g.D.Device.damaged c.loop-position.from) c.args.is_all (take c.args.len log) → Told (take c.args.len log) bytes position (Complete r)) =
     λ log seen le runs. told_at (inv.scan log seen le runs) inv.order (Complete r) (sym (c.in-Complete.ensures.exact ∙ ap (reading position) rest)) (λ e. absurd (cc)) in
-    let far : Sees (g.D.Device.seen c.loop-position.from) (λ log. c.args.len ≤ length log → HasRuns g.I.Key.Ord.cmp (g.I.Runs.view c.args.index.now) c.args.is_all (take c.args.len log) → (next ≡ position + size_of r) × (position + size_of r ≤ c.args.len)) =
+    let far : Sees (g.D.Device.seen c.loop-position.from) (λ log. c.args.len ≤ length log → HasRuns g.I.Key.Ord.cmp (g.I.Runs.view c.args.index.now) (g.D.Device.damaged c.loop-position.from) c.args.is_all (take c.args.len log) → (next ≡ position + size_of r) × (position + size_of r ≤ c.args.len)) =
     λ log seen le runs.
     let w = next_whole (take c.args.len log) position r (told log seen le runs).reads in
     (there (inv.scan log seen le runs) c.loop-position-test.true bytes (Complete r) (told log seen le runs) next is ∙ w.0, omega (arith, w.1, (inv.scan log seen le runs).told)) in
     let wrote = c.in_ok-written-in-Complete.ensures in
-    let end : Sees (g.D.Device.seen c.loop-position.from) (λ log. c.args.len ≤ length log → HasRuns g.I.Key.Ord.cmp (g.I.Runs.view c.args.index.now) c.args.is_all (take c.args.len log) → c.saturating_add-end.result ≡ c.loop-position.end + c.in_ok-written-in-Complete.written.1) =
+    let end : Sees (g.D.Device.seen c.loop-position.from) (λ log. c.args.len ≤ length log → HasRuns g.I.Key.Ord.cmp (g.I.Runs.view c.args.index.now) (g.D.Device.damaged c.loop-position.from) c.args.is_all (take c.args.len log) → c.saturating_add-end.result ≡ c.loop-position.end + c.in_ok-written-in-Complete.written.1) =
     λ log seen le runs. omega (arith, (far log seen le runs).1, inv.behind log seen le runs, wrote.bytes.0, c.saturating_add-end.ensures) in
-    let kept : Sees (g.D.Device.seen c.is_kept.new.from) (λ log. c.args.len ≤ length log → HasRuns g.I.Key.Ord.cmp (g.I.Runs.view c.args.index.now) c.args.is_all (take c.args.len log) → c.in_ok-is_kept-in-Complete.is_kept ≡ keeps_it position r.key) =
-    λ log seen le runs. c.in_ok-is_kept-in-Complete.ensures.told log seen le runs (ap (λ o. (parts_of o).0) (told log (stays log seen) le runs).reads) in
+    let kept : Sees (g.D.Device.seen c.is_kept.new.from) (λ log. c.args.len ≤ length log → HasRuns g.I.Key.Ord.cmp (g.I.Runs.view c.args.index.now) (g.D.Device.damaged c.is_kept.new.from) c.args.is_all (take c.args.len log) → c.in_ok-is_kept-in-Complete.is_kept ≡ keeps_it position r.key) =
+    λ log seen le runs. c.in_ok-is_kept-in-Complete.ensures.told log seen le runs (ap (λ o. (parts_of o).0) (told log (stays log seen) le (runs_before g.I.Key.Ord.cmp (g.I.Runs.view c.args.index.now) _ _ c.args.is_all (take c.args.len log) c.in_ok-is_kept-in-Complete.ensures.read.damage runs)).reads) in
     record {
       order = omega (arith, inv.order, on);
       few = omega (arith, inv.few, on, wrote.records.0);
-      behind = λ log seen le runs. (let at = stays log seen in omega (arith, inv.behind log at le runs, end log at le runs, (far log at le runs).0, wrote.bytes.0));
+      behind = λ log seen le runs. (let at = stays log seen in let was = (runs_before g.I.Key.Ord.cmp (g.I.Runs.view c.args.index.now) _ _ c.args.is_all (take c.args.len log) c.in_ok-is_kept-in-Complete.ensures.read.damage runs) in omega (arith, inv.behind log at le was, end log at le was, (far log at le was).0, wrote.bytes.0));
       read = read-then _ _ _ inv.read c.in_ok-is_kept-in-Complete.ensures.read;
       fresh = λ new seen_new. inv.fresh (wrote.written new seen_new).0 (wrote.written new seen_new).1;
       scan = λ log seen le runs.
           let at = stays log seen in
-          scan_next (inv.scan log at le runs) c.loop-position-test.true bytes (Complete r) (told log at le runs) next is (c.loop-position.records + c.in_ok-written-in-Complete.written.0) next _
+          let was_runs = (runs_before g.I.Key.Ord.cmp (g.I.Runs.view c.args.index.now) _ _ c.args.is_all (take c.args.len log) c.in_ok-is_kept-in-Complete.ensures.read.damage runs) in
+          scan_next (inv.scan log at le was_runs) c.loop-position-test.true bytes (Complete r) (told log at le was_runs) next is (c.loop-position.records + c.in_ok-written-in-Complete.written.0) next _
           (ap (λ n. c.loop-position.records + n) (wrote.records.1 ∙ ap (λ b. length (one_if b r)) (kept log seen le runs)))
           (λ behind. ap (λ l. l ++ behind next) c.in_ok-note-in-Complete.ensures ∙ append_assoc (map gap_of c.loop-position.gaps.items) (unknown c.loop-position.since position) (behind next));
       copied = λ log seen le runs new seen_new.
           let at = stays log seen in
+          let was_runs = (runs_before g.I.Key.Ord.cmp (g.I.Runs.view c.args.index.now) _ _ c.args.is_all (take c.args.len log) c.in_ok-is_kept-in-Complete.ensures.read.damage runs) in
           let more = wrote.written new seen_new in
-          let was = inv.copied log at le runs more.0 more.1 in
+          let was = inv.copied log at le was_runs more.0 more.1 in
           let own = ap (λ b. encoded_from c.loop-position.end (one_if b r)) (kept log seen le runs) in (
             was.0,
             was.1,
-            copied_next (inv.scan log at le runs) c.loop-position-test.true bytes (Complete r) (told log at le runs) next is was.2 c.saturating_add-end.result new
-                (omega (arith, end log at le runs, wrote.bytes.1, ap (λ l. length l) own)) (more.2 was.2.size ∙ ap (λ l. more.0 ++ l) own),
+            copied_next (inv.scan log at le was_runs) c.loop-position-test.true bytes (Complete r) (told log at le was_runs) next is was.2 c.saturating_add-end.result new
+                (omega (arith, end log at le was_runs, wrote.bytes.1, ap (λ l. length l) own)) (more.2 was.2.size ∙ ap (λ l. more.0 ++ l) own),
           );
     }
 
@@ -218,11 +221,12 @@ returns-in_err-written-in-Complete-clause-begun g c = λ log seen le runs new se
     let inv = c.loop-position.invariant in
     let r : Entry = entry_of c.in-Complete.record in
     let at = c.in_ok-is_kept-in-Complete.ensures.read.stays log seen in
+    let was_runs = (runs_before g.I.Key.Ord.cmp (g.I.Runs.view c.args.index.now) _ _ c.args.is_all (take c.args.len log) c.in_ok-is_kept-in-Complete.ensures.read.damage runs) in
     let rest = c.bytes_from-rest.ensures ∙ ap (drop (c.loop-position.position - c.loop-position.start)) c.as_slice.ensures.value in
-    let told = told_at (inv.scan log at le runs) inv.order (Complete r) (sym (c.in-Complete.ensures.exact ∙ ap (reading c.loop-position.position) rest)) (λ e. absurd (cc)) in
+    let told = told_at (inv.scan log at le was_runs) inv.order (Complete r) (sym (c.in-Complete.ensures.exact ∙ ap (reading c.loop-position.position) rest)) (λ e. absurd (cc)) in
     let kept = c.in_ok-is_kept-in-Complete.ensures.told log seen le runs (ap (λ o. (parts_of o).0) told.reads) in
     let failed = c.in_err-written-in-Complete.ensures.begun new seen_new in
-    let was = inv.copied log at le runs failed.0 failed.1 in
+    let was = inv.copied log at le was_runs failed.0 failed.1 in
     (was.0, was.1, copied_begun was.2 r told.reads new (subst (λ b. IsBegun (encoded_from c.loop-position.end (one_if b r)) failed.0 new) kept (failed.2 was.2.size)))
 
 pub returns-in_err-written-in-Complete-clause-stays : goal.returns-in_err-written-in-Complete-clause-stays
@@ -239,7 +243,7 @@ returns-in_err-is_kept-in-Complete-clause-read g c = read-then _ _ _ c.loop-posi
 
 pub returns-in_err-is_kept-in-Complete-clause-begun : goal.returns-in_err-is_kept-in-Complete-clause-begun
 returns-in_err-is_kept-in-Complete-clause-begun g c = λ log seen le runs new seen_new.
-    let was = c.loop-position.invariant.copied log (c.in_err-is_kept-in-Complete.ensures.read.stays log seen) le runs new seen_new in
+    let was = c.loop-position.invariant.copied log (c.in_err-is_kept-in-Complete.ensures.read.stays log seen) le (runs_before g.I.Key.Ord.cmp (g.I.Runs.view c.args.index.now) _ _ c.args.is_all (take c.args.len log) c.in_err-is_kept-in-Complete.ensures.read.damage runs) new seen_new in
     (was.0, was.1, copied_part (keeps g.I.Key.Ord.cmp (g.I.Runs.view c.args.index.now) c.args.is_all) (take c.args.len log) c.loop-position.position c.loop-position.end was.0 new was.2)
 
 pub returns-in_err-is_kept-in-Complete-clause-stays : goal.returns-in_err-is_kept-in-Complete-clause-stays

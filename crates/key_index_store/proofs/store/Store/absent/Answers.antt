@@ -2,8 +2,9 @@ use Rattle.std.proofs.Common.{◌≡◌, ◌≤◌, rules, cond, Some, None, is_
 use Rattle.std.specs.FinMap.{get}
 use Rattle.std.specs.Option.{IfSome, option_map}
 use Rattle.key_index_store.specs.Indexed.{IsLive, entry_at}
-use Rattle.key_index_store.specs.Stored.{MayRead, entry_after, entry_before, held_by, in_bytes}
+use Rattle.key_index_store.specs.Stored.{entry_after, entry_before, held_by, in_bytes}
 use Rattle.key_index_store.proofs.KeepLemmas.{kept_held}
+use Rattle.key_index_store.proofs.DamageLemmas.{IsMissedAt, missed_at, missed_key}
 use Rattle.key_index_store.proofs.NearestLemmas.{IsTold, above_told, below_told}
 use Rattle.key_index_store.proofs.StoreLemmas.{is_run, place-get}
 use Rattle.key_index_store.proofs.store.Store.absent.Goals as goal
@@ -17,7 +18,7 @@ returns-in_err-place-clause-fault g c = λ log seen.
     let front = take s.log.end log in
     let kept = c.self.invariant.0 log (c.in_err-place.ensures.read.stays log seen) in
     let run = is_run cmp front view key kept.indexed in
-    let may = c.in_err-place.ensures.fault log seen kept.within run in
+    let may = missed_key cmp (g.D.Device.damaged c.find_place.new.device) log view s.log.end s.tail kept key c.in_err-place.field-0.0 (c.in_err-place.ensures.fault log seen kept.within run) in
     search (rules, may)
 
 pub returns-then-place-clause-absent : goal.returns-then-place-clause-absent
@@ -48,7 +49,7 @@ returns-in_err-before-clause-fault g c = λ log seen.
     let at = c.in_ok-place.ensures.at log mid kept.within run in
     let below = subst (λ r. IsTold front r (entry_before (held_by log) key)) (sym c.position_below-below.ensures)
     (below_told g.met.I.Key.Ord.total log view s.log.end s.tail (g.met.I.Runs.lawful s.index) (g.met.I.Ordered.keeps_order s.index) kept key c.in_ok-place.ensures.bytes place.place place.is_held at) in
-    let may = c.in_err-before.ensures.fault log seen kept.within below.0 in
+    let may = missed_at cmp (g.D.Device.damaged c.entry.new.self.device) log view s.log.end s.tail kept _ (entry_before (held_by log) key) c.in_err-before.field-0.0 below (c.in_err-before.ensures.fault log seen kept.within below.0) in
     search (rules, may)
 
 pub returns-in_err-after-clause-fault : goal.returns-in_err-after-clause-fault
@@ -65,8 +66,9 @@ returns-in_err-after-clause-fault g c = λ log seen.
     let at = c.in_ok-place.ensures.at log mid kept.within run in
     let above = subst (λ r. IsTold front r (entry_after (held_by log) key)) (sym c.position_above-above.ensures)
     (above_told g.met.I.Key.Ord.total log view s.log.end s.tail (g.met.I.Runs.lawful s.index) (g.met.I.Ordered.keeps_order s.index) kept key c.in_ok-place.ensures.bytes place.place place.is_held at) in
-    let may = subst (λ e. e ≤ length log → IfSome c.position_above-above.result (IsLive (take e log)) → MayRead c.in_err-after.field-0.0) c.in_ok-before.ensures.end
-    (c.in_err-after.ensures.fault log seen) kept.within above.0 in
+    let may = missed_at cmp (g.D.Device.damaged c.entry-2.new.self.device) log view s.log.end s.tail kept _ (entry_after (held_by log) key) c.in_err-after.field-0.0 above
+    (subst (λ e. e ≤ length log → IfSome c.position_above-above.result (IsLive (take e log)) → IsMissedAt (g.D.Device.damaged c.entry-2.new.self.device) c.position_above-above.result c.in_err-after.field-0.0) c.in_ok-before.ensures.end
+    (c.in_err-after.ensures.fault log seen) kept.within above.0) in
     search (rules, may)
 
 pub returns-clause-absent : goal.returns-clause-absent

@@ -2,14 +2,16 @@ use Rattle.std.proofs.Common.{rules, ◌≡◌, ◌⊎◌, ◌<◌, ◌++◌, �
 use Rattle.std.proofs.lemmas.Bool.{not-false, not-true}
 use Rattle.std.specs.FinMap.{get, len}
 use Rattle.std.specs.Option.{option_map}
+use Rattle.key_index_store.specs.Damage.{Hides}
 use Rattle.key_index_store.specs.Device.{Changes}
 use Rattle.key_index_store.specs.Indexed.{Keeps}
 use Rattle.key_index_store.specs.Record.{Entry, encoded}
 use Rattle.key_index_store.specs.Stored.{HasChanged, HasRefused, IsBeforeOrAfter, held_by}
 use Rattle.key_index_store.specs.declared.store.Tail.TheVariants as tail
 use Rattle.key_index_flat.proofs.content.ChainLemmas.{None-is_some}
+use Rattle.key_index_store.proofs.DamageLemmas.{missed_key, missed_room}
 use Rattle.key_index_store.proofs.IndexLemmas.{some_mapped}
-use Rattle.key_index_store.proofs.KeepLemmas.{adds_weaker, all_kept, append-refuse, at_end, begun_keeps, begun_refused, begun_size, full-refuse, held_any, kept_held, may_read-refuse, not_added, nothing_changed, or-true, refused_early, room-refuse, written_changed, written_keeps}
+use Rattle.key_index_store.proofs.KeepLemmas.{adds_weaker, all_kept, append-refuse, at_end, begun_keeps, begun_refused, begun_size, full-refuse, held_any, hidden-refuse, kept_held, not_added, nothing_changed, or-true, refused_early, room-refuse, written_changed, written_keeps}
 use Rattle.key_index_store.proofs.StoreLemmas.{is_run, mapped_none, place-get}
 use Rattle.key_index_store.proofs.store.Store.change.Goals.{else-is_none-via-then-is_none+else-not-place, else-is_none-via-else-is_none}
 use Rattle.key_index_store.proofs.store.Store.change.Goals as goal
@@ -17,21 +19,24 @@ use Rattle.key_index_store.proofs.store.Store.change.Goals as goal
 pub returns-in_err-make_room-clause-refused : goal.returns-in_err-make_room-clause-refused
 returns-in_err-make_room-clause-refused g c =
     let r : Entry = record { key = c.args.key.now; value = option_map {T = Bor (List ℕ)} (λ v. v.now) c.args.value } in
-    let told : Changes (g.D.Device.seen c.args.self.now) (g.D.Device.seen c.make_room.new.self) (λ old new. HasRefused old r c.in_err-make_room.field-0.0 new) = λ new seen.
+    let told : Changes (g.D.Device.seen c.args.self.now) (g.D.Device.seen c.make_room.new.self) (λ old new. HasRefused (Hides (g.D.Device.damaged c.make_room.new.self)) old r c.in_err-make_room.field-0.0 new) = λ new seen.
     let was = c.in_err-make_room.ensures.refused new seen in
-    (new, was, record { refused = (refl, inl refl); fault = room-refuse new r c.in_err-make_room.field-0.0 (c.in_err-make_room.ensures.fault new seen) }) in
+    (new, was, record { refused = (refl, inl refl); fault = room-refuse (Hides (g.D.Device.damaged c.make_room.new.self)) new r c.in_err-make_room.field-0.0 (c.in_err-make_room.ensures.fault new seen) }) in
     search (rules, told)
 
 pub returns-in_err-place-clause-refused : goal.returns-in_err-place-clause-refused
 returns-in_err-place-clause-refused g c =
     let r : Entry = record { key = c.args.key.now; value = option_map {T = Bor (List ℕ)} (λ v. v.now) c.args.value } in
-    let told : Changes (g.D.Device.seen c.args.self.now) (g.D.Device.seen c.find_place.new.device) (λ old new. HasRefused old r c.in_err-place.field-0.0 new) = λ mid seen.
+    let told : Changes (g.D.Device.seen c.args.self.now) (g.D.Device.seen c.find_place.new.device) (λ old new. HasRefused (Hides (g.D.Device.damaged c.find_place.new.device)) old r c.in_err-place.field-0.0 new) = λ mid seen.
     let mid_seen = c.in_err-place.ensures.read.stays mid seen in
     let room = c.in_ok-make_room.ensures.room mid (sym (ap g.D.Device.seen c.self.view_is) ∙ mid_seen) in
     let h = c.self.invariant.0 mid mid_seen in
     let front = take c.self.inside.log.end mid in
     let run = is_run g.I.Key.Ord.cmp front (g.I.Runs.view c.self.inside.index) c.args.key.now h.indexed in
-    (room.0, room.1, refused_early room.0 mid room.2 r c.in_err-place.field-0.0 (may_read-refuse room.0 r c.in_err-place.field-0.0 (c.in_err-place.ensures.fault mid seen h.within run))) in
+    let missed = missed_room (g.D.Device.damaged c.find_place.new.device) room.0 mid r.key c.in_err-place.field-0.0 room.2
+    (missed_key g.I.Key.Ord.cmp (g.D.Device.damaged c.find_place.new.device) mid (g.I.Runs.view c.self.inside.index) c.self.inside.log.end c.self.inside.tail h r.key c.in_err-place.field-0.0
+    (c.in_err-place.ensures.fault mid seen h.within run)) in
+    (room.0, room.1, refused_early room.0 mid room.2 r (Hides (g.D.Device.damaged c.find_place.new.device)) c.in_err-place.field-0.0 (hidden-refuse (Hides (g.D.Device.damaged c.find_place.new.device)) room.0 r c.in_err-place.field-0.0 missed)) in
     search (rules, told)
 
 pub returns-then-not-place-clause-changed : goal.returns-then-not-place-clause-changed
@@ -89,10 +94,10 @@ returns-in-Err-clause-refused g c = λ new seen.
     let told : c.in_ok-place.place.is_held ≡ is_some (get (held_by mid) c.args.key.now) =
     place-get g.I.Key.Ord.cmp front (g.I.Runs.view c.self.inside.index) c.args.key.now c.in_ok-place.place.place c.in_ok-place.place.is_held h.indexed (c.in_ok-place.ensures.at mid failed.1 h.within run)
     ∙ ap (λ m. is_some (get m c.args.key.now)) (sym (kept_held g.I.Key.Ord.cmp mid (g.I.Runs.view c.self.inside.index) c.self.inside.log.end c.self.inside.tail h)) in
-    let may = append-refuse room.0 r c.in-Err.fault (λ full.
+    let may = append-refuse (Hides (g.D.Device.damaged c.append.new.device)) room.0 r c.in-Err.fault (λ full.
     let absent = None-is_some (get (held_by mid) r.key) (sym told ∙ full.0) in
-    full-refuse (g.I.Runs.view c.self.inside.index) room.0 r c.in-Err.fault (h.indexed.counted ∙ ap (λ m. len m) (sym (kept_held g.I.Key.Ord.cmp mid (g.I.Runs.view c.self.inside.index) c.self.inside.log.end c.self.inside.tail h) ∙ room.2.held)) (ap (λ m. get m r.key) (sym room.2.held) ∙ absent) full.1) c.in-Err.ensures.fault in
-    (room.0, room.1, subst (HasRefused room.0 r c.in-Err.fault) (sym is) (begun_refused room.0 mid room.2 r g.met.I.Key.Ord.total g.met.I.Runs.exact (g.I.Runs.view c.self.inside.index) c.self.inside.log.end c.self.inside.tail h c.requires part.0 less c.in-Err.fault may))
+    full-refuse (Hides (g.D.Device.damaged c.append.new.device)) room.0 r c.in-Err.fault (g.I.Runs.view c.self.inside.index) (h.indexed.counted ∙ ap (λ m. len m) (sym (kept_held g.I.Key.Ord.cmp mid (g.I.Runs.view c.self.inside.index) c.self.inside.log.end c.self.inside.tail h) ∙ room.2.held)) (ap (λ m. get m r.key) (sym room.2.held) ∙ absent) full.1) c.in-Err.ensures.fault in
+    (room.0, room.1, subst (HasRefused (Hides (g.D.Device.damaged c.append.new.device)) room.0 r c.in-Err.fault) (sym is) (begun_refused room.0 mid room.2 r g.met.I.Key.Ord.total g.met.I.Runs.exact (g.I.Runs.view c.self.inside.index) c.self.inside.log.end c.self.inside.tail h c.requires (Hides (g.D.Device.damaged c.append.new.device)) part.0 less c.in-Err.fault may))
 
 pub returns-in-Err-clause-crash : goal.returns-in-Err-clause-crash
 returns-in-Err-clause-crash g c = λ new seen.

@@ -9,6 +9,6 @@ decreases-loop-position g l = l.len - l.position
 -- zeros so far
 abbrev pub invariant-loop-position : goal.invariant-loop-position
 invariant-loop-position g l = record {
-  read : IsRead g.D.Device.seen g.D.Device.may_leave l.fn.device l.device;
+  read : IsRead g.D.Device.seen g.D.Device.damaged g.D.Device.may_leave l.fn.device l.device;
   zeros : Sees (g.D.Device.seen l.device) (λ log. l.len ≡ length log → is_zeros (drop l.fn.position log) ≡ is_zeros (drop l.position log));
 }
