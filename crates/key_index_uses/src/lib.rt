@@ -1,4 +1,4 @@
-//! Callers as a user writes them: over any index, over an index that they name, and with indices of different kinds beside one another. Those
+//! Callers as a user writes them: over any index, over an index that they name, and with indices of different kinds beside one another. Most
 //! that name an index in partitions stand in `key_index_named`.
 #![tactic(auto)]
 
@@ -9,3 +9,4 @@ pub mod records;
 pub mod reserved;
 pub mod segments;
 pub mod snapshots;
+pub mod threads;
