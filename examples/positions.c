@@ -12,9 +12,72 @@
         } \
     } while (0)
 
+/* An index that two readers have, which may be on threads of their own. */
+static void readers(void) {
+    key_index index = KEY_INDEX_NONE;
+    key_index_reader reader = KEY_INDEX_READER_NONE, other = KEY_INDEX_READER_NONE;
+    const size_t ends[2] = {5, 11};
+    uint64_t values[2] = {1, 2};
+    size_t stops[2] = {0, 0}, count = 0;
+    bool told = false;
+
+    CHECK(key_index_build(&index, KEY_INDEX_ORDERED, 0, "applecherry", ends, values, 2) == KEY_INDEX_OK);
+    CHECK(key_index_share(&index, &reader) == KEY_INDEX_OK && index.at == NULL);
+    CHECK(key_index_share(&index, &reader) == KEY_INDEX_BAD_ARGUMENT);
+    CHECK(key_index_reader_clone(&reader, &other) == KEY_INDEX_OK);
+    CHECK(key_index_reader_clone(&reader, &other) == KEY_INDEX_BAD_ARGUMENT);
+    CHECK(key_index_reader_get(&other, "cherry", 6, values, 2, &count) == KEY_INDEX_OK && count == 1 && values[0] == 2);
+    CHECK(key_index_reader_contains(&other, "banana", 6, &told) == KEY_INDEX_OK && !told);
+    CHECK(key_index_reader_get_many(&other, "applecherry", ends, 2, values, 2, stops, &count) == KEY_INDEX_OK && stops[1] == 2);
+    CHECK(key_index_reader_next(&other, "banana", 6, values, 2, &count, &told) == KEY_INDEX_OK && values[0] == 2 && !told);
+    CHECK(key_index_reader_prev(&other, "banana", 6, values, 2, &count, &told) == KEY_INDEX_OK && values[0] == 1 && !told);
+    CHECK(key_index_reader_first(&other, values, 2, &count) == KEY_INDEX_OK && count == 1 && values[0] == 1);
+    CHECK(key_index_reader_last(&other, values, 2, &count) == KEY_INDEX_OK && count == 1 && values[0] == 2);
+    CHECK(key_index_reader_keys(&other) == 2 && key_index_reader_items(&other) == 2 && key_index_reader_pruned(&other) == 0);
+    CHECK(key_index_unshare(&reader, &index) == KEY_INDEX_SHARED && index.at == NULL);
+    key_index_reader_free(&other);
+    CHECK(key_index_reader_get(&other, "cherry", 6, values, 2, &count) == KEY_INDEX_BAD_ARGUMENT && key_index_reader_keys(&other) == 0);
+    CHECK(key_index_unshare(&reader, &index) == KEY_INDEX_OK && reader.at == NULL);
+    CHECK(key_index_insert(&index, "plum", 4, 3) == KEY_INDEX_OK && key_index_items(&index) == 3);
+    CHECK(key_index_share(&index, &reader) == KEY_INDEX_OK);
+    key_index_reader_free(&reader);
+}
+
+/* An index in partitions that is filled in two ranges, which may be on threads of their own. */
+static void ranges(void) {
+    key_index index = KEY_INDEX_NONE, other = KEY_INDEX_NONE;
+    key_index_range low = KEY_INDEX_RANGE_NONE, high = KEY_INDEX_RANGE_NONE;
+    const size_t ends[2] = {5, 9}, falling[2] = {5, 4};
+    const uint64_t values[2] = {1, 2};
+    uint64_t found = 0;
+    size_t count = 0;
+
+    CHECK(key_index_new(&index, KEY_INDEX_ORDERED_BY_ONE) == KEY_INDEX_OK && key_index_new(&other, KEY_INDEX_ORDERED) == KEY_INDEX_OK);
+    CHECK(key_index_range_new(&other, &low, 0, 1) == KEY_INDEX_BAD_ARGUMENT);
+    CHECK(key_index_range_new(&index, &low, 0, 257) == KEY_INDEX_BAD_ARGUMENT && low.at == NULL);
+    CHECK(key_index_range_new(&index, &low, 0, 'h') == KEY_INDEX_OK);
+    CHECK(key_index_range_new(&index, &high, 'h', 256 - 'h') == KEY_INDEX_OK);
+    CHECK(key_index_range_insert_many(&low, "appleplum", falling, values, 2, &count) == KEY_INDEX_BAD_ARGUMENT && count == 0);
+    CHECK(key_index_range_insert_many(&low, "appleplum", ends, values, 2, &count) == KEY_INDEX_OK && count == 2);
+    CHECK(key_index_range_insert_many(&high, "appleplum", ends, values, 2, &count) == KEY_INDEX_OK && count == 2);
+    CHECK(key_index_install(&other, &high) == KEY_INDEX_BAD_ARGUMENT && high.at != NULL);
+    CHECK(key_index_install(&index, &high) == KEY_INDEX_OK && high.at == NULL);
+    CHECK(key_index_get(&index, "plum", 4, &found, 1, &count) == KEY_INDEX_OK && count == 1 && found == 2);
+    CHECK(key_index_insert(&index, "banana", 6, 3) == KEY_INDEX_OK);
+    CHECK(key_index_install(&index, &low) == KEY_INDEX_BAD_ARGUMENT && low.at != NULL && key_index_items(&index) == 2);
+    CHECK(key_index_remove(&index, "banana", 6) == KEY_INDEX_OK && key_index_install(&index, &low) == KEY_INDEX_OK);
+    CHECK(key_index_get(&index, "apple", 5, &found, 1, &count) == KEY_INDEX_OK && count == 1 && found == 1);
+    CHECK(key_index_range_new(&index, &low, 0, 1) == KEY_INDEX_OK);
+    key_index_range_free(&low);
+    CHECK(low.at == NULL && key_index_range_insert_many(&low, "appleplum", ends, values, 2, &count) == KEY_INDEX_BAD_ARGUMENT);
+    key_index_free(&index);
+    key_index_free(&other);
+}
+
 /* A log whose first record is at position 100. */
 static void log_of_records(void) {
     key_index_immutable log = KEY_INDEX_IMMUTABLE_NONE;
+    key_index_immutable_reader reader = KEY_INDEX_IMMUTABLE_READER_NONE, other = KEY_INDEX_IMMUTABLE_READER_NONE;
     uint64_t positions[2] = {0, 0};
     size_t count = 0;
 
@@ -33,6 +96,13 @@ static void log_of_records(void) {
     CHECK(positions[0] == 107 && key_index_immutable_items(&log) == 2);
     CHECK(key_index_immutable_start(&log) == 101 && key_index_immutable_pruned(&log) == 1);
     CHECK(key_index_immutable_get(&log, NULL, 1, positions, 2, &count) == KEY_INDEX_BAD_ARGUMENT);
+    CHECK(key_index_immutable_share(&log, &reader) == KEY_INDEX_OK && key_index_immutable_reader_clone(&reader, &other) == KEY_INDEX_OK);
+    CHECK(key_index_immutable_reader_get(&other, "cherry s", 8, positions, 2, &count) == KEY_INDEX_OK && count == 1);
+    CHECK(positions[0] == 107 && key_index_immutable_reader_is_indexed(&other, 107) && key_index_immutable_reader_items(&other) == 2);
+    CHECK(key_index_immutable_reader_start(&other) == 101 && key_index_immutable_reader_pruned(&other) == 1);
+    CHECK(key_index_immutable_unshare(&other, &log) == KEY_INDEX_SHARED);
+    key_index_immutable_reader_free(&reader);
+    CHECK(key_index_immutable_unshare(&other, &log) == KEY_INDEX_OK && !key_index_immutable_reader_is_indexed(&other, 107));
     key_index_immutable_free(&log);
     CHECK(!key_index_immutable_is_indexed(&log, 101) && key_index_immutable_items(&log) == 0);
 
@@ -88,6 +158,8 @@ int main(void) {
     CHECK(key_index_build(&index, KEY_INDEX_ORDERED, 0, "figsgrapes", ends, many, 2) == KEY_INDEX_BAD_ARGUMENT);
     CHECK(key_index_last(&index, values, 2, &count) == KEY_INDEX_OK && count == 1 && values[0] == 7 && key_index_items(&index) == 2);
     key_index_free(&index);
+    readers();
+    ranges();
     log_of_records();
     return 0;
 }

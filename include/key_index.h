@@ -23,21 +23,27 @@
  *
  * The functions below test each argument that they can, and answer KEY_INDEX_BAD_ARGUMENT, with nothing done, for:
  *   - a null pointer to an index, to a key or a buffer whose length is not 0, or to a place for an answer;
- *   - an index that was not made (`at` is null), or to a call that makes one, one that was;
+ *   - an index, a reader or a range that was not made (`at` is null), or to a call that makes one, one that was;
  *   - a kind that is none of those below, or a call for a neighbour of an index without an order;
  *   - a position that is below the start of an immutable index, or indexed;
+ *   - partitions that an index has not, or a range that is of another kind, or for partitions that have values;
  *   - a length that no block of memory has.
  * They cannot test the following. Where it does not hold, what happens is undefined:
- *   1. A key_index was set to KEY_INDEX_NONE, or a key_index_immutable to KEY_INDEX_IMMUTABLE_NONE, and since then only these functions
- *      wrote to it. It may be moved, as by an assignment, if the old place is not used any more. A copy of one is not another index.
- *      The member of a key_index_immutable is not passed as a key_index.
- *   2. One call at a time gets an index, those that only read it too, and all calls of an index come from one thread.
+ *   1. A key_index was set to KEY_INDEX_NONE, or one of the other types to its own .._NONE, and since then only these functions wrote to
+ *      it. It may be moved, as by an assignment, if the old place is not used any more. A copy of one is not another index. The member of
+ *      a key_index_immutable is not passed as a key_index, nor that of its reader as another's.
+ *   2. Any number of calls that take an index or a reader as const, and so only read it, may run at once, on any threads; each other call
+ *      is alone with what it gets. What a thread did with an index, a reader or a range comes before what another thread does with it, by a
+ *      lock, a thread's start or join, or what orders memory as they do. Two readers of an index need nothing of that: each is by itself.
  *   3. A pointer to a key leads to as many bytes as its length says, one to numbers to as many, aligned as their type is; a buffer for
- *      answers was set before (to anything). Neither overlaps the other, the key_index or a place for an answer, and no other
- *      thread writes there while the call runs.
- *   4. malloc, realloc and free come from one allocator, and align a block to each power of two up to 16 that divides its size.
+ *      answers was set before (to anything). Neither overlaps the other, the key_index or a place for an answer. While the call runs, no
+ *      other thread writes to any of these, nor reads a buffer or a place for an answer.
+ *   4. malloc, realloc and free come from one allocator, for all threads that call, and align a block to each power of two up to 16 that
+ *      divides its size.
  *   5. No call is made from a signal handler, nor in the child of a fork of a process with threads.
- * The functions whose names begin with key_index_c_ test nothing: they are for this header and for declarations in other languages.
+ * The functions whose names begin with key_index_c_ test nothing: they are for this header and for declarations in other languages. Each
+ * of them takes the index out of its key_index and puts it back, so it writes there even if it only reads the index: reads that run at once
+ * need a copy of the key_index each, such as the functions below make. So it is with a reader and a range.
  */
 #ifndef KEY_INDEX_H
 #define KEY_INDEX_H
@@ -71,14 +77,35 @@ typedef struct key_index_immutable {
 
 #define KEY_INDEX_IMMUTABLE_NONE { KEY_INDEX_NONE }
 
-/* What a call answers. After any but KEY_INDEX_OK the index holds what it held, but for key_index_insert_many, and nothing was written
- * but `count` and `cycled`. */
+/* A reader of an index that is shared, or none: see "Readers" below. */
+typedef struct key_index_reader {
+    void *at;
+} key_index_reader;
+
+#define KEY_INDEX_READER_NONE { NULL }
+
+typedef struct key_index_immutable_reader {
+    key_index_reader reader;
+} key_index_immutable_reader;
+
+#define KEY_INDEX_IMMUTABLE_READER_NONE { KEY_INDEX_READER_NONE }
+
+/* Some partitions of an index, apart from it, or none: see "Ranges" below. */
+typedef struct key_index_range {
+    void *at;
+} key_index_range;
+
+#define KEY_INDEX_RANGE_NONE { NULL }
+
+/* What a call answers. After any but KEY_INDEX_OK index and range hold what they held, but for key_index_insert_many and its like for a
+ * range, and nothing was written but `count` and `cycled`. */
 typedef enum key_index_status {
     KEY_INDEX_OK = 0,
-    KEY_INDEX_MEMORY = 1,      /* an allocation failed */
-    KEY_INDEX_FULL = 2,        /* the index holds SIZE_MAX values */
-    KEY_INDEX_TOO_FAR = 3,     /* a position is SIZE_MAX or more past the start of an immutable index */
-    KEY_INDEX_BAD_ARGUMENT = 4 /* see above */
+    KEY_INDEX_MEMORY = 1,       /* an allocation failed */
+    KEY_INDEX_FULL = 2,         /* the index holds SIZE_MAX values */
+    KEY_INDEX_TOO_FAR = 3,      /* a position is SIZE_MAX or more past the start of an immutable index */
+    KEY_INDEX_BAD_ARGUMENT = 4, /* see above */
+    KEY_INDEX_SHARED = 5        /* the index has other readers */
 } key_index_status;
 
 typedef enum key_index_kind {
@@ -142,19 +169,47 @@ size_t key_index_c_positions(key_index *index, const uint8_t *key, size_t key_le
 bool key_index_c_is_indexed(key_index *index, uint64_t position);
 void key_index_c_prune(key_index *index, uint64_t start);
 struct key_index_position_counts key_index_c_position_counts(key_index *index);
+uint32_t key_index_c_share(key_index *index, key_index_reader *reader);
+uint32_t key_index_c_unshare(key_index_reader *reader, key_index *index);
+uint32_t key_index_c_reader_clone(key_index_reader *reader, key_index_reader *clone);
+void key_index_c_reader_free(key_index_reader *reader);
+size_t key_index_c_reader_get(key_index_reader *reader, const uint8_t *key, size_t key_len, uint64_t *values, size_t room);
+struct key_index_many key_index_c_reader_get_many(key_index_reader *reader, const uint8_t *keys, size_t keys_len, const size_t *ends,
+                                                  size_t ends_len, uint64_t *values, size_t room, size_t *stops, size_t stops_len);
+struct key_index_found key_index_c_reader_find(key_index_reader *reader, const uint8_t *key, size_t key_len);
+struct key_index_counts key_index_c_reader_counts(key_index_reader *reader);
+struct key_index_neighbour key_index_c_reader_neighbour(key_index_reader *reader, uint32_t which, const uint8_t *key, size_t key_len,
+                                                        uint64_t *values, size_t room);
+size_t key_index_c_reader_positions(key_index_reader *reader, const uint8_t *key, size_t key_len, uint64_t *positions, size_t room);
+bool key_index_c_reader_is_indexed(key_index_reader *reader, uint64_t position);
+struct key_index_position_counts key_index_c_reader_position_counts(key_index_reader *reader);
+uint32_t key_index_c_range(key_index *index, key_index_range *range, size_t first, size_t count);
+struct key_index_many key_index_c_range_insert_many(key_index_range *range, const uint8_t *keys, size_t keys_len, const size_t *ends,
+                                                    size_t ends_len, const uint64_t *values, size_t values_len);
+uint32_t key_index_c_install(key_index *index, key_index_range *range);
+void key_index_c_range_free(key_index_range *range);
 extern const uint8_t key_index_c_version_0_1_0; /* 1 */
 
 /* Whether an index can be made there. This needs the library of this version. */
 static inline bool key_index_is_none(const key_index *index) {
     return index != NULL && index->at == NULL && key_index_c_version_0_1_0 != 0;
 }
-/* Whether an index was made, and a key and a buffer can be passed. A pointer that is null has to have the length 0. */
+/* Whether an index or a reader was made, and a key and a buffer can be passed. A pointer that is null has to have the length 0. */
 static inline bool key_index_is_made(const key_index *index) {
     return index != NULL && index->at != NULL;
 }
+static inline bool key_index_reader_is_made(const key_index_reader *reader) {
+    return reader != NULL && reader->at != NULL;
+}
+static inline bool key_index_are_passed(const void *key, size_t key_len, const uint64_t *values, size_t room) {
+    return (key != NULL || key_len == 0) && key_len <= PTRDIFF_MAX && (values != NULL || room == 0) && room <= PTRDIFF_MAX / sizeof *values;
+}
 static inline bool key_index_takes(const key_index *index, const void *key, size_t key_len, const uint64_t *values, size_t room) {
-    return key_index_is_made(index) && (key != NULL || key_len == 0) && key_len <= PTRDIFF_MAX &&
-           (values != NULL || room == 0) && room <= PTRDIFF_MAX / sizeof *values;
+    return key_index_is_made(index) && key_index_are_passed(key, key_len, values, room);
+}
+static inline bool key_index_reader_takes(const key_index_reader *reader, const void *key, size_t key_len, const uint64_t *values,
+                                          size_t room) {
+    return key_index_reader_is_made(reader) && key_index_are_passed(key, key_len, values, room);
 }
 /* No bytes are read or written there. */
 static inline const uint8_t *key_index_bytes(const void *key) {
@@ -221,13 +276,15 @@ static inline key_index_status key_index_build(key_index *index, key_index_kind 
 
 /* Writes the values of a key to `values`, in list order, as many as there is room for, and to `count` how many the key has. If
  * that is more than `room`, ask again with more room. */
-static inline key_index_status key_index_get(key_index *index, const void *key, size_t key_len, uint64_t *values, size_t room,
+static inline key_index_status key_index_get(const key_index *index, const void *key, size_t key_len, uint64_t *values, size_t room,
                                              size_t *count) {
+    key_index copy;
     struct key_index_found found;
     if (count == NULL || !key_index_takes(index, key, key_len, values, room)) return KEY_INDEX_BAD_ARGUMENT;
-    found = key_index_c_find(index, key_index_bytes(key), key_len);
+    copy = *index;
+    found = key_index_c_find(&copy, key_index_bytes(key), key_len);
     if (found.count > 0 && room > 0) values[0] = found.first;
-    if (found.count > 1 && room > 1) key_index_c_get(index, key_index_bytes(key), key_len, values, room);
+    if (found.count > 1 && room > 1) key_index_c_get(&copy, key_index_bytes(key), key_len, values, room);
     *count = found.count;
     return KEY_INDEX_OK;
 }
@@ -235,24 +292,28 @@ static inline key_index_status key_index_get(key_index *index, const void *key, 
 /* The same of `n` keys, which stand behind one another as for key_index_insert_many: the values of the key of the number i are written
  * behind those of the keys before it, and end in front of values[stops[i]]. `count` is how many values they have in all, as far as
  * SIZE_MAX goes. KEY_INDEX_BAD_ARGUMENT: nothing was written. */
-static inline key_index_status key_index_get_many(key_index *index, const void *keys, const size_t *ends, size_t n, uint64_t *values,
-                                                  size_t room, size_t *stops, size_t *count) {
+static inline key_index_status key_index_get_many(const key_index *index, const void *keys, const size_t *ends, size_t n,
+                                                  uint64_t *values, size_t room, size_t *stops, size_t *count) {
     uint64_t none = 0;
+    key_index copy;
     struct key_index_many told;
     if (count == NULL || !key_index_is_made(index)) return KEY_INDEX_BAD_ARGUMENT;
     *count = 0;
     if (n == 0) return KEY_INDEX_OK;
     if (ends == NULL || stops == NULL || n > PTRDIFF_MAX / sizeof *values ||
         !key_index_takes(index, keys, ends[n - 1], values, room)) return KEY_INDEX_BAD_ARGUMENT;
-    told = key_index_c_get_many(index, key_index_bytes(keys), ends[n - 1], ends, n, key_index_room(values, &none), room, stops, n);
+    copy = *index;
+    told = key_index_c_get_many(&copy, key_index_bytes(keys), ends[n - 1], ends, n, key_index_room(values, &none), room, stops, n);
     *count = told.count;
     return (key_index_status)told.status;
 }
 
 /* Tells whether a key has a value. */
-static inline key_index_status key_index_contains(key_index *index, const void *key, size_t key_len, bool *held) {
+static inline key_index_status key_index_contains(const key_index *index, const void *key, size_t key_len, bool *held) {
+    key_index copy;
     if (held == NULL || !key_index_takes(index, key, key_len, NULL, 0)) return KEY_INDEX_BAD_ARGUMENT;
-    *held = key_index_c_find(index, key_index_bytes(key), key_len).count > 0;
+    copy = *index;
+    *held = key_index_c_find(&copy, key_index_bytes(key), key_len).count > 0;
     return KEY_INDEX_OK;
 }
 
@@ -286,24 +347,35 @@ static inline key_index_status key_index_keep(key_index *index, const void *key,
     return (key_index_status)key_index_c_keep(index, key_index_bytes(key), key_len, key_index_bytes(mask), mask_len);
 }
 
+/* What the three calls below make. */
+static inline struct key_index_counts key_index_counts_of(const key_index *index) {
+    const struct key_index_counts none = {0, 0, 0};
+    key_index copy;
+    if (!key_index_is_made(index)) return none;
+    copy = *index;
+    return key_index_c_counts(&copy);
+}
+
 /* How many keys there are, how many values, and how many were ever removed (that count stops at UINT64_MAX). 0 of none. */
-static inline size_t key_index_keys(key_index *index) {
-    return key_index_is_made(index) ? key_index_c_counts(index).keys : 0;
+static inline size_t key_index_keys(const key_index *index) {
+    return key_index_counts_of(index).keys;
 }
-static inline size_t key_index_items(key_index *index) {
-    return key_index_is_made(index) ? key_index_c_counts(index).items : 0;
+static inline size_t key_index_items(const key_index *index) {
+    return key_index_counts_of(index).items;
 }
-static inline uint64_t key_index_pruned(key_index *index) {
-    return key_index_is_made(index) ? key_index_c_counts(index).pruned : 0;
+static inline uint64_t key_index_pruned(const key_index *index) {
+    return key_index_counts_of(index).pruned;
 }
 
 /* What the four calls below make, by KEY_INDEX_NEXT and its sisters. */
-static inline key_index_status key_index_neighbour_of(key_index *index, uint32_t which, const void *key, size_t key_len, uint64_t *values,
-                                                   size_t room, size_t *count, bool *cycled) {
+static inline key_index_status key_index_neighbour_of(const key_index *index, uint32_t which, const void *key, size_t key_len,
+                                                      uint64_t *values, size_t room, size_t *count, bool *cycled) {
     uint64_t none = 0;
+    key_index copy;
     struct key_index_neighbour told;
     if (count == NULL || cycled == NULL || !key_index_takes(index, key, key_len, values, room)) return KEY_INDEX_BAD_ARGUMENT;
-    told = key_index_c_neighbour(index, which, key_index_bytes(key), key_len, key_index_room(values, &none), room);
+    copy = *index;
+    told = key_index_c_neighbour(&copy, which, key_index_bytes(key), key_len, key_index_room(values, &none), room);
     *count = told.count;
     *cycled = told.cycled;
     return (key_index_status)told.status;
@@ -311,23 +383,23 @@ static inline key_index_status key_index_neighbour_of(key_index *index, uint32_t
 
 /* The values of the least shortened key that is greater than that of the key; of the first one, with `cycled` true, if there is none.
  * They are written as key_index_get writes them. `count` is 0 only if the index holds no value. */
-static inline key_index_status key_index_next(key_index *index, const void *key, size_t key_len, uint64_t *values, size_t room,
+static inline key_index_status key_index_next(const key_index *index, const void *key, size_t key_len, uint64_t *values, size_t room,
                                               size_t *count, bool *cycled) {
     return key_index_neighbour_of(index, KEY_INDEX_NEXT, key, key_len, values, room, count, cycled);
 }
 
 /* The same below the key: the greatest shortened key that is less, or the last one with `cycled` true. */
-static inline key_index_status key_index_prev(key_index *index, const void *key, size_t key_len, uint64_t *values, size_t room,
+static inline key_index_status key_index_prev(const key_index *index, const void *key, size_t key_len, uint64_t *values, size_t room,
                                               size_t *count, bool *cycled) {
     return key_index_neighbour_of(index, KEY_INDEX_PREV, key, key_len, values, room, count, cycled);
 }
 
 /* The values of the least shortened key, and of the greatest. */
-static inline key_index_status key_index_first(key_index *index, uint64_t *values, size_t room, size_t *count) {
+static inline key_index_status key_index_first(const key_index *index, uint64_t *values, size_t room, size_t *count) {
     bool cycled = false;
     return key_index_neighbour_of(index, KEY_INDEX_FIRST, NULL, 0, values, room, count, &cycled);
 }
-static inline key_index_status key_index_last(key_index *index, uint64_t *values, size_t room, size_t *count) {
+static inline key_index_status key_index_last(const key_index *index, uint64_t *values, size_t room, size_t *count) {
     bool cycled = false;
     return key_index_neighbour_of(index, KEY_INDEX_LAST, NULL, 0, values, room, count, &cycled);
 }
@@ -376,17 +448,22 @@ static inline key_index_status key_index_immutable_insert(key_index_immutable *i
 
 /* Writes the positions of a key to `positions`, each once and in no particular order, as many as there is room for, and to `count` how
  * many the key has. If that is more than `room`, ask again with more room. */
-static inline key_index_status key_index_immutable_get(key_index_immutable *index, const void *key, size_t key_len,
+static inline key_index_status key_index_immutable_get(const key_index_immutable *index, const void *key, size_t key_len,
                                                        uint64_t *positions, size_t room, size_t *count) {
     uint64_t none = 0;
+    key_index copy;
     if (index == NULL || count == NULL || !key_index_takes(&index->index, key, key_len, positions, room)) return KEY_INDEX_BAD_ARGUMENT;
-    *count = key_index_c_positions(&index->index, key_index_bytes(key), key_len, key_index_room(positions, &none), room);
+    copy = index->index;
+    *count = key_index_c_positions(&copy, key_index_bytes(key), key_len, key_index_room(positions, &none), room);
     return KEY_INDEX_OK;
 }
 
 /* Whether a position is indexed. false of none. */
-static inline bool key_index_immutable_is_indexed(key_index_immutable *index, uint64_t position) {
-    return index != NULL && key_index_is_made(&index->index) && key_index_c_is_indexed(&index->index, position);
+static inline bool key_index_immutable_is_indexed(const key_index_immutable *index, uint64_t position) {
+    key_index copy;
+    if (index == NULL || !key_index_is_made(&index->index)) return false;
+    copy = index->index;
+    return key_index_c_is_indexed(&copy, position);
 }
 
 /* Removes every position below `start`, which is the start from then on; one that was passed changes nothing. It takes no memory. */
@@ -396,15 +473,246 @@ static inline key_index_status key_index_immutable_prune(key_index_immutable *in
     return KEY_INDEX_OK;
 }
 
+/* What the three calls below make. */
+static inline struct key_index_position_counts key_index_position_counts_of(const key_index_immutable *index) {
+    const struct key_index_position_counts none = {0, 0, 0};
+    key_index copy;
+    if (index == NULL || !key_index_is_made(&index->index)) return none;
+    copy = index->index;
+    return key_index_c_position_counts(&copy);
+}
+
 /* How many positions are indexed, where the index starts, and how many were ever pruned (that count stops at UINT64_MAX). 0 of none. */
-static inline size_t key_index_immutable_items(key_index_immutable *index) {
-    return index != NULL && key_index_is_made(&index->index) ? key_index_c_position_counts(&index->index).items : 0;
+static inline size_t key_index_immutable_items(const key_index_immutable *index) {
+    return key_index_position_counts_of(index).items;
 }
-static inline uint64_t key_index_immutable_start(key_index_immutable *index) {
-    return index != NULL && key_index_is_made(&index->index) ? key_index_c_position_counts(&index->index).start : 0;
+static inline uint64_t key_index_immutable_start(const key_index_immutable *index) {
+    return key_index_position_counts_of(index).start;
 }
-static inline uint64_t key_index_immutable_pruned(key_index_immutable *index) {
-    return index != NULL && key_index_is_made(&index->index) ? key_index_c_position_counts(&index->index).pruned : 0;
+static inline uint64_t key_index_immutable_pruned(const key_index_immutable *index) {
+    return key_index_position_counts_of(index).pruned;
+}
+
+/* Readers
+ *
+ * An index that is shared stays as it is, and is read by its readers, on any threads. Each reader is by itself: one thread may free its own
+ * while another one reads, and with the last reader the index is freed. The only one left can give the index back, to be changed. */
+
+/* Shares an index, which goes into a first reader; `index` is KEY_INDEX_NONE then. KEY_INDEX_MEMORY: both are what they were. */
+static inline key_index_status key_index_share(key_index *index, key_index_reader *reader) {
+    uint32_t status;
+    if (!key_index_is_made(index) || reader == NULL || reader->at != NULL) return KEY_INDEX_BAD_ARGUMENT;
+    status = key_index_c_share(index, reader);
+    if (status == KEY_INDEX_OK) index->at = NULL;
+    else reader->at = NULL;
+    return (key_index_status)status;
+}
+
+/* Gives the index back, if this is its only reader, which is KEY_INDEX_READER_NONE then. KEY_INDEX_SHARED: there are others, and both are
+ * what they were. It takes no memory. */
+static inline key_index_status key_index_unshare(key_index_reader *reader, key_index *index) {
+    uint32_t status;
+    if (!key_index_reader_is_made(reader) || index == NULL || index->at != NULL) return KEY_INDEX_BAD_ARGUMENT;
+    status = key_index_c_unshare(reader, index);
+    if (status == KEY_INDEX_OK) reader->at = NULL;
+    else index->at = NULL;
+    return (key_index_status)status;
+}
+
+/* Makes one more reader of an index. KEY_INDEX_MEMORY. */
+static inline key_index_status key_index_reader_clone(const key_index_reader *reader, key_index_reader *clone) {
+    key_index_reader copy;
+    uint32_t status;
+    if (!key_index_reader_is_made(reader) || clone == NULL || clone->at != NULL) return KEY_INDEX_BAD_ARGUMENT;
+    copy = *reader;
+    status = key_index_c_reader_clone(&copy, clone);
+    if (status != KEY_INDEX_OK) clone->at = NULL;
+    return (key_index_status)status;
+}
+
+/* Frees a reader, which is KEY_INDEX_READER_NONE then, and with the last one the index. Of null, or of none, it does nothing. */
+static inline void key_index_reader_free(key_index_reader *reader) {
+    if (!key_index_reader_is_made(reader)) return;
+    key_index_c_reader_free(reader);
+    reader->at = NULL;
+}
+
+/* The following read as the functions of an index do whose names they have. */
+static inline key_index_status key_index_reader_get(const key_index_reader *reader, const void *key, size_t key_len, uint64_t *values,
+                                                    size_t room, size_t *count) {
+    key_index_reader copy;
+    struct key_index_found found;
+    if (count == NULL || !key_index_reader_takes(reader, key, key_len, values, room)) return KEY_INDEX_BAD_ARGUMENT;
+    copy = *reader;
+    found = key_index_c_reader_find(&copy, key_index_bytes(key), key_len);
+    if (found.count > 0 && room > 0) values[0] = found.first;
+    if (found.count > 1 && room > 1) key_index_c_reader_get(&copy, key_index_bytes(key), key_len, values, room);
+    *count = found.count;
+    return KEY_INDEX_OK;
+}
+static inline key_index_status key_index_reader_get_many(const key_index_reader *reader, const void *keys, const size_t *ends, size_t n,
+                                                         uint64_t *values, size_t room, size_t *stops, size_t *count) {
+    uint64_t none = 0;
+    key_index_reader copy;
+    struct key_index_many told;
+    if (count == NULL || !key_index_reader_is_made(reader)) return KEY_INDEX_BAD_ARGUMENT;
+    *count = 0;
+    if (n == 0) return KEY_INDEX_OK;
+    if (ends == NULL || stops == NULL || n > PTRDIFF_MAX / sizeof *values ||
+        !key_index_reader_takes(reader, keys, ends[n - 1], values, room)) return KEY_INDEX_BAD_ARGUMENT;
+    copy = *reader;
+    told = key_index_c_reader_get_many(&copy, key_index_bytes(keys), ends[n - 1], ends, n, key_index_room(values, &none), room, stops, n);
+    *count = told.count;
+    return (key_index_status)told.status;
+}
+static inline key_index_status key_index_reader_contains(const key_index_reader *reader, const void *key, size_t key_len, bool *held) {
+    key_index_reader copy;
+    if (held == NULL || !key_index_reader_takes(reader, key, key_len, NULL, 0)) return KEY_INDEX_BAD_ARGUMENT;
+    copy = *reader;
+    *held = key_index_c_reader_find(&copy, key_index_bytes(key), key_len).count > 0;
+    return KEY_INDEX_OK;
+}
+static inline struct key_index_counts key_index_reader_counts_of(const key_index_reader *reader) {
+    const struct key_index_counts none = {0, 0, 0};
+    key_index_reader copy;
+    if (!key_index_reader_is_made(reader)) return none;
+    copy = *reader;
+    return key_index_c_reader_counts(&copy);
+}
+static inline size_t key_index_reader_keys(const key_index_reader *reader) {
+    return key_index_reader_counts_of(reader).keys;
+}
+static inline size_t key_index_reader_items(const key_index_reader *reader) {
+    return key_index_reader_counts_of(reader).items;
+}
+static inline uint64_t key_index_reader_pruned(const key_index_reader *reader) {
+    return key_index_reader_counts_of(reader).pruned;
+}
+static inline key_index_status key_index_reader_neighbour_of(const key_index_reader *reader, uint32_t which, const void *key,
+                                                             size_t key_len, uint64_t *values, size_t room, size_t *count,
+                                                             bool *cycled) {
+    uint64_t none = 0;
+    key_index_reader copy;
+    struct key_index_neighbour told;
+    if (count == NULL || cycled == NULL || !key_index_reader_takes(reader, key, key_len, values, room)) return KEY_INDEX_BAD_ARGUMENT;
+    copy = *reader;
+    told = key_index_c_reader_neighbour(&copy, which, key_index_bytes(key), key_len, key_index_room(values, &none), room);
+    *count = told.count;
+    *cycled = told.cycled;
+    return (key_index_status)told.status;
+}
+static inline key_index_status key_index_reader_next(const key_index_reader *reader, const void *key, size_t key_len, uint64_t *values,
+                                                     size_t room, size_t *count, bool *cycled) {
+    return key_index_reader_neighbour_of(reader, KEY_INDEX_NEXT, key, key_len, values, room, count, cycled);
+}
+static inline key_index_status key_index_reader_prev(const key_index_reader *reader, const void *key, size_t key_len, uint64_t *values,
+                                                     size_t room, size_t *count, bool *cycled) {
+    return key_index_reader_neighbour_of(reader, KEY_INDEX_PREV, key, key_len, values, room, count, cycled);
+}
+static inline key_index_status key_index_reader_first(const key_index_reader *reader, uint64_t *values, size_t room, size_t *count) {
+    bool cycled = false;
+    return key_index_reader_neighbour_of(reader, KEY_INDEX_FIRST, NULL, 0, values, room, count, &cycled);
+}
+static inline key_index_status key_index_reader_last(const key_index_reader *reader, uint64_t *values, size_t room, size_t *count) {
+    bool cycled = false;
+    return key_index_reader_neighbour_of(reader, KEY_INDEX_LAST, NULL, 0, values, room, count, &cycled);
+}
+
+/* The same for an immutable index. */
+static inline key_index_status key_index_immutable_share(key_index_immutable *index, key_index_immutable_reader *reader) {
+    return index != NULL && reader != NULL ? key_index_share(&index->index, &reader->reader) : KEY_INDEX_BAD_ARGUMENT;
+}
+static inline key_index_status key_index_immutable_unshare(key_index_immutable_reader *reader, key_index_immutable *index) {
+    return index != NULL && reader != NULL ? key_index_unshare(&reader->reader, &index->index) : KEY_INDEX_BAD_ARGUMENT;
+}
+static inline key_index_status key_index_immutable_reader_clone(const key_index_immutable_reader *reader,
+                                                                key_index_immutable_reader *clone) {
+    return reader != NULL && clone != NULL ? key_index_reader_clone(&reader->reader, &clone->reader) : KEY_INDEX_BAD_ARGUMENT;
+}
+static inline void key_index_immutable_reader_free(key_index_immutable_reader *reader) {
+    if (reader != NULL) key_index_reader_free(&reader->reader);
+}
+static inline key_index_status key_index_immutable_reader_get(const key_index_immutable_reader *reader, const void *key, size_t key_len,
+                                                              uint64_t *positions, size_t room, size_t *count) {
+    uint64_t none = 0;
+    key_index_reader copy;
+    if (reader == NULL || count == NULL || !key_index_reader_takes(&reader->reader, key, key_len, positions, room))
+        return KEY_INDEX_BAD_ARGUMENT;
+    copy = reader->reader;
+    *count = key_index_c_reader_positions(&copy, key_index_bytes(key), key_len, key_index_room(positions, &none), room);
+    return KEY_INDEX_OK;
+}
+static inline bool key_index_immutable_reader_is_indexed(const key_index_immutable_reader *reader, uint64_t position) {
+    key_index_reader copy;
+    if (reader == NULL || !key_index_reader_is_made(&reader->reader)) return false;
+    copy = reader->reader;
+    return key_index_c_reader_is_indexed(&copy, position);
+}
+static inline struct key_index_position_counts key_index_immutable_reader_counts_of(const key_index_immutable_reader *reader) {
+    const struct key_index_position_counts none = {0, 0, 0};
+    key_index_reader copy;
+    if (reader == NULL || !key_index_reader_is_made(&reader->reader)) return none;
+    copy = reader->reader;
+    return key_index_c_reader_position_counts(&copy);
+}
+static inline size_t key_index_immutable_reader_items(const key_index_immutable_reader *reader) {
+    return key_index_immutable_reader_counts_of(reader).items;
+}
+static inline uint64_t key_index_immutable_reader_start(const key_index_immutable_reader *reader) {
+    return key_index_immutable_reader_counts_of(reader).start;
+}
+static inline uint64_t key_index_immutable_reader_pruned(const key_index_immutable_reader *reader) {
+    return key_index_immutable_reader_counts_of(reader).pruned;
+}
+
+/* Ranges
+ *
+ * Threads can fill an index in partitions at once, each of them a range: some neighbouring partitions, apart from the index. Every thread
+ * goes through all records, and inserts those of its range. Then the ranges are installed in the index, one after another. */
+
+/* Makes a range with no values for `count` partitions of an index from the number `first` on. Their number is the first byte of a key, or
+ * the first byte times 256 plus the second, so there are 256 or 65,536. KEY_INDEX_MEMORY. */
+static inline key_index_status key_index_range_new(const key_index *index, key_index_range *range, size_t first, size_t count) {
+    key_index copy;
+    uint32_t status;
+    if (!key_index_is_made(index) || range == NULL || range->at != NULL) return KEY_INDEX_BAD_ARGUMENT;
+    copy = *index;
+    status = key_index_c_range(&copy, range, first, count);
+    if (status != KEY_INDEX_OK) range->at = NULL;
+    return (key_index_status)status;
+}
+
+/* Goes through `n` values as key_index_insert_many does, and inserts those whose keys are of the range's partitions. `count` is how many
+ * it went through. KEY_INDEX_MEMORY and KEY_INDEX_FULL: as many as `count` says, and the next one was refused. KEY_INDEX_BAD_ARGUMENT:
+ * none. */
+static inline key_index_status key_index_range_insert_many(key_index_range *range, const void *keys, const size_t *ends,
+                                                           const uint64_t *values, size_t n, size_t *count) {
+    struct key_index_many told;
+    if (count == NULL || range == NULL || range->at == NULL) return KEY_INDEX_BAD_ARGUMENT;
+    *count = 0;
+    if (n == 0) return KEY_INDEX_OK;
+    if (ends == NULL || values == NULL || n > PTRDIFF_MAX / sizeof *values || !key_index_are_passed(keys, ends[n - 1], NULL, 0))
+        return KEY_INDEX_BAD_ARGUMENT;
+    told = key_index_c_range_insert_many(range, key_index_bytes(keys), ends[n - 1], ends, n, values, n);
+    *count = told.count;
+    return (key_index_status)told.status;
+}
+
+/* Installs a range in an index of its kind that has no value in these partitions: what it holds is in the index, and the range is
+ * KEY_INDEX_RANGE_NONE then. KEY_INDEX_FULL. It takes no memory. */
+static inline key_index_status key_index_install(key_index *index, key_index_range *range) {
+    uint32_t status;
+    if (!key_index_is_made(index) || range == NULL || range->at == NULL) return KEY_INDEX_BAD_ARGUMENT;
+    status = key_index_c_install(index, range);
+    if (status == KEY_INDEX_OK) range->at = NULL;
+    return (key_index_status)status;
+}
+
+/* Frees a range, which is KEY_INDEX_RANGE_NONE then. Of null, or of none, it does nothing. */
+static inline void key_index_range_free(key_index_range *range) {
+    if (range == NULL || range->at == NULL) return;
+    key_index_c_range_free(range);
+    range->at = NULL;
 }
 
 #ifdef __cplusplus

@@ -167,6 +167,98 @@ static bool build(key_index_kind kind) {
     return status != KEY_INDEX_OK;
 }
 
+/* An index that is shared, with three readers: a refused call changes nothing, and leaves the index or the reader for the next try. */
+static bool share(key_index_kind kind) {
+    key_index index = KEY_INDEX_NONE;
+    key_index_reader readers[3] = {KEY_INDEX_READER_NONE, KEY_INDEX_READER_NONE, KEY_INDEX_READER_NONE};
+    key_index_status status;
+    const long number = refused;
+    uint8_t key[8] = {0};
+    uint64_t value;
+    size_t count;
+    int i;
+    memset(lens, 0, sizeof lens);
+    refused = -1;
+    CHECK(key_index_new_seeded(&index, kind, 7) == KEY_INDEX_OK);
+    for (i = 0; i < KEYS; i++) {
+        key[7] = (uint8_t)i;
+        CHECK(key_index_insert(&index, key, sizeof key, (uint64_t)i) == KEY_INDEX_OK);
+        put(kind, (size_t)i, (uint64_t)i);
+    }
+    allocations = 0;
+    refused = number;
+    for (i = 0; i < 3;) {
+        long before = allocations;
+        status = i == 0 ? key_index_share(&index, &readers[0]) : key_index_reader_clone(&readers[i - 1], &readers[i]);
+        CHECK(status == (before < refused && refused <= allocations ? KEY_INDEX_MEMORY : KEY_INDEX_OK));
+        CHECK((status == KEY_INDEX_OK) == (readers[i].at != NULL) && (index.at != NULL) == (readers[0].at == NULL));
+        if (index.at != NULL) holds(&index, kind);
+        i += status == KEY_INDEX_OK;
+    }
+    for (i = 0; i < 3; i++) {
+        long before = allocations, held = blocks;
+        CHECK(key_index_reader_get(&readers[i], key, sizeof key, &value, 1, &count) == KEY_INDEX_OK && count == 1 && value == KEYS - 1);
+        status = key_index_unshare(&readers[i], &index);
+        CHECK(status == (i < 2 ? KEY_INDEX_SHARED : KEY_INDEX_OK) && (index.at != NULL) == (i == 2) && (readers[i].at == NULL) == (i == 2));
+        key_index_reader_free(&readers[i]);
+        CHECK(readers[i].at == NULL && allocations == before && blocks < held);
+    }
+    holds(&index, kind);
+    key_index_free(&index);
+    CHECK(blocks == 0);
+    return allocations >= refused;
+}
+
+/* A range of some partitions, which takes in what it covers: behind a refused call it goes on with the next try. To install it takes no
+ * memory. */
+static bool range(key_index_kind kind) {
+    static uint8_t keys[16 * KEYS];
+    const size_t by = kind == KEY_INDEX_UNORDERED_BY_ONE || kind == KEY_INDEX_ORDERED_BY_ONE ? 1 : 256;
+    key_index index = KEY_INDEX_NONE;
+    key_index_range made = KEY_INDEX_RANGE_NONE;
+    key_index_status status;
+    uint64_t values[2 * KEYS];
+    size_t ends[2 * KEYS], gone = 0, count = 0, i;
+    const long number = refused;
+    long before;
+    memset(lens, 0, sizeof lens);
+    refused = -1;
+    CHECK(key_index_new(&index, kind) == KEY_INDEX_OK);
+    /* only the keys whose first byte is 0 are of the range, and of those lists */
+    for (i = 0; i < 2 * KEYS; i++) {
+        size_t at = i * 7 % KEYS;
+        memset(&keys[8 * i], 0, 8);
+        keys[8 * i] = i % 3 == 0;
+        keys[8 * i + 7] = (uint8_t)at;
+        ends[i] = 8 * i + 8;
+        values[i] = i + 1000;
+        if (i % 3 != 0) put(kind, at, values[i]);
+    }
+    allocations = 0;
+    refused = number;
+    do {
+        before = allocations;
+        status = key_index_range_new(&index, &made, 0, by);
+        CHECK(status == (before < refused && refused <= allocations ? KEY_INDEX_MEMORY : KEY_INDEX_OK));
+        CHECK((status == KEY_INDEX_OK) == (made.at != NULL));
+    } while (status != KEY_INDEX_OK);
+    while (gone < 2 * KEYS) {
+        size_t left[2 * KEYS];
+        for (i = gone; i < 2 * KEYS; i++) left[i] = ends[i] - 8 * gone;
+        before = allocations;
+        status = key_index_range_insert_many(&made, &keys[8 * gone], &left[gone], &values[gone], 2 * KEYS - gone, &count);
+        CHECK(status == (before < refused && refused <= allocations ? KEY_INDEX_MEMORY : KEY_INDEX_OK));
+        gone += count;
+        CHECK(status == KEY_INDEX_OK ? gone == 2 * KEYS : gone < 2 * KEYS && gone % 3 != 0);
+    }
+    before = allocations;
+    CHECK(key_index_install(&index, &made) == KEY_INDEX_OK && made.at == NULL && allocations == before);
+    holds(&index, kind);
+    key_index_free(&index);
+    CHECK(blocks == 0);
+    return allocations >= refused;
+}
+
 /* A session of an immutable index: keys by position, of which those below the start are gone. */
 static bool immutable_session(bool seeded) {
     enum { PLACES = 300, FIRST = 1000 };
@@ -231,6 +323,11 @@ int main(void) {
             if (!build((key_index_kind)kind)) break;
         }
         if (refused < 10) return 1;
+        for (refused = 1; share((key_index_kind)kind);) refused += STEP;
+        if (refused < 4) return 1;
+        if (kind < KEY_INDEX_UNORDERED_BY_ONE) continue;
+        for (refused = 1; range((key_index_kind)kind);) refused += STEP;
+        if (refused < 4) return 1;
     }
     for (kind = 0; kind < 2; kind++) {
         for (refused = 1;; refused += STEP) {

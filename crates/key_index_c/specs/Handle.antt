@@ -9,7 +9,7 @@ use base.Fml.{Fml, ftrue}
 use denote.RawPtr.{Ptr}
 use mir.Syntax.{Ty}
 
-abbrev heap : Global
+abbrev pub heap : Global
 heap = record { memory = record { seal = tt } }
 
 abbrev pub token : Ty → Ptr → Fml

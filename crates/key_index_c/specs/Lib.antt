@@ -5,5 +5,9 @@ pub mod Changes
 pub mod Handle
 pub mod Held
 pub mod Positions
+pub mod Range
+pub mod Ranges
+pub mod Reader
+pub mod Shared
 pub mod Status
 pub mod Views

@@ -103,7 +103,7 @@ pub struct Neighbour {
 #[repr(C)]
 #[derive(Drop)]
 pub struct Many {
-    /// How many were inserted, from the first one on; how many values they have.
+    /// How many were inserted, or gone through for a range, from the first one on; how many values they have.
     pub count: usize,
     /// `OK`; why the next one was refused; `BAD_ARGUMENT` if the ends are none of so many keys.
     pub status: u32,

@@ -19,6 +19,8 @@ impl Model for Handle {
     ghost also_owns = { λ handle. handle_owns handle.at handle.held };
 }
 
+unsafe impl Send for Handle {}
+
 impl Handle {
     /// Puts an index into a handle that has none.
     pub(crate) fn put(&mut self, index: Box<Any>)

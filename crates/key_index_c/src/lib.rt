@@ -1,7 +1,8 @@
 //! An index for programs in C and Rust: a static library, whose functions `include/key_index.h` declares and documents.
 //!
 //! A caller keeps a `Handle`. Each function takes the index out of it, makes one call of it, and puts it back. The clauses are what a
-//! caller owes (`requires`) and what the call leaves (`ensures`).
+//! caller owes (`requires`) and what the call leaves (`ensures`). A handle may go to another thread; threads that read an index at once
+//! have a `Reader` each, whose functions stand in `shared`. Threads that fill an index at once have a `Range` of its partitions each.
 #![tactic(auto)]
 
 ghost use Rattle.std.specs.Prelude.{◌≡◌, ◌≢◌, ◌<◌, ◌↔◌, ◌⊎◌, ◌&&◌, None, length, is_some, IsSome, IsTrue, nat_lt};
@@ -28,7 +29,10 @@ macro_rules! made {
 mod any;
 mod handle;
 mod immutable;
+mod reader;
+mod shared;
 mod status;
+mod threads;
 
 // A call of the index in a handle.
 macro_rules! call {
@@ -63,7 +67,8 @@ pub use any::{
 use any::{are_keys, no_keys};
 pub use handle::Handle;
 pub use immutable::{IMMUTABLE, IMMUTABLE_SEEDED, PositionCounts};
-pub use status::{BAD_ARGUMENT, FULL, MEMORY, OK, TOO_FAR};
+pub use reader::Reader;
+pub use status::{BAD_ARGUMENT, FULL, MEMORY, OK, SHARED, TOO_FAR};
 
 /// Makes an index of a kind. Only a seeded one takes the seed.
 #[unsafe(no_mangle)]
@@ -366,4 +371,110 @@ pub extern "C" fn key_index_c_position_counts(alloc: Global, handle: &mut Handle
     ensures counts { AreCounts (positions_in handle.old) result }
 {
     call!(handle, alloc, any => any.position_counts())
+}
+
+// Ranges.
+ghost use Rattle.std.specs.Ordering.{nat_cmp};
+ghost use Rattle.std.specs.Prelude.{◌+◌, ◌≤◌};
+ghost use Rattle.key_index_flat.specs.View as view;
+ghost use Rattle.key_index_parts.specs.Gathered.{pair_cmp};
+ghost use Rattle.key_index_c.specs.Ranges.{CanInstall, IsCoveredAt, IsNewRange, after_offers, kind_in_range, range_refusal, view_in_range, with_range};
+
+mod any_range;
+mod range;
+
+pub use any_range::AnyRange;
+pub use range::Range;
+
+/// Makes a range of an index, with no values: so many of its partitions from one on.
+#[unsafe(no_mangle)]
+pub extern "C" fn key_index_c_range(
+    alloc: Global,
+    handle: &mut Handle,
+    range: &mut Range,
+    first: usize,
+    count: usize,
+) -> u32
+    requires made { IsSome handle.old.held }
+    requires fresh { range.old.held ≡ None }
+    ensures same { Keeps handle.old handle.new }
+    ensures made { result ≡ OK → IsSome range.new.held }
+    ensures empty { result ≡ OK → IsNewRange (kind_in handle.old) (view_in handle.old) first count
+        (kind_in_range range.new) (view_in_range range.new) }
+    ensures refused { result ≢ OK → range.new.held ≡ None }
+    ensures status { (result ≡ OK) ⊎ (result ≡ range_refusal (kind_in handle.old) first count) }
+{
+    let made = call!(handle, alloc, any => any.new_range(first, count));
+    put!(range, alloc, made)
+}
+
+/// Frees a range.
+#[unsafe(no_mangle)]
+pub extern "C" fn key_index_c_range_free(alloc: Global, range: &mut Range)
+    requires made { IsSome range.old.held }
+    ensures freed { range.new.held ≡ None }
+{
+    let _ = range.take(alloc);
+}
+
+/// Goes through keys that stand behind one another, each up to its end, and inserts the values under those that the range covers, until one
+/// is refused.
+#[unsafe(no_mangle)]
+pub extern "C" fn key_index_c_range_insert_many(
+    alloc: Global,
+    range: &mut Range,
+    keys: &[u8],
+    ends: &[usize],
+    values: &[u64],
+) -> Many
+    requires made { IsSome range.old.held }
+    ensures made { IsSome range.new.held }
+    ensures kind { kind_in_range range.new ≡ kind_in_range range.old }
+    ensures inserted { view_in_range range.new ≡ after_offers (pair_cmp nat_cmp) (inserts_first (kind_in_range range.old))
+        (view_in_range range.old) keys.now ends.now values.now result.count }
+    ensures keys { AreKeys keys.now ends.now (length values.now) → result.status ≢ BAD_ARGUMENT }
+    ensures taken { result.status ≢ BAD_ARGUMENT → AreKeys keys.now ends.now (length values.now) }
+    ensures unkeyed { result.status ≡ BAD_ARGUMENT → result.count ≡ 0 }
+    ensures whole { result.status ≡ OK → result.count ≡ length values.now }
+    ensures refused { (result.status ≡ OK) ⊎ (result.status ≡ BAD_ARGUMENT)
+        ⊎ IsCoveredAt (view_in_range range.old) keys.now ends.now result.count }
+    ensures status { (result.status ≡ OK) ⊎ (result.status ≡ BAD_ARGUMENT)
+        ⊎ (result.status ≡ status_of (view.growth_fault_in (view_in_range range.new))) }
+{
+    if !are_keys(keys, ends, values.len()) {
+        return no_keys();
+    }
+    call!(range, alloc, any => any.insert_many(keys, ends, values))
+}
+
+/// Installs a range in an index of its kind, whose partitions have no values there: what the range holds is in the index, and its handle has
+/// none. A refused range stays.
+#[unsafe(no_mangle)]
+pub extern "C" fn key_index_c_install(alloc: Global, handle: &mut Handle, range: &mut Range) -> u32
+    requires index { IsSome handle.old.held }
+    requires range { IsSome range.old.held }
+    ensures made { StaysMade handle.old handle.new }
+    ensures installed { result ≡ OK → view_in handle.new ≡ with_range (view_in handle.old) (view_in_range range.old) }
+    ensures gone { result ≡ OK → range.new.held ≡ None }
+    ensures refused { result ≢ OK → Keeps handle.old handle.new × (range.new.held ≡ range.old.held) }
+    ensures free { result ≢ BAD_ARGUMENT
+        → CanInstall (kind_in handle.old) (view_in handle.old) (kind_in_range range.old) (view_in_range range.old) }
+    ensures taken { CanInstall (kind_in handle.old) (view_in handle.old) (kind_in_range range.old) (view_in_range range.old)
+        → result ≢ BAD_ARGUMENT }
+    ensures room { result ≡ OK
+        → items_in (view_in handle.old) + view.items_in (view_in_range range.old) ≤ usize.MAX }
+    ensures full { result ≡ FULL
+        → usize.MAX < items_in (view_in handle.old) + view.items_in (view_in_range range.old) }
+    ensures status { (result ≡ OK) ⊎ (result ≡ FULL) ⊎ (result ≡ BAD_ARGUMENT) }
+{
+    let mut any = handle.take(alloc);
+    let held = range.take(alloc);
+    let status = any.can_install(&held);
+    if status == OK {
+        any.install(Box::into_inner(held));
+    } else {
+        range.put(held);
+    }
+    handle.put(any);
+    status
 }

@@ -15,6 +15,9 @@ pub const TOO_FAR: u32 = 3;
 /// An argument is none that the call takes.
 pub const BAD_ARGUMENT: u32 = 4;
 
+/// There are other readers.
+pub const SHARED: u32 = 5;
+
 /// The status that tells a fault.
 pub(crate) fn of(fault: Fault) -> u32
     ensures { result ≡ status_of fault }

@@ -4,7 +4,22 @@ use std::ffi::c_void;
 
 /// One pointer: an index, or null.
 #[repr(C)]
+#[derive(Clone, Copy)]
 pub struct Handle {
+    pub at: *mut c_void,
+}
+
+/// One pointer: a reader of an index that is shared, or null.
+#[repr(C)]
+#[derive(Clone, Copy)]
+pub struct Reader {
+    pub at: *mut c_void,
+}
+
+/// One pointer: a range of an index, or null.
+#[repr(C)]
+#[derive(Clone, Copy)]
+pub struct Range {
     pub at: *mut c_void,
 }
 
@@ -71,8 +86,10 @@ pub const PREV: u32 = 1;
 pub const FIRST: u32 = 2;
 pub const LAST: u32 = 3;
 
-/// An index, and a key's bytes.
+/// An index, a reader, a range, and a key's bytes.
 type At = *mut Handle;
+type ReaderAt = *mut Reader;
+type RangeAt = *mut Range;
 type Key = *const u8;
 
 // Each pointer but a handle's goes with the length behind it. A line each, as in the header.
@@ -100,4 +117,20 @@ extern "C" {
     pub fn key_index_c_is_indexed(at: At, position: u64) -> bool;
     pub fn key_index_c_prune(at: At, start: u64);
     pub fn key_index_c_position_counts(at: At) -> PositionCounts;
+    pub fn key_index_c_share(at: At, reader: ReaderAt) -> u32;
+    pub fn key_index_c_unshare(reader: ReaderAt, at: At) -> u32;
+    pub fn key_index_c_reader_clone(reader: ReaderAt, clone: ReaderAt) -> u32;
+    pub fn key_index_c_reader_free(reader: ReaderAt);
+    pub fn key_index_c_reader_get(reader: ReaderAt, key: Key, len: usize, values: *mut u64, room: usize) -> usize;
+    pub fn key_index_c_reader_get_many(reader: ReaderAt, keys: Key, len: usize, ends: *const usize, n: usize, values: *mut u64, room: usize, stops: *mut usize, n_again: usize) -> Many;
+    pub fn key_index_c_reader_find(reader: ReaderAt, key: Key, len: usize) -> Found;
+    pub fn key_index_c_reader_counts(reader: ReaderAt) -> Counts;
+    pub fn key_index_c_reader_neighbour(reader: ReaderAt, which: u32, key: Key, len: usize, values: *mut u64, room: usize) -> Neighbour;
+    pub fn key_index_c_reader_positions(reader: ReaderAt, key: Key, len: usize, positions: *mut u64, room: usize) -> usize;
+    pub fn key_index_c_reader_is_indexed(reader: ReaderAt, position: u64) -> bool;
+    pub fn key_index_c_reader_position_counts(reader: ReaderAt) -> PositionCounts;
+    pub fn key_index_c_range(at: At, range: RangeAt, first: usize, count: usize) -> u32;
+    pub fn key_index_c_range_insert_many(range: RangeAt, keys: Key, len: usize, ends: *const usize, n: usize, values: *const u64, n_again: usize) -> Many;
+    pub fn key_index_c_install(at: At, range: RangeAt) -> u32;
+    pub fn key_index_c_range_free(range: RangeAt);
 }

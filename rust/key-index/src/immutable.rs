@@ -1,7 +1,8 @@
 //! The immutable index.
 
-use crate::ffi::{self, PositionCounts};
+use crate::ffi::{self, Handle, PositionCounts};
 use crate::owned::Owned;
+use crate::reads::reads_of_positions;
 use crate::values::written;
 use crate::{answer, Error, Values};
 use std::fmt;
@@ -26,8 +27,10 @@ use std::fmt;
 /// # }
 /// ```
 pub struct Immutable {
-    owned: Owned,
+    pub(crate) owned: Owned<Handle>,
 }
+
+reads_of_positions! { Immutable: key_index_c_positions key_index_c_is_indexed key_index_c_position_counts }
 
 impl Immutable {
     /// An index with no positions, from a start on, with room for so many insertions in order. A search begins where the last of a key's
@@ -74,59 +77,9 @@ impl Immutable {
         }
     }
 
-    /// The positions of a key, each once and in no particular order.
-    #[must_use]
-    pub fn get(&self, key: &[u8]) -> Values {
-        let (at, key, len) = (self.owned.at(), key.as_ptr(), key.len());
-        written(|positions, room| {
-            // SAFETY: the key and the room for positions go with their lengths.
-            unsafe { ffi::key_index_c_positions(at, key, len, positions, room) }
-        })
-    }
-
-    /// Whether a position is indexed.
-    #[must_use]
-    pub fn is_indexed(&self, position: u64) -> bool {
-        // SAFETY: as above.
-        unsafe { ffi::key_index_c_is_indexed(self.owned.at(), position) }
-    }
-
     /// Removes every position below one, which is the start from then on; a start that was passed changes nothing. It takes no memory.
     pub fn prune(&mut self, start: u64) {
         // SAFETY: as above.
         unsafe { ffi::key_index_c_prune(self.owned.at(), start) }
-    }
-
-    fn counts(&self) -> PositionCounts {
-        // SAFETY: as above.
-        unsafe { ffi::key_index_c_position_counts(self.owned.at()) }
-    }
-
-    /// How many positions are indexed.
-    #[must_use]
-    pub fn items(&self) -> usize {
-        self.counts().items
-    }
-
-    /// Positions below this were pruned, or never indexed.
-    #[must_use]
-    pub fn start(&self) -> u64 {
-        self.counts().start
-    }
-
-    /// How many positions were ever pruned. The count stops at `u64::MAX`.
-    #[must_use]
-    pub fn pruned(&self) -> u64 {
-        self.counts().pruned
-    }
-}
-
-impl fmt::Debug for Immutable {
-    fn fmt(&self, f: &mut fmt::Formatter<'_>) -> fmt::Result {
-        f.debug_struct("Immutable")
-            .field("items", &self.items())
-            .field("start", &self.start())
-            .field("pruned", &self.pruned())
-            .finish_non_exhaustive()
     }
 }

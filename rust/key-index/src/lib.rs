@@ -21,9 +21,65 @@
 //! # }
 //! ```
 //!
+//! # Threads
+//!
+//! Any number of threads may read an index at once, by `&self`. A call that changes it, by `&mut self`, is alone with it: made under a lock,
+//!
+//! ```
+//! use key_index::{Error, Index, Unordered};
+//! use std::sync::{Arc, RwLock};
+//! use std::thread;
+//!
+//! # fn main() -> Result<(), Error> {
+//! let index = Arc::new(RwLock::new(Index::<Unordered>::new()?));
+//! let writer = Arc::clone(&index);
+//! let inserted = thread::spawn(move || writer.write().unwrap().insert(b"apple", 1));
+//! inserted.join().unwrap()?;
+//! assert!(index.read().unwrap().get(b"apple").eq([1]));
+//! # Ok(())
+//! # }
+//! ```
+//!
+//! by a thread that owns the index, to which others send what is to be done (below), or not made while the index has readers on several
+//! threads ([`Shared`]). [`Index::build_in_ranges`] builds an index by several threads at once.
+//!
+//! ```
+//! use key_index::{Error, Index, Ordered, Values};
+//! use std::sync::mpsc::{channel, Sender};
+//! use std::thread;
+//!
+//! enum Call {
+//!     Insert(Vec<u8>, u64),
+//!     Get(Vec<u8>, Sender<Values>),
+//! }
+//!
+//! # fn main() -> Result<(), Error> {
+//! let mut index = Index::<Ordered>::new()?;
+//! let (sender, calls) = channel();
+//! let owner = thread::spawn(move || -> Result<Index<Ordered>, Error> {
+//!     for call in calls {
+//!         match call {
+//!             Call::Insert(key, value) => index.insert(&key, value)?,
+//!             Call::Get(key, answer) => answer.send(index.get(&key)).unwrap(),
+//!         }
+//!     }
+//!     Ok(index)
+//! });
+//! let (answer, answers) = channel();
+//! sender.send(Call::Insert(b"apple".to_vec(), 1)).unwrap();
+//! sender.send(Call::Get(b"apple".to_vec(), answer)).unwrap();
+//! assert!(answers.recv().unwrap().eq([1]));
+//! drop(sender);
+//! assert_eq!(owner.join().unwrap()?.items(), 1);
+//! # Ok(())
+//! # }
+//! ```
+//!
+//! # What is proved
+//!
 //! What is proved is the contract of each function that this crate calls, for callers that keep its conditions. This crate keeps them:
-//! an index is made by its `new` and freed once, a call has it alone, and a pointer goes with its own length. Nobody checks that
-//! the declarations in `ffi.rs` agree with the library's; a test compares sizes, and makes each call.
+//! an index is made by its `new` and freed once, a call that changes it has it alone, and a pointer goes with its own length. Nobody checks
+//! that the declarations in `ffi.rs` agree with the library's; a test compares sizes, and makes each call.
 
 #![warn(clippy::pedantic)]
 
@@ -35,11 +91,16 @@ struct Page;
 mod ffi;
 mod immutable;
 mod owned;
+mod ranges;
+mod reads;
+mod shared;
 mod values;
 
-use ffi::{Counts, Found};
+use ffi::{Counts, Found, Handle};
 pub use immutable::Immutable;
 use owned::Owned;
+use reads::reads;
+pub use shared::{Shared, SharedImmutable};
 use std::fmt;
 use std::marker::PhantomData;
 use values::written;
@@ -93,10 +154,13 @@ mod sealed {
 }
 
 /// A kind of index.
-pub trait Kind: sealed::Sealed {}
+pub trait Kind: sealed::Sealed + Send + Sync + 'static {}
 
 /// A kind that takes no seed.
 pub trait Unseeded: Kind {}
+
+/// A kind in partitions.
+pub trait Partitioned: Unseeded {}
 
 /// A kind with the next and the previous key.
 pub trait Neighbours: Kind {}
@@ -118,22 +182,36 @@ kinds! {
     "A hashed map: the fastest look-ups." Unordered = UNORDERED: Unseeded;
     "A tree, with the next and the previous key." Ordered = ORDERED: Unseeded Neighbours;
     "A hashed map by a SHA-256 of whole keys and a secret seed, for keys that an attacker picks." Seeded = SEEDED:;
-    "A hashed map for each first byte, by the eight bytes behind it. Empty it takes 18 KiB." UnorderedByOne = UNORDERED_BY_ONE: Unseeded;
-    "The same for each two first bytes. Empty it takes 4.5 MiB." UnorderedByTwo = UNORDERED_BY_TWO: Unseeded;
+    "A hashed map for each first byte, by the eight bytes behind it. Empty it takes 18 KiB." UnorderedByOne = UNORDERED_BY_ONE: Unseeded Partitioned;
+    "The same for each two first bytes. Empty it takes 4.5 MiB." UnorderedByTwo = UNORDERED_BY_TWO: Unseeded Partitioned;
     "Sorted arrays or a tree for each first byte, by the eight bytes behind it. The oldest value of a key comes first. Empty it takes 16 KiB."
-    OrderedByOne = ORDERED_BY_ONE: Unseeded Neighbours;
-    "The same for each two first bytes. Empty it takes 4 MiB." OrderedByTwo = ORDERED_BY_TWO: Unseeded Neighbours;
+    OrderedByOne = ORDERED_BY_ONE: Unseeded Partitioned Neighbours;
+    "The same for each two first bytes. Empty it takes 4 MiB." OrderedByTwo = ORDERED_BY_TWO: Unseeded Partitioned Neighbours;
 }
 
-/// An index from the first eight bytes of keys, or of their hashes, to lists of values. It stays on the thread that made it.
+/// An index from the first eight bytes of keys, or of their hashes, to lists of values. Any number of threads may read it at once.
 ///
-/// ```compile_fail
-/// let index = key_index::Index::<key_index::Unordered>::new().unwrap();
-/// std::thread::spawn(move || index.keys());
+/// ```
+/// # fn main() -> Result<(), key_index::Error> {
+/// let mut index = key_index::Index::<key_index::Unordered>::new()?;
+/// index.insert(b"apple", 1)?;
+/// std::thread::scope(|scope| {
+///     for _ in 0..2 {
+///         scope.spawn(|| assert!(index.get(b"apple").eq([1])));
+///     }
+/// });
+/// let keys = std::thread::spawn(move || index.keys()).join().unwrap();
+/// assert_eq!(keys, 1);
+/// # Ok(())
+/// # }
 /// ```
 pub struct Index<K: Kind> {
-    owned: Owned,
+    owned: Owned<Handle>,
     kind: PhantomData<K>,
+}
+
+reads! {
+    Index: key_index_c_find key_index_c_get key_index_c_get_many key_index_c_counts key_index_c_neighbour
 }
 
 impl<K: Unseeded> Index<K> {
@@ -211,81 +289,6 @@ impl<K: Kind> Index<K> {
         answer(told.status).map_err(|error| (told.count, error))
     }
 
-    #[inline]
-    fn find(&self, key: &[u8]) -> Found {
-        // SAFETY: the key goes with its length.
-        unsafe { ffi::key_index_c_find(self.owned.at(), key.as_ptr(), key.len()) }
-    }
-
-    /// The values of a key, in list order.
-    #[inline]
-    #[must_use]
-    pub fn get(&self, key: &[u8]) -> Values {
-        let found = self.find(key);
-        if found.count < 2 {
-            return Values::at_most_one(found.first, found.count);
-        }
-        self.several(key)
-    }
-
-    #[cold]
-    fn several(&self, key: &[u8]) -> Values {
-        written(|values, room| {
-            // SAFETY: the key and the room for values go with their lengths.
-            unsafe { ffi::key_index_c_get(self.owned.at(), key.as_ptr(), key.len(), values, room) }
-        })
-    }
-
-    /// Writes the values of many keys to `values`, those of a key behind those of the key before it, and to `stops` where those of each key
-    /// end. The keys stand behind one another in `keys`, each up to its end.
-    ///
-    /// # Errors
-    ///
-    /// [`Error::Ends`] if `ends` falls somewhere or goes past `keys`. Both vectors are empty then.
-    pub fn get_many(
-        &self,
-        keys: &[u8],
-        ends: &[usize],
-        values: &mut Vec<u64>,
-        stops: &mut Vec<usize>,
-    ) -> Result<(), Error> {
-        stops.clear();
-        stops.resize(ends.len(), 0);
-        values.resize(values.capacity().max(ends.len()), 0);
-        loop {
-            // SAFETY: keys, ends, values and stops go with their lengths.
-            let told = unsafe {
-                ffi::key_index_c_get_many(
-                    self.owned.at(),
-                    keys.as_ptr(),
-                    keys.len(),
-                    ends.as_ptr(),
-                    ends.len(),
-                    values.as_mut_ptr(),
-                    values.len(),
-                    stops.as_mut_ptr(),
-                    stops.len(),
-                )
-            };
-            let all_written = told.count <= values.len();
-            values.resize(told.count, 0);
-            if let Err(error) = answer(told.status) {
-                stops.clear();
-                return Err(error);
-            }
-            if all_written {
-                return Ok(());
-            }
-        }
-    }
-
-    /// Whether a key has a value.
-    #[inline]
-    #[must_use]
-    pub fn contains(&self, key: &[u8]) -> bool {
-        self.find(key).count > 0
-    }
-
     /// Removes a key with all its values.
     ///
     /// # Errors
@@ -329,85 +332,5 @@ impl<K: Kind> Index<K> {
         answer(unsafe {
             ffi::key_index_c_keep(at, key.as_ptr(), key.len(), mask.as_ptr(), mask.len())
         })
-    }
-
-    fn counts(&self) -> Counts {
-        // SAFETY: as above.
-        unsafe { ffi::key_index_c_counts(self.owned.at()) }
-    }
-
-    /// How many shortened keys there are.
-    #[must_use]
-    pub fn keys(&self) -> usize {
-        self.counts().keys
-    }
-
-    /// How many values there are.
-    #[must_use]
-    pub fn items(&self) -> usize {
-        self.counts().items
-    }
-
-    /// How many values were ever removed. The count stops at `u64::MAX`.
-    #[must_use]
-    pub fn pruned(&self) -> u64 {
-        self.counts().pruned
-    }
-
-    /// Whether there is no value.
-    #[must_use]
-    pub fn is_empty(&self) -> bool {
-        self.keys() == 0
-    }
-}
-
-impl<K: Neighbours> Index<K> {
-    /// The values of the least shortened key that is greater than that of the key, and false; if there is none, those of the first one, and
-    /// true. `None` exactly if the index is empty.
-    #[must_use]
-    pub fn next_translated_key(&self, key: &[u8]) -> Option<(Values, bool)> {
-        self.neighbour(ffi::NEXT, key)
-    }
-
-    /// The values of the greatest shortened key that is less than that of the key, and false; if there is none, those of the last one, and
-    /// true. `None` exactly if the index is empty.
-    #[must_use]
-    pub fn prev_translated_key(&self, key: &[u8]) -> Option<(Values, bool)> {
-        self.neighbour(ffi::PREV, key)
-    }
-
-    /// The values of the least shortened key. `None` exactly if the index is empty.
-    #[must_use]
-    pub fn first_translated_key(&self) -> Option<Values> {
-        self.neighbour(ffi::FIRST, b"").map(|(values, _)| values)
-    }
-
-    /// The values of the greatest shortened key. `None` exactly if the index is empty.
-    #[must_use]
-    pub fn last_translated_key(&self) -> Option<Values> {
-        self.neighbour(ffi::LAST, b"").map(|(values, _)| values)
-    }
-
-    /// The values of a neighbour, and whether it was found around the end. No list is empty.
-    fn neighbour(&self, which: u32, key: &[u8]) -> Option<(Values, bool)> {
-        let (at, key, len) = (self.owned.at(), key.as_ptr(), key.len());
-        let mut cycled = false;
-        let values = written(|values, room| {
-            // SAFETY: the key and the room for values go with their lengths.
-            let told = unsafe { ffi::key_index_c_neighbour(at, which, key, len, values, room) };
-            cycled = told.cycled;
-            told.count
-        });
-        (values.len() > 0).then_some((values, cycled))
-    }
-}
-
-impl<K: Kind> fmt::Debug for Index<K> {
-    fn fmt(&self, f: &mut fmt::Formatter<'_>) -> fmt::Result {
-        f.debug_struct("Index")
-            .field("keys", &self.keys())
-            .field("items", &self.items())
-            .field("pruned", &self.pruned())
-            .finish_non_exhaustive()
     }
 }

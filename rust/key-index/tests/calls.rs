@@ -1,213 +1,49 @@
 //! Each call beside a `BTreeMap` of lists.
 
-use key_index::{Error, Immutable, Index, Kind, Neighbours, Values};
+#[allow(dead_code)]
+mod lists;
+
+use key_index::{Error, Immutable, Index};
 use key_index::{Ordered, OrderedByOne, OrderedByTwo, Seeded};
 use key_index::{Unordered, UnorderedByOne, UnorderedByTwo};
+use lists::{padded, some_key, Listed, Lists, Random};
 use std::collections::BTreeMap;
 
-/// Marsaglia's xorshift.
-struct Random(u64);
-
-impl Random {
-    fn below(&mut self, bound: u64) -> u64 {
-        self.0 ^= self.0 << 13;
-        self.0 ^= self.0 >> 7;
-        self.0 ^= self.0 << 17;
-        (self.0 >> 8) % bound
-    }
-}
-
-type Lists = BTreeMap<Vec<u8>, Vec<u64>>;
-
-/// A key of up to ten bytes of few values.
-fn some_key(random: &mut Random) -> Vec<u8> {
-    let len = random.below(11);
-    (0..len)
-        .map(|place| if place < 5 { 7 } else { random.below(4) as u8 })
-        .collect()
-}
-
-/// Makes random calls, each compared with the lists, where `group` tells which keys share one; `also` compares what the kind alone
-/// answers.
-fn session<K: Kind>(
-    mut index: Index<K>,
-    calls: u32,
-    seed: u64,
-    group: fn(&[u8]) -> Vec<u8>,
-    first: bool,
-    also: impl Fn(&Index<K>, &Lists, &[u8]),
-) -> Result<(), Error> {
-    let add = |list: &mut Vec<u64>, value| list.insert(if first { 0 } else { list.len() }, value);
+/// Makes random calls, each compared with the lists.
+fn session<K: Listed>(calls: u32, seed: u64) -> Result<(), Error> {
     let mut random = Random(seed);
-    let mut lists = Lists::new();
-    let mut pruned = 0;
+    let (mut index, mut lists) = (K::made()?, Lists::<K>::new());
     for call in 0..calls {
-        let key = some_key(&mut random);
-        let short = group(&key);
-        let value = random.below(50);
-        match random.below(11) {
-            0 if call % 7 == 0 => {
-                index.remove(&key)?;
-                pruned += lists.remove(&short).map_or(0, |list| list.len() as u64);
-            }
-            1 | 2 => {
-                let place = lists
-                    .get(&short)
-                    .and_then(|list| list.iter().position(|held| *held == value));
-                assert_eq!(index.remove_value(&key, value), place.is_some());
-                if let Some(place) = place {
-                    let list = lists.get_mut(&short).unwrap();
-                    list.remove(place);
-                    pruned += 1;
-                    if list.is_empty() {
-                        lists.remove(&short);
-                    }
-                }
-            }
-            3 => {
-                let place = lists
-                    .get(&short)
-                    .and_then(|list| list.iter().position(|held| *held == value));
-                assert_eq!(
-                    index.replace_value(&key, value, value + 100),
-                    place.is_some()
-                );
-                if let Some(place) = place {
-                    lists.get_mut(&short).unwrap()[place] = value + 100;
-                }
-            }
-            5 => {
-                let mut shown = Vec::new();
-                index.retain(&key, |held| {
-                    shown.push(held);
-                    held % 3 != value % 3
-                })?;
-                let list = lists.remove(&short).unwrap_or_default();
-                assert_eq!(shown, list);
-                let kept: Vec<u64> = list
-                    .iter()
-                    .copied()
-                    .filter(|held| held % 3 != value % 3)
-                    .collect();
-                pruned += (list.len() - kept.len()) as u64;
-                if !kept.is_empty() {
-                    lists.insert(short, kept);
-                }
-            }
-            4 => {
-                // The key, its front, and the key once more.
-                let keys = [&key[..], &key[..key.len() / 2], &key].concat();
-                let ends = [key.len(), key.len() + key.len() / 2, keys.len()];
-                index
-                    .insert_many(&keys, &ends, &[value, value + 1, value + 2])
-                    .map_err(|(_, error)| error)?;
-                for (end, value) in [
-                    (key.len(), value),
-                    (key.len() / 2, value + 1),
-                    (key.len(), value + 2),
-                ] {
-                    add(lists.entry(group(&key[..end])).or_default(), value);
-                }
-            }
-            _ => {
-                index.insert(&key, value)?;
-                add(lists.entry(short).or_default(), value);
-            }
-        }
-        let asked = some_key(&mut random);
-        let list = lists.get(&group(&asked)).map_or(&[][..], Vec::as_slice);
-        assert_eq!(index.get(&asked).as_slice(), list);
-        assert_eq!(index.contains(&asked), !list.is_empty());
-        let (mut values, mut stops) = (Vec::new(), Vec::new());
-        let keys = [&asked[..], &key].concat();
-        index.get_many(&keys, &[asked.len(), keys.len()], &mut values, &mut stops)?;
-        let other = lists.get(&group(&key)).map_or(&[][..], Vec::as_slice);
-        assert_eq!(stops, [list.len(), list.len() + other.len()]);
-        assert_eq!(values, [list, other].concat());
+        lists.change(&mut index, &mut random)?;
+        lists.compare(&index, &mut random)?;
         if call % 100 == 0 {
-            assert_eq!(index.keys(), lists.len());
-            assert_eq!(index.items(), lists.values().map(Vec::len).sum());
-            assert_eq!(index.is_empty(), lists.is_empty());
-            assert_eq!(index.pruned(), pruned);
+            lists.compare_counts(&index);
         }
-        also(&index, &lists, &asked);
     }
     Ok(())
 }
 
-/// The first so many bytes of a key, with zeros behind a shorter one.
-fn padded<const N: usize>(key: &[u8]) -> Vec<u8> {
-    let mut short = key[..key.len().min(N)].to_vec();
-    short.resize(N, 0);
-    short
-}
-
-/// What an ordered index answers of the neighbours of a key.
-fn neighbours<K: Neighbours, const N: usize>(index: &Index<K>, lists: &Lists, key: &[u8]) {
-    let short = padded::<N>(key);
-    let above = lists
-        .range(short.clone()..)
-        .find(|(held, _)| **held > short);
-    let next = above
-        .map(|at| (at, false))
-        .or(lists.iter().next().map(|at| (at, true)));
-    let below = lists.range(..short).next_back();
-    let prev = below
-        .map(|at| (at, false))
-        .or(lists.iter().next_back().map(|at| (at, true)));
-    for (found, wanted) in [
-        (index.next_translated_key(key), next),
-        (index.prev_translated_key(key), prev),
-    ] {
-        assert_eq!(
-            found
-                .as_ref()
-                .map(|(values, cycled)| (values.as_slice(), *cycled)),
-            wanted.map(|((_, list), cycled)| (list.as_slice(), cycled))
-        );
-    }
-    let ends = [
-        (index.first_translated_key(), lists.values().next()),
-        (index.last_translated_key(), lists.values().next_back()),
-    ];
-    for (found, wanted) in ends {
-        assert_eq!(
-            found.as_ref().map(Values::as_slice),
-            wanted.map(Vec::as_slice)
-        );
-    }
-}
-
 #[test]
 fn unordered_beside_lists() -> Result<(), Error> {
-    let index = Index::<Unordered>::new()?;
-    session(index, 60_000, 1, padded::<8>, true, |_, _, _| ())
+    session::<Unordered>(60_000, 1)
 }
 
-// Whole keys differ in their hashes.
 #[test]
 fn seeded_beside_lists() -> Result<(), Error> {
-    let index = Index::<Seeded>::with_seed(0x5eed)?;
-    session(index, 60_000, 3, <[u8]>::to_vec, true, |_, _, _| ())
+    session::<Seeded>(60_000, 3)
 }
 
 #[test]
 fn ordered_beside_lists() -> Result<(), Error> {
-    let index = Index::<Ordered>::new()?;
-    session(index, 60_000, 2, padded::<8>, true, neighbours::<_, 8>)
+    session::<Ordered>(60_000, 2)
 }
 
-// A byte or two pick the partition, and eight more are the index key there.
 #[test]
 fn partitioned_beside_lists() -> Result<(), Error> {
-    let index = Index::<UnorderedByOne>::new()?;
-    session(index, 30_000, 4, padded::<9>, true, |_, _, _| ())?;
-    let index = Index::<UnorderedByTwo>::new()?;
-    session(index, 30_000, 5, padded::<10>, true, |_, _, _| ())?;
-    let index = Index::<OrderedByOne>::new()?;
-    session(index, 30_000, 6, padded::<9>, false, neighbours::<_, 9>)?;
-    let index = Index::<OrderedByTwo>::new()?;
-    session(index, 30_000, 7, padded::<10>, false, neighbours::<_, 10>)
+    session::<UnorderedByOne>(30_000, 4)?;
+    session::<UnorderedByTwo>(30_000, 5)?;
+    session::<OrderedByOne>(30_000, 6)?;
+    session::<OrderedByTwo>(30_000, 7)
 }
 
 /// Inserts random keys at positions about the start, and prunes, where `group` tells which keys share an index key.

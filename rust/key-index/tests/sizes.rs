@@ -4,12 +4,14 @@
 #[path = "../src/ffi.rs"]
 mod ffi;
 
-use ffi::{Counts, Found, Handle, Many, Neighbour, PositionCounts};
+use ffi::{Counts, Found, Handle, Many, Neighbour, PositionCounts, Range, Reader};
 use std::mem::{align_of, offset_of, size_of};
 
 #[test]
 fn the_declared_types_have_the_sizes_of_c() {
     assert_eq!((size_of::<Handle>(), align_of::<Handle>()), (8, 8));
+    assert_eq!((size_of::<Reader>(), align_of::<Reader>()), (8, 8));
+    assert_eq!((size_of::<Range>(), align_of::<Range>()), (8, 8));
     assert_eq!((size_of::<Found>(), align_of::<Found>()), (16, 8));
     assert_eq!((offset_of!(Found, count), offset_of!(Found, first)), (0, 8));
     assert_eq!((size_of::<Neighbour>(), align_of::<Neighbour>()), (16, 8));
