@@ -430,7 +430,8 @@ pub extern "C" fn key_index_c_range_insert_many(
     requires made { IsSome range.old.held }
     ensures made { IsSome range.new.held }
     ensures kind { kind_in_range range.new ≡ kind_in_range range.old }
-    ensures inserted { view_in_range range.new ≡ after_offers (pair_cmp nat_cmp) (inserts_first (kind_in_range range.old))
+    ensures inserted { view_in_range range.new
+        ≡ after_offers (pair_cmp nat_cmp) (inserts_first (kind_in_range range.old))
         (view_in_range range.old) keys.now ends.now values.now result.count }
     ensures keys { AreKeys keys.now ends.now (length values.now) → result.status ≢ BAD_ARGUMENT }
     ensures taken { result.status ≢ BAD_ARGUMENT → AreKeys keys.now ends.now (length values.now) }
@@ -457,10 +458,10 @@ pub extern "C" fn key_index_c_install(alloc: Global, handle: &mut Handle, range:
     ensures installed { result ≡ OK → view_in handle.new ≡ with_range (view_in handle.old) (view_in_range range.old) }
     ensures gone { result ≡ OK → range.new.held ≡ None }
     ensures refused { result ≢ OK → Keeps handle.old handle.new × (range.new.held ≡ range.old.held) }
-    ensures free { result ≢ BAD_ARGUMENT
-        → CanInstall (kind_in handle.old) (view_in handle.old) (kind_in_range range.old) (view_in_range range.old) }
-    ensures taken { CanInstall (kind_in handle.old) (view_in handle.old) (kind_in_range range.old) (view_in_range range.old)
-        → result ≢ BAD_ARGUMENT }
+    ensures free { result ≢ BAD_ARGUMENT → CanInstall (kind_in handle.old) (view_in handle.old)
+        (kind_in_range range.old) (view_in_range range.old) }
+    ensures taken { CanInstall (kind_in handle.old) (view_in handle.old)
+        (kind_in_range range.old) (view_in_range range.old) → result ≢ BAD_ARGUMENT }
     ensures room { result ≡ OK
         → items_in (view_in handle.old) + view.items_in (view_in_range range.old) ≤ usize.MAX }
     ensures full { result ≡ FULL
