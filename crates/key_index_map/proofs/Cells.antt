@@ -8,11 +8,11 @@ use Rattle.std.proofs.Common.{◌≡◌, ◌≢◌, ℕ, ◌+◌, ◌*◌, ◌<�
 use Rattle.std.specs.Cmp.{IsEquivalence}
 use Rattle.std.specs.List.Sorted.{IsPermutation}
 use Rattle.std.specs.Map.{lookup}
-use Rattle.std.proofs.lemmas.Bool.{cases_eq}
+use Rattle.std.proofs.lemmas.Bool.{cases_eq, le-leb, lt-leb}
 use Rattle.std.proofs.lemmas.List.{get_or-set_same, get_or-set_other, length-set}
 use Rattle.std.proofs.lemmas.List.Sorted.{IsPermutation-sym, length_permutation}
 use Rattle.std.proofs.lemmas.Option.{slice_get_within, slice_get-get_or}
-use Rattle.key_index_map.specs.Table.{AreCells, IsFull, Reaches, Updates, hash_of, tag_of, home, held}
+use Rattle.key_index_map.specs.Table.{AreCells, IsFull, Reaches, Updates, hash_of, tag_of, home, held, is_held}
 use Rattle.key_index_map.proofs.Between.{Changed, come, go, turn, found}
 use Rattle.key_index_map.proofs.Held.{Cut, cut, standing, without, turned_to, was_free}
 use Rattle.key_index_map.proofs.Marks.{removed_set, free_mark, held_mark}
@@ -101,6 +101,13 @@ module _ {K V : Type 0} {eq : K → K → Bool} (laws : IsEquivalence eq) {input
     had_tag : (i : ℕ) → i ≢ cell → 3 ≤ slice_index (slice_set tags cell t) i → 3 ≤ slice_index tags i
     had_tag i other held_at = subst (λ n. 3 ≤ n) (same_tag i other) held_at
 
+    -- the places that stay as they are, and the one that does not
+    still_filled : (b : Bool) (i : ℕ) → i ≢ cell → i < length items → slice_index_or (slice_set filled cell b) i false ≡ is_held (slice_index (slice_set tags cell t) i)
+    still_filled b i other within = get_or-set_other filled cell i b false other ∙ are.taken i within ∙ ap is_held (sym (same_tag i other))
+
+    now_filled : (b : Bool) → cell < length filled → (i : ℕ) → i ≡ cell → slice_index_or (slice_set filled cell b) i false ≡ b
+    now_filled b place i at_it = ap (λ n. slice_index_or (slice_set filled cell b) n false) at_it ∙ get_or-set_same filled cell b false place
+
     module _ (left' : ℕ) where
       -- a pair comes into a free cell
       module _ (k : K) (v : V) (free : slice_index tags cell < 2) (is : t ≡ tag_of (hash_of (input k))) (least : 3 ≤ t)
@@ -136,10 +143,10 @@ module _ {K V : Type 0} {eq : K → K → Bool} (laws : IsEquivalence eq) {input
                     (λ at_it. omega (arith, least, sym (new_tag i at_it) ∙ two))
                     (λ other. are.cells i (omega (arith, long, within)) (sym (same_tag i other) ∙ two))
                     (cases_eq i cell);
-                taken = λ i within held_at.
+                taken = λ i within.
                     ⊎_elim
-                    (λ at_it. ap (λ n. slice_index_or (slice_set filled cell true) n false) at_it ∙ get_or-set_same filled cell true false place)
-                    (λ other. get_or-set_other filled cell i true false other ∙ are.taken i (omega (arith, long, within)) (had_tag i other held_at))
+                    (λ at_it. now_filled true place i at_it ∙ sym (ap is_held (new_tag i at_it) ∙ le-leb 3 t least))
+                    (λ other. still_filled true i other (omega (arith, long, within)))
                     (cases_eq i cell);
                 tagged = λ i f there held_at.
                     at_set items cell i (k, v) f there
@@ -163,7 +170,7 @@ module _ {K V : Type 0} {eq : K → K → Bool} (laws : IsEquivalence eq) {input
 
       -- a pair goes
       module _ (e : K × V) (at : slice_get items cell ≡ Some e) (had : 3 ≤ slice_index tags cell) (k : K) (same : eq k e.0 ≡ true) (low : t < 2)
-          (keeps : (g : ℕ) → 16 * g ≤ cell → cell < 16 * g + 16 → IsFull tags g → t ≢ 0) (len' : ℕ) (one_less : len ≡ len' + 1) (more : left' ≡ left + cond (nat_eq t 0) 1 0) where
+          (keeps : (g : ℕ) → 16 * g ≤ cell → cell < 16 * g + 16 → IsFull tags g → t ≢ 0) (place : cell < length filled) (len' : ℕ) (one_less : len ≡ len' + 1) (more : left' ≡ left + cond (nat_eq t 0) 1 0) where
         one_fewer : IsPermutation (held tags items) (e ∷ held (slice_set tags cell t) items)
         one_fewer = subst (λ l. IsPermutation (held tags items) (e ∷ l)) (sym (without tags items cell (here e at) e at t (omega (arith, low)))) (stands e at had)
 
@@ -183,7 +190,11 @@ module _ {K V : Type 0} {eq : K → K → Bool} (laws : IsEquivalence eq) {input
             beyond = λ i past to. same_tag i (λ at_it. omega (arith, at_it, below, past)) ∙ are.beyond i past to;
             cells = λ i within two.
                 ⊎_elim (λ at_it. omega (arith, low, sym (new_tag i at_it) ∙ two)) (λ other. are.cells i within (sym (same_tag i other) ∙ two)) (cases_eq i cell);
-            taken = λ i within held_at. let other = not_it i held_at in get_or-set_other filled cell i false false other ∙ are.taken i within (had_tag i other held_at);
+            taken = λ i within.
+                ⊎_elim
+                (λ at_it. now_filled false place i at_it ∙ sym (ap is_held (new_tag i at_it) ∙ lt-leb 3 t (omega (arith, low))))
+                (λ other. still_filled false i other within)
+                (cases_eq i cell);
             tagged = λ i f there held_at. let other = not_it i held_at in same_tag i other ∙ are.tagged i f there (had_tag i other held_at);
             reached = λ i f there held_at group from to. still_reached t keeps in_tags _ group (are.reached i f there (had_tag i (not_it i held_at) held_at) group from to);
             distinct = gone.distinct;

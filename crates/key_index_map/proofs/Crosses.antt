@@ -1,6 +1,6 @@
 -- The parts of a table may cross threads as its pairs and their allocator may.
-use Rattle.std.specs.Prelude.{ℕ, Bool, true, false, List, [], ◌∷◌}
-use Rattle.core.specs.Mem.Slots.Ownership.{bytes_of, slot, slots, owned, slot_lent, slots_lent, lent}
+use Rattle.std.specs.Prelude.{Bool, true, false, List, [], ◌∷◌}
+use Rattle.core.specs.Mem.Slots.Ownership.{bytes_of, slot, slots, slot_lent, slots_lent}
 use Rattle.core.specs.contracts.slots.Slots as Slots
 use Rattle.core.specs.declared.alloc.Allocator.{Ghosts}
 use Rattle.std_alloc.proofs.SendSync.{FreesAnywhere, quiet, lies, seen}

@@ -1,15 +1,18 @@
 -- On a table whose cells are gone through one by one, and whose pairs go into another table.
 --     held_past                      no pairs from behind the last cell on
 --     none_left_from, first_from     where the cells between have no pair: none is left, or the first that is
---     Through                        the cells are gone through up to one
+--     Emptied                        the cells are gone through up to one: no pair stands before it any more
+--     passed_one, emptied_one        after one more cell, without a pair, and with one
+--     one_gone, all_emptied          after one more of either kind, and after the last
+--     Through                        the same, and the pairs before it stand in another table
 --     skipped, went                  after one more cell, without a pair, and with one
-use Rattle.std.proofs.Common.{◌≡◌, ℕ, zero, suc, ◌+◌, ◌-◌, ◌<◌, ◌≤◌, Bool, true, false, cond, List, [], ◌∷◌, length, drop, get_or, slice_get, slice_set, slice_index, slice_index_or, Some, None, refl, sym, ap, subst, ◌∙◌, ⊎_elim, arith}
+use Rattle.std.proofs.Common.{◌≡◌, ◌≢◌, ℕ, zero, suc, ◌+◌, ◌-◌, ◌<◌, ◌≤◌, Bool, false, cond, List, [], ◌∷◌, length, replicate, drop, get_or, slice_get, slice_set, slice_index, slice_index_or, Some, None, refl, sym, ap, subst, ◌∙◌, ⊎_elim, arith}
 use Rattle.std.specs.Cmp.{IsEquivalence}
 use Rattle.std.specs.Map.{lookup}
-use Rattle.std.proofs.lemmas.Bool.{cases_lt}
-use Rattle.std.proofs.lemmas.List.{get_or-set_other, drop_all, at_drop_more}
+use Rattle.std.proofs.lemmas.Bool.{cases_eq, cases_lt, lt-leb}
+use Rattle.std.proofs.lemmas.List.{get_or-set_same, get_or-set_other, get_or-replicate, length-replicate, ext_get_or, drop_all, at_drop_more}
 use Rattle.std.proofs.lemmas.Option.{get_or_from_slice_get, slice_get_read, slice_get_within}
-use Rattle.key_index_map.specs.Table.{Updates, held, is_held}
+use Rattle.key_index_map.specs.Table.{AreTaken, Updates, held, is_held}
 use Rattle.key_index_map.proofs.Held.{held_first, without_first}
 use Rattle.key_index_map.proofs.Places.{element}
 use Rattle.key_index_map.proofs.Transfer.{Moving, new_key, one_less, all_moved}
@@ -59,11 +62,48 @@ module _ {X : Type 0} (ts : List ℕ) (xs : List X) (from cell : ℕ) (long : le
   pub first_from : (x : X) → slice_get xs cell ≡ Some x → 3 ≤ slice_index ts cell → held (drop from ts) (drop from xs) ≡ x ∷ held (drop (cell + 1) ts) (drop (cell + 1) xs)
   first_from x at had = let within = slice_get_within xs cell x at in passed (omega (arith, within)) ∙ pair_at ts xs long cell x at had
 
+-- the cells are gone through up to one: no pair stands before it any more
+pub record Emptied {X : Type 0} (tags : List ℕ) (items : List X) (filled : List Bool) (cell : ℕ) : Type 0 where
+  pub before : (i : ℕ) → i < cell → slice_index_or filled i false ≡ false
+  pub behind : AreTaken tags items filled cell
+
+module _ {X : Type 0} (tags : List ℕ) (items : List X) (filled : List Bool) (cell : ℕ) (so_far : Emptied tags items filled cell) where
+  one_further : (filled' : List Bool) → slice_index_or filled' cell false ≡ false → ((i : ℕ) → i ≢ cell → slice_index_or filled' i false ≡ slice_index_or filled i false) → Emptied tags items filled' (cell + 1)
+  one_further filled' empty others = record {
+    before = λ i below.
+        ⊎_elim (λ at_it. ap (λ n. slice_index_or filled' n false) at_it ∙ empty) (λ other. others i other ∙ so_far.before i (omega (arith, below, other))) (cases_eq i cell);
+    behind = record {
+      long = so_far.behind.long;
+      taken = λ i past within. others i (λ at_it. omega (arith, past, at_it)) ∙ so_far.behind.taken i (omega (arith, past)) within;
+    };
+  }
+
+  pub passed_one : cell < length items → slice_index tags cell < 3 → Emptied tags items filled (cell + 1)
+  passed_one below low = one_further filled (so_far.behind.taken cell (omega arith) below ∙ lt-leb 3 (slice_index tags cell) low) (λ i other. refl)
+
+  pub emptied_one : cell < length filled → (filled' : List Bool) → filled' ≡ slice_set filled cell false → Emptied tags items filled' (cell + 1)
+  emptied_one place filled' are =
+      one_further filled' (ap (λ l. slice_index_or l cell false) are ∙ get_or-set_same filled cell false false place)
+      (λ i other. ap (λ l. slice_index_or l i false) are ∙ get_or-set_other filled cell i false false other)
+
+  pub one_gone : (items' : List X) (filled' : List Bool) → items' ≡ items → cell < length items → cell < length filled
+      → (3 ≤ slice_index tags cell → filled' ≡ slice_set filled cell false) → (slice_index tags cell < 3 → filled' ≡ filled) → Emptied tags items' filled' (cell + 1)
+  one_gone items' filled' same below place with_pair without =
+      subst (λ l. Emptied tags l filled' (cell + 1)) (sym same)
+      (⊎_elim
+      (λ low. subst (λ l. Emptied tags items l (cell + 1)) (sym (without low)) (passed_one below low))
+      (λ had. emptied_one place filled' (with_pair had))
+      (cases_lt (slice_index tags cell) 3))
+
+  pub all_emptied : (n : ℕ) → n ≡ length filled → n ≤ cell → filled ≡ replicate n false
+  all_emptied n many past =
+      ext_get_or false filled (replicate n false) (sym many ∙ sym (length-replicate n false))
+      (λ i below. so_far.before i (omega (arith, below, many, past)) ∙ sym (get_or-replicate n i false false (omega (arith, below, many))))
+
 -- the cells are gone through up to one: what stands in the row, and in the other table, which had some spare room at first
 pub record Through {K V : Type 0} {eq : K → K → Bool} (laws : IsEquivalence eq) (tags : List ℕ) (items now : List (K × V)) (filled : List Bool) (cell : ℕ) (moved : List (K × V)) (spare' spare : ℕ) : Type 0 where
   pub same : now ≡ items
-  pub long : length items ≤ length tags
-  pub taken : (i : ℕ) → cell ≤ i → i < length items → 3 ≤ slice_index tags i → slice_index_or filled i false ≡ true
+  pub emptied : Emptied tags items filled cell
   pub moving : Moving laws (held tags items) (held (drop cell tags) (drop cell items)) moved
   pub fits : length (held tags items) ≤ spare'
   pub room : spare' ≤ spare + length moved
@@ -73,9 +113,8 @@ module _ {K V : Type 0} {eq : K → K → Bool} (laws : IsEquivalence eq) (tags 
   pub skipped : cell < length items → slice_index tags cell < 3 → Through laws tags items now filled (cell + 1) moved spare' spare
   skipped below low = record {
     same = so_far.same;
-    long = so_far.long;
-    taken = λ i past. so_far.taken i (omega (arith, past));
-    moving = subst (λ l. Moving laws (held tags items) l moved) (none_at tags items so_far.long cell below low) so_far.moving;
+    emptied = passed_one tags items filled cell so_far.emptied below low;
+    moving = subst (λ l. Moving laws (held tags items) l moved) (none_at tags items so_far.emptied.behind.long cell below low) so_far.moving;
     fits = so_far.fits;
     room = so_far.room;
   }
@@ -85,7 +124,7 @@ module _ {K V : Type 0} {eq : K → K → Bool} (laws : IsEquivalence eq) (tags 
     at = ap (λ l. slice_get l cell) (sym so_far.same) ∙ slice_get_read now (length now) cell e refl (subst (λ l. cell < length l) (sym so_far.same) below) read
 
     with_first : Moving laws (held tags items) (e ∷ held (drop (cell + 1) tags) (drop (cell + 1) items)) moved
-    with_first = subst (λ l. Moving laws (held tags items) l moved) (pair_at tags items so_far.long cell e at had) so_far.moving
+    with_first = subst (λ l. Moving laws (held tags items) l moved) (pair_at tags items so_far.emptied.behind.long cell e at had) so_far.moving
 
     pub key_is_new : lookup (eq e.0) moved ≡ None
     key_is_new = new_key laws (held tags items) (held (drop (cell + 1) tags) (drop (cell + 1) items)) moved e.0 e.1 with_first
@@ -93,12 +132,11 @@ module _ {K V : Type 0} {eq : K → K → Bool} (laws : IsEquivalence eq) (tags 
     pub has_room : 0 < spare
     has_room = omega (arith, with_first.len, so_far.fits, so_far.room)
 
-    pub went : (more : List (K × V)) (now' : List (K × V)) (filled' : List Bool) (spare'' : ℕ) → Updates eq moved more e.0 (Some e.1) → length more ≡ length moved + 1 → now' ≡ now → filled' ≡ slice_set filled cell false → spare ≤ spare'' + 1
+    pub went : (more : List (K × V)) (now' : List (K × V)) (filled' : List Bool) (spare'' : ℕ) → Updates eq moved more e.0 (Some e.1) → length more ≡ length moved + 1 → now' ≡ now → cell < length filled → filled' ≡ slice_set filled cell false → spare ≤ spare'' + 1
         → Through laws tags items now' filled' (cell + 1) more spare' spare''
-    went more now' filled' spare'' updates longer same' filled_are less = record {
+    went more now' filled' spare'' updates longer same' place filled_are less = record {
       same = same' ∙ so_far.same;
-      long = so_far.long;
-      taken = λ i past within held_at. ap (λ l. slice_index_or l i false) filled_are ∙ get_or-set_other filled cell i false false (λ at_it. omega (arith, past, at_it)) ∙ so_far.taken i (omega (arith, past)) within held_at;
+      emptied = emptied_one tags items filled cell so_far.emptied place filled' filled_are;
       moving = one_less laws (held tags items) (held (drop (cell + 1) tags) (drop (cell + 1) items)) moved e.0 e.1 with_first more updates longer;
       fits = so_far.fits;
       room = omega (arith, so_far.room, longer, less);

@@ -1,6 +1,7 @@
 -- On a table without pairs.
-use Rattle.std.proofs.Common.{◌≡◌, ℕ, suc, ◌*◌, ◌/◌, ◌<◌, ◌≤◌, Bool, true, false, cond, nat_le, List, [], ◌∷◌, length, slice_index, refl, sym, ap, ◌∙◌, ⊎_elim, arith}
-use Rattle.std.proofs.lemmas.Bool.{cases_lt}
+use Rattle.std.proofs.Common.{◌≡◌, ℕ, suc, ◌*◌, ◌/◌, ◌<◌, ◌≤◌, Bool, true, false, cond, nat_le, List, [], ◌∷◌, length, replicate, slice_index, slice_index_or, refl, sym, ap, ◌∙◌, ⊎_elim, arith}
+use Rattle.std.proofs.lemmas.Bool.{cases_lt, lt-leb}
+use Rattle.std.proofs.lemmas.List.{get_or-replicate}
 use Rattle.std.proofs.lemmas.Option.{slice_get_within}
 use Rattle.key_index_map.specs.Table.{AreCells, AreEmpty, held, limit}
 use Rattle.key_index_map.proofs.Between.{none_differ}
@@ -18,7 +19,7 @@ pub record New {K V : Type 0} (eq : K → K → Bool) (input : K → List (List 
   pub empty : held tags items ≡ []
 
 module _ {K V : Type 0} (eq : K → K → Bool) (input : K → List (List ℕ)) (tags : List ℕ) (items : List (K × V)) (filled : List Bool) (groups cells left : ℕ)
-    (are : AreEmpty tags groups cells) (long : length items ≡ cells) (room : left ≤ cells) where
+    (are : AreEmpty tags groups cells) (long : length items ≡ cells) (unfilled : filled ≡ replicate cells false) (room : left ≤ cells) where
   low : (i : ℕ) → i < length items → slice_index tags i < 3
   low i below = let is = are.empty i (omega (arith, below, long)) in omega (arith, is)
 
@@ -33,7 +34,7 @@ module _ {K V : Type 0} (eq : K → K → Bool) (input : K → List (List ℕ)) 
     any = omega (arith, are.some, long);
     beyond = λ i past to. are.beyond i (omega (arith, past, long)) (omega (arith, to, are.sized));
     cells = λ i below two. let is = are.empty i (omega (arith, below, long)) in omega (arith, is, two);
-    taken = λ i below had. let is = low i below in absurd (omega (arith, is, had));
+    taken = λ i below. ap (λ l. slice_index_or l i false) unfilled ∙ get_or-replicate cells i false false (omega (arith, below, long)) ∙ sym (lt-leb 3 (slice_index tags i) (low i below));
     tagged = λ i e at had. let is = low i (slice_get_within items i e at) in absurd (omega (arith, is, had));
     reached = λ i e at had group from to. let is = low i (slice_get_within items i e at) in absurd (omega (arith, is, had));
     distinct = none_differ eq (held tags items) no_pairs;

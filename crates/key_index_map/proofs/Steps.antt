@@ -61,7 +61,7 @@ module _ {K V : Type 0} {eq : K → K → Bool} (laws : IsEquivalence eq) {input
       at_it : slice_get items cell ≡ Some e
       at_it = slice_get_read items (length items) cell e refl in_cell.within read
 
-      module _ (group : ℕ) (within : IsIn group cell) (without : IsTagWithout cells group t) (some : 1 ≤ len) (more : left' ≡ left + cond (nat_eq t 0) 1 0)
+      module _ (group : ℕ) (within : IsIn group cell) (without : IsTagWithout cells group t) (some : 1 ≤ len) (as_many : length items ≡ length filled) (more : left' ≡ left + cond (nat_eq t 0) 1 0)
           (tags_are : tags' ≡ slice_set tags cell t) (items_are : items' ≡ items) (filled_are : filled' ≡ slice_set filled cell false) where
         left_are : held tags' items' ≡ held (slice_set tags cell t) items
         left_are = ap (λ l. held l items') tags_are ∙ ap (held (slice_set tags cell t)) items_are
@@ -69,7 +69,7 @@ module _ {K V : Type 0} {eq : K → K → Bool} (laws : IsEquivalence eq) {input
         pub taking : Taking k e.1
         taking =
             let keeps = subst (λ (c : Cells K V). IsTagWithout c group t) (sym view) without in
-            let p = taken laws are cell in_cell.within t left' e at_it in_cell.holds k (in_cell.pair e at_it) keeps.0 (λ g from to full zero_tag. keeps.1 zero_tag (subst (IsFull tags) (let same : g ≡ group = omega (arith, from, to, within.0, within.1) in same) full)) (len - 1) (omega (arith, some)) more in
+            let p = taken laws are cell in_cell.within t left' e at_it in_cell.holds k (in_cell.pair e at_it) keeps.0 (λ g from to full zero_tag. keeps.1 zero_tag (subst (IsFull tags) (let same : g ≡ group = omega (arith, from, to, within.0, within.1) in same) full)) (omega (arith, in_cell.within, as_many)) (len - 1) (omega (arith, some)) more in
             record {
               still = now_cells items (slice_set filled cell false) (len - 1) p.cells tags_are items_are filled_are;
               value = sym (looked_at laws are cell e at_it in_cell.holds k (in_cell.pair e at_it)) ∙ ap (λ c. lookup (eq k) (pairs c)) view;

@@ -11,7 +11,8 @@
 --     home, home_in   the group at which a search for a hash begins
 --     removed         how many cells are marked as those of removed pairs
 --     AreEmpty        tags of cells without pairs
---     AreCells        what stands where: each pair's tag is that of its key, and a search for its key comes to its group; keys differ
+--     AreCells        what stands where: a place is filled just where its tag is that of a pair, each pair's tag is that of its key, and
+--                     a search for its key comes to its group; keys differ
 --     IsAt, NoneIn    the pair with a key stands in a cell; in none of a range
 --     Found, Seen     what a search through groups answers, and a look at the first of them alone
 --     IsFirstFree, IsEmptyIn, IsTagWithout    which cell is taken, an empty place, which tag is left behind
@@ -117,7 +118,7 @@ pub record AreCells {K V : Type 0} (eq : K → K → Bool) (input : K → List (
   pub any : 0 < length items
   pub beyond : (i : ℕ) → length items ≤ i → i < 16 * groups → slice_index tags i ≡ 2
   pub cells : (i : ℕ) → i < length items → slice_index tags i ≢ 2
-  pub taken : (i : ℕ) → i < length items → 3 ≤ slice_index tags i → slice_index_or filled i false ≡ true
+  pub taken : (i : ℕ) → i < length items → slice_index_or filled i false ≡ is_held (slice_index tags i)
   pub tagged : (i : ℕ) (e : K × V) → slice_get items i ≡ Some e → 3 ≤ slice_index tags i
       → slice_index tags i ≡ tag_of (hash_of (input e.0))
   pub reached : (i : ℕ) (e : K × V) → slice_get items i ≡ Some e → 3 ≤ slice_index tags i
@@ -127,10 +128,10 @@ pub record AreCells {K V : Type 0} (eq : K → K → Bool) (input : K → List (
   pub counted : len ≡ length (held tags items)
   pub room : left + len + removed tags ≤ length items
 
--- the places of the cells from one on hold the pairs that their tags tell of
+-- the places of the cells from one on hold the pairs that their tags tell of, and no other
 pub record AreTaken {X : Type 0} (tags : List ℕ) (items : List X) (filled : List Bool) (from : ℕ) : Type 0 where
   pub long : length items ≤ length tags
-  pub taken : (i : ℕ) → from ≤ i → i < length items → 3 ≤ slice_index tags i → slice_index_or filled i false ≡ true
+  pub taken : (i : ℕ) → from ≤ i → i < length items → slice_index_or filled i false ≡ is_held (slice_index tags i)
 
 -- the pair with the key stands in the cell
 pub record IsAt {K V : Type 0} (eq : K → K → Bool) (c : Cells K V) (cell : ℕ) (k : K) : Type 0 where

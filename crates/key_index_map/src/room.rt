@@ -109,9 +109,17 @@ fn block_of<T, A: Allocator>(row: Slots<T>, deed: Deed<T, A>) -> Block<T, A>
     }
 }
 
-/// Frees a row. Values that stand there are forgotten.
-pub(crate) fn release<T, A: Allocator>(alloc: &A, row: Slots<T>, deed: Deed<T, A>)
+/// Frees a row of values that need no drop, as groups of tags: those that stand there are forgotten.
+pub(crate) fn release<T: Copy, A: Allocator>(alloc: &A, row: Slots<T>, deed: Deed<T, A>)
     requires { (deed.at ≡ slots_ptr row) × (deed.len ≡ slots_len row) × (deed.alloc ≡ alloc.now) }
+{
+    free(alloc, block_of(row, deed));
+}
+
+/// Frees a row in which no value is left.
+pub(crate) fn release_emptied<T, A: Allocator>(alloc: &A, row: Slots<T>, deed: Deed<T, A>)
+    requires deed { (deed.at ≡ slots_ptr row) × (deed.len ≡ slots_len row) × (deed.alloc ≡ alloc.now) }
+    requires empty { slots_filled row ≡ replicate (slots_len row) false }
 {
     free(alloc, block_of(row, deed));
 }

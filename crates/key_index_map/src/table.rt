@@ -7,7 +7,7 @@ ghost use Rattle.std.specs.Option.{IsSome, option_copied, option_copied_mut};
 ghost use Rattle.key_index_map.specs.Tags.{IsIn};
 ghost use Rattle.key_index_map.specs.Table.{Cells, IsAt, IsEmptyIn, IsFreeIn, IsFirstFree, IsTagWithout, NoneIn, Found, Seen, Stopped, Updates, hash_of, tag_of, home, home_in, held, is_held, limit, pairs, with_value};
 
-use crate::room::{Block, Deed, free, release, row_of, try_allocate};
+use crate::room::{Block, Deed, free, release_emptied, row_of, try_allocate};
 use crate::row::Row;
 use crate::tags::{EMPTY, GROUP, Tags};
 use std::alloc::{AllocError, Global};
@@ -220,7 +220,7 @@ impl<K: Ord + Hash + Copy, V> Table<K, V> {
         ensures found { IfSome result (λ cell. IsAt K.eq self.now cell key.now) }
         ensures none { IfNone result (NoneIn K.eq self.now (16 * group) (16 * group + 16) key.now) }
     {
-        // Its contract says that the places can be counted.
+        // For the prover: this call's contract says that the places can be counted.
         let _places = self.tags.len();
         let mut cell = GROUP * group;
         let end = cell + GROUP;
@@ -514,7 +514,7 @@ impl<K: Ord + Hash + Copy, V> Table<K, V> {
             }
             group += 1;
         }
-        release(tags.allocator(), row.into_slots(), deed);
+        release_emptied(tags.allocator(), row.into_slots(), deed);
     }
 
     /// Makes room for more pairs, in more cells or in as many without marks of removed pairs. A refusal changes nothing.
@@ -805,6 +805,6 @@ impl<K: Ord + Hash + Copy, V: Drop> Drop for Table<K, V> {
             }
             cell += 1;
         }
-        release(tags.allocator(), row.into_slots(), deed);
+        release_emptied(tags.allocator(), row.into_slots(), deed);
     }
 }

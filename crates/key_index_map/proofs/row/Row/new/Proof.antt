@@ -1,6 +1,6 @@
 -- `Row::new` puts a `Slots` into a row. Assumes `Logic`.
 use Rattle.std.proofs.Common.{◌≡◌, ℕ, List, [], ◌∷◌, ◌++◌, refl, w64}
-use mir.Syntax.{Fn, a_type, dcons, dnil}
+use mir.Syntax.{Fn, a_type, dnil}
 use mir.Val.{Val, vint, vstruct, vcons, vnil, of_list, WT}
 use mir.MapTy.{inst_fn}
 use base.Logic.{SProp, emp}
@@ -9,14 +9,14 @@ use prog.Wp.{WpFn}
 use contract.BorrowLft.{◌⊑◌}
 use contract.Monad.{fact}
 use contract.Running.{tables}
-use types.Kit.{‵, raw, ◌⊛◌, prop, ◌$◌, ◌∵◌, !, qed, done, move, keep, drop, split, split3, join, fsplit, fjoin, fpack, feq_i, regoal, suffices}
+use types.Kit.{‵, raw, ◌⊛◌, prop, ◌$◌, ◌∵◌, !, qed, done, move, keep, split, fsplit, fjoin, fpack, feq_i, regoal, suffices}
 use types.Part.{agg}
 use types.Run.{no_more, and_then, of_opd, returns, enter}
 use types.ByLocal.{alloc_all, pass_all, free_all, look_at, get, sets}
 use denote.RattleType.{RattleType, owns, Valss}
 use denote.Exit.{no}
 use denote.Signature.{plain, types_at}
-use denote.Steps.{heard, nothing}
+use denote.Steps.{nothing}
 use denote.Param.{bounded, param}
 use denote.Triple.Walked.{Stays, stay_dropped, Goes-dropped, walk_of, ends_at, says}
 use Rattle.std.proofs.raw_atomic.Walks.{proved_at}

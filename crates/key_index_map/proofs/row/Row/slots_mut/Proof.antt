@@ -32,8 +32,8 @@ use denote.Struct.CellSteps.{BackTo, first_at, only_out}
 use denote.Struct.Members.{Member}
 use denote.Struct.Struct.{Struct}
 use denote.Struct.Owning.{shape}
-use denote.Triple.Clauses.{Clauses, Ended, closing}
-use denote.Triple.Spec.{Meets, triple_of}
+use denote.Triple.Clauses.{Clauses, Ended}
+use denote.Triple.Spec.{triple_of}
 use denote.Triple.Table.{entered}
 use denote.Triple.Walked.{Goes-spent_ref, Stays, ends_at, says, stay_dropped, walk_Meets, walk_of, walked}
 use Rattle.core.proofs.slots.Slots.TheLaws as slots

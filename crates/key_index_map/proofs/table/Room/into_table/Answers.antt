@@ -1,4 +1,4 @@
-use Rattle.std.proofs.Common.{ap, sym, ◌∙◌, arith, length, ◌/◌}
+use Rattle.std.proofs.Common.{ap, sym, ◌∙◌, arith, length, ◌/◌, false, replicate}
 use Rattle.core.specs.Mem.Slots.{slots_items, slots_filled, slots_len, slots_ptr}
 use Rattle.key_index_map.proofs.New.{New, new, limit_le}
 use Rattle.key_index_map.proofs.table.Room.into_table.Given.{Over}
@@ -9,6 +9,7 @@ made : (g : Over) (c : After-limit g) → New g.K.PartialEq.eq g.K.Hash.hash_inp
 made g c =
     new g.K.PartialEq.eq g.K.Hash.hash_input c.self.inside.tags (slots_items c.new.result) (slots_filled c.new.result) (length c.self.inside.tags / 16) c.self.inside.cells c.limit.result
     c.self.invariant.0 (sym c.new.result.ok.0 ∙ ap slots_len c.new.ensures ∙ c.row_of-row.ensures.0 ∙ c.self.invariant.1)
+    (ap slots_filled c.new.ensures ∙ c.row_of-row.ensures.1 ∙ ap (λ n. replicate n false) c.self.invariant.1)
     (let most = limit_le c.self.inside.cells in omega (arith, most, c.limit.ensures))
 
 pub invariant_of-result : goal.invariant_of-result

@@ -1,8 +1,8 @@
-use Rattle.std.proofs.Common.{◌≡◌, ◌<◌, slice_index, length, sym, ap, ◌∙◌, arith}
+use Rattle.std.proofs.Common.{◌≡◌, ◌<◌, slice_index, length, replicate, false, sym, ap, subst, ◌∙◌, arith}
 use Rattle.std.specs.Map.{lookup}
-use Rattle.core.specs.Mem.Slots.{slots_items, slots_filled}
+use Rattle.core.specs.Mem.Slots.{slots_items, slots_filled, slots_len}
 use Rattle.key_index_map.specs.Table.{pairs}
-use Rattle.key_index_map.proofs.Moving.{skipped, went, key_is_new, has_room, none_are_left, all_counted}
+use Rattle.key_index_map.proofs.Moving.{all_emptied, skipped, went, key_is_new, has_room, none_are_left, all_counted}
 use Rattle.key_index_map.proofs.table.Table.move_into.Given.{Over}
 use Rattle.key_index_map.proofs.table.Table.move_into.Goals as goal
 use Rattle.key_index_map.proofs.table.Table.move_into.Goals.{After-at_in-tag}
@@ -44,7 +44,8 @@ loop-cell-2-preserved g c =
     let same = c.take-pair.ensures.places in (
       went g.met.K.Eq.laws c.self.inside.tags (slots_items c.loop-cell.row) (slots_items c.loop-cell-2.row) (slots_filled c.loop-cell-2.row) c.loop-cell-2.cell (pairs c.loop-cell-2.new)
           c.args.new.now.spare c.loop-cell-2.new.spare c.loop-cell-2.invariant.0 c.take-pair.result c.take-pair.ensures.value (below g (goal.at.loop-cell-2-preserved g c).After-at_in-tag) (omega (arith, tag_read g (goal.at.loop-cell-2-preserved g c).After-at_in-tag, c.if-tag-lt-LEAST.false)) (pairs c.put.new.self)
-          (slots_items c.take-pair.new.self) (slots_filled c.take-pair.new.self) c.put.new.self.spare c.put.ensures.updates c.put.ensures.len c.take-pair.ensures.items c.take-pair.ensures.filled c.put.ensures.room,
+          (slots_items c.take-pair.new.self) (slots_filled c.take-pair.new.self) c.put.new.self.spare c.put.ensures.updates c.put.ensures.len c.take-pair.ensures.items
+          (omega (arith, c.loop-cell-2-test.true, inv.6, c.loop-cell-2.row.ok.1)) c.take-pair.ensures.filled c.put.ensures.room,
       inv.1 ∙ sym same.start,
       inv.2 ∙ sym same.count,
       omega (arith, inv.3),
@@ -66,3 +67,9 @@ returns-clause-len g c =
     all_counted g.met.K.Eq.laws c.self.inside.tags (slots_items c.self.inside.row) (slots_items c.loop-cell.row) (slots_filled c.loop-cell.row) c.loop-cell.cell (pairs c.loop-cell.new)
     c.args.new.now.spare c.loop-cell.new.spare c.loop-cell.invariant.0 (omega (arith, c.loop-cell-test.false, c.len.ensures, c.loop-cell.row.ok.0, ap length c.loop-cell.invariant.0.same))
     ∙ ap (λ x. length (pairs x)) c.self.view_is
+
+pub release_emptied-requires-clause-empty : goal.release_emptied-requires-clause-empty
+release_emptied-requires-clause-empty g c =
+    let row = c.loop-cell.row in
+    subst (λ r. slots_filled r ≡ replicate (slots_len r) false) (sym c.into_slots.ensures)
+    (all_emptied c.self.inside.tags (slots_items c.self.inside.row) (slots_filled row) c.loop-cell.cell c.loop-cell.invariant.0.emptied (slots_len row) row.ok.1 (omega (arith, c.loop-cell-test.false, c.len.ensures)))

@@ -20,7 +20,7 @@ take_out g c =
     taking g.met.K.Eq.laws c.self.invariant.0 c.args.self.now c.self.view_is c.args.cell c.tag_without-tag.result c.left_without-left.result c.set_in.new.self
     (slots_items c.take-value.new.self) (slots_filled c.take-value.new.self) c.args.key c.requires.at c.take-value.result c.take-value.ensures.value c.args.group c.requires.group c.tag_without-tag.ensures
     (some_pair g.met.K.Eq.laws c.self.invariant.0 c.args.self.now c.self.view_is c.args.cell c.args.key c.requires.at)
-    c.left_without-left.ensures c.set_in.ensures c.take-value.ensures.items c.take-value.ensures.filled
+    (omega (arith, c.self.inside.row.ok.0, c.self.inside.row.ok.1)) c.left_without-left.ensures c.set_in.ensures c.take-value.ensures.items c.take-value.ensures.filled
 
 pub invariant_of-self : goal.invariant_of-self
 invariant_of-self g c =
