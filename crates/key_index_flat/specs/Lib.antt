@@ -19,6 +19,7 @@ pub mod Arrays
 pub mod Values
 pub mod Walk
 pub mod FullKeys
+pub mod Places
 pub mod Retention
 pub mod Visits
 pub mod laws

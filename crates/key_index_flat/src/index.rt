@@ -10,6 +10,7 @@ mod command;
 pub mod implement;
 mod index_cursor;
 pub mod ordered;
+mod places;
 mod records;
 mod resolve;
 mod retain;
@@ -23,6 +24,7 @@ mod walk;
 pub use apply::run;
 pub use command::{Command, Outcome, Step};
 pub use index_cursor::IndexCursor;
+pub use places::{Compare, Found, find_place};
 pub use records::{
     Records, absent, find_record, first_record, last_record, next_record, prev_record,
 };

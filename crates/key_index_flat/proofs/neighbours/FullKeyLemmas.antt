@@ -1,31 +1,31 @@
 -- On full keys in an index that keeps their order: in a filed content, what a list and its neighbour have is what all lists have.
---     next_of_filed, prev_of_filed, first_of_filed, last_of_filed      the candidate is the neighbour among all values
+--     beside_of_filed, end_of_filed     the candidate on a side is the nearest among all values
 --     filed_first, filed_rest           the first list of a filed content, and the others
+--     side_total, nearest_total         the order of a side is total, and that of values by it
 --     least_own                         the least of a list that has one, where another stands behind it
---     least_other                       what a reader gave of the other list, where its own list had none
 --     first_with-anywhere               the first value of all that has a full key is the first of the key's own list
-use Rattle.std.proofs.Common.{◌≡◌, ℕ, Bool, true, false, cond, T, List, [], ◌∷◌, ◌++◌, Option, Some, None, Result, IfOk, unwrap_or, All, append_assoc, append-nil, length, length-append, arith, refl, sym, ap, subst, ◌∙◌}
+use Rattle.std.proofs.Common.{◌≡◌, ℕ, Bool, true, false, cond, T, List, [], ◌∷◌, ◌++◌, Option, Some, None, unwrap_or, All, append_assoc, append-nil, length, length-append, arith, refl, sym, ap, subst, ◌∙◌}
 use Rattle.std.proofs.lemmas.Bool.{false≢true}
-use Rattle.std.proofs.lemmas.List.Elements.{All-nil, All-head, All-tail, All-append, All-weaker, All-filter, filter-append}
-use Rattle.std.specs.Borrow.{Bor}
+use Rattle.std.proofs.lemmas.List.Elements.{All-nil, All-cons, All-head, All-tail, All-append, All-weaker, All-filter, filter-append, filter_passes}
 use Rattle.std.specs.declared.cmp.Ordering.{Ordering}
 use Rattle.std.specs.declared.cmp.Ordering.TheVariants.{Less, Equal, Greater}
-use Rattle.std.specs.Ordering.{is_lt, is_eq, is_gt, ordering_reverse, flip_args}
+use Rattle.std.specs.Ordering.{is_lt, is_eq, is_gt, on, ordering_reverse}
 use Rattle.std.specs.Cmp.{IsTotalOrder, tied_itself, on_total, back_total}
 use Rattle.std.specs.Cmp.Lexicographic.{nat_list_cmp_total}
 use Rattle.std.specs.List.{filter, last_or}
 use Rattle.std.proofs.lemmas.List.Folds.{find-append}
 use Rattle.std.proofs.lemmas.Slice.Eq.{bytes_eq-Decides}
-use Rattle.std.specs.Option.{option_copied, option_map, option_or}
+use Rattle.std.specs.Option.{option_map, option_or}
 use Rattle.std.specs.Str.{bytes_eq}
 use Rattle.std.specs.FinMap.{find, is_sorted}
 use Rattle.std.specs.FinMap.Entries.{below_all, is_sorted-where_key}
 use Rattle.key_index_flat.specs.Content.{Content, is_filled, list_at, IsLawful}
-use Rattle.key_index_flat.specs.FullKeys.{IsBytes, byte_cmp, IsLeast, first_with, or_list, unflagged, cmp_keys, above, below, IsFiled, IsFullFirst, IsFullLast, IsFullNext, IsFullPrev, IsFirstCandidate, IsLastCandidate, IsNextCandidate, IsPrevCandidate}
+use Rattle.key_index_flat.specs.FullKeys.{IsBytes, byte_cmp, IsLeast, IsNearest, first_with, or_list, unflagged, cmp_keys, beyond, IsFiled, IsFullBeside, IsFullEnd, IsEndCandidate}
 use Rattle.key_index_flat.specs.Values.{values_of}
 use Rattle.key_index_flat.specs.laws.Laws.{T-and_first, T-and_second, all_filled-where_key}
-use Rattle.key_index_flat.specs.Neighbours.{entries_above, entries_below, first_entry, last_entry, or_cycled, KeepsOrder}
-use Rattle.key_index_flat.proofs.content.ContentLemmas.{list_at-below_all, Less-is_lt}
+use Rattle.key_index_flat.specs.Neighbours.{KeepsOrder, beside_list, end_list, side_cmp}
+use Rattle.key_index_flat.proofs.content.ContentLemmas.{list_at-below_all, Less-is_lt, Equal-is_eq}
+use Rattle.key_index_flat.proofs.neighbours.HeldLemmas.{All-append_front, All-append_behind, unflagged-beside_list}
 use Rattle.key_index_flat.proofs.neighbours.LeastLemmas.{IsLeast-front, IsLeast-back, least_has}
 
 -- each value of a list passes a test, or none does
@@ -103,21 +103,36 @@ module _ {K V : Type 0} {cmp : K → K → Ordering} (o : IsTotalOrder cmp) (ful
       option_or_none None = refl
       option_or_none (Some v) = refl
 
+-- the order of a side of a key
+pub side_total : {X : Type 0} {R : X → X → Ordering} (s : Bool) → IsTotalOrder R → IsTotalOrder (side_cmp s R)
+side_total true o = o
+side_total false o = back_total o
+
+pub nearest_total : {V : Type 0} (full_key : V → List ℕ) (s : Bool) → IsTotalOrder (on full_key (side_cmp s byte_cmp))
+nearest_total full_key s = on_total full_key (side_total s nat_list_cmp_total)
+
 module _ {K V : Type 0} {cmp : K → K → Ordering} (o : IsTotalOrder cmp) (full_key : V → List ℕ) (slot : List ℕ → K) (keeps : KeepsOrder cmp slot) where
-  -- a value that stands under its own index key, and one whose index key is above another
+  -- a value that stands under its own index key
   abbrev FiledUnder : K → V → Type 0
   FiledUnder k v = IsBytes (full_key v) × (slot (full_key v) ≡ k)
-
-  abbrev Behind : K → V → Type 0
-  Behind k v = IsBytes (full_key v) × (cmp k (slot (full_key v)) ≡ Less)
-
-  abbrev Ahead : K → V → Type 0
-  Ahead k v = IsBytes (full_key v) × (cmp (slot (full_key v)) k ≡ Less)
 
   abbrev Filed : Content K V → Type 0
   Filed [] = Unit {0}
   Filed (e ∷ es) = All (FiledUnder e.0) e.1 × Filed es
 
+  filed_entries : (c : Content K V) → T (is_sorted cmp c) → IsFiled full_key cmp slot c → Filed c
+  filed_entries [] h f = tt
+  filed_entries (e ∷ es) h f = (filed_first o full_key slot e es f, filed_entries es (T-and_second _ _ h) (filed_rest o full_key slot e es (T-and_first _ _ h) f))
+
+  filed_where : (p : K → Bool) (c : Content K V) → Filed c → Filed (filter (λ e. p e.0) c)
+  filed_where p [] f = tt
+  filed_where p (e ∷ es) f =
+      elim (p e.0) as (λ b. Filed (cond b (e ∷ filter (λ e. p e.0) es) (filter (λ e. p e.0) es))) [
+        | true ↦ (f.0, filed_where p es f.1)
+        | false ↦ filed_where p es f.1
+      ]
+
+  -- a key whose index key comes before another's comes before it
   less_by_slot : (a b : List ℕ) → IsBytes a → IsBytes b → cmp (slot a) (slot b) ≡ Less → byte_cmp a b ≡ Less
   less_by_slot a b p q e =
       let back : is_gt (cmp (slot b) (slot a)) ≡ true = ap is_gt (o.antisymm (slot b) (slot a) ∙ ap ordering_reverse e) in
@@ -129,203 +144,125 @@ module _ {K V : Type 0} {cmp : K → K → Ordering} (o : IsTotalOrder cmp) (ful
         | Greater ↦ λ t. absurd (never (ap is_gt t))
       ] turn
 
-  filed_entries : (c : Content K V) → T (is_sorted cmp c) → IsFiled full_key cmp slot c → Filed c
-  filed_entries [] h f = tt
-  filed_entries (e ∷ es) h f = (filed_first o full_key slot e es f, filed_entries es (T-and_second _ _ h) (filed_rest o full_key slot e es (T-and_first _ _ h) f))
+  less_by_side : (s : Bool) (a b : List ℕ) → IsBytes a → IsBytes b → side_cmp s cmp (slot a) (slot b) ≡ Less → side_cmp s byte_cmp a b ≡ Less
+  less_by_side true a b p q e = less_by_slot a b p q e
+  less_by_side false a b p q e = less_by_slot b a q p e
 
-  behind_all : (x : K) (es : Content K V) → T (below_all cmp x es) → Filed es → All (Behind x) (values_of es)
-  behind_all x [] h f = All-nil (Behind x)
-  behind_all x (e ∷ es) h f =
-      let here : All (Behind x) e.1 = All-weaker (FiledUnder e.0) (Behind x) (λ v u. (u.0, ap (λ k. cmp x k) u.1 ∙ Less-is_lt _ (T-and_first _ _ h))) e.1 f.0 in
-      All-append (Behind x) e.1 (values_of es) here (behind_all x es (T-and_second _ _ h) f.1)
+  -- a value comes before those of the entries behind its own
+  before_all : (s : Bool) (x : K) (v : V) → FiledUnder x v → (es : Content K V) → All (λ e. is_lt (side_cmp s cmp x e.0) ≡ true) es → Filed es → All (λ w. on full_key (side_cmp s byte_cmp) v w ≡ Less) (values_of es)
+  before_all s x v u [] h f = All-nil (λ w. on full_key (side_cmp s byte_cmp) v w ≡ Less)
+  before_all s x v u (e ∷ es) h f =
+      let Before : V → Type 0 = λ w. on full_key (side_cmp s byte_cmp) v w ≡ Less in
+      let Behind : K × List V → Type 0 = λ e. is_lt (side_cmp s cmp x e.0) ≡ true in
+      let less : side_cmp s cmp x e.0 ≡ Less = Less-is_lt _ (subst T (sym (All-head Behind e es h)) tt) in
+      All-append Before e.1 (values_of es)
+      (All-weaker (FiledUnder e.0) Before (λ w t. less_by_side s (full_key v) (full_key w) u.0 t.0 ((λ i. side_cmp s cmp (u.1 i) (t.1 i)) ∙ less)) e.1 f.0)
+      (before_all s x v u es (All-tail Behind e es h) f.1)
 
-  -- what stands under one index key is below what stands under a higher one
-  less_behind : (x : K) (v w : V) → FiledUnder x v → Behind x w → cmp_keys full_key v w ≡ Less
-  less_behind x v w u b = less_by_slot (full_key v) (full_key w) u.0 b.0 (ap (λ k. cmp k (slot (full_key w))) u.1 ∙ b.1)
+  behind : (x : K) (es : Content K V) → T (below_all cmp x es) → All (λ e. is_lt (cmp x e.0) ≡ true) es
+  behind x [] h = All-nil (λ e. is_lt (cmp x e.0) ≡ true)
+  behind x (e ∷ es) h = All-cons (λ e. is_lt (cmp x e.0) ≡ true) e es (ap is_lt (Less-is_lt _ (T-and_first _ _ h))) (behind x es (T-and_second _ _ h))
 
-  less_all : (x : K) (v : V) (l : List V) → FiledUnder x v → All (Behind x) l → All (λ w. cmp_keys full_key v w ≡ Less) l
-  less_all x v l u h = All-weaker (Behind x) (λ w. cmp_keys full_key v w ≡ Less) (λ w b. less_behind x v w u b) l h
-
-  less_ahead : (x : K) (v w : V) → FiledUnder x v → Ahead x w → cmp_keys full_key w v ≡ Less
-  less_ahead x v w u b = less_by_slot (full_key w) (full_key v) b.0 u.0 (ap (λ k. cmp (slot (full_key w)) k) u.1 ∙ b.1)
-
-  entries_above-all_behind : (k : K) (c : Content K V) → Filed c → All (Behind k) (values_of (entries_above cmp c k))
-  entries_above-all_behind k [] f = All-nil (Behind k)
-  entries_above-all_behind k (e ∷ es) f =
-      let rest = entries_above-all_behind k es f.1 in
-      elim (cmp k e.0) as (λ r. cmp k e.0 ≡ r → All (Behind k) (values_of (cond (is_lt r) (e ∷ entries_above cmp es k) (entries_above cmp es k)))) [
-        | Less ↦ λ p. All-append (Behind k) e.1 (values_of (entries_above cmp es k)) (All-weaker (FiledUnder e.0) (Behind k) (λ v u. (u.0, ap (λ x. cmp k x) u.1 ∙ p)) e.1 f.0) rest
-        | Equal ↦ λ p. rest
-        | Greater ↦ λ p. rest
-      ] refl
-
-  ahead_below : (k : K) (c : Content K V) → Filed c → All (Ahead k) (values_of (entries_below cmp c k))
-  ahead_below k [] f = All-nil (Ahead k)
-  ahead_below k (e ∷ es) f =
-      let rest = ahead_below k es f.1 in
-      elim (cmp e.0 k) as (λ r. cmp e.0 k ≡ r → All (Ahead k) (values_of (cond (is_lt r) (e ∷ entries_below cmp es k) (entries_below cmp es k)))) [
-        | Less ↦ λ p. All-append (Ahead k) e.1 (values_of (entries_below cmp es k)) (All-weaker (FiledUnder e.0) (Ahead k) (λ v u. (u.0, ap (λ x. cmp x k) u.1 ∙ p)) e.1 f.0) rest
-        | Equal ↦ λ p. rest
-        | Greater ↦ λ p. rest
-      ] refl
-
-  first_of_all : (e : K × List V) (es : Content K V) (r : Option V) → IsLawful cmp (e ∷ es) → Filed (e ∷ es) → IsLeast (cmp_keys full_key) e.1 r → IsLeast (cmp_keys full_key) (values_of (e ∷ es)) r
-  first_of_all e es None h f least = absurd (not_filled e.1 (T-and_first _ _ h.1) least)
-  first_of_all e es (Some v) h f least =
-      let keys = on_total full_key nat_list_cmp_total in
-      IsLeast-front keys e.1 (values_of es) v least (less_all e.0 v (values_of es) (least_has keys (FiledUnder e.0) e.1 v least f.0) (behind_all e.0 es (T-and_first _ _ h.0) f.1))
-
-  -- its own list, and else the first of the higher lists
-  own_or_first : (k : K) (own : List V) (d : Content K V) (other : Option (K × List V)) (r : Option V) → All (FiledUnder k) own → All (Behind k) (values_of d) → IsLawful cmp d → Filed d
-      → IsLeast (cmp_keys full_key) (or_list own (unflagged (option_map (λ n. (n.0.1, n.1)) (or_cycled (first_entry d) other)))) r → IsLeast (cmp_keys full_key) (own ++ values_of d) r
-  own_or_first k (x ∷ xs) d other None u b h f least = absurd (cons_not_nil x xs least)
-  own_or_first k (x ∷ xs) d other (Some v) u b h f least =
-      let keys = on_total full_key nat_list_cmp_total in
-      IsLeast-front keys (x ∷ xs) (values_of d) v least (less_all k v (values_of d) (least_has keys (FiledUnder k) (x ∷ xs) v least u) b)
-  own_or_first k [] [] None r u b h f least = least
-  own_or_first k [] [] (Some e) r u b h f least = least
-  own_or_first k [] (e ∷ es) other r u b h f least = first_of_all e es r h f least
-
-  last_of_all : (e : K × List V) (es : Content K V) (other : Option (K × List V)) (r : Option V) → IsLawful cmp (e ∷ es) → Filed (e ∷ es)
-      → IsLeast (flip_args (cmp_keys full_key)) (unflagged (option_map (λ n. (n.0.1, n.1)) (or_cycled (last_or (Some e) es) other))) r → IsLeast (flip_args (cmp_keys full_key)) (values_of (e ∷ es)) r
-  last_of_all e [] other r h f least = subst (λ l. IsLeast (flip_args (cmp_keys full_key)) l r) (sym (append-nil e.1)) least
-  last_of_all e (g ∷ gs) other None h f least =
-      let rest = last_of_all g gs other None (T-and_second _ _ h.0, T-and_second _ _ h.1) f.1 least in
+  last_of_all : (e : K × List V) (es : Content K V) (r : Option V) → IsLawful cmp (e ∷ es) → Filed (e ∷ es) → IsNearest full_key false (unwrap_or (option_map (λ e. e.1) (last_or (Some e) es)) []) r → IsNearest full_key false (values_of (e ∷ es)) r
+  last_of_all e [] r h f least = subst (λ l. IsNearest full_key false l r) (sym (append-nil e.1)) least
+  last_of_all e (g ∷ gs) None h f least =
+      let rest = last_of_all g gs None (T-and_second _ _ h.0, T-and_second _ _ h.1) f.1 least in
       absurd (not_filled_front g.1 (values_of gs) (T-and_first _ _ (T-and_second (is_filled e.1) _ h.1)) rest)
-  last_of_all e (g ∷ gs) other (Some v) h f least =
-      let rest = last_of_all g gs other (Some v) (T-and_second _ _ h.0, T-and_second _ _ h.1) f.1 least in
-      let keys = back_total (on_total full_key nat_list_cmp_total) in
-      let behind = least_has keys (Behind e.0) (values_of (g ∷ gs)) v rest (behind_all e.0 (g ∷ gs) (T-and_first _ _ h.0) f.1) in
-      IsLeast-back keys (values_of (g ∷ gs)) e.1 v rest (All-weaker (FiledUnder e.0) (λ w. cmp_keys full_key w v ≡ Less) (λ w u. less_behind e.0 w v u behind) e.1 f.0)
+  last_of_all e (g ∷ gs) (Some v) h f least =
+      let rest = last_of_all g gs (Some v) (T-and_second _ _ h.0, T-and_second _ _ h.1) f.1 least in
+      let keys = nearest_total full_key false in
+      let before : (w : V) → FiledUnder e.0 w → cmp_keys full_key w v ≡ Less = λ w u. least_has keys (λ x. cmp_keys full_key w x ≡ Less) (values_of (g ∷ gs)) v rest (before_all true e.0 w u (g ∷ gs) (behind e.0 (g ∷ gs) (T-and_first _ _ h.0)) f.1) in
+      IsLeast-back keys (values_of (g ∷ gs)) e.1 v rest (All-weaker (FiledUnder e.0) (λ w. cmp_keys full_key w v ≡ Less) before e.1 f.0)
 
-  -- its own list, and else the last of the lower lists
-  own_or_last : (k : K) (own : List V) (d : Content K V) (other : Option (K × List V)) (r : Option V) → All (FiledUnder k) own → All (Ahead k) (values_of d) → IsLawful cmp d → Filed d
-      → IsLeast (flip_args (cmp_keys full_key)) (or_list own (unflagged (option_map (λ n. (n.0.1, n.1)) (or_cycled (last_entry d) other)))) r → IsLeast (flip_args (cmp_keys full_key)) (values_of d ++ own) r
-  own_or_last k (x ∷ xs) d other None u b h f least = absurd (cons_not_nil x xs least)
-  own_or_last k (x ∷ xs) d other (Some v) u b h f least =
-      let keys = back_total (on_total full_key nat_list_cmp_total) in
-      let under = least_has keys (FiledUnder k) (x ∷ xs) v least u in
-      IsLeast-back keys (x ∷ xs) (values_of d) v least (All-weaker (Ahead k) (λ w. cmp_keys full_key w v ≡ Less) (λ w a. less_ahead k v w under a) (values_of d) b)
-  own_or_last k [] [] None r u b h f least = least
-  own_or_last k [] [] (Some e) r u b h f least = least
-  own_or_last k [] (e ∷ es) other r u b h f least =
-      subst (λ l. IsLeast (flip_args (cmp_keys full_key)) l r) (sym (append-nil (values_of (e ∷ es)))) (last_of_all e es other r h f least)
+  end_of_all : (s : Bool) (c : Content K V) (r : Option V) → IsLawful cmp c → Filed c → IsEndCandidate full_key s c r → IsFullEnd full_key s c r
+  end_of_all true [] r h f least = least
+  end_of_all true (e ∷ es) None h f least = absurd (not_filled e.1 (T-and_first _ _ h.1) least)
+  end_of_all true (e ∷ es) (Some v) h f least =
+      let keys = nearest_total full_key true in
+      IsLeast-front keys e.1 (values_of es) v least (before_all true e.0 v (least_has keys (FiledUnder e.0) e.1 v least f.0) es (behind e.0 es (T-and_first _ _ h.0)) f.1)
+  end_of_all false [] r h f least = least
+  end_of_all false (e ∷ es) r h f least = last_of_all e es r h f least
 
-  pub first_of_filed : (c : Content K V) (r : Option V) → IsLawful cmp c → IsFiled full_key cmp slot c → IsFirstCandidate full_key c r → IsFullFirst full_key c r
-  first_of_filed [] r h f least = least
-  first_of_filed (e ∷ es) r h f least = first_of_all e es r h (filed_entries (e ∷ es) h.0 f) least
+  pub end_of_filed : (s : Bool) (c : Content K V) (r : Option V) → IsLawful cmp c → IsFiled full_key cmp slot c → IsEndCandidate full_key s c r → IsFullEnd full_key s c r
+  end_of_filed s c r h f least = end_of_all s c r h (filed_entries c h.0 f) least
 
-  pub last_of_filed : (c : Content K V) (r : Option V) → IsLawful cmp c → IsFiled full_key cmp slot c → IsLastCandidate full_key c r → IsFullLast full_key c r
-  last_of_filed [] r h f least = least
-  last_of_filed (e ∷ es) r h f least =
-      last_of_all e es None r h (filed_entries (e ∷ es) h.0 f) (subst (λ l. IsLeast (flip_args (cmp_keys full_key)) l r) (unflagged-found (last_or (Some e) es)) least)
-    where
-      unflagged-found : (found : Option (K × List V)) → unwrap_or (option_map (λ e. e.1) found) [] ≡ unflagged (option_map (λ n. (n.0.1, n.1)) (or_cycled found None))
-      unflagged-found None = refl
-      unflagged-found (Some e) = refl
+  -- its own list, with what is on a side of it in front and behind
+  own_or_end : (s : Bool) (k : K) (own front back : List V) (d : Content K V) (r : Option V) → All (FiledUnder k) own → All (λ e. is_lt (side_cmp s cmp k e.0) ≡ true) d → IsLawful cmp d → Filed d → values_of d ≡ front ++ back
+      → IsNearest full_key s (or_list own (unwrap_or (end_list s d) [])) r → IsNearest full_key s (front ++ (own ++ back)) r
+  own_or_end s k [] front back d r u b h f is least = subst (λ l. IsNearest full_key s l r) is (end_of_all s d r h f least)
+  own_or_end s k (x ∷ xs) front back d None u b h f is least = absurd (cons_not_nil x xs least)
+  own_or_end s k (x ∷ xs) front back d (Some v) u b h f is least =
+      let keys = nearest_total full_key s in
+      let Before : V → Type 0 = λ w. on full_key (side_cmp s byte_cmp) v w ≡ Less in
+      let others = subst (All Before) is (before_all s k v (least_has keys (FiledUnder k) (x ∷ xs) v least u) d b f) in
+      IsLeast-back keys ((x ∷ xs) ++ back) front v (IsLeast-front keys (x ∷ xs) back v least (All-append_behind Before front back others)) (All-append_front Before front back others)
 
-  filed_where : (p : K → Bool) (c : Content K V) → Filed c → Filed (filter (λ e. p e.0) c)
-  filed_where p [] f = tt
-  filed_where p (e ∷ es) f =
-      elim (p e.0) as (λ b. Filed (cond b (e ∷ filter (λ e. p e.0) es) (filter (λ e. p e.0) es))) [
-        | true ↦ (f.0, filed_where p es f.1)
-        | false ↦ filed_where p es f.1
-      ]
+  is_eq-side_cmp : (s : Bool) (x y : K) → is_eq (cmp x y) ≡ is_eq (side_cmp s cmp x y)
+  is_eq-side_cmp true x y = refl
+  is_eq-side_cmp false x y = ap is_eq (o.antisymm x y) ∙ elim (cmp y x) as (λ r. is_eq (ordering_reverse r) ≡ is_eq r) [ Less ↦ refl | Equal ↦ refl | Greater ↦ refl ]
 
-  module _ (a : List ℕ) (bytes : IsBytes a) where
-    -- a list under a higher index key, and one under a lower
-    byte_cmp-slot_below : (x : K) (v : V) → FiledUnder x v → cmp (slot a) x ≡ Less → byte_cmp a (full_key v) ≡ Less
-    byte_cmp-slot_below x v u e = less_by_slot a (full_key v) bytes u.0 (ap (λ k. cmp (slot a) k) u.1 ∙ e)
+  module _ (s : Bool) (a : List ℕ) (bytes : IsBytes a) where
+    -- a value whose full key is beyond the key, and the entries whose index keys are
+    abbrev is_beyond : V → Bool
+    is_beyond v = is_lt (side_cmp s byte_cmp a (full_key v))
 
-    byte_cmp-slot_above : (x : K) (v : V) → FiledUnder x v → cmp x (slot a) ≡ Less → byte_cmp (full_key v) a ≡ Less
-    byte_cmp-slot_above x v u e = less_by_slot (full_key v) a u.0 bytes (ap (λ k. cmp k (slot a)) u.1 ∙ e)
+    abbrev entries_beyond : Content K V → Content K V
+    entries_beyond c = filter (λ e. is_lt (side_cmp s cmp (slot a) e.0)) c
 
-    above_higher : (x : K) (l : List V) → All (FiledUnder x) l → cmp (slot a) x ≡ Less → above full_key a l ≡ l
-    above_higher x l f e =
-        filter-all_pass (λ v. is_lt (byte_cmp a (full_key v))) l (All-weaker (FiledUnder x) (λ v. is_lt (byte_cmp a (full_key v)) ≡ true) (λ v u. ap is_lt (byte_cmp-slot_below x v u e)) l f)
+    -- the values of these are beyond it, and those on the other side are not
+    all_beyond : (x : K) (l : List V) → All (FiledUnder x) l → side_cmp s cmp (slot a) x ≡ Less → beyond full_key s a l ≡ l
+    all_beyond x l f e =
+        filter-all_pass is_beyond l
+        (All-weaker (FiledUnder x) (λ v. is_beyond v ≡ true) (λ v u. ap is_lt (less_by_side s a (full_key v) bytes u.0 (ap (side_cmp s cmp (slot a)) u.1 ∙ e))) l f)
 
-    above_lower : (x : K) (l : List V) → All (FiledUnder x) l → cmp x (slot a) ≡ Less → above full_key a l ≡ []
-    above_lower x l f e =
-        filter-none_pass (λ v. is_lt (byte_cmp a (full_key v))) l
-        (All-weaker (FiledUnder x) (λ v. is_lt (byte_cmp a (full_key v)) ≡ false) (λ v u. ap is_lt (nat_list_cmp_total.antisymm a (full_key v)) ∙ is_lt-reverse_less _ (byte_cmp-slot_above x v u e)) l f)
+    none_beyond : (x : K) (l : List V) → All (FiledUnder x) l → side_cmp s cmp (slot a) x ≡ Greater → beyond full_key s a l ≡ []
+    none_beyond x l f e =
+        let turned : side_cmp s cmp x (slot a) ≡ Less = (side_total s o).antisymm x (slot a) ∙ ap ordering_reverse e in
+        let before : (v : V) → FiledUnder x v → side_cmp s byte_cmp (full_key v) a ≡ Less = λ v u. less_by_side s (full_key v) a u.0 bytes (ap (λ k. side_cmp s cmp k (slot a)) u.1 ∙ turned) in
+        filter-none_pass is_beyond l
+        (All-weaker (FiledUnder x) (λ v. is_beyond v ≡ false) (λ v u. ap is_lt ((side_total s nat_list_cmp_total).antisymm a (full_key v)) ∙ is_lt-reverse_less _ (before v u)) l f)
 
-    below_lower : (x : K) (l : List V) → All (FiledUnder x) l → cmp x (slot a) ≡ Less → below full_key a l ≡ l
-    below_lower x l f e =
-        filter-all_pass (λ v. is_lt (byte_cmp (full_key v) a)) l (All-weaker (FiledUnder x) (λ v. is_lt (byte_cmp (full_key v) a) ≡ true) (λ v u. ap is_lt (byte_cmp-slot_above x v u e)) l f)
+    -- all that are beyond it: of its own list, with those of these entries in front and behind
+    abbrev Around : List V → Content K V → List V → Type 0
+    Around own d l = (front : List V) × (back : List V) × (l ≡ front ++ (own ++ back)) × (values_of d ≡ front ++ back)
 
-    below_higher : (x : K) (l : List V) → All (FiledUnder x) l → cmp (slot a) x ≡ Less → below full_key a l ≡ []
-    below_higher x l f e =
-        filter-none_pass (λ v. is_lt (byte_cmp (full_key v) a)) l
-        (All-weaker (FiledUnder x) (λ v. is_lt (byte_cmp (full_key v) a) ≡ false) (λ v u. ap is_lt (nat_list_cmp_total.antisymm (full_key v) a) ∙ is_lt-reverse_less _ (byte_cmp-slot_below x v u e)) l f)
-
-    -- above the key stand those of its own list and all higher lists
-    above_values : (c : Content K V) → T (is_sorted cmp c) → Filed c → above full_key a (values_of c) ≡ above full_key a (list_at cmp c (slot a)) ++ values_of (entries_above cmp c (slot a))
-    above_values [] h f = refl
-    above_values (e ∷ es) h f =
+    around : (c : Content K V) → T (is_sorted cmp c) → Filed c → Around (beyond full_key s a (list_at cmp c (slot a))) (entries_beyond c) (beyond full_key s a (values_of c))
+    around [] h f = ([], [], refl, refl)
+    around (e ∷ es) h f =
         let k = slot a in
-        let rest : above full_key a (values_of es) ≡ above full_key a (list_at cmp es k) ++ values_of (entries_above cmp es k) = above_values es (T-and_second _ _ h) f.1 in
-        let none : ((y : K) → cmp e.0 y ≡ Less → cmp k y ≡ Less) → above full_key a (values_of es) ≡ values_of (entries_above cmp es k) = λ through.
-        rest ∙ ap (λ l. above full_key a l ++ values_of (entries_above cmp es k)) (list_at-below_all o k e.0 es through (T-and_first _ _ h)) in
-        filter-append (λ v. is_lt (byte_cmp a (full_key v))) e.1 (values_of es)
-        ∙ elim (cmp k e.0) as (λ r. cmp k e.0 ≡ r → above full_key a e.1 ++ above full_key a (values_of es) ≡ above full_key a (unwrap_or (cond (is_eq r) (Some e.1) (find cmp k es)) []) ++ values_of (cond (is_lt r) (e ∷ entries_above cmp es k) (entries_above cmp es k))) [
-          | Less ↦ λ p.
-              let through : (y : K) → cmp e.0 y ≡ Less → cmp k y ≡ Less = λ y q. o.trans k e.0 y p q in
-              (λ i. above_higher e.0 e.1 f.0 p i ++ none through i) ∙ ap (λ l. above full_key a l ++ (e.1 ++ values_of (entries_above cmp es k))) (sym (list_at-below_all o k e.0 es through (T-and_first _ _ h)))
-          | Equal ↦ λ p. ap (λ l. above full_key a e.1 ++ l) (none (λ y q. o.congr k e.0 y p ∙ q))
-          | Greater ↦ λ p. ap (λ l. l ++ above full_key a (values_of es)) (above_lower e.0 e.1 f.0 (o.antisymm e.0 k ∙ ap ordering_reverse p)) ∙ rest
-        ] refl
-
-    -- below the key stand those of all lower lists and those of its own
-    entries_below-below_all : (x : K) (es : Content K V) → ((y : K) → cmp x y ≡ Less → cmp (slot a) y ≡ Less) → T (below_all cmp x es) → entries_below cmp es (slot a) ≡ []
-    entries_below-below_all x [] through h = refl
-    entries_below-below_all x (e ∷ es) through h =
-        ap (λ r. cond (is_lt r) (e ∷ entries_below cmp es (slot a)) (entries_below cmp es (slot a))) (o.antisymm e.0 (slot a) ∙ ap ordering_reverse (through e.0 (Less-is_lt _ (T-and_first _ _ h)))) ∙ entries_below-below_all x es through (T-and_second _ _ h)
-
-    below_values : (c : Content K V) → T (is_sorted cmp c) → Filed c → below full_key a (values_of c) ≡ values_of (entries_below cmp c (slot a)) ++ below full_key a (list_at cmp c (slot a))
-    below_values [] h f = refl
-    below_values (e ∷ es) h f =
-        let k = slot a in
-        let rest : below full_key a (values_of es) ≡ values_of (entries_below cmp es k) ++ below full_key a (list_at cmp es k) = below_values es (T-and_second _ _ h) f.1 in
-        filter-append (λ v. is_lt (byte_cmp (full_key v) a)) e.1 (values_of es)
-        ∙ elim (cmp k e.0) as (λ r. cmp k e.0 ≡ r → below full_key a e.1 ++ below full_key a (values_of es) ≡ values_of (cond (is_lt (ordering_reverse r)) (e ∷ entries_below cmp es k) (entries_below cmp es k)) ++ below full_key a (unwrap_or (cond (is_eq r) (Some e.1) (find cmp k es)) [])) [
-          | Less ↦ λ p. ap (λ l. l ++ below full_key a (values_of es)) (below_higher e.0 e.1 f.0 p) ∙ rest
+        let rest = around es (T-and_second _ _ h) f.1 in
+        let own : List V = beyond full_key s a (list_at cmp es k) in
+        let here : List V = beyond full_key s a e.1 in
+        subst (Around (beyond full_key s a (list_at cmp (e ∷ es) k)) (entries_beyond (e ∷ es))) (sym (filter-append is_beyond e.1 (values_of es)))
+        (subst (λ b. Around (beyond full_key s a (unwrap_or (cond b (Some e.1) (find cmp k es)) [])) (entries_beyond (e ∷ es)) (here ++ beyond full_key s a (values_of es))) (sym (is_eq-side_cmp s k e.0))
+        (elim (side_cmp s cmp k e.0) as (λ r. side_cmp s cmp k e.0 ≡ r → Around (beyond full_key s a (unwrap_or (cond (is_eq r) (Some e.1) (find cmp k es)) [])) (cond (is_lt r) (e ∷ entries_beyond es) (entries_beyond es)) (here ++ beyond full_key s a (values_of es))) [
+          | Less ↦ λ p. (
+            e.1 ++ rest.0,
+            rest.1,
+            (λ i. all_beyond e.0 e.1 f.0 p i ++ rest.2 i) ∙ sym (append_assoc e.1 rest.0 (own ++ rest.1)),
+            ap (λ l. e.1 ++ l) rest.3 ∙ sym (append_assoc e.1 rest.0 rest.1),
+          )
           | Equal ↦ λ p.
-              let through : (y : K) → cmp e.0 y ≡ Less → cmp k y ≡ Less = λ y q. o.congr k e.0 y p ∙ q in
-              let lists : below full_key a (list_at cmp es k) ≡ [] = ap (below full_key a) (list_at-below_all o k e.0 es through (T-and_first _ _ h)) in
-              let lower_ones : values_of (entries_below cmp es k) ≡ [] = ap values_of (entries_below-below_all e.0 es through (T-and_first _ _ h)) in
-              ap (λ l. below full_key a e.1 ++ l) (rest ∙ (λ i. lower_ones i ++ lists i)) ∙ append-nil (below full_key a e.1) ∙ ap (λ l. l ++ below full_key a e.1) (sym lower_ones)
-          | Greater ↦ λ p.
-              ap (λ l. l ++ below full_key a (values_of es)) (below_lower e.0 e.1 f.0 (o.antisymm e.0 k ∙ ap ordering_reverse p)) ∙ ap (λ l. e.1 ++ l) rest ∙ sym (append_assoc e.1 (values_of (entries_below cmp es k)) (below full_key a (list_at cmp es k)))
-        ] refl ∙ ap (λ r. values_of (cond (is_lt r) (e ∷ entries_below cmp es k) (entries_below cmp es k)) ++ below full_key a (list_at cmp (e ∷ es) k)) (sym (o.antisymm e.0 k))
+              let tied = Equal-is_eq (cmp k e.0) (is_eq-side_cmp s k e.0 ∙ ap is_eq p) in
+              let none : own ≡ [] = ap (beyond full_key s a) (list_at-below_all o k e.0 es (λ y q. o.congr k e.0 y tied ∙ q) (T-and_first _ _ h)) in
+              ([], values_of (entries_beyond es), ap (λ l. here ++ l) (rest.2 ∙ ap (λ l. rest.0 ++ (l ++ rest.1)) none ∙ sym rest.3), refl)
+          | Greater ↦ λ p. (rest.0, rest.1, (λ i. none_beyond e.0 e.1 f.0 p i ++ rest.2 i), rest.3)
+        ] refl))
 
-    pub next_of_filed : (c : Content K V) (r : Option V) → IsLawful cmp c → IsFiled full_key cmp slot c → IsNextCandidate full_key cmp c (slot a) a r → IsFullNext full_key c a r
-    next_of_filed c r h f least =
-        let k = slot a in
+    pub beside_of_filed : (c : Content K V) (r : Option V) → IsLawful cmp c → IsFiled full_key cmp slot c
+        → IsNearest full_key s (or_list (beyond full_key s a (list_at cmp c (slot a))) (unflagged (beside_list s cmp c (slot a)))) r → IsFullBeside full_key s c a r
+    beside_of_filed c r h f least =
+        let own : List V = beyond full_key s a (list_at cmp c (slot a)) in
+        let later : K → Bool = λ x. is_lt (side_cmp s cmp (slot a) x) in
         let filed = filed_entries c h.0 f in
-        let higher_ones = entries_above cmp c k in
-        let kept : IsLawful cmp higher_ones = (is_sorted-where_key cmp (λ x. is_lt (cmp k x)) c h.0, all_filled-where_key o (λ x. is_lt (cmp k x)) c h.1) in
-        let own = All-filter (λ v. is_lt (byte_cmp a (full_key v))) (FiledUnder k) (list_at cmp c k) (f k) in
-        subst (λ l. IsLeast (cmp_keys full_key) l r) (sym (above_values c h.0 filed))
-        (own_or_first k (above full_key a (list_at cmp c k)) higher_ones (first_entry c) r own (entries_above-all_behind k c filed) kept (filed_where (λ x. is_lt (cmp k x)) c filed) least)
-
-    pub prev_of_filed : (c : Content K V) (r : Option V) → IsLawful cmp c → IsFiled full_key cmp slot c → IsPrevCandidate full_key cmp c (slot a) a r → IsFullPrev full_key c a r
-    prev_of_filed c r h f least =
-        let k = slot a in
-        let filed = filed_entries c h.0 f in
-        let lower_ones = entries_below cmp c k in
-        let kept : IsLawful cmp lower_ones = (is_sorted-where_key cmp (λ x. is_lt (cmp x k)) c h.0, all_filled-where_key o (λ x. is_lt (cmp x k)) c h.1) in
-        let own = All-filter (λ v. is_lt (byte_cmp (full_key v) a)) (FiledUnder k) (list_at cmp c k) (f k) in
-        subst (λ l. IsLeast (flip_args (cmp_keys full_key)) l r) (sym (below_values c h.0 filed))
-        (own_or_last k (below full_key a (list_at cmp c k)) lower_ones (last_entry c) r own (ahead_below k c filed) kept (filed_where (λ x. is_lt (cmp x k)) c filed) least)
+        let all = around c h.0 filed in
+        let lawful : IsLawful cmp (entries_beyond c) = (is_sorted-where_key cmp later c h.0, all_filled-where_key o later c h.1) in
+        let under = All-filter is_beyond (FiledUnder (slot a)) (list_at cmp c (slot a)) (f (slot a)) in
+        subst (λ l. IsNearest full_key s l r) (sym all.2)
+        (own_or_end s (slot a) own all.0 all.1 (entries_beyond c) r under (filter_passes (λ e. later e.0) c) lawful (filed_where later c filed) all.3
+        (subst (λ l. IsNearest full_key s (or_list own l) r) (unflagged-beside_list s cmp c (slot a)) least))
 
 -- the least of a list that has one, where another stands behind it
 pub least_own : {V : Type 0} (cmp : V → V → Ordering) (own other : List V) (v : V) → IsLeast cmp own (Some v) → IsLeast cmp (or_list own other) (Some v)
 least_own cmp [] other v least = let none = ap (λ l. length l) least.2 in let some = length-append least.0 (v ∷ least.1) in absurd (omega (arith, none, some))
 least_own cmp (x ∷ xs) other v least = least
-
--- what a reader gave of the other list, where its own list had none
-pub least_other : {V E : Type 0} (cmp : V → V → Ordering) (own found other : List V) (r : Result (Option (Bor V)) E) → own ≡ [] → found ≡ other
-    → IfOk r (λ o. IsLeast cmp found (option_copied o)) → IfOk r (λ o. IsLeast cmp (or_list own other) (option_copied o))
-least_other cmp own found other r none is h =
-    subst (λ l. IfOk r (λ o. IsLeast cmp (or_list l other) (option_copied o))) (sym none)
-    (subst (λ l. IfOk r (λ o. IsLeast cmp l (option_copied o))) is h)

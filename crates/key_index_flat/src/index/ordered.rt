@@ -9,6 +9,7 @@ use super::storage::tree_key::TreeMap;
 use super::{
     Factory, Fault, IndexCursor, Ordered, OrderedLists, Refused, Runs, Search, Unordered, Values,
 };
+use crate::cursor_of;
 use crate::translator::{OrderedTranslator, Translator};
 use std::alloc::Global;
 use std::convert::AsSlice;
@@ -119,11 +120,7 @@ impl<T: Translator, V: Drop> Search for Index<T, V> {
     }
 
     fn search(&mut self, key: &[u8]) -> Result<IndexCursor<'_, Index<T, V>>, Option<Fault>> {
-        match self.reach(key) {
-            Ok((_, 0)) => Err(None),
-            Ok((slot, len)) => Ok(IndexCursor::with_len(self, slot, len)),
-            Err(fault) => Err(Some(fault)),
-        }
+        cursor_of!(self, self.reach(key))
     }
 
     fn search_or_insert(
@@ -131,11 +128,7 @@ impl<T: Translator, V: Drop> Search for Index<T, V> {
         key: &[u8],
         value: V,
     ) -> Result<IndexCursor<'_, Index<T, V>>, Option<Refused<V>>> {
-        match self.reach_or_insert(key, value) {
-            Ok((_, 0)) => Err(None),
-            Ok((slot, len)) => Ok(IndexCursor::with_len(self, slot, len)),
-            Err(refused) => Err(Some(refused)),
-        }
+        cursor_of!(self, self.reach_or_insert(key, value))
     }
 }
 

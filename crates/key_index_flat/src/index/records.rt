@@ -1,12 +1,9 @@
 //! Values by their full keys, in an index that keeps shorter ones: a reader has the full keys.
-ghost use Rattle.std.specs.Prelude.{◌≡◌, ◌∷◌, ◌++◌, ℕ, List, [], IfErr, IfOk, unwrap_or};
-ghost use Rattle.std.specs.List.{filter};
+ghost use Rattle.std.specs.Prelude.{◌≡◌, ◌∷◌, ◌++◌, ℕ, Bool, true, false, List, [], IfErr, IfOk};
 ghost use Rattle.std.specs.Option.{option_copied, option_map};
-ghost use Rattle.std.specs.declared.cmp.Ordering.{Ordering};
-ghost use Rattle.std.specs.Ordering.{is_lt, on, flip_args};
-ghost use Rattle.std.specs.Cmp.{IsTotalOrder, back_total};
-ghost use Rattle.std.specs.Cmp.Lexicographic.{nat_list_cmp_total};
-ghost use Rattle.key_index_flat.specs.FullKeys.{AsRead, FailsOn, IsFiledIn, IsFirstCandidate, IsFullFirst, IsFullGap, IsFullLast, IsFullNext, IsFullPrev, IsGapAmong, IsGapIn, IsLastCandidate, IsLeast, IsLeastRead, IsNextIn, IsPrevIn, above, below, byte_cmp, cmp_keys, first_with, gap_copied, unflagged};
+ghost use Rattle.std.specs.Ordering.{is_lt};
+ghost use Rattle.key_index_flat.specs.FullKeys.{AsRead, FailsOn, IsBesideIn, IsEndCandidate, IsFiledIn, IsFirstCandidate, IsFullBeside, IsFullEnd, IsFullFirst, IsFullGap, IsFullLast, IsFullNext, IsFullPrev, IsGapAmong, IsGapIn, IsLastCandidate, IsNearest, IsNearestRead, IsNextIn, IsPrevIn, beyond, byte_cmp, first_with, gap_copied};
+ghost use Rattle.key_index_flat.specs.Neighbours.{beside_list, end_list, side_cmp};
 ghost use Rattle.key_index_flat.specs.Values.{values_of};
 ghost use Rattle.key_index_flat.specs.View.{run_of};
 
@@ -43,22 +40,30 @@ pub trait Records<'a, V> {
         ensures fault { IfErr result (fails self.new value.now) };
 }
 
-/// A side of a key, where its neighbour is looked for: the order in which the keys there come, from the nearest on.
+/// A side of a key, above it or else below, where its neighbour is looked for: the order in which the keys there come, from the nearest
+/// on, and the calls of an index that go by it.
 pub trait Side {
-    ghost cmp: { List ℕ → List ℕ → Ordering };
+    ghost is_above: { Bool };
 
     /// Whether a key comes before another.
     fn is_before(a: &[u8], b: &[u8]) -> bool
-        ensures { result ≡ is_lt (cmp a.now b.now) };
+        ensures { result ≡ is_lt (side_cmp is_above byte_cmp a.now b.now) };
 
-    ghost total: { IsTotalOrder cmp };
+    /// The values of the first index key behind that of the key, and false. Where there is none, those of the first of all, and true.
+    fn beside<'a, I: Ordered>(index: &'a I, key: &[u8]) -> Option<(Values<'a, I::Value>, bool)>
+        ensures { let view = I.view index.now in
+            result ≡ beside_list is_above I.Key.cmp view.content (view.slot key.now) };
+
+    /// The values of the first index key of all.
+    fn end<'a, I: Ordered>(index: &'a I) -> Option<Values<'a, I::Value>>
+        ensures { result ≡ end_list is_above (I.view index.now).content };
 }
 
 /// Keys above, in the order of bytes.
 pub struct Above;
 
 impl Side for Above {
-    ghost cmp = { byte_cmp };
+    ghost is_above = { true };
 
     #[inline]
     #[tactic(auto, using(crate::proofs::neighbours::LeastLemmas::told_before))]
@@ -66,14 +71,22 @@ impl Side for Above {
         a < b
     }
 
-    ghost total = { nat_list_cmp_total };
+    #[inline]
+    fn beside<'a, I: Ordered>(index: &'a I, key: &[u8]) -> Option<(Values<'a, I::Value>, bool)> {
+        index.next_translated_key(key)
+    }
+
+    #[inline]
+    fn end<'a, I: Ordered>(index: &'a I) -> Option<Values<'a, I::Value>> {
+        index.first_translated_key()
+    }
 }
 
 /// Keys below, in that order turned.
 pub struct Below;
 
 impl Side for Below {
-    ghost cmp = { flip_args byte_cmp };
+    ghost is_above = { false };
 
     #[inline]
     #[tactic(auto, using(crate::proofs::neighbours::LeastLemmas::told_before))]
@@ -81,7 +94,15 @@ impl Side for Below {
         b < a
     }
 
-    ghost total = { back_total nat_list_cmp_total };
+    #[inline]
+    fn beside<'a, I: Ordered>(index: &'a I, key: &[u8]) -> Option<(Values<'a, I::Value>, bool)> {
+        index.prev_translated_key(key)
+    }
+
+    #[inline]
+    fn end<'a, I: Ordered>(index: &'a I) -> Option<Values<'a, I::Value>> {
+        index.last_translated_key()
+    }
 }
 
 /// Of the nearest value of a list and one that comes behind it, each with its full key, the one with the nearer full key.
@@ -91,8 +112,8 @@ fn nearer<'a, S: Side, V, K: AsSlice<u8> + Drop>(
     key: K,
 ) -> Option<(&'a V, K)>
     ensures { (keys : V → List ℕ) (l : List V) → K.items key ≡ keys value.now
-        → IsLeastRead keys K.items S.cmp l nearest.entry
-        → IsLeastRead keys K.items S.cmp (l ++ value.now ∷ []) result }
+        → IsNearestRead keys K.items S.is_above l nearest.entry
+        → IsNearestRead keys K.items S.is_above (l ++ value.now ∷ []) result }
 {
     let Some(first) = nearest else {
         return Some((value, key));
@@ -120,7 +141,7 @@ fn nearest<'a, S: Side, V, R: Records<'a, V>>(
     records: &mut R,
 ) -> Result<Option<&'a V>, R::Error>
     ensures nearest { AsRead (R.agrees records.new) (λ keys. IfOk result (λ o.
-        IsLeast (on keys S.cmp) values.entry (option_copied o))) }
+        IsNearest keys S.is_above values.entry (option_copied o))) }
     ensures reads { R.reads records.old records.new }
     ensures fault { IfErr result (FailsOn (R.fails records.new) values.entry) }
 {
@@ -139,7 +160,7 @@ fn nearest_beyond<'a, S: Side, V, R: Records<'a, V>>(
     key: &[u8],
 ) -> Result<Option<&'a V>, R::Error>
     ensures nearest { AsRead (R.agrees records.new) (λ keys. IfOk result (λ o.
-        IsLeast (on keys S.cmp) (filter (λ v. is_lt (S.cmp key.now (keys v))) values.entry) (option_copied o))) }
+        IsNearest keys S.is_above (beyond keys S.is_above key.now values.entry) (option_copied o))) }
     ensures reads { R.reads records.old records.new }
     ensures fault { IfErr result (FailsOn (R.fails records.new) values.entry) }
 {
@@ -179,38 +200,6 @@ fn nearest_beside<'a, V, R: Records<'a, V>>(
         }
     }
     Ok(Some((without_key(below), without_key(above))))
-}
-
-/// The first of the nearest values of a list, if there is one.
-fn nearest_if_any<'a, S: Side, V, R: Records<'a, V>>(
-    list: Option<Values<'a, V>>,
-    records: &mut R,
-) -> Result<Option<&'a V>, R::Error>
-    ensures nearest { AsRead (R.agrees records.new) (λ keys. IfOk result (λ o.
-        IsLeast (on keys S.cmp) (unwrap_or list.entry []) (option_copied o))) }
-    ensures reads { R.reads records.old records.new }
-    ensures fault { IfErr result (FailsOn (R.fails records.new) (unwrap_or list.entry [])) }
-{
-    match list {
-        Some(values) => nearest::<S, _, _>(values, records),
-        None => Ok(None),
-    }
-}
-
-/// The first of the nearest values of a neighbour, unless that one was found by cycling.
-fn nearest_unflagged<'a, S: Side, V, R: Records<'a, V>>(
-    found: Option<(Values<'a, V>, bool)>,
-    records: &mut R,
-) -> Result<Option<&'a V>, R::Error>
-    ensures nearest { AsRead (R.agrees records.new) (λ keys. IfOk result (λ o.
-        IsLeast (on keys S.cmp) (unflagged found.entry) (option_copied o))) }
-    ensures reads { R.reads records.old records.new }
-    ensures fault { IfErr result (FailsOn (R.fails records.new) (unflagged found.entry)) }
-{
-    match found {
-        Some((values, false)) => nearest::<S, _, _>(values, records),
-        _ => Ok(None),
-    }
 }
 
 /// The first of the values that has a full key.
@@ -253,25 +242,60 @@ pub fn find_record<'a, I: Unordered, R: Records<'a, I::Value>>(
     first_record_with(index.get(key), records, key)
 }
 
-/// The least of the values above a key in its own list, if it is given. Else the least of the next list, unless that one is found by
-/// cycling.
-fn own_or_next<'a, I: Ordered, R: Records<'a, I::Value>>(
+/// The nearest of the values beyond a key in its own list, if it is given. Else the nearest of the neighbour's list, unless that one is
+/// found by cycling.
+fn own_or_beside<'a, S: Side, I: Ordered, R: Records<'a, I::Value>>(
     index: &'a I,
     records: &mut R,
     key: &[u8],
     own: Option<&'a I::Value>,
 ) -> Result<Option<&'a I::Value>, R::Error>
-    ensures candidate { AsRead (R.agrees records.new) (λ keys.
-        IsLeast (cmp_keys keys) (above keys key.now (run_of I.Key.cmp (I.view index.now) key.now))
-        (option_copied own.entry)
-        → IfOk result (λ o. IsNextIn keys I.Key.cmp (I.view index.now) key.now (option_copied o))) }
+    ensures candidate { AsRead (R.agrees records.new) (λ keys. let run = run_of I.Key.cmp (I.view index.now) key.now in
+        IsNearest keys S.is_above (beyond keys S.is_above key.now run) (option_copied own.entry)
+        → IfOk result (λ o. IsBesideIn keys I.Key.cmp S.is_above (I.view index.now) key.now (option_copied o))) }
     ensures reads { R.reads records.old records.new }
     ensures fault { IfErr result (FailsOn (R.fails records.new) (values_of (I.view index.now).content)) }
 {
     match own {
         Some(value) => Ok(Some(value)),
-        None => nearest_unflagged::<Above, _, _>(index.next_translated_key(key), records),
+        None => match S::beside(index, key) {
+            Some((values, false)) => nearest::<S, _, _>(values, records),
+            _ => Ok(None),
+        },
     }
+}
+
+/// The nearest value beyond a key, of the key's own list or of its neighbour.
+fn record_beside<'a, S: Side, I: Ordered, R: Records<'a, I::Value>>(
+    index: &'a I,
+    records: &mut R,
+    key: &[u8],
+) -> Result<Option<&'a I::Value>, R::Error>
+    ensures candidate { AsRead (R.agrees records.new) (λ keys. IfOk result (λ o.
+        IsBesideIn keys I.Key.cmp S.is_above (I.view index.now) key.now (option_copied o))) }
+    ensures filed { AsRead (R.agrees records.new) (λ keys. IsFiledIn keys I.Key.cmp (I.view index.now)
+        → IfOk result (λ o. IsFullBeside keys S.is_above (I.view index.now).content key.now (option_copied o))) }
+    ensures reads { R.reads records.old records.new }
+    ensures fault { IfErr result (FailsOn (R.fails records.new) (values_of (I.view index.now).content)) }
+{
+    let own = nearest_beyond::<S, _, _>(index.get(key), records, key)?;
+    own_or_beside::<S, _, _>(index, records, key, own)
+}
+
+/// The nearest value of the list that comes first on a side.
+fn end_record<'a, S: Side, I: Ordered, R: Records<'a, I::Value>>(
+    index: &'a I,
+    records: &mut R,
+) -> Result<Option<&'a I::Value>, R::Error>
+    ensures candidate { AsRead (R.agrees records.new) (λ keys. IfOk result (λ o.
+        IsEndCandidate keys S.is_above (I.view index.now).content (option_copied o))) }
+    ensures filed { AsRead (R.agrees records.new) (λ keys. IsFiledIn keys I.Key.cmp (I.view index.now)
+        → IfOk result (λ o. IsFullEnd keys S.is_above (I.view index.now).content (option_copied o))) }
+    ensures reads { R.reads records.old records.new }
+    ensures fault { IfErr result (FailsOn (R.fails records.new) (values_of (I.view index.now).content)) }
+{
+    let values = S::end(index).unwrap_or(Values::of_slice(&[]));
+    nearest::<S, _, _>(values, records)
 }
 
 /// The value with the least full key strictly above a key, of all in an index whose values stand under their own full keys. `None`
@@ -293,29 +317,7 @@ pub fn next_record<'a, I: Ordered, R: Records<'a, I::Value>>(
     ensures reads { R.reads records.old records.new }
     ensures fault { IfErr result (FailsOn (R.fails records.new) (values_of (I.view index.now).content)) }
 {
-    let own = nearest_beyond::<Above, _, _>(index.get(key), records, key)?;
-    own_or_next(index, records, key, own)
-}
-
-/// The greatest of the values below a key in its own list, if it is given. Else the greatest of the previous list, unless that one is found by
-/// cycling.
-fn own_or_prev<'a, I: Ordered, R: Records<'a, I::Value>>(
-    index: &'a I,
-    records: &mut R,
-    key: &[u8],
-    own: Option<&'a I::Value>,
-) -> Result<Option<&'a I::Value>, R::Error>
-    ensures candidate { AsRead (R.agrees records.new) (λ keys.
-        IsLeast (flip_args (cmp_keys keys)) (below keys key.now (run_of I.Key.cmp (I.view index.now) key.now))
-        (option_copied own.entry)
-        → IfOk result (λ o. IsPrevIn keys I.Key.cmp (I.view index.now) key.now (option_copied o))) }
-    ensures reads { R.reads records.old records.new }
-    ensures fault { IfErr result (FailsOn (R.fails records.new) (values_of (I.view index.now).content)) }
-{
-    match own {
-        Some(value) => Ok(Some(value)),
-        None => nearest_unflagged::<Below, _, _>(index.prev_translated_key(key), records),
-    }
+    record_beside::<Above, _, _>(index, records, key)
 }
 
 /// The value with the greatest full key strictly below a key, of all in an index whose values stand under their own full keys.
@@ -337,8 +339,7 @@ pub fn prev_record<'a, I: Ordered, R: Records<'a, I::Value>>(
     ensures reads { R.reads records.old records.new }
     ensures fault { IfErr result (FailsOn (R.fails records.new) (values_of (I.view index.now).content)) }
 {
-    let own = nearest_beyond::<Below, _, _>(index.get(key), records, key)?;
-    own_or_prev(index, records, key, own)
+    record_beside::<Below, _, _>(index, records, key)
 }
 
 /// The values next to a full key that no value has, below and above: `None` where one has the key. Of a side on which no full key is
@@ -362,8 +363,8 @@ pub fn absent<'a, I: Ordered, R: Records<'a, I::Value>>(
     let Some((below, above)) = nearest_beside(index.get(key), records, key)? else {
         return Ok(None);
     };
-    let below = own_or_prev(index, records, key, below)?;
-    let above = own_or_next(index, records, key, above)?;
+    let below = own_or_beside::<Below, _, _>(index, records, key, below)?;
+    let above = own_or_beside::<Above, _, _>(index, records, key, above)?;
     Ok(Some((below, above)))
 }
 
@@ -383,7 +384,7 @@ pub fn first_record<'a, I: Ordered, R: Records<'a, I::Value>>(
     ensures reads { R.reads records.old records.new }
     ensures fault { IfErr result (FailsOn (R.fails records.new) (values_of (I.view index.now).content)) }
 {
-    nearest_if_any::<Above, _, _>(index.first_translated_key(), records)
+    end_record::<Above, _, _>(index, records)
 }
 
 /// The value with the greatest full key of all, in an index whose values stand under their own full keys. `None` exactly where the
@@ -402,5 +403,5 @@ pub fn last_record<'a, I: Ordered, R: Records<'a, I::Value>>(
     ensures reads { R.reads records.old records.new }
     ensures fault { IfErr result (FailsOn (R.fails records.new) (values_of (I.view index.now).content)) }
 {
-    nearest_if_any::<Below, _, _>(index.last_translated_key(), records)
+    end_record::<Below, _, _>(index, records)
 }

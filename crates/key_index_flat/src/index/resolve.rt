@@ -1,5 +1,5 @@
 //! Neighbours of a full key, in an index that keeps shorter ones, of values that know their own.
-ghost use Rattle.std.specs.Prelude.{◌≡◌, Ok, ℕ, List, refl};
+ghost use Rattle.std.specs.Prelude.{◌≡◌, ℕ, List};
 ghost use Rattle.std.specs.Option.{option_copied};
 ghost use Rattle.key_index_flat.specs.FullKeys.{IsFiledIn, IsFullNext, IsFullPrev, IsNextIn, IsPrevIn};
 
@@ -41,17 +41,6 @@ impl<'a, V: Keyed> Records<'a, V> for OwnKeys {
     }
 }
 
-/// What was read without fail.
-#[inline]
-fn unfailing<T>(read: Result<T, Infallible>) -> T
-    ensures { read ≡ Ok result }
-{
-    match read {
-        Ok(found) => found,
-        Err(never) => match never {},
-    }
-}
-
 /// The value with the least full key strictly above a key, of all in an index whose values stand under their own full keys. `None`
 /// exactly where no full key is above. Among equal full keys the first in list order.
 ///
@@ -66,7 +55,10 @@ where
     ensures filed { IsFiledIn I.Value.full_key I.Key.cmp (I.view index.now)
         → IsFullNext I.Value.full_key (I.view index.now).content key.now (option_copied result) }
 {
-    unfailing(next_record(index, &mut OwnKeys, key))
+    match next_record(index, &mut OwnKeys, key) {
+        Ok(found) => found,
+        Err(never) => match never {},
+    }
 }
 
 /// The value with the greatest full key strictly below a key, of all in an index whose values stand under their own full keys.
@@ -83,5 +75,8 @@ where
     ensures filed { IsFiledIn I.Value.full_key I.Key.cmp (I.view index.now)
         → IsFullPrev I.Value.full_key (I.view index.now).content key.now (option_copied result) }
 {
-    unfailing(prev_record(index, &mut OwnKeys, key))
+    match prev_record(index, &mut OwnKeys, key) {
+        Ok(found) => found,
+        Err(never) => match never {},
+    }
 }

@@ -6,6 +6,7 @@ ghost use Rattle.key_index_flat.specs.Storage.{view_of};
 use super::implement::{Lists, show_by_place, show_counts, visit_by_place};
 use super::storage::Storage;
 use super::{Factory, Fault, IndexCursor, Refused, Runs, Search, Unordered, Values};
+use crate::cursor_of;
 use crate::translator::Translator;
 use key_index_map::map::Map;
 use std::alloc::Global;
@@ -143,11 +144,7 @@ impl<T: Translator, V: Drop> Search for Index<T, V> {
     }
 
     fn search(&mut self, key: &[u8]) -> Result<IndexCursor<'_, Index<T, V>>, Option<Fault>> {
-        match self.reach(key) {
-            Ok((_, 0)) => Err(None),
-            Ok((slot, len)) => Ok(IndexCursor::with_len(self, slot, len)),
-            Err(fault) => Err(Some(fault)),
-        }
+        cursor_of!(self, self.reach(key))
     }
 
     fn search_or_insert(
@@ -155,11 +152,7 @@ impl<T: Translator, V: Drop> Search for Index<T, V> {
         key: &[u8],
         value: V,
     ) -> Result<IndexCursor<'_, Index<T, V>>, Option<Refused<V>>> {
-        match self.reach_or_insert(key, value) {
-            Ok((_, 0)) => Err(None),
-            Ok((slot, len)) => Ok(IndexCursor::with_len(self, slot, len)),
-            Err(refused) => Err(Some(refused)),
-        }
+        cursor_of!(self, self.reach_or_insert(key, value))
     }
 }
 

@@ -258,7 +258,7 @@ pub(super) fn pop_least<K: Ord + Copy, V>(map: &mut TreeMap<K, V>) -> Option<(K,
     ensures kept { IfNone result (map.new.entries ≡ map.old.entries) }
     ensures rises { IsStrictlySortedBy K.cmp (keys_of map.old.entries) }
 {
-    // Its contract says that the keys rise.
+    // For the prover: the contract of `len` says that the keys rise.
     let _len = map.len();
     let (key, value) = map.pop_first()?;
     Some((key.get(), value))
@@ -278,7 +278,7 @@ fn own_key<'a, K, V>(found: Option<(&'a TreeKey<K>, &'a V)>) -> Option<(&'a K, &
 impl<K: Ord + Hash + Copy, V> OrderedMap<K, V> for TreeMap<K, V> {
     #[inline]
     fn first(&self) -> Option<(&K, &V)> {
-        // Its contract says that the keys rise.
+        // For the prover: the contract of `len` says that the keys rise.
         let _len = self.len();
         own_key(self.first_key_value())
     }

@@ -79,7 +79,7 @@ pub trait Cursor {
         ensures place { place self.new ≡ Done }
         ensures edited { edited self.old self.new (length (items self.old) - length (items self.new)) };
 
-    /// Goes on to the next value that is answered true, and tells whether there was one.
+    /// Goes on to the next value for which the closure returns true, and tells whether there was one.
     fn find<F: FnMut(&Self::Value) -> bool>(&mut self, predicate: F) -> bool
         requires { F.IsAlwaysCallable predicate }
         ensures items { items self.new ≡ items self.old }

@@ -7,6 +7,19 @@ ghost use Rattle.key_index_flat.specs.Lent.{nested, OnFound, NoneOrErr, RestsUnl
 
 use crate::index::{Fault, IndexCursor, Refused, Runs};
 
+/// The body of an index's two searches: `cursor_of!(self, self.reach(key))` gives a cursor over the list that was reached, and
+/// `Err(None)` where it has no value.
+#[macro_export]
+macro_rules! cursor_of {
+    ($index:expr, $reached:expr) => {
+        match $reached {
+            Ok((_, 0)) => Err(None),
+            Ok((slot, len)) => Ok($crate::index::IndexCursor::with_len($index, slot, len)),
+            Err(refused) => Err(Some(refused)),
+        }
+    };
+}
+
 /// What a search found, as the calls by key give it.
 #[inline]
 pub(crate) fn nest<I: Runs, F>(

@@ -1,8 +1,8 @@
-use Rattle.std.proofs.Common.{◌<◌, None, Some, IsSome, List, Option, Bor, rules, sym, subst, arith, ◌∙◌}
+use Rattle.std.proofs.Common.{◌<◌, true, false, None, Some, IsSome, List, Option, Bor, rules, sym, subst, arith, ◌∙◌}
 use Rattle.std.proofs.lemmas.List.Elements.{All-from_get_or}
 use Rattle.std.specs.Option.{option_copied}
 use Rattle.key_index_flat.specs.FullKeys.{FailsOn, IsBytes, IsGapAmong, gap_copied}
-use Rattle.key_index_flat.proofs.neighbours.FullKeyLemmas.{first_with-anywhere, next_of_filed, prev_of_filed}
+use Rattle.key_index_flat.proofs.neighbours.FullKeyLemmas.{beside_of_filed, first_with-anywhere}
 use Rattle.key_index_flat.proofs.neighbours.HeldLemmas.{FailsOn-list_at}
 use Rattle.key_index_flat.proofs.index.records.absent.Goals as goal
 
@@ -27,16 +27,16 @@ pub returns-in_err-above-clause-reads : goal.returns-in_err-above-clause-reads
 returns-in_err-above-clause-reads g c =
     let law = g.R.Records in
     let begun = c.args.records.now in
-    let second = c.own_or_prev.new.records in
-    law.reads_both begun second c.own_or_next.new.records (law.reads_both begun c.nearest_beside.new.records second c.nearest_beside.ensures.reads c.own_or_prev.ensures.reads) c.own_or_next.ensures.reads
+    let second = c.own_or_beside.new.records in
+    law.reads_both begun second c.own_or_beside-2.new.records (law.reads_both begun c.nearest_beside.new.records second c.nearest_beside.ensures.reads c.own_or_beside.ensures.reads) c.own_or_beside-2.ensures.reads
 
 pub returns-clause-candidate : goal.returns-clause-candidate
 returns-clause-candidate g c = λ keys agrees.
     let law = g.R.Records in
     let key = c.args.key.now in
-    let second = c.own_or_prev.new.records in
-    let at_second = law.agreed second c.own_or_next.new.records keys c.own_or_next.ensures.reads agrees in
-    let at_first = law.agreed c.nearest_beside.new.records second keys c.own_or_prev.ensures.reads at_second in
+    let second = c.own_or_beside.new.records in
+    let at_second = law.agreed second c.own_or_beside-2.new.records keys c.own_or_beside-2.ensures.reads agrees in
+    let at_first = law.agreed c.nearest_beside.new.records second keys c.own_or_beside.ensures.reads at_second in
     let own = subst (λ (gap : Option (Option (Bor g.row.I-Value.Denot) × Option (Bor g.row.I-Value.Denot))). IsGapAmong keys key c.get.result (gap_copied gap)) c.in-Some.is (c.in_ok-below.ensures.beside keys at_first) in
     let here = subst (λ (l : List g.row.I-Value.Denot). IsGapAmong keys key l (Some (option_copied c.in-Some.below, option_copied c.in-Some.above))) c.get.ensures own in (
       here.0,
@@ -55,13 +55,13 @@ returns-clause-filed g c = λ keys agrees f.
     let lawful = g.met.I.Runs.lawful index in
     let is = returns-clause-candidate g c keys agrees in (
       first_with-anywhere total keys view.slot key view.content lawful.0 f ∙ is.0,
-      prev_of_filed total keys view.slot order key bytes view.content (option_copied c.in_ok-below-2.below) lawful f is.1,
-      next_of_filed total keys view.slot order key bytes view.content (option_copied c.in_ok-above.above) lawful f is.2,
+      beside_of_filed total keys view.slot order false key bytes view.content (option_copied c.in_ok-below-2.below) lawful f is.1,
+      beside_of_filed total keys view.slot order true key bytes view.content (option_copied c.in_ok-above.above) lawful f is.2,
     )
 
 pub returns-clause-reads : goal.returns-clause-reads
 returns-clause-reads g c =
     let law = g.R.Records in
     let begun = c.args.records.now in
-    let second = c.own_or_prev.new.records in
-    law.reads_both begun second c.own_or_next.new.records (law.reads_both begun c.nearest_beside.new.records second c.nearest_beside.ensures.reads c.own_or_prev.ensures.reads) c.own_or_next.ensures.reads
+    let second = c.own_or_beside.new.records in
+    law.reads_both begun second c.own_or_beside-2.new.records (law.reads_both begun c.nearest_beside.new.records second c.nearest_beside.ensures.reads c.own_or_beside.ensures.reads) c.own_or_beside-2.ensures.reads

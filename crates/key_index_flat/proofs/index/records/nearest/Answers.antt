@@ -2,7 +2,7 @@ use Rattle.std.proofs.Common.{◌∷◌, [], All, refl, subst, sym, map}
 use Rattle.std.proofs.lemmas.List.{map-append}
 use Rattle.std.proofs.lemmas.List.Elements.{All-tail, All-contains_itself}
 use Rattle.std.specs.List.{Contains}
-use Rattle.key_index_flat.specs.FullKeys.{IsLeastRead}
+use Rattle.key_index_flat.specs.FullKeys.{IsNearestRead}
 use Rattle.key_index_flat.proofs.index.records.nearest.Goals as goal
 
 pub loop-value-init : goal.loop-value-init
@@ -23,6 +23,6 @@ loop-value-preserved g c =
       left = All-tail (Contains c.args.values) value.now c.next.new.self (subst (All (Contains c.args.values)) c.in-Some.ensures.steps so_far.left);
       least = λ keys agrees.
           let before = law.agreed now c.key_of.new.self keys c.in_ok-key.ensures.reads agrees in
-          subst (λ l. IsLeastRead keys g.R.Key.AsSlice.items g.S.Side.cmp l c.nearer-nearest.result) (sym (map-append (λ v. v.now) c.loop-value.yielded (value ∷ [])))
+          subst (λ l. IsNearestRead keys g.R.Key.AsSlice.items g.S.Side.is_above l c.nearer-nearest.result) (sym (map-append (λ v. v.now) c.loop-value.yielded (value ∷ [])))
           (c.nearer-nearest.ensures keys (map (λ v. v.now) c.loop-value.yielded) (c.in_ok-key.ensures.key keys agrees) (so_far.least keys before));
     }

@@ -1,6 +1,6 @@
 use Rattle.std.proofs.Common.{All, map}
 use Rattle.std.specs.List.{Contains}
-use Rattle.key_index_flat.specs.FullKeys.{AsRead, IsLeastRead}
+use Rattle.key_index_flat.specs.FullKeys.{AsRead, IsNearestRead}
 use Rattle.key_index_flat.proofs.index.records.nearest.Given as goal
 
 -- the nearest of the values so far
@@ -9,5 +9,5 @@ invariant-loop-value g l = record {
   reads : g.R.Records.reads l.fn.records l.records;
   left : All (Contains l.fn.values) l.value-iterator;
   least : AsRead (g.R.Records.agrees l.records) (λ keys.
-      IsLeastRead keys g.R.Key.AsSlice.items g.S.Side.cmp (map (λ value. value.now) l.yielded) l.nearest);
+      IsNearestRead keys g.R.Key.AsSlice.items g.S.Side.is_above (map (λ value. value.now) l.yielded) l.nearest);
 }

@@ -1,9 +1,9 @@
 use Rattle.std.proofs.Common.{◌≡◌, true, false, cond, Some, IsSome, All, ap, refl, sym, subst, map, ◌∙◌}
 use Rattle.std.proofs.lemmas.List.Elements.{All-tail, All-contains_itself}
 use Rattle.std.specs.List.{Contains}
-use Rattle.std.specs.Ordering.{flip_args, is_lt}
+use Rattle.std.specs.Ordering.{is_lt}
 use Rattle.std.specs.Str.{bytes_eq}
-use Rattle.key_index_flat.specs.FullKeys.{IsLeastRead, above, below, byte_cmp, first_with}
+use Rattle.key_index_flat.specs.FullKeys.{IsNearestRead, above, below, byte_cmp, first_with}
 use Rattle.key_index_flat.proofs.neighbours.LeastLemmas.{is_lt-same_keys, filter_push_passes, filter_push_fails, not_above, not_below}
 use Rattle.key_index_flat.proofs.index.records.nearest_beside.Goals as goal
 
@@ -46,13 +46,13 @@ loop-value-preserved-then-is_before g c =
           let is_key = c.as_slice-in-loop-value.ensures ∙ c.in_ok-full_key.ensures.key keys agrees in
           let test = is_lt-same_keys byte_cmp key c.as_slice-in-loop-value.result.now key (keys value.now) true c.if-is_before.ensures refl is_key in
           let same = filter_push_fails (λ v. is_lt (byte_cmp (keys v) key)) (λ v. v.now) c.loop-value.yielded value (not_below key (keys value.now) test) in
-          subst (λ l. IsLeastRead keys g.R.Key.AsSlice.items (flip_args byte_cmp) l c.loop-value.below) (sym same) (so_far.below keys before);
+          subst (λ l. IsNearestRead keys g.R.Key.AsSlice.items false l c.loop-value.below) (sym same) (so_far.below keys before);
       above = λ keys agrees.
           let before = law.agreed now c.key_of.new.self keys c.in_ok-full_key.ensures.reads agrees in
           let is_key = c.in_ok-full_key.ensures.key keys agrees in
           let test = is_lt-same_keys byte_cmp key c.as_slice-in-loop-value.result.now key (keys value.now) true c.if-is_before.ensures refl (c.as_slice-in-loop-value.ensures ∙ is_key) in
           let more = filter_push_passes (λ v. is_lt (byte_cmp key (keys v))) (λ v. v.now) c.loop-value.yielded value test in
-          subst (λ l. IsLeastRead keys g.R.Key.AsSlice.items byte_cmp l c.nearer-above.result) (sym more)
+          subst (λ l. IsNearestRead keys g.R.Key.AsSlice.items true l c.nearer-above.result) (sym more)
           (c.nearer-above.ensures keys (above keys key (map (λ v. v.now) c.loop-value.yielded)) is_key (so_far.above keys before));
     }
 
@@ -77,12 +77,12 @@ loop-value-preserved g c =
           let hasnt : bytes_eq (keys value.now) key ≡ false = ap (λ k. bytes_eq k key) (sym (c.as_slice.ensures ∙ is_key)) ∙ sym c.eq.ensures ∙ c.if-eq.false in
           let test = is_lt-same_keys byte_cmp key c.as_slice-in-loop-value.result.now key (keys value.now) false c.if-is_before.ensures refl (c.as_slice-in-loop-value.ensures ∙ is_key) in
           let more = filter_push_passes (λ v. is_lt (byte_cmp (keys v) key)) (λ v. v.now) c.loop-value.yielded value (not_above key (keys value.now) hasnt test) in
-          subst (λ l. IsLeastRead keys g.R.Key.AsSlice.items (flip_args byte_cmp) l c.nearer-below.result) (sym more)
+          subst (λ l. IsNearestRead keys g.R.Key.AsSlice.items false l c.nearer-below.result) (sym more)
           (c.nearer-below.ensures keys (below keys key (map (λ v. v.now) c.loop-value.yielded)) is_key (so_far.below keys before));
       above = λ keys agrees.
           let before = law.agreed now c.key_of.new.self keys c.in_ok-full_key.ensures.reads agrees in
           let is_key = c.as_slice-in-loop-value.ensures ∙ c.in_ok-full_key.ensures.key keys agrees in
           let test = is_lt-same_keys byte_cmp key c.as_slice-in-loop-value.result.now key (keys value.now) false c.if-is_before.ensures refl is_key in
           let same = filter_push_fails (λ v. is_lt (byte_cmp key (keys v))) (λ v. v.now) c.loop-value.yielded value test in
-          subst (λ l. IsLeastRead keys g.R.Key.AsSlice.items byte_cmp l c.loop-value.above) (sym same) (so_far.above keys before);
+          subst (λ l. IsNearestRead keys g.R.Key.AsSlice.items true l c.loop-value.above) (sym same) (so_far.above keys before);
     }

@@ -1,7 +1,6 @@
-use Rattle.std.proofs.Common.{◌≡◌, All, map}
+use Rattle.std.proofs.Common.{◌≡◌, true, false, All, map}
 use Rattle.std.specs.List.{Contains}
-use Rattle.std.specs.Ordering.{flip_args}
-use Rattle.key_index_flat.specs.FullKeys.{AsRead, IsLeastRead, above, below, byte_cmp, first_with}
+use Rattle.key_index_flat.specs.FullKeys.{AsRead, IsNearestRead, above, below, first_with}
 use Rattle.key_index_flat.proofs.index.records.nearest_beside.Given as goal
 
 -- the nearest on both sides among the values so far, of which none has the key
@@ -11,7 +10,7 @@ invariant-loop-value g l = record {
   left : All (Contains l.fn.values) l.value-iterator;
   first : AsRead (g.R.Records.agrees l.records) (λ keys. first_with keys l.key l.fn.values ≡ first_with keys l.key l.value-iterator);
   below : AsRead (g.R.Records.agrees l.records) (λ keys.
-      IsLeastRead keys g.R.Key.AsSlice.items (flip_args byte_cmp) (below keys l.key (map (λ value. value.now) l.yielded)) l.below);
+      IsNearestRead keys g.R.Key.AsSlice.items false (below keys l.key (map (λ value. value.now) l.yielded)) l.below);
   above : AsRead (g.R.Records.agrees l.records) (λ keys.
-      IsLeastRead keys g.R.Key.AsSlice.items byte_cmp (above keys l.key (map (λ value. value.now) l.yielded)) l.above);
+      IsNearestRead keys g.R.Key.AsSlice.items true (above keys l.key (map (λ value. value.now) l.yielded)) l.above);
 }

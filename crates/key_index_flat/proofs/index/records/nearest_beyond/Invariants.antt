@@ -1,7 +1,6 @@
 use Rattle.std.proofs.Common.{All, map}
-use Rattle.std.specs.List.{Contains, filter}
-use Rattle.std.specs.Ordering.{is_lt}
-use Rattle.key_index_flat.specs.FullKeys.{AsRead, IsLeastRead}
+use Rattle.std.specs.List.{Contains}
+use Rattle.key_index_flat.specs.FullKeys.{AsRead, IsNearestRead, beyond}
 use Rattle.key_index_flat.proofs.index.records.nearest_beyond.Given as goal
 
 -- the nearest of those beyond the key among the values so far
@@ -11,5 +10,5 @@ invariant-loop-value g l =
       reads : g.R.Records.reads l.fn.records l.records;
       left : All (Contains l.fn.values) l.value-iterator;
       least : AsRead (g.R.Records.agrees l.records) (λ keys.
-          IsLeastRead keys g.R.Key.AsSlice.items g.S.Side.cmp (filter (λ v. is_lt (g.S.Side.cmp l.key (keys v))) (map (λ value. value.now) l.yielded)) l.nearest);
+          IsNearestRead keys g.R.Key.AsSlice.items g.S.Side.is_above (beyond keys g.S.Side.is_above l.key (map (λ value. value.now) l.yielded)) l.nearest);
     }
