@@ -25,7 +25,7 @@
 --     left_fewer                        and no more once it became no longer
 use Rattle.std.proofs.Common.{◌≡◌, ℕ, zero, suc, ◌-◌, ◌*◌, ◌<◌, Bool, true, false, not, T, nat_le, List, [], ◌∷◌, ◌++◌, map, insert, take, drop, replicate, All, set, length, refl, sym, ap, subst, ◌∙◌, ◌≤◌, ◌+◌, ◌&&◌, ◌||◌, nat_lt, arith, slice_index_or}
 use Rattle.std.proofs.lemmas.Bool.{le-leb, lt-leb, lt-ltb}
-use Rattle.std.proofs.lemmas.List.{get_or-map, get_or-set_same, set-set, map-set, length-map}
+use Rattle.std.proofs.lemmas.List.{get_or-map, get_or-set_same, set-set, map-set, length-map, length-append}
 use Rattle.std.specs.Cmp.{IsTotalOrder}
 use Rattle.std.specs.Prelude.{IsTrue, if◌then◌else◌}
 use Rattle.std.proofs.lemmas.List.Elements.{All-head, All-tail}
@@ -42,8 +42,7 @@ use Rattle.key_index_parts.specs.Standing.{Standing, due_in, holding, spilled_by
 use Rattle.key_index_parts.proofs.standing.StandingLemmas.{GrowsThenSpills}
 
 some_among : {V : Type 0} (xs ys : List V) (v : V) → 0 < length (xs ++ v ∷ ys)
-some_among [] ys v = omega arith
-some_among (x ∷ xs) ys v = let rest = some_among xs ys v in omega (arith, rest)
+some_among xs ys v = omega (arith, length-append xs (v ∷ ys))
 
 pub not_zero-positive : (n : ℕ) → (n ≡ 0 → ⊥) → 0 < n
 not_zero-positive zero h = absurd (h refl)
@@ -123,11 +122,7 @@ module _ {X K V : Type 0} (cmp : K → K → Ordering) {f : X → Content K V} {
 
   pub flag_within : (flags : List Bool) → flags ≡ filled_buckets (map f xs) → p < length flags
   flag_within flags told =
-      let sized = ap (λ l. length l) told in
-      let as_many = length-map (map f xs) is_filled in
-      let same = length-map xs f in
-      let inside = bucket.inside in
-      omega (arith, sized, as_many, same, inside)
+      omega (arith, ap (λ l. length l) told, length-map (map f xs) is_filled, length-map xs f, bucket.inside)
 
   -- where a bit is written only if it changes
   pub flags_emptied : (flags : List Bool) (y : X) (b : Bool) → flags ≡ filled_buckets (map f xs) → (is_filled (f y) ≡ true → is_filled (f x) ≡ true) → b ≡ not (is_filled (f y))
@@ -169,10 +164,8 @@ module _ {X K V : Type 0} {f : X → Content K V} {xs : List X} {p : ℕ} {x : X
 
   pub standing_new : (y : X) → nth_standing (map how (set xs p y)) p ≡ how y
   standing_new y =
-      let same = length-map xs how in
-      let inside = bucket.inside in
       ap (λ l. nth_standing l p) (map-set how xs p y)
-      ∙ get_or-set_same (map how xs) p (how y) (record { entries = 0; spilled = false }) (omega (arith, same, inside))
+      ∙ get_or-set_same (map how xs) p (how y) (record { entries = 0; spilled = false }) (omega (arith, length-map xs how, bucket.inside))
 
   map-set_standing : (y : X) (after : Standing → ℕ → Standing) → how y ≡ after (how x) (item_count (f y))
       → map how (set xs p y) ≡ set (map how xs) p (after (nth_standing (map how xs) p) (nth_standing (map how (set xs p y)) p).entries)
@@ -230,11 +223,8 @@ module _ {X K V : Type 0} {f : X → Content K V} {xs : List X} {p : ℕ} {x : X
       → f y ≡ with_list cmp (f x) k l → length l ≤ length (list_at cmp (f x) k) + more
       → (nth_standing (map how (set xs p y)) p).entries ≤ (nth_standing (map how xs) p).entries + more
   left_with_more {cmp = cmp} o lawful y k l more e few =
-      let sum = item_count-with_list o (f x) k l lawful in
-      let is = ap (λ c. item_count c) e in
       let was = ap (λ z. z.entries) nth_standing-map in
-      let now = ap (λ z. z.entries) (standing_new y) in
-      omega (arith, sum, is, was, now, few)
+      omega (arith, item_count-with_list o (f x) k l lawful, ap (λ c. item_count c) e, was, ap (λ z. z.entries) (standing_new y), few)
 
   pub left_fewer : {cmp : K → K → Ordering} (o : IsTotalOrder cmp) → IsLawful cmp (f x) → (y : X) (k : K) (l : List V)
       → f y ≡ with_list cmp (f x) k l → length l ≤ length (list_at cmp (f x) k)

@@ -3,24 +3,23 @@
 --     zip-more                      a run of pairs behind others, by keys and values
 --     replicate-more                one key more
 
-use Rattle.std.proofs.Common.{◌≡◌, ℕ, zero, suc, ◌+◌, cond, T, List, [], ◌∷◌, ◌++◌, length, replicate, unwrap_or, Some, append_assoc, refl, sym, ap, ◌∙◌, arith}
+use Rattle.std.proofs.Common.{◌≡◌, ℕ, ◌+◌, cond, T, List, [], ◌∷◌, ◌++◌, length, replicate, unwrap_or, Some, append_assoc, refl, ap, ◌∙◌}
 use Rattle.std.specs.List.{zip}
 use Rattle.std.specs.Cmp.{IsTotalOrder, tied_itself}
 use Rattle.std.specs.FinMap.{put, find}
 use Rattle.std.specs.FinMap.Entries.{below_all, by_order}
 use Rattle.std.specs.declared.cmp.Ordering.{Ordering}
-use Rattle.std.specs.Ordering.{is_lt, is_eq}
+use Rattle.std.specs.Ordering.{is_eq}
 use Rattle.key_index_flat.specs.Content.{Content, is_filled, IsLawful, list_at}
 use Rattle.key_index_flat.specs.laws.Laws.{T-and_first, T-and_second}
-use Rattle.key_index_flat.proofs.content.ContentLemmas.{list_at-below_all, Less-is_lt}
+use Rattle.key_index_flat.proofs.content.ContentLemmas.{list_at-below_all}
 use Rattle.key_index_parts.specs.Pairs.{grouped}
 use Rattle.key_index_parts.specs.Spread.{pairs_with, spread}
+use Rattle.key_index_parts.proofs.pairs.GroupLemmas.{put-below}
+use Rattle.key_index_parts.proofs.pairs.ZipLemmas.{zip-append}
+use Rattle.std.proofs.lemmas.List.{replicate_more}
 
 module _ {K V : Type 0} {cmp : K → K → Ordering} (o : IsTotalOrder cmp) where
-  pub put-front : (k : K) (x : List V) (c : Content K V) → T (below_all cmp k c) → put cmp k x c ≡ (k, x) ∷ c
-  put-front k x [] h = refl
-  put-front k x (e ∷ es) h = ap (λ r. by_order r ((k, x) ∷ e ∷ es) ((e.0, x) ∷ es) (e ∷ put cmp k x es)) (Less-is_lt _ (T-and_first (is_lt (cmp k e.0)) _ h))
-
   put-again : (k : K) (x y : List V) (c : Content K V) → put cmp k x ((k, y) ∷ c) ≡ (k, x) ∷ c
   put-again k x y c = ap (λ r. by_order r ((k, x) ∷ (k, y) ∷ c) ((k, x) ∷ c) ((k, y) ∷ put cmp k x c)) (tied_itself o k)
 
@@ -32,7 +31,7 @@ module _ {K V : Type 0} {cmp : K → K → Ordering} (o : IsTotalOrder cmp) wher
       → grouped cmp (pairs_with k (v ∷ vs) ++ es) ≡ (k, v ∷ vs) ∷ c
   grouped-run k v [] es c is below =
       ap (λ d. put cmp k (v ∷ list_at cmp d k) d) is
-      ∙ ap (λ l. put cmp k (v ∷ l) c) (list_at-below_all o k k c (λ y h. h) below) ∙ put-front k (v ∷ []) c below
+      ∙ ap (λ l. put cmp k (v ∷ l) c) (list_at-below_all o k k c (λ y h. h) below) ∙ put-below o k (v ∷ []) c below
   grouped-run k v (w ∷ ws) es c is below =
       ap (λ d. put cmp k (v ∷ list_at cmp d k) d) (grouped-run k w ws es c is below)
       ∙ ap (λ l. put cmp k (v ∷ l) ((k, w ∷ ws) ∷ c)) (list_at-first_entry k (w ∷ ws) c) ∙ put-again k (v ∷ w ∷ ws) (w ∷ ws) c
@@ -50,10 +49,7 @@ module _ {K V : Type 0} {cmp : K → K → Ordering} (o : IsTotalOrder cmp) wher
 
 module _ {K : Type 0} where
   pub replicate-more : (ks : List K) (n : ℕ) (k : K) → (ks ++ replicate n k) ++ k ∷ [] ≡ ks ++ replicate (n + 1) k
-  replicate-more ks n k = append_assoc ks (replicate n k) (k ∷ []) ∙ ap (λ l. ks ++ l) (one n) where
-    one : (m : ℕ) → replicate m k ++ k ∷ [] ≡ replicate (m + 1) k
-    one zero = refl
-    one (suc m) = let e : suc m + 1 ≡ suc (m + 1) = omega arith in ap (λ l. k ∷ l) (one m) ∙ sym (ap (λ j. replicate j k) e)
+  replicate-more ks n k = append_assoc ks (replicate n k) (k ∷ []) ∙ ap (λ l. ks ++ l) (replicate_more n k)
 
 module _ {K V : Type 0} where
   zip-alike : (k : K) (vs : List V) → zip (replicate (length vs) k) vs ≡ pairs_with k vs
@@ -62,7 +58,4 @@ module _ {K V : Type 0} where
 
   pub zip-more : (ks : List K) (vs : List V) → length ks ≡ length vs → (k : K) (ws : List V)
       → zip (ks ++ replicate (length ws) k) (vs ++ ws) ≡ zip ks vs ++ pairs_with k ws
-  zip-more [] [] h k ws = zip-alike k ws
-  zip-more [] (v ∷ vs) h k ws = absurd (omega (arith, h))
-  zip-more (x ∷ xs) [] h k ws = absurd (omega (arith, h))
-  zip-more (x ∷ xs) (v ∷ vs) h k ws = ap (λ l. (x, v) ∷ l) (zip-more xs vs (omega (arith, h)) k ws)
+  zip-more ks vs h k ws = zip-append ks (replicate (length ws) k) vs ws h ∙ ap (λ l. zip ks vs ++ l) (zip-alike k ws)

@@ -23,7 +23,8 @@ use Rattle.key_index_flat.proofs.runs.CursorLemmas.{pruned_none}
 use Rattle.key_index_flat.proofs.runs.RunLemmas.{stays_edits, edits_more, add-zero}
 use Rattle.key_index_parts.specs.Ops.{after_steps, edit_held, edited_by}
 use Rattle.key_index_parts.specs.Fill.{RefusesStep}
-use Rattle.key_index_parts.proofs.builds.DoneLemmas.{take_done, split_more, split_all}
+use Rattle.key_index_parts.proofs.builds.DoneLemmas.{split_more, split_all}
+use Rattle.std.proofs.Math.Seq.{take-append_seam}
 
 sum_more : (n a b : ℕ) → n + (a + b) ≡ n + a + b
 sum_more n a b = omega arith
@@ -54,7 +55,7 @@ module _ {I V K : Type 0} {r : runs.Ghosts I V K} {o : ord.Ghosts K} {e : eq.Gho
   fill_stops steps rest old now fault why was = record {
     count = length was.done;
     at = now;
-    edits = subst (λ l. EditsBy (after_steps l) old now) (sym (take_done was.done rest) ∙ ap (λ l. take (length was.done) l) was.split) was.edits;
+    edits = subst (λ l. EditsBy (after_steps l) old now) (sym (take-append_seam was.done rest) ∙ ap (λ l. take (length was.done) l) was.split) was.edits;
     why = why;
   }
 

@@ -4,13 +4,15 @@
 --     filled_more                              an op in the one range that covers it
 --     install_filled                           filled ranges can be installed in turn, and leave what the ops below each cut make
 --     ops_below-zero, below_all                ops below 0, and below all
-use Rattle.std.proofs.Common.{◌≡◌, ℕ, ◌+◌, ◌-◌, zero, suc, ◌≤◌, ◌<◌, Bool, true, false, cond, not, ◌&&◌, nat_lt, List, [], ◌∷◌, ◌++◌, length, set, take, drop, Some, inl, inr, append-nil, refl, sym, ap, subst, ◌∙◌, arith}
+use Rattle.std.proofs.Common.{◌≡◌, ℕ, ◌+◌, ◌-◌, zero, suc, ◌≤◌, ◌<◌, Bool, true, false, cond, not, ◌&&◌, nat_lt, List, [], ◌∷◌, ◌++◌, length, set, take, Some, inl, inr, append-nil, refl, sym, ap, subst, ◌∙◌, arith}
 use Rattle.std.specs.Prelude.{IsTrue, nat_le, filter, slice_index, Result, Ok, Err, OnOk, IfErr}
 use Rattle.std.specs.List.{slice_get}
-use Rattle.std.proofs.lemmas.Bool.{lt-ltb, ltb-true, le-ltb, ltb-false, leb-true, leb-false}
+use Rattle.std.proofs.lemmas.Bool.{cases_eq, lt-ltb, ltb-true, le-ltb, ltb-false, leb-true, leb-false}
 use Rattle.std.proofs.lemmas.List.Sorted.{IsNonDecreasingBy-from_default}
 use Rattle.std.specs.List.Sorted.{IsNonDecreasingBy, IsPartitionPoint}
-use Rattle.std.proofs.lemmas.List.{take_all, drop_all}
+use Rattle.std.proofs.lemmas.List.{take_all, length-set, get_or-set_same, get_or-set_other}
+use Rattle.std.proofs.lemmas.List.Elements.{filter-append}
+use Rattle.std.proofs.lemmas.Option.{slice_get_within, slice_get-get_or, get_or_from_slice_get}
 use Rattle.std.specs.declared.cmp.Ordering.{Ordering}
 use Rattle.std.specs.declared.cmp.Ordering.TheVariants.{Equal}
 use Rattle.std.specs.Cmp.{IsTotalOrder}
@@ -25,27 +27,17 @@ use Rattle.key_index_parts.specs.Ops.{IsCuts, op_key, edit_held, list_after, aft
 use Rattle.key_index_parts.specs.Ranges.{number_of, empty_view, IsFilled, AreFilled, installed, CanInstall, StopsAt, filled_by, built_upto, IsFillingFault, RefusesBuild}
 use Rattle.key_index_parts.specs.declared.index.partitioned.builds.op.Op.{Op}
 use Rattle.key_index_parts.specs.declared.index.partitioned.builds.op.Op.TheVariants as op
+use Rattle.key_index_parts.proofs.pairs.PairLemmas.{filter-none}
 use Rattle.key_index_parts.proofs.buckets.JoinedLemmas.{joined-empty}
-use Rattle.key_index_parts.proofs.builds.DoneLemmas.{take_whole}
 use Rattle.key_index_parts.proofs.builds.OpLemmas.{join_ops, free_above}
 use Rattle.key_index_parts.specs.laws.RangeLaws.{is_between-within}
 
+-- one element more, which is left out or not
 filter_out : {X : Type 0} (p : X → Bool) (xs : List X) (x : X) → p x ≡ false → filter p (xs ++ x ∷ []) ≡ filter p xs
-filter_out p [] x e = ap (λ b. cond b (x ∷ []) []) e
-filter_out p (y ∷ ys) x e = ap (λ l. cond (p y) (y ∷ l) l) (filter_out p ys x e)
+filter_out p xs x e = filter-append p xs (x ∷ []) ∙ ap (λ b. filter p xs ++ cond b (x ∷ []) []) e ∙ append-nil (filter p xs)
 
 filter_in : {X : Type 0} (p : X → Bool) (xs : List X) (x : X) → p x ≡ true → filter p (xs ++ x ∷ []) ≡ filter p xs ++ x ∷ []
-filter_in p [] x e = ap (λ b. cond b (x ∷ []) []) e
-filter_in p (y ∷ ys) x e =
-    ap (λ l. cond (p y) (y ∷ l) l) (filter_in p ys x e)
-    ∙ elim (p y) as (λ b. cond b (y ∷ (filter p ys ++ x ∷ [])) (filter p ys ++ x ∷ []) ≡ cond b (y ∷ filter p ys) (filter p ys) ++ x ∷ []) [
-      | true ↦ refl
-      | false ↦ refl
-    ]
-
-filter-never : {X : Type 0} (p : X → Bool) (xs : List X) → ((x : X) → p x ≡ false) → filter p xs ≡ []
-filter-never p [] h = refl
-filter-never p (x ∷ xs) h = ap (λ b. cond b (x ∷ filter p xs) (filter p xs)) (h x) ∙ filter-never p xs h
+filter_in p xs x e = filter-append p xs (x ∷ []) ∙ ap (λ b. filter p xs ++ cond b (x ∷ []) []) e
 
 pub not_between_below : (a b n : ℕ) → n < a → is_between a b n ≡ false
 not_between_below a b n lt = ap (λ v. not v && nat_lt n b) (lt-ltb n a lt)
@@ -69,6 +61,14 @@ cuts_from cuts n h i j le within =
     let e : i + (j - i) ≡ j = omega (arith, le) in
     subst (λ k. slice_index cuts i ≤ slice_index cuts k) e (cuts_rise cuts n h i (j - i) (omega (arith, e, within)))
 
+-- what is in the range from one cut on isn't in that from another
+not_between-other : (cuts : List ℕ) (total : ℕ) → IsCuts cuts total → (i j n : ℕ) → (i ≡ j → ⊥) → i + 1 < length cuts → j + 1 < length cuts → slice_index cuts j ≤ n → n < slice_index cuts (j + 1)
+    → is_between (slice_index cuts i) (slice_index cuts (i + 1)) n ≡ false
+not_between-other cuts total h i j n other inside within low high = elim (nat_lt i j) as (λ u. nat_lt i j ≡ u → is_between (slice_index cuts i) (slice_index cuts (i + 1)) n ≡ false) [
+  | true ↦ λ p. not_between_above _ _ n (omega (arith, cuts_from cuts total h (i + 1) j (omega (arith, ltb-true i j p)) (omega (arith, within)), low))
+  | false ↦ λ p. not_between_below _ _ n (omega (arith, cuts_from cuts total h (j + 1) i (omega (arith, ltb-false i j p, other)) (omega (arith, inside)), high))
+] refl
+
 pub cuts_rising : (cuts : List ℕ) (n : ℕ) → IsCuts cuts n → IsNonDecreasingBy (λ x. x) cuts
 cuts_rising cuts n h = IsNonDecreasingBy-from_default (λ x. x) cuts 0 (λ i j le lt. cuts_from cuts n h i j le lt)
 
@@ -77,18 +77,15 @@ pub cut_point : (cuts : List ℕ) (n p i : ℕ) → IsCuts cuts n → p < n → 
     → (0 < i) × (i < length cuts) × (slice_index cuts (i - 1) ≤ p) × (p < slice_index cuts i)
 cut_point cuts n p i h below within point =
     let two = h.two in
-    let starts = h.starts in
-    let ends = h.ends in
     let from : 0 < i = elim (nat_lt 0 i) as (λ b. nat_lt 0 i ≡ b → 0 < i) [
       | true ↦ λ e. ltb-true 0 i e
-      | false ↦ λ e. let none = ltb-false 0 i e in let up = leb-false (slice_index cuts 0) p (point.1 0 0 none (omega (arith, two))) in absurd (omega (arith, up, starts))
+      | false ↦ λ e. let none = ltb-false 0 i e in let up = leb-false (slice_index cuts 0) p (point.1 0 0 none (omega (arith, two))) in absurd (omega (arith, up, h.starts))
     ] refl in
     let to : i < length cuts = elim (nat_lt i (length cuts)) as (λ b. nat_lt i (length cuts) ≡ b → i < length cuts) [
       | true ↦ λ e. ltb-true i (length cuts) e
       | false ↦ λ e.
-          let all = ltb-false i (length cuts) e in
-          let low = leb-true (slice_index cuts (length cuts - 1)) p (point.0 (length cuts - 1) 0 (omega arith) (omega (arith, all, two))) in
-          absurd (omega (arith, low, ends, below))
+          let low = leb-true (slice_index cuts (length cuts - 1)) p (point.0 (length cuts - 1) 0 (omega arith) (omega (arith, ltb-false i (length cuts) e, two))) in
+          absurd (omega (arith, low, h.ends, below))
     ] refl in (
       from,
       to,
@@ -96,28 +93,11 @@ cut_point cuts n p i h below within point =
       leb-false (slice_index cuts i) p (point.1 i 0 (omega arith) to),
     )
 
--- the items after one is set
-set_same : {X : Type 0} (xs : List X) (i : ℕ) (x y : X) → slice_get (set xs i x) i ≡ Some y → x ≡ y
-set_same [] i x y e = absurd (cc e)
-set_same (z ∷ zs) zero x y e = cc e
-set_same (z ∷ zs) (suc i) x y e = set_same zs i x y e
-
-set_other : {X : Type 0} (xs : List X) (i j : ℕ) (x : X) → (i ≡ j → ⊥) → slice_get (set xs i x) j ≡ slice_get xs j
-set_other [] i j x h = refl
-set_other (z ∷ zs) zero zero x h = absurd (h refl)
-set_other (z ∷ zs) zero (suc j) x h = refl
-set_other (z ∷ zs) (suc i) zero x h = refl
-set_other (z ∷ zs) (suc i) (suc j) x h = set_other zs i j x (λ e. h (ap (λ n. suc n) e))
-
-get_within : {X : Type 0} (xs : List X) (i : ℕ) (x : X) → slice_get xs i ≡ Some x → i < length xs
-get_within [] i x e = absurd (cc e)
-get_within (z ∷ zs) zero x e = omega arith
-get_within (z ∷ zs) (suc i) x e = let rest = get_within zs i x e in omega (arith, rest)
-
-set_length : {X : Type 0} (xs : List X) (i : ℕ) (x : X) → length (set xs i x) ≡ length xs
-set_length [] i x = refl
-set_length (z ∷ zs) zero x = refl
-set_length (z ∷ zs) (suc i) x = ap (λ n. suc n) (set_length zs i x)
+-- what stands elsewhere once an item is set
+set_other : {X : Type 0} (xs : List X) (i j : ℕ) (x y : X) → (j ≡ i → ⊥) → slice_get (set xs i x) j ≡ Some y → slice_get xs j ≡ Some y
+set_other xs i j x y h e =
+    let same = length-set xs i x in
+    slice_get-get_or xs j y (omega (arith, slice_get_within (set xs i x) j y e, same)) ∙ ap Some (sym (get_or-set_other xs i j x y h) ∙ get_or_from_slice_get (set xs i x) j y y e)
 
 module _ {K V : Type 0} (cmp : K → K → Ordering) (first : Bool) where
   pub slot-after_ops : (xs : List (Op V)) (s : View K V) → (after_ops cmp first xs s).slot ≡ s.slot
@@ -163,33 +143,17 @@ module _ {R K V : Type 0} {cmp : K → K → Ordering} {first : Bool} {view : R 
       → view n ≡ after_op cmp first x (view r)
       → AreFilled cmp first view keys partition ops cuts ranges → AreFilled cmp first view keys partition (ops ++ x ∷ []) cuts (set ranges j n)
   filled_more cuts total lawful ops x ranges j r n within low high here fills was = record {
-    long = ap (λ m. m + 1) (set_length ranges j n) ∙ was.long;
-    each = λ i y e.
-        let number = number_of partition keys (op_key x) in
-        elim (nat_lt i j) as (λ u. nat_lt i j ≡ u → IsFilled cmp first view keys partition (ops ++ x ∷ []) (slice_index cuts i) (slice_index cuts (i + 1)) y) [
-          | true ↦ λ p.
-              let lt = ltb-true i j p in
-              let rise = cuts_from cuts total lawful (i + 1) j (omega (arith, lt)) (omega (arith, within)) in
-              filled_other ops x _ _ y (not_between_above _ _ number (omega (arith, rise, low))) (was.each i y (sym (set_other ranges j i n (λ q. omega (arith, q, lt))) ∙ e))
-          | false ↦ λ p.
-              let ge = ltb-false i j p in
-              elim (nat_lt j i) as (λ u. nat_lt j i ≡ u → IsFilled cmp first view keys partition (ops ++ x ∷ []) (slice_index cuts i) (slice_index cuts (i + 1)) y) [
-                | true ↦ λ q.
-                    let gt = ltb-true j i q in
-                    let long = was.long in
-                    let old = sym (set_other ranges j i n (λ z. omega (arith, z, gt))) ∙ e in
-                    let below = get_within ranges i y old in
-                    let rise = cuts_from cuts total lawful (j + 1) i (omega (arith, gt)) (omega (arith, below, long)) in
-                    filled_other ops x _ _ y (not_between_below _ _ number (omega (arith, rise, high))) (was.each i y old)
-                | false ↦ λ q.
-                    let le = ltb-false j i q in
-                    let same : j ≡ i = omega (arith, le, ge) in
-                    let is : n ≡ y = set_same ranges j n y (ap (λ m. slice_get (set ranges j n) m) same ∙ e) in
-                    subst (λ m. IsFilled cmp first view keys partition (ops ++ x ∷ []) (slice_index cuts m) (slice_index cuts (m + 1)) y) same
-                    (subst (λ m. IsFilled cmp first view keys partition (ops ++ x ∷ []) (slice_index cuts j) (slice_index cuts (j + 1)) m) is
-                    (filled_here ops x _ _ r n (is_between-within _ _ number low high) fills (was.each j r here)))
-              ] refl
-        ] refl;
+    long = ap (λ m. m + 1) (length-set ranges j n) ∙ was.long;
+    each = λ i y e. elim (cases_eq i j) [
+      | inl same ↦
+          let is : n ≡ y = sym (get_or-set_same ranges j n n (slice_get_within ranges j r here)) ∙ get_or_from_slice_get (set ranges j n) j y n (ap (λ m. slice_get (set ranges j n) m) (sym same) ∙ e) in
+          subst (λ m. IsFilled cmp first view keys partition (ops ++ x ∷ []) (slice_index cuts m) (slice_index cuts (m + 1)) y) (sym same)
+          (subst (λ m. IsFilled cmp first view keys partition (ops ++ x ∷ []) (slice_index cuts j) (slice_index cuts (j + 1)) m) is
+          (filled_here ops x _ _ r n (is_between-within _ _ (number_of partition keys (op_key x)) low high) fills (was.each j r here)))
+      | inr other ↦
+          let old = set_other ranges j i n y other e in
+          filled_other ops x _ _ y (not_between-other cuts total lawful i j (number_of partition keys (op_key x)) other (omega (arith, slice_get_within ranges i y old, was.long)) within low high) (was.each i y old)
+    ];
   }
 
 module _ {R K V : Type 0} {cmp : K → K → Ordering} {first : Bool} {view : R → View K V} {partition : K → ℕ} where
@@ -230,7 +194,7 @@ module _ {R K V : Type 0} {cmp : K → K → Ordering} {first : Bool} {view : R 
         )
 
 pub ops_below-zero : {V : Type 0} (number : List ℕ → ℕ) (ops : List (Op V)) → ops_below number 0 ops ≡ []
-ops_below-zero number ops = filter-never _ ops (λ x. le-ltb (number (op_key x)) 0 (omega arith))
+ops_below-zero number ops = let none : (n : ℕ) → nat_lt n 0 ≡ false = λ n. le-ltb n 0 (omega arith) in filter-none _ ops (λ j d l. none _)
 
 pub below_all : {V : Type 0} (number : List ℕ → ℕ) (n : ℕ) (ops : List (Op V)) → AreBelow number n ops → ops_below number n ops ≡ ops
 below_all number n [] h = refl
@@ -262,13 +226,12 @@ module _ {R K V : Type 0} {cmp : K → K → Ordering} {first : Bool} {view : R 
       → AreFilled cmp first view start.slot partition ops cuts ranges
       → CanInstall cmp view ranges start × ((n : ℕ) → n ≤ length ranges → installed cmp view (take n ranges) start ≡ upto cmp first partition ops start (slice_index cuts n))
   install_filled o exact cuts total lawful ops ranges start empty are =
-      let long = are.long in
       let none : upto cmp first partition ops start (slice_index cuts 0) ≡ start = ap (λ a. upto cmp first partition ops start a) lawful.starts ∙ ap (λ l. after_ops cmp first l start) (ops_below-zero (number_of partition start.slot) ops) in
       let shift : (j : ℕ) → j ≡ 0 + j = λ j. omega arith in
       let all = install_from {view = view} {partition = partition} o exact ops start (subst (λ c. IsLawful cmp c) (sym empty) (tt, tt)) (λ j. slice_index cuts j) 0 ranges
       (λ j k h. ap (λ c. list_at cmp c k) empty)
       (λ j r e. subst (λ m. IsFilled cmp first view start.slot partition ops (slice_index cuts m) (slice_index cuts (m + 1)) r) (shift j) (are.each j r e))
-      (λ j lt. subst (λ m. slice_index cuts m ≤ slice_index cuts (m + 1)) (shift j) (cuts_from cuts total lawful j (j + 1) (omega arith) (omega (arith, long, lt)))) in (
+      (λ j lt. subst (λ m. slice_index cuts m ≤ slice_index cuts (m + 1)) (shift j) (cuts_from cuts total lawful j (j + 1) (omega arith) (omega (arith, are.long, lt)))) in (
         subst (λ s. CanInstall cmp view ranges s) none all.0,
         λ n le. ap (λ s. installed cmp view (take n ranges) s) (sym none) ∙ all.1 n le ∙ ap (λ m. upto cmp first partition ops start (slice_index cuts m)) (sym (shift n)),
       )
@@ -321,22 +284,16 @@ module _ {R K V : Type 0} {cmp : K → K → Ordering} {first : Bool} {view : R 
     },
   )
 
--- a vector that was lent as a slice, and the slice put back
-pub take-refilled : {A : Type 0} (n : ℕ) (new items : List A) → n ≡ length items → length new ≡ length items → take n (new ++ drop (length new) items) ≡ new
-take-refilled n new items known same =
-    ap (λ l. take n (new ++ l)) (drop_all (length new) items (omega (arith, same))) ∙ ap (λ l. take n l) (append-nil new) ∙ take_all n new (omega (arith, known, same))
-
 module _ {R K V : Type 0} {cmp : K → K → Ordering} {first : Bool} {view : R → View K V} {partition : K → ℕ}
     (o : IsTotalOrder cmp) (exact : (x y : K) → cmp x y ≡ Equal → x ≡ y) (cuts : List ℕ) (total : ℕ) (lawful : IsCuts cuts total) (ops : List (Op V)) (ranges : List R) (start : View K V) (empty : start.content ≡ [])
     (are : AreFilled cmp first view start.slot partition ops cuts ranges) where
   pub build_done : AreBelow (number_of partition start.slot) total ops → (all : List R) → all ≡ ranges → (answer : Result (Unit {0}) Fault) (after : View K V)
       → OnOk answer (after ≡ installed cmp view all start) → OnOk answer (after ≡ after_ops cmp first ops start)
   build_done below all same answer after said =
-      let long = are.long in
-      let last : length ranges ≡ length cuts - 1 = omega (arith, long) in
+      let last : length ranges ≡ length cuts - 1 = omega (arith, are.long) in
       let each = (install_filled o exact cuts total lawful ops ranges start empty are).1 (length ranges) (omega arith) in
       let is : installed cmp view all start ≡ after_ops cmp first ops start =
-      ap (λ l. installed cmp view l start) (same ∙ sym (take_whole ranges)) ∙ each
+      ap (λ l. installed cmp view l start) (same ∙ sym (take_all (length ranges) ranges (omega arith))) ∙ each
       ∙ ap (λ n. after_ops cmp first (ops_below (number_of partition start.slot) n ops) start) (ap (λ i. slice_index cuts i) last ∙ lawful.ends) ∙ ap (λ l. after_ops cmp first l start) (below_all (number_of partition start.slot) total ops below) in
       on_ok_map {P = after ≡ installed cmp view all start} answer (λ e. e ∙ is) said
 
@@ -346,10 +303,9 @@ module _ {R K V : Type 0} {cmp : K → K → Ordering} {first : Bool} {view : R 
   build_refused all same (Err fault) after said =
       let n = said.count in
       let found = ap (λ l. slice_get l n) (sym same) ∙ said.found in
-      let lt = get_within ranges n said.refused found in
-      let long = are.long in
+      let lt = slice_get_within ranges n said.refused found in
       let left : after ≡ built_upto cmp first partition cuts ops start n =
       said.left ∙ ap (λ l. installed cmp view (take n l) start) same ∙ (install_filled o exact cuts total lawful ops ranges start empty are).1 n (omega (arith, lt)) in
       let items : items_in (view said.refused) ≡ items_in (filled_by cmp first partition cuts ops start n ops) =
       ap (λ c. item_count c) (sym (content-filled cuts ops start empty n ops said.refused (are.each n said.refused found))) in
-      inr (n, omega (arith, lt, long), left, said.why ∙ (λ i. install_fault (items_in (left i)) (items i)))
+      inr (n, omega (arith, lt, are.long), left, said.why ∙ (λ i. install_fault (items_in (left i)) (items i)))

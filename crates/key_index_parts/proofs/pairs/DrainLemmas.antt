@@ -1,11 +1,12 @@
 -- The runs of pairs whose keys never fall, one after another.
---     grouped-first        the first run: its key, as it stands last in the run, its values, and what the pairs behind it stand for
---     values_of-grouped    the lists of the content, one behind another, are the values
---     next_room            the room for one run more
---     run_filled, ..       one run more has its values
-use Rattle.std.proofs.Common.{◌≡◌, ℕ, zero, suc, ◌+◌, ◌<◌, ◌≤◌, false, cond, T, List, [], ◌∷◌, ◌++◌, length, take, drop, map, slice_set, get_or, All, ◌-◌, refl, sym, ap, subst, ◌∙◌, arith}
-use Rattle.std.proofs.Math.Seq.{take-append_seam, drop-append_seam}
-use Rattle.std.proofs.lemmas.List.{map-append, length-map, length-drop, drop-map, drop-drop, drop_more, get_or-drop, length-append, take_more_set, map_push, drop-set-lt}
+--     grouped-first, first_split   the first run: its key, as it stands last in the run, its values, and what the pairs behind it stand for
+--     values_of-grouped            the lists of the content, one behind another, are the values
+--     values_drained, first_run, next_room     by the keys and the values; the room for one run more
+--     run_filled, ..               one run more has its values
+use Rattle.std.proofs.Common.{◌≡◌, ℕ, zero, suc, ◌+◌, ◌-◌, ◌<◌, ◌≤◌, false, cond, T, List, [], ◌∷◌, ◌++◌, length, take, drop, map, slice_set, get_or, All, refl, sym, ap, subst, ◌∙◌, arith}
+use Rattle.std.proofs.Math.Seq.{take-add, take-append_seam, drop-append_seam}
+use Rattle.std.proofs.lemmas.Slice.{between_from_start}
+use Rattle.std.proofs.lemmas.List.{length-drop, length-take-le, drop-map, drop-drop, drop_more, get_or-drop, length-append, take-append-drop, take_more_set, map_push, drop-set-lt}
 use Rattle.std.proofs.lemmas.Map.Made.{keys_of-zip}
 use Rattle.std.proofs.lemmas.List.Elements.{All-cons, All-head, All-weaker}
 use Rattle.std.specs.List.{filter, flat_map, zip}
@@ -16,16 +17,15 @@ use Rattle.std.specs.FinMap.{put}
 use Rattle.std.specs.FinMap.Entries.{by_order}
 use Rattle.std.specs.declared.cmp.Ordering.{Ordering}
 use Rattle.std.specs.declared.cmp.Ordering.TheVariants.{Less, Equal, Greater}
-use Rattle.std.specs.Ordering.{is_lt, is_le, is_eq, eq_by_cmp, ordering_reverse}
+use Rattle.std.specs.Ordering.{is_lt, is_eq, eq_by_cmp, ordering_reverse}
 use Rattle.std.specs.declared.vec.Vec.{Vec}
 use Rattle.std.specs.Vec.{vec_capacity}
 use Rattle.key_index_flat.specs.Content.{Content}
-use Rattle.key_index_flat.specs.Neighbours.{entries_above}
-use Rattle.key_index_parts.specs.Pairs.{run_of, grouped, list_of, room_of, room_for}
-use Rattle.key_index_parts.proofs.pairs.SearchLemmas.{Rises, Rises-drop, Rises-IsSorted}
-use Rattle.key_index_parts.proofs.pairs.ZipLemmas.{length-zip}
-use Rattle.key_index_parts.proofs.pairs.PairLemmas.{filter-none, length-filter-keys, length-filter-upto}
-use Rattle.key_index_parts.proofs.pairs.RunLemmas.{all_keys, above_too, pairs_at-all_greater, pairs-below_at_above, pairs_at}
+use Rattle.key_index_parts.specs.Pairs.{Paired, count_upto, run_of, grouped, list_of, room_of, room_for}
+use Rattle.key_index_parts.proofs.pairs.SearchLemmas.{Rises, Rises-drop, Rises-IsSorted, IsSorted-Rises, above_too}
+use Rattle.key_index_parts.proofs.pairs.ZipLemmas.{drop-zip, values_of-zip}
+use Rattle.key_index_parts.proofs.pairs.PairLemmas.{filter-none}
+use Rattle.key_index_parts.proofs.pairs.RunLemmas.{all_keys, pairs_at-all_greater, pairs_at, found_in, run_slice}
 use Rattle.key_index_parts.proofs.pairs.GroupLemmas.{list_at-grouped, run_of-alike}
 
 module _ {K V : Type 0} {cmp : K → K → Ordering} (o : IsTotalOrder cmp) where
@@ -69,77 +69,61 @@ module _ {K V : Type 0} {cmp : K → K → Ordering} (o : IsTotalOrder cmp) wher
             absurd (subst T (sym (ap is_lt (o.antisymm f.0 e.0 ∙ ap ordering_reverse q)) ∙ under) tt)
       ] refl
 
-  -- the others of the first run stand first
-  behind_first : (e : K × V) (es : List (K × V)) → Rises cmp (keys_of (e ∷ es)) → es ≡ pairs_at o es e.0 ++ entries_above cmp es e.0
-  behind_first e es h = pairs-below_at_above o es e.0 h.1 ∙ ap (λ l. l ++ (pairs_at o es e.0 ++ entries_above cmp es e.0)) (filter-none (λ f. is_lt (cmp f.0 e.0)) es (all_keys (λ x. is_lt (cmp x e.0) ≡ false) es h.0))
-
-  rest_rises : (n : ℕ) (es : List (K × V)) → Rises cmp (keys_of es) → Rises cmp (keys_of (drop n es))
-  rest_rises n es h = subst (Rises cmp) (drop-map (λ e. e.0) n es) (Rises-drop o n (keys_of es) h)
+  -- the first run, by how many keys are not above the first, and the others
+  pub first_split : (e : K × V) (es : List (K × V)) (d : K) (count : ℕ) → Rises cmp (keys_of (e ∷ es)) → count ≡ count_upto cmp (keys_of (e ∷ es)) e.0
+      → (0 < count) × (grouped cmp (e ∷ es) ≡ (get_or (keys_of (e ∷ es)) (count - 1) d, take count (values_of (e ∷ es))) ∷ grouped cmp (drop count (e ∷ es)))
+  first_split e es d count h counted =
+      let run = run_of cmp es e.0 in
+      let at = pairs_at o es e.0 in
+      let none = filter-none (λ x. is_lt (cmp x e.0)) (e.0 ∷ keys_of es) (All-cons (λ x. is_lt (cmp x e.0) ≡ false) e.0 (keys_of es) (ap is_lt (tied_itself o e.0)) h.0) in
+      let found = found_in o {es = e ∷ es} (IsSorted-Rises o (keys_of (e ∷ es)) h) e.0 0 count (sym (ap length none)) counted in
+      let own : run_of cmp (e ∷ es) e.0 ≡ e.1 ∷ run = ap (λ r. values_of (cond (is_eq r) (e ∷ at) at)) (tied_itself o e.0) in
+      let many : suc (length run) ≡ count = omega (arith, found.run.upto, ap (λ l. length l) own) in
+      let last : length run ≡ count - 1 = omega (arith, many) in
+      let values = sym own ∙ sym (run_slice o found.sorted found.run) ∙ between_from_start (values_of (e ∷ es)) count in
+      (omega (arith, many), (grouped-first e es d h).0 ∙ (λ i. (get_or (keys_of (e ∷ es)) (last i) d, values i) ∷ grouped cmp (drop (many i) (e ∷ es))))
 
   values_upto : (n : ℕ) (es : List (K × V)) → length es ≤ n → Rises cmp (keys_of es) → flat_map (λ e. e.1) (grouped cmp es) ≡ values_of es
   values_upto n [] l h = refl
   values_upto zero (e ∷ es) l h = absurd (omega arith)
   values_upto (suc n) (e ∷ es) l h =
-      let run = run_of cmp es e.0 in
-      let at = pairs_at o es e.0 in
-      let above = entries_above cmp es e.0 in
-      let split = behind_first e es h in
-      let len = length-map at (λ f. f.1) in
-      let left = length-drop (length run) es in
-      let fewer : length (drop (length run) es) ≤ n = omega (arith, left, l) in
-      let rest : drop (length run) es ≡ above = ap (λ m. drop m es) len ∙ ap (drop (length at)) split ∙ drop-append_seam at above in
-      ap (flat_map (λ e. e.1)) (grouped-first e es e.0 h).0
-      ∙ ap (λ l. e.1 ∷ run ++ l) (values_upto n (drop (length run) es) fewer (rest_rises (length run) es h.1) ∙ ap values_of rest)
-      ∙ ap (λ l. e.1 ∷ l) (sym (ap values_of split ∙ map-append (λ f. f.1) at above))
+      let count = count_upto cmp (keys_of (e ∷ es)) e.0 in
+      let first = first_split e es e.0 count h refl in
+      let up = subst (Rises cmp) (drop-map (λ e. e.0) count (e ∷ es)) (Rises-drop o count (keys_of (e ∷ es)) h) in
+      ap (flat_map (λ e. e.1)) first.1 ∙ ap (λ l. take count (values_of (e ∷ es)) ++ l) (values_upto n (drop count (e ∷ es)) (omega (arith, length-drop count (e ∷ es), l, first.0)) up ∙ sym (drop-map (λ e. e.1) count (e ∷ es)))
+      ∙ take-append-drop count (values_of (e ∷ es))
 
   pub values_of-grouped : (es : List (K × V)) → Rises cmp (keys_of es) → flat_map (λ e. e.1) (grouped cmp es) ≡ values_of es
   values_of-grouped es h = values_upto (length es) es (omega arith) h
 
-  -- the room for the first run, and for those behind it
-  first_room : (e : K × V) (es : List (K × V)) (d : K) (count : ℕ) → Rises cmp (keys_of (e ∷ es)) → count ≡ length (filter (λ x. is_le (cmp x e.0)) (keys_of (e ∷ es)))
-      → map room_for (grouped cmp (e ∷ es)) ≡ ((get_or (keys_of (e ∷ es)) (count - 1) d, []), count) ∷ map room_for (grouped cmp (drop count (e ∷ es)))
-  first_room e es d count h counted =
-      let run = run_of cmp es e.0 in
-      let at = pairs_at o es e.0 in
-      let lowest : All (λ x. is_lt (cmp x e.0) ≡ false) (keys_of (e ∷ es)) = All-cons (λ x. is_lt (cmp x e.0) ≡ false) e.0 (keys_of es) (ap is_lt (tied_itself o e.0)) h.0 in
-      let none = ap length (filter-none (λ f. is_lt (cmp f.0 e.0)) (e ∷ es) (all_keys (λ x. is_lt (cmp x e.0) ≡ false) (e ∷ es) lowest)) in
-      let own : length (filter (λ f. eq_by_cmp cmp e.0 f.0) (e ∷ es)) ≡ suc (length at) = ap (λ r. length (cond (is_eq r) (e ∷ at) at)) (tied_itself o e.0) in
-      let both = length-filter-upto o e.0 (e ∷ es) in
-      let keys = length-filter-keys (λ x. is_le (cmp x e.0)) (e ∷ es) in
-      let len = length-map at (λ f. f.1) in
-      let many : count ≡ suc (length run) = omega (arith, counted, none, own, both, keys, len) in
-      let last : length run ≡ count - 1 = omega (arith, many) in
-      ap (map room_for) (grouped-first e es d h).0
-      ∙ (λ i. ((get_or (keys_of (e ∷ es)) (last i) d, []), sym many i) ∷ map room_for (grouped cmp (drop (sym many i) (e ∷ es))))
+  -- by the keys and the values
+  pub values_drained : {ks : List K} {vs : List V} → Paired cmp ks vs → flat_map (λ e. e.1) (grouped cmp (zip ks vs)) ≡ vs
+  values_drained {ks} {vs} paired =
+      values_of-grouped (zip ks vs) (subst (Rises cmp) (sym (keys_of-zip ks vs (sym paired.sized))) (Rises-IsSorted o ks paired.sorted)) ∙ values_of-zip ks vs paired.sized
 
-  module _ (ks : List K) (vs : List V) (sized : length ks ≡ length vs) (h : IsSorted cmp ks) (start count : ℕ) (k d : K) (within : start < length ks) (here : k ≡ get_or ks start d)
-      (counted : count ≡ length (filter (λ x. is_le (cmp x k)) (drop start ks))) where
-    abbrev es : List (K × V)
-    es = zip ks vs
+  pub first_run : (ks : List K) (vs : List V) → length ks ≡ length vs → Rises cmp ks → (k d : K) (count : ℕ) → 0 < length ks → k ≡ get_or ks 0 d → count ≡ count_upto cmp ks k
+      → grouped cmp (zip ks vs) ≡ (get_or ks (count - 1) d, take count vs) ∷ grouped cmp (drop count (zip ks vs))
+  first_run [] vs sized h k d count some here counted = absurd (omega arith)
+  first_run (x ∷ xs) [] sized h k d count some here counted = absurd (omega (arith, sized))
+  first_run (x ∷ xs) (v ∷ vs) sized h k d count some here counted =
+      let keys : keys_of (zip (x ∷ xs) (v ∷ vs)) ≡ x ∷ xs = keys_of-zip (x ∷ xs) (v ∷ vs) (sym sized) in
+      let counts : count ≡ count_upto cmp (keys_of (zip (x ∷ xs) (v ∷ vs))) x = counted ∙ (λ i. count_upto cmp (sym keys i) (here i)) in
+      (first_split (x, v) (zip xs vs) d count (subst (Rises cmp) (sym keys) h) counts).1
+      ∙ (λ i. (get_or (keys i) (count - 1) d, take count (values_of-zip (x ∷ xs) (v ∷ vs) sized i)) ∷ grouped cmp (drop count (zip (x ∷ xs) (v ∷ vs))))
 
-    room_from : (l : List (K × V)) → drop start es ≡ l → map room_for (grouped cmp l) ≡ ((get_or ks (start + (count - 1)) d, []), count) ∷ map room_for (grouped cmp (drop (start + count) es))
-    room_from [] is =
-        let left = sym (length-drop start es) ∙ ap length is in
-        let len = length-zip ks vs sized in absurd (omega (arith, left, len, within))
-    room_from (f ∷ fs) is =
-        let keys : keys_of (f ∷ fs) ≡ drop start ks = ap keys_of (sym is) ∙ sym (drop-map (λ e. e.0) start es) ∙ ap (drop start) (keys_of-zip ks vs (sym sized)) in
-        let begin : start + 0 ≡ start = omega arith in
-        let same : k ≡ f.0 = here ∙ sym (ap (λ l. get_or l 0 d) keys ∙ get_or-drop start ks 0 d ∙ ap (λ n. get_or ks n d) begin) in
-        let up : Rises cmp (keys_of (f ∷ fs)) = subst (Rises cmp) (sym keys) (Rises-drop o start ks (Rises-IsSorted o ks h)) in
-        first_room f fs d count up (counted ∙ (λ i. length (filter (λ x. is_le (cmp x (same i))) (sym keys i))))
-        ∙ (λ i. ((get_or (keys i) (count - 1) d, []), count) ∷ map room_for (grouped cmp (drop count (sym is i))))
-        ∙ (λ i. ((get_or-drop start ks (count - 1) d i, []), count) ∷ map room_for (grouped cmp (drop-drop count start es i)))
-
-    pub next_room : map room_for (grouped cmp (drop start es)) ≡ ((get_or ks (start + (count - 1)) d, []), count) ∷ map room_for (grouped cmp (drop (start + count) es))
-    next_room = room_from (drop start es) refl
+  pub next_room : (ks : List K) (vs : List V) → length ks ≡ length vs → IsSorted cmp ks → (start count : ℕ) (k d : K) → start < length ks → k ≡ get_or ks start d → count ≡ count_upto cmp (drop start ks) k → count ≤ length (drop start ks)
+      → map room_for (grouped cmp (drop start (zip ks vs))) ≡ ((get_or ks (start + (count - 1)) d, []), count) ∷ map room_for (grouped cmp (drop (start + count) (zip ks vs)))
+  next_room ks vs sized h start count k d within here counted few =
+      let same : length (drop start ks) ≡ length (drop start vs) = omega (arith, length-drop start ks, length-drop start vs, sized) in
+      let begin : start ≡ start + 0 = omega arith in
+      let first = first_run (drop start ks) (drop start vs) same (Rises-drop o start ks (Rises-IsSorted o ks h)) k d count (omega (arith, length-drop start ks, within)) (here ∙ ap (λ n. get_or ks n d) begin ∙ sym (get_or-drop start ks 0 d)) counted in
+      ap (λ l. map room_for (grouped cmp l)) (drop-zip start ks vs) ∙ ap (map room_for) first
+      ∙ (λ i. ((get_or-drop start ks (count - 1) d i, []), length-take-le count (drop start vs) (omega (arith, few, same)) i) ∷ map room_for (grouped cmp ((ap (drop count) (sym (drop-zip start ks vs)) ∙ drop-drop count start (zip ks vs)) i)))
 
 -- ---- runs that are filled in turn
 
 take-next_dropped : {X : Type 0} (i : ℕ) (xs : List X) (x : X) (rest : List X) → drop i xs ≡ x ∷ rest → take (i + 1) xs ≡ take i xs ++ x ∷ []
-take-next_dropped zero [] x rest h = cc
-take-next_dropped zero (y ∷ ys) x rest h = let same : y ≡ x = cc in ap (λ z. z ∷ []) same
-take-next_dropped (suc i) [] x rest h = cc
-take-next_dropped (suc i) (y ∷ ys) x rest h = let next : suc i + 1 ≡ suc (i + 1) = omega arith in ap (λ n. take n (y ∷ ys)) next ∙ ap (λ l. y ∷ l) (take-next_dropped i ys x rest h)
+take-next_dropped i xs x rest h = take-add i 1 xs ∙ ap (λ l. take i xs ++ take 1 l) h
 
 module _ {K V A : Type 0} (c : Content K V) (rs : List (K × Vec V A)) (i : ℕ) (r : K × Vec V A) (within : i < length rs) (here : r ≡ get_or rs i r)
     (rooms : map room_of (drop i rs) ≡ map room_for (drop i c)) where
@@ -168,7 +152,7 @@ module _ {K V A : Type 0} (c : Content K V) (rs : List (K × Vec V A)) (i : ℕ)
     run_empty = ap (λ p. p.0.1) drop-at_place.2
 
     pub run_enough : vec_capacity r.1 ≤ length left
-    run_enough = let whole = ap length next_values ∙ length-append drop-at_place.0.1 (flat_map (λ e. e.1) (drop (i + 1) c)) in let room = room_is in omega (arith, whole, room)
+    run_enough = omega (arith, ap length next_values, length-append drop-at_place.0.1 (flat_map (λ e. e.1) (drop (i + 1) c)), room_is)
 
     -- once it has its values
     pub run_filled : (new : Vec V A) → new.items ≡ take (vec_capacity r.1) left → map list_of (take i rs) ≡ take i c → map list_of (take (i + 1) (slice_set rs i (r.0, new))) ≡ take (i + 1) c

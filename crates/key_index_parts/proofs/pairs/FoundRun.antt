@@ -1,55 +1,95 @@
 -- What edits at the places of a run that was found make of the content, whose list at the key it is.
---     run_list, run_count                                   the list at the key is the run
+--     run_count                                             so many values more
 --     none_there                                            it is empty where the run is
---     within_keys, own_values                               the run ends among the keys, and the values there are the list
 --     place_within                                          a place of the list is one of the pairs
 --     slice_get-values_of                                   the value there
 --     may_insert, grouped-inserted, grouped-inserted_last   a value put in at a place of the list
 --     grouped-set_in, grouped-removed, grouped-removed_all  one in the place of another, one taken out, and the whole run
---     grouped-fewer, grouped-more                           others in the place of the whole run: no more than there were, and one more
---     grouped-kept                                          some in the place of the first, and the rest taken out
+--     IsReplaced, IsRunOf, run_of_pairs                     others in the place of the whole run, by the keys and the values
 --     may_append                                            a key behind the last of the run
 --     length-kept_of_run, few_of_run, asks_behind_run       what is left, where each value was asked on, and one more
-use Rattle.std.proofs.Common.{◌≡◌, ℕ, ◌+◌, ◌-◌, ◌<◌, ◌≤◌, Bool, cond, true, false, not, nat_eq, List, [], ◌∷◌, ◌++◌, length, insert, remove, slice_set, slice_get, take, drop, take-take, All, append_assoc, length-append, sym, ap, subst, ◌∙◌, arith}
+use Rattle.std.proofs.Common.{◌≡◌, ℕ, zero, suc, ◌+◌, ◌-◌, ◌<◌, ◌≤◌, Bool, cond, true, false, not, nat_eq, List, [], ◌∷◌, ◌++◌, length, insert, remove, slice_set, slice_get, get_or, take, drop, replicate, All, append_assoc, length-append, refl, sym, ap, subst, ◌∙◌, arith}
 use Rattle.std.proofs.lemmas.Bool.{eq-eqb, ne_eqb}
-use Rattle.std.proofs.Math.Seq.{take-add}
-use Rattle.std.proofs.lemmas.List.{length-drop, length-take-le}
+use Rattle.std.proofs.Math.Seq.{drop-cons, take-append-add, drop-append-add}
+use Rattle.std.proofs.lemmas.List.{length-drop, length-take, length-take-le, length-map, length-replicate, map-append, take-map, drop-map, take-append-le, drop-append-le, replicate_more, set_split}
 use Rattle.std.proofs.lemmas.Map.Made.{keys_of-zip}
 use Rattle.std.proofs.lemmas.List.Edits.{insert_end}
-use Rattle.std.proofs.lemmas.List.Elements.{All-append, All-cons, All-nil}
-use Rattle.std.proofs.lemmas.Option.{slice_get-map}
+use Rattle.std.proofs.lemmas.List.Elements.{All-head, All-tail, All-weaker, filter_passes}
 use Rattle.std.specs.List.{items_where_true, remove_range, slice_range, zip}
 use Rattle.std.specs.List.Sorted.{IsSorted}
 use Rattle.std.specs.Map.{keys_of, values_of}
-use Rattle.std.specs.Option.{option_map}
 use Rattle.std.specs.Cmp.{IsTotalOrder}
 use Rattle.std.specs.declared.cmp.Ordering.{Ordering}
 use Rattle.std.specs.declared.cmp.Ordering.TheVariants.{Equal}
+use Rattle.std.specs.Ordering.{eq_by_cmp}
 use Rattle.key_index_flat.specs.Content.{is_filled, list_at, with_list, with_list_by}
 use Rattle.key_index_flat.specs.View.{put_value}
 use Rattle.key_index_flat.specs.Neighbours.{entries_above, entries_below}
 use Rattle.key_index_flat.specs.Retention.{AsksBehind, AsksInTurn}
 use Rattle.key_index_flat.proofs.closures.TurnLemmas.{held_answers, kept_few}
-use Rattle.key_index_parts.specs.Pairs.{run_of, grouped, with_value, IsFound}
-use Rattle.key_index_parts.proofs.pairs.SearchLemmas.{Rises, Rises-IsSorted}
-use Rattle.key_index_parts.proofs.pairs.RunLemmas.{below_part, run_within, IsRun-slice}
-use Rattle.key_index_parts.proofs.pairs.ZipLemmas.{length-zip, drop-zip, values_of-zip, zip-append, zip-parts, zip-pairs_with}
+use Rattle.key_index_flat.proofs.content.ContentLemmas.{Equal-is_eq}
+use Rattle.key_index_parts.specs.Spread.{pairs_with}
+use Rattle.key_index_parts.specs.Pairs.{grouped, with_value, IsFound, Paired}
+use Rattle.key_index_parts.proofs.buckets.SpreadLemmas.{zip-more}
+use Rattle.key_index_parts.proofs.pairs.SearchLemmas.{Rises, Rises-IsSorted, IsSorted-remove_range}
+use Rattle.key_index_parts.proofs.pairs.RunLemmas.{pairs_at, pairs-below_at_above, run_below, run_above, run_slice}
+use Rattle.key_index_parts.proofs.pairs.ZipLemmas.{drop-zip, values_of-zip, zip-append, zip-parts}
 use Rattle.key_index_parts.proofs.pairs.GroupLemmas.{list_at-grouped}
-use Rattle.key_index_parts.proofs.pairs.PairEdits.{slice_get-run_of, IsSorted-insert, grouped-insert, grouped-set, grouped-remove, grouped-remove_run, grouped-set_run, keys_in_run, above_part}
+use Rattle.key_index_parts.proofs.pairs.PairEdits.{IsSorted-insert, grouped-set_run}
+
+-- every pair of a key, by the values
+pairs_with-all : {K V : Type 0} (k : K) (es : List (K × V)) → All (λ e. e.0 ≡ k) es → es ≡ pairs_with k (values_of es)
+pairs_with-all k [] h = refl
+pairs_with-all k (e ∷ es) h = λ i. (All-head (λ e. e.0 ≡ k) e es h i, e.1) ∷ pairs_with-all k es (All-tail (λ e. e.0 ≡ k) e es h) i
+
+keys_of-pairs_with : {K V : Type 0} (k : K) (vs : List V) → keys_of (pairs_with k vs) ≡ replicate (length vs) k
+keys_of-pairs_with k [] = refl
+keys_of-pairs_with k (v ∷ vs) = ap (λ l. k ∷ l) (keys_of-pairs_with k vs)
+
+zip-back : {K V : Type 0} (es : List (K × V)) → zip (keys_of es) (values_of es) ≡ es
+zip-back [] = refl
+zip-back (e ∷ es) = ap (λ l. e ∷ l) (zip-back es)
+
+with_value-parts : {K V : Type 0} (es : List (K × V)) (i : ℕ) (k : K) (u v : V) (rest : List (K × V)) → drop i es ≡ (k, u) ∷ rest → with_value es i v ≡ take i es ++ (k, v) ∷ rest
+with_value-parts es zero k u v rest is = ap (λ l. with_value l 0 v) is ∙ ap (λ l. (k, v) ∷ l) (zip-back rest)
+with_value-parts [] (suc i) k u v rest is = cc
+with_value-parts (f ∷ fs) (suc i) k u v rest is = ap (λ l. f ∷ l) (with_value-parts fs i k u v rest is)
+
+slice_get-drop : {X : Type 0} (xs : List X) (i : ℕ) → slice_get xs i ≡ slice_get (drop i xs) 0
+slice_get-drop [] zero = refl
+slice_get-drop [] (suc i) = refl
+slice_get-drop (x ∷ xs) zero = refl
+slice_get-drop (x ∷ xs) (suc i) = slice_get-drop xs i
+
+-- k's list is `kept` in what was es, now the keys ls and the values us
+pub record IsReplaced {K V : Type 0} (cmp : K → K → Ordering) (es : List (K × V)) (k : K) (ls : List K) (us kept : List V) : Type 0 where
+  pub paired : Paired cmp ls us
+  pub content : grouped cmp (zip ls us) ≡ with_list cmp (grouped cmp es) k kept
+
+-- the run of k by the keys and the values, and what it makes to have others in its place: no more than there were, and one more
+pub record IsRunOf {K V : Type 0} (cmp : K → K → Ordering) (es : List (K × V)) (k : K) (ks : List K) (vs : List V) (start end : ℕ) : Type 0 where
+  pub order : start ≤ end
+  pub within : end ≤ length ks
+  pub values : slice_range vs start end ≡ list_at cmp (grouped cmp es) k
+  pub fewer : (n : ℕ) (kept : List V) → n ≤ end - start → n ≡ length kept → IsReplaced cmp es k (remove_range ks (start + n) end) (take start vs ++ kept ++ drop end vs) kept
+  pub more : (kept : List V) → length kept ≡ end - start + 1 → IsReplaced cmp es k (insert ks end k) (take start vs ++ kept ++ drop end vs) kept
 
 module _ {K V : Type 0} {cmp : K → K → Ordering} (o : IsTotalOrder cmp) (exact : (x y : K) → cmp x y ≡ Equal → x ≡ y) {es : List (K × V)} {k : K}
     {start end : ℕ} (found : IsFound cmp es k start end) where
   abbrev list : List V
   list = list_at cmp (grouped cmp es) k
 
-  Rises-found : Rises cmp (keys_of es)
-  Rises-found = Rises-IsSorted o (keys_of es) found.sorted
+  abbrev own : List (K × V)
+  own = pairs_with k list
 
-  pub run_list : list ≡ run_of cmp es k
-  run_list = list_at-grouped o es k
+  abbrev above : List (K × V)
+  above = entries_above cmp es k
+
+  rises : Rises cmp (keys_of es)
+  rises = Rises-IsSorted o (keys_of es) found.sorted
 
   pub run_count : end ≡ start + length list
-  run_count = found.run.upto ∙ ap (λ l. start + length l) (sym run_list)
+  run_count = found.run.upto ∙ ap (λ l. start + length l) (sym (list_at-grouped o es k))
 
   pub none_there : nat_eq start end ≡ not (is_filled list)
   none_there = empty_by_count list run_count
@@ -58,129 +98,146 @@ module _ {K V : Type 0} {cmp : K → K → Ordering} (o : IsTotalOrder cmp) (exa
       empty_by_count [] e = let same : start ≡ end = omega (arith, e) in eq-eqb start end same
       empty_by_count (v ∷ vs) e = ne_eqb start end (λ same. absurd (omega (arith, same, e)))
 
-  run_place : (i : ℕ) → i ≤ length list → i ≤ length (run_of cmp es k)
-  run_place i l = let e = ap (λ l. length l) run_list in omega (arith, e, l)
-
-  run_below : (i : ℕ) → i < length list → i < length (run_of cmp es k)
-  run_below i l = let e = ap (λ l. length l) run_list in omega (arith, e, l)
-
-  start-entries_below : (i : ℕ) → start + i ≡ length (entries_below cmp es k) + i
-  start-entries_below i = ap (λ n. n + i) found.run.from
-
   pub place_within : (i : ℕ) → i < length list → start + i < length es
-  place_within i l = let all = run_within o es k Rises-found in let from = found.run.from in let e = ap (λ l. length l) run_list in omega (arith, all, from, e, l)
+  place_within i l = omega (arith, found.within, run_count, l)
 
   pub place_upto : (i : ℕ) → i ≤ length list → start + i ≤ length es
-  place_upto i l = let all = run_within o es k Rises-found in let from = found.run.from in let e = ap (λ l. length l) run_list in omega (arith, all, from, e, l)
+  place_upto i l = omega (arith, found.within, run_count, l)
+
+  -- the pairs below the key, its own, and those above
+  split : es ≡ entries_below cmp es k ++ (own ++ above)
+  split =
+      let at = pairs_at o es k in
+      let each = All-weaker (λ e. eq_by_cmp cmp k e.0 ≡ true) (λ e. e.0 ≡ k) (λ e t. sym (exact k e.0 (Equal-is_eq _ t))) at (filter_passes (λ e. eq_by_cmp cmp k e.0) es) in
+      pairs-below_at_above o es k rises ∙ ap (λ l. entries_below cmp es k ++ (l ++ above)) (pairs_with-all k at each ∙ ap (pairs_with k) (sym (list_at-grouped o es k)))
+
+  own_len : length own ≡ length list
+  own_len = length-map list (λ v. (k, v))
+
+  below_is : take start es ≡ entries_below cmp es k
+  below_is = run_below o found.sorted found.run
+
+  above_is : drop end es ≡ above
+  above_is = run_above o found.sorted found.run
+
+  pub own_pairs : es ≡ take start es ++ (own ++ drop end es)
+  own_pairs = split ∙ (λ j. sym below_is j ++ (own ++ sym above_is j))
+
+  -- up to a place of the run, and from it on
+  front_is : (i : ℕ) → i ≤ length list → take (start + i) es ≡ take start es ++ pairs_with k (take i list)
+  front_is i l =
+      (λ j. take (found.run.from j + i) (split j)) ∙ take-append-add (entries_below cmp es k) (own ++ above) i
+      ∙ (λ j. sym below_is j ++ (take-append-le i own above (omega (arith, own_len, l)) ∙ take-map (λ v. (k, v)) i list) j)
+
+  back_is : (i : ℕ) → i ≤ length list → drop (start + i) es ≡ pairs_with k (drop i list) ++ above
+  back_is i l =
+      (λ j. drop (found.run.from j + i) (split j)) ∙ drop-append-add (entries_below cmp es k) (own ++ above) i
+      ∙ drop-append-le i own above (omega (arith, own_len, l)) ∙ ap (λ l. l ++ above) (drop-map (λ v. (k, v)) i list)
+
+  -- some values in the place of those from one place of the run up to another
+  spliced : (i j : ℕ) (vs : List V) → i ≤ length list → j ≤ length list
+      → grouped cmp (take (start + i) es ++ (pairs_with k vs ++ drop (start + j) es)) ≡ with_list cmp (grouped cmp es) k (take i list ++ (vs ++ drop j list))
+  spliced i j vs l m =
+      let front = pairs_with k (take i list) in
+      let back = pairs_with k (drop j list) in
+      let parts : pairs_with k (take i list ++ (vs ++ drop j list)) ≡ front ++ (pairs_with k vs ++ back) =
+      map-append (λ v. (k, v)) (take i list) _ ∙ ap (λ l. front ++ l) (map-append (λ v. (k, v)) vs (drop j list)) in
+      ap (grouped cmp)
+      ((λ n. (front_is i l ∙ ap (λ t. t ++ front) below_is) n ++ (pairs_with k vs ++ back_is j m n))
+      ∙ append_assoc (entries_below cmp es k) front (pairs_with k vs ++ (back ++ above))
+      ∙ ap (λ t. entries_below cmp es k ++ t) (ap (λ t. front ++ t) (sym (append_assoc (pairs_with k vs) back above)) ∙ sym (append_assoc front (pairs_with k vs ++ back) above)
+      ∙ ap (λ t. t ++ above) (sym parts)))
+      ∙ grouped-set_run o es k rises exact (take i list ++ (vs ++ drop j list))
 
   pub slice_get-values_of : (i : ℕ) → i < length list → slice_get (values_of es) (start + i) ≡ slice_get list i
   slice_get-values_of i l =
-      let there = slice_get-run_of o es k Rises-found i (run_below i l) in
-      ap (λ n. slice_get (values_of es) n) (start-entries_below i) ∙ slice_get-map (λ e. e.1) es _ ∙ ap (option_map (λ e. e.1)) there.1
-      ∙ sym there.2 ∙ ap (λ m. slice_get m i) (sym run_list)
+      slice_get-drop (values_of es) (start + i) ∙ ap (λ l. slice_get l 0) (drop-map (λ e. e.1) (start + i) es ∙ ap values_of (back_is i (omega (arith, l))))
+      ∙ first_of (drop i list) (omega (arith, length-drop i list, l)) ∙ sym (slice_get-drop list i)
+    where
+      first_of : (l : List V) → 0 < length l → slice_get (values_of (pairs_with k l ++ above)) 0 ≡ slice_get l 0
+      first_of [] some = absurd (omega (arith, some))
+      first_of (v ∷ vs) some = refl
 
   pub may_insert : (i : ℕ) → i ≤ length list → IsSorted cmp (insert (keys_of es) (start + i) k)
-  may_insert i l = subst (λ n. IsSorted cmp (insert (keys_of es) n k)) (sym (start-entries_below i)) (IsSorted-insert o es k Rises-found i (run_place i l))
-
-  pub grouped-inserted : (i : ℕ) (v : V) → i ≤ length list → grouped cmp (insert es (start + i) (k, v)) ≡ with_list_by cmp (grouped cmp es) k (λ l. insert l i v)
-  grouped-inserted i v l = ap (λ n. grouped cmp (insert es n (k, v))) (start-entries_below i) ∙ grouped-insert o es k Rises-found exact i v (run_place i l)
+  may_insert i l =
+      let same = ap (λ l. length l) (list_at-grouped o es k) in
+      subst (λ n. IsSorted cmp (insert (keys_of es) (n + i) k)) (sym found.run.from) (IsSorted-insert o es k rises i (omega (arith, same, l)))
 
   pub may_append : IsSorted cmp (insert (keys_of es) end k)
-  may_append = let whole : length list ≤ length list = omega arith in subst (λ n. IsSorted cmp (insert (keys_of es) n k)) (sym run_count) (may_insert (length list) whole)
+  may_append = subst (λ n. IsSorted cmp (insert (keys_of es) n k)) (sym run_count) (may_insert (length list) (omega arith))
+
+  pub grouped-inserted : (i : ℕ) (v : V) → i ≤ length list → grouped cmp (insert es (start + i) (k, v)) ≡ with_list_by cmp (grouped cmp es) k (λ l. insert l i v)
+  grouped-inserted i v l = spliced i i (v ∷ []) l l
 
   pub grouped-inserted_last : (v : V) → grouped cmp (insert es end (k, v)) ≡ with_list_by cmp (grouped cmp es) k (put_value false v)
   grouped-inserted_last v =
-      let whole : length list ≤ length list = omega arith in
-      ap (λ n. grouped cmp (insert es n (k, v))) run_count ∙ grouped-inserted (length list) v whole ∙ ap (λ l. with_list cmp (grouped cmp es) k l) (insert_end list v)
+      ap (λ n. grouped cmp (insert es n (k, v))) run_count ∙ grouped-inserted (length list) v (omega arith) ∙ ap (λ l. with_list cmp (grouped cmp es) k l) (insert_end list v)
 
   pub grouped-set_in : (i : ℕ) (v : V) → i < length list → grouped cmp (with_value es (start + i) v) ≡ with_list_by cmp (grouped cmp es) k (λ l. slice_set l i v)
-  grouped-set_in i v l = ap (λ n. grouped cmp (with_value es n v)) (start-entries_below i) ∙ grouped-set o es k Rises-found exact i v (run_below i l)
+  grouped-set_in i v l =
+      let behind : drop (start + i) es ≡ (k, get_or list i v) ∷ drop (start + suc i) es =
+      back_is i (omega (arith, l)) ∙ ap (λ l. pairs_with k l ++ above) (drop-cons list i v l) ∙ ap (λ t. (k, get_or list i v) ∷ t) (sym (back_is (suc i) l)) in
+      ap (grouped cmp) (with_value-parts es (start + i) k (get_or list i v) v (drop (start + suc i) es) behind)
+      ∙ spliced i (suc i) (v ∷ []) (omega (arith, l)) l ∙ ap (λ l. with_list cmp (grouped cmp es) k l) (sym (set_split list i v l))
 
   pub grouped-removed : (i : ℕ) → i < length list → grouped cmp (remove es (start + i)) ≡ with_list_by cmp (grouped cmp es) k (λ l. remove l i)
-  grouped-removed i l = ap (λ n. grouped cmp (remove es n)) (start-entries_below i) ∙ grouped-remove o es k Rises-found exact i (run_below i l)
+  grouped-removed i l =
+      let next : suc (start + i) ≡ start + suc i = omega arith in
+      ap (λ n. grouped cmp (take (start + i) es ++ drop n es)) next ∙ spliced i (suc i) [] (omega (arith, l)) l
 
   pub grouped-removed_all : grouped cmp (remove_range es start end) ≡ with_list cmp (grouped cmp es) k []
-  grouped-removed_all = grouped-remove_run o es k Rises-found exact start end found.run
+  grouped-removed_all = ap (grouped cmp) (λ j. below_is j ++ above_is j) ∙ grouped-set_run o es k rises exact []
 
   -- by the keys and the values
-  module _ (ks : List K) (vs : List V) (is : zip ks vs ≡ es) (sized : length ks ≡ length vs) where
-    pub within_keys : end ≤ length ks
-    within_keys = let pairs = length-zip ks vs sized in let all = ap (λ l. length l) is in let inside = found.within in omega (arith, pairs, all, inside)
+  module _ {ks : List K} {vs : List V} (is : zip ks vs ≡ es) (paired : Paired cmp ks vs) where
+    keys_are : ks ≡ keys_of es
+    keys_are = sym (keys_of-zip ks vs (sym paired.sized)) ∙ ap keys_of is
 
-    pub own_values : slice_range vs start end ≡ list
-    own_values =
-        ap (λ l. slice_range l start end) (sym (values_of-zip ks vs sized) ∙ ap (λ fs. values_of fs) is) ∙ IsRun-slice o es k start end found.sorted found.run ∙ sym run_list
+    within : end ≤ length ks
+    within = omega (arith, ap (λ l. length l) keys_are, length-map es (λ e. e.0), found.within)
 
-  -- other values in the place of the run, beside as many keys, each of which is k
-  grouped-run : (ks : List K) (vs : List V) → zip ks vs ≡ es → length ks ≡ length vs → (own : List K) (kept : List V)
-      → All (λ x. x ≡ k) own → length own ≡ length kept
-      → grouped cmp (zip (take start ks ++ own ++ drop end ks) (take start vs ++ kept ++ drop end vs)) ≡ with_list cmp (grouped cmp es) k kept
-  grouped-run ks vs is sized own kept one beside =
-      let rises = Rises-found in
-      let ahead : take start (zip ks vs) ≡ entries_below cmp es k = ap (take start) is ∙ ap (λ m. take m es) found.run.from ∙ below_part o es k rises in
-      let rest : zip (drop end ks) (drop end vs) ≡ entries_above cmp es k = sym (drop-zip end ks vs) ∙ ap (drop end) is ∙ above_part o es k rises exact start end found.run in
-      ap (grouped cmp)
-      ((λ j. zip (append_assoc (take start ks) own (drop end ks) j) (append_assoc (take start vs) kept (drop end vs) j))
-      ∙ zip-parts start ks (own ++ drop end ks) vs (kept ++ drop end vs) sized
-      ∙ ap (λ l. take start (zip ks vs) ++ l) (zip-append own (drop end ks) kept (drop end vs) beside)
-      ∙ (λ j. ahead j ++ (zip-pairs_with k own kept beside one j ++ rest j)))
-      ∙ grouped-set_run o es k rises exact kept
+    order : start ≤ end
+    order = omega (arith, run_count)
 
-  -- the first keys of the run
-  own_keys : (ks : List K) (vs : List V) → zip ks vs ≡ es → length ks ≡ length vs → (n : ℕ) → n ≤ end - start
-      → All (λ x. x ≡ k) (take n (drop start ks)) × (length (take n (drop start ks)) ≡ n)
-  own_keys ks vs is sized n l =
-      let few : n ≤ length (run_of cmp es k) = let u = found.run.upto in omega (arith, u, l) in
-      let keys_are : take n (drop start ks) ≡ take n (drop (length (entries_below cmp es k)) (keys_of es)) =
-      (λ j. take n (drop (found.run.from j) (sym (keys_of-zip ks vs (sym sized)) j)))
-      ∙ ap (λ fs. take n (drop (length (entries_below cmp es k)) (keys_of fs))) is in
-      let long = length-drop start ks in
-      let pairs = length-zip ks vs sized in
-      let all = ap (λ l. length l) is in
-      let inside = found.within in
-      let u = found.run.upto in (
-        subst (λ xs. All (λ x. x ≡ k) xs) (sym keys_are) (keys_in_run o es k Rises-found exact n few),
-        length-take-le n (drop start ks) (omega (arith, long, pairs, all, inside, l, u)),
-      )
+    -- the keys up to a place of the run
+    keys_upto : (n : ℕ) → n ≤ length list → take (start + n) ks ≡ take start ks ++ replicate n k
+    keys_upto n l =
+        let part : (m : ℕ) → take m ks ≡ keys_of (take m es) = λ m. ap (take m) keys_are ∙ take-map (λ e. e.0) m es in
+        part (start + n) ∙ ap keys_of (front_is n l) ∙ map-append (λ e. e.0) (take start es) (pairs_with k (take n list))
+        ∙ (λ j. sym (part start) j ++ (keys_of-pairs_with k (take n list) ∙ ap (λ m. replicate m k) (length-take-le n list l)) j)
 
-  -- as many as there were or fewer, and one more
-  pub grouped-fewer : (ks : List K) (vs : List V) → zip ks vs ≡ es → length ks ≡ length vs → (n : ℕ) (kept : List V) → n ≤ end - start → n ≡ length kept
-      → grouped cmp (zip (remove_range ks (start + n) end) (take start vs ++ kept ++ drop end vs)) ≡ with_list cmp (grouped cmp es) k kept
-  grouped-fewer ks vs is sized n kept l count =
-      let own = own_keys ks vs is sized n l in
-      ap (λ m. grouped cmp (zip (m ++ drop end ks) (take start vs ++ kept ++ drop end vs))) (take-add start n ks)
-      ∙ grouped-run ks vs is sized (take n (drop start ks)) kept own.0 (own.1 ∙ count)
+    -- other values in the place of the run, beside as many keys
+    replaced : (ls own : List K) (kept : List V) → ls ≡ take start ks ++ (own ++ drop end ks) → own ≡ replicate (length kept) k → IsSorted cmp ls
+        → IsReplaced cmp es k ls (take start vs ++ kept ++ drop end vs) kept
+    replaced ls own kept keys one up =
+        let beside : length own ≡ length kept = ap (λ l. length l) one ∙ length-replicate (length kept) k in
+        let values = append_assoc (take start vs) kept (drop end vs) in
+        let sized = paired.sized in
+        let same : length (take start ks ++ (own ++ drop end ks)) ≡ length (take start vs ++ (kept ++ drop end vs)) =
+        omega (arith, length-append {A = K}, length-append {A = V}, length-take {A = K}, length-take {A = V}, length-drop {A = K}, length-drop {A = V}, beside, sized) in
+        record {
+          paired = record { sized = ap (λ l. length l) keys ∙ same ∙ ap (λ l. length l) (sym values); sorted = up };
+          content = ap (grouped cmp)
+              ((λ j. zip (keys j) (values j)) ∙ zip-parts start ks (own ++ drop end ks) vs (kept ++ drop end vs) sized
+              ∙ (λ j. (ap (take start) is ∙ below_is) j ++ (zip-append own (drop end ks) kept (drop end vs) beside
+              ∙ (λ i. (ap (λ l. zip l kept) one ∙ zip-more [] [] refl k kept) i ++ (sym (drop-zip end ks vs) ∙ ap (drop end) is ∙ above_is) i)) j))
+              ∙ grouped-set_run o es k rises exact kept;
+        }
 
-  pub grouped-more : (ks : List K) (vs : List V) → zip ks vs ≡ es → length ks ≡ length vs → (kept : List V) → length kept ≡ end - start + 1
-      → grouped cmp (zip (insert ks end k) (take start vs ++ kept ++ drop end vs)) ≡ with_list cmp (grouped cmp es) k kept
-  grouped-more ks vs is sized kept count =
-      let run = end - start in
-      let whole : run ≤ end - start = omega arith in
-      let own = own_keys ks vs is sized run whole in
-      let upto : end ≡ start + run = let u = found.run.upto in omega (arith, u) in
-      let ahead : take end ks ≡ take start ks ++ take run (drop start ks) = ap (λ n. take n ks) upto ∙ take-add start run ks in
-      let one = length-append (take run (drop start ks)) (k ∷ []) in
-      ap (λ m. grouped cmp (zip m (take start vs ++ kept ++ drop end vs)))
-      (ap (λ l. l ++ k ∷ drop end ks) ahead ∙ sym (append_assoc (take start ks ++ take run (drop start ks)) (k ∷ []) (drop end ks))
-      ∙ ap (λ l. l ++ drop end ks) (append_assoc (take start ks) (take run (drop start ks)) (k ∷ [])))
-      ∙ grouped-run ks vs is sized (take run (drop start ks) ++ k ∷ []) kept (All-append (λ x. x ≡ k) (take run (drop start ks)) (k ∷ []) own.0 (All-cons (λ x. x ≡ k) k [] (λ i. k) (All-nil (λ x. x ≡ k))))
-      (omega (arith, one, own.1, count))
-
-  -- some values in the place of the first of the run, and the rest of it taken out
-  pub grouped-kept : (ks : List K) (vs ws : List V) (n : ℕ) → zip ks vs ≡ es → length ks ≡ length vs → length ws ≡ length vs → n ≤ end - start
-      → take start ws ≡ take start vs → drop end ws ≡ drop end vs
-      → grouped cmp (zip (remove_range ks (start + n) end) (remove_range ws (start + n) end)) ≡ with_list cmp (grouped cmp es) k (take n (slice_range ws start end))
-  grouped-kept ks vs ws n is sized long l front back =
-      let kept = take n (slice_range ws start end) in
-      let kept_is : take n (drop start ws) ≡ kept = sym (take-take n (end - start) (drop start ws) l) in
-      let behind = length-drop start ws in
-      let pairs = length-zip ks vs sized in
-      let all = ap (λ l. length l) is in
-      let inside = found.within in
-      let u = found.run.upto in
-      let count : length (take n (drop start ws)) ≡ n = length-take-le n (drop start ws) (omega (arith, behind, long, sized, pairs, all, inside, l, u)) in
-      ap (λ m. grouped cmp (zip (remove_range ks (start + n) end) m)) ((λ j. (take-add start n ws ∙ (λ i. front i ++ kept_is i)) j ++ back j))
-      ∙ grouped-fewer ks vs is sized n kept l (sym count ∙ ap (λ m. length m) kept_is)
+    pub run_of_pairs : IsRunOf cmp es k ks vs start end
+    run_of_pairs = record {
+      order = order;
+      within = within;
+      values = ap (λ l. slice_range l start end) (sym (values_of-zip ks vs paired.sized) ∙ ap (λ fs. values_of fs) is) ∙ run_slice o found.sorted found.run ∙ sym (list_at-grouped o es k);
+      fewer = λ n kept l count.
+          replaced (remove_range ks (start + n) end) (replicate n k) kept (ap (λ l. l ++ drop end ks) (keys_upto n (omega (arith, run_count, l))) ∙ append_assoc (take start ks) (replicate n k) (drop end ks))
+          (ap (λ m. replicate m k) count) (IsSorted-remove_range o ks (start + n) end (omega (arith, run_count, l)) paired.sorted);
+      more = λ kept count.
+          replaced (insert ks end k) (replicate (length list) k ++ k ∷ []) kept
+          (ap (λ l. l ++ k ∷ drop end ks) (ap (λ n. take n ks) run_count ∙ keys_upto (length list) (omega arith)) ∙ append_assoc (take start ks) (replicate (length list) k) (k ∷ drop end ks)
+          ∙ ap (λ l. take start ks ++ l) (sym (append_assoc (replicate (length list) k) (k ∷ []) (drop end ks))))
+          (replicate_more (length list) k ∙ ap (λ m. replicate m k) (omega (arith, run_count, count))) (subst (λ l. IsSorted cmp (insert l end k)) (sym keys_are) may_append);
+    }
 
   -- each of its values and one more was asked on
   module _ {F : Type 0} (ask : F → V → Bool → F → Type 0) (f : F) (v : V) {kept : List V} {stays : Bool} (asked : AsksInTurn ask f true (list ++ v ∷ []) kept stays) where

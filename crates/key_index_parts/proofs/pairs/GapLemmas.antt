@@ -56,10 +56,7 @@ module _ {X : Type 0} where
 
     pub closed_last : length ys ≤ at → take into ys ≡ remove_range xs from to
     closed_last done =
-        let past = c.past in
-        let size = c.sized in
-        let behind = length-drop to xs in
-        c.front ∙ ap (λ l. take from xs ++ l) (take_all (at - to) (drop to xs) (omega (arith, done, size, behind, past)))
+        c.front ∙ ap (λ l. take from xs ++ l) (take_all (at - to) (drop to xs) (omega (arith, done, c.sized, length-drop to xs, c.past)))
 
 pub remove_range-remove : {X : Type 0} (xs : List X) (i k : ℕ) → i < length xs → i ≤ k
     → remove_range (remove xs i) i k ≡ remove_range xs i (suc k)

@@ -3,7 +3,7 @@
 --     none_grouped                   it is empty exactly where there is no pair
 --     filter-grouped                 the entries that pass a test of keys are those of the pairs that do
 --     entries_above-grouped, ..      so are those above a key, and below
-use Rattle.std.proofs.Common.{◌≡◌, ◌≤◌, Bool, true, false, not, nat_eq, cond, T, List, [], ◌∷◌, length, refl, sym, ap, subst, ◌∙◌, arith}
+use Rattle.std.proofs.Common.{◌≡◌, Bool, true, false, not, nat_eq, cond, T, List, [], ◌∷◌, length, refl, sym, ap, subst, ◌∙◌, arith}
 use Rattle.std.proofs.lemmas.Bool.{eq-eqb, ne_eqb}
 use Rattle.std.proofs.lemmas.List.Elements.{filter_agree}
 use Rattle.std.specs.List.{filter}
@@ -20,6 +20,7 @@ use Rattle.key_index_flat.specs.Neighbours.{entries_above, entries_below}
 use Rattle.key_index_flat.proofs.content.ContentLemmas.{list_at-with_list, item_count-with_list, Equal-is_eq, Less-is_lt}
 use Rattle.key_index_parts.specs.Pairs.{run_of, grouped}
 use Rattle.key_index_parts.specs.laws.PairLaws.{IsLawful-grouped}
+use Rattle.key_index_parts.proofs.buckets.CountLemmas.{keys_at_most}
 
 module _ {K V : Type 0} {cmp : K → K → Ordering} (o : IsTotalOrder cmp) where
   -- equal keys have one run
@@ -40,9 +41,7 @@ module _ {K V : Type 0} {cmp : K → K → Ordering} (o : IsTotalOrder cmp) wher
   pub item_count-grouped : (es : List (K × V)) → item_count (grouped cmp es) ≡ length es
   item_count-grouped [] = refl
   item_count-grouped (e ∷ es) =
-      let rest = item_count-grouped es in
-      let step = item_count-with_list o (grouped cmp es) e.0 (e.1 ∷ list_at cmp (grouped cmp es) e.0) (IsLawful-grouped o es) in
-      omega (arith, rest, step)
+      omega (arith, item_count-grouped es, item_count-with_list o (grouped cmp es) e.0 (e.1 ∷ list_at cmp (grouped cmp es) e.0) (IsLawful-grouped o es))
 
   -- there is no pair exactly where there is no entry
   pub none_grouped : (es : List (K × V)) → nat_eq (length es) 0 ≡ not (is_filled (grouped cmp es))
@@ -50,11 +49,7 @@ module _ {K V : Type 0} {cmp : K → K → Ordering} (o : IsTotalOrder cmp) wher
     where
       empty_by_count : (c : Content K V) → T (all_filled c) → item_count c ≡ length es → nat_eq (length es) 0 ≡ not (is_filled c)
       empty_by_count [] h e = eq-eqb (length es) 0 (sym e)
-      empty_by_count (x ∷ xs) h e = let some = filled_count x.1 (T-and_first _ _ h) in ne_eqb (length es) 0 (λ none. absurd (omega (arith, some, none, e)))
-        where
-          filled_count : (l : List V) → T (is_filled l) → 1 ≤ length l
-          filled_count [] f = absurd f
-          filled_count (v ∷ vs) f = omega arith
+      empty_by_count (x ∷ xs) h e = ne_eqb (length es) 0 (λ none. absurd (omega (arith, keys_at_most (x ∷ xs) h, none, e)))
 
 -- what passes a wider test first
 filter-filter : {X : Type 0} (p q : X → Bool) → ((x : X) → q x ≡ true → p x ≡ true) → (xs : List X) → filter q (filter p xs) ≡ filter q xs
@@ -69,7 +64,7 @@ filter-filter p q wider (x ∷ xs) =
     ] refl
 
 module _ {K X : Type 0} {cmp : K → K → Ordering} (o : IsTotalOrder cmp) where
-  put-below : (k : K) (x : X) (c : List (K × X)) → T (below_all cmp k c) → put cmp k x c ≡ (k, x) ∷ c
+  pub put-below : (k : K) (x : X) (c : List (K × X)) → T (below_all cmp k c) → put cmp k x c ≡ (k, x) ∷ c
   put-below k x [] h = refl
   put-below k x (e ∷ es) h = ap (λ r. by_order r ((k, x) ∷ e ∷ es) ((e.0, x) ∷ es) (e ∷ put cmp k x es)) (Less-is_lt _ (T-and_first (is_lt (cmp k e.0)) _ h))
 

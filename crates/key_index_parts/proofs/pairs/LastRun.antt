@@ -1,29 +1,23 @@
 -- The run of the last of sorted keys, where keys that tie are one.
---     ends                     from where it begins on, each key is the last, and those before are below it
---     IsLastRun, start_within  the last key and where its run begins, which is at one of the keys
---     IsPopped, popped         so the pairs end with the last key's, one for each of its values; the others still never fall, and are below it
+--     IsPopped, popped         the pairs end with the last key's, one for each of its values; the others still never fall, and are below it
 --     Rises-more               keys that never fall, and one that is below none of them so many times
-use Rattle.std.proofs.Common.{◌≡◌, ℕ, zero, suc, ◌+◌, ◌-◌, ◌<◌, false, cond, T, List, [], ◌∷◌, ◌++◌, All, length, take, drop, replicate, slice_get, Some, refl, sym, ap, subst, ◌∙◌, arith, append_assoc, length-append}
-use Rattle.std.proofs.lemmas.List.{length-take-le, take-append-drop}
-use Rattle.std.proofs.lemmas.Map.Made.{keys_of-zip}
-use Rattle.std.proofs.lemmas.List.Elements.{All-nil, All-cons, All-head, All-tail, All-append}
+use Rattle.std.proofs.Common.{◌≡◌, ℕ, zero, suc, ◌+◌, ◌-◌, false, T, List, [], ◌∷◌, ◌++◌, All, length, take, drop, replicate, slice_get, Some, refl, sym, ap, subst, ◌∙◌, arith, append_assoc, append-nil, length-append}
+use Rattle.std.proofs.lemmas.List.{length-take-le, take-append-drop, take_at, drop_at, drop_all, take_rest}
+use Rattle.std.proofs.lemmas.List.Elements.{All-head, All-tail, All-append, All-map, All-replicate, filter_passes}
 use Rattle.std.specs.Cmp.{IsTotalOrder, tied_itself}
-use Rattle.std.specs.List.{filter, zip}
-use Rattle.std.specs.List.Sorted.{IsSorted}
+use Rattle.std.specs.List.{zip}
 use Rattle.std.specs.Map.{keys_of}
 use Rattle.std.specs.declared.cmp.Ordering.{Ordering}
-use Rattle.std.specs.declared.cmp.Ordering.TheVariants.{Less, Equal, Greater}
-use Rattle.std.specs.Ordering.{is_lt, ordering_reverse}
+use Rattle.std.specs.declared.cmp.Ordering.TheVariants.{Less, Equal}
+use Rattle.std.specs.Ordering.{is_lt}
+use Rattle.key_index_flat.specs.Neighbours.{entries_below}
+use Rattle.key_index_flat.proofs.content.ContentLemmas.{Less-is_lt}
 use Rattle.key_index_parts.specs.Pairs.{count_below, Paired}
 use Rattle.key_index_parts.specs.Spread.{pairs_with}
-use Rattle.key_index_parts.proofs.buckets.SpreadLemmas.{zip-more}
-use Rattle.key_index_parts.proofs.pairs.SearchLemmas.{Rises, Rises-IsSorted, Rises-take, IsSorted-Rises, last_highest, last_uncounted}
-
--- k is the last of keys that never fall, and its run begins at `start`
-pub record IsLastRun {K : Type 0} (cmp : K → K → Ordering) (ks : List K) (k : K) (start : ℕ) : Type 0 where
-  pub sorted : IsSorted cmp ks
-  pub last : slice_get ks (length ks - 1) ≡ Some k
-  pub begins : start ≡ count_below cmp ks k
+use Rattle.key_index_parts.proofs.pairs.SearchLemmas.{Rises, Rises-IsSorted, Rises-take, IsSorted-Rises, last_uncounted, last_counted}
+use Rattle.key_index_parts.proofs.pairs.ZipLemmas.{length-zip, take-zip}
+use Rattle.key_index_parts.proofs.pairs.RunLemmas.{found_by, run_below}
+use Rattle.key_index_parts.proofs.pairs.FoundRun.{own_pairs, run_of_pairs}
 
 -- what is left once k was taken out, with its first value and its others, is `kept`, with the values `us`
 pub record IsPopped {K V : Type 0} (cmp : K → K → Ordering) (ks : List K) (vs : List V) (k : K) (head : V) (ws : List V) (kept : List K) (us : List V) : Type 0 where
@@ -34,10 +28,6 @@ pub record IsPopped {K V : Type 0} (cmp : K → K → Ordering) (ks : List K) (v
   pub values_left : length us + (1 + length ws) ≡ length vs
 
 module _ {K : Type 0} {cmp : K → K → Ordering} (o : IsTotalOrder cmp) where
-  All-replicate : (P : K → Type 0) (n : ℕ) (k : K) → P k → All P (replicate n k)
-  All-replicate P zero k h = All-nil P
-  All-replicate P (suc n) k h = All-cons P k (replicate n k) h (All-replicate P n k h)
-
   Rises-replicate : (n : ℕ) (k : K) → Rises cmp (replicate n k)
   Rises-replicate zero k = tt
   Rises-replicate (suc n) k = (All-replicate (λ x. is_lt (cmp x k) ≡ false) n k (ap is_lt (tied_itself o k)), Rises-replicate n k)
@@ -49,71 +39,27 @@ module _ {K : Type 0} {cmp : K → K → Ordering} (o : IsTotalOrder cmp) where
     Rises-more xs n k h.1 (All-tail (λ x. is_lt (cmp k x) ≡ false) x xs above),
   )
 
-  module _ (exact : (a b : K) → cmp a b ≡ Equal → a ≡ b) (k : K) where
-    is_last : (x : K) → is_lt (cmp x k) ≡ false → is_lt (cmp k x) ≡ false → x ≡ k
-    is_last x low high =
-        elim (cmp x k) as (λ r. cmp x k ≡ r → is_lt r ≡ false → x ≡ k) [
-          | Less ↦ λ _ f. absurd (subst T f tt)
-          | Equal ↦ λ e _. exact x k e
-          | Greater ↦ λ e _. absurd (subst T (sym (ap is_lt (o.antisymm k x ∙ ap ordering_reverse e)) ∙ high) tt)
-        ] refl low
-
-    all_equal : (ks : List K) → All (λ x. is_lt (cmp x k) ≡ false) ks → All (λ x. is_lt (cmp k x) ≡ false) ks → (count_below cmp ks k ≡ 0) × (ks ≡ replicate (length ks) k)
-    all_equal [] low high = (refl, refl)
-    all_equal (x ∷ xs) low high =
-        let at = All-head (λ x. is_lt (cmp x k) ≡ false) x xs low in
-        let rest = all_equal xs (All-tail (λ x. is_lt (cmp x k) ≡ false) x xs low) (All-tail (λ x. is_lt (cmp k x) ≡ false) x xs high) in (
-          ap (λ b. length (cond b (x ∷ filter (λ y. is_lt (cmp y k)) xs) (filter (λ y. is_lt (cmp y k)) xs))) at ∙ rest.0,
-          (λ i. is_last x at (All-head (λ x. is_lt (cmp k x) ≡ false) x xs high) i ∷ rest.1 i),
-        )
-
-    abbrev Ends : List K → ℕ → Type 0
-    Ends ks n = (drop n ks ≡ replicate (length ks - n) k) × All (λ x. cmp x k ≡ Less) (take n ks)
-
-    ends : (ks : List K) → Rises cmp ks → All (λ x. is_lt (cmp k x) ≡ false) ks → Ends ks (count_below cmp ks k)
-    ends [] h high = (refl, All-nil _)
-    ends (x ∷ xs) h high =
-        let below = filter (λ y. is_lt (cmp y k)) xs in
-        let high_at = All-head (λ x. is_lt (cmp k x) ≡ false) x xs high in
-        let high_rest = All-tail (λ x. is_lt (cmp k x) ≡ false) x xs high in
-        elim (cmp x k) as (λ r. cmp x k ≡ r → Ends (x ∷ xs) (length (cond (is_lt r) (x ∷ below) below))) [
-          | Less ↦ λ e.
-              let rest = ends xs h.1 high_rest in
-              let left : length xs - count_below cmp xs k ≡ suc (length xs) - suc (count_below cmp xs k) = omega arith in
-              (rest.0 ∙ ap (λ n. replicate n k) left, All-cons (λ x. cmp x k ≡ Less) x (take (count_below cmp xs k) xs) e rest.1)
-          | Equal ↦ λ e.
-              let same = exact x k e in
-              let all = all_equal xs (subst (λ y. All (λ z. is_lt (cmp z y) ≡ false) xs) same h.0) high_rest in
-              let whole : suc (length xs) ≡ suc (length xs) - 0 = omega arith in
-              subst (λ n. Ends (x ∷ xs) n) (sym all.0) ((λ i. same i ∷ all.1 i) ∙ ap (λ n. replicate n k) whole, All-nil _)
-          | Greater ↦ λ e. absurd (subst T (sym (ap is_lt (o.antisymm k x ∙ ap ordering_reverse e)) ∙ high_at) tt)
-        ] refl
-
-    module _ {ks : List K} {start : ℕ} (run : IsLastRun cmp ks k start) where
-      ends_last : Ends ks start
-      ends_last = subst (λ n. Ends ks n) (sym run.begins) (ends ks (Rises-IsSorted o ks run.sorted) (last_highest o ks k run.sorted run.last))
-
-      start_within : start < length ks
-      start_within = let within = last_uncounted o ks k run.sorted run.last in omega (arith, within, run.begins)
-
-      -- the values stand as `us`, the last key's first value and `ws`
-      pub popped : {V : Type 0} (vs us ws : List V) (head : V) → length ks ≡ length vs → take (start + 1) vs ≡ us ++ head ∷ [] → ws ≡ drop (start + 1) vs → IsPopped cmp ks vs k head ws (take start ks) us
-      popped vs us ws head sized left moved =
-          let front = take start ks in
-          let cut = sym (take-append-drop (start + 1) vs) ∙ (λ i. left i ++ sym moved i) ∙ append_assoc us (head ∷ []) ws in
-          let long = ap (λ l. length l) left ∙ length-append us (head ∷ []) in
-          let most = length-take-le (start + 1) vs (omega (arith, start_within, sized)) in
-          let values_front : length us ≡ start = omega (arith, long, most) in
-          let keys_front : length front ≡ start = length-take-le start ks (omega (arith, start_within)) in
-          let all = ap (λ l. length l) cut ∙ length-append us (head ∷ ws) in
-          let behind : length (head ∷ ws) ≡ length ks - start = omega (arith, all, sized, values_front) in
-          let keys : ks ≡ front ++ replicate (length (head ∷ ws)) k =
-          sym (take-append-drop start ks) ∙ ap (λ l. front ++ l) (ends_last.0 ∙ ap (λ n. replicate n k) (sym behind)) in
-          let paired = keys_front ∙ sym values_front in
-          record {
-            pairs = (λ i. zip (keys i) (cut i)) ∙ zip-more front us paired k (head ∷ ws);
-            paired = record { sized = paired; sorted = IsSorted-Rises o front (Rises-take o start ks (Rises-IsSorted o ks run.sorted)) };
-            below = subst (λ l. All (λ x. cmp x k ≡ Less) l) (sym (keys_of-zip front us (sym paired))) ends_last.1;
-            keys_left = omega (arith, keys_front, behind, start_within);
-            values_left = omega (arith, values_front, behind, start_within, sized);
-          }
+  -- the values stand as `us`, the last key's first value and `ws`
+  pub popped : (exact : (a b : K) → cmp a b ≡ Equal → a ≡ b) {V : Type 0} {ks : List K} {vs : List V} → Paired cmp ks vs → (k : K) (start : ℕ) → slice_get ks (length ks - 1) ≡ Some k → start ≡ count_below cmp ks k
+      → (us ws : List V) (head : V) → take (start + 1) vs ≡ us ++ head ∷ [] → ws ≡ drop (start + 1) vs → IsPopped cmp ks vs k head ws (take start ks) us
+  popped exact {V} {ks} {vs} p k start last begins us ws head left moved =
+      let found = found_by o p k start (length ks) begins (last_counted o ks k p.sorted last) in
+      let within = last_uncounted o ks k p.sorted last in
+      let sized = p.sized in
+      let cut : vs ≡ us ++ (head ∷ ws) = sym (take-append-drop (start + 1) vs) ∙ (λ i. left i ++ sym moved i) ∙ append_assoc us (head ∷ []) ws in
+      let most = length-take-le (start + 1) vs (omega (arith, within, begins, sized)) in
+      let values_front : length us ≡ start = omega (arith, ap (λ l. length l) left ∙ length-append us (head ∷ []), most) in
+      let keys_front = length-take-le start ks (omega (arith, within, begins)) in
+      let all = ap (λ l. length l) cut ∙ length-append us (head ∷ ws) in
+      let front : take start (zip ks vs) ≡ zip (take start ks) us = take-zip start ks vs ∙ ap (zip (take start ks)) (ap (take start) cut ∙ take_at us (head ∷ ws) start values_front) in
+      let values = sym (run_of_pairs o exact found refl p).values ∙ (ap (λ n. take (n - start) (drop start vs)) sized ∙ take_rest vs start) ∙ ap (drop start) cut ∙ drop_at us (head ∷ ws) start values_front in
+      let none = drop_all (length ks) (zip ks vs) (omega (arith, length-zip ks vs sized)) in
+      let under = filter_passes (λ e. is_lt (cmp e.0 k)) (zip ks vs) in
+      record {
+        pairs = own_pairs o exact found ∙ (λ i. front i ++ (pairs_with k (values i) ++ none i)) ∙ ap (λ l. zip (take start ks) us ++ l) (append-nil (pairs_with k (head ∷ ws)));
+        paired = record { sized = keys_front ∙ sym values_front; sorted = IsSorted-Rises o (take start ks) (Rises-take o start ks (Rises-IsSorted o ks p.sorted)) };
+        below = subst (λ l. All (λ x. cmp x k ≡ Less) (keys_of l)) (sym (run_below o found.sorted found.run) ∙ front)
+            (All-map (λ x. cmp x k ≡ Less) (λ e. e.0) (entries_below cmp (zip ks vs) k) (λ j d b. Less-is_lt _ (subst T (sym (under j d b)) tt)));
+        keys_left = omega (arith, keys_front, all, values_front, sized);
+        values_left = omega (arith, all);
+      }

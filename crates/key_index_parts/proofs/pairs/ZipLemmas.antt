@@ -4,25 +4,19 @@
 --     take-zip, drop-zip                   a part of both is one of the pairs
 --     zip-append                           two after two others
 --     zip-insert, zip-remove, zip-remove_range     an edit of both is one of the pairs
---     zip-pairs_with                       values beside keys that are one
-use Rattle.std.proofs.Common.{◌≡◌, ℕ, zero, suc, ◌+◌, ◌-◌, ◌≤◌, List, [], ◌∷◌, ◌++◌, length, take, drop, insert, remove, All, refl, sym, ap, ◌∙◌, arith}
-use Rattle.std.proofs.lemmas.List.{length-append, length-take-le, length-drop}
-use Rattle.std.proofs.lemmas.List.Elements.{All-head, All-tail}
+use Rattle.std.proofs.Common.{◌≡◌, ℕ, zero, suc, ◌+◌, ◌-◌, ◌≤◌, List, [], ◌∷◌, ◌++◌, length, take, drop, insert, remove, refl, sym, ap, ◌∙◌, arith}
+use Rattle.std.proofs.lemmas.List.{length-append, length-take, length-drop}
+use Rattle.std.proofs.lemmas.Slice.Zip as zips
+use Rattle.std.proofs.lemmas.Slice.Zip.{seconds-zip}
 use Rattle.std.specs.List.{zip, remove_range}
 use Rattle.std.specs.Map.{values_of}
-use Rattle.key_index_parts.specs.Spread.{pairs_with}
 
 module _ {K V : Type 0} where
   pub length-zip : (ks : List K) (vs : List V) → length ks ≡ length vs → length (zip ks vs) ≡ length ks
-  length-zip [] vs h = refl
-  length-zip (k ∷ ks) [] h = absurd (omega (arith, h))
-  length-zip (k ∷ ks) (v ∷ vs) h = ap suc (length-zip ks vs (omega (arith, h)))
+  length-zip ks vs h = omega (arith, zips.length-zip ks vs, h)
 
   pub values_of-zip : (ks : List K) (vs : List V) → length ks ≡ length vs → values_of (zip ks vs) ≡ vs
-  values_of-zip [] [] h = refl
-  values_of-zip [] (v ∷ vs) h = absurd (omega (arith, h))
-  values_of-zip (k ∷ ks) [] h = absurd (omega (arith, h))
-  values_of-zip (k ∷ ks) (v ∷ vs) h = ap (λ l. v ∷ l) (values_of-zip ks vs (omega (arith, h)))
+  values_of-zip ks vs h = seconds-zip ks vs (sym h)
 
   pub take-zip : (i : ℕ) (ks : List K) (vs : List V) → take i (zip ks vs) ≡ zip (take i ks) (take i vs)
   take-zip zero ks vs = refl
@@ -40,13 +34,15 @@ module _ {K V : Type 0} where
   drop-zip (suc i) (k ∷ ks) [] = sym (zip-nil (drop i ks))
   drop-zip (suc i) (k ∷ ks) (v ∷ vs) = drop-zip i ks vs
 
+  pub zip-append : (ks js : List K) (vs ws : List V) → length ks ≡ length vs → zip (ks ++ js) (vs ++ ws) ≡ zip ks vs ++ zip js ws
+  zip-append [] js [] ws h = refl
+  zip-append [] js (v ∷ vs) ws h = absurd (omega (arith, h))
+  zip-append (k ∷ ks) js [] ws h = absurd (omega (arith, h))
+  zip-append (k ∷ ks) js (v ∷ vs) ws h = ap (λ l. (k, v) ∷ l) (zip-append ks js vs ws (omega (arith, h)))
+
   -- of parts that begin with as many keys as values
   pub zip-parts : (i : ℕ) (ks js : List K) (vs ws : List V) → length ks ≡ length vs → zip (take i ks ++ js) (take i vs ++ ws) ≡ take i (zip ks vs) ++ zip js ws
-  zip-parts zero ks js vs ws h = refl
-  zip-parts (suc i) [] js [] ws h = refl
-  zip-parts (suc i) [] js (v ∷ vs) ws h = absurd (omega (arith, h))
-  zip-parts (suc i) (k ∷ ks) js [] ws h = absurd (omega (arith, h))
-  zip-parts (suc i) (k ∷ ks) js (v ∷ vs) ws h = ap (λ l. (k, v) ∷ l) (zip-parts i ks js vs ws (omega (arith, h)))
+  zip-parts i ks js vs ws h = zip-append (take i ks) js (take i vs) ws (omega (arith, length-take i ks, length-take i vs, h)) ∙ ap (λ l. l ++ zip js ws) (sym (take-zip i ks vs))
 
   module _ (ks : List K) (vs : List V) (h : length ks ≡ length vs) where
     pub zip-insert : (i : ℕ) (k : K) (v : V) → zip (insert ks i k) (insert vs i v) ≡ insert (zip ks vs) i (k, v)
@@ -58,22 +54,5 @@ module _ {K V : Type 0} where
     pub zip-remove : (i : ℕ) → zip (remove ks i) (remove vs i) ≡ remove (zip ks vs) i
     zip-remove i = zip-remove_range i (suc i)
 
-  pub zip-append : (ks js : List K) (vs ws : List V) → length ks ≡ length vs → zip (ks ++ js) (vs ++ ws) ≡ zip ks vs ++ zip js ws
-  zip-append [] js [] ws h = refl
-  zip-append [] js (v ∷ vs) ws h = absurd (omega (arith, h))
-  zip-append (k ∷ ks) js [] ws h = absurd (omega (arith, h))
-  zip-append (k ∷ ks) js (v ∷ vs) ws h = ap (λ l. (k, v) ∷ l) (zip-append ks js vs ws (omega (arith, h)))
-
-  -- beside keys that are one
-  pub zip-pairs_with : (k : K) (ks : List K) (vs : List V) → length ks ≡ length vs → All (λ x. x ≡ k) ks → zip ks vs ≡ pairs_with k vs
-  zip-pairs_with k [] [] h all = refl
-  zip-pairs_with k [] (v ∷ vs) h all = absurd (omega (arith, h))
-  zip-pairs_with k (x ∷ ks) [] h all = absurd (omega (arith, h))
-  zip-pairs_with k (x ∷ ks) (v ∷ vs) h all = (λ j. (All-head (λ x. x ≡ k) x ks all j, v) ∷ zip-pairs_with k ks vs (omega (arith, h)) (All-tail (λ x. x ≡ k) x ks all) j)
-
 pub length-remove_range : {X : Type 0} (xs : List X) (i j : ℕ) → i ≤ j → j ≤ length xs → length (remove_range xs i j) + (j - i) ≡ length xs
-length-remove_range xs i j le within =
-    let whole = length-append (take i xs) (drop j xs) in
-    let front = length-take-le i xs (omega arith) in
-    let back = length-drop j xs in
-    omega (arith, whole, front, back)
+length-remove_range xs i j le within = omega (arith, length-append (take i xs) (drop j xs), length-take i xs, length-drop j xs, le, within)

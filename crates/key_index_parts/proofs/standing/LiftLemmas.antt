@@ -17,7 +17,8 @@ use Rattle.key_index_flat.specs.laws.Laws.{T-and, T-and_first, T-and_second}
 use Rattle.key_index_flat.proofs.content.ContentLemmas.{list_at-below_all, Less-is_lt}
 use Rattle.key_index_parts.specs.Pairs.{grouped}
 use Rattle.key_index_parts.specs.Spread.{AreBelow, pairs_with, spread}
-use Rattle.key_index_parts.proofs.buckets.SpreadLemmas.{grouped-spread, put-front}
+use Rattle.key_index_parts.proofs.buckets.SpreadLemmas.{grouped-spread}
+use Rattle.key_index_parts.proofs.pairs.GroupLemmas.{put-below}
 
 module _ {K : Type 0} {cmp : K → K → Ordering} (o : IsTotalOrder cmp) where
   Less-turned : (x k : K) → cmp x k ≡ Less → is_lt (cmp k x) ≡ false
@@ -52,7 +53,7 @@ module _ {K V : Type 0} {cmp : K → K → Ordering} (o : IsTotalOrder cmp) wher
     run_absent = list_at-below_all o k k c (λ y h. h) run_below.0
 
     pub run_front : with_list cmp c k (v ∷ vs) ≡ (k, v ∷ vs) ∷ c
-    run_front = put-front o k (v ∷ vs) c run_below.0
+    run_front = put-below o k (v ∷ vs) c run_below.0
 
     pub run_apart : All (λ q. cmp q k ≡ Less) (keys_of qs) → AreBelow cmp qs ((k, v ∷ vs) ∷ c)
     run_apart h = both c k (v ∷ vs) (keys_of qs) h run_below.1

@@ -3,10 +3,8 @@
 --     item_count-stays_positive                        the same after an insertion that may be refused
 --     item_count-retained                              a retention leaves at most one value more
 --     in_tree, Grows-below_threshold, Grows-threshold_reached  how a tree stands after an insertion, arrays below the threshold, and a tree that arrays became
---     held_by-tree, held_now                           what a bucket with a tree holds, which is something
 --     new_held                                         there is no new value where none was found
---     none_beside                                      and its arrays hold nothing
-use Rattle.std.proofs.Common.{◌≡◌, ℕ, zero, suc, ◌+◌, ◌<◌, ◌≤◌, Bool, true, false, not, ◌&&◌, ◌||◌, nat_lt, nat_le, if◌then◌else◌, cond, List, length, Option, Some, is_some, Result, Ok, Err, IfOk, OnErr, Box, refl, sym, ap, subst, ◌∙◌, arith}
+use Rattle.std.proofs.Common.{◌≡◌, ℕ, zero, suc, ◌+◌, ◌<◌, ◌≤◌, Bool, true, false, not, ◌&&◌, ◌||◌, nat_lt, nat_le, if◌then◌else◌, cond, List, length, Option, is_some, Result, Ok, Err, IfOk, OnErr, refl, sym, ap, subst, ◌∙◌, arith}
 use Rattle.std.proofs.lemmas.Bool.{lt-leb, le-leb, lt-ltb, true≢false, false≢true}
 use Rattle.std.specs.Cmp.{IsTotalOrder}
 use Rattle.std.specs.declared.cmp.Ordering.{Ordering}
@@ -14,7 +12,6 @@ use Rattle.key_index_flat.specs.declared.index.retain.Retained.{Retained}
 use Rattle.key_index_flat.specs.Content.{Content, item_count, list_at, with_list, with_list_by, IsLawful}
 use Rattle.key_index_flat.proofs.content.ContentLemmas.{item_count-with_list}
 use Rattle.key_index_parts.specs.Buckets.{Grows, RetainsList, stands}
-use Rattle.key_index_parts.specs.Spilled.{HoldsSome, held_by}
 use Rattle.key_index_flat.proofs.closures.PutLemmas.{few_with}
 
 module _ {K V : Type 0} where
@@ -39,21 +36,10 @@ module _ {K V : Type 0} where
     ap (λ b. stands c (b || false)) (sym (lt-ltb 0 moved (omega (arith, least, many)))),
   )
 
-  pub held_by-tree : {X A : Type 0} (tree : Option (Box X A)) (f : X → Content K V) (b : Box X A) (x : X) (arrays : Content K V) → tree ≡ Some b → x ≡ b.value
-      → held_by f tree arrays ≡ f x
-  held_by-tree tree f b x arrays is now = ap (λ t. held_by f t arrays) is ∙ ap f (sym now)
-
-  pub held_now : {X A : Type 0} (tree : Option (Box X A)) (f : X → Content K V) (b : Box X A) (x : X) → tree ≡ Some b → x ≡ b.value → HoldsSome f tree
-      → 0 < item_count (f x)
-  held_now tree f b x is now h = subst (λ y. 0 < item_count (f y)) (sym now) (subst (λ o. HoldsSome f o) is h)
-
 -- a new value, where there is one
 pub new_held : (some none : Bool) → some ≡ not none → none ≡ true → (some && true) ≡ true → ⊥
 new_held some true told is h = true≢false (sym h ∙ ap (λ b. b && true) told)
 new_held some false told is h = false≢true is
-
-pub none_beside : {X : Type 0} (tree : Option X) (x : X) (some : Bool) → tree ≡ Some x → (is_some tree && some) ≡ false → some ≡ false
-none_beside tree x some is alone = subst (λ o. (is_some o && some) ≡ false) is alone
 
 one_at_most : (b : Bool) → cond b 1 0 ≤ 1
 one_at_most true = omega arith

@@ -15,11 +15,13 @@ use super::bucket::sorted_bucket::SortedBucket;
 use super::storage::Storage;
 use super::{PartitionRange, Partitioned, partition_index_and_sub_key, range};
 pub use ahead::{Ahead, same_visits, show_ahead, visit_ahead};
-use key_index_flat::index::implement::{Lists, show_counts, visit_probes};
+use key_index_flat::cursor_of;
+use key_index_flat::index::implement::{Lists, show_counts};
 use key_index_flat::index::{
     Factory, Fault, IndexCursor, Ordered, OrderedLists, Refused, Runs, Search, Unordered, Values,
 };
 use key_index_flat::translator::{OrderedTranslator, Translator};
+use probes::visit_probes;
 use std::alloc::Global;
 use std::convert::AsSlice;
 use std::fmt;
@@ -313,11 +315,7 @@ impl<T: Translator, V: Drop, const P: usize> Search for Index<T, V, P> {
     }
 
     fn search(&mut self, key: &[u8]) -> Result<IndexCursor<'_, Index<T, V, P>>, Option<Fault>> {
-        match self.reach(key) {
-            Ok((_, 0)) => Err(None),
-            Ok((slot, len)) => Ok(IndexCursor::with_len(self, slot, len)),
-            Err(fault) => Err(Some(fault)),
-        }
+        cursor_of!(self, self.reach(key))
     }
 
     fn search_or_insert(
@@ -325,11 +323,7 @@ impl<T: Translator, V: Drop, const P: usize> Search for Index<T, V, P> {
         key: &[u8],
         value: V,
     ) -> Result<IndexCursor<'_, Index<T, V, P>>, Option<Refused<V>>> {
-        match self.reach_or_insert(key, value) {
-            Ok((_, 0)) => Err(None),
-            Ok((slot, len)) => Ok(IndexCursor::with_len(self, slot, len)),
-            Err(refused) => Err(Some(refused)),
-        }
+        cursor_of!(self, self.reach_or_insert(key, value))
     }
 }
 
@@ -523,6 +517,7 @@ impl<T: Translator, V: Drop, const P: usize> Partitioned for Index<T, V, P> {
 
     #[inline]
     fn partition_of(key: &[u8]) -> usize {
+        // A type with another number of bytes has no index, and no partition either.
         if P < 1 || P > 3 {
             return 0;
         }

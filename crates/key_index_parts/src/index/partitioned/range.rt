@@ -11,6 +11,7 @@ ghost use Rattle.key_index_parts.specs.Standing.{LeavesSome, Refuses, Settles, i
 use super::bucket::{Bucket, Contents, EditBucket};
 use super::storage::Storage;
 use super::{PartitionRange, partition_index_and_sub_key};
+use key_index_flat::cursor_of;
 use key_index_flat::index::{Fault, IndexCursor, Refused, Runs, Search};
 use key_index_flat::translator::Translator;
 
@@ -149,11 +150,7 @@ impl<T: Translator, V: Drop, X: Bucket<T, V> + Drop, const P: usize> Search
         &mut self,
         key: &[u8],
     ) -> Result<IndexCursor<'_, RangeIndex<T, V, X, P>>, Option<Fault>> {
-        match self.reach(key) {
-            Ok((_, 0)) => Err(None),
-            Ok((slot, len)) => Ok(IndexCursor::with_len(self, slot, len)),
-            Err(fault) => Err(Some(fault)),
-        }
+        cursor_of!(self, self.reach(key))
     }
 
     fn search_or_insert(
@@ -161,11 +158,7 @@ impl<T: Translator, V: Drop, X: Bucket<T, V> + Drop, const P: usize> Search
         key: &[u8],
         value: V,
     ) -> Result<IndexCursor<'_, RangeIndex<T, V, X, P>>, Option<Refused<V>>> {
-        match self.reach_or_insert(key, value) {
-            Ok((_, 0)) => Err(None),
-            Ok((slot, len)) => Ok(IndexCursor::with_len(self, slot, len)),
-            Err(refused) => Err(Some(refused)),
-        }
+        cursor_of!(self, self.reach_or_insert(key, value))
     }
 }
 

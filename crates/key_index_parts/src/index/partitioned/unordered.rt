@@ -7,6 +7,7 @@ ghost use Rattle.key_index_parts.specs.Prefix.{partition_count, partition_by, sl
 use super::bucket::hash_bucket::HashBucket;
 use super::storage::Storage;
 use super::{Partitioned, partition_index_and_sub_key, range};
+use key_index_flat::cursor_of;
 use key_index_flat::index::implement::{Lists, show_by_place, show_counts, visit_by_place};
 use key_index_flat::index::{
     Factory, Fault, IndexCursor, Refused, Runs, Search, Unordered, Values,
@@ -134,11 +135,7 @@ impl<T: Translator, V: Drop, const P: usize> Search for Index<T, V, P> {
     }
 
     fn search(&mut self, key: &[u8]) -> Result<IndexCursor<'_, Index<T, V, P>>, Option<Fault>> {
-        match self.reach(key) {
-            Ok((_, 0)) => Err(None),
-            Ok((slot, len)) => Ok(IndexCursor::with_len(self, slot, len)),
-            Err(fault) => Err(Some(fault)),
-        }
+        cursor_of!(self, self.reach(key))
     }
 
     fn search_or_insert(
@@ -146,11 +143,7 @@ impl<T: Translator, V: Drop, const P: usize> Search for Index<T, V, P> {
         key: &[u8],
         value: V,
     ) -> Result<IndexCursor<'_, Index<T, V, P>>, Option<Refused<V>>> {
-        match self.reach_or_insert(key, value) {
-            Ok((_, 0)) => Err(None),
-            Ok((slot, len)) => Ok(IndexCursor::with_len(self, slot, len)),
-            Err(refused) => Err(Some(refused)),
-        }
+        cursor_of!(self, self.reach_or_insert(key, value))
     }
 }
 
@@ -288,6 +281,7 @@ impl<T: Translator, V: Drop, const P: usize> Partitioned for Index<T, V, P> {
 
     #[inline]
     fn partition_of(key: &[u8]) -> usize {
+        // A type with another number of bytes has no index, and no partition either.
         if P < 1 || P > 3 {
             return 0;
         }

@@ -1,11 +1,10 @@
 //! A bucket as sorted arrays or, spilled, as a tree.
-ghost use Rattle.std.specs.Prelude.{◌≡◌, ◌≤◌, ◌<◌, ◌++◌, ◌&&◌, true, false, not, is_some, None, MatchOption, [], IfOk, IfSome, OnOk, OnErr};
-ghost use Rattle.std.specs.Bool.{OnTrue};
-ghost use Rattle.key_index_flat.specs.Content.{IsLawful, is_filled, item_count, list_at};
+ghost use Rattle.std.specs.Prelude.{◌≡◌, ◌≤◌, ◌++◌, true, false, [], IfOk, IfSome, OnOk, OnErr};
+ghost use Rattle.key_index_flat.specs.Content.{IsLawful, item_count, list_at};
 ghost use Rattle.key_index_parts.specs.Buckets.{stays_spilled};
+ghost use Rattle.key_index_parts.specs.Form.{HoldsSome, HoldsSome-prop, held_by, is_spilled};
 ghost use Rattle.key_index_parts.specs.Pairs.{grouped};
 ghost use Rattle.key_index_parts.specs.Spread.{AreBelow, spread};
-ghost use Rattle.key_index_parts.specs.Spilled.{HoldsSome, HoldsSome-prop, held_by};
 
 use super::sorted_arrays::SortedArrays;
 use super::tree::Tree;
@@ -15,15 +14,22 @@ use key_index_flat::index::Values;
 use key_index_flat::index::implement::{Back, ListMap, Retained, TreeMap};
 use key_index_flat::translator::Translator;
 use std::alloc::{AllocError, Global};
+use std::mem::replace;
 
-/// A bucket as sorted arrays or, spilled, as a tree in a box, which then holds something. The arrays of a spilled bucket hold nothing, and
-/// have no room.
+/// The form of a bucket that spills.
+#[derive(Drop)]
+enum Form<A, B> {
+    Inline(A),
+    Spilled(B),
+}
+
+/// A bucket as sorted arrays or, spilled, as a tree in a box, which then holds something.
 #[derive(Drop)]
 pub struct SortedBucket<T: Translator, V> {
-    arrays: SortedArrays<T, V>,
-    tree: Option<Box<Tree<T, V>>>,
-    ghost filled: { HoldsSome (λ t. t.lists.content) tree } by { HoldsSome-prop _ tree },
-    ghost alone: { (is_some tree && is_filled (grouped T.Key.cmp arrays.pairs.pairs)) ≡ false },
+    form: Form<SortedArrays<T, V>, Box<Tree<T, V>>>,
+    /// Zero. It makes a bucket as large as a line of memory, so that a look-up reads one line of it and not two.
+    unused: u64,
+    ghost filled: { HoldsSome (λ t. t.lists.content) form } by { HoldsSome-prop _ form },
 }
 
 /// Moves the runs of arrays in front of some lists, the last one first. The arrays keep their memory; a failure leaves some in each.
@@ -64,25 +70,19 @@ fn lists_into_runs<T: Translator, V: Drop>(
 }
 
 /// Stands as arrays that hold nothing where a tree was left with nothing.
-fn drop_emptied<T: Translator, V: Drop>(
-    arrays: &mut SortedArrays<T, V>,
-    tree: &mut Option<Box<Tree<T, V>>>,
-)
-    requires { (is_some tree.old && is_filled (grouped T.Key.cmp arrays.old.pairs.pairs)) ≡ false }
-    ensures content { held_by (λ t. t.lists.content) tree.new (grouped T.Key.cmp arrays.new.pairs.pairs)
-        ≡ held_by (λ t. t.lists.content) tree.old (grouped T.Key.cmp arrays.old.pairs.pairs) }
-    ensures standing { is_some tree.new ≡ stays_spilled (is_some tree.old)
-        (held_by (λ t. t.lists.content) tree.new (grouped T.Key.cmp arrays.new.pairs.pairs)) }
-    ensures filled { HoldsSome (λ t. t.lists.content) tree.new }
-    ensures alone { (is_some tree.new && is_filled (grouped T.Key.cmp arrays.new.pairs.pairs)) ≡ false }
+fn drop_emptied<T: Translator, V: Drop>(form: &mut Form<SortedArrays<T, V>, Box<Tree<T, V>>>)
+    ensures content { held_by T.Key.cmp (λ t. t.lists.content) form.new
+        ≡ held_by T.Key.cmp (λ t. t.lists.content) form.old }
+    ensures standing { is_spilled form.new
+        ≡ stays_spilled (is_spilled form.old) (held_by T.Key.cmp (λ t. t.lists.content) form.new) }
+    ensures filled { HoldsSome (λ t. t.lists.content) form.new }
 {
-    let emptied = match &*tree {
-        Some(tree) => tree.is_empty(),
-        None => false,
+    let Form::Spilled(tree) = &*form else {
+        return;
     };
-    if emptied {
-        *arrays = SortedArrays::new(arrays.alloc());
-        *tree = None;
+    if tree.is_empty() {
+        let alloc = *Box::allocator(tree);
+        *form = Form::Inline(SortedArrays::new(alloc));
     }
 }
 
@@ -114,61 +114,26 @@ fn into_tree<T: Translator, V: Drop>(
 }
 
 /// Moves the values of a tree to arrays that hold nothing and have room for them, without growth.
-fn into_arrays<T: Translator, V: Drop>(tree: Box<Tree<T, V>>, arrays: &mut SortedArrays<T, V>)
+fn into_arrays<T: Translator, V: Drop>(tree: Tree<T, V>, arrays: &mut SortedArrays<T, V>)
     requires empty { arrays.old.pairs.pairs ≡ [] }
-    requires room { item_count tree.value.lists.content ≤ arrays.old.pairs.room }
-    ensures { grouped T.Key.cmp arrays.new.pairs.pairs ≡ tree.value.lists.content }
+    requires room { item_count tree.lists.content ≤ arrays.old.pairs.room }
+    ensures { grouped T.Key.cmp arrays.new.pairs.pairs ≡ tree.lists.content }
 {
-    let mut lists = Box::into_inner(tree).into_lists();
+    let mut lists = tree.into_lists();
     lists_into_runs(&mut lists, &mut arrays.pairs);
 }
 
 impl<T: Translator, V> Contents<T, V> for SortedBucket<T, V> {
-    ghost use Rattle.key_index_parts.specs.laws.PairLaws.{IsLawful-grouped};
-    ghost use Rattle.key_index_parts.specs.Spread.{AreBelow, spread};
-    ghost use Rattle.key_index_parts.specs.Spilled.{IsLawful-held_by, filled-held_by};
+    ghost use Rattle.key_index_parts.specs.Form.{IsLawful-held_by, filled-held_by};
 
-    ghost content = { λ bucket. held_by (λ t. t.lists.content) bucket.tree
-        (grouped T.Key.cmp bucket.arrays.pairs.pairs) };
+    ghost content = { λ bucket. held_by T.Key.cmp (λ t. t.lists.content) bucket.form };
 
-    ghost spilled = { λ bucket. is_some bucket.tree };
+    ghost spilled = { λ bucket. is_spilled bucket.form };
 
-    ghost lawful = { λ bucket. IsLawful-held_by (λ t. t.lists.content) T.Key.cmp
-        (λ t. t.counted.lawful) bucket.tree (grouped T.Key.cmp bucket.arrays.pairs.pairs)
-        (IsLawful-grouped T.Key.total bucket.arrays.pairs.pairs) };
+    ghost lawful = { λ bucket. IsLawful-held_by T.Key.cmp (λ t. t.lists.content) T.Key.total (λ t. t.counted.lawful)
+        bucket.form };
 
-    ghost filled = { λ bucket h. filled-held_by (λ t. t.lists.content) bucket.tree
-        (grouped T.Key.cmp bucket.arrays.pairs.pairs) bucket.filled h };
-}
-
-impl<T: Translator, V: Drop> SortedBucket<T, V> {
-    /// Whether its values stand in arrays. Where these hold some, the tree isn't looked for, which may stand in another cache line.
-    #[inline(always)]
-    fn is_inline(&self) -> bool
-        ensures standing { result ≡ not (is_some self.now.tree) }
-        ensures inline { OnTrue result (self.now.tree ≡ None) }
-    {
-        !self.arrays.is_empty() || self.tree.is_none()
-    }
-
-    /// The tree, where it stands as one.
-    #[inline(always)]
-    fn tree(&self) -> Option<&Tree<T, V>>
-        ensures held { MatchOption result
-            (held_by (λ t. t.lists.content) self.now.tree (grouped T.Key.cmp self.now.arrays.pairs.pairs)
-            ≡ grouped T.Key.cmp self.now.arrays.pairs.pairs)
-            (λ tree. held_by (λ t. t.lists.content) self.now.tree (grouped T.Key.cmp self.now.arrays.pairs.pairs)
-            ≡ tree.now.lists.content) }
-        ensures standing { is_some result ≡ is_some self.now.tree }
-    {
-        if self.is_inline() {
-            return None;
-        }
-        match &self.tree {
-            Some(tree) => Some(&**tree),
-            None => None,
-        }
-    }
+    ghost filled = { λ bucket h. filled-held_by T.Key.cmp (λ t. t.lists.content) bucket.form bucket.filled h };
 }
 
 impl<T: Translator, V: Drop> SortedBucket<T, V> {
@@ -177,18 +142,21 @@ impl<T: Translator, V: Drop> SortedBucket<T, V> {
     pub(crate) fn guess(&self, key: T::Key, seen: usize) -> usize
         ensures { result ≤ seen }
     {
-        self.arrays.pairs.guess(&key, seen)
+        match &self.form {
+            Form::Inline(arrays) => arrays.pairs.guess(&key, seen),
+            Form::Spilled(_) => 0,
+        }
     }
 
     /// The values of a key, by a guess where they begin. None where it is spilled.
     #[inline(always)]
     pub(crate) fn run_near(&self, key: T::Key, guess: usize) -> Option<&[V]>
-        ensures { IfSome result (λ run. run.now ≡ list_at T.Key.cmp (held_by (λ t. t.lists.content) self.now.tree
-            (grouped T.Key.cmp self.now.arrays.pairs.pairs)) key) }
+        ensures { IfSome result (λ run.
+            run.now ≡ list_at T.Key.cmp (held_by T.Key.cmp (λ t. t.lists.content) self.now.form) key) }
     {
-        match self.tree() {
-            Some(_) => None,
-            None => Some(self.arrays.run_near(key, guess)),
+        match &self.form {
+            Form::Inline(arrays) => Some(arrays.run_near(key, guess)),
+            Form::Spilled(_) => None,
         }
     }
 }
@@ -196,40 +164,40 @@ impl<T: Translator, V: Drop> SortedBucket<T, V> {
 impl<T: Translator, V: Drop> ReadBucket<T, V> for SortedBucket<T, V> {
     #[inline]
     fn is_empty(&self) -> bool {
-        match self.tree() {
-            Some(_) => false,
-            None => self.arrays.is_empty(),
+        match &self.form {
+            Form::Inline(arrays) => arrays.is_empty(),
+            Form::Spilled(_) => false,
         }
     }
 
     #[inline(always)]
     fn get(&self, key: T::Key) -> Values<'_, V> {
-        match self.tree() {
-            Some(tree) => tree.get(key),
-            None => self.arrays.get(key),
+        match &self.form {
+            Form::Inline(arrays) => arrays.get(key),
+            Form::Spilled(tree) => tree.get(key),
         }
     }
 
     #[inline(always)]
     fn run_len(&self, key: T::Key) -> usize {
-        match self.tree() {
-            Some(tree) => tree.run_len(key),
-            None => self.arrays.run_len(key),
+        match &self.form {
+            Form::Inline(arrays) => arrays.run_len(key),
+            Form::Spilled(tree) => tree.run_len(key),
         }
     }
 
     #[inline(always)]
     fn value_at(&self, key: T::Key, place: usize) -> &V {
-        match self.tree() {
-            Some(tree) => tree.value_at(key, place),
-            None => self.arrays.value_at(key, place),
+        match &self.form {
+            Form::Inline(arrays) => arrays.value_at(key, place),
+            Form::Spilled(tree) => tree.value_at(key, place),
         }
     }
 
     fn for_each_value<F: FnMut(&V)>(&self, visit: &mut F) {
-        match self.tree() {
-            Some(tree) => tree.for_each_value(visit),
-            None => self.arrays.for_each_value(visit),
+        match &self.form {
+            Form::Inline(arrays) => arrays.for_each_value(visit),
+            Form::Spilled(tree) => tree.for_each_value(visit),
         }
     }
 }
@@ -237,48 +205,39 @@ impl<T: Translator, V: Drop> ReadBucket<T, V> for SortedBucket<T, V> {
 impl<T: Translator, V: Drop> EditBucket<T, V> for SortedBucket<T, V> {
     #[inline(always)]
     fn set_at(&mut self, key: T::Key, place: usize, value: V) {
-        if self.is_inline() {
-            self.arrays.set_at(key, place, value);
-            return;
+        match &mut self.form {
+            Form::Inline(arrays) => arrays.set_at(key, place, value),
+            Form::Spilled(tree) => tree.set_at(key, place, value),
         }
-        let Some(tree) = &mut self.tree else {
-            unreachable!()
-        };
-        tree.set_at(key, place, value);
     }
 
     fn insert_at(&mut self, key: T::Key, place: usize, value: V) -> Result<bool, V> {
-        if self.is_inline() {
-            return self.arrays.insert_at(key, place, value);
+        match &mut self.form {
+            Form::Inline(arrays) => arrays.insert_at(key, place, value),
+            Form::Spilled(tree) => tree.insert_at(key, place, value),
         }
-        let Some(tree) = &mut self.tree else {
-            unreachable!()
-        };
-        tree.insert_at(key, place, value)
     }
 
     fn remove_at(&mut self, key: T::Key, place: usize) -> (V, usize) {
-        if self.is_inline() {
-            return self.arrays.remove_at(key, place);
+        match &mut self.form {
+            Form::Inline(arrays) => arrays.remove_at(key, place),
+            Form::Spilled(tree) => {
+                let removed = tree.remove_at(key, place);
+                drop_emptied(&mut self.form);
+                removed
+            }
         }
-        let Some(tree) = &mut self.tree else {
-            unreachable!()
-        };
-        let removed = tree.remove_at(key, place);
-        drop_emptied(&mut self.arrays, &mut self.tree);
-        removed
     }
 
     fn remove(&mut self, key: T::Key) -> usize {
-        if self.is_inline() {
-            return self.arrays.remove(key);
+        match &mut self.form {
+            Form::Inline(arrays) => arrays.remove(key),
+            Form::Spilled(tree) => {
+                let taken = tree.remove(key);
+                drop_emptied(&mut self.form);
+                taken
+            }
         }
-        let Some(tree) = &mut self.tree else {
-            unreachable!()
-        };
-        let taken = tree.remove(key);
-        drop_emptied(&mut self.arrays, &mut self.tree);
-        taken
     }
 }
 
@@ -289,76 +248,83 @@ impl<T: Translator, V: Drop> Bucket<T, V> for SortedBucket<T, V> {
 
     fn new(alloc: Global, _translator: T) -> SortedBucket<T, V> {
         SortedBucket {
-            arrays: SortedArrays::new(alloc),
-            tree: None,
+            form: Form::Inline(SortedArrays::new(alloc)),
+            unused: 0,
         }
     }
 
     #[inline]
     fn inline_len(&self) -> usize {
-        self.arrays.len()
+        match &self.form {
+            Form::Inline(arrays) => arrays.len(),
+            Form::Spilled(_) => 0,
+        }
     }
 
     #[inline]
     fn is_spilled(&self) -> bool {
-        !self.is_inline()
+        match &self.form {
+            Form::Inline(_) => false,
+            Form::Spilled(_) => true,
+        }
     }
 
     #[inline(never)]
     fn spill(&mut self) -> Result<(), AllocError> {
-        let tree = into_tree(&mut self.arrays)?;
-        self.arrays = SortedArrays::new(self.arrays.alloc());
-        self.tree = Some(tree);
+        let Form::Inline(arrays) = &mut self.form else {
+            return Ok(());
+        };
+        let tree = into_tree(arrays)?;
+        self.form = Form::Spilled(tree);
         Ok(())
     }
 
     #[inline]
     fn spilled_len(&self) -> usize {
-        match self.tree() {
-            Some(tree) => tree.len(),
-            None => 0,
+        match &self.form {
+            Form::Inline(_) => 0,
+            Form::Spilled(tree) => tree.len(),
         }
     }
 
     #[inline(never)]
     fn move_back(&mut self) -> Result<(), AllocError> {
-        let Some(tree) = self.tree.take() else {
+        let Form::Spilled(tree) = &mut self.form else {
             return Ok(());
         };
-        let mut arrays = SortedArrays::new(self.arrays.alloc());
+        let alloc = *Box::allocator(tree);
+        let mut arrays = SortedArrays::new(alloc);
         if arrays.pairs.reserve(tree.len()).is_err() {
-            self.tree = Some(tree);
             return Err(AllocError);
         }
-        into_arrays(tree, &mut arrays);
-        self.arrays = arrays;
+        into_arrays(replace(&mut **tree, Tree::new(alloc)), &mut arrays);
+        self.form = Form::Inline(arrays);
         Ok(())
     }
 
     fn insert(&mut self, key: T::Key, value: V, threshold: usize) -> Result<(bool, usize), V> {
-        if !self.is_inline() {
-            let Some(tree) = &mut self.tree else {
-                unreachable!()
-            };
-            let absent = tree.insert(key, value)?;
+        let arrays = match &mut self.form {
+            Form::Inline(arrays) => arrays,
+            Form::Spilled(tree) => {
+                let absent = tree.insert(key, value)?;
+                return Ok((absent, 0));
+            }
+        };
+        if arrays.len() < threshold - 1 {
+            let absent = arrays.insert(key, value)?;
             return Ok((absent, 0));
         }
-        if self.arrays.len() < threshold - 1 {
-            let absent = self.arrays.insert(key, value)?;
-            return Ok((absent, 0));
-        }
-        let Ok(mut tree) = into_tree(&mut self.arrays) else {
+        let Ok(mut tree) = into_tree(arrays) else {
             return Err(value);
         };
         match tree.insert(key, value) {
             Ok(absent) => {
                 let moved = tree.len();
-                self.arrays = SortedArrays::new(self.arrays.alloc());
-                self.tree = Some(tree);
+                self.form = Form::Spilled(tree);
                 Ok((absent, moved))
             }
             Err(value) => {
-                into_arrays(tree, &mut self.arrays);
+                into_arrays(Box::into_inner(tree), arrays);
                 Err(value)
             }
         }
@@ -388,34 +354,33 @@ impl<T: Translator, V: Drop> Bucket<T, V> for SortedBucket<T, V> {
         should_retain: F,
         threshold: usize,
     ) -> Result<(Retained, usize), V> {
-        if !self.is_inline() {
-            let Some(tree) = &mut self.tree else {
-                unreachable!()
-            };
-            let told = tree.retain(key, new, should_retain)?;
-            drop_emptied(&mut self.arrays, &mut self.tree);
+        let arrays = match &mut self.form {
+            Form::Inline(arrays) => arrays,
+            Form::Spilled(tree) => {
+                let told = tree.retain(key, new, should_retain)?;
+                drop_emptied(&mut self.form);
+                return Ok((told, 0));
+            }
+        };
+        if new.is_none() || arrays.len() < threshold - 1 {
+            let told = arrays.retain(key, new, should_retain)?;
             return Ok((told, 0));
         }
-        if new.is_none() || self.arrays.len() < threshold - 1 {
-            let told = self.arrays.retain(key, new, should_retain)?;
-            return Ok((told, 0));
-        }
-        let Ok(mut tree) = into_tree(&mut self.arrays) else {
+        let Ok(mut tree) = into_tree(arrays) else {
             return Err(new.take().unwrap());
         };
         match tree.retain(key, new, should_retain) {
             Ok(told) => {
                 let left = tree.len();
                 if left < threshold {
-                    into_arrays(tree, &mut self.arrays);
+                    into_arrays(Box::into_inner(tree), arrays);
                     return Ok((told, 0));
                 }
-                self.arrays = SortedArrays::new(self.arrays.alloc());
-                self.tree = Some(tree);
+                self.form = Form::Spilled(tree);
                 Ok((told, left))
             }
             Err(value) => {
-                into_arrays(tree, &mut self.arrays);
+                into_arrays(Box::into_inner(tree), arrays);
                 Err(value)
             }
         }
@@ -425,33 +390,33 @@ impl<T: Translator, V: Drop> Bucket<T, V> for SortedBucket<T, V> {
 impl<T: Translator, V: Drop> OrderedBucket<T, V> for SortedBucket<T, V> {
     #[inline]
     fn first(&self) -> Option<(T::Key, Values<'_, V>)> {
-        match self.tree() {
-            Some(tree) => tree.first(),
-            None => self.arrays.first(),
+        match &self.form {
+            Form::Inline(arrays) => arrays.first(),
+            Form::Spilled(tree) => tree.first(),
         }
     }
 
     #[inline]
     fn last(&self) -> Option<Values<'_, V>> {
-        match self.tree() {
-            Some(tree) => tree.last(),
-            None => self.arrays.last(),
+        match &self.form {
+            Form::Inline(arrays) => arrays.last(),
+            Form::Spilled(tree) => tree.last(),
         }
     }
 
     #[inline(always)]
     fn above(&self, key: T::Key) -> Option<(T::Key, Values<'_, V>)> {
-        match self.tree() {
-            Some(tree) => tree.above(key),
-            None => self.arrays.above(key),
+        match &self.form {
+            Form::Inline(arrays) => arrays.above(key),
+            Form::Spilled(tree) => tree.above(key),
         }
     }
 
     #[inline]
     fn below(&self, key: T::Key) -> Option<Values<'_, V>> {
-        match self.tree() {
-            Some(tree) => tree.below(key),
-            None => self.arrays.below(key),
+        match &self.form {
+            Form::Inline(arrays) => arrays.below(key),
+            Form::Spilled(tree) => tree.below(key),
         }
     }
 }

@@ -30,7 +30,7 @@ fn partition_at<I: Partitioned>(op: &Op<I::Value>) -> usize
     }
 }
 
-/// Between which two neighbouring cuts a partition lies, by the place of the first: a binary search.
+/// Between which two neighbouring cuts a partition lies: the place of the first of them. A binary search.
 fn place_among(cuts: &[usize], partition: usize) -> usize
     requires cuts { IsCuts cuts.now (slice_index cuts.now (length cuts.now - 1)) }
     requires below { partition < slice_index cuts.now (length cuts.now - 1) }

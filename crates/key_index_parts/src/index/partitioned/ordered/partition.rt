@@ -344,10 +344,11 @@ fn keep_in_run<V, F: FnMut(&V) -> bool>(
     requires callable { F.IsAlwaysCallable should_retain }
     requires start { run.start ≤ run.end }
     requires end { run.end ≤ length values.old }
-    ensures asked { AsksInTurn (CalledAt F.FnMut) should_retain true (slice_range values.old run.start run.end)
-        (take result.0 (slice_range values.new run.start run.end)) result.1 }
+    ensures kept { (kept : List V)
+        × AsksInTurn (CalledAt F.FnMut) should_retain true (slice_range values.old run.start run.end) kept result.1
+        × (take (run.start + result.0) values.new ≡ take run.start values.old ++ kept)
+        × (result.0 ≡ length kept) }
     ensures within { result.0 ≤ run.end - run.start }
-    ensures front { take run.start values.new ≡ take run.start values.old }
     ensures back { drop run.end values.new ≡ drop run.end values.old }
     ensures len { length values.new ≡ length values.old }
 {

@@ -1,7 +1,8 @@
 use Rattle.std.proofs.Common.{◌≡◌, ◌++◌, length, take, drop, sym, subst, inl, refl, arith}
 use Rattle.key_index_parts.specs.Ranges.{CanInstall}
 use Rattle.key_index_parts.proofs.builds.AcceptedLemmas.{runs_as}
-use Rattle.key_index_parts.proofs.builds.RangeLemmas.{on_ok_map, install_filled, take-refilled, build_done, build_refused}
+use Rattle.key_index_parts.proofs.builds.RangeLemmas.{on_ok_map, install_filled, build_done, build_refused}
+use Rattle.key_index_parts.proofs.pairs.BehindLemmas.{written}
 use Rattle.key_index_parts.proofs.builds.FillLemmas.{IfErr-IsErrAnd}
 use Rattle.key_index_parts.proofs.index.partitioned.builds.build.build_in_ranges.Given.{Over}
 use Rattle.key_index_parts.proofs.index.partitioned.builds.build.build_in_ranges.Goals.{In_ok-fill_all}
@@ -21,7 +22,7 @@ refilled g c =
     let old = c.in_ok-ranges.ranges in
     let long = c.in_ok-fill_all.ensures.filled.long in
     let made = c.in_ok-ranges.ensures.made.long in
-    take-refilled old.len c.fill_all.new.ranges old.items old.ok.0 (omega (arith, long, made))
+    written old.len c.fill_all.new.ranges old.items old.ok.0 (omega (arith, long, made))
 
 pub install_all-requires : goal.install_all-requires
 install_all-requires g c =

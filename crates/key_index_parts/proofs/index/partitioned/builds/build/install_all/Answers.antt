@@ -3,7 +3,8 @@ use Rattle.std.specs.Vec.Iter.{into_iter_items}
 use Rattle.key_index_flat.specs.View.{items_in}
 use Rattle.key_index_parts.specs.Joined.{joined_view, install_fault}
 use Rattle.key_index_parts.specs.Ranges.{CanInstall, installed}
-use Rattle.key_index_parts.proofs.builds.DoneLemmas.{get_done, split_more, take_done}
+use Rattle.key_index_parts.proofs.builds.DoneLemmas.{get_done, split_more}
+use Rattle.std.proofs.Math.Seq.{take-append_seam}
 use Rattle.key_index_parts.proofs.builds.RangeLemmas.{installed-append}
 use Rattle.key_index_parts.proofs.index.partitioned.builds.build.install_all.Goals as goal
 
@@ -20,7 +21,7 @@ returns-in-Err-clause-refused g c =
       refused = range;
       found = get_done was.done left c.args.ranges.items range split;
       left = same ∙ was.holds
-          ∙ ap (λ l. installed g.I.Key.Ord.cmp g.I.Range.Runs.view l start) (sym (take_done was.done (range ∷ left)) ∙ ap (λ l. take (length was.done) l) split);
+          ∙ ap (λ l. installed g.I.Key.Ord.cmp g.I.Range.Runs.view l start) (sym (take-append_seam was.done (range ∷ left)) ∙ ap (λ l. take (length was.done) l) split);
       why = c.in-Err.ensures.fault ∙ ap (λ s. install_fault (items_in s) (items_in (g.I.Range.Runs.view range))) (sym same);
     }
 

@@ -6,20 +6,14 @@ use Rattle.key_index_parts.proofs.index.partitioned.ordered.partition.fill_runs.
 pub fill-requires-clause-empty : goal.fill-requires-clause-empty
 fill-requires-clause-empty g c =
     let flat = c.requires.2 ∙ sym c.into_iter-values.ensures.rest in
-    let test = c.loop-place-test.true in
-    let len = c.loop-place.invariant.len in
-    let end = c.len-place-end.ensures in
-    let within : c.loop-place.place < length c.loop-place.runs.items = omega (arith, test, len, end) in
+    let within : c.loop-place.place < length c.loop-place.runs.items = omega (arith, c.loop-place-test.true, c.loop-place.invariant.len, c.len-place-end.ensures) in
     run_empty c.requires.0 c.loop-place.runs.items c.loop-place.place c.index_mut.result.now within c.index_mut.ensures.value
     (c.loop-place.invariant.empty c.requires.0 c.requires.1 flat) _ (c.loop-place.invariant.left c.requires.0 c.requires.1 flat)
 
 pub fill-requires-clause-enough : goal.fill-requires-clause-enough
 fill-requires-clause-enough g c =
     let flat = c.requires.2 ∙ sym c.into_iter-values.ensures.rest in
-    let test = c.loop-place-test.true in
-    let len = c.loop-place.invariant.len in
-    let end = c.len-place-end.ensures in
-    let within : c.loop-place.place < length c.loop-place.runs.items = omega (arith, test, len, end) in
+    let within : c.loop-place.place < length c.loop-place.runs.items = omega (arith, c.loop-place-test.true, c.loop-place.invariant.len, c.len-place-end.ensures) in
     run_enough c.requires.0 c.loop-place.runs.items c.loop-place.place c.index_mut.result.now within c.index_mut.ensures.value
     (c.loop-place.invariant.empty c.requires.0 c.requires.1 flat) _ (c.loop-place.invariant.left c.requires.0 c.requires.1 flat)
 
@@ -28,12 +22,9 @@ loop-place-preserved g c =
     let rs = c.loop-place.runs.items in
     let place = c.loop-place.place in
     let run = c.index_mut.result.now in
-    let test = c.loop-place-test.true in
-    let len = c.loop-place.invariant.len in
-    let end = c.len-place-end.ensures in
-    let within : place < length rs = omega (arith, test, len, end) in
+    let within : place < length rs = omega (arith, c.loop-place-test.true, c.loop-place.invariant.len, c.len-place-end.ensures) in
     record {
-      len = length-set rs place (run.0, c.fill.new.run) ∙ len;
+      len = length-set rs place (run.0, c.fill.new.run) ∙ c.loop-place.invariant.len;
       filled = λ k rooms flat.
           run_filled k rs place run within c.index_mut.ensures.value (c.loop-place.invariant.empty k rooms flat) _ (c.loop-place.invariant.left k rooms flat)
           c.fill.new.run c.fill.ensures.run (c.loop-place.invariant.filled k rooms flat);

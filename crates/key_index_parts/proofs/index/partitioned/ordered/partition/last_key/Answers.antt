@@ -10,5 +10,4 @@ returns-clause-last g c =
 
 pub returns-clause-within : goal.returns-clause-within
 returns-clause-within g c =
-    let within = last_uncounted g.met.K.Ord.total c.args.keys.now c.index-keys-keys.result c.requires.sorted (returns-clause-last g c) in
-    omega (arith, within, c.last_start.ensures.count)
+    omega (arith, last_uncounted g.met.K.Ord.total c.args.keys.now c.index-keys-keys.result c.requires.sorted (returns-clause-last g c), c.last_start.ensures.count)

@@ -1,27 +1,12 @@
-use Rattle.std.proofs.Common.{◌≡◌, true, false, refl, sym, ap, ◌∙◌, arith}
-use Rattle.std.proofs.lemmas.Bool.{ltb-true}
+use Rattle.std.proofs.Common.{ap, ◌∙◌}
 use Rattle.std.specs.Ordering.{is_le}
-use Rattle.key_index_parts.proofs.pairs.SearchLemmas.{upper_partitions, length-filter_above, length-filter_at_most, count_within}
+use Rattle.key_index_parts.proofs.pairs.SearchLemmas.{upper_partitions, Decides-test, Decides-past}
 use Rattle.key_index_parts.proofs.index.partitioned.ordered.partition.reaches.Goals as goal
 
 pub returns-then-place-keys : goal.returns-then-place-keys
 returns-then-place-keys g c =
-    let parted = upper_partitions g.met.K.Ord.total c.args.keys.now c.args.key.now c.requires in
-    let found = c.index-keys-place.result in
-    let test = ap (λ x. is_le (g.K.Ord.cmp x c.args.key.now)) (sym c.index-keys-place.is) ∙ sym (c.is_le.ensures ∙ ap is_le c.cmp.ensures) in (
-      λ passed. length-filter_above (λ x. is_le (g.K.Ord.cmp x c.args.key.now)) c.args.keys.now c.args.place found parted c.if-place-keys.true (test ∙ passed),
-      λ below. elim c.is_le.result as (λ b. c.is_le.result ≡ b → b ≡ true) [
-        | true ↦ λ _. refl
-        | false ↦ λ failed.
-            let most = length-filter_at_most (λ x. is_le (g.K.Ord.cmp x c.args.key.now)) c.args.keys.now c.args.place found parted c.if-place-keys.true (test ∙ failed) in
-            absurd (omega (arith, most, below))
-      ] refl,
-    )
+    Decides-test (λ x. is_le (g.K.Ord.cmp x c.args.key.now)) c.args.keys.now c.args.place c.index-keys-place.result c.is_le.result
+    (upper_partitions g.met.K.Ord.total c.args.keys.now c.args.key.now c.requires) c.if-place-keys.true (c.is_le.ensures ∙ ap is_le c.cmp.ensures ∙ ap (λ x. is_le (g.K.Ord.cmp x c.args.key.now)) c.index-keys-place.is)
 
 pub returns-else-place-keys : goal.returns-else-place-keys
-returns-else-place-keys g c =
-    let past = c.if-place-keys.false in
-    let most = count_within (λ x. is_le (g.K.Ord.cmp x c.args.key.now)) c.args.keys.now in (
-      λ passed. let within = ltb-true _ _ passed in absurd (omega (arith, within, past)),
-      λ below. absurd (omega (arith, most, past, below)),
-    )
+returns-else-place-keys g c = Decides-past (λ x. is_le (g.K.Ord.cmp x c.args.key.now)) c.args.keys.now c.args.place c.if-place-keys.false

@@ -3,27 +3,27 @@ use Rattle.key_index_parts.specs.Gathered.{pair_cmp}
 use Rattle.key_index_parts.proofs.buckets.ReachLemmas.{run_reached}
 use Rattle.key_index_parts.proofs.index.partitioned.range.RangeIndexSearch.search.Goals as goal
 
-pub with_len-requires-clause-known : goal.with_len-requires-clause-known
-with_len-requires-clause-known g c = run_reached (pair_cmp g.T.Key.Ord.cmp) c.in-Ok.slot c.in-Ok.len c.in-Ok.ensures.settled.0 c.in-Ok.ensures.reached
+pub cursor_of-with_len-requires-clause-known : goal.cursor_of-with_len-requires-clause-known
+cursor_of-with_len-requires-clause-known g c = run_reached (pair_cmp g.T.Key.Ord.cmp) c.in-Ok-cursor_of.field-0-0 c.in-Ok-cursor_of.field-0-1 c.in-Ok-cursor_of.ensures.settled.0 c.in-Ok-cursor_of.ensures.reached
 
-pub returns-in-Ok : goal.returns-in-Ok
-returns-in-Ok g c = (
+pub returns-in-Ok-cursor_of : goal.returns-in-Ok-cursor_of
+returns-in-Ok-cursor_of g c = (
   search rules,
   record {
     rests = tt;
     same_reference = search rules;
-    found = rw c.with_len.ensures.same_index c.in-Ok.ensures.settled;
+    found = rw c.cursor_of-with_len.ensures.same_index c.in-Ok-cursor_of.ensures.settled;
     start = search rules;
     held = search rules;
     want = tt;
   },
 )
 
-pub returns-in-Ok-default-eq0 : goal.returns-in-Ok-default-eq0
-returns-in-Ok-default-eq0 g c =
-    let none = c.in-Ok-default-eq0.field-0-1-test in
-    let told = c.in-Ok-default-eq0.ensures.reached in (
-      (refl, λ _. tt, c.in-Ok-default-eq0.ensures.settled),
+pub returns-in-Ok-default-eq0-cursor_of : goal.returns-in-Ok-default-eq0-cursor_of
+returns-in-Ok-default-eq0-cursor_of g c =
+    let none = c.in-Ok-default-eq0-cursor_of.field-0-1-test in
+    let told = c.in-Ok-default-eq0-cursor_of.ensures.reached in (
+      (refl, λ _. tt, c.in-Ok-default-eq0-cursor_of.ensures.settled),
       record {
         rests = tt;
         same_reference = tt;

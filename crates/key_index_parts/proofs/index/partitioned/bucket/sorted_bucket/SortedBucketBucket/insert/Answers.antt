@@ -1,10 +1,9 @@
-use Rattle.std.proofs.Common.{true, false, [], ◌∷◌, not, length-append, refl, ap, ◌∙◌, arith}
-use Rattle.std.proofs.lemmas.Bool.{OnTrue_at}
+use Rattle.std.proofs.Common.{◌<◌, true, false, [], ◌∷◌, not, length-append, refl, ap, ◌∙◌, arith}
 use Rattle.key_index_flat.specs.Content.{is_filled, item_count, list_at}
 use Rattle.key_index_flat.specs.View.{put_value}
 use Rattle.key_index_parts.specs.Pairs.{grouped}
 use Rattle.key_index_parts.specs.laws.PairLaws.{IsLawful-grouped}
-use Rattle.key_index_parts.proofs.standing.SortedBucketLemmas.{Grows-below_threshold, held_now, none_beside, item_count-stays_positive, item_count-one_more, Grows-threshold_reached}
+use Rattle.key_index_parts.proofs.standing.SortedBucketLemmas.{Grows-below_threshold, item_count-stays_positive, item_count-one_more, Grows-threshold_reached}
 use Rattle.key_index_parts.proofs.index.partitioned.bucket.sorted_bucket.SortedBucketBucket.insert.Goals as goal
 
 pub invariant_of-self : goal.invariant_of-self
@@ -12,22 +11,21 @@ invariant_of-self g c =
     let tree = c.deref_mut.result.now in
     let held = tree.lists.content in
     let l = list_at g.T.Key.Ord.cmp held c.args.key in
-    let some = held_now c.args.self.now.tree (λ t. t.lists.content) c.in-Some.tree tree c.in-Some.is c.deref_mut.ensures.value c.args.self.now.filled in
+    let some : 0 < item_count held = rw c.deref_mut.ensures.value (rw c.in-Spilled.is at c.args.self.now.filled) in
     let long = length-append l (c.args.value ∷ []) in
     record {
-      alone = none_beside c.args.self.now.tree c.in-Some.tree _ c.in-Some.is c.args.self.now.alone;
       filled = item_count-stays_positive g.met.T.Key.Ord.total c.insert.result held c.insert.new.self.lists.content c.args.key (put_value false c.args.value)
           (not (is_filled l)) tree.counted.lawful some (omega (arith, long)) c.insert.ensures.accepted c.insert.ensures.refused;
     }
 
 pub returns-then-len-threshold-clause-standing : goal.returns-then-len-threshold-clause-standing
 returns-then-len-threshold-clause-standing g c =
-    let pairs = c.args.self.now.arrays.pairs.pairs in
+    let pairs = c.in-Inline.arrays.pairs.pairs in
     let held = grouped g.T.Key.Ord.cmp pairs in
     let l = list_at g.T.Key.Ord.cmp held c.args.key in
     let more = item_count-one_more g.met.T.Key.Ord.total held (grouped g.T.Key.Ord.cmp c.insert-then-len-threshold.new.self.pairs.pairs) c.args.key _ (IsLawful-grouped g.met.T.Key.Ord.total pairs)
-    (length-append l (c.args.value ∷ [])) c.in_ok-absent-2.ensures.accepted.0 in
-    rw (OnTrue_at c.if-not-is_inline.false c.is_inline.ensures.inline) (Grows-below_threshold true c.args.threshold _ (λ _. omega (arith, more, c.len.ensures, c.if-len-threshold.true)))
+    (length-append l (c.args.value ∷ [])) c.in_ok-absent.ensures.accepted.0 in
+    rw c.in-Inline.is (Grows-below_threshold true c.args.threshold _ (λ _. omega (arith, more, c.len.ensures, c.if-len-threshold.true)))
 
 pub invariant_of-self-in-Ok-insert : goal.invariant_of-self-in-Ok-insert
 invariant_of-self-in-Ok-insert g c =
@@ -36,7 +34,7 @@ invariant_of-self-in-Ok-insert g c =
     let l = list_at g.T.Key.Ord.cmp held c.args.key in
     let more = item_count-one_more g.met.T.Key.Ord.total held c.insert-2.new.self.lists.content c.args.key _ tree.counted.lawful (length-append l (c.args.value ∷ []))
     c.in-Ok-insert.ensures.accepted.0 in
-    record { filled = omega (arith, more); alone = ap (λ ps. is_filled (grouped g.T.Key.Ord.cmp ps)) c.new.ensures.pairs }
+    record { filled = omega (arith, more) }
 
 pub returns-in-Ok-insert-clause-standing : goal.returns-in-Ok-insert-clause-standing
 returns-in-Ok-insert-clause-standing g c =
@@ -47,10 +45,5 @@ returns-in-Ok-insert-clause-standing g c =
     c.in-Ok-insert.ensures.accepted.0 in
     let same = ap (λ t. item_count (t.lists.content)) c.deref_mut-2.ensures.value ∙ ap item_count c.in-Ok.ensures.tree in
     let told = c.len-moved.ensures ∙ ap (λ t. item_count (t.lists.content)) c.deref.ensures in
-    rw (OnTrue_at c.if-not-is_inline.false c.is_inline.ensures.inline) (Grows-threshold_reached true c.args.threshold _ c.insert-2.new.self.lists.content refl c.requires
+    rw c.in-Inline.is (Grows-threshold_reached true c.args.threshold _ c.insert-2.new.self.lists.content refl c.requires
     (omega (arith, told, more, same, c.len.ensures, c.if-len-threshold.false, c.requires)) told)
-
-pub into_arrays-requires-clause-room : goal.into_arrays-requires-clause-room
-into_arrays-requires-clause-room g c =
-    let same = ap item_count c.in-Err.ensures.refused ∙ ap (λ t. item_count t.lists.content) c.deref_mut-2.ensures.value ∙ ap item_count c.in-Ok.ensures.tree in
-    omega (arith, same, c.in-Ok.ensures.room)

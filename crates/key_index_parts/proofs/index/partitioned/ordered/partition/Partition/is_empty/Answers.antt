@@ -6,7 +6,5 @@ use Rattle.key_index_parts.proofs.index.partitioned.ordered.partition.Partition.
 
 pub returns : goal.returns
 returns g c =
-    let e = length-zip _ _ c.self.invariant.sized in
-    let pairs = ap (λ s. length s.pairs) c.self.view_is in
-    let len : vec_len c.self.inside.keys ≡ length c.args.self.now.pairs = omega (arith, e, pairs) in
+    let len : vec_len c.self.inside.keys ≡ length c.args.self.now.pairs = omega (arith, length-zip _ _ c.self.invariant.sized, ap (λ s. length s.pairs) c.self.view_is) in
     c.is_empty.ensures ∙ ap (λ (n : ℕ). n == 0) len

@@ -5,13 +5,9 @@ use Rattle.key_index_parts.proofs.pairs.ZipLemmas.{length-zip}
 use Rattle.key_index_parts.proofs.index.partitioned.ordered.partition.Partition.key_at.Goals as goal
 
 pub index-requires : goal.index-requires
-index-requires g c =
-    let e = length-zip _ _ c.self.invariant.sized in
-    let pairs = ap (λ s. length s.pairs) c.self.view_is in omega (arith, e, pairs)
+index-requires g c = omega (arith, length-zip _ _ c.self.invariant.sized, ap (λ s. length s.pairs) c.self.view_is)
 
 pub returns : goal.returns
 returns g c =
-    let e = length-zip _ _ c.self.invariant.sized in
-    let pairs = ap (λ s. length s.pairs) c.self.view_is in
-    let within : c.args.place < length c.self.inside.keys.items = omega (arith, e, pairs) in
+    let within : c.args.place < length c.self.inside.keys.items = omega (arith, length-zip _ _ c.self.invariant.sized, ap (λ s. length s.pairs) c.self.view_is) in
     rw (← c.self.view_is, keys_of-zip _ _ (sym c.self.invariant.sized)) (slice_get_read _ _ _ _ refl within c.index.ensures)

@@ -4,30 +4,22 @@ use Rattle.std.specs.Map.{keys_of}
 use Rattle.std.specs.declared.cmp.Ordering.TheVariants.{Less}
 use Rattle.key_index_parts.specs.Pairs.{count_below, Paired}
 use Rattle.key_index_parts.specs.Spread.{pairs_with}
-use Rattle.key_index_parts.proofs.pairs.LastRun.{IsLastRun, IsPopped, popped}
+use Rattle.key_index_parts.proofs.pairs.LastRun.{IsPopped, popped}
 use Rattle.key_index_parts.proofs.index.partitioned.ordered.partition.Partition.pop_run.Given.{Over}
-use Rattle.key_index_parts.proofs.index.partitioned.ordered.partition.Partition.pop_run.Goals.{After-last_key-key, After-truncate}
+use Rattle.key_index_parts.proofs.index.partitioned.ordered.partition.Partition.pop_run.Goals.{After-truncate}
 use Rattle.key_index_parts.proofs.index.partitioned.ordered.partition.Partition.pop_run.Goals as goal
 
 pub split_off-requires : goal.split_off-requires
-split_off-requires g c =
-    let long = ap (λ l. length l) c.as_slice.ensures.value in
-    omega (arith, long, c.last_key-key.ensures.within, c.self.invariant.sized)
-
-last_run : (g : Over) (c : After-last_key-key g) → IsLastRun g.K.Ord.cmp c.self.inside.keys.items c.last_key-key.result.0 c.last_key-key.result.1
-last_run g c = record {
-  sorted = c.self.invariant.sorted;
-  last = ap (λ l. slice_get l (length l - 1)) (sym c.as_slice.ensures.value) ∙ c.last_key-key.ensures.last;
-  begins = c.last_key-key.ensures.start ∙ ap (λ l. count_below g.K.Ord.cmp l c.last_key-key.result.0) c.as_slice.ensures.value;
-}
+split_off-requires g c = omega (arith, ap (λ l. length l) c.as_slice.ensures.value, c.last_key-key.ensures.within, c.self.invariant.sized)
 
 run_popped : (g : Over) (c : After-truncate g) →
     IsPopped g.K.Ord.cmp c.self.inside.keys.items c.self.inside.values.items c.last_key-key.result.0 c.in-Some.head c.in_ok-tail.tail.items
     (take c.last_key-key.result.1 c.self.inside.keys.items) c.pop.new.self.items
 run_popped g c =
-    let run = last_run g (goal.at.returns-clause-run g c).After-last_key-key in
-    popped g.met.K.Ord.total c.requires.exact c.last_key-key.result.0 run c.self.inside.values.items c.pop.new.self.items c.in_ok-tail.tail.items c.in-Some.head
-    c.self.invariant.sized (sym c.in_ok-tail.ensures.left ∙ c.in-Some.ensures.items) c.in_ok-tail.ensures.moved
+    let keys = c.as_slice.ensures.value in
+    popped g.met.K.Ord.total c.requires.exact c.self.invariant c.last_key-key.result.0 c.last_key-key.result.1
+    (ap (λ l. slice_get l (length l - 1)) (sym keys) ∙ c.last_key-key.ensures.last) (c.last_key-key.ensures.start ∙ ap (λ l. count_below g.K.Ord.cmp l c.last_key-key.result.0) keys)
+    c.pop.new.self.items c.in_ok-tail.tail.items c.in-Some.head (sym c.in_ok-tail.ensures.left ∙ c.in-Some.ensures.items) c.in_ok-tail.ensures.moved
 
 pub invariant_of-self-2 : goal.invariant_of-self-2
 invariant_of-self-2 g c = subst (λ ks. Paired g.K.Ord.cmp ks c.pop.new.self.items) (sym c.truncate.ensures.items) (run_popped g c).paired
@@ -44,7 +36,4 @@ returns-clause-below g c =
 pub returns-clause-room : goal.returns-clause-room
 returns-clause-room g c =
     let left = run_popped g c in
-    let keys = ap (λ l. length l) c.truncate.ensures.items in
-    let room = ap (λ s. s.room) c.self.view_is in
-    let values = c.pop.ensures.capacity ∙ c.split_off.ensures.capacity in
-    omega (arith, left.keys_left, left.values_left, keys, room, values, c.truncate.ensures.capacity)
+    omega (arith, left.keys_left, left.values_left, ap (λ l. length l) c.truncate.ensures.items, ap (λ s. s.room) c.self.view_is, c.pop.ensures.capacity ∙ c.split_off.ensures.capacity, c.truncate.ensures.capacity)

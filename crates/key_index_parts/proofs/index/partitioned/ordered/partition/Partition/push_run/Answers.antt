@@ -24,11 +24,8 @@ invariant_of-self g c =
     let own : keys_of c.args.self.now.pairs ≡ ks = sym (ap keys_of (ap (λ s. s.pairs) c.self.view_is)) ∙ keys_of-zip ks vs (sym sized) in
     let last = subst (λ l. All (λ k. is_lt (g.K.Ord.cmp c.args.key k) ≡ false) l) own c.requires.last in
     let sorted = IsSorted-Rises g.met.K.Ord.total _ (Rises-more g.met.K.Ord.total ks (length ws) c.args.key (Rises-IsSorted g.met.K.Ord.total ks c.self.invariant.sorted) last) in
-    let more_keys = ap length keys ∙ length-append ks (replicate (length ws) c.args.key) in
-    let many = length-replicate (length ws) c.args.key in
-    let more_values = ap length values ∙ length-append vs ws in
     record {
-      sized = omega (arith, sized, more_keys, many, more_values);
+      sized = omega (arith, sized, ap length keys, length-append ks (replicate (length ws) c.args.key), length-replicate (length ws) c.args.key, ap length values, length-append vs ws);
       sorted = subst (IsSorted g.K.Ord.cmp) (sym keys) sorted;
     }
 

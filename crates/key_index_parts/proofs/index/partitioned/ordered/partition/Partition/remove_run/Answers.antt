@@ -5,7 +5,7 @@ use Rattle.std.specs.Map.{keys_of}
 use Rattle.std.proofs.lemmas.Map.Made.{keys_of-zip}
 use Rattle.key_index_parts.proofs.pairs.SearchLemmas.{IsSorted-remove_range}
 use Rattle.key_index_parts.proofs.pairs.ZipLemmas.{length-zip, zip-remove_range, length-remove_range}
-use Rattle.key_index_parts.proofs.pairs.RunLemmas.{IsRun-within}
+use Rattle.key_index_parts.proofs.pairs.RunLemmas.{run_within}
 use Rattle.key_index_parts.proofs.index.partitioned.ordered.partition.Partition.remove_run.Given.{Over}
 use Rattle.key_index_parts.proofs.index.partitioned.ordered.partition.Partition.remove_run.Goals.{After-self}
 use Rattle.key_index_parts.proofs.index.partitioned.ordered.partition.Partition.remove_run.Goals as goal
@@ -13,25 +13,18 @@ use Rattle.key_index_parts.proofs.index.partitioned.ordered.partition.Partition.
 -- the run ends at a key, or behind the last
 range_end_within : (g : Over) (c : After-self g) → c.args.range.end ≤ length c.self.inside.keys.items
 range_end_within g c =
-    let len = length-zip _ _ c.self.invariant.sized in
-    let pairs = ap (λ s. length s.pairs) c.self.view_is in
     let keys = sym (keys_of-zip _ _ (sym c.self.invariant.sized)) ∙ ap (λ s. keys_of s.pairs) c.self.view_is in
-    let within = IsRun-within g.met.K.Ord.total c.args.self.now.pairs c.requires.0 c.args.range.start c.args.range.end
-    (subst (λ ks. IsSorted g.K.Ord.cmp ks) keys c.self.invariant.sorted) c.requires.1 in
-    omega (arith, len, pairs, within)
+    omega (arith, length-zip _ _ c.self.invariant.sized, ap (λ s. length s.pairs) c.self.view_is, run_within g.met.K.Ord.total (subst (λ ks. IsSorted g.K.Ord.cmp ks) keys c.self.invariant.sorted) c.requires.1)
 
 remove_range_left : (g : Over) (c : After-self g) → let start = c.args.range.start in let end = c.args.range.end in
     (start ≤ end) × (length (remove_range c.self.inside.keys.items start end) + (end - start) ≡ length c.self.inside.keys.items)
     × (length (remove_range c.self.inside.values.items start end) + (end - start) ≡ length c.self.inside.values.items)
 remove_range_left g c =
-    let start = c.args.range.start in
-    let end = c.args.range.end in
-    let within = range_end_within g c in
-    let order : start ≤ end = let upto = c.requires.1.upto in omega (arith, upto) in
-    (order, length-remove_range _ start end order within, length-remove_range _ start end order (omega (arith, within, c.self.invariant.sized)))
+    let order : c.args.range.start ≤ c.args.range.end = omega (arith, c.requires.1.upto) in
+    (order, length-remove_range _ _ _ order (range_end_within g c), length-remove_range _ _ _ order (omega (arith, range_end_within g c, c.self.invariant.sized)))
 
 pub take_out-requires-clause-within : goal.take_out-requires-clause-within
-take_out-requires-clause-within g c = let within = range_end_within g (goal.at.take_out-requires-clause-within g c).After-self in omega (arith, within)
+take_out-requires-clause-within g c = range_end_within g (goal.at.take_out-requires-clause-within g c).After-self
 
 pub take_out-requires-2-clause-within : goal.take_out-requires-2-clause-within
 take_out-requires-2-clause-within g c = let within = range_end_within g (goal.at.take_out-requires-2-clause-within g c).After-self in omega (arith, within, c.self.invariant.sized)
@@ -52,7 +45,4 @@ returns-clause-pairs g c =
 pub returns-clause-room : goal.returns-clause-room
 returns-clause-room g c =
     let less = remove_range_left g (goal.at.returns-clause-room g c).After-self in
-    let room = ap (λ s. s.room) c.self.view_is in
-    let key_items = ap length c.take_out.ensures.items in
-    let value_items = ap length c.take_out-2.ensures.items in
-    omega (arith, less, room, key_items, value_items, c.take_out.ensures.capacity, c.take_out-2.ensures.capacity)
+    omega (arith, less, ap (λ s. s.room) c.self.view_is, ap length c.take_out.ensures.items, ap length c.take_out-2.ensures.items, c.take_out.ensures.capacity, c.take_out-2.ensures.capacity)

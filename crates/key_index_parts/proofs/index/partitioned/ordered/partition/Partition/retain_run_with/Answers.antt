@@ -1,120 +1,54 @@
-use Rattle.std.proofs.Common.{◌≡◌, ◌+◌, ◌-◌, ◌≤◌, ◌++◌, ◌∷◌, [], List, true, length, take, drop, sym, ap, subst, ◌∙◌, arith}
-use Rattle.std.proofs.lemmas.List.{length-append, length-drop, length-take-le}
-use Rattle.std.proofs.lemmas.List.Edits.{length-insert}
-use Rattle.std.proofs.lemmas.Map.Made.{keys_of-zip}
+use Rattle.std.proofs.Common.{◌≡◌, ◌+◌, ◌-◌, ◌++◌, ◌∷◌, [], true, subst, ap, ◌∙◌, arith}
 use Rattle.std.specs.Fn.{CalledAt}
-use Rattle.std.specs.List.{zip}
-use Rattle.std.specs.Map.{keys_of}
+use Rattle.std.specs.List.{slice_range, zip}
 use Rattle.key_index_flat.specs.Content.{list_at}
 use Rattle.key_index_flat.specs.Retention.{AsksInTurn}
 use Rattle.key_index_parts.specs.Pairs.{grouped}
-use Rattle.key_index_parts.proofs.pairs.FoundRun.{grouped-fewer, grouped-more, may_append, within_keys, own_values}
-use Rattle.key_index_parts.proofs.pairs.SearchLemmas.{IsSorted-remove_range}
-use Rattle.key_index_parts.proofs.pairs.ZipLemmas.{length-remove_range}
+use Rattle.key_index_parts.proofs.pairs.FoundRun.{IsRunOf, run_of_pairs}
 use Rattle.key_index_parts.proofs.index.partitioned.ordered.partition.Partition.retain_run_with.Given.{Over}
 use Rattle.key_index_parts.proofs.index.partitioned.ordered.partition.Partition.retain_run_with.Goals.{After-self, After-keep_with-left}
 use Rattle.key_index_parts.proofs.index.partitioned.ordered.partition.Partition.retain_run_with.Goals as goal
 
--- the run ends at a key, or behind the last
-run_end_within : (g : Over) (c : After-self g) → c.args.run.end ≤ length c.self.inside.keys.items
-run_end_within g c = within_keys g.met.K.Ord.total c.requires.exact c.requires.found c.self.inside.keys.items c.self.inside.values.items (ap (λ s. s.pairs) c.self.view_is) c.self.invariant.sized
+own_run : (g : Over) (c : After-self g) → IsRunOf g.K.Ord.cmp c.args.self.now.pairs c.args.key c.self.inside.keys.items c.self.inside.values.items c.args.run.start c.args.run.end
+own_run g c = run_of_pairs g.met.K.Ord.total c.requires.exact c.requires.found (ap (λ s. s.pairs) c.self.view_is) c.self.invariant
 
 pub keep_with-left-requires-clause-end : goal.keep_with-left-requires-clause-end
-keep_with-left-requires-clause-end g c =
-    let within = run_end_within g (goal.at.keep_with-left-requires-clause-end g c).After-self in omega (arith, within, c.self.invariant.sized)
+keep_with-left-requires-clause-end g c = let run = own_run g (goal.at.keep_with-left-requires-clause-end g c).After-self in omega (arith, run.within, c.self.invariant.sized)
 
 pub insert-requires : goal.insert-requires
-insert-requires g c = let within = run_end_within g (goal.at.insert-requires g c).After-self in omega (arith, within, c.self.inside.keys.ok.0)
+insert-requires g c = let run = own_run g (goal.at.insert-requires g c).After-self in omega (arith, run.within, c.self.inside.keys.ok.0)
 
 pub take_out-requires-clause-within : goal.take_out-requires-clause-within
-take_out-requires-clause-within g c = run_end_within g (goal.at.take_out-requires-clause-within g c).After-self
+take_out-requires-clause-within g c = (own_run g (goal.at.take_out-requires-clause-within g c).After-self).within
 
-module _ (g : Over) (c : After-keep_with-left g) (within : c.args.run.end ≤ length c.self.inside.keys.items) where
-  abbrev kept : List g.row.V.Denot
-  kept = c.keep_with-left.ensures.kept.0
-
-  is : zip c.self.inside.keys.items c.self.inside.values.items ≡ c.args.self.now.pairs
-  is = ap (λ s. s.pairs) c.self.view_is
-
-  -- the values that stay, and how many there are with those beside the run
-  long : length c.keep_with-left.new.values.items + (c.args.run.end - c.args.run.start) ≡ length c.self.inside.keys.items + length kept
-  long =
-      let start = c.args.run.start in
-      let end = c.args.run.end in
-      let old = c.self.inside.values.items in
-      let now = ap length c.keep_with-left.ensures.kept.2 in
-      let front = length-take-le start old (let o = c.requires.found.run.upto in omega (arith, within, c.self.invariant.sized, o)) in
-      let back = length-drop end old in
-      let both = length-append (take start old) kept in
-      let all = length-append (take start old ++ kept) (drop end old) in
-      let order = c.requires.found.run.upto in
-      omega (arith, now, front, back, both, all, within, order, c.self.invariant.sized)
-
-  asked : AsksInTurn (CalledAt g.F.FnMut) c.args.should_retain true (list_at g.K.Ord.cmp (grouped g.K.Ord.cmp c.args.self.now.pairs) c.args.key ++ c.args.value ∷ [])
-      kept c.keep_with-left.result.1
-  asked =
-      subst (λ l. AsksInTurn (CalledAt g.F.FnMut) c.args.should_retain true (l ++ c.args.value ∷ []) kept c.keep_with-left.result.1)
-      (own_values g.met.K.Ord.total c.requires.exact c.requires.found c.self.inside.keys.items c.self.inside.values.items is c.self.invariant.sized) c.keep_with-left.ensures.kept.1
+asked : (g : Over) (c : After-keep_with-left g) → slice_range c.self.inside.values.items c.args.run.start c.args.run.end ≡ list_at g.K.Ord.cmp (grouped g.K.Ord.cmp c.args.self.now.pairs) c.args.key
+    → AsksInTurn (CalledAt g.F.FnMut) c.args.should_retain true (list_at g.K.Ord.cmp (grouped g.K.Ord.cmp c.args.self.now.pairs) c.args.key ++ c.args.value ∷ []) c.keep_with-left.ensures.kept.0 c.keep_with-left.result.1
+asked g c run = subst (λ l. AsksInTurn (CalledAt g.F.FnMut) c.args.should_retain true (l ++ c.args.value ∷ []) c.keep_with-left.ensures.kept.0 c.keep_with-left.result.1) run c.keep_with-left.ensures.kept.1
 
 pub invariant_of-self : goal.invariant_of-self
 invariant_of-self g c =
-    let at = goal.at.invariant_of-self g c in
-    let within = run_end_within g at.After-self in
-    let sum = long g at.After-keep_with-left within in
-    let count = c.keep_with-left.ensures.kept.3 in
-    let bound = c.keep_with-left.ensures.within in
-    let more = length-insert c.self.inside.keys.items c.args.run.end c.args.key within in
-    let same = sym (keys_of-zip c.self.inside.keys.items c.self.inside.values.items (sym c.self.invariant.sized)) ∙ ap (λ s. keys_of s.pairs) c.self.view_is in
-    rw (c.in-Ok.ensures.items) record {
-      sized = omega (arith, sum, more, count, bound, within);
-      sorted = rw same (may_append g.met.K.Ord.total c.requires.exact c.requires.found);
-    }
+    let kept = c.keep_with-left.ensures.kept in
+    let run = own_run g (goal.at.invariant_of-self g c).After-self in
+    rw (c.in-Ok.ensures.items, kept.2) (run.more kept.0 (omega (arith, c.if-left-end.true, c.keep_with-left.ensures.within, kept.3))).paired
 
 pub invariant_of-self-2 : goal.invariant_of-self-2
 invariant_of-self-2 g c =
-    let at = goal.at.invariant_of-self-2 g c in
-    let within = run_end_within g at.After-self in
-    let sum = long g at.After-keep_with-left within in
-    let count = c.keep_with-left.ensures.kept.3 in
-    let upto = c.requires.found.run.upto in
-    let from = c.args.run.start + c.keep_with-left.result.0 in
-    let fewer = length-remove_range c.self.inside.keys.items from c.args.run.end (omega (arith, upto)) within in
-    rw (c.take_out.ensures.items) record {
-      sized = omega (arith, sum, fewer, count, upto, within);
-      sorted = IsSorted-remove_range g.met.K.Ord.total c.self.inside.keys.items from c.args.run.end (omega (arith, upto)) c.self.invariant.sorted;
-    }
+    let kept = c.keep_with-left.ensures.kept in
+    let run = own_run g (goal.at.invariant_of-self-2 g c).After-self in
+    rw (c.take_out.ensures.items, kept.2) (run.fewer c.keep_with-left.result.0 kept.0 (omega arith) kept.3).paired
 
 pub returns : goal.returns
 returns g c =
     let at = goal.at.returns g c in
-    let within = run_end_within g at.After-self in
     let kept = c.keep_with-left.ensures.kept in
-    let few : c.keep_with-left.result.0 ≤ c.args.run.end - c.args.run.start = omega arith in
-    let now = grouped-fewer g.met.K.Ord.total c.requires.exact c.requires.found c.self.inside.keys.items c.self.inside.values.items
-    (is g at.After-keep_with-left within) c.self.invariant.sized c.keep_with-left.result.0 kept.0 few kept.3 in
-    record {
-      kept = (
-        kept.0,
-        asked g at.After-keep_with-left within,
-        (λ j. grouped g.K.Ord.cmp (zip (c.take_out.ensures.items j) (kept.2 j))) ∙ now,
-        kept.3,
-      );
-    }
+    let run = own_run g at.After-self in
+    let now = run.fewer c.keep_with-left.result.0 kept.0 (omega arith) kept.3 in
+    record { kept = (kept.0, asked g at.After-keep_with-left run.values, (λ j. grouped g.K.Ord.cmp (zip (c.take_out.ensures.items j) (kept.2 j))) ∙ now.content, kept.3) }
 
 pub returns-then-left-end : goal.returns-then-left-end
 returns-then-left-end g c =
     let at = goal.at.returns-then-left-end g c in
-    let within = run_end_within g at.After-self in
     let kept = c.keep_with-left.ensures.kept in
-    let bound = c.keep_with-left.ensures.within in
-    let more : length kept.0 ≡ c.args.run.end - c.args.run.start + 1 = omega (arith, c.if-left-end.true, bound, kept.3) in
-    let now = grouped-more g.met.K.Ord.total c.requires.exact c.requires.found c.self.inside.keys.items c.self.inside.values.items
-    (is g at.After-keep_with-left within) c.self.invariant.sized kept.0 more in
-    record {
-      kept = (
-        kept.0,
-        asked g at.After-keep_with-left within,
-        (λ j. grouped g.K.Ord.cmp (zip (c.in-Ok.ensures.items j) (kept.2 j))) ∙ now,
-        kept.3,
-      );
-    }
+    let run = own_run g at.After-self in
+    let now = run.more kept.0 (omega (arith, c.if-left-end.true, c.keep_with-left.ensures.within, kept.3)) in
+    record { kept = (kept.0, asked g at.After-keep_with-left run.values, (λ j. grouped g.K.Ord.cmp (zip (c.in-Ok.ensures.items j) (kept.2 j))) ∙ now.content, kept.3) }

@@ -4,10 +4,7 @@ use Rattle.key_index_parts.proofs.pairs.ZipLemmas.{length-zip, values_of-zip}
 use Rattle.key_index_parts.proofs.index.partitioned.ordered.partition.Partition.set.Goals as goal
 
 pub index_mut-requires : goal.index_mut-requires
-index_mut-requires g c =
-    let sized = c.self.invariant.sized in
-    let e = length-zip _ _ sized in
-    let pairs = ap (λ s. length s.pairs) c.self.view_is in omega (arith, sized, e, pairs)
+index_mut-requires g c = omega (arith, c.self.invariant.sized, length-zip _ _ c.self.invariant.sized, ap (λ s. length s.pairs) c.self.view_is)
 
 pub returns-clause-pairs : goal.returns-clause-pairs
 returns-clause-pairs g c = rw (← c.self.view_is, keys_of-zip _ _ (sym c.self.invariant.sized), values_of-zip _ _ c.self.invariant.sized) refl
