@@ -1,5 +1,5 @@
 -- Which kind of index the program's arguments name, and with which status it ends early.
-use Rattle.std.specs.Prelude.{ℕ, ◌≤◌, ◌==◌, ⊤, List, [], ◌∷◌, Option, Some, None, option_map, if◌then◌else◌, codes}
+use Rattle.std.specs.Prelude.{◌≡◌, ℕ, ◌≤◌, ◌==◌, ⊤, List, [], ◌∷◌, Option, Some, None, option_map, if◌then◌else◌, codes}
 use Rattle.std.specs.Str.{bytes_eq}
 use Rattle.key_index.specs.declared.program.fault.ServeError.{ServeError}
 use Rattle.key_index.specs.declared.program.fault.ServeError.TheVariants.{Usage, BadLine, Failed}
@@ -7,8 +7,14 @@ use Rattle.key_index.specs.declared.program.kind.Kind.{Kind}
 use Rattle.key_index.specs.declared.program.kind.Kind.TheVariants.{Unordered, Ordered, PartitionedUnordered, PartitionedOrdered, Immutable}
 use Rattle.key_index.specs.declared.program.serve.AnySession.{AnySession}
 use Rattle.key_index.specs.declared.program.serve.AnySession.TheVariants as any
+use Rattle.key_index.specs.Immutable.{key_at}
 use Rattle.key_index.specs.Line.{◌>>=◌, number_of}
+use Rattle.key_index_flat.specs.Ordered as tree
+use Rattle.key_index_flat.specs.Unordered as hashed
+use Rattle.key_index_flat.specs.View.{View}
+use Rattle.key_index_parts.specs.Ordered as sorted_parts
 use Rattle.key_index_parts.specs.Ordered.{standings}
+use Rattle.key_index_parts.specs.Unordered as hashed_parts
 
 -- the threshold that a word writes, a number that is not 0
 abbrev pub threshold_of : List ℕ → Option ℕ
@@ -41,6 +47,18 @@ kind_of_session (any.Ordered _) = Ordered
 kind_of_session (any.PartitionedUnordered _) = PartitionedUnordered
 kind_of_session (any.PartitionedOrdered session) = PartitionedOrdered (standings session.index).threshold
 kind_of_session (any.Immutable _) = Immutable
+
+abbrev pub HasNothing : {K V : Type 0} → View K V → Type 0
+HasNothing s = (s.content ≡ []) × (s.pruned ≡ 0)
+
+-- its index is a new one: it holds nothing, nothing was ever removed, and positions begin at 0
+abbrev pub IsFresh : AnySession → Type 0
+IsFresh (any.Unordered session) = HasNothing (hashed.view session.index)
+IsFresh (any.Ordered session) = HasNothing (tree.view session.index)
+IsFresh (any.PartitionedUnordered session) = HasNothing (hashed_parts.view session.index)
+IsFresh (any.PartitionedOrdered session) = HasNothing (sorted_parts.view session.index)
+IsFresh (any.Immutable session) =
+    ((p : ℕ) → key_at session.index p ≡ None) × (session.index.start ≡ 0) × (session.index.pruned ≡ 0)
 
 -- 2 for wrong arguments, and 1 for all that goes wrong later
 abbrev pub status_of : ServeError → ℕ

@@ -10,6 +10,7 @@ ghost use Rattle.key_index_plain.specs.Laws.{IsLawful-content_of};
 mod entries;
 
 use entries::Entry;
+use key_index_flat::cursor_of;
 use key_index_flat::index::implement::{Lists, show_by_place};
 use key_index_flat::index::{
     Factory, Fault, IndexCursor, Ordered, Refused, Runs, Search, Unordered, Values,
@@ -118,11 +119,7 @@ impl<T: Translator, V: Drop> Search for Index<T, V> {
     }
 
     fn search(&mut self, key: &[u8]) -> Result<IndexCursor<'_, Index<T, V>>, Option<Fault>> {
-        match self.reach(key) {
-            Ok((_, 0)) => Err(None),
-            Ok((slot, len)) => Ok(IndexCursor::with_len(self, slot, len)),
-            Err(fault) => Err(Some(fault)),
-        }
+        cursor_of!(self, self.reach(key))
     }
 
     fn search_or_insert(
@@ -130,11 +127,7 @@ impl<T: Translator, V: Drop> Search for Index<T, V> {
         key: &[u8],
         value: V,
     ) -> Result<IndexCursor<'_, Index<T, V>>, Option<Refused<V>>> {
-        match self.reach_or_insert(key, value) {
-            Ok((_, 0)) => Err(None),
-            Ok((slot, len)) => Ok(IndexCursor::with_len(self, slot, len)),
-            Err(refused) => Err(Some(refused)),
-        }
+        cursor_of!(self, self.reach_or_insert(key, value))
     }
 }
 

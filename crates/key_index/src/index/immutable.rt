@@ -51,7 +51,7 @@ fn put_key<K: Copy>(keys: &mut VecDeque<K>, offset: usize, key: K)
     }
 }
 
-/// Takes the room that a cell needs, and leaves the keys as they are.
+/// Takes room for the keys of all positions up to an offset from the start, and leaves the keys as they are.
 #[inline]
 fn take_room<K: Copy>(keys: &mut VecDeque<K>, offset: usize) -> Result<(), Fault>
     requires { offset + 1 < 2 ^ 64 }
