@@ -168,6 +168,7 @@ impl Any {
         ensures inserted { any_view self.new ≡ after_inserts (inserts_first (kind_of self.old))
             (any_view self.old) keys.now ends.now values.now result.count }
         ensures whole { result.status ≡ OK → result.count ≡ length values.now }
+        ensures next { result.status ≢ OK → result.count < length values.now }
         ensures keyed { result.status ≢ BAD_ARGUMENT }
         ensures status { (result.status ≡ OK) ⊎ (result.status ≡ status_of (growth_fault_in (any_view self.new))) }
     {

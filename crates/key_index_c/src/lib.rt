@@ -150,6 +150,7 @@ pub extern "C" fn key_index_c_insert_many(
     ensures taken { result.status ≢ BAD_ARGUMENT → AreKeys keys.now ends.now (length values.now) }
     ensures unkeyed { result.status ≡ BAD_ARGUMENT → result.count ≡ 0 }
     ensures whole { result.status ≡ OK → result.count ≡ length values.now }
+    ensures next { result.status ≢ OK → result.status ≢ BAD_ARGUMENT → result.count < length values.now }
     ensures status { (result.status ≡ OK) ⊎ (result.status ≡ BAD_ARGUMENT)
         ⊎ (result.status ≡ status_of (growth_fault_in (view_in handle.new))) }
 {

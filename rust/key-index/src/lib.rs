@@ -2,9 +2,9 @@
 //!
 //! A store that keeps its records in a log inserts the position of each record under the record's key. The index keeps the first
 //! eight bytes of the key and the position. It returns the positions of the records that may match a key, and the store compares the
-//! full keys. Keys that agree in their first eight bytes share one list, the newest value first; a shorter key counts as if zeros
-//! stood behind it. A [`Seeded`] index keeps eight bytes of a hash of the whole key instead. An [`Immutable`] one has keys by position,
-//! which are inserted once and removed from the front.
+//! full keys. Keys that agree in their first eight bytes share one list, the newest value first (in [`OrderedByOne`] and
+//! [`OrderedByTwo`] last); a shorter key counts as if zeros stood behind it. A [`Seeded`] index keeps eight bytes of a hash of the whole
+//! key instead. An [`Immutable`] one has keys by position, which are inserted once and removed from the front.
 //!
 //! ```
 //! use key_index::{Index, Ordered};
@@ -106,7 +106,7 @@ use std::marker::PhantomData;
 use values::written;
 pub use values::Values;
 
-/// Why a call was refused. The index holds what it held.
+/// Why a call was refused. The index holds what it held, but for `insert_many`, which tells how many it has inserted.
 #[derive(Clone, Copy, Debug, PartialEq, Eq, Hash)]
 #[non_exhaustive]
 pub enum Error {
