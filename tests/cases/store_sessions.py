@@ -21,13 +21,13 @@ from cases.store import (
 from harness.session import Wrong
 from harness.xorshift import Numbers
 
-# What keys have in common that are alike in their first 32 bytes.
+# What keys have in common that are alike in all that an index keeps of them.
 FRONT = b"thirty-two bytes that are alike:"
 
 
 def random_key(number):
-    """One of 64 keys, of which eight each are alike in their first 32 bytes, or 33."""
-    return FRONT[:31] + bytes([number // 8 % 8, 0, number % 8])
+    """One of 64 keys, of which eight each are alike in their first 31 bytes, or 32."""
+    return FRONT[:30] + bytes([number // 8 % 8, 0, number % 8])
 
 
 @case_of_store(*KINDS)
@@ -75,8 +75,8 @@ def is_the_same_for_each_kind(file, _kind):
 @case_of_store(*IN_ORDER)
 def finds_neighbours(file, kind):
     """A thousand random calls, and after each hundredth all neighbours and both ends, those in a copy and in place,
-    behind calls there, and in the copy opened anew. Of 64 keys eight each are alike in their first 33 bytes."""
-    keys = [FRONT[:28] + b"\0\xff\0" + bytes([number // 8, 0xFF, number % 8]) for number in range(64)]
+    behind calls there, and in the copy opened anew. Of 64 keys eight each are alike in their first 32 bytes."""
+    keys = [FRONT[:27] + b"\0\xff\0" + bytes([number // 8, 0xFF, number % 8]) for number in range(64)]
     sessions = Sessions(file, kind)
     numbers = Numbers()
     for call in range(1000):

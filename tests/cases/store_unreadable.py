@@ -40,7 +40,7 @@ def slot(kind, key):
     that is another one for each key here."""
     if kind == "hashed":
         return key
-    length = 33 if kind.startswith("p") else 32
+    length = 32 if kind.startswith("p") else 31
     return key[:length].ljust(length, b"\0")
 
 
@@ -226,7 +226,7 @@ class Held:
 
 
 # Of nine keys which are alike: by two, three, four, or not at all.
-MIXED = [b"a" * 40, b"a" * 40, b"a" * 40, b"b", b"c" * 40, b"c" * 40, b"d" * 33, b"e" * 32, b"e" * 32]
+MIXED = [b"a" * 40, b"a" * 40, b"a" * 40, b"b", b"c" * 40, b"c" * 40, b"d" * 32, b"e" * 31, b"e" * 31]
 
 
 def keys_of(layout, count):
@@ -505,12 +505,14 @@ def tells_gaps_where_a_scan_comes_by(file, kind):
     unchanged(file, log)
 
 
-def reads_of(file, kind, lines, most):
-    """How many reads of the file a session makes, if not more than so many."""
+def reads_of(file, kind, lines, most, is_fresh=False):
+    """How many reads of the file a session makes, if not more than so many; over the file, or each time where there is none."""
     least, mark = 0, file.with_name("mark")
     while least < most:
         middle = (least + most) // 2
         mark.unlink(missing_ok=True)
+        if is_fresh:
+            file.unlink(missing_ok=True)
         run([file, kind], lines, FAIL="pread", FAIL_AT=middle + 1, FAIL_MARK=mark)
         least, most = (middle + 1, most) if mark.exists() else (least, middle)
     return least
@@ -518,16 +520,16 @@ def reads_of(file, kind, lines, most):
 
 @case_of_store(*KINDS)
 def reads_few_of_many_alike(file, kind):
-    """Of a thousand keys that are alike in forty bytes, set in another order: how many reads opening takes, and each call
-    behind it, at keys that are there and at others. Of the hashed kind a list has one key."""
-    keys = [FORTY + b"%03d" % (number * 389 % 1000) for number in range(1000)]
+    """Of eight hundred keys that are alike in forty bytes, too few to be filed behind these, set in another order: how many reads
+    opening takes, and each call behind it, at keys that are there and at others. Of the hashed kind a list has one key."""
+    keys = [FORTY + b"%03d" % (number * 389 % 800) for number in range(800)]
     log = copy_of(dict.fromkeys(keys, b"value"))
     file.write_bytes(log)
     opening = reads_of(file, kind, [], 1 << 15)
-    if not (9 * 900 if kind != "hashed" else 0) < opening <= 12_000:
+    if not (8 * 750 if kind != "hashed" else 0) < opening <= 9_600:
         raise Wrong(f"opening takes {opening} reads")
     mark = file.with_name("mark")
-    some = [FORTY + end for end in (b"", b"000", b"001", b"0010", b"249", b"250", b"499", b"500", b"7777", b"999", b"x")]
+    some = [FORTY + end for end in (b"", b"000", b"001", b"0010", b"199", b"200", b"399", b"400", b"7777", b"799", b"x")]
     for number, key in enumerate(some):
         above = min((other for other in keys if other > key), default=None)
         below = max((other for other in keys if other < key), default=None)

@@ -29,6 +29,7 @@ use Rattle.key_index_store.specs.Record.{Entry, Fits, Complete, bytes_of, encode
 use Rattle.key_index_store.specs.Stored.{Values, held_by, with_value}
 use Rattle.key_index_store.proofs.LatestLemmas.{All-both, apart_all, apart_out, apart_set, latest_last, latest_more}
 use Rattle.key_index_store.proofs.LogLemmas.{Spelled, entries_there, entry_there, held_more, live_more, nothing_held, read_last, spelled_more, spelled_none}
+use Rattle.key_index_store.proofs.SearchLemmas.{at_below, at_held, place_by}
 use Rattle.key_index_store.proofs.SortedLemmas.{All-insert, insert-put, key-place, length-insert, map-insert, map-remove, map-slice_set, remove-insert, remove-without, set-put, without}
 
 pub some_mapped : {A B : Type 0} (f : A → B) (o : Option A) → is_some o ≡ is_some (option_map f o)
@@ -37,10 +38,9 @@ some_mapped f (Some x) = refl
 
 -- the place of a key, by another view of the list's entries
 pub place_along : (e f : ℕ → List ℕ × List ℕ) (key l : List ℕ) (place : ℕ) (is_held : Bool) → map e l ≡ map f l → IsPlace e key l place is_held → IsPlace f key l place is_held
-place_along e f key l place is_held is at = record {
-  below = at.below ∙ ap (λ es. length (entries_below byte_cmp es key)) is;
-  held = at.held ∙ ap (λ es. is_some (find byte_cmp key es)) is;
-}
+place_along e f key l place is_held is at =
+    place_by f key l place is_held (at_below e key l place is_held at ∙ ap (λ es. length (entries_below byte_cmp es key)) is)
+    (at_held e key l place is_held at ∙ ap (λ es. is_some (find byte_cmp key es)) is)
 
 -- ---- maps
 
@@ -191,7 +191,7 @@ module _ {K : Type 0} {cmp : K → K → Ordering} (o : IsTotalOrder cmp) (exact
 
     key_there : (place : ℕ) → IsPlace (entry_at longer) r.key run place true → option_map (λ (e : List ℕ × List ℕ). e.0) (slice_get es place) ≡ Some r.key
     key_there place at =
-        ap (λ i. option_map (λ (e : List ℕ × List ℕ). e.0) (slice_get es i)) at.below ∙ key-place nat_list_cmp_total exact_bytes es r.key (sorted_in slot) (sym at.held)
+        ap (λ i. option_map (λ (e : List ℕ × List ℕ). e.0) (slice_get es i)) (at_below (entry_at longer) r.key run place true at) ∙ key-place nat_list_cmp_total exact_bytes es r.key (sorted_in slot) (sym (at_held (entry_at longer) r.key run place true at))
 
     held_key : is_some (value_in longer r.key run) ≡ is_some (get (held_by log) r.key)
     held_key = ap is_some (found_in r.key)
@@ -231,14 +231,14 @@ module _ {K : Type 0} {cmp : K → K → Ordering} (o : IsTotalOrder cmp) (exact
       settled_new : (place : ℕ) → IsPlace (entry_at longer) r.key run place false → t ≡ with_edit cmp s slot (λ l. insert l place last) → Indexes cmp longer t
       settled_new place at is =
           settled_put (insert run place last) (content-same_view is) (same_slot is) (All-insert (Under slot) run place last last_under (All-Under slot))
-          (All-insert (IsLatest longer) run place last last_latest (latest_all (sym at.held)))
-          (map-insert (entry_at longer) run place last ∙ (λ i. insert es (at.below i) (entry_at-last i)) ∙ insert-put nat_list_cmp_total exact_bytes es r.key (bytes_of r.value) (sorted_in slot) (sym at.held))
+          (All-insert (IsLatest longer) run place last last_latest (latest_all (sym (at_held (entry_at longer) r.key run place false at))))
+          (map-insert (entry_at longer) run place last ∙ (λ i. insert es (at_below (entry_at longer) r.key run place false at i) (entry_at-last i)) ∙ insert-put nat_list_cmp_total exact_bytes es r.key (bytes_of r.value) (sorted_in slot) (sym (at_held (entry_at longer) r.key run place false at)))
 
       settled_held : (place : ℕ) → IsPlace (entry_at longer) r.key run place true → t ≡ with_edit cmp s slot (λ l. slice_set l place last) → Indexes cmp longer t
       settled_held place at is =
           settled_put (slice_set run place last) (content-same_view is) (same_slot is) (All-set (Under slot) run place last last_under (All-Under slot))
           (apart_set (IsLatest longer) (entry_at longer) r.key run place last (sorted_in slot) (key_there place at) (latest_in slot) last_latest)
-          (map-slice_set (entry_at longer) run place last ∙ (λ i. slice_set es (at.below i) (entry_at-last i)) ∙ set-put nat_list_cmp_total exact_bytes es r.key (bytes_of r.value) (sorted_in slot) (sym at.held))
+          (map-slice_set (entry_at longer) run place last ∙ (λ i. slice_set es (at_below (entry_at longer) r.key run place true at i) (entry_at-last i)) ∙ set-put nat_list_cmp_total exact_bytes es r.key (bytes_of r.value) (sorted_in slot) (sym (at_held (entry_at longer) r.key run place true at)))
 
     module _ (has : false ≡ is_some r.value) where
       len_without : len (with_value (held_by log) r.key r.value) ≡ cond (is_some (value_in longer r.key run)) (len (held_by log) - 1) (len (held_by log))
@@ -253,14 +253,15 @@ module _ {K : Type 0} {cmp : K → K → Ordering} (o : IsTotalOrder cmp) (exact
       settled_out : (place : ℕ) → IsPlace (entry_at longer) r.key run place true → t ≡ with_pruned (with_edit cmp s slot (λ l. remove l place)) 1 → Indexes cmp longer t
       settled_out place at is =
           let l = remove run place in
+          let held = at_held (entry_at longer) r.key run place true at in
           let content : t.content ≡ with_list cmp s.content slot l = content-same_view is in
           let entries : map (entry_at longer) l ≡ without nat_list_cmp_total exact_bytes r.key es =
-          map-remove (entry_at longer) run place ∙ ap (remove es) at.below ∙ remove-without nat_list_cmp_total exact_bytes es r.key (sorted_in slot) (sym at.held) in
+          map-remove (entry_at longer) run place ∙ ap (remove es) (at_below (entry_at longer) r.key run place true at) ∙ remove-without nat_list_cmp_total exact_bytes es r.key (sorted_in slot) (sym held) in
           let counts = ap (λ c. item_count c + length run) content ∙ item_count-with_list o s.content slot l hs in
           let left = length_without byte_cmp nat_list_cmp_total r.key es (sorted_in slot) in
-          let one = ap {B = ℕ} (λ b. cond b 1 0) (sym at.held) in
+          let one = ap {B = ℕ} (λ b. cond b 1 0) (sym held) in
           let long = sym (length-map l (entry_at longer)) ∙ ap (λ m. length m) entries in
-          let less = len_without ∙ ap (λ b. cond b (len (held_by log) - 1) (len (held_by log))) (sym at.held) in
+          let less = len_without ∙ ap (λ b. cond b (len (held_by log) - 1) (len (held_by log))) (sym held) in
           Indexes-longer l content (same_slot is) (out_all (Under slot) run place (All-Under slot))
           (apart_out (IsLatest longer) (entry_at longer) r.key run place (sorted_in slot) (key_there place at) (latest_in slot))
           (subst (λ m. T (is_sorted byte_cmp m)) (sym entries) (is_sorted-where_key byte_cmp (λ x. not (same r.key x)) es (sorted_in slot)))
@@ -284,7 +285,7 @@ module _ {K : Type 0} {cmp : K → K → Ordering} (o : IsTotalOrder cmp) (exact
     Indexes-Settles true has place true at is = settled_held has place at is
     Indexes-Settles true has place false at is = settled_new has place at is
     Indexes-Settles false has place true at is = settled_out has place at is
-    Indexes-Settles false has place false at is = settled_none has (sym at.held) is
+    Indexes-Settles false has place false at is = settled_none has (sym (at_held (entry_at longer) r.key run place false at)) is
 
     -- where a key stands, by a log that is longer than this one
     pub place_in : (more : List ℕ) (place : ℕ) (is_held : Bool) → IsPlace (entry_at (log ++ more)) r.key run place is_held → IsPlace (entry_at longer) r.key run place is_held

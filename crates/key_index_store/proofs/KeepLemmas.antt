@@ -3,6 +3,7 @@
 --     undamaged_spelled                           what a salvage copies of it where there is no damage
 --     cut_keeps                                   after the tail was cut off
 --     HasRoom, at_end                             a record that is to stand behind the others: refused, written, or nothing to write
+--     read_keeps                                  after calls that only read
 --     same_front                                  it makes room behind the same records
 --     written_keeps, begun_keeps                  after a record was written behind the others, or a part of it
 use Rattle.std.proofs.Common.{◌≡◌, ◌≢◌, ◌⊎◌, ◌<◌, ℕ, ◌+◌, ◌-◌, ◌^◌, ◌==◌, ◌||◌, if◌then◌else◌, None, Some, Bool, true, false, cond, List, [], ◌∷◌, ◌++◌, length, take, drop, Option, is_some, Result, Ok, Err, inl, inr, refl, sym, ap, subst, ◌∙◌, length-append, length-take, length-drop, take-append-drop, arith}
@@ -18,7 +19,7 @@ use Rattle.key_index_flat.specs.Content.{IsLawful}
 use Rattle.key_index_flat.specs.FullKeys.{IsBytes}
 use Rattle.key_index_flat.specs.View.{View, growth_fault_in, items_in, run_of}
 use Rattle.key_index_flat.specs.declared.index.Fault.TheVariants as index_fault
-use Rattle.key_index_store.specs.Device.{Adds, IsBegun}
+use Rattle.key_index_store.specs.Device.{Adds, IsBegun, IsKnown, IsRead, Sees}
 use Rattle.key_index_store.specs.Indexed.{Indexes, IsPlace, IsTail, Keeps, KeepsLists, Settles, entry_at}
 use Rattle.key_index_store.specs.Record.{Entry, Fits, Outcome, Complete, Torn, Damaged, Stops, encoded, log_of, reading, size_of}
 use Rattle.key_index_store.specs.Stored.{HasChanged, HasRefused, HasRoom, IsBeforeOrAfter, MayRead, MayRefuse, after_record, end_of, held_by, is_zeros, records_of, refusal_of, tail_by, tail_in, tail_of, with_record, with_value, without_tail}
@@ -31,6 +32,16 @@ use Rattle.key_index_store.proofs.LogLemmas.{held_more, spelled_records}
 use Rattle.key_index_store.proofs.RecordLemmas.{begun_torn, length-encoded}
 use Rattle.key_index_store.proofs.SalvageLemmas.{every, none_behind, salvaged_split, spelled}
 use Rattle.key_index_store.proofs.StoreLemmas.{remove_absent}
+
+module _ {D : Type 0} {seen : D → Option (List ℕ)} {damaged : D → ℕ → Type 0} {may_leave : D → Option (List ℕ) → Type 0} {K : Type 0} (cmp : K → K → Ordering) (s : View K ℕ) (t : Tail) (is_synced : Bool) where
+  -- after calls that only read
+  pub read_keeps : (before after : D) (m n : ℕ) → IsRead seen damaged may_leave before after → n ≡ m
+      → Sees (seen before) (λ log. Keeps cmp log s m t) × (is_synced ≡ true → Sees (seen before) (λ log. IsKnown (may_leave before)))
+      → Sees (seen after) (λ log. Keeps cmp log s n t) × (is_synced ≡ true → Sees (seen after) (λ log. IsKnown (may_leave after)))
+  read_keeps before after m n read same kept = (
+    λ log now. subst (λ e. Keeps cmp log s e t) (sym same) (kept.0 log (read.stays log now)),
+    λ synced log now none. kept.1 synced log (read.stays log now) (read.crash None none),
+  )
 
 module _ {K : Type 0} (cmp : K → K → Ordering) (log : List ℕ) (s : View K ℕ) (end : ℕ) (t : Tail) (h : Keeps cmp log s end t) where
   front_end : length (log_of (records_of (take end log))) ≡ end

@@ -1,3 +1,4 @@
+pub mod BesideLemmas
 pub mod ChecksumLemmas
 pub mod CrashLemmas
 pub mod DamageLemmas

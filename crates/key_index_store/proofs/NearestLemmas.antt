@@ -5,9 +5,11 @@
 --     last_value, last_lower                  the last value of all, and the last one below a key
 --     place_in                                a place in a list, by what stands there if something does
 --     last_taken                              the last of some items, and of the first ones of a list
+--     KeepsOrdered                            what a store keeps of its log, by an index whose keys are in order
 --     entries_held                            the entries of all positions are those of the map
 --     above_told, below_told                  the nearest position above a key, and below it
 --     above_all, from_all                     all entries above a key, and from it on, of positions that begin no later than its place
+--     above_behind                            all entries above a key, of positions that begin behind its own
 --     live_from                               these positions are live
 --     first_told, last_told                   the first and the last of all
 use Rattle.std.proofs.Common.{◌≡◌, ◌≤◌, ◌<◌, ◌+◌, ◌-◌, ℕ, zero, suc, Bool, true, false, cond, List, [], ◌∷◌, ◌++◌, map, length, take, drop, T, All, Option, Some, None, is_some, unwrap_or, refl, sym, ap, subst, ◌∙◌, append_assoc, append-nil, length-append, slice_get, arith}
@@ -41,6 +43,7 @@ use Rattle.key_index_store.specs.Positions.{positions_before, positions_from}
 use Rattle.key_index_store.specs.Stored.{Values, entry_after, entry_before, held_by}
 use Rattle.key_index_store.specs.declared.store.Tail.{Tail}
 use Rattle.key_index_store.proofs.KeepLemmas.{kept_held}
+use Rattle.key_index_store.proofs.SearchLemmas.{at_below, at_held}
 
 abbrev pub Pair : Type 0
 Pair = List ℕ × List ℕ
@@ -155,6 +158,9 @@ module _ {K X : Type 0} {R : K → K → Ordering} (o : IsTotalOrder R) (k : K) 
   none_from es h =
       none_pass (λ e. is_le (R k e.0)) es
       (All-weaker (λ (e : K × X). R e.0 k ≡ Less) (λ e. is_le (R k e.0) ≡ false) (λ e q. ap is_le (o.antisymm k e.0 ∙ ap ordering_reverse q)) es h)
+
+  above_above : (es : List (K × X)) → above (above es) ≡ above es
+  above_above es = all_pass (λ e. is_lt (R k e.0)) (above es) (filter_passes (λ e. is_lt (R k e.0)) es)
 
   -- behind an entry that isn't below the key all are above it
   behind_less : (e : K × X) (es : List (K × X)) → R k e.0 ≡ Less → T (is_sorted R (e ∷ es)) → All (λ e. R k e.0 ≡ Less) es
@@ -404,7 +410,23 @@ module _ {V X : Type 0} (entry : V → List ℕ × X) where
 
 -- ---- an index
 
-module _ {K : Type 0} {cmp : K → K → Ordering} (o : IsTotalOrder cmp) (whole : List ℕ) (s : View K ℕ) (end : ℕ) (t : Tail) (lawful : IsLawful cmp s.content) (keeps : KeepsOrder cmp s.slot) (kept : Keeps cmp whole s end t) where
+-- what a store keeps of its log, by an index whose keys are in order
+pub record KeepsOrdered {K : Type 0} (cmp : K → K → Ordering) (log : List ℕ) (s : View K ℕ) (end : ℕ) (t : Tail) : Type 0 where
+  pub total : IsTotalOrder cmp
+  pub lawful : IsLawful cmp s.content
+  pub in_order : KeepsOrder cmp s.slot
+  pub kept : Keeps cmp log s end t
+
+module _ {K : Type 0} {cmp : K → K → Ordering} {whole : List ℕ} {s : View K ℕ} {end : ℕ} {t : Tail} (ordered : KeepsOrdered cmp whole s end t) where
+  abbrev o : IsTotalOrder cmp
+  o = ordered.total
+
+  abbrev lawful : IsLawful cmp s.content
+  lawful = ordered.lawful
+
+  abbrev keeps : KeepsOrder cmp s.slot
+  keeps = ordered.in_order
+
   abbrev log : List ℕ
   log = take end whole
 
@@ -412,7 +434,7 @@ module _ {K : Type 0} {cmp : K → K → Ordering} (o : IsTotalOrder cmp) (whole
   entry = entry_at log
 
   abbrev h : Indexes cmp log s
-  h = kept.indexed
+  h = ordered.kept.indexed
 
   abbrev m : Values
   m = held_by whole
@@ -455,7 +477,7 @@ module _ {K : Type 0} {cmp : K → K → Ordering} (o : IsTotalOrder cmp) (whole
       ∙ ap entries (same_map nat_list_cmp_total exact_bytes (from_sorted (map entry all)) m (λ q.
       get-from_sorted byte_cmp (map entry all) q sorted
       ∙ own_list entry o s.slot q s.content lawful.0 (λ k. All-weaker (Under k) (Filed entry o s.slot keeps k) (λ p u. (u.1, u.2)) (run_at cmp s k) (h.live k))
-      ∙ h.found q ∙ ap (λ x. get x q) (sym (kept_held cmp whole s end t kept))))
+      ∙ h.found q ∙ ap (λ x. get x q) (sym (kept_held cmp whole s end t ordered.kept))))
 
   live_in : (p : K × List ℕ → Bool) → All (IsLive log) (values_of (filter p s.content))
   live_in p =
@@ -515,6 +537,11 @@ module _ {K : Type 0} {cmp : K → K → Ordering} (o : IsTotalOrder cmp) (whole
         sym entries_held ∙ ap (map entry) (values_split o k s.content lawful.0)
         ∙ map-append entry lower (run ++ upper) ∙ ap (λ l. map entry lower ++ l) (map-append entry run upper)
 
+    above_held : entries_above byte_cmp (entries m) a ≡ entries_above byte_cmp (map entry run) a ++ map entry upper
+    above_held =
+        ap (λ es. entries_above byte_cmp es a) entries_split
+        ∙ above_between nat_list_cmp_total a (map entry lower) (map entry run) (map entry upper) lower_less upper_more
+
     pub live_from : (place : ℕ) → All (IsLive log) (positions_from cmp s k place)
     live_from place = All-append (IsLive log) (drop place run) upper (All-drop (IsLive log) place run (live_at k)) (live_in (λ (e : K × List ℕ). is_lt (cmp k e.0)))
 
@@ -528,22 +555,29 @@ module _ {K : Type 0} {cmp : K → K → Ordering} (o : IsTotalOrder cmp) (whole
     entries-positions_before place = map-append entry lower (take place run) ∙ ap (λ l. map entry lower ++ l) (sym (take-map entry place run))
 
     module _ (place : ℕ) (is_held : Bool) (at : IsPlace entry a run place is_held) where
-      pub above_told : IsTold log (first_entry (positions_from cmp s k (place + cond is_held 1 0))) (entry_after m a)
-      above_told =
-          let behind = place + cond is_held 1 0 in (
-            first_has (IsLive log) (positions_from cmp s k behind) (live_from behind),
-            first_entry-map entry (positions_from cmp s k behind)
-                ∙ ap first_entry (entries-positions_from behind
-                ∙ ap (λ l. l ++ map entry upper) (drop_behind nat_list_cmp_total a (map entry run) (h.sorted k) place at.below is_held at.held)
-                ∙ sym (ap (λ es. entries_above byte_cmp es a) entries_split ∙ above_between nat_list_cmp_total a (map entry lower) (map entry run) (map entry upper) lower_less upper_more)),
-          )
+      abbrev behind_own : List ℕ
+      behind_own = positions_from cmp s k (place + cond is_held 1 0)
+
+      entries-behind_own : map entry behind_own ≡ entries_above byte_cmp (entries m) a
+      entries-behind_own =
+          entries-positions_from (place + cond is_held 1 0)
+          ∙ ap (λ l. l ++ map entry upper) (drop_behind nat_list_cmp_total a (map entry run) (h.sorted k) place (at_below entry a run place is_held at) is_held (at_held entry a run place is_held at)) ∙ sym above_held
+
+      pub above_told : IsTold log (first_entry behind_own) (entry_after m a)
+      above_told = (
+        first_has (IsLive log) behind_own (live_from (place + cond is_held 1 0)),
+        first_entry-map entry behind_own ∙ ap first_entry entries-behind_own,
+      )
+
+      pub above_behind : entries_above byte_cmp (map entry behind_own) a ≡ entries_above byte_cmp (entries m) a
+      above_behind = ap (λ es. entries_above byte_cmp es a) entries-behind_own ∙ above_above nat_list_cmp_total a (entries m)
 
       pub below_told : IsTold log (last_entry (positions_before cmp s k place)) (entry_before m a)
       below_told = (
         last_has (IsLive log) None (positions_before cmp s k place) tt (live_before place),
         sym (last_or-map entry None (positions_before cmp s k place))
             ∙ ap last_entry (entries-positions_before place
-            ∙ ap (λ l. map entry lower ++ l) (take_place nat_list_cmp_total a (map entry run) (h.sorted k) place at.below)
+            ∙ ap (λ l. map entry lower ++ l) (take_place nat_list_cmp_total a (map entry run) (h.sorted k) place (at_below entry a run place is_held at))
             ∙ sym (ap (λ es. entries_below byte_cmp es a) entries_split ∙ below_between nat_list_cmp_total a (map entry lower) (map entry run) (map entry upper) lower_less upper_more)),
       )
 
@@ -553,8 +587,7 @@ module _ {K : Type 0} {cmp : K → K → Ordering} (o : IsTotalOrder cmp) (whole
       above_all =
           ap (λ es. entries_above byte_cmp es a) (entries-positions_from place)
           ∙ above_between nat_list_cmp_total a [] (drop place (map entry run)) (map entry upper) (All-nil (λ (e : Pair). byte_cmp e.0 a ≡ Less)) upper_more
-          ∙ ap (λ l. l ++ map entry upper) (above_drop nat_list_cmp_total a (map entry run) (h.sorted k) place low)
-          ∙ sym (ap (λ es. entries_above byte_cmp es a) entries_split ∙ above_between nat_list_cmp_total a (map entry lower) (map entry run) (map entry upper) lower_less upper_more)
+          ∙ ap (λ l. l ++ map entry upper) (above_drop nat_list_cmp_total a (map entry run) (h.sorted k) place low) ∙ sym above_held
 
       pub from_all : entries_from byte_cmp (map entry (positions_from cmp s k place)) a ≡ entries_from byte_cmp (entries m) a
       from_all =

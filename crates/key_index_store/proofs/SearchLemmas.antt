@@ -1,153 +1,161 @@
--- On the search of a key in a list of positions, some of whose records are damaged.
---     damaged_keeps, damaged_join, damaged_one  of the places of a list: what was noted stays;  those to a place and from it on;  a single one
---     Searched      what a search knows: before the first step (searched_none), after each one, and at the end
---     found_in      the place of a key that was looked up
---     side_told, side_none    on which side a record's key is, where it reads;  where it doesn't, the record is damaged
-use Rattle.std.proofs.Common.{◌≡◌, ◌==◌, ◌⊎◌, ℕ, ◌+◌, ◌≤◌, ◌<◌, Bool, true, false, not, T, List, length, map, Option, Some, None, is_some, slice_get, inl, inr, refl, sym, ap, subst, ◌∙◌, arith}
-use Rattle.std.proofs.lemmas.Bool.{cases_lt, eqb-false, eqb-true, false≢true, not-false, not-true}
-use Rattle.std.proofs.lemmas.List.{length-map}
-use Rattle.std.proofs.lemmas.Option.{slice_get-map, slice_get_within}
-use Rattle.std.specs.FinMap.{is_sorted}
+-- On the place of a key in a list of positions, as the look-up of the library tells it, by the entries there.
+--     same_place, same_hidden   by other keys that are the same on the list
+--     in_order                  the keys of a list whose entries are sorted
+--     at_below, at_held         how many entries are below the key, and whether one is the key's; place_by from these
+--     at_most-held              where the key is there, one more entry is at most it than is below it
+--     read_keys                 the keys that were read of live records are the entries' own
+--     side_told, side_none      on which side a record's key is, where it reads;  where it doesn't, the record is damaged
+--     found_in                  the place of a key that was looked up
+use Rattle.std.proofs.Common.{◌≡◌, ◌⊎◌, ℕ, ◌+◌, ◌≤◌, Bool, true, false, cond, T, List, [], ◌∷◌, length, map, All, Option, Some, None, is_some, slice_get, inl, inr, refl, sym, ap, subst, ◌∙◌, arith}
+use Rattle.std.proofs.lemmas.List.Elements.{All-cons, All-head, All-nil, All-tail}
+use Rattle.std.proofs.lemmas.List.Kept.{AllPairs-cons}
+use Rattle.std.proofs.lemmas.Cmp.{eq_by_cmp_equiv}
+use Rattle.std.proofs.lemmas.Map.Text.{is_eq-slice_cmp}
+use Rattle.std.proofs.lemmas.Option.{slice_get_within}
+use Rattle.std.specs.Cmp.Lexicographic.{nat_list_cmp_total}
+use Rattle.std.specs.FinMap.{find, is_sorted}
+use Rattle.std.specs.FinMap.Entries.{below_all}
 use Rattle.std.specs.Option.{IfSome, option_map, unwrap_or}
+use Rattle.std.specs.Ordering.{is_eq, is_le, is_lt}
+use Rattle.std.specs.Str.{bytes_eq}
 use Rattle.std.specs.declared.cmp.Ordering.{Ordering}
-use Rattle.std.specs.declared.cmp.Ordering.TheVariants.{Less, Equal, Greater}
-use Rattle.key_index_flat.specs.FullKeys.{byte_cmp}
+use Rattle.std.specs.declared.cmp.Ordering.TheVariants.{Less}
+use Rattle.key_index_flat.specs.FullKeys.{below, byte_cmp, first_with}
+use Rattle.key_index_flat.specs.Neighbours.{entries_below}
+use Rattle.key_index_flat.specs.Places.{IsInOrder, at_most}
+use Rattle.key_index_flat.specs.Places as places
+use Rattle.key_index_flat.specs.laws.Laws.{T-and_first, T-and_second}
+use Rattle.key_index_flat.proofs.content.ContentLemmas.{Less-is_lt}
 use Rattle.key_index_flat.proofs.entries.EntryLemmas.{some_injective, some_not_none}
-use Rattle.key_index_store.specs.Device.{KeepsDamage}
-use Rattle.key_index_store.specs.Indexed.{AreDamaged, IsHiddenIn, IsIn, IsPlace}
+use Rattle.key_index_flat.proofs.neighbours.PlaceLemmas.{count_with}
+use Rattle.key_index_store.specs.Indexed.{IsIn, IsLive, IsPlace, key_at, key_read}
 use Rattle.key_index_store.specs.Record.{key_in}
 use Rattle.key_index_store.specs.declared.store.find.Front.{Front}
-use Rattle.key_index_store.proofs.SortedLemmas.{IsBetween, between_all, between_none, between-Greater, between-Less, place-Equal}
+use Rattle.key_index_store.proofs.ReadLemmas.{key_in-live}
 
--- ---- damaged records of a list
+-- ---- keys that are the same on a list
 
-pub damaged_keeps : (before after : ℕ → Type 0) (ps : List ℕ) (from to : ℕ) → KeepsDamage before after → AreDamaged before ps from to → AreDamaged after ps from to
-damaged_keeps before after ps from to keeps were i p above below at = keeps p (were i p above below at)
+module _ (f g : ℕ → List ℕ) (key : List ℕ) where
+  same_below : (ps : List ℕ) → map f ps ≡ map g ps → below f key ps ≡ below g key ps
+  same_below [] e = refl
+  same_below (p ∷ ps) e =
+      let head : f p ≡ g p = cc in
+      let rest = same_below ps (cc) in
+      λ i. cond (is_lt (byte_cmp (head i) key)) (p ∷ rest i) (rest i)
 
-module _ (damaged : ℕ → Type 0) (ps : List ℕ) where
-  pub damaged_join : (from middle to : ℕ) → AreDamaged damaged ps from middle → AreDamaged damaged ps middle to → AreDamaged damaged ps from to
-  damaged_join from middle to front back i p above below at = elim (cases_lt i middle) [
-    | inl less ↦ front i p above less at
-    | inr le ↦ back i p le below at
-  ]
+  same_at_most : (ps : List ℕ) → map f ps ≡ map g ps → at_most f key ps ≡ at_most g key ps
+  same_at_most [] e = refl
+  same_at_most (p ∷ ps) e =
+      let head : f p ≡ g p = cc in
+      let rest = same_at_most ps (cc) in
+      λ i. cond (is_le (byte_cmp (head i) key)) (p ∷ rest i) (rest i)
 
-  pub damaged_one : (place position : ℕ) → slice_get ps place ≡ Some position → damaged position → AreDamaged damaged ps place (place + 1)
-  damaged_one place position stands is i p above below at =
-      let same : i ≡ place = omega (arith, above, below) in
-      subst damaged (some_injective position p (sym stands ∙ ap (slice_get ps) (sym same) ∙ at)) is
+  same_first : (ps : List ℕ) → map f ps ≡ map g ps → first_with f key ps ≡ first_with g key ps
+  same_first [] e = refl
+  same_first (p ∷ ps) e =
+      let head : f p ≡ g p = cc in
+      let rest = same_first ps (cc) in
+      λ i. cond (bytes_eq (head i) key) (Some p) (rest i)
 
--- ---- how a key compares with that of a record that was read
-
-module _ (damaged : ℕ → Type 0) (p : ℕ) (v x key k : List ℕ) (read : (key_in p v ≡ key_in p x) ⊎ (damaged p × (key_in p v ≡ None))) (own : key_in p x ≡ Some k) where
-  module _ (o : Option Ordering) (is : o ≡ option_map (λ l. byte_cmp l key) (key_in p v)) where
-    pub side_told : (side : Ordering) → o ≡ Some side → side ≡ byte_cmp k key
-    side_told side some = elim read [
-      | inl same ↦ ap (λ r. unwrap_or r Less) (sym some ∙ is ∙ ap (option_map (λ l. byte_cmp l key)) (same ∙ own))
-      | inr other ↦ absurd (some_not_none side (sym some ∙ is ∙ ap (option_map (λ l. byte_cmp l key)) other.1))
-    ]
-
-    pub side_none : o ≡ None → damaged p
-    side_none none = elim read [
-      | inl same ↦ absurd (some_not_none (byte_cmp k key) (sym (sym none ∙ is ∙ ap (option_map (λ l. byte_cmp l key)) (same ∙ own))))
-      | inr other ↦ other.0
-    ]
-
--- ---- what a search knows
-
--- the place of the key is not in front of low, nor behind `behind`, and from high to there the records are damaged
-pub record Searched (damaged : ℕ → Type 0) (es : List (List ℕ × List ℕ)) (key ps : List ℕ) (low high : ℕ) (is_hidden : Bool) : Type 0 where
-  pub behind : ℕ
-  pub above : high ≤ behind
-  pub within : behind ≤ length ps
-  pub unread : AreDamaged damaged ps high behind
-  pub between : IsBetween es key low behind
-  pub hidden : is_hidden ≡ true → high < behind
-  pub exact : is_hidden ≡ false → behind ≡ high
-
-pub searched_keeps : (before after : ℕ → Type 0) (es : List (List ℕ × List ℕ)) (key ps : List ℕ) (low high : ℕ) (is_hidden : Bool) → KeepsDamage before after
-    → Searched before es key ps low high is_hidden → Searched after es key ps low high is_hidden
-searched_keeps before after es key ps low high is_hidden keeps s = record {
-  behind = s.behind;
-  above = s.above;
-  within = s.within;
-  unread = damaged_keeps before after ps high s.behind keeps s.unread;
-  between = s.between;
-  hidden = s.hidden;
-  exact = s.exact;
-}
-
-module _ (damaged : ℕ → Type 0) (key ps : List ℕ) (entry : ℕ → List ℕ × List ℕ) (sorted : T (is_sorted byte_cmp (map entry ps))) where
-  abbrev es : List (List ℕ × List ℕ)
-  es = map entry ps
-
-  pub searched_none : Searched damaged es key ps 0 (length ps) false
-  searched_none = record {
-    behind = length ps;
-    above = omega arith;
-    within = omega arith;
-    unread = λ i p above below at. absurd (omega (arith, above, below));
-    between = subst (IsBetween es key 0) (length-map ps entry) (between_all es key sorted);
-    hidden = λ e. absurd (false≢true e);
-    exact = λ e. refl;
-  }
-
-  module _ (low high : ℕ) (is_hidden : Bool) (s : Searched damaged es key ps low high is_hidden) where
-    module _ (place p : ℕ) (stands : slice_get ps place ≡ Some p) where
-      at : slice_get es place ≡ Some (entry p)
-      at = slice_get-map entry ps place ∙ ap (option_map entry) stands
-
-      pub searched-Less : byte_cmp (entry p).0 key ≡ Less → Searched damaged es key ps (place + 1) high is_hidden
-      searched-Less less = record {
-        behind = s.behind;
-        above = s.above;
-        within = s.within;
-        unread = s.unread;
-        between = between-Less es key sorted place (entry p) at low s.behind s.between less;
-        hidden = s.hidden;
-        exact = s.exact;
-      }
-
-      pub searched-Greater : (middle : ℕ) → middle ≤ place → place < high → AreDamaged damaged ps middle place → byte_cmp (entry p).0 key ≡ Greater
-          → Searched damaged es key ps low middle (not (place == middle))
-      searched-Greater middle above below unread over = record {
-        behind = place;
-        above = above;
-        within = omega (arith, below, s.above, s.within);
-        unread = unread;
-        between = between-Greater es key sorted place (entry p) at low s.behind s.between over;
-        hidden = λ e. (let other : ¬ (place ≡ middle) = eqb-false place middle (not-true _ e) in omega (arith, other, above));
-        exact = λ e. eqb-true place middle (not-false _ e);
-      }
-
-      pub searched-Equal : byte_cmp (entry p).0 key ≡ Equal → IsPlace entry key ps place true
-      searched-Equal tied = let own = place-Equal es key sorted place (entry p) at tied in record { below = own.0; held = own.1 }
-
-    pub searched_past : (middle : ℕ) → middle < high → AreDamaged damaged ps middle high → Searched damaged es key ps low middle true
-    searched_past middle below unread = record {
-      behind = s.behind;
-      above = omega (arith, below, s.above);
-      within = s.within;
-      unread = damaged_join damaged ps middle high s.behind unread s.unread;
-      between = s.between;
-      hidden = λ e. omega (arith, below, s.above);
-      exact = λ e. absurd (false≢true (sym e));
+  module _ (ps : List ℕ) (same : map f ps ≡ map g ps) (place : ℕ) where
+    pub same_place : (is_held : Bool) → places.IsPlace f key ps place is_held → places.IsPlace g key ps place is_held
+    same_place is_held at = record {
+      below = at.below ∙ ap (λ l. length l) (same_below ps same);
+      held = at.held ∙ ap is_some (same_first ps same);
     }
 
-    module _ (end : high ≡ low) where
-      pub searched_all : is_hidden ≡ false → IsPlace entry key ps low false
-      searched_all seen =
-          let none = between_none es key sorted low (subst (IsBetween es key low) (s.exact seen ∙ end) s.between) in
-          record { below = none.0; held = none.1 }
+    pub same_hidden : (before after : ℕ → Type 0) → ((i p : ℕ) → slice_get ps i ≡ Some p → before p → after p) → places.IsHiddenIn f before key ps place → places.IsHiddenIn g after key ps place
+    same_hidden before after keeps hides = record {
+      behind = hides.behind;
+      some = hides.some;
+      within = hides.within;
+      unread = λ i p above below at. keeps i p at (hides.unread i p above below at);
+      low = subst (λ n. place ≤ n) (ap (λ l. length l) (same_below ps same)) hides.low;
+      high = subst (λ n. n ≤ hides.behind) (ap (λ l. length l) (same_at_most ps same)) hides.high;
+    }
 
-      pub searched_hidden : is_hidden ≡ true → IsHiddenIn damaged entry key ps low
-      searched_hidden hidden = record {
-        behind = s.behind;
-        some = omega (arith, s.hidden hidden, end);
-        within = s.within;
-        unread = subst (λ from. AreDamaged damaged ps from s.behind) end s.unread;
-        low = s.between.after;
-        high = s.between.before;
-      }
+-- ---- the entries of a list
+
+module _ (entry : ℕ → List ℕ × List ℕ) where
+  abbrev own : ℕ → List ℕ
+  own p = (entry p).0
+
+  module _ (f : ℕ → List ℕ) where
+    all_above : (x y : List ℕ) → x ≡ y → (ps : List ℕ) → map f ps ≡ map own ps → T (below_all byte_cmp y (map entry ps)) → All (λ q. byte_cmp x (f q) ≡ Less) ps
+    all_above x y is [] e above = All-nil (λ q. byte_cmp x (f q) ≡ Less)
+    all_above x y is (p ∷ ps) e above =
+        let head : f p ≡ own p = cc in
+        All-cons (λ q. byte_cmp x (f q) ≡ Less) p ps ((λ i. byte_cmp (is i) (head i)) ∙ Less-is_lt _ (T-and_first _ _ above)) (all_above x y is ps (cc) (T-and_second _ _ above))
+
+    pub in_order : (ps : List ℕ) → map f ps ≡ map own ps → T (is_sorted byte_cmp (map entry ps)) → IsInOrder f ps
+    in_order [] e sorted = λ i j d less within. absurd (omega (arith, within))
+    in_order (p ∷ ps) e sorted =
+        let head : f p ≡ own p = cc in
+        AllPairs-cons (λ v w. byte_cmp (f v) (f w) ≡ Less) p ps (all_above (f p) (own p) head ps (cc) (T-and_first _ _ sorted)) (in_order ps (cc) (T-and_second _ _ sorted))
+
+  module _ (key : List ℕ) where
+    below-entries : (ps : List ℕ) → length (below own key ps) ≡ length (entries_below byte_cmp (map entry ps) key)
+    below-entries [] = refl
+    below-entries (p ∷ ps) =
+        let rest = below-entries ps in
+        elim (is_lt (byte_cmp (own p) key)) as (λ b. length (cond b (p ∷ below own key ps) (below own key ps))
+        ≡ length (cond b (entry p ∷ entries_below byte_cmp (map entry ps) key) (entries_below byte_cmp (map entry ps) key))) [ true ↦ omega (arith, rest) | false ↦ rest ]
+
+    found-entries : (ps : List ℕ) → is_some (first_with own key ps) ≡ is_some (find byte_cmp key (map entry ps))
+    found-entries [] = refl
+    found-entries (p ∷ ps) =
+        let rest = found-entries ps in
+        let ties : bytes_eq (own p) key ≡ is_eq (byte_cmp key (own p)) = sym (is_eq-slice_cmp (own p) key) ∙ (eq_by_cmp_equiv nat_list_cmp_total).symm (own p) key in
+        (λ i. is_some (cond (ties i) (Some p) (first_with own key ps)))
+        ∙ elim (is_eq (byte_cmp key (own p))) as (λ b. is_some (cond b (Some p) (first_with own key ps)) ≡ is_some (cond b (Some (entry p).1) (find byte_cmp key (map entry ps)))) [ true ↦ refl | false ↦ rest ]
+
+    module _ (ps : List ℕ) where
+      -- one more entry is at most the key than is below it, where it is there
+      pub at_most-held : is_some (find byte_cmp key (map entry ps)) ≡ true → length (entries_below byte_cmp (map entry ps) key) + 1 ≤ length (at_most own key ps)
+      at_most-held held =
+          let counted : length (below own key ps) + 1 ≤ length (at_most own key ps) =
+          subst (λ (b : Bool). length (below own key ps) + cond b 1 0 ≤ length (at_most own key ps)) (found-entries ps ∙ held) (count_with own key ps) in
+          omega (arith, counted, below-entries ps)
+
+      pub low_below : (place : ℕ) → place ≤ length (below own key ps) → place ≤ length (entries_below byte_cmp (map entry ps) key)
+      low_below place low = omega (arith, low, below-entries ps)
+
+      module _ (place : ℕ) (is_held : Bool) where
+        pub place_by : place ≡ length (entries_below byte_cmp (map entry ps) key) → is_held ≡ is_some (find byte_cmp key (map entry ps)) → IsPlace entry key ps place is_held
+        place_by under held = record { below = under ∙ sym (below-entries ps); held = held ∙ sym (found-entries ps) }
+
+        pub at_below : IsPlace entry key ps place is_held → place ≡ length (entries_below byte_cmp (map entry ps) key)
+        at_below at = at.below ∙ below-entries ps
+
+        pub at_held : IsPlace entry key ps place is_held → is_held ≡ is_some (find byte_cmp key (map entry ps))
+        at_held at = at.held ∙ found-entries ps
+
+-- ---- keys that are read
+
+pub read_keys : (log ps : List ℕ) → All (IsLive log) ps → map (key_read log) ps ≡ map (key_at log) ps
+read_keys log [] live = refl
+read_keys log (p ∷ ps) live =
+    let own = ap (λ o. unwrap_or o []) (key_in-live log p (All-head (IsLive log) p ps live)) in
+    let rest = read_keys log ps (All-tail (IsLive log) p ps live) in
+    λ i. own i ∷ rest i
+
+-- how a key compares with that of a record that was read
+module _ (damaged : ℕ → Type 0) (p : ℕ) (v x key : List ℕ) (read : (key_in p v ≡ key_in p x) ⊎ (damaged p × (key_in p v ≡ None))) (o : Option Ordering) (is : o ≡ option_map (λ l. byte_cmp l key) (key_in p v)) where
+  pub side_told : (side : Ordering) → o ≡ Some side → side ≡ byte_cmp (unwrap_or (key_in p x) []) key
+  side_told side some = elim read [
+    | inl same ↦ of (key_in p v) (sym some ∙ is) ∙ ap (λ k. byte_cmp (unwrap_or k []) key) same
+    | inr other ↦ absurd (some_not_none side (sym some ∙ is ∙ ap (option_map (λ l. byte_cmp l key)) other.1))
+  ]
+    where
+      of : (k : Option (List ℕ)) → Some side ≡ option_map (λ l. byte_cmp l key) k → side ≡ byte_cmp (unwrap_or k []) key
+      of None e = absurd (some_not_none side e)
+      of (Some k) e = some_injective side (byte_cmp k key) e
+
+  pub side_none : (k : List ℕ) → key_in p x ≡ Some k → o ≡ None → damaged p
+  side_none k own none = elim read [
+    | inl same ↦ absurd (some_not_none (byte_cmp k key) (sym (sym none ∙ is ∙ ap (option_map (λ l. byte_cmp l key)) (same ∙ own))))
+    | inr other ↦ other.0
+  ]
 
 -- ---- a key that was looked up
 

@@ -6,15 +6,12 @@
 --     place_before                      in front of each entry with a greater key
 --     insert-put, set-put, remove-without   an entry put in there, set there, or taken out
 --     map-insert, map-remove            the same of what the entries are read of
---     IsBetween                         what a search knows of the place: before the first step, after each one, and at the end
 --     All-insert, length-insert         a list with one item more
 --     remove-insert                     what went in goes out again
-use Rattle.std.proofs.Common.{◌≡◌, ℕ, zero, suc, ◌+◌, ◌<◌, ◌≤◌, true, false, cond, not, Bool, T, List, [], ◌∷◌, length, map, take, drop, Some, None, is_some, slice_get, slice_set, All, refl, sym, ap, subst, ◌∙◌, length-append, length-take, length-drop, arith}
+use Rattle.std.proofs.Common.{◌≡◌, ℕ, zero, suc, ◌+◌, ◌≤◌, true, false, cond, not, T, List, [], ◌∷◌, length, map, take, drop, Some, None, is_some, slice_get, slice_set, All, refl, sym, ap, subst, ◌∙◌, length-append, length-take, length-drop, arith}
 use Rattle.std.proofs.lemmas.Bool.{false≢true}
 use Rattle.std.proofs.lemmas.List.Elements.{All-append, All-cons, All-drop, All-take}
-use Rattle.std.proofs.lemmas.Map.Lookups.{exact_bytes}
 use Rattle.std.specs.Cmp.{IsTotalOrder, tied_itself}
-use Rattle.std.specs.Cmp.Lexicographic.{nat_list_cmp_total}
 use Rattle.std.specs.FinMap.{find, is_sorted, put}
 use Rattle.std.specs.FinMap.Entries.{below_all, by_order, where_key}
 use Rattle.std.specs.Option.{option_map}
@@ -22,10 +19,8 @@ use Rattle.std.specs.Ordering.{eq_by_cmp, is_eq, is_lt, ordering_reverse}
 use Rattle.std.specs.Prelude.{insert, remove}
 use Rattle.std.specs.declared.cmp.Ordering.{Ordering}
 use Rattle.std.specs.declared.cmp.Ordering.TheVariants.{Less, Equal, Greater}
-use Rattle.key_index_flat.specs.FullKeys.{byte_cmp}
 use Rattle.key_index_flat.specs.Neighbours.{entries_below}
 use Rattle.key_index_flat.specs.laws.Laws.{T-and_first, T-and_second}
-use Rattle.key_index_store.specs.Indexed.{count_to}
 use Rattle.key_index_flat.proofs.content.ContentLemmas.{Less-is_lt}
 use Rattle.key_index_flat.proofs.entries.EntryLemmas.{some_injective, some_not_none}
 
@@ -106,37 +101,6 @@ module _ {K X : Type 0} {R : K → K → Ordering} (o : IsTotalOrder R) (exact :
   entry_above k (x ∷ xs) zero e h at = ap (λ (y : K × X). R k y.0) (sym (some_injective x e at)) ∙ Less-is_lt _ (T-and_first _ _ h)
   entry_above k (x ∷ xs) (suc i) e h at = entry_above k xs i e (T-and_second _ _ h) at
 
-  pub place_within : (es : List (K × X)) (k : K) → place_of es k ≤ length es
-  place_within [] k = omega arith
-  place_within (x ∷ xs) k =
-      let rest = place_within xs k in
-      elim (is_lt (R x.0 k)) as (λ b. length (cond b (x ∷ entries_below R xs k) (entries_below R xs k)) ≤ length (x ∷ xs)) [
-        | true ↦ omega (arith, rest)
-        | false ↦ omega (arith, rest)
-      ]
-
-  pub place_above : (es : List (K × X)) (k : K) (i : ℕ) (e : K × X) → T (is_sorted R es) → slice_get es i ≡ Some e → R e.0 k ≡ Less → i < place_of es k
-  place_above [] k i e h at less = absurd (some_not_none e (sym at))
-  place_above (x ∷ xs) k zero e h at less =
-      let first = ap (λ l. length l) (first_counts k x xs (ap (λ (y : K × X). R y.0 k) (some_injective x e at) ∙ less)) in
-      omega (arith, first)
-  place_above (x ∷ xs) k (suc i) e h at less =
-      let rest : i < place_of xs k = place_above xs k i e (T-and_second _ _ h) at less in
-      let first = ap (λ l. length l) (first_counts k x xs (o.trans x.0 e.0 k (entry_above x.0 xs i e (T-and_first _ _ h) at) less)) in
-      omega (arith, first, rest)
-
-  pub place_at_most : (es : List (K × X)) (k : K) (i : ℕ) (e : K × X) → T (is_sorted R es) → slice_get es i ≡ Some e → is_lt (R e.0 k) ≡ false → place_of es k ≤ i
-  place_at_most [] k i e h at n = absurd (some_not_none e (sym at))
-  place_at_most (x ∷ xs) k zero e h at n =
-      let none = ap (λ l. length l) (first_place k x xs h (ap (λ (y : K × X). is_lt (R y.0 k)) (some_injective x e at) ∙ n)) in
-      omega (arith, none)
-  place_at_most (x ∷ xs) k (suc i) e h at n =
-      let rest : place_of xs k ≤ i = place_at_most xs k i e (T-and_second _ _ h) at n in
-      elim (is_lt (R x.0 k)) as (λ b. length (cond b (x ∷ entries_below R xs k) (entries_below R xs k)) ≤ suc i) [
-        | true ↦ omega (arith, rest)
-        | false ↦ omega (arith, rest)
-      ]
-
   pub place_own : (es : List (K × X)) (i : ℕ) (e : K × X) → T (is_sorted R es) → slice_get es i ≡ Some e → (i ≡ place_of es e.0) × (find R e.0 es ≡ Some e.1)
   place_own [] i e h at = absurd (some_not_none e (sym at))
   place_own (x ∷ xs) zero e h at =
@@ -163,31 +127,6 @@ module _ {K X : Type 0} {R : K → K → Ordering} (o : IsTotalOrder R) (exact :
         | Greater ↦ λ p g.
             ap (λ l. option_map (λ (e : K × X). e.0) (slice_get (x ∷ xs) (length l))) (first_counts k x xs (turned o k x.0 Greater p))
             ∙ key-place xs k (T-and_second _ _ h) g
-      ] refl f
-
-  key_within : (es : List (K × X)) (k : K) (i : ℕ) → option_map (λ (e : K × X). e.0) (slice_get es i) ≡ Some k → i < length es
-  key_within [] k i at = absurd (some_not_none k (sym at))
-  key_within (x ∷ xs) k zero at = omega arith
-  key_within (x ∷ xs) k (suc i) at = let rest = key_within xs k i at in omega (arith, rest)
-
-  pub place_below : (es : List (K × X)) (k : K) → T (is_sorted R es) → is_some (find R k es) ≡ true → place_of es k < length es
-  place_below es k h f = key_within es k (place_of es k) (key-place es k h f)
-
-  pub place_before : (es : List (K × X)) (k : K) (i : ℕ) (e : K × X) → T (is_sorted R es) → slice_get es i ≡ Some e → R e.0 k ≡ Greater → is_some (find R k es) ≡ true → place_of es k < i
-  place_before [] k i e h at over f = absurd (some_not_none e (sym at))
-  place_before (x ∷ xs) k zero e h at over f =
-      absurd (not_held k x xs h (turned o x.0 k Greater first) (sym (ap (λ r. is_some (cond (is_eq r) (Some x.1) (find R k xs))) (turned o x.0 k Greater first)) ∙ f))
-    where
-      first : R x.0 k ≡ Greater
-      first = ap (λ (y : K × X). R y.0 k) (some_injective x e at) ∙ over
-  place_before (x ∷ xs) k (suc i) e h at over f =
-      elim (R k x.0) as (λ r. R k x.0 ≡ r → is_some (cond (is_eq r) (Some x.1) (find R k xs)) ≡ true → place_of (x ∷ xs) k < suc i) [
-        | Less ↦ λ p g. absurd (not_held k x xs h p g)
-        | Equal ↦ λ p g. (let none = ap (λ l. length l) (first_place k x xs h (ap is_lt (turned o k x.0 Equal p))) in omega (arith, none))
-        | Greater ↦ λ p g. (
-            let rest : place_of xs k < i = place_before xs k i e (T-and_second _ _ h) at over g in
-            let one = ap (λ l. length l) (first_counts k x xs (turned o k x.0 Greater p)) in
-            omega (arith, rest, one))
       ] refl f
 
   -- ---- an edit at the place of a key
@@ -236,52 +175,3 @@ module _ {K X : Type 0} {R : K → K → Ordering} (o : IsTotalOrder R) (exact :
         | Greater ↦ λ p g.
             ap (λ l. remove (x ∷ xs) (length l)) (first_counts k x xs (turned o k x.0 Greater p)) ∙ ap (λ l. x ∷ l) (remove-without xs k (T-and_second _ _ h) g)
       ] refl f
-
--- ---- a search among entries in the order of their keys, which are bytes
-
--- no fewer keys than low are below the key, and no more than high are at most it
-pub record IsBetween (es : List (List ℕ × List ℕ)) (key : List ℕ) (low high : ℕ) : Type 0 where
-  pub after : low ≤ length (entries_below byte_cmp es key)
-  pub before : count_to key es ≤ high
-
-count_to_of : (b : Bool) (n high : ℕ) → n ≤ high → (b ≡ true → n < high) → n + (cond b 1 0) ≤ high
-count_to_of true n high le less = omega (arith, less refl)
-count_to_of false n high le less = omega (arith, le)
-
-module _ (es : List (List ℕ × List ℕ)) (key : List ℕ) (h : T (is_sorted byte_cmp es)) where
-  count_to_within : (high : ℕ) → length (entries_below byte_cmp es key) ≤ high → (is_some (find byte_cmp key es) ≡ true → length (entries_below byte_cmp es key) < high) → count_to key es ≤ high
-  count_to_within high = count_to_of (is_some (find byte_cmp key es)) (length (entries_below byte_cmp es key)) high
-
-  pub between_all : IsBetween es key 0 (length es)
-  between_all = record {
-    after = omega arith;
-    before = count_to_within (length es) (place_within nat_list_cmp_total exact_bytes es key) (place_below nat_list_cmp_total exact_bytes es key h);
-  }
-
-  module _ (i : ℕ) (e : List ℕ × List ℕ) (at : slice_get es i ≡ Some e) where
-    module _ (low high : ℕ) (b : IsBetween es key low high) where
-      pub between-Less : byte_cmp e.0 key ≡ Less → IsBetween es key (i + 1) high
-      between-Less less = let more = place_above nat_list_cmp_total exact_bytes es key i e h at less in record {
-        after = omega (arith, more);
-        before = b.before;
-      }
-
-      pub between-Greater : byte_cmp e.0 key ≡ Greater → IsBetween es key low i
-      between-Greater over = record {
-        after = b.after;
-        before = count_to_within i (place_at_most nat_list_cmp_total exact_bytes es key i e h at (ap is_lt over)) (place_before nat_list_cmp_total exact_bytes es key i e h at over);
-      }
-
-    pub place-Equal : byte_cmp e.0 key ≡ Equal → (i ≡ length (entries_below byte_cmp es key)) × (true ≡ is_some (find byte_cmp key es))
-    place-Equal tied =
-        let own = place_own nat_list_cmp_total exact_bytes es i e h at in
-        let is = exact_bytes e.0 key tied in
-        (own.0 ∙ ap (λ k. length (entries_below byte_cmp es k)) is, sym (ap is_some own.1) ∙ ap (λ k. is_some (find byte_cmp k es)) is)
-
-  pub between_none : (low : ℕ) → IsBetween es key low low → (low ≡ length (entries_below byte_cmp es key)) × (false ≡ is_some (find byte_cmp key es))
-  between_none low b = of (is_some (find byte_cmp key es)) refl b.before
-    where
-      of : (t : Bool) → is_some (find byte_cmp key es) ≡ t → length (entries_below byte_cmp es key) + cond t 1 0 ≤ low
-          → (low ≡ length (entries_below byte_cmp es key)) × (false ≡ is_some (find byte_cmp key es))
-      of true e le = absurd (omega (arith, le, b.after))
-      of false e le = (omega (arith, le, b.after), sym e)

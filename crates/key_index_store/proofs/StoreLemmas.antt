@@ -30,6 +30,7 @@ use Rattle.key_index_store.specs.declared.store.find.Front.{Front}
 use Rattle.std.proofs.lemmas.Map.Lookups.{exact_bytes}
 use Rattle.key_index_flat.proofs.entries.EntryLemmas.{same, some_injective}
 use Rattle.key_index_store.proofs.LogLemmas.{count_le}
+use Rattle.key_index_store.proofs.SearchLemmas.{at_below, at_held}
 use Rattle.key_index_store.proofs.SortedLemmas.{key-place, place_own}
 
 module _ {K : Type 0} (cmp : K → K → Ordering) where
@@ -42,7 +43,7 @@ module _ {K : Type 0} (cmp : K → K → Ordering) where
 
   -- by the place of a key, whether it has a value
   pub place-get : (log : List ℕ) (s : View K ℕ) (key : List ℕ) (place : ℕ) (is_held : Bool) → Indexes cmp log s → IsPlace (entry_at log) key (run_of cmp s key) place is_held → is_held ≡ is_some (get (held_by log) key)
-  place-get log s key place is_held h at = at.held ∙ ap is_some (h.found key)
+  place-get log s key place is_held h at = at_held (entry_at log) key (run_of cmp s key) place is_held at ∙ ap is_some (h.found key)
 
   -- and which one
   pub value-get : (log : List ℕ) (s : View K ℕ) (key : List ℕ) (place : ℕ) (is_held : Bool) → Indexes cmp log s → IsPlace (entry_at log) key (run_of cmp s key) place is_held → is_held ≡ true
@@ -54,8 +55,8 @@ module _ {K : Type 0} (cmp : K → K → Ordering) where
       let there : slice_get es place ≡ Some e = slice_get-map (entry_at log) (run_of cmp s key) place ∙ ap (option_map (entry_at log)) stands in
       let own = place_own nat_list_cmp_total exact_bytes es place e sorted there in
       let is : e.0 ≡ key =
-      some_injective e.0 key (sym (ap (option_map (λ (x : List ℕ × List ℕ). x.0)) there) ∙ ap (λ n. option_map (λ (x : List ℕ × List ℕ). x.0) (slice_get es n)) at.below
-      ∙ key-place nat_list_cmp_total exact_bytes es key sorted (sym at.held ∙ held)) in
+      some_injective e.0 key (sym (ap (option_map (λ (x : List ℕ × List ℕ). x.0)) there) ∙ ap (λ n. option_map (λ (x : List ℕ × List ℕ). x.0) (slice_get es n)) (at_below (entry_at log) key (run_of cmp s key) place is_held at)
+      ∙ key-place nat_list_cmp_total exact_bytes es key sorted (sym (at_held (entry_at log) key (run_of cmp s key) place is_held at) ∙ held)) in
       sym own.1 ∙ ap (λ k. find byte_cmp k es) is ∙ h.found key
 
 -- ---- a key that has no value
@@ -135,12 +136,12 @@ module _ (log ps : List ℕ) (p : ℕ) (sorted : T (is_sorted byte_cmp (map (ent
   found-listed : (place : ℕ) (front : Option Front) → IsPlace (entry_at log) (key_at log p) ps place (is_some front) → IfSome front (λ f. slice_get ps place ≡ Some f.position) → is_at front p ≡ is_listed p ps
   found-listed place None at stands = both_ways false (is_listed p ps) (λ e. absurd (false≢true e)) (λ t.
       let there = listed-stands ps p t in
-      absurd (false≢true (at.held ∙ ap is_some (own there.0 there.1).1)))
+      absurd (false≢true (at_held (entry_at log) (key_at log p) ps place false at ∙ ap is_some (own there.0 there.1).1)))
   found-listed place (Some f) at stands = both_ways (f.position == p) (is_listed p ps)
       (λ t. stands-listed ps p place (stands ∙ ap (λ q. Some q) (eqb-true f.position p t)))
       (λ t.
       let there = listed-stands ps p t in
-      let same : there.0 ≡ place = (own there.0 there.1).0 ∙ sym at.below in
+      let same : there.0 ≡ place = (own there.0 there.1).0 ∙ sym (at_below (entry_at log) (key_at log p) ps place true at) in
       eq-eqb f.position p (some_injective f.position p (sym stands ∙ ap (slice_get ps) (sym same) ∙ there.1)))
 
 pub is_at-listed : (log ps key : List ℕ) (p : ℕ) → IsRun log ps → key_at log p ≡ key → (place : ℕ) (front : Option Front) → IsPlace (entry_at log) key ps place (is_some front)

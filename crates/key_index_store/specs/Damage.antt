@@ -5,8 +5,9 @@
 --     MayMiss        why a look-up of a key may be refused
 --     MayMissAt      why a read of an entry may be
 --     beyond         the entries above a key, or from it on
---     Passes         entries, but for as many at their front as damaged records were passed
-use Rattle.std.specs.Prelude.{◌≡◌, ◌⊎◌, ◌≤◌, ℕ, Bool, if◌then◌else◌, List, ◌++◌, length, Option, Some}
+--     Passes         of entries that were looked through, those beyond a key are those of the records that were passed, and what is left of
+--                    them, the first of which is given
+use Rattle.std.specs.Prelude.{◌≡◌, ◌⊎◌, ℕ, Bool, if◌then◌else◌, List, ◌++◌, map, Option, Some}
 use Rattle.key_index_flat.specs.FullKeys.{byte_cmp}
 use Rattle.key_index_flat.specs.Neighbours.{entries_above, first_entry}
 use Rattle.key_index_flat.specs.Walk.{entries_from}
@@ -39,6 +40,7 @@ module _ (damaged : ℕ → Type 0) where
 abbrev pub beyond : Bool → List ℕ → List (List ℕ × List ℕ) → List (List ℕ × List ℕ)
 beyond is_above key es = if is_above then entries_above byte_cmp es key else entries_from byte_cmp es key
 
-abbrev pub Passes : List (List ℕ × List ℕ) → Passed → Type 0
-Passes es p = (hidden rest : List (List ℕ × List ℕ)) × (es ≡ hidden ++ rest)
-    × (length hidden ≤ length p.passed.items) × (in_bytes p.entry ≡ first_entry rest)
+abbrev pub Passes : (ℕ → List ℕ × List ℕ) → Bool → List ℕ → List (List ℕ × List ℕ) → Passed → Type 0
+Passes entry is_above key es p = (rest : List (List ℕ × List ℕ))
+    × (beyond is_above key es ≡ beyond is_above key (map (λ u. entry u.place) p.passed.items) ++ rest)
+    × (in_bytes p.entry ≡ first_entry rest)

@@ -5,10 +5,9 @@
 --     value_in              the value of the first record in a list of positions that has a key
 --     IsPlace, IsIn         the place of a key in a list, by the entries of its positions;  it is there, or may be put in there
 --     IsRun                 a list of live positions in the order of their keys
+--     key_read, HasKeys     the key of the record at a position, where it reads;  the keys that these give of a log's first bytes
 --     IsFront, is_at        bytes that were given of the front of the record at a position;  at this one
---     AreDamaged            of the records at a list's positions, from one place to another, other bytes were given than they have
 --     IsHiddenIn            the place of a key in a list isn't known: damaged records stand where it stands or would stand
---     IsFirstIn             the first record of a list whose key reads, from one place to another, and on which side of a key it is
 --     HasRuns               so is each list of an index, where not all records are kept, and no record is damaged
 --     Indexes               the log is complete records, and the index has the position of each key's newest one that has a value, once,
 --                           under the index key of the key, where the positions stand in the order of their keys
@@ -17,18 +16,17 @@
 --     Keeps                 what a store keeps of its log: where the complete records end, what stands behind them, and the index of them
 --     Settles               after the position of a key's newest record was filed: in the place of the older one, or as a new one
 --     KeepsLists            no list is another
-use Rattle.std.specs.Prelude.{◌≡◌, ◌==◌, ◌≤◌, ◌<◌, ◌+◌, if◌then◌else◌, T, ℕ, Bool, true, false, List, [], ◌∷◌, ◌++◌, map, length, drop, take, insert, remove, slice_get, slice_set, Option, Some, None, is_some, All}
+use Rattle.std.specs.Prelude.{◌≡◌, ◌==◌, ◌≤◌, ◌<◌, T, ℕ, Bool, true, false, List, [], ◌∷◌, ◌++◌, map, length, drop, take, insert, remove, slice_set, Option, Some, None, is_some, unwrap_or, All}
 use Rattle.std.specs.FinMap.{find, get, is_sorted, len}
 use Rattle.std.specs.declared.cmp.Ordering.{Ordering}
 use Rattle.key_index_flat.specs.FullKeys.{IsBytes, byte_cmp}
-use Rattle.key_index_flat.specs.Neighbours.{entries_below}
+use Rattle.key_index_flat.specs.Places as places
 use Rattle.key_index_flat.specs.View.{View, items_in, run_at, run_of, with_edit, with_pruned}
 use Rattle.key_index_store.specs.Salvage.{has_key}
-use Rattle.key_index_store.specs.Record.{Entry, Fits, Outcome, Complete, Torn, Damaged, Stops, bytes_of, log_of, reading}
+use Rattle.key_index_store.specs.Record.{Entry, Fits, Outcome, Complete, Torn, Damaged, Stops, bytes_of, key_in, log_of, reading}
 use Rattle.key_index_store.specs.Stored.{held_by, records_of, tail_of}
 use Rattle.key_index_store.specs.Device.{Gives, IsUndamaged}
 use Rattle.key_index_store.specs.declared.store.find.Front.{Front}
-use Rattle.key_index_store.specs.declared.store.find.Readable.{Readable}
 use Rattle.key_index_store.specs.declared.store.Tail.{Tail}
 use Rattle.key_index_store.specs.declared.store.Tail.TheVariants as tail
 
@@ -37,10 +35,11 @@ parts_of (Complete r) = (r.key, bytes_of r.value)
 parts_of Torn = ([], [])
 parts_of Damaged = ([], [])
 
--- by the entries of a list's positions: how many keys are below one, and whether the next one is that
-pub record IsPlace (entry : ℕ → List ℕ × List ℕ) (key ps : List ℕ) (place : ℕ) (is_held : Bool) : Type 0 where
-  pub below : place ≡ length (entries_below byte_cmp (map entry ps) key)
-  pub held : is_held ≡ is_some (find byte_cmp key (map entry ps))
+abbrev pub IsPlace : (ℕ → List ℕ × List ℕ) → List ℕ → List ℕ → ℕ → Bool → Type 0
+IsPlace entry key ps place is_held = places.IsPlace (λ p. (entry p).0) key ps place is_held
+
+abbrev pub IsHiddenIn : (ℕ → Type 0) → (ℕ → List ℕ × List ℕ) → List ℕ → List ℕ → ℕ → Type 0
+IsHiddenIn damaged entry key ps place = places.IsHiddenIn (λ p. (entry p).0) damaged key ps place
 
 abbrev pub IsIn : List ℕ → ℕ → Bool → Type 0
 IsIn ps place true = place < length ps
@@ -52,6 +51,9 @@ module _ (log : List ℕ) where
 
   abbrev pub key_at : ℕ → List ℕ
   key_at p = (entry_at p).0
+
+  abbrev pub key_read : ℕ → List ℕ
+  key_read p = unwrap_or (key_in p (drop p log)) []
 
   abbrev pub IsLive : ℕ → Type 0
   IsLive p = reading p (drop p log) ≡ Complete (record { key = (entry_at p).0; value = Some ((entry_at p).1) })
@@ -80,26 +82,8 @@ module _ (log : List ℕ) where
     pub valued : is_some here.value ≡ true
     pub last : has_key here.key after ≡ false
 
-abbrev pub AreDamaged : (ℕ → Type 0) → List ℕ → ℕ → ℕ → Type 0
-AreDamaged damaged ps from to = (i p : ℕ) → from ≤ i → i < to → slice_get ps i ≡ Some p → damaged p
-
--- how many keys of some entries are at most a key
-abbrev pub count_to : List ℕ → List (List ℕ × List ℕ) → ℕ
-count_to key es = length (entries_below byte_cmp es key) + (if is_some (find byte_cmp key es) then 1 else 0)
-
--- by the entries of a list's positions: those from the place on, up to another one, are damaged, and the key stands there, or would
-pub record IsHiddenIn (damaged : ℕ → Type 0) (entry : ℕ → List ℕ × List ℕ) (key ps : List ℕ) (place : ℕ) : Type 0 where
-  pub behind : ℕ
-  pub some : place < behind
-  pub within : behind ≤ length ps
-  pub unread : AreDamaged damaged ps place behind
-  pub low : place ≤ length (entries_below byte_cmp (map entry ps) key)
-  pub high : count_to key (map entry ps) ≤ behind
-
-abbrev pub IsFirstIn : (ℕ → Type 0) → (ℕ → List ℕ) → List ℕ → List ℕ → ℕ → ℕ → Option Readable → Type 0
-IsFirstIn damaged key_at key ps from to None = AreDamaged damaged ps from to
-IsFirstIn damaged key_at key ps from to (Some r) =
-    AreDamaged damaged ps from r.place × (r.side ≡ byte_cmp (key_at r.front.position) key)
+abbrev pub HasKeys : Option (List ℕ) → ℕ → (ℕ → List ℕ) → Type 0
+HasKeys seen end keys = (log : List ℕ) × (seen ≡ Some log) × (end ≤ length log) × (keys ≡ key_read (take end log))
 
 abbrev pub is_at : Option Front → ℕ → Bool
 is_at None place = false

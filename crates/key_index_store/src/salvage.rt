@@ -1,5 +1,5 @@
 //! The records of a log, or those that leave its map, copied to a fresh one, behind damage too.
-ghost use Rattle.std.specs.Prelude.{◌≡◌, ◌⊎◌, ◌<◌, ◌≤◌, ◌+◌, ◌-◌, ℕ, List, [], ◌++◌, length, map, min, take, drop, IfOk, IfErr, OnErr, OnOk};
+ghost use Rattle.std.specs.Prelude.{◌≡◌, ◌⊎◌, ◌<◌, ◌≤◌, ◌+◌, ◌-◌, ℕ, List, [], ◌++◌, length, map, min, take, drop, false, IfOk, IfErr, OnErr, OnOk};
 ghost use Rattle.key_index_store.specs.Device.{Changes, IsBegun, IsRead, Sees};
 ghost use Rattle.key_index_store.specs.Indexed.{HasRuns, is_at, key_at};
 ghost use Rattle.key_index_store.specs.Record.{Fits, encoded_from, entry_of, key_in, log_of, size_of};
@@ -9,7 +9,8 @@ ghost use Rattle.key_index_store.specs.Stored.{MayRead};
 use crate::device::Device;
 use crate::record::{Reading, Record, decode, encode, has_head, key_in, record_length};
 use crate::store::Fault;
-use crate::store::find::{BLOCK, Front, find, length_of, read_front};
+use crate::store::find::{BLOCK, Front, length_of, read_front};
+use crate::store::log::Log;
 use key_index_flat::index::{Unordered, Values};
 use std::alloc::{AllocError, Global};
 
@@ -103,20 +104,20 @@ fn leave_out(
 const FEW: usize = 64;
 
 /// Whether the record of a key at a place of a log is copied: each one is, or those whose positions an index has. In a long list the key
-/// is looked up by a few reads, in the first `len` bytes: to go along it for each record would take the square of its length.
+/// is looked up by a few reads: to go along it for each record would take the square of its length.
 fn is_kept<D: Device, I: Unordered<Value = u64>>(
-    alloc: Global,
-    from: &mut D,
-    len: u64,
+    from: &mut Log<D>,
     index: &I,
     is_all: bool,
     place: u64,
     key: &[u8],
 ) -> Result<bool, Fault>
-    ensures told { Sees (D.seen from.new) (λ log. len ≤ length log
-        → HasRuns I.Key.cmp (I.view index.now) (D.damaged from.new) is_all (take len log) → key_at (take len log) place ≡ key.now
+    ensures told { (len : ℕ) → (is_all ≡ false → len ≡ from.old.end) → Sees (D.seen from.new.device) (λ log. len ≤ length log
+        → HasRuns I.Key.cmp (I.view index.now) (D.damaged from.new.device) is_all (take len log)
+        → key_at (take len log) place ≡ key.now
         → IfOk result (λ t. t ≡ keeps I.Key.cmp (I.view index.now) is_all place key.now)) }
-    ensures read { IsRead D.seen D.damaged D.may_leave from.old from.new }
+    ensures read { IsRead D.seen D.damaged D.may_leave from.old.device from.new.device }
+    ensures end { from.new.end ≡ from.old.end }
     ensures fault { IfErr result MayRead }
 {
     if is_all {
@@ -126,8 +127,8 @@ fn is_kept<D: Device, I: Unordered<Value = u64>>(
     if positions.len() <= FEW {
         return Ok(is_listed(positions, place));
     }
-    let found = find(alloc, from, index, key, len)?;
-    Ok(is_at(&found.front, place))
+    let found = from.find(index, key)?;
+    Ok(is_at(&found.read, place))
 }
 
 /// Whether a list has a position.
@@ -184,41 +185,43 @@ fn write<C: Device>(
 /// that reads it goes on behind the whole record, and looks byte by byte only where none does. So what a value holds is not taken for a
 /// record while its own record's head reads. Where not all are kept, each list of the index is a run.
 pub(crate) fn copy<D: Device, C: Device, I: Unordered<Value = u64>>(
-    alloc: Global,
-    from: &mut D,
+    from: &mut Log<D>,
     into: &mut C,
     len: u64,
     index: &I,
     is_all: bool,
 ) -> Result<Salvaged, Fault>
-    ensures copied { OnOk result (Sees (D.seen from.new) (λ log. len ≤ length log
-        → HasRuns I.Key.cmp (I.view index.now) (D.damaged from.new) is_all (take len log)
+    requires { is_all ≡ false → len ≡ from.old.end }
+    ensures copied { OnOk result (Sees (D.seen from.new.device) (λ log. len ≤ length log
+        → HasRuns I.Key.cmp (I.view index.now) (D.damaged from.new.device) is_all (take len log)
         → Changes (C.seen into.old) (C.seen into.new) (λ old new.
         (old ≡ []) × (new ≡ log_of (copied (keeps I.Key.cmp (I.view index.now) is_all) (take len log)))))) }
-    ensures records { IfOk result (λ s. Sees (D.seen from.new) (λ log. len ≤ length log
-        → HasRuns I.Key.cmp (I.view index.now) (D.damaged from.new) is_all (take len log)
+    ensures records { IfOk result (λ s. Sees (D.seen from.new.device) (λ log. len ≤ length log
+        → HasRuns I.Key.cmp (I.view index.now) (D.damaged from.new.device) is_all (take len log)
         → s.records ≡ length (copied (keeps I.Key.cmp (I.view index.now) is_all) (take len log)))) }
-    ensures left_out { IfOk result (λ s. Sees (D.seen from.new) (λ log. len ≤ length log
-        → HasRuns I.Key.cmp (I.view index.now) (D.damaged from.new) is_all (take len log)
+    ensures left_out { IfOk result (λ s. Sees (D.seen from.new.device) (λ log. len ≤ length log
+        → HasRuns I.Key.cmp (I.view index.now) (D.damaged from.new.device) is_all (take len log)
         → Sees (C.seen into.new) (λ bytes. s.left_out ≡ len - length bytes))) }
-    ensures gaps { IfOk result (λ s. Sees (D.seen from.new) (λ log. len ≤ length log
-        → HasRuns I.Key.cmp (I.view index.now) (D.damaged from.new) is_all (take len log)
+    ensures gaps { IfOk result (λ s. Sees (D.seen from.new.device) (λ log. len ≤ length log
+        → HasRuns I.Key.cmp (I.view index.now) (D.damaged from.new.device) is_all (take len log)
         → map gap_of s.gaps.items ≡ gaps_in (take len log))) }
     // Where it fails, it has appended a front of that, and nothing to a log that had bytes.
-    ensures begun { Sees (D.seen from.new) (λ log. len ≤ length log
-        → HasRuns I.Key.cmp (I.view index.now) (D.damaged from.new) is_all (take len log)
+    ensures begun { Sees (D.seen from.new.device) (λ log. len ≤ length log
+        → HasRuns I.Key.cmp (I.view index.now) (D.damaged from.new.device) is_all (take len log)
         → Changes (C.seen into.old) (C.seen into.new) (λ old new.
         (n : ℕ) × (new ≡ old ++ take n (log_of (copied (keeps I.Key.cmp (I.view index.now) is_all) (take len log)))))) }
     ensures stays { Changes (C.seen into.old) (C.seen into.new) (λ old new. 0 < length old → new ≡ old) }
-    ensures read { IsRead D.seen D.damaged D.may_leave from.old from.new }
+    ensures read { IsRead D.seen D.damaged D.may_leave from.old.device from.new.device }
+    ensures end { from.new.end ≡ from.old.end }
     ensures fault { IfErr result (MaySalvage (C.seen into.new)) }
 {
     if length_of(into)? != 0 {
         return Err(Fault::NotEmpty);
     }
+    let alloc = from.alloc;
     let (mut start, mut position, mut end, mut records) = (0, 0, 0, 0);
     let (mut since, mut gaps) = (0, Vec::new(alloc));
-    let mut block = read_front(alloc, from, start, len, true, BLOCK)?;
+    let mut block = read_front(alloc, &mut from.device, start, len, true, BLOCK)?;
     // Each round goes on by a record or a byte, or reads a block at a place where none was read yet: so the time is linear, and each
     // byte is read a few times at most, but where keys are looked up in long lists. Behind a head that tells of more bytes than there
     // are, nothing is looked for.
@@ -228,7 +231,7 @@ pub(crate) fn copy<D: Device, C: Device, I: Unordered<Value = u64>>(
         match decode(rest, position) {
             Reading::Complete(record) => {
                 note(&mut gaps, since, position)?;
-                let is_kept = is_kept(alloc, from, len, index, is_all, position, record.key)?;
+                let is_kept = is_kept(from, index, is_all, position, record.key)?;
                 let written = write(alloc, into, end, is_kept, record)?;
                 records += written.0;
                 end = end.saturating_add(written.1);
@@ -243,7 +246,7 @@ pub(crate) fn copy<D: Device, C: Device, I: Unordered<Value = u64>>(
                 position = next;
             }
             Reading::Torn => {
-                block = read_front(alloc, from, position, len, true, BLOCK)?;
+                block = read_front(alloc, &mut from.device, position, len, true, BLOCK)?;
                 start = position;
             }
         }

@@ -8,21 +8,24 @@ ghost use Rattle.key_index_store.specs.Device.{Adds, AddsAtMost, Changes, IsBegu
 ghost use Rattle.key_index_store.specs.Indexed.{IsIn, Keeps, KeepsLists, Settles};
 ghost use Rattle.key_index_store.specs.Record.{Entry, Fits, encoded, log_of, size_of};
 ghost use Rattle.key_index_store.specs.Salvage.{HaveHeads, MaySalvage, found_at, gap_of, gaps_in, newest, places_of, salvaged};
-ghost use Rattle.key_index_store.specs.Stored.{HasChanged, HasRefused, HasRoom, LeavesSame, IsRefused, LeavesBeforeOrAfter, MayOpen, MayRefuse, refusal_of, end_of, held_by, records_of, tail_in, with_record, without_tail};
+ghost use Rattle.key_index_store.specs.Stored.{HasChanged, HasRefused, HasRoom, LeavesSame, IsRefused, LeavesBeforeOrAfter, MayOpen, MayRead, MayRefuse, refusal_of, end_of, held_by, records_of, tail_in, with_record, without_tail};
 
 pub(crate) mod find;
-mod log;
+pub(crate) mod log;
 mod neighbours;
 mod replay;
+mod sample;
 
 use crate::device::Device;
 use crate::record::encode;
 use crate::salvage::{Salvaged, copy};
-use find::{InList, find, find_place, known, length_of, read_value};
+use crate::translator::BehindFront;
+use find::{InList, known, length_of, read_value};
 use key_index_flat::index::{self, Refused, Unordered};
 use log::Log;
 pub use neighbours::{Gap, Passed, Unreadable};
 use replay::replay;
+pub use sample::refit;
 use std::alloc::{AllocError, Global};
 use std::marker::Model;
 
@@ -259,7 +262,7 @@ impl<D: Drop> From<NotOpened<D>> for Fault {
 impl<D: Device, I: Unordered<Value = u64>> Store<D, I> {
     /// A store on a log, over an empty index. It reads the log block by block, as far as whole records stand, and behind them to tell
     /// what stands there. Of records that share an index key it reads the heads and keys again. No byte of the log is changed.
-    pub fn open(alloc: Global, mut device: D, mut index: I) -> Result<Store<D, I>, NotOpened<D>>
+    pub fn open(alloc: Global, device: D, mut index: I) -> Result<Store<D, I>, NotOpened<D>>
     where
         D: Drop,
         I: Drop,
@@ -268,15 +271,61 @@ impl<D: Device, I: Unordered<Value = u64>> Store<D, I> {
         ensures refused { IfErr result (λ e. IsRead D.seen D.damaged D.may_leave device e.device) }
         ensures fault { IfErr result (λ e. Sees (D.seen e.device) (λ log. MayOpen (D.damaged e.device) e.fault)) }
     {
-        match replay(alloc, &mut device, &mut index) {
-            Ok((end, tail)) => Ok(Store {
-                log: Log { alloc, device, end },
-                index,
-                tail,
-                is_synced: false,
+        let mut log = Log {
+            alloc,
+            device,
+            end: 0,
+        };
+        match replay(&mut log, &mut index) {
+            Ok((end, tail)) => {
+                log.end = end;
+                Ok(Store {
+                    log,
+                    index,
+                    tail,
+                    is_synced: false,
+                })
+            }
+            Err(fault) => Err(NotOpened {
+                fault,
+                device: log.device,
             }),
-            Err(fault) => Err(NotOpened { fault, device }),
         }
+    }
+
+    /// Files all records anew in an empty index, as one of another translator. It reads the log as `open` does, and no byte of it is
+    /// changed. Where it is refused, the store goes on over the index that it has.
+    pub fn reindex(&mut self, mut index: I) -> Result<(), Fault>
+    where
+        I: Drop,
+        requires { (I.view index).content ≡ [] }
+        ensures read { IsRead D.seen D.damaged D.may_leave self.old self.new }
+        ensures fault { IfErr result (λ f. Sees (D.seen self.new) (λ log. MayOpen (D.damaged self.new) f)) }
+    {
+        let known = self.log.end;
+        let replayed = replay(&mut self.log, &mut index);
+        self.log.end = known;
+        let (end, tail) = replayed?;
+        if end != known {
+            // Another file was put beneath the store.
+            return Err(Fault::Damaged);
+        }
+        self.index = index;
+        self.tail = tail;
+        Ok(())
+    }
+
+    /// A translator that tells the store's keys apart better than another one, if a few of them show one, as `refit` does of a log. An
+    /// index by that one is filed by `reindex`.
+    pub fn refit(
+        &mut self,
+        translator: BehindFront,
+        skipped: usize,
+    ) -> Result<Option<BehindFront>, Fault>
+        ensures read { IsRead D.seen D.damaged D.may_leave self.old self.new }
+        ensures fault { IfErr result MayRead }
+    {
+        sample::refit(self.log.alloc, &mut self.log.device, translator, skipped)
     }
 
     /// How many keys have a value. It reads nothing.
@@ -324,8 +373,8 @@ impl<D: Device, I: Unordered<Value = u64>> Store<D, I> {
         ensures fault { Sees (D.seen self.new) (λ log. IfErr result (MayMiss (D.damaged self.new) log key.now)) }
     {
         let (alloc, end) = (self.log.alloc, self.log.end);
-        let found = find(alloc, &mut self.log.device, &self.index, key, end)?;
-        let Some(front) = &found.front else {
+        let found = self.log.find(&self.index, key)?;
+        let Some(front) = &found.read else {
             known(&found)?;
             return Ok(None);
         };
@@ -341,8 +390,7 @@ impl<D: Device, I: Unordered<Value = u64>> Store<D, I> {
         ensures read { IsRead D.seen D.damaged D.may_leave self.old self.new }
         ensures fault { Sees (D.seen self.new) (λ log. IfErr result (MayMiss (D.damaged self.new) log key.now)) }
     {
-        let (alloc, end) = (self.log.alloc, self.log.end);
-        let place = find_place(alloc, &mut self.log.device, &self.index, key, end)?;
+        let place = self.log.find_place(&self.index, key)?;
         Ok(place.is_held)
     }
 
@@ -440,7 +488,7 @@ impl<D: Device, I: Unordered<Value = u64>> Store<D, I> {
     {
         self.make_room()?;
         let (alloc, end) = (self.log.alloc, self.log.end);
-        let place = find_place(alloc, &mut self.log.device, &self.index, key, end)?;
+        let place = self.log.find_place(&self.index, key)?;
         if value.is_none() && !place.is_held {
             return Ok(false);
         }
@@ -533,9 +581,8 @@ impl<D: Device, I: Unordered<Value = u64>> Store<D, I> {
         ensures read { IsRead D.seen D.damaged D.may_leave self.old self.new }
         ensures fault { IfErr result (MaySalvage (C.seen into.new)) }
     {
-        let alloc = self.log.alloc;
         let len = length_of(&mut self.log.device)?;
-        copy(alloc, &mut self.log.device, into, len, &self.index, true)
+        copy(&mut self.log, into, len, &self.index, true)
     }
 
     /// Copies the records that leave the map to a fresh log, in their order: of each key that has a value the newest one. It reads the
@@ -561,8 +608,8 @@ impl<D: Device, I: Unordered<Value = u64>> Store<D, I> {
         ensures read { IsRead D.seen D.damaged D.may_leave self.old self.new }
         ensures fault { IfErr result (MaySalvage (C.seen into.new)) }
     {
-        let (alloc, end) = (self.log.alloc, self.log.end);
-        copy(alloc, &mut self.log.device, into, end, &self.index, false)
+        let end = self.log.end;
+        copy(&mut self.log, into, end, &self.index, false)
     }
 
     /// The device.

@@ -5,6 +5,7 @@ mod answer;
 mod counter;
 mod failure;
 mod file;
+mod fitting;
 mod fresh;
 mod help;
 mod line;
@@ -13,14 +14,15 @@ mod session;
 
 use failure::{Failure, Refusal, tell};
 use file::{fill_streams, open_store, tell_left_over};
+use fitting::Fitting;
 use help::{COMMANDS, HELP, STATUS, VERSION};
 use key_index_flat::index::{Factory, ordered, unordered};
 use key_index_flat::translator::{EightCap, Hashed, SeededSha256};
 use key_index_parts::index::partitioned::{ordered as pordered, unordered as punordered};
 use key_index_store::store::{Store, Tail};
-use key_index_store::translator::ThirtyTwoCap;
+use key_index_store::translator::BehindFront;
 use order::{Order, With, Without};
-use session::{Context, Options, Session};
+use session::{Context, Options, Session, next_check};
 use std::env;
 use std::io::{BufReader, BufWriter, ErrorKind, IsTerminal, Write};
 use std::process::ExitCode;
@@ -29,12 +31,14 @@ use std::random::RandomSource;
 /// How many bytes of standard input or output are held at a time.
 const BUFFER: usize = 65536;
 
-/// Runs the commands on the file at a path, over an index of a kind. Gives whether all went well.
-fn over<'a, I: Factory<Translator = T, Value = u64> + Drop, O: Order<I, T>, T: Copy>(
+/// Runs the commands on the file at a path, over an index of a kind, which has the first bytes of a key `skipped` in front of the
+/// translator. Gives whether all went well.
+fn over<'a, I: Factory<Translator = T, Value = u64> + Drop, O: Order<I, T>, T: Fitting>(
     rt: &'a HostRuntime,
     path: &'a str,
     mut options: Options,
     translator: T,
+    skipped: usize,
 ) -> Result<bool, Failure<'a>>
     requires { I.makes }
 {
@@ -42,12 +46,16 @@ fn over<'a, I: Factory<Translator = T, Value = u64> + Drop, O: Order<I, T>, T: C
     let _streams = fill_streams(rt)?;
     let mut input = BufReader::with_capacity(alloc, BUFFER, rt.stdin())?;
     let mut output = BufWriter::with_capacity(alloc, BUFFER, rt.stdout())?;
+    options.keeps_going |= rt.stdin().is_terminal();
+    let mut opened = open_store(rt, path, options.reads_only, options.is_headless)?;
+    tell_left_over(rt, opened.place.name());
+    let translator = match translator.fit(alloc, &mut opened.disk, skipped) {
+        Ok(better) => better.unwrap_or(translator),
+        Err(fault) => return Err(Failure::Refused(Refusal::from(fault), path)),
+    };
     let Ok(index) = I::new(alloc, translator) else {
         return Err(Failure::Refused(Refusal::For("memory"), path));
     };
-    options.keeps_going |= rt.stdin().is_terminal();
-    let opened = open_store(rt, path, options.reads_only, options.is_headless)?;
-    tell_left_over(rt, opened.place.name());
     let store = match Store::open(alloc, opened.disk, index) {
         Ok(store) => store,
         Err(error) => return Err(Failure::Refused(Refusal::from(error.fault), path)),
@@ -60,10 +68,13 @@ fn over<'a, I: Factory<Translator = T, Value = u64> + Drop, O: Order<I, T>, T: C
         is_changed: false,
         is_well: true,
     };
+    let check_at = next_check(store.len());
     let mut session = Session {
         context,
         store,
         translator,
+        skipped,
+        check_at,
     };
     session.tell_tail();
     let ended = session.run_lines::<O>(&mut input, &mut output);
@@ -82,24 +93,24 @@ fn over_kind<'a>(
     kind: &str,
     options: Options,
 ) -> Result<bool, Failure<'a>> {
-    let cap = ThirtyTwoCap;
+    let cap = BehindFront::new(b"");
     match kind {
-        "unordered" => over::<unordered::Index<ThirtyTwoCap, u64>, Without, _>(
-            rt, path, options, cap,
-        ),
-        "ordered" => over::<ordered::Index<ThirtyTwoCap, u64>, With, _>(rt, path, options, cap),
-        "punordered" => {
-            over::<punordered::Index<ThirtyTwoCap, u64, 1>, Without, _>(rt, path, options, cap)
+        "unordered" => {
+            over::<unordered::Index<BehindFront, u64>, Without, _>(rt, path, options, cap, 0)
         }
-        "pordered" => over::<pordered::Index<ThirtyTwoCap, u64, 1>, With, _>(
-            rt, path, options, cap,
+        "ordered" => over::<ordered::Index<BehindFront, u64>, With, _>(rt, path, options, cap, 0),
+        "punordered" => over::<punordered::Index<BehindFront, u64, 1>, Without, _>(
+            rt, path, options, cap, 1,
+        ),
+        "pordered" => over::<pordered::Index<BehindFront, u64, 1>, With, _>(
+            rt, path, options, cap, 1,
         ),
         "hashed" => {
             let mut seed = [0; 8];
             rt.fill_bytes(&mut seed)?;
             let hashed = Hashed::new(u64::from_le_bytes(seed), EightCap);
             over::<unordered::Index<Hashed<EightCap, SeededSha256>, u64>, Without, _>(
-                rt, path, options, hashed,
+                rt, path, options, hashed, 0,
             )
         }
         _ => Err(Failure::Usage),

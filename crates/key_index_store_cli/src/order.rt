@@ -2,13 +2,14 @@
 
 use crate::answer::{Answer, Answered};
 use crate::failure::Refusal;
+use crate::fitting::Fitting;
 use crate::line::InOrder;
 use crate::session::{Output, Session};
 use key_index_flat::index::{Factory, OrderedLists};
 use key_index_store::store::Passed;
 
 /// What runs the commands that ask for the order of the keys.
-pub trait Order<I: Factory<Translator = T, Value = u64> + Drop, T: Copy> {
+pub trait Order<I: Factory<Translator = T, Value = u64> + Drop, T: Fitting> {
     /// Runs one. A scan writes its entries to the output.
     fn answer(session: &mut Session<'_, I>, command: InOrder, output: &mut Output) -> Answered
         requires { I.makes };
@@ -17,7 +18,7 @@ pub trait Order<I: Factory<Translator = T, Value = u64> + Drop, T: Copy> {
 /// Refuses them.
 pub struct Without;
 
-impl<I: Factory<Translator = T, Value = u64> + Drop, T: Copy> Order<I, T> for Without {
+impl<I: Factory<Translator = T, Value = u64> + Drop, T: Fitting> Order<I, T> for Without {
     fn answer(_session: &mut Session<'_, I>, _command: InOrder, _output: &mut Output) -> Answered {
         Err(Refusal::For("unordered"))
     }
@@ -26,7 +27,8 @@ impl<I: Factory<Translator = T, Value = u64> + Drop, T: Copy> Order<I, T> for Wi
 /// Runs them over an index that keeps the order.
 pub struct With;
 
-impl<I: OrderedLists<Value = u64> + Factory<Translator = T> + Drop, T: Copy> Order<I, T> for With {
+impl<I: OrderedLists<Value = u64> + Factory<Translator = T> + Drop, T: Fitting> Order<I, T>
+    for With {
     fn answer(session: &mut Session<'_, I>, command: InOrder, output: &mut Output) -> Answered {
         match command {
             InOrder::Next(key) => Ok(Answer::Entry(session.store.next(&key)?)),
@@ -40,7 +42,7 @@ impl<I: OrderedLists<Value = u64> + Factory<Translator = T> + Drop, T: Copy> Ord
     }
 }
 
-impl<I: OrderedLists<Value = u64> + Factory<Translator = T> + Drop, T: Copy> Session<'_, I> {
+impl<I: OrderedLists<Value = u64> + Factory<Translator = T> + Drop, T: Fitting> Session<'_, I> {
     /// Writes the entries from a key on, so many at most, whose keys begin with a prefix, and where records don't read.
     fn scan(&mut self, start: &[u8], count: u64, prefix: &[u8], output: &mut Output) -> Answered {
         let mut last: Option<Vec<u8>> = None;

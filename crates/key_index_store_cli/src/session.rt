@@ -4,6 +4,7 @@ use crate::answer::{Answer, Answered, Bytes, Entry, Line};
 use crate::counter::Counter;
 use crate::failure::{Refusal, tell};
 use crate::file::Disk;
+use crate::fitting::Fitting;
 use crate::fresh::{make, refusal_of};
 use crate::help::COMMANDS;
 use crate::line::{Command, Wrong, parse};
@@ -211,9 +212,18 @@ pub struct Session<'a, I: Factory<Value = u64> + Drop> {
     pub store: Store<Disk, I>,
     /// What makes an index of the store's kind.
     pub translator: I::Translator,
+    /// How many bytes of a key the index has in front of it.
+    pub skipped: usize,
+    /// With how many keys a better one is looked for.
+    pub check_at: usize,
 }
 
-impl<I: Factory<Translator = T, Value = u64> + Drop, T: Copy> Session<'_, I> {
+/// With how many keys a translator is looked at, where there are so many.
+pub fn next_check(len: usize) -> usize {
+    len.saturating_mul(8).max(1024)
+}
+
+impl<I: Factory<Translator = T, Value = u64> + Drop, T: Fitting> Session<'_, I> {
     /// Where the last whole record ends in the file, and how many bytes stand behind it.
     fn tail(&mut self) -> Result<(u64, u64), Refusal> {
         let (len, end) = (self.store.log_len()?, self.store.end());
@@ -254,10 +264,34 @@ impl<I: Factory<Translator = T, Value = u64> + Drop, T: Copy> Session<'_, I> {
         Err(Refusal::from(fault))
     }
 
-    fn put(&mut self, key: &[u8], value: &[u8]) -> Answered {
+    /// Files the records by a better translator, where one is found. A refusal leaves the store as it is, and isn't told.
+    fn refit(&mut self) -> Result<(), Fault>
+        requires { I.makes }
+    {
+        let Some(better) = self.translator.fit_store(&mut self.store, self.skipped)? else {
+            return Ok(());
+        };
+        let Ok(index) = I::new(self.context.rt.alloc(), better) else {
+            return Err(Fault::Memory);
+        };
+        self.store.reindex(index)?;
+        self.translator = better;
+        Ok(())
+    }
+
+    fn put(&mut self, key: &[u8], value: &[u8]) -> Answered
+        requires { I.makes }
+    {
         self.context.begin_change()?;
         match self.store.put(key, value) {
-            Ok(()) => self.changed(),
+            Ok(()) => {
+                let len = self.store.len();
+                if len >= self.check_at {
+                    self.check_at = next_check(len);
+                    let _ = self.refit();
+                }
+                self.changed()
+            }
             Err(fault) => self.undone(fault),
         }
     }

@@ -3,16 +3,17 @@ ghost use Rattle.std.specs.Prelude.{◌≡◌, ◌⊎◌, ◌≤◌, ◌<◌, �
 ghost use Rattle.key_index_flat.specs.FullKeys.{IsBytes, byte_cmp};
 ghost use Rattle.key_index_flat.specs.View.{run_of};
 ghost use Rattle.key_index_store.specs.Device.{Gives, IsRead, Sees};
-ghost use Rattle.key_index_store.specs.Indexed.{IsFirstIn, IsFront, IsHiddenIn, IsIn, IsLive, IsPlace, IsRun, entry_at, key_at};
+ghost use Rattle.key_index_store.specs.Indexed.{HasKeys, IsFront, IsHiddenIn, IsIn, IsLive, IsPlace, IsRun, entry_at, key_read};
 ghost use Rattle.key_index_store.specs.Reads.{wanted};
 ghost use Rattle.key_index_store.specs.Record.{Stops, bytes_of, entry_of, key_in, reading};
 ghost use Rattle.key_index_store.specs.Salvage.{step};
 ghost use Rattle.key_index_store.specs.Stored.{MayRead};
 
 use super::Fault;
+use super::log::Log;
 use crate::device::Device;
 use crate::record::{HEAD, Reading, Record, decode, has_head, key_in, key_length, record_length};
-use key_index_flat::index::Unordered;
+use key_index_flat::index::{Compare, Found, Unordered, find_place};
 use std::alloc::Global;
 use std::cmp::Ordering;
 
@@ -167,27 +168,6 @@ pub(crate) struct Front {
     pub(crate) bytes: Vec<u8>,
 }
 
-/// A key that was looked up in its list.
-#[derive(Drop)]
-pub(crate) struct Found {
-    /// How many keys of the list are below it.
-    pub(crate) place: usize,
-    /// Its record, if it has one.
-    pub(crate) front: Option<Front>,
-    /// Records that don't read stand at the place: one of them may be its own.
-    pub(crate) is_hidden: bool,
-    /// There is no list.
-    pub(crate) is_empty: bool,
-}
-
-/// A record of a list whose key reads, and how that key compares with another one.
-#[derive(Drop)]
-pub(crate) struct Readable {
-    pub(crate) place: usize,
-    pub(crate) side: Ordering,
-    pub(crate) front: Front,
-}
-
 /// How the key of the record at the front of some bytes compares with another one, if it reads.
 fn side_of(bytes: &[u8], position: u64, key: &[u8]) -> Option<Ordering>
     ensures { result ≡ option_map (λ k. byte_cmp k key.now) (key_in position bytes.now) }
@@ -198,46 +178,6 @@ fn side_of(bytes: &[u8], position: u64, key: &[u8]) -> Option<Ordering>
     }
 }
 
-/// The first record of a list whose key reads, from one place to another.
-fn readable_from<D: Device, I: Unordered<Value = u64>>(
-    alloc: Global,
-    device: &mut D,
-    index: &I,
-    slot: I::Key,
-    key: &[u8],
-    from: usize,
-    to: usize,
-    limit: u64,
-    block: u64,
-) -> Result<Option<Readable>, Fault>
-    requires slot { slot ≡ (I.view index.now).slot key.now }
-    requires block { 13 ≤ block }
-    requires within { to ≤ length (run_of I.Key.cmp (I.view index.now) key.now) }
-    ensures first { Sees (D.seen device.new) (λ log. limit ≤ length log
-        → All (IsLive (take limit log)) (run_of I.Key.cmp (I.view index.now) key.now)
-        → IfOk result (IsFirstIn (D.damaged device.new) (key_at (take limit log)) key.now
-        (run_of I.Key.cmp (I.view index.now) key.now) from to)) }
-    ensures front { Sees (D.seen device.new) (λ log. limit ≤ length log → IfOk result (λ o. IfSome o (λ r.
-        IsFront (take limit log) (D.damaged device.new) r.front))) }
-    ensures within { IfOk result (λ o. IfSome o (λ r. (from ≤ r.place) × (r.place < to)
-        × (slice_get (run_of I.Key.cmp (I.view index.now) key.now) r.place ≡ Some r.front.position))) }
-    ensures read { IsRead D.seen D.damaged D.may_leave device.old device.new }
-    ensures fault { IfErr result MayRead }
-{
-    for place in from..to {
-        let position = *index.value_at(slot, place);
-        let bytes = read_record(alloc, device, position, limit, false, block)?;
-        if let Some(side) = side_of(bytes.as_slice(), position, key) {
-            return Ok(Some(Readable {
-                place,
-                side,
-                front: Front { position, bytes },
-            }));
-        }
-    }
-    Ok(None)
-}
-
 /// How many bytes of each record of a list are read at first. Of a record that is alone the value may be wanted too.
 fn block_of(is_alone: bool) -> u64
     ensures { 13 ≤ result }
@@ -245,71 +185,120 @@ fn block_of(is_alone: bool) -> u64
     if is_alone { BLOCK } else { KEY_BLOCK }
 }
 
-/// Looks a key up in its list, in the first `limit` bytes of a log, by as many reads as the length of the list has binary digits. Where
-/// a record doesn't read, the next one that does tells on which side the key is.
-pub(crate) fn find<D: Device, I: Unordered<Value = u64>>(
-    alloc: Global,
-    device: &mut D,
-    index: &I,
-    key: &[u8],
-    limit: u64,
-) -> Result<Found, Fault>
-    ensures at { Sees (D.seen device.new) (λ log. limit ≤ length log
-        → IsRun (take limit log) (run_of I.Key.cmp (I.view index.now) key.now)
-        → IfOk result (λ f. f.is_hidden ≡ false →
-        IsPlace (entry_at (take limit log)) key.now (run_of I.Key.cmp (I.view index.now) key.now)
-        f.place (is_some f.front))) }
-    ensures hidden { Sees (D.seen device.new) (λ log. limit ≤ length log
-        → IsRun (take limit log) (run_of I.Key.cmp (I.view index.now) key.now)
-        → IfOk result (λ f. f.is_hidden ≡ true → IsHiddenIn (D.damaged device.new) (entry_at (take limit log)) key.now
-        (run_of I.Key.cmp (I.view index.now) key.now) f.place)) }
-    ensures none { IfOk result (λ f. f.is_hidden ≡ true → is_some f.front ≡ false) }
-    ensures front { Sees (D.seen device.new) (λ log. limit ≤ length log → IfOk result (λ f. IfSome f.front
-        (IsFront (take limit log) (D.damaged device.new)))) }
-    ensures found { IfOk result (λ f. IfSome f.front (λ r.
-        slice_get (run_of I.Key.cmp (I.view index.now) key.now) f.place ≡ Some r.position)) }
-    ensures within { IfOk result (λ f. f.place ≤ length (run_of I.Key.cmp (I.view index.now) key.now)) }
-    ensures empty { IfOk result (λ f. f.is_empty ≡ true → length (run_of I.Key.cmp (I.view index.now) key.now) ≡ 0) }
-    ensures read { IsRead D.seen D.damaged D.may_leave device.old device.new }
-    ensures fault { IfErr result MayRead }
-{
-    let slot = index.slot_of(key);
-    let (mut low, mut high) = (0, index.run_len(slot));
-    let (block, is_empty) = (block_of(high == 1), high == 0);
-    let mut is_hidden = false;
-    while low < high {
-        let middle = low + (high - low) / 2;
-        let Some(there) = readable_from(
-            alloc, device, index, slot, key, middle, high, limit, block,
-        )?
-        else {
-            (high, is_hidden) = (middle, true);
-            continue;
-        };
-        match there.side {
-            Ordering::Less => low = there.place + 1,
-            Ordering::Equal => {
-                return Ok(Found {
-                    place: there.place,
-                    front: Some(there.front),
-                    is_hidden: false,
-                    is_empty,
-                });
-            }
-            Ordering::Greater => (high, is_hidden) = (middle, there.place != middle),
+impl<D: Device> Compare<u64> for Log<D> {
+    ghost use Rattle.std.proofs.Common.{refl, ap, subst, ◌∙◌};
+    ghost use Rattle.key_index_store.specs.laws.ReadLaws.{read-none, read-then};
+
+    type Read = Front;
+
+    type Error = Fault;
+
+    ghost agrees = { λ log keys. HasKeys (D.seen log.device) log.end keys };
+
+    ghost hides = { λ log position. Sees (D.seen log.device) (λ bytes. log.end ≤ length bytes
+        → IsLive (take log.end bytes) position → D.damaged log.device position) };
+
+    ghost is_of = { λ log position front. (front.position ≡ position) × Sees (D.seen log.device) (λ bytes.
+        log.end ≤ length bytes → IsFront (take log.end bytes) (D.damaged log.device) front) };
+
+    ghost reads = { λ before after. IsRead D.seen D.damaged D.may_leave before.device after.device
+        × (after.end ≡ before.end) };
+
+    ghost fails = { λ _ _ fault. MayRead fault };
+
+    ghost reads_nothing = { λ log. (read-none log.device, refl) };
+
+    ghost reads_both = { λ x y z first second.
+        (read-then x.device y.device z.device first.0 second.0, second.1 ∙ first.1) };
+
+    ghost agreed = { λ x y keys reads agrees. (
+      agrees.0,
+      reads.0.stays agrees.0 agrees.1,
+      subst (λ end. end ≤ length agrees.0) reads.1 agrees.2,
+      agrees.3 ∙ ap (λ end. key_read (take end agrees.0)) reads.1,
+    ) };
+
+    ghost stays_hidden = { λ x y position reads hides bytes seen within live. reads.0.damage position
+        (hides bytes (reads.0.stays bytes seen) (subst (λ end. end ≤ length bytes) reads.1 within)
+        (subst (λ end. IsLive (take end bytes) position) reads.1 live)) };
+
+    fn compare(
+        &mut self,
+        value: &u64,
+        key: &[u8],
+        is_alone: bool,
+    ) -> Result<Option<(Ordering, Front)>, Fault> {
+        let (alloc, end, position) = (self.alloc, self.end, *value);
+        let block = block_of(is_alone);
+        let bytes = read_record(alloc, &mut self.device, position, end, false, block)?;
+        match side_of(bytes.as_slice(), position, key) {
+            Some(side) => Ok(Some((side, Front { position, bytes }))),
+            None => Ok(None),
         }
     }
-    Ok(Found {
-        place: low,
-        front: None,
-        is_hidden,
-        is_empty,
-    })
+}
+
+impl<D: Device> Log<D> {
+    /// Looks a key up in its list, by as many reads as the length of the list has binary digits. Where a record doesn't read, the next
+    /// one that does tells on which side the key is.
+    pub(crate) fn find<I: Unordered<Value = u64>>(
+        &mut self,
+        index: &I,
+        key: &[u8],
+    ) -> Result<Found<Front>, Fault>
+        ensures at { Sees (D.seen self.new.device) (λ log. self.old.end ≤ length log
+            → IsRun (take self.old.end log) (run_of I.Key.cmp (I.view index.now) key.now)
+            → IfOk result (λ f. f.is_hidden ≡ false →
+            IsPlace (entry_at (take self.old.end log)) key.now (run_of I.Key.cmp (I.view index.now) key.now)
+            f.place (is_some f.read))) }
+        ensures hidden { Sees (D.seen self.new.device) (λ log. self.old.end ≤ length log
+            → IsRun (take self.old.end log) (run_of I.Key.cmp (I.view index.now) key.now)
+            → IfOk result (λ f. f.is_hidden ≡ true → IsHiddenIn (D.damaged self.new.device)
+            (entry_at (take self.old.end log)) key.now (run_of I.Key.cmp (I.view index.now) key.now) f.place)) }
+        ensures none { IfOk result (λ f. f.is_hidden ≡ true → is_some f.read ≡ false) }
+        ensures front { Sees (D.seen self.new.device) (λ log. self.old.end ≤ length log → IfOk result (λ f.
+            IfSome f.read (IsFront (take self.old.end log) (D.damaged self.new.device)))) }
+        ensures found { IfOk result (λ f. IfSome f.read (λ r.
+            slice_get (run_of I.Key.cmp (I.view index.now) key.now) f.place ≡ Some r.position)) }
+        ensures within { IfOk result (λ f. f.place ≤ length (run_of I.Key.cmp (I.view index.now) key.now)) }
+        ensures empty { IfOk result (λ f. f.is_empty ≡ true
+            → length (run_of I.Key.cmp (I.view index.now) key.now) ≡ 0) }
+        ensures read { IsRead D.seen D.damaged D.may_leave self.old.device self.new.device }
+        ensures end { self.new.end ≡ self.old.end }
+        ensures fault { IfErr result MayRead }
+    {
+        find_place(index, self, key)
+    }
+
+    /// Where a key stands in its list, or would stand.
+    pub(super) fn find_place<I: Unordered<Value = u64>>(
+        &mut self,
+        index: &I,
+        key: &[u8],
+    ) -> Result<InList, Fault>
+        ensures at { Sees (D.seen self.new.device) (λ log. self.old.end ≤ length log
+            → IsRun (take self.old.end log) (run_of I.Key.cmp (I.view index.now) key.now) → IfOk result (λ p.
+            IsPlace (entry_at (take self.old.end log)) key.now (run_of I.Key.cmp (I.view index.now) key.now)
+            p.place p.is_held)) }
+        ensures within { IfOk result (λ p. IsIn (run_of I.Key.cmp (I.view index.now) key.now) p.place p.is_held) }
+        ensures empty { IfOk result (λ p. p.is_empty ≡ true
+            → length (run_of I.Key.cmp (I.view index.now) key.now) ≡ 0) }
+        ensures bytes { IsBytes key.now }
+        ensures read { IsRead D.seen D.damaged D.may_leave self.old.device self.new.device }
+        ensures end { self.new.end ≡ self.old.end }
+        ensures fault { Sees (D.seen self.new.device) (λ log. self.old.end ≤ length log
+            → IsRun (take self.old.end log) (run_of I.Key.cmp (I.view index.now) key.now) → IfErr result (λ f.
+            MayRead f ⊎ ((f ≡ Fault.Damaged) × ((place : ℕ) × IsHiddenIn (D.damaged self.new.device)
+            (entry_at (take self.old.end log)) key.now (run_of I.Key.cmp (I.view index.now) key.now) place)))) }
+    {
+        let found = self.find(index, key)?;
+        known(&found)
+    }
 }
 
 /// Where a key that was looked up stands, if that is known.
-pub(super) fn known(found: &Found) -> Result<InList, Fault>
-    ensures place { IfOk result (λ p. (p.place ≡ found.now.place) × (p.is_held ≡ is_some found.now.front)
+pub(super) fn known(found: &Found<Front>) -> Result<InList, Fault>
+    ensures place { IfOk result (λ p. (p.place ≡ found.now.place) × (p.is_held ≡ is_some found.now.read)
         × (p.is_empty ≡ found.now.is_empty)) }
     ensures seen { OnOk result (found.now.is_hidden ≡ false) }
     ensures fault { IfErr result (λ f. (f ≡ Fault.Damaged) × (found.now.is_hidden ≡ true)) }
@@ -319,33 +308,9 @@ pub(super) fn known(found: &Found) -> Result<InList, Fault>
     }
     Ok(InList {
         place: found.place,
-        is_held: found.front.is_some(),
+        is_held: found.read.is_some(),
         is_empty: found.is_empty,
     })
-}
-
-/// Where a key stands in its list, or would stand.
-pub(super) fn find_place<D: Device, I: Unordered<Value = u64>>(
-    alloc: Global,
-    device: &mut D,
-    index: &I,
-    key: &[u8],
-    limit: u64,
-) -> Result<InList, Fault>
-    ensures at { Sees (D.seen device.new) (λ log. limit ≤ length log
-        → IsRun (take limit log) (run_of I.Key.cmp (I.view index.now) key.now) → IfOk result (λ p.
-        IsPlace (entry_at (take limit log)) key.now (run_of I.Key.cmp (I.view index.now) key.now) p.place p.is_held)) }
-    ensures within { IfOk result (λ p. IsIn (run_of I.Key.cmp (I.view index.now) key.now) p.place p.is_held) }
-    ensures empty { IfOk result (λ p. p.is_empty ≡ true → length (run_of I.Key.cmp (I.view index.now) key.now) ≡ 0) }
-    ensures bytes { IsBytes key.now }
-    ensures read { IsRead D.seen D.damaged D.may_leave device.old device.new }
-    ensures fault { Sees (D.seen device.new) (λ log. limit ≤ length log
-        → IsRun (take limit log) (run_of I.Key.cmp (I.view index.now) key.now) → IfErr result (λ f. MayRead f
-        ⊎ ((f ≡ Fault.Damaged) × ((place : ℕ) × IsHiddenIn (D.damaged device.new) (entry_at (take limit log)) key.now
-        (run_of I.Key.cmp (I.view index.now) key.now) place)))) }
-{
-    let found = find(alloc, device, index, key, limit)?;
-    known(&found)
 }
 
 /// The value of a record, copied.

@@ -13,10 +13,10 @@ use std::alloc::Global;
 
 /// A log on a device, of whose first `end` bytes a store has an index.
 #[derive(Drop)]
-pub(super) struct Log<D: Device> {
-    pub(super) alloc: Global,
-    pub(super) device: D,
-    pub(super) end: u64,
+pub(crate) struct Log<D: Device> {
+    pub(crate) alloc: Global,
+    pub(crate) device: D,
+    pub(crate) end: u64,
 }
 
 impl<D: Device> Log<D> {

@@ -1,20 +1,19 @@
 //! Neighbours of a key among those that have a value.
-ghost use Rattle.std.specs.Prelude.{◌≡◌, ◌⊎◌, ◌≤◌, ◌<◌, ◌+◌, ◌∷◌, ◌++◌, [], ℕ, if◌then◌else◌, length, map, take, All, IfOk, IfErr, IfSome, MatchOption, OnOk};
+ghost use Rattle.std.specs.Prelude.{◌≡◌, ◌⊎◌, ◌≤◌, ◌<◌, ◌+◌, ◌∷◌, ◌++◌, [], ℕ, if◌then◌else◌, length, map, take, true, false, All, IfOk, IfErr, IfSome, MatchOption, OnOk};
 ghost use Rattle.std.specs.FinMap.{entries};
 ghost use Rattle.std.specs.Option.{option_map};
 ghost use Rattle.std.specs.Ordering.{is_le, is_lt};
 ghost use Rattle.key_index_flat.specs.FullKeys.{byte_cmp};
-ghost use Rattle.key_index_flat.specs.Neighbours.{entries_above, first_entry, last_entry};
+ghost use Rattle.key_index_flat.specs.Neighbours.{first_entry, last_entry};
 ghost use Rattle.key_index_flat.specs.Values.{values_of};
 ghost use Rattle.key_index_flat.specs.View.{run_at, run_of};
-ghost use Rattle.key_index_flat.specs.Walk.{entries_from};
-ghost use Rattle.key_index_store.specs.Damage.{MayMiss, MayMissAt, Passes, beyond};
+ghost use Rattle.key_index_store.specs.Damage.{MayMiss, MayMissAt, Passes};
 ghost use Rattle.key_index_store.specs.Device.{IsRead, Sees};
 ghost use Rattle.key_index_store.specs.Indexed.{IsIn, IsLive, entry_at};
 ghost use Rattle.key_index_store.specs.Positions.{first_from, last_before, positions_from};
-ghost use Rattle.key_index_store.specs.Stored.{MayRead, entry_after, entry_before, gap_in, held_by, in_bytes};
+ghost use Rattle.key_index_store.specs.Stored.{MayRead, entry_after, entry_before, gap_in, held_by, in_bytes, without_tail};
 
-use super::find::{InList, find, find_place};
+use super::find::InList;
 use super::log::Log;
 use super::{Fault, Store};
 use crate::device::Device;
@@ -201,10 +200,9 @@ fn readable_from<D: Device, I: OrderedLists<Value = u64>>(
     key: &[u8],
     is_above: bool,
 ) -> Result<Passed, Fault>
-    ensures entry { Sees (D.seen log.new.device) (λ bytes. log.old.end ≤ length bytes
-        → All (IsLive (take log.old.end bytes)) (positions_from I.Key.cmp (I.view index.now) slot place)
-        → IfOk result (Passes (beyond is_above key.now (map (entry_at (take log.old.end bytes))
-        (positions_from I.Key.cmp (I.view index.now) slot place))))) }
+    ensures entry { Sees (D.seen log.new.device) (λ bytes. let front = take log.old.end bytes in
+        let places = positions_from I.Key.cmp (I.view index.now) slot place in log.old.end ≤ length bytes
+        → All (IsLive front) places → IfOk result (Passes (entry_at front) is_above key.now (map (entry_at front) places))) }
     ensures damaged { Sees (D.seen log.new.device) (λ bytes. log.old.end ≤ length bytes
         → All (IsLive (take log.old.end bytes)) (positions_from I.Key.cmp (I.view index.now) slot place)
         → IfOk result (λ p. All (λ u. D.damaged log.new.device u.place) p.passed.items)) }
@@ -249,8 +247,7 @@ impl<D: Device, I: OrderedLists<Value = u64>> Store<D, I> {
         ensures fault { Sees (D.seen self.new) (λ log. IfErr result (λ f. MayMiss (D.damaged self.new) log key.now f
             ⊎ MayMissAt (D.damaged self.new) log (entry_after (held_by log) key.now) f)) }
     {
-        let (alloc, end) = (self.log.alloc, self.log.end);
-        let place = find_place(alloc, &mut self.log.device, &self.index, key, end)?;
+        let place = self.log.find_place(&self.index, key)?;
         self.log.entry(position_above(&self.index, key, place))
     }
 
@@ -263,8 +260,7 @@ impl<D: Device, I: OrderedLists<Value = u64>> Store<D, I> {
         ensures fault { Sees (D.seen self.new) (λ log. IfErr result (λ f. MayMiss (D.damaged self.new) log key.now f
             ⊎ MayMissAt (D.damaged self.new) log (entry_before (held_by log) key.now) f)) }
     {
-        let (alloc, end) = (self.log.alloc, self.log.end);
-        let place = find_place(alloc, &mut self.log.device, &self.index, key, end)?;
+        let place = self.log.find_place(&self.index, key)?;
         self.log
             .entry(position_below(&self.index, key, place.place))
     }
@@ -278,8 +274,7 @@ impl<D: Device, I: OrderedLists<Value = u64>> Store<D, I> {
             ⊎ MayMissAt (D.damaged self.new) log (entry_before (held_by log) key.now) f
             ⊎ MayMissAt (D.damaged self.new) log (entry_after (held_by log) key.now) f)) }
     {
-        let (alloc, end) = (self.log.alloc, self.log.end);
-        let place = find_place(alloc, &mut self.log.device, &self.index, key, end)?;
+        let place = self.log.find_place(&self.index, key)?;
         if place.is_held {
             return Ok(None);
         }
@@ -316,14 +311,13 @@ impl<D: Device, I: OrderedLists<Value = u64>> Store<D, I> {
     /// nearer one: those that don't read.
     pub fn readable_at_least(&mut self, key: &[u8]) -> Result<Passed, Fault>
         ensures entry { Sees (D.seen self.new) (λ log. IfOk result (Passes
-            (entries_from byte_cmp (entries (held_by log)) key.now))) }
+            (entry_at (without_tail log)) false key.now (entries (held_by log)))) }
         ensures damaged { Sees (D.seen self.new) (λ log. IfOk result (λ p.
             All (λ u. D.damaged self.new u.place) p.passed.items)) }
         ensures read { IsRead D.seen D.damaged D.may_leave self.old self.new }
         ensures fault { IfErr result MayRead }
     {
-        let (alloc, end) = (self.log.alloc, self.log.end);
-        let found = find(alloc, &mut self.log.device, &self.index, key, end)?;
+        let found = self.log.find(&self.index, key)?;
         let slot = self.index.slot_of(key);
         readable_from(&mut self.log, &self.index, slot, found.place, key, false)
     }
@@ -331,15 +325,15 @@ impl<D: Device, I: OrderedLists<Value = u64>> Store<D, I> {
     /// The same, of the keys strictly above this one.
     pub fn readable_above(&mut self, key: &[u8]) -> Result<Passed, Fault>
         ensures entry { Sees (D.seen self.new) (λ log. IfOk result (Passes
-            (entries_above byte_cmp (entries (held_by log)) key.now))) }
+            (entry_at (without_tail log)) true key.now (entries (held_by log)))) }
         ensures damaged { Sees (D.seen self.new) (λ log. IfOk result (λ p.
             All (λ u. D.damaged self.new u.place) p.passed.items)) }
         ensures read { IsRead D.seen D.damaged D.may_leave self.old self.new }
         ensures fault { IfErr result MayRead }
     {
-        let (alloc, end) = (self.log.alloc, self.log.end);
-        let found = find(alloc, &mut self.log.device, &self.index, key, end)?;
+        let found = self.log.find(&self.index, key)?;
         let slot = self.index.slot_of(key);
-        readable_from(&mut self.log, &self.index, slot, found.place, key, true)
+        let behind = place_behind(&self.index, slot, found.place, found.read.is_some());
+        readable_from(&mut self.log, &self.index, slot, behind, key, true)
     }
 }

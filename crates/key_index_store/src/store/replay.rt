@@ -5,7 +5,8 @@ ghost use Rattle.key_index_store.specs.Indexed.{Indexes, Keeps};
 ghost use Rattle.key_index_store.specs.Record.{Damaged, Fits, Stops, Torn, encoded, reading};
 ghost use Rattle.key_index_store.specs.Stored.{MayOpen, MayRead, is_zeros, tail_of};
 
-use super::find::{self, find_place, length_of, read_bytes, read_front};
+use super::find::{self, length_of, read_bytes, read_front};
+use super::log::Log;
 use super::{Fault, Tail, settle};
 use crate::device::Device;
 use crate::record::{Reading, decode};
@@ -15,56 +16,48 @@ use std::alloc::Global;
 /// How many bytes of a log are read at a time.
 const BLOCK: u64 = 65536;
 
-/// Files the record of a key that stands at a position of a log.
+/// Files the record of a key that stands at a position of a log, behind those that are filed.
 fn file<D: Device, I: Unordered<Value = u64>>(
-    alloc: Global,
-    device: &mut D,
+    from: &mut Log<D>,
     index: &mut I,
     key: &[u8],
     has_value: bool,
     position: u64,
 ) -> Result<(), Fault>
-    ensures filed { Sees (D.seen device.new) (λ log. (value : Option (List ℕ)) → has_value ≡ is_some value
+    ensures filed { Sees (D.seen from.new.device) (λ log. (value : Option (List ℕ)) → has_value ≡ is_some value
         → Fits (record { key = key.now; value = value }) → position ≤ length log
         → Indexes I.Key.cmp (take position log) (I.view index.old) → OnOk result
         (Indexes I.Key.cmp (take position log ++ encoded position (record { key = key.now; value = value }))
         (I.view index.new))) }
-    ensures read { IsRead D.seen D.damaged D.may_leave device.old device.new }
-    ensures fault { Sees (D.seen device.new) (λ log. position ≤ length log → position < usize.MAX
-        → Indexes I.Key.cmp (take position log) (I.view index.old) → IfErr result (MayOpen (D.damaged device.new))) }
+    ensures read { IsRead D.seen D.damaged D.may_leave from.old.device from.new.device }
+    ensures fault { Sees (D.seen from.new.device) (λ log. position ≤ length log → position < usize.MAX
+        → Indexes I.Key.cmp (take position log) (I.view index.old) → IfErr result (MayOpen (D.damaged from.new.device))) }
 {
-    let place = find_place(alloc, device, index, key, position)?;
+    from.end = position;
+    let place = from.find_place(index, key)?;
     settle(index, key, has_value, place, position)
 }
 
 /// Files the complete records at the front of some bytes, which stand at a position of a log. Gives how many bytes they take.
 fn file_all<D: Device, I: Unordered<Value = u64>>(
-    alloc: Global,
-    device: &mut D,
+    from: &mut Log<D>,
     index: &mut I,
     bytes: &[u8],
     position: u64,
 ) -> Result<u64, Fault>
     requires { position + length bytes.now < 2 ^ 64 }
-    ensures indexed { Sees (D.seen device.new) (λ log. bytes.now ≡ take (length bytes.now) (drop position log)
+    ensures indexed { Sees (D.seen from.new.device) (λ log. bytes.now ≡ take (length bytes.now) (drop position log)
         → Indexes I.Key.cmp (take position log) (I.view index.old)
         → IfOk result (λ n. Indexes I.Key.cmp (take (position + n) log) (I.view index.new))) }
     ensures within { IfOk result (λ n. n ≤ length bytes.now) }
-    ensures read { IsRead D.seen D.damaged D.may_leave device.old device.new }
-    ensures fault { Sees (D.seen device.new) (λ log. bytes.now ≡ take (length bytes.now) (drop position log)
-        → Indexes I.Key.cmp (take position log) (I.view index.old) → IfErr result (MayOpen (D.damaged device.new))) }
+    ensures read { IsRead D.seen D.damaged D.may_leave from.old.device from.new.device }
+    ensures fault { Sees (D.seen from.new.device) (λ log. bytes.now ≡ take (length bytes.now) (drop position log)
+        → Indexes I.Key.cmp (take position log) (I.view index.old) → IfErr result (MayOpen (D.damaged from.new.device))) }
 {
     let mut rest = bytes;
     let mut place = position;
     while let Reading::Complete(record) = decode(rest, place) {
-        file(
-            alloc,
-            device,
-            index,
-            record.key,
-            record.value.is_some(),
-            place,
-        )?;
+        file(from, index, record.key, record.value.is_some(), place)?;
         let length = record.length();
         let (_, behind) = rest.split_at(length as usize);
         rest = behind;
@@ -132,65 +125,56 @@ fn tail_at<D: Device>(
 
 /// Files the record that begins at a position, where it is longer than a block. Gives how many bytes it takes, or what stands there.
 fn file_one<D: Device, I: Unordered<Value = u64>>(
-    alloc: Global,
-    device: &mut D,
+    from: &mut Log<D>,
     index: &mut I,
     end: u64,
     len: u64,
 ) -> Result<Result<u64, Tail>, Fault>
     requires { end < len }
-    ensures indexed { Sees (D.seen device.new) (λ log. len ≡ length log
+    ensures indexed { Sees (D.seen from.new.device) (λ log. len ≡ length log
         → Indexes I.Key.cmp (take end log) (I.view index.old)
         → IfOk result (λ r. IfOk r (λ n. Indexes I.Key.cmp (take (end + n) log) (I.view index.new)))) }
     ensures within { IfOk result (λ r. IfOk r (λ n. (0 < n) × (end + n ≤ len))) }
-    ensures tail { Sees (D.seen device.new) (λ log. len ≡ length log → IfOk result (λ r. IfErr r (λ t.
+    ensures tail { Sees (D.seen from.new.device) (λ log. len ≡ length log → IfOk result (λ r. IfErr r (λ t.
         (t ≡ tail_of end (drop end log)) × Stops (reading end (drop end log))))) }
     ensures same { IfOk result (λ r. OnErr r (I.view index.new ≡ I.view index.old)) }
-    ensures read { IsRead D.seen D.damaged D.may_leave device.old device.new }
-    ensures fault { Sees (D.seen device.new) (λ log. len ≡ length log
-        → Indexes I.Key.cmp (take end log) (I.view index.old) → IfErr result (MayOpen (D.damaged device.new))) }
+    ensures read { IsRead D.seen D.damaged D.may_leave from.old.device from.new.device }
+    ensures fault { Sees (D.seen from.new.device) (λ log. len ≡ length log
+        → Indexes I.Key.cmp (take end log) (I.view index.old) → IfErr result (MayOpen (D.damaged from.new.device))) }
 {
-    let bytes = read_front(alloc, device, end, len, true, find::BLOCK)?;
+    let bytes = read_front(from.alloc, &mut from.device, end, len, true, find::BLOCK)?;
     let is_torn = match decode(bytes.as_slice(), end) {
         Reading::Complete(record) => {
-            file(
-                alloc,
-                device,
-                index,
-                record.key,
-                record.value.is_some(),
-                end,
-            )?;
+            file(from, index, record.key, record.value.is_some(), end)?;
             return Ok(Ok(record.length()));
         }
         Reading::Torn => true,
         Reading::Damaged => false,
     };
-    Ok(Err(tail_at(alloc, device, end, len, is_torn)?))
+    Ok(Err(tail_at(from.alloc, &mut from.device, end, len, is_torn)?))
 }
 
 /// Files the complete records of a log, the oldest first. Gives how many bytes they take, and what stands behind them.
 pub(super) fn replay<D: Device, I: Unordered<Value = u64>>(
-    alloc: Global,
-    device: &mut D,
+    from: &mut Log<D>,
     index: &mut I,
 ) -> Result<(u64, Tail), Fault>
     requires { (I.view index.old).content ≡ [] }
-    ensures kept { Sees (D.seen device.new) (λ log. IfOk result (λ r. Keeps I.Key.cmp log (I.view index.new) r.0 r.1)) }
-    ensures exact { Sees (D.seen device.new) (λ log. IfOk result (λ r. r.1 ≡ tail_of r.0 (drop r.0 log))) }
-    ensures read { IsRead D.seen D.damaged D.may_leave device.old device.new }
-    ensures fault { Sees (D.seen device.new) (λ log. IfErr result (MayOpen (D.damaged device.new))) }
+    ensures kept { Sees (D.seen from.new.device) (λ log. IfOk result (λ r. Keeps I.Key.cmp log (I.view index.new) r.0 r.1)) }
+    ensures exact { Sees (D.seen from.new.device) (λ log. IfOk result (λ r. r.1 ≡ tail_of r.0 (drop r.0 log))) }
+    ensures read { IsRead D.seen D.damaged D.may_leave from.old.device from.new.device }
+    ensures fault { Sees (D.seen from.new.device) (λ log. IfErr result (MayOpen (D.damaged from.new.device))) }
 {
-    let len = length_of(device)?;
+    let len = length_of(&mut from.device)?;
     let mut end = 0;
     while end < len {
-        let block = read_bytes(alloc, device, end, (len - end).min(BLOCK))?;
-        let filed = file_all(alloc, device, index, block.as_slice(), end)?;
+        let block = read_bytes(from.alloc, &mut from.device, end, (len - end).min(BLOCK))?;
+        let filed = file_all(from, index, block.as_slice(), end)?;
         if filed != 0 {
             end += filed;
             continue;
         }
-        match file_one(alloc, device, index, end, len)? {
+        match file_one(from, index, end, len)? {
             Ok(filed) => end += filed,
             Err(tail) => return Ok((end, tail)),
         }

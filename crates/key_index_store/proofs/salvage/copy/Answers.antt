@@ -18,6 +18,7 @@ loop-position-init g c = record {
   few = omega arith;
   behind = λ log seen le runs. omega arith;
   read = c.in_ok-block.ensures.read;
+  same_end = refl;
   fresh = λ new seen_new.
       let told : c.in_ok-length_of.field-0 ≡ length new = c.in_ok-length_of.ensures.told new seen_new in
       (new, c.length_of.ensures.read.stays new seen_new, nil_from_length new (omega (arith, told, c.if-branch-ne0.false)));
@@ -49,6 +50,7 @@ loop-position-preserved g c = record {
   few = c.loop-position.invariant.few;
   behind = λ log seen le runs. c.loop-position.invariant.behind log (c.in_ok-block-in-Torn-2.ensures.read.stays log seen) le (runs_before g.I.Key.Ord.cmp (g.I.Runs.view c.args.index.now) _ _ c.args.is_all (take c.args.len log) c.in_ok-block-in-Torn-2.ensures.read.damage runs);
   read = read-then _ _ _ c.loop-position.invariant.read c.in_ok-block-in-Torn-2.ensures.read;
+  same_end = c.loop-position.invariant.same_end;
   fresh = c.loop-position.invariant.fresh;
   scan = λ log seen le runs.
       let was = c.loop-position.invariant.scan log (c.in_ok-block-in-Torn-2.ensures.read.stays log seen) le (runs_before g.I.Key.Ord.cmp (g.I.Runs.view c.args.index.now) _ _ c.args.is_all (take c.args.len log) c.in_ok-block-in-Torn-2.ensures.read.damage runs) in
@@ -125,13 +127,14 @@ loop-position-preserved-in-Damaged g c = let inv = c.loop-position.invariant in
     let next = c.next_place-next.result in
     let is = c.next_place-next.ensures.value ∙ ap (λ l. min (position + step position l) c.args.len) rest in
     let on : position + 1 ≤ next = omega (arith, c.next_place-next.ensures.on c.loop-position-test.true) in
-    let told : Sees (g.D.Device.seen c.loop-position.from) (λ log. c.args.len ≤ length log → HasRuns g.I.Key.Ord.cmp (g.I.Runs.view c.args.index.now) (g.D.Device.damaged c.loop-position.from) c.args.is_all (take c.args.len log) → Told (take c.args.len log) bytes position Damaged) =
+    let told : Sees (g.D.Device.seen c.loop-position.from.device) (λ log. c.args.len ≤ length log → HasRuns g.I.Key.Ord.cmp (g.I.Runs.view c.args.index.now) (g.D.Device.damaged c.loop-position.from.device) c.args.is_all (take c.args.len log) → Told (take c.args.len log) bytes position Damaged) =
     λ log seen le runs. told_at (inv.scan log seen le runs) inv.order Damaged (sym (c.in-Damaged.ensures.exact ∙ ap (reading position) rest)) (λ e. absurd (cc)) in
     record {
       order = omega (arith, inv.order, on);
       few = omega (arith, inv.few, on);
       behind = λ log seen le runs. omega (arith, inv.behind log seen le runs, on);
       read = inv.read;
+      same_end = inv.same_end;
       fresh = inv.fresh;
       scan = λ log seen le runs. scan_next (inv.scan log seen le runs) c.loop-position-test.true bytes Damaged (told log seen le runs) next is c.loop-position.records c.in_ok-since-in-Damaged.since _ (omega arith)
           (λ behind. c.in_ok-since-in-Damaged.ensures.noted behind ∙ ap (λ l. map gap_of c.loop-position.gaps.items ++ gaps_at c.loop-position.since position next [] (key_in position l) behind) rest);
@@ -149,13 +152,14 @@ loop-position-preserved-then-start-position g c = let inv = c.loop-position.inva
     let next = c.next_place-next.result in
     let is = c.next_place-next.ensures.value ∙ ap (λ l. min (position + step position l) c.args.len) rest in
     let on : position + 1 ≤ next = omega (arith, c.next_place-next.ensures.on c.loop-position-test.true) in
-    let told : Sees (g.D.Device.seen c.loop-position.from) (λ log. c.args.len ≤ length log → HasRuns g.I.Key.Ord.cmp (g.I.Runs.view c.args.index.now) (g.D.Device.damaged c.loop-position.from) c.args.is_all (take c.args.len log) → Told (take c.args.len log) bytes position Torn) =
+    let told : Sees (g.D.Device.seen c.loop-position.from.device) (λ log. c.args.len ≤ length log → HasRuns g.I.Key.Ord.cmp (g.I.Runs.view c.args.index.now) (g.D.Device.damaged c.loop-position.from.device) c.args.is_all (take c.args.len log) → Told (take c.args.len log) bytes position Torn) =
     λ log seen le runs. told_at (inv.scan log seen le runs) inv.order Torn (sym (c.in-Torn.ensures.exact ∙ ap (reading position) rest)) (λ e. omega (arith, c.if-start-position.true)) in
     record {
       order = omega (arith, inv.order, on);
       few = omega (arith, inv.few, on);
       behind = λ log seen le runs. omega (arith, inv.behind log seen le runs, on);
       read = inv.read;
+      same_end = inv.same_end;
       fresh = inv.fresh;
       scan = λ log seen le runs. scan_next (inv.scan log seen le runs) c.loop-position-test.true bytes Torn (told log seen le runs) next is c.loop-position.records c.in_ok-since-in-Torn.since _ (omega arith)
           (λ behind. c.in_ok-since-in-Torn.ensures.noted behind ∙ ap (λ l. map gap_of c.loop-position.gaps.items ++ gaps_at c.loop-position.since position next [] (key_in position l) behind) rest);
@@ -176,22 +180,23 @@ loop-position-preserved-in-Complete g c = let inv = c.loop-position.invariant in
     let on : position + 1 ≤ next = omega (arith, c.next_place-next.ensures.on c.loop-position-test.true) in
     let stays = c.in_ok-is_kept-in-Complete.ensures.read.stays in
     let keeps_it = keeps g.I.Key.Ord.cmp (g.I.Runs.view c.args.index.now) c.args.is_all in
-    let told : Sees (g.D.Device.seen c.loop-position.from) (λ log. c.args.len ≤ length log → HasRuns g.I.Key.Ord.cmp (g.I.Runs.view c.args.index.now) (g.D.Device.damaged c.loop-position.from) c.args.is_all (take c.args.len log) → Told (take c.args.len log) bytes position (Complete r)) =
+    let told : Sees (g.D.Device.seen c.loop-position.from.device) (λ log. c.args.len ≤ length log → HasRuns g.I.Key.Ord.cmp (g.I.Runs.view c.args.index.now) (g.D.Device.damaged c.loop-position.from.device) c.args.is_all (take c.args.len log) → Told (take c.args.len log) bytes position (Complete r)) =
     λ log seen le runs. told_at (inv.scan log seen le runs) inv.order (Complete r) (sym (c.in-Complete.ensures.exact ∙ ap (reading position) rest)) (λ e. absurd (cc)) in
-    let far : Sees (g.D.Device.seen c.loop-position.from) (λ log. c.args.len ≤ length log → HasRuns g.I.Key.Ord.cmp (g.I.Runs.view c.args.index.now) (g.D.Device.damaged c.loop-position.from) c.args.is_all (take c.args.len log) → (next ≡ position + size_of r) × (position + size_of r ≤ c.args.len)) =
+    let far : Sees (g.D.Device.seen c.loop-position.from.device) (λ log. c.args.len ≤ length log → HasRuns g.I.Key.Ord.cmp (g.I.Runs.view c.args.index.now) (g.D.Device.damaged c.loop-position.from.device) c.args.is_all (take c.args.len log) → (next ≡ position + size_of r) × (position + size_of r ≤ c.args.len)) =
     λ log seen le runs.
     let w = next_whole (take c.args.len log) position r (told log seen le runs).reads in
     (there (inv.scan log seen le runs) c.loop-position-test.true bytes (Complete r) (told log seen le runs) next is ∙ w.0, omega (arith, w.1, (inv.scan log seen le runs).told)) in
     let wrote = c.in_ok-written-in-Complete.ensures in
-    let end : Sees (g.D.Device.seen c.loop-position.from) (λ log. c.args.len ≤ length log → HasRuns g.I.Key.Ord.cmp (g.I.Runs.view c.args.index.now) (g.D.Device.damaged c.loop-position.from) c.args.is_all (take c.args.len log) → c.saturating_add-end.result ≡ c.loop-position.end + c.in_ok-written-in-Complete.written.1) =
+    let end : Sees (g.D.Device.seen c.loop-position.from.device) (λ log. c.args.len ≤ length log → HasRuns g.I.Key.Ord.cmp (g.I.Runs.view c.args.index.now) (g.D.Device.damaged c.loop-position.from.device) c.args.is_all (take c.args.len log) → c.saturating_add-end.result ≡ c.loop-position.end + c.in_ok-written-in-Complete.written.1) =
     λ log seen le runs. omega (arith, (far log seen le runs).1, inv.behind log seen le runs, wrote.bytes.0, c.saturating_add-end.ensures) in
-    let kept : Sees (g.D.Device.seen c.is_kept.new.from) (λ log. c.args.len ≤ length log → HasRuns g.I.Key.Ord.cmp (g.I.Runs.view c.args.index.now) (g.D.Device.damaged c.is_kept.new.from) c.args.is_all (take c.args.len log) → c.in_ok-is_kept-in-Complete.is_kept ≡ keeps_it position r.key) =
-    λ log seen le runs. c.in_ok-is_kept-in-Complete.ensures.told log seen le runs (ap (λ o. (parts_of o).0) (told log (stays log seen) le (runs_before g.I.Key.Ord.cmp (g.I.Runs.view c.args.index.now) _ _ c.args.is_all (take c.args.len log) c.in_ok-is_kept-in-Complete.ensures.read.damage runs)).reads) in
+    let kept : Sees (g.D.Device.seen c.is_kept.new.from.device) (λ log. c.args.len ≤ length log → HasRuns g.I.Key.Ord.cmp (g.I.Runs.view c.args.index.now) (g.D.Device.damaged c.is_kept.new.from.device) c.args.is_all (take c.args.len log) → c.in_ok-is_kept-in-Complete.is_kept ≡ keeps_it position r.key) =
+    λ log seen le runs. c.in_ok-is_kept-in-Complete.ensures.told c.args.len (λ few. c.requires few ∙ sym c.loop-position.invariant.same_end) log seen le runs (ap (λ o. (parts_of o).0) (told log (stays log seen) le (runs_before g.I.Key.Ord.cmp (g.I.Runs.view c.args.index.now) _ _ c.args.is_all (take c.args.len log) c.in_ok-is_kept-in-Complete.ensures.read.damage runs)).reads) in
     record {
       order = omega (arith, inv.order, on);
       few = omega (arith, inv.few, on, wrote.records.0);
       behind = λ log seen le runs. (let at = stays log seen in let was = (runs_before g.I.Key.Ord.cmp (g.I.Runs.view c.args.index.now) _ _ c.args.is_all (take c.args.len log) c.in_ok-is_kept-in-Complete.ensures.read.damage runs) in omega (arith, inv.behind log at le was, end log at le was, (far log at le was).0, wrote.bytes.0));
       read = read-then _ _ _ inv.read c.in_ok-is_kept-in-Complete.ensures.read;
+      same_end = c.in_ok-is_kept-in-Complete.ensures.end ∙ inv.same_end;
       fresh = λ new seen_new. inv.fresh (wrote.written new seen_new).0 (wrote.written new seen_new).1;
       scan = λ log seen le runs.
           let at = stays log seen in
@@ -224,7 +229,7 @@ returns-in_err-written-in-Complete-clause-begun g c = λ log seen le runs new se
     let was_runs = (runs_before g.I.Key.Ord.cmp (g.I.Runs.view c.args.index.now) _ _ c.args.is_all (take c.args.len log) c.in_ok-is_kept-in-Complete.ensures.read.damage runs) in
     let rest = c.bytes_from-rest.ensures ∙ ap (drop (c.loop-position.position - c.loop-position.start)) c.as_slice.ensures.value in
     let told = told_at (inv.scan log at le was_runs) inv.order (Complete r) (sym (c.in-Complete.ensures.exact ∙ ap (reading c.loop-position.position) rest)) (λ e. absurd (cc)) in
-    let kept = c.in_ok-is_kept-in-Complete.ensures.told log seen le runs (ap (λ o. (parts_of o).0) told.reads) in
+    let kept = c.in_ok-is_kept-in-Complete.ensures.told c.args.len (λ few. c.requires few ∙ sym c.loop-position.invariant.same_end) log seen le runs (ap (λ o. (parts_of o).0) told.reads) in
     let failed = c.in_err-written-in-Complete.ensures.begun new seen_new in
     let was = inv.copied log at le was_runs failed.0 failed.1 in
     (was.0, was.1, copied_begun was.2 r told.reads new (subst (λ b. IsBegun (encoded_from c.loop-position.end (one_if b r)) failed.0 new) kept (failed.2 was.2.size)))

@@ -1,5 +1,5 @@
 use Rattle.std.proofs.Common.{rules, ◌≡◌, ◌⊎◌, ◌<◌, ◌++◌, ◌||◌, List, Bor, true, ℕ, length, take, not, is_some, None, inl, inr, refl, sym, ap, subst, ◌∙◌}
-use Rattle.std.proofs.lemmas.Bool.{not-false, not-true}
+use Rattle.std.proofs.lemmas.Bool.{false≢true, not-false, not-true}
 use Rattle.std.specs.FinMap.{get, len}
 use Rattle.std.specs.Option.{option_map}
 use Rattle.key_index_store.specs.Damage.{Hides}
@@ -27,16 +27,16 @@ returns-in_err-make_room-clause-refused g c =
 pub returns-in_err-place-clause-refused : goal.returns-in_err-place-clause-refused
 returns-in_err-place-clause-refused g c =
     let r : Entry = record { key = c.args.key.now; value = option_map {T = Bor (List ℕ)} (λ v. v.now) c.args.value } in
-    let told : Changes (g.D.Device.seen c.args.self.now) (g.D.Device.seen c.find_place.new.device) (λ old new. HasRefused (Hides (g.D.Device.damaged c.find_place.new.device)) old r c.in_err-place.field-0.0 new) = λ mid seen.
+    let told : Changes (g.D.Device.seen c.args.self.now) (g.D.Device.seen c.find_place.new.self.device) (λ old new. HasRefused (Hides (g.D.Device.damaged c.find_place.new.self.device)) old r c.in_err-place.field-0.0 new) = λ mid seen.
     let mid_seen = c.in_err-place.ensures.read.stays mid seen in
     let room = c.in_ok-make_room.ensures.room mid (sym (ap g.D.Device.seen c.self.view_is) ∙ mid_seen) in
     let h = c.self.invariant.0 mid mid_seen in
     let front = take c.self.inside.log.end mid in
     let run = is_run g.I.Key.Ord.cmp front (g.I.Runs.view c.self.inside.index) c.args.key.now h.indexed in
-    let missed = missed_room (g.D.Device.damaged c.find_place.new.device) room.0 mid r.key c.in_err-place.field-0.0 room.2
-    (missed_key g.I.Key.Ord.cmp (g.D.Device.damaged c.find_place.new.device) mid (g.I.Runs.view c.self.inside.index) c.self.inside.log.end c.self.inside.tail h r.key c.in_err-place.field-0.0
+    let missed = missed_room (g.D.Device.damaged c.find_place.new.self.device) room.0 mid r.key c.in_err-place.field-0.0 room.2
+    (missed_key g.I.Key.Ord.cmp (g.D.Device.damaged c.find_place.new.self.device) mid (g.I.Runs.view c.self.inside.index) c.self.inside.log.end c.self.inside.tail h r.key c.in_err-place.field-0.0
     (c.in_err-place.ensures.fault mid seen h.within run)) in
-    (room.0, room.1, refused_early room.0 mid room.2 r (Hides (g.D.Device.damaged c.find_place.new.device)) c.in_err-place.field-0.0 (hidden-refuse (Hides (g.D.Device.damaged c.find_place.new.device)) room.0 r c.in_err-place.field-0.0 missed)) in
+    (room.0, room.1, refused_early room.0 mid room.2 r (Hides (g.D.Device.damaged c.find_place.new.self.device)) c.in_err-place.field-0.0 (hidden-refuse (Hides (g.D.Device.damaged c.find_place.new.self.device)) room.0 r c.in_err-place.field-0.0 missed)) in
     search (rules, told)
 
 pub returns-then-not-place-clause-changed : goal.returns-then-not-place-clause-changed
@@ -66,8 +66,9 @@ invariant_of-self-in-Err g c = (
       let part = failed.2 (all_kept room.0 mid room.2 r g.met.I.Key.Ord.total g.met.I.Runs.exact (g.I.Runs.view c.self.inside.index) c.self.inside.log.end c.self.inside.tail h c.requires) in
       let is : new ≡ mid ++ take part.0 (encoded c.self.inside.log.end r) = part.1 in
       let less : (part.0 < length (encoded c.self.inside.log.end r)) ⊎ (part.0 ≡ 0) = part.2 in
-      subst (λ l. Keeps g.I.Key.Ord.cmp l (g.I.Runs.view c.append.new.index) c.self.inside.log.end tail.Torn) (sym is)
-      (begun_keeps g.met.I.Key.Ord.total g.met.I.Runs.exact mid (g.I.Runs.view c.self.inside.index) c.self.inside.log.end (at_end room.0 mid room.2 r g.met.I.Key.Ord.total g.met.I.Runs.exact (g.I.Runs.view c.self.inside.index) c.self.inside.log.end c.self.inside.tail h c.requires) r c.requires part.0 (begun_size c.self.inside.log.end r part.0 less) (g.I.Runs.view c.append.new.index) c.in-Err.ensures.refused),
+      subst (λ e. Keeps g.I.Key.Ord.cmp new (g.I.Runs.view c.append.new.index) e tail.Torn) (sym c.in_ok-place.ensures.end)
+      (subst (λ l. Keeps g.I.Key.Ord.cmp l (g.I.Runs.view c.append.new.index) c.self.inside.log.end tail.Torn) (sym is)
+      (begun_keeps g.met.I.Key.Ord.total g.met.I.Runs.exact mid (g.I.Runs.view c.self.inside.index) c.self.inside.log.end (at_end room.0 mid room.2 r g.met.I.Key.Ord.total g.met.I.Runs.exact (g.I.Runs.view c.self.inside.index) c.self.inside.log.end c.self.inside.tail h c.requires) r c.requires part.0 (begun_size c.self.inside.log.end r part.0 less) (g.I.Runs.view c.append.new.index) c.in-Err.ensures.refused)),
   λ synced new seen none.
       let r : Entry = record { key = c.args.key.now; value = option_map {T = Bor (List ℕ)} (λ v. v.now) c.args.value } in
       let failed = c.in-Err.ensures.failed new seen in
@@ -226,3 +227,9 @@ returns-in_err-place-clause-crash g c = λ mid seen.
       λ c' left.
           adds_weaker (λ l same. inl same) (c.in_ok-make_room.ensures.crash room.0 room.1) c' (subst (λ d. g.D.Device.may_leave d c') c.self.view_is (c.in_err-place.ensures.read.crash c' left)),
     )
+
+pub append-requires-clause-known : goal.append-requires-clause-known
+append-requires-clause-known g c = λ none. elim c.else-is_none.branch [
+  | else-is_none-via-then-is_none+else-not-place w ↦ not-false _ w.if-not-place.false
+  | else-is_none-via-else-is_none w ↦ absurd (false≢true (sym none ∙ w.if-is_none.ensures))
+]

@@ -23,7 +23,7 @@ pub returns-in_err-place-clause-fault : goal.returns-in_err-place-clause-fault
 returns-in_err-place-clause-fault g c = λ log seen.
     let h = c.self.invariant.0 log (c.in_err-place.ensures.read.stays log seen) in
     let front = take c.self.inside.log.end log in
-    let may = missed_key g.I.Key.Ord.cmp (g.D.Device.damaged c.find_place.new.device) log (g.I.Runs.view c.self.inside.index) c.self.inside.log.end c.self.inside.tail h c.args.key.now c.in_err-place.field-0.0
+    let may = missed_key g.I.Key.Ord.cmp (g.D.Device.damaged c.find_place.new.self.device) log (g.I.Runs.view c.self.inside.index) c.self.inside.log.end c.self.inside.tail h c.args.key.now c.in_err-place.field-0.0
     (c.in_err-place.ensures.fault log seen h.within (is_run g.I.Key.Ord.cmp front (g.I.Runs.view c.self.inside.index) c.args.key.now h.indexed)) in
     let is : IfErr c.from_residual.result (λ f. f ≡ c.in_err-place.field-0.0) = search rules in
-    IfErr-weaker c.from_residual.result _ _ (λ f same. subst (MayMiss (g.D.Device.damaged c.find_place.new.device) log c.args.key.now) (sym same) may) is
+    IfErr-weaker c.from_residual.result _ _ (λ f same. subst (MayMiss (g.D.Device.damaged c.find_place.new.self.device) log c.args.key.now) (sym same) may) is

@@ -1,51 +1,39 @@
-use Rattle.std.proofs.Common.{rules, take, inr, sym, subst, ◌∙◌}
-use Rattle.std.proofs.lemmas.Result.{IfErr-weaker, IfOk-weaker}
-use Rattle.key_index_store.specs.Stored.{entry_before, held_by}
-use Rattle.key_index_store.proofs.DamageLemmas.{missed_at, missed_key}
-use Rattle.key_index_store.proofs.NearestLemmas.{IsTold, below_told}
+use Rattle.std.proofs.Common.{false, rules, take, inr, subst, ◌∙◌}
+use Rattle.std.proofs.lemmas.Result.{IfErr-weaker}
+use Rattle.key_index_store.proofs.BesideLemmas.{beside_told, sees_place, told_entry, told_fault}
+use Rattle.key_index_store.proofs.DamageLemmas.{missed_key}
 use Rattle.key_index_store.proofs.StoreLemmas.{is_run}
+use Rattle.key_index_store.proofs.KeepLemmas.{read_keeps}
+use Rattle.key_index_store.specs.laws.ReadLaws.{read-then}
+use Rattle.key_index_store.specs.Device.{IsRead}
 use Rattle.key_index_store.proofs.store.Store.prev.Goals as goal
 
 pub returns-in_err-place-clause-fault : goal.returns-in_err-place-clause-fault
 returns-in_err-place-clause-fault g c = λ log seen.
     let s = c.self.inside in
     let view = g.I.Runs.view s.index in
-    let cmp = g.I.Key.Ord.cmp in
-    let key = c.args.key.now in
-    let front = take s.log.end log in
     let kept = c.self.invariant.0 log (c.in_err-place.ensures.read.stays log seen) in
-    let run = is_run cmp front view key kept.indexed in
-    let may = missed_key cmp (g.D.Device.damaged c.find_place.new.device) log view s.log.end s.tail kept key c.in_err-place.field-0.0 (c.in_err-place.ensures.fault log seen kept.within run) in
+    let run = is_run g.I.Key.Ord.cmp (take s.log.end log) view c.args.key.now kept.indexed in
+    let may = missed_key g.I.Key.Ord.cmp (g.D.Device.damaged c.find_place.new.self.device) log view s.log.end s.tail kept c.args.key.now c.in_err-place.field-0.0 (c.in_err-place.ensures.fault log seen kept.within run) in
     search (rules, may)
 
 pub returns-clause-prev : goal.returns-clause-prev
 returns-clause-prev g c = λ log seen.
-    let s = c.self.inside in
-    let view = g.I.Runs.view s.index in
-    let cmp = g.I.Key.Ord.cmp in
-    let key = c.args.key.now in
-    let front = take s.log.end log in
-    let place = c.in_ok-place.place in
-    let mid = c.entry.ensures.read.stays log seen in
-    let kept = c.self.invariant.0 log (c.in_ok-place.ensures.read.stays log mid) in
-    let run = is_run cmp front view key kept.indexed in
-    let at = c.in_ok-place.ensures.at log mid kept.within run in
-    let told = subst (λ r. IsTold front r (entry_before (held_by log) key)) (sym c.position_below.ensures)
-    (below_told g.met.I.Key.Ord.total log view s.log.end s.tail (g.met.I.Runs.lawful s.index) (g.met.I.Ordered.keeps_order s.index) kept key c.in_ok-place.ensures.bytes place.place place.is_held at) in
-    IfOk-weaker c.entry.result _ _ (λ o is. is ∙ told.1) (c.entry.ensures.entry log seen kept.within told.0)
+    let look = c.in_ok-place.ensures in
+    let stands = sees_place look.read c.self.invariant.0 g.met.I.Key.Ord.total (g.met.I.Runs.lawful c.self.inside.index) (g.met.I.Ordered.keeps_order c.self.inside.index) look.bytes look.at log (c.entry.ensures.read.stays log seen) in
+    let tells = beside_told false stands c.position_below.ensures in
+    told_entry tells c.entry.result look.end (c.entry.ensures.entry log seen)
 
 pub returns-clause-fault : goal.returns-clause-fault
 returns-clause-fault g c = λ log seen.
-    let s = c.self.inside in
-    let view = g.I.Runs.view s.index in
-    let cmp = g.I.Key.Ord.cmp in
-    let key = c.args.key.now in
-    let front = take s.log.end log in
-    let place = c.in_ok-place.place in
-    let mid = c.entry.ensures.read.stays log seen in
-    let kept = c.self.invariant.0 log (c.in_ok-place.ensures.read.stays log mid) in
-    let run = is_run cmp front view key kept.indexed in
-    let at = c.in_ok-place.ensures.at log mid kept.within run in
-    let told = subst (λ r. IsTold front r (entry_before (held_by log) key)) (sym c.position_below.ensures)
-    (below_told g.met.I.Key.Ord.total log view s.log.end s.tail (g.met.I.Runs.lawful s.index) (g.met.I.Ordered.keeps_order s.index) kept key c.in_ok-place.ensures.bytes place.place place.is_held at) in
-    IfErr-weaker c.entry.result _ _ (λ f is. inr (missed_at cmp (g.D.Device.damaged c.entry.new.self.device) log view s.log.end s.tail kept _ (entry_before (held_by log) key) f told is)) (c.entry.ensures.fault log seen kept.within told.0)
+    let look = c.in_ok-place.ensures in
+    let stands = sees_place look.read c.self.invariant.0 g.met.I.Key.Ord.total (g.met.I.Runs.lawful c.self.inside.index) (g.met.I.Ordered.keeps_order c.self.inside.index) look.bytes look.at log (c.entry.ensures.read.stays log seen) in
+    let tells = beside_told false stands c.position_below.ensures in
+    IfErr-weaker c.entry.result _ _ (λ f may. inr may) (told_fault tells c.entry.result look.end (g.D.Device.damaged c.entry.new.self.device) (c.entry.ensures.fault log seen))
+
+pub invariant_of-self-2 : goal.invariant_of-self-2
+invariant_of-self-2 g c = read_keeps g.I.Key.Ord.cmp (g.I.Runs.view c.self.inside.index) c.self.inside.tail c.self.inside.is_synced c.self.inside.log.device c.entry.new.self.device c.self.inside.log.end c.entry.new.self.end
+    (read-then _ _ _ c.in_ok-place.ensures.read c.entry.ensures.read) (c.entry.ensures.end ∙ c.in_ok-place.ensures.end) c.self.invariant
+
+pub returns-clause-read : goal.returns-clause-read
+returns-clause-read g c = subst (λ d. IsRead g.D.Device.seen g.D.Device.damaged g.D.Device.may_leave d c.entry.new.self.device) c.self.view_is (read-then _ _ _ c.in_ok-place.ensures.read c.entry.ensures.read)

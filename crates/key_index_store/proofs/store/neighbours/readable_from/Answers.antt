@@ -10,7 +10,7 @@ use Rattle.key_index_store.specs.declared.store.Fault.TheVariants.{Damaged}
 use Rattle.key_index_store.specs.declared.store.log.Log.{Log}
 use Rattle.key_index_store.specs.declared.store.neighbours.Unreadable.{Unreadable}
 use Rattle.key_index_store.specs.laws.ReadLaws.{read-none, read-then}
-use Rattle.key_index_store.proofs.DamageLemmas.{HasPassed, is_beyond, passed_found, passed_later, passed_live, passed_more, passed_none, passed_other, unread}
+use Rattle.key_index_store.proofs.DamageLemmas.{HasPassed, is_beyond, passed_all, passed_found, passed_later, passed_live, passed_more, passed_none, passed_other, unread}
 use Rattle.key_index_store.proofs.store.neighbours.readable_from.Goals.{in-Ok-Some+else-is_beyond, in-Ok-None, in-Err+else-ne+in_ok-pass-in-Err}
 use Rattle.key_index_store.proofs.store.neighbours.readable_from.Goals as goal
 
@@ -98,3 +98,6 @@ loop-found-preserved g c =
                 (passed_more (passed_later (λ place h. pass.read.damage place (c.entry.ensures.read.damage place h)) was) pass.passed.0 (pass.read.damage p why)));
           }
     ]
+
+pub returns-clause-entry : goal.returns-clause-entry
+returns-clause-entry g c = λ bytes seen within live. passed_all (c.loop-found.invariant.passes bytes seen within live) c.in_default.ensures.found

@@ -26,13 +26,13 @@ pub returns-clause-fault : goal.returns-clause-fault
 returns-clause-fault g c = λ log seen within short indexed.
     let front : length (take c.args.position log) < 2 ^ 64 - 1 = omega (arith, length-take c.args.position log, short) in
     let full = refusal-Memory g.I.Key.Ord.cmp (take c.args.position log) (g.I.Runs.view c.args.index.now) indexed front in
-    IfErr-weaker c.settle.result _ (MayOpen (g.D.Device.damaged c.find_place.new.device)) (λ f is. inl (inl (is ∙ full))) c.settle.ensures.fault
+    IfErr-weaker c.settle.result _ (MayOpen (g.D.Device.damaged c.find_place.new.self.device)) (λ f is. inl (inl (is ∙ full))) c.settle.ensures.fault
 
 pub returns-in_err-place-clause-fault : goal.returns-in_err-place-clause-fault
 returns-in_err-place-clause-fault g c = λ log seen within short indexed.
     let front = take c.args.position log in
     let s = g.I.Runs.view c.args.index.now in
     let key = c.args.key.now in
-    let may = opened (g.D.Device.damaged c.find_place.new.device) (entry_at front) key (run_of g.I.Key.Ord.cmp s key) c.in_err-place.field-0.0
+    let may = opened (g.D.Device.damaged c.find_place.new.self.device) (entry_at front) key (run_of g.I.Key.Ord.cmp s key) c.in_err-place.field-0.0
     (c.in_err-place.ensures.fault log seen within (is_run g.I.Key.Ord.cmp front s key indexed)) in
     search (rules, may)

@@ -12,8 +12,8 @@ invariant-loop-record g l = record {
   within : length l.rest ≤ length l.bytes;
   at : l.place ≡ l.position + (length l.bytes - length l.rest);
   rest : l.rest ≡ drop (length l.bytes - length l.rest) l.bytes;
-  read : IsRead g.D.Device.seen g.D.Device.damaged g.D.Device.may_leave l.fn.device l.device;
-  indexed : Sees (g.D.Device.seen l.device) (λ log. l.bytes ≡ take (length l.bytes) (drop l.position log)
+  read : IsRead g.D.Device.seen g.D.Device.damaged g.D.Device.may_leave l.fn.from.device l.from.device;
+  indexed : Sees (g.D.Device.seen l.from.device) (λ log. l.bytes ≡ take (length l.bytes) (drop l.position log)
       → Indexes g.I.Key.Ord.cmp (take l.position log) (g.I.Runs.view l.fn.index)
       → Indexes g.I.Key.Ord.cmp (take l.place log) (g.I.Runs.view l.index));
 }

@@ -10,7 +10,7 @@ decreases-loop-end g l = l.len - l.end
 abbrev pub invariant-loop-end : goal.invariant-loop-end
 invariant-loop-end g l = record {
   below : l.end ≤ l.len;
-  read : IsRead g.D.Device.seen g.D.Device.damaged g.D.Device.may_leave l.fn.device l.device;
-  counted : Sees (g.D.Device.seen l.device) (λ log. l.len ≡ length log);
-  indexed : Sees (g.D.Device.seen l.device) (λ log. Indexes g.I.Key.Ord.cmp (take l.end log) (g.I.Runs.view l.index));
+  read : IsRead g.D.Device.seen g.D.Device.damaged g.D.Device.may_leave l.fn.from.device l.from.device;
+  counted : Sees (g.D.Device.seen l.from.device) (λ log. l.len ≡ length log);
+  indexed : Sees (g.D.Device.seen l.from.device) (λ log. Indexes g.I.Key.Ord.cmp (take l.end log) (g.I.Runs.view l.index));
 }
