@@ -16,11 +16,7 @@ pub trait Lists: Runs {
 }
 
 /// Visits each value of a list with one place, and gives the closure back.
-pub fn visit_list<'a, V, F: FnMut(usize, &'a V)>(
-    place: usize,
-    values: Values<'a, V>,
-    mut visit: F,
-) -> F
+fn visit_list<'a, V, F: FnMut(usize, &'a V)>(place: usize, values: Values<'a, V>, mut visit: F) -> F
     requires { F.IsAlwaysCallable visit }
     ensures again { F.IsAlwaysCallable result }
     ensures visited { FoldsTo (VisitsAt F.FnMut) visit (map (λ v. (place, v)) values.entry) result }
@@ -108,7 +104,7 @@ where
 }
 
 /// Visits the values at each index key, in their order, with the place that stands beside it, and gives the closure back.
-fn visit_probes<'a, I: Lists, F: FnMut(usize, &'a I::Value)>(
+pub fn visit_probes<'a, I: Lists, F: FnMut(usize, &'a I::Value)>(
     index: &'a I,
     probes: Vec<(I::Key, usize)>,
     mut visit: F,

@@ -16,12 +16,11 @@ use super::storage::Storage;
 use super::{PartitionRange, Partitioned, partition_index_and_sub_key, range};
 pub use ahead::{Ahead, same_visits, show_ahead, visit_ahead};
 use key_index_flat::cursor_of;
-use key_index_flat::index::implement::{Lists, show_counts};
+use key_index_flat::index::implement::{Lists, show_counts, visit_probes};
 use key_index_flat::index::{
     Factory, Fault, IndexCursor, Ordered, OrderedLists, Refused, Runs, Search, Unordered, Values,
 };
 use key_index_flat::translator::{OrderedTranslator, Translator};
-use probes::visit_probes;
 use std::alloc::Global;
 use std::convert::AsSlice;
 use std::fmt;
