@@ -1,13 +1,12 @@
 -- In a tree that has each key once, one way leads to a key's record, and one path with its place goes that way.
-use Rattle.std.proofs.Common.{◌≡◌, ℕ, suc, zero, ◌+◌, ◌*◌, ◌<◌, ◌/◌, ◌%◌, ◌==◌, Bool, true, false, cond, List, [], ◌∷◌, ◌++◌, length, Option, Some, None, Contains, refl, sym, ap, ◌∙◌, subst, arith}
+use Rattle.std.proofs.Common.{◌≡◌, ℕ, suc, zero, ◌+◌, ◌*◌, ◌/◌, ◌%◌, ◌==◌, Bool, true, false, cond, List, [], ◌∷◌, ◌++◌, length, Some, refl, sym, ap, ◌∙◌, arith}
 use Rattle.std.specs.Prelude.{slice_get}
-use Rattle.std.proofs.lemmas.Option.{slice_get-get_or, slice_get_within}
+use Rattle.std.proofs.lemmas.Option.{slice_get_within}
 use Rattle.std.proofs.lemmas.Bool.{false≢true}
 use Rattle.std.proofs.lemmas.Bool.Decides.{Decides-eqb}
-use Rattle.std.proofs.lemmas.List.Elements.{Contains-append_left, Contains-append_right}
-use Rattle.key_index_witness.specs.Tree.{Link, Tree, Leaf, Node, links_in, root_of, halved}
+use Rattle.key_index_witness.specs.Tree.{Link, Tree, Leaf, Node, links_in, halved}
 use Rattle.key_index_witness.specs.Verdict.{HasEachKeyOnce}
-use Rattle.key_index_witness.proofs.PathLemmas.{Turn, Leads, turns, here}
+use Rattle.key_index_witness.proofs.PathLemmas.{Turn, Leads, turns}
 
 get-left : (xs ys : List Link) (i : ℕ) (r : Link) → slice_get xs i ≡ Some r → slice_get (xs ++ ys) i ≡ Some r
 get-left [] ys i r h = absurd cc

@@ -2,7 +2,7 @@
 --     below-through    the order of keys is transitive
 --     same-gap         a key is in the gap of one record at most
 --     Shows            a record of the tree that a witness shows
-use Rattle.std.proofs.Common.{◌≡◌, ◌≢◌, ◌⊎◌, ◌&&◌, ◌==◌, ℕ, Bool, true, false, if◌then◌else◌, List, [], ◌∷◌, ◌++◌, length, Contains, Option, Some, None, is_some, option_map, IfSome, IsSome, bytes_eq, refl, sym, ap, ◌∙◌, subst, inl, inr, arith}
+use Rattle.std.proofs.Common.{◌≡◌, ◌⊎◌, ◌&&◌, ◌==◌, ℕ, Bool, true, false, if◌then◌else◌, List, [], ◌∷◌, ◌++◌, Contains, Option, Some, None, is_some, option_map, IfSome, IsSome, bytes_eq, refl, sym, ap, ◌∙◌, subst, inl, inr}
 use Rattle.std.proofs.lemmas.Slice.Eq.{bytes_eq-Decides}
 use Rattle.std.proofs.lemmas.Bool.{false≢true}
 use Rattle.std.proofs.lemmas.Bool.Decides.{Decides-eqb}
@@ -15,11 +15,11 @@ use Rattle.std.specs.Ordering.{is_lt, is_eq, nat_cmp, ordering_reverse}
 use Rattle.std.specs.Cmp.Lexicographic.{slice_cmp}
 use Rattle.sha2.specs.Sha256.{sha256}
 use Rattle.sha2.proofs.Facts256.{length-sha256}
-use Rattle.key_index_witness.specs.Tree.{Link, Tree, root_of, hashed_in, links_in, bound_bytes, leaf_bytes, climb, halved}
+use Rattle.key_index_witness.specs.Tree.{Link, Tree, root_of, hashed_in, links_in, bound_bytes, leaf_bytes, halved}
 use Rattle.key_index_witness.specs.Verdict.{HasEachKeyOnce, HasRecords, Collision, hashed_by, is_above, is_below, is_between, is_under, leaf_path, root_by, verdict}
 use Rattle.key_index_witness.specs.declared.Answer.{Answer}
 use Rattle.key_index_witness.specs.Witness.{Parts, Present, Absent, told}
-use Rattle.key_index_witness.proofs.PathLemmas.{here, there, Apart, HasLeaf, Leads, leaf-reached, turns}
+use Rattle.key_index_witness.proofs.PathLemmas.{here, there, Apart, Leads, leaf-reached, turns}
 use Rattle.key_index_witness.proofs.OnceLemmas.{one-way, one-path}
 use Rattle.key_index_witness.proofs.VerdictLemmas.{bound-inj, tells}
 

@@ -1,16 +1,14 @@
 -- What a witness tells is so, unless two lists of bytes that were hashed have one digest.
-use Rattle.std.proofs.Common.{◌≡◌, ◌≢◌, ◌⊎◌, ◌&&◌, ◌==◌, ℕ, zero, suc, ◌<◌, get_or, Bool, true, false, if◌then◌else◌, List, [], ◌∷◌, ◌++◌, length, Contains, Option, Some, None, is_some, unwrap_or, option_map, IfSome, bytes_eq, refl, sym, ap, ◌∙◌, subst, inl, inr, arith}
+use Rattle.std.proofs.Common.{◌≡◌, ◌≢◌, ◌⊎◌, ◌&&◌, ◌==◌, ℕ, zero, suc, ◌<◌, get_or, Bool, true, false, if◌then◌else◌, List, [], ◌∷◌, length, Contains, Option, Some, None, is_some, unwrap_or, option_map, IfSome, bytes_eq, refl, sym, ap, ◌∙◌, inl, inr, arith}
 use Rattle.std.proofs.lemmas.Slice.Eq.{bytes_eq-Decides}
 use Rattle.std.proofs.lemmas.Bool.{false≢true}
-use Rattle.std.proofs.lemmas.Bool.Decides.{Decides-eqb}
-use Rattle.std.specs.Borrow.{Bor}
 use Rattle.sha2.specs.Sha256.{sha256}
 use Rattle.sha2.proofs.Facts256.{length-sha256}
-use Rattle.key_index_witness.specs.Tree.{Link, Tree, Leaf, Node, bytes_of, root_of, hashed_in, links_in, bound_bytes, leaf_bytes, climb, climbed, halved}
-use Rattle.key_index_witness.specs.Verdict.{HasEachKeyOnce, HasRecords, Collision, hashed_by, is_above, is_below, is_between, is_shown, is_under, leaf_path, root_by, verdict}
+use Rattle.key_index_witness.specs.Tree.{Tree, root_of, hashed_in, bound_bytes, leaf_bytes, halved}
+use Rattle.key_index_witness.specs.Verdict.{HasRecords, Collision, hashed_by, is_between, leaf_path, root_by, verdict}
 use Rattle.key_index_witness.specs.Witness.{Parts, Present, Absent, told}
 use Rattle.key_index_witness.specs.declared.Answer.{Answer}
-use Rattle.key_index_witness.proofs.PathLemmas.{here, there, heads, tails, Apart, HasLeaf, leaf-reached, turns}
+use Rattle.key_index_witness.proofs.PathLemmas.{here, there, tails, Apart, leaf-reached}
 
 some≢none : (o : Option (List ℕ)) → Some o ≡ None → ⊥
 some≢none o h = false≢true (sym (ap is_some h))

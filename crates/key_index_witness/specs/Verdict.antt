@@ -5,11 +5,11 @@
 --     hashed_by         all the bytes of which a digest is taken to verify a witness of a key
 --     Collision         two different lists of bytes with one digest, the first among some, the second among others
 --     verdict           what a witness tells of a key, if anything: its value, or that it is absent
-use Rattle.std.specs.Prelude.{◌≡◌, ◌≢◌, ◌&&◌, ◌==◌, ℕ, Bool, true, if◌then◌else◌, List, [], ◌∷◌, Option, Some, None, Contains, bytes_eq, slice_get}
+use Rattle.std.specs.Prelude.{◌≡◌, ◌≢◌, ◌&&◌, ◌==◌, ℕ, Bool, true, if◌then◌else◌, List, ◌∷◌, Option, Some, None, Contains, bytes_eq, slice_get}
 use Rattle.std.specs.Ordering.{is_lt, nat_cmp}
 use Rattle.std.specs.Cmp.Lexicographic.{slice_cmp}
 use Rattle.sha2.specs.Sha256.{sha256}
-use Rattle.key_index_witness.specs.Tree.{Link, Tree, hashed_in, links_in, leaf_bytes, bound_bytes, climb, climbed, halved}
+use Rattle.key_index_witness.specs.Tree.{Link, Tree, links_in, leaf_bytes, bound_bytes, climb, climbed, halved}
 use Rattle.key_index_witness.specs.Witness.{Parts, Present, Absent}
 
 abbrev pub is_below : List ℕ → List ℕ → Bool

@@ -110,15 +110,15 @@ fn witnesses_tell_what_is_held(rt: HostRuntime) {
 fn no_bit_of_a_witness_may_be_another(rt: HostRuntime) {
     assert!(rt; matches!(told(b"ant", &HELD), Some(Answer::Present(b"six"))));
     assert!(rt; matches!(told(b"bee", &GONE), Some(Answer::Absent)));
-    for bit in 0..8 {
+    for bit in [1u8, 2, 4, 8, 16, 32, 64, 128] {
         for i in 0..HELD.len() {
             let mut changed = HELD;
-            changed[i] ^= 1 << bit;
+            changed[i] ^= bit;
             assert!(rt; told(b"ant", &changed).is_none(), "byte {i}, bit {bit}");
         }
         for i in 0..GONE.len() {
             let mut changed = GONE;
-            changed[i] ^= 1 << bit;
+            changed[i] ^= bit;
             assert!(rt; told(b"bee", &changed).is_none(), "byte {i}, bit {bit}");
         }
     }

@@ -1,8 +1,7 @@
-use Rattle.std.proofs.Common.{◌≡◌, ℕ, List, Option, Bor, subst, sym, ◌≤◌, ◌+◌, ◌∷◌, [], ◌++◌, length, ap, ◌∙◌, arith, length-append}
-use Rattle.std.specs.Int.{w64, to_le_bytes}
+use Rattle.std.proofs.Common.{◌≡◌, ℕ, List, Option, Bor, subst, sym, ◌≤◌, ◌+◌, ◌∷◌, [], ◌++◌, length, ap, ◌∙◌, arith}
 use Rattle.key_index_witness.specs.Bytes.{bound_field, written}
 use Rattle.key_index_witness.specs.Witness.{bytes_in}
-use Rattle.key_index_witness.proofs.WrittenLemmas.{Wrote, Wrote-first, Wrote-then}
+use Rattle.key_index_witness.proofs.WrittenLemmas.{Wrote-first, Wrote-then}
 use Rattle.key_index_witness.proofs.bytes.put_bound.Goals as goal
 
 pub returns-in-Some-clause-written : goal.returns-in-Some-clause-written

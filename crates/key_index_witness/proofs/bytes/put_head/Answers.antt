@@ -1,8 +1,7 @@
-use Rattle.std.proofs.Common.{◌≡◌, ◌+◌, ◌≤◌, ◌∷◌, [], ◌++◌, List, ℕ, length, refl, sym, ap, ◌∙◌, append_assoc, arith, length-append}
-use Rattle.std.specs.Int.{w64, to_le_bytes}
+use Rattle.std.proofs.Common.{◌≡◌, ◌≤◌, ◌∷◌, [], ◌++◌, List, ℕ, length, ap, ◌∙◌, arith, length-append}
 use Rattle.std.specs.List.{flat_map}
-use Rattle.key_index_witness.specs.Bytes.{path_field, head_field, written}
-use Rattle.key_index_witness.proofs.WrittenLemmas.{fields-joined, Wrote, Wrote-first, Wrote-then}
+use Rattle.key_index_witness.specs.Bytes.{path_field, written}
+use Rattle.key_index_witness.proofs.WrittenLemmas.{fields-joined, Wrote-first, Wrote-then}
 use Rattle.key_index_witness.proofs.bytes.put_head.Goals as goal
 
 pub returns-clause-written : goal.returns-clause-written

@@ -1,8 +1,8 @@
-use Rattle.std.proofs.Common.{◌≡◌, ℕ, List, sym, subst, ◌≤◌, ◌+◌, ◌∷◌, [], ◌++◌, length, ap, ◌∙◌, arith, length-append, append_assoc}
+use Rattle.std.proofs.Common.{ℕ, List, sym, subst, ◌≤◌, ◌∷◌, ◌++◌, length, ap, ◌∙◌, arith, length-append, append_assoc}
 use Rattle.key_index_witness.specs.Bytes.{bound_field, encoded, head_field, written}
 use Rattle.key_index_witness.specs.declared.Witness.{Witness}
 use Rattle.key_index_witness.specs.Witness.{bytes_in, parts_of}
-use Rattle.key_index_witness.proofs.WrittenLemmas.{Wrote, Wrote-first, Wrote-then}
+use Rattle.key_index_witness.proofs.WrittenLemmas.{Wrote-first, Wrote-then}
 use Rattle.key_index_witness.proofs.bytes.put_witness.Goals as goal
 
 pub returns-in-Present : goal.returns-in-Present
