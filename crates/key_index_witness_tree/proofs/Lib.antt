@@ -1,0 +1,3 @@
+pub mod HeapLemmas
+pub mod LeavesLemmas
+pub mod SlotLemmas
