@@ -95,8 +95,12 @@ number_again n rest lt = number_again_of n (to_le_bytes w64 n) rest refl (from_l
 
 -- ---- paths
 
-abbrev AreDigests : List (List ℕ) → Type 0
+abbrev pub AreDigests : List (List ℕ) → Type 0
 AreDigests path = AllByRecursion (λ d. length d ≡ 32) path
+
+pub digests-by_index : (path : List (List ℕ)) → ((i : ℕ) → i < length path → length (get_or path i []) ≡ 32) → AreDigests path
+digests-by_index [] h = tt
+digests-by_index (d ∷ path) h = (h 0 (omega arith), digests-by_index path (λ i lt. h (suc i) (omega (arith, lt))))
 
 flat-chunks : (k : ℕ) (xs : List ℕ) → length xs ≡ 32 * k
     → (flat_map (λ d. d) (first_chunks 32 k xs) ≡ xs) × (length (first_chunks 32 k xs) ≡ k) × AreDigests (first_chunks 32 k xs)

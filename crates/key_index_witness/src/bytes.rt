@@ -1,5 +1,5 @@
 ghost use Rattle.std.specs.Prelude.{◌≡◌, ◌+◌, ◌*◌, ◌^◌, ◌<◌, ◌≤◌, ◌&&◌, ◌++◌, ◌∷◌, [], List, ℕ, Option, Some, None, IfSome, IfNone, IsTrue, drop, length, nat_le, nat_lt, option_map, if◌then◌else◌};
-ghost use Rattle.key_index_witness.specs.Bytes.{HasSizes, bound_field, encoded, head_field, is_short, written};
+ghost use Rattle.key_index_witness.specs.Bytes.{HasHeadSizes, HasKeySize, HasSizes, bound_field, encoded, head_field, is_short, written};
 ghost use Rattle.key_index_witness.specs.Reading.{absent_at, bound_at, cut, front_of, head_at, number_at, path_at, read};
 ghost use Rattle.key_index_witness.specs.Witness.{Parts, bytes_in, parts_of};
 
@@ -27,6 +27,7 @@ struct Head<'a> {
 pub fn decode(bytes: &[u8]) -> Option<Witness<'_>>
     // The witness is written as these bytes.
     ensures written { IfSome result (λ w. encoded (parts_of w) ≡ bytes.now) }
+    ensures sizes { IfSome result (λ w. HasSizes (parts_of w)) }
     // A witness that is written as these bytes is the one that is read.
     ensures read { (w : Parts) → HasSizes w → encoded w ≡ bytes.now → option_map parts_of result ≡ Some w }
 {
@@ -149,8 +150,9 @@ fn cut_of(count: u64, bytes: &[u8]) -> Option<(&[u8], &[u8])>
 
 /// How many bytes [`encode`] writes, or `None` for more digests on the path than 255, or more bytes than a `usize` counts.
 pub fn encoded_len(witness: Witness<'_>) -> Option<usize>
-    ensures { let w = parts_of witness.entry in
+    ensures exact { let w = parts_of witness.entry in
         result ≡ (if is_short w && nat_lt (length (encoded w)) (2 ^ 64) then Some (length (encoded w)) else None) }
+    ensures sizes { IfSome result (λ n. HasSizes (parts_of witness.entry)) }
 {
     match witness {
         Witness::Present {
@@ -173,8 +175,9 @@ pub fn encoded_len(witness: Witness<'_>) -> Option<usize>
 
 /// With the byte in front of it.
 fn head_len(place: u64, digest: &[u8; 32], path: &[[u8; 32]]) -> Option<usize>
-    ensures { result ≡ (if nat_lt (length path.now) 256
+    ensures exact { result ≡ (if nat_lt (length path.now) 256
         then Some (1 + length (head_field place digest.now path.now)) else None) }
+    ensures sizes { IfSome result (λ n. HasHeadSizes place digest.now path.now) }
 {
     if path.len() > 255 {
         return None;
@@ -183,7 +186,8 @@ fn head_len(place: u64, digest: &[u8; 32], path: &[[u8; 32]]) -> Option<usize>
 }
 
 fn bound_len(bound: Option<&[u8]>) -> usize
-    ensures { result ≡ length (bound_field (bytes_in bound.entry)) }
+    ensures len { result ≡ length (bound_field (bytes_in bound.entry)) }
+    ensures size { HasKeySize (bytes_in bound.entry) }
 {
     match bound {
         Some(key) => 9 + key.len(),
@@ -200,6 +204,7 @@ pub fn encode(witness: Witness<'_>, out: &mut [u8]) -> Option<usize>
     // The front is the form of the witness, and the rest stays.
     ensures written { IfSome result (λ n. out.new ≡ encoded (parts_of witness.entry) ++ drop n out.old) }
     ensures refused { IfNone result (out.new ≡ out.old) }
+    ensures sizes { IfSome result (λ n. HasSizes (parts_of witness.entry)) }
 {
     let length = encoded_len(witness)?;
     if length > out.len() {
