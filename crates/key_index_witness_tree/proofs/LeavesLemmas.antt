@@ -1,5 +1,5 @@
 -- The leaves of a list of nodes after a change, and its root by them.
-use Rattle.std.proofs.Common.{◌≡◌, ◌≢◌, ◌⊎◌, ℕ, zero, suc, ◌+◌, ◌-◌, ◌*◌, ◌/◌, ◌%◌, ◌==◌, ◌<◌, ◌≤◌, nat_le, List, [], ◌∷◌, ◌++◌, length, get_or, take, Bool, true, false, if◌then◌else◌, Result, Ok, Err, OnOk, refl, sym, ap, subst, ◌∙◌, inl, inr, arith, length-append, leb-true, leb-false, get_or-set_same, get_or-set_other}
+use Rattle.std.proofs.Common.{◌≡◌, ◌≢◌, ℕ, zero, suc, ◌+◌, ◌-◌, ◌*◌, ◌/◌, ◌%◌, ◌==◌, ◌<◌, ◌≤◌, nat_le, List, [], ◌∷◌, ◌++◌, length, get_or, take, true, false, if◌then◌else◌, Result, Ok, Err, OnOk, refl, sym, ap, ◌∙◌, inl, inr, arith, length-append, leb-true, leb-false, get_or-set_same, get_or-set_other}
 use Rattle.std.specs.Prelude.{slice_set}
 use Rattle.std.proofs.lemmas.Bool.{false≢true, cases_lt}
 use Rattle.std.proofs.lemmas.Bool.Decides.{Decides-eqb}
@@ -8,7 +8,7 @@ use Rattle.std.proofs.Math.ListN.{length-set}
 use Rattle.sha2.specs.Sha256.{sha256}
 use Rattle.key_index_witness.specs.Tree.{Tree, Node, node_bytes, root_of}
 use Rattle.key_index_witness_tree.specs.Slots.{by_slot, place_of, slot_of}
-use Rattle.key_index_witness_tree.specs.Heap.{AreRoots, IsHeap, IsTree, digest_at, leaf_in, leaves_of, node_at, root_digest, set_all, tree_at, tree_of}
+use Rattle.key_index_witness_tree.specs.Heap.{AreRoots, IsTree, digest_at, leaf_in, leaves_of, node_at, root_digest, set_all, tree_at, tree_of}
 use Rattle.key_index_witness_tree.proofs.SlotLemmas.{leaf_added, leaf_after_set, leaf_of_longer, place-slot, place-within, slot-within}
 
 pub length-by_slot : (f : ℕ → List ℕ) (n : ℕ) → length (by_slot f n) ≡ n
@@ -55,20 +55,20 @@ leaves-set old new slot place digest even size low is at others =
     let old_size = length-leaves old in
     let set_size = length-set {A = List ℕ} xs slot digest in
     ext_get_or [] (leaves_of new) (slice_set xs slot digest) (omega (arith, m, new_size, old_size, set_size)) (λ s h.
-      let within : s < length new / 2 = omega (arith, h, new_size) in
-      let under : s < n = omega (arith, within, m) in
-      get-leaves new s within
-      ∙ elim (s == slot) as (λ b. b ≡ (s == slot) → leaf_in new s ≡ get_or (slice_set xs slot digest) s []) [
-        | true ↦ λ e.
-            let same : s ≡ slot = (Decides-eqb s slot).0 (sym e) in
-            let inside : slot < length xs = omega (arith, low, old_size) in
-            ap (leaf_in new) same ∙ ((λ i. node_at new (place_of (m i) slot)) ∙ (ap (node_at new) (sym is) ∙ (at
-            ∙ (sym (get_or-set_same xs slot digest [] inside) ∙ ap (λ j. get_or (slice_set xs slot digest) j []) (sym same)))))
-        | false ↦ λ e.
-            let differ : s ≢ slot = λ h. false≢true (e ∙ (Decides-eqb s slot).1 h) in
-            leaf_after_set old new slot place s even size is others under differ
-            ∙ (sym (get-leaves old s under) ∙ sym (get_or-set_other xs slot s digest [] differ))
-      ] refl)
+    let within : s < length new / 2 = omega (arith, h, new_size) in
+    let under : s < n = omega (arith, within, m) in
+    get-leaves new s within
+    ∙ elim (s == slot) as (λ b. b ≡ (s == slot) → leaf_in new s ≡ get_or (slice_set xs slot digest) s []) [
+      | true ↦ λ e.
+          let same : s ≡ slot = (Decides-eqb s slot).0 (sym e) in
+          let inside : slot < length xs = omega (arith, low, old_size) in
+          ap (leaf_in new) same ∙ ((λ i. node_at new (place_of (m i) slot)) ∙ (ap (node_at new) (sym is) ∙ (at
+          ∙ (sym (get_or-set_same xs slot digest [] inside) ∙ ap (λ j. get_or (slice_set xs slot digest) j []) (sym same)))))
+      | false ↦ λ e.
+          let differ : s ≢ slot = λ h. false≢true (e ∙ (Decides-eqb s slot).1 h) in
+          leaf_after_set old new slot place s even size is others under differ
+          ∙ (sym (get-leaves old s under) ∙ sym (get_or-set_other xs slot s digest [] differ))
+    ] refl)
 
 -- a longer list has the leaves of the shorter one, and one more
 leaves-longer : (shorter longer : List (List ℕ)) → length shorter % 2 ≡ 0 → length longer ≡ length shorter + 2
@@ -105,7 +105,7 @@ leaves-same old new even size same =
     let n = length old / 2 in
     ap (λ l. by_slot (leaf_in new) (l / 2)) size
     ∙ by_slot-same (leaf_in new) (leaf_in old) n (λ s low.
-      ap (λ l. node_at new (place_of (l / 2) s)) size ∙ same (place_of n s) (let w = (place-within n s low).0 in omega (arith, w, even)))
+    ap (λ l. node_at new (place_of (l / 2) s)) size ∙ same (place_of n s) (let w = (place-within n s low).0 in omega (arith, w, even)))
 
 -- ---- the root
 

@@ -4,7 +4,7 @@
 --     place-within            and each slot a place
 --     slot-place              the slot of a slot's place
 --     slot-alone              two leaves have two slots
-use Rattle.std.proofs.Common.{◌≡◌, ◌≢◌, ◌⊎◌, ℕ, zero, suc, ◌+◌, ◌-◌, ◌*◌, ◌/◌, ◌%◌, ◌==◌, ◌<◌, ◌≤◌, nat_le, List, length, Result, Ok, Err, OnOk, Bool, true, false, if◌then◌else◌, refl, sym, ap, subst, ◌∙◌, inl, inr, arith, le-leb, leb-true, leb-false}
+use Rattle.std.proofs.Common.{◌≡◌, ◌≢◌, ◌⊎◌, ℕ, zero, suc, ◌+◌, ◌*◌, ◌/◌, ◌%◌, ◌==◌, ◌<◌, ◌≤◌, nat_le, List, length, true, false, if◌then◌else◌, refl, sym, ap, ◌∙◌, inl, inr, arith, le-leb, leb-true, leb-false}
 use Rattle.std.proofs.lemmas.Bool.{false≢true}
 use Rattle.std.proofs.lemmas.Bool.Decides.{Decides-eqb}
 use Rattle.key_index_witness_tree.specs.Heap.{node_at, leaf_in}

@@ -18,8 +18,8 @@ ghost use Rattle.key_index_witness_tree.specs.Slots.{place_of};
 use std::alloc::{AllocError, Global};
 use std::marker::Model;
 
-//T
-//Tmod
+#[cfg(test)]
+mod tests;
 
 /// The digests of some leaves, at least one, and of the nodes above them. Its value is the list of the leaves by their slots, from 0 on.
 #[derive(Drop)]

@@ -1,7 +1,7 @@
 use Rattle.std.proofs.Common.{◌≡◌, ◌/◌, ◌<◌, [], length, get_or, sym, ap, ◌∙◌, arith}
 use Rattle.key_index_witness.specs.Tree.{climb}
 use Rattle.key_index_witness_tree.specs.Slots.{place_of}
-use Rattle.key_index_witness_tree.specs.Heap.{leaf_in, leaves_of, node_at}
+use Rattle.key_index_witness_tree.specs.Heap.{leaves_of, node_at}
 use Rattle.key_index_witness_tree.proofs.LeavesLemmas.{get-leaves, length-leaves, root-digest}
 use Rattle.key_index_witness_tree.proofs.nodes.path.Goals as goal
 

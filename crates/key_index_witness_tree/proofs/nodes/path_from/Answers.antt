@@ -1,4 +1,4 @@
-use Rattle.std.proofs.Common.{◌≡◌, ◌<◌, ◌≤◌, ◌/◌, ◌++◌, ◌∷◌, [], length, sym, ap, ◌∙◌, arith}
+use Rattle.std.proofs.Common.{◌≡◌, ◌<◌, ◌/◌, ◌++◌, ◌∷◌, [], length, ap, ◌∙◌, arith}
 use Rattle.key_index_witness.specs.Tree.{climb, halved}
 use Rattle.key_index_witness_tree.specs.Heap.{node_at, beside}
 use Rattle.key_index_witness_tree.proofs.HeapLemmas.{halved-push, step-up}

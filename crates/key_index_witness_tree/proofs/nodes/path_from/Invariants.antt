@@ -1,4 +1,4 @@
-use Rattle.std.proofs.Common.{◌≡◌, ℕ, ◌≤◌}
+use Rattle.std.proofs.Common.{◌≡◌, ◌≤◌}
 use Rattle.key_index_witness.specs.Tree.{climb, halved}
 use Rattle.key_index_witness_tree.specs.Heap.{node_at}
 use Rattle.key_index_witness_tree.proofs.nodes.path_from.Given as goal

@@ -1,4 +1,4 @@
-use Rattle.std.proofs.Common.{◌≡◌, ◌%◌, length, arith}
+use Rattle.std.proofs.Common.{arith}
 use Rattle.key_index_witness_tree.proofs.LeavesLemmas.{leaves-pop}
 use Rattle.key_index_witness_tree.proofs.nodes.pop.Goals as goal
 

@@ -1,4 +1,4 @@
-use Rattle.std.proofs.Common.{◌≡◌, ℕ, ◌*◌, ◌/◌, ◌<◌, ◌≤◌, length}
+use Rattle.std.proofs.Common.{◌≡◌, ℕ, ◌*◌, ◌/◌, ◌≤◌, length}
 use Rattle.key_index_witness_tree.specs.Heap.{IsHeapBut, node_at}
 use Rattle.key_index_witness_tree.proofs.nodes.raise.Given as goal
 

@@ -1,6 +1,5 @@
-use Rattle.std.proofs.Common.{◌≡◌, ℕ, ◌<◌, ◌≤◌, List, [], length, ◌∙◌, arith}
+use Rattle.std.proofs.Common.{[], ◌∙◌, arith}
 use Rattle.std.proofs.lemmas.List.{get_or_default}
-use Rattle.key_index_witness_tree.specs.Heap.{IsTree, node_at}
 use Rattle.key_index_witness_tree.proofs.LeavesLemmas.{root-digest, root-tree}
 use Rattle.key_index_witness_tree.proofs.nodes.root.Goals as goal
 

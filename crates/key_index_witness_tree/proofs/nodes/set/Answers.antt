@@ -1,4 +1,4 @@
-use Rattle.std.proofs.Common.{◌≡◌, ◌/◌, ◌<◌, length, ap, ◌∙◌, arith}
+use Rattle.std.proofs.Common.{◌≡◌, ◌/◌, length, ap, ◌∙◌, arith}
 use Rattle.key_index_witness_tree.specs.Slots.{place_of}
 use Rattle.key_index_witness_tree.proofs.LeavesLemmas.{leaves-set, length-leaves}
 use Rattle.key_index_witness_tree.proofs.nodes.set.Goals as goal
