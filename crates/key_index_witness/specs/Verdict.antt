@@ -1,5 +1,6 @@
 -- What a witness tells of a key to one who knows a root.
 --     is_between        a key is strictly between two others, in the order of their bytes. None is below all keys, or above them
+--     Map               the value of each held key
 --     HasRecords        a tree has records of a map: a key with its value, and no key of the map between a record's key and the next one
 --     HasEachKeyOnce    no two of its records have one key
 --     hashed_by         all the bytes of which a digest is taken to verify a witness of a key
@@ -26,7 +27,10 @@ is_under q (Some key) = is_below q key
 abbrev pub is_between : Option (List ℕ) → List ℕ → Option (List ℕ) → Bool
 is_between below q next = is_above below q && is_under q next
 
-pub record HasRecords (t : Tree) (map : List ℕ → Option (List ℕ)) : Type 0 where
+abbrev pub Map : Type 0
+Map = List ℕ → Option (List ℕ)
+
+pub record HasRecords (t : Tree) (map : Map) : Type 0 where
   pub held : (r : Link) (key : List ℕ) → Contains (links_in t) r → r.key ≡ Some key → map key ≡ Some r.value
   pub gap : (r : Link) (q : List ℕ) → Contains (links_in t) r → is_between r.key q r.next ≡ true → map q ≡ None
 

@@ -1,7 +1,7 @@
-ghost use Rattle.std.specs.Prelude.{◌≡◌, ◌⊎◌, ◌++◌, List, ℕ, Option, IfSome, IsSome, option_map};
+ghost use Rattle.std.specs.Prelude.{◌≡◌, ◌⊎◌, ◌++◌, IfSome, IsSome, option_map};
 ghost use Rattle.sha2.specs.Sha256.{sha256};
 ghost use Rattle.key_index_witness.specs.Tree.{Tree, climb, halved, hashed_in, pair_bytes, root_of};
-ghost use Rattle.key_index_witness.specs.Verdict.{Collision, HasEachKeyOnce, HasRecords, hashed_by, is_above, is_below, is_shown, is_under, verdict};
+ghost use Rattle.key_index_witness.specs.Verdict.{Collision, HasEachKeyOnce, HasRecords, Map, hashed_by, is_above, is_below, is_shown, is_under, verdict};
 ghost use Rattle.key_index_witness.specs.Witness.{Parts, bytes_in, parts_of, told};
 
 use crate::digests::{bound, digest, joined, key_digest, leaf};
@@ -70,17 +70,16 @@ fn is_under(q: &[u8], bound: Option<&[u8]>) -> bool
     }
 }
 
-/// What a witness of a key tells to one who knows the root alone, or `None` where it tells nothing. A witness of n digests on its path
-/// takes n + 3 digests of at most 97 bytes, besides those of the key and the value, or of the keys around.
+/// What a witness of a key tells to one who knows the root alone, or `None` where it tells nothing. With n digests on the path it takes
+/// n + 3: those of the key and the value, or of the keys around; that of the record, of 97 bytes; and n of 65 bytes.
 pub fn verify<'a>(root: &[u8; 32], key: &[u8], witness: Witness<'a>) -> Option<Answer<'a>>
     // The result is that of a definition.
     ensures exact { option_map told result ≡ verdict root.now key.now (parts_of witness.entry) }
     // What is told is so, or two lists of bytes have one digest, one that was hashed here and one that was hashed for the root.
-    ensures sound { IfSome result (λ answer. (t : Tree) (map : List ℕ → Option (List ℕ)) → HasRecords t map
-        → root.now ≡ root_of t
+    ensures sound { IfSome result (λ answer. (t : Tree) (map : Map) → HasRecords t map → root.now ≡ root_of t
         → (map key.now ≡ told answer) ⊎ Collision (hashed_by key.now (parts_of witness.entry)) (hashed_in t)) }
     // No other witness tells anything of the key, or there are such lists: of one witness or the other, and of the root.
-    ensures one { IfSome result (λ answer. (t : Tree) (map : List ℕ → Option (List ℕ)) (other : Parts) → HasRecords t map
+    ensures one { IfSome result (λ answer. (t : Tree) (map : Map) (other : Parts) → HasRecords t map
         → HasEachKeyOnce t → root.now ≡ root_of t → IsSome (verdict root.now key.now other)
         → let mine = parts_of witness.entry in
         (mine ≡ other) ⊎ Collision (hashed_by key.now mine ++ hashed_by key.now other) (hashed_in t)) }

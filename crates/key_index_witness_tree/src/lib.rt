@@ -77,7 +77,8 @@ impl Leaves {
     pub fn root(&self) -> [u8; 32]
         ensures digest { result ≡ root_digest self.now }
         // Where the leaves are the roots of trees, it is the root of the tree of these.
-        ensures tree { (tree : ℕ → Tree) → AreRoots self.now tree → result ≡ root_of (tree_of tree (length self.now)) }
+        ensures tree { (tree : ℕ → Tree) → AreRoots self.now tree
+            → result ≡ root_of (tree_of tree (length self.now)) }
     {
         nodes::root(&self.nodes)
     }
@@ -122,7 +123,8 @@ impl Leaves {
     pub fn path(&self, alloc: Global, slot: usize) -> Result<Path, AllocError>
         requires { slot < length self.now }
         ensures place { IfOk result (λ p. p.place ≡ place_of (length self.now) slot) }
-        ensures root { IfOk result (λ p. climb p.place (slice_index_or self.now slot []) p.siblings.items ≡ root_digest self.now) }
+        ensures root { IfOk result (λ p. climb p.place (slice_index_or self.now slot []) p.siblings.items
+            ≡ root_digest self.now) }
         ensures end { IfOk result (λ p. halved p.place p.siblings.items ≡ 1) }
     {
         let (place, siblings) = nodes::path(alloc, &self.nodes, slot)?;

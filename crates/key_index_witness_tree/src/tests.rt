@@ -1,5 +1,6 @@
-//! The expected digests were made with Python's hashlib. The leaf in slot i is 32 times the byte i.
+//! The expected digests were made with Python's hashlib. The leaf in slot i is 32 times the byte i, but in the last test.
 use super::*;
+use key_index_witness::{Answer, Witness, bound, digest, verify};
 
 const TWO: [u8; 32] = [
     0x2a, 0xd8, 0x2c, 0x3a, 0x51, 0xe8, 0xed, 0x64, 0x18, 0xcb, 0x5b, 0xf2, 0x67, 0xc5, 0xf9, 0xe5,
@@ -34,6 +35,11 @@ const BESIDE_5: [u8; 32] = [
 const BESIDE_2: [u8; 32] = [
     0x0a, 0x0d, 0xa9, 0xf2, 0xe2, 0x3a, 0x56, 0x11, 0x60, 0x55, 0x9e, 0xaf, 0x03, 0xfa, 0x7a, 0xc1,
     0xc3, 0x9d, 0xbd, 0xc3, 0xc1, 0x4f, 0x53, 0xc0, 0x46, 0x68, 0x92, 0xe5, 0x5e, 0x0e, 0x77, 0xfa,
+];
+
+const RECORDS: [u8; 32] = [
+    0x0b, 0x4e, 0xbb, 0xad, 0xe7, 0x3c, 0x8b, 0x8b, 0xc9, 0x44, 0x8f, 0x2e, 0x74, 0xbe, 0x69, 0x2d,
+    0xaf, 0x79, 0xa5, 0xf1, 0xc7, 0xc3, 0x62, 0x00, 0x90, 0x38, 0x98, 0x66, 0x13, 0x94, 0xe8, 0xb9,
 ];
 
 fn leaf(byte: u8) -> [u8; 32] {
@@ -110,5 +116,34 @@ fn changes_together_are_changes_one_by_one(rt: HostRuntime) -> Result<(), AllocE
     assert_eq!(rt; path.place, 10);
     let siblings = [leaf(5), BESIDE_5, BESIDE_2];
     assert!(rt; path.siblings.as_slice() == siblings.as_slice());
+    Ok(())
+}
+
+#[test]
+fn path_of_a_record_is_a_witness(rt: HostRuntime) -> Result<(), AllocError> {
+    let records = [
+        key_index_witness::leaf(&bound(None), &digest(b""), &bound(Some(b"ant"))),
+        key_index_witness::leaf(&bound(Some(b"cow")), &digest(b"four"), &bound(None)),
+        key_index_witness::leaf(&bound(Some(b"ant")), &digest(b"six"), &bound(Some(b"cow"))),
+    ];
+    let tree = Leaves::build(rt.alloc(), &records)?;
+    let root = tree.root();
+    assert_eq!(rt; root, RECORDS);
+    let path = tree.path(rt.alloc(), 2)?;
+    let held = Witness::Present {
+        value: b"six",
+        next: &bound(Some(b"cow")),
+        place: path.place,
+        path: path.siblings.as_slice(),
+    };
+    assert!(rt; matches!(verify(&root, b"ant", held), Some(Answer::Present(b"six"))));
+    let absent = Witness::Absent {
+        below: Some(b"ant"),
+        value: &digest(b"six"),
+        next: Some(b"cow"),
+        place: path.place,
+        path: path.siblings.as_slice(),
+    };
+    assert!(rt; matches!(verify(&root, b"bee", absent), Some(Answer::Absent)));
     Ok(())
 }
