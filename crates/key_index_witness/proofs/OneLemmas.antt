@@ -1,11 +1,9 @@
 -- Two witnesses that tell something of a key under one root are the same, unless two lists of bytes that were hashed have one digest.
 --     below-through    the order of keys is transitive
 --     same-gap         a key is in the gap of one record at most
---     Shows            a record of the tree that a witness shows
-use Rattle.std.proofs.Common.{◌≡◌, ◌⊎◌, ◌&&◌, ◌==◌, ℕ, Bool, true, false, if◌then◌else◌, List, [], ◌∷◌, ◌++◌, Contains, Option, Some, None, is_some, option_map, IfSome, IsSome, bytes_eq, refl, sym, ap, ◌∙◌, subst, inl, inr}
+use Rattle.std.proofs.Common.{◌≡◌, ◌⊎◌, ◌&&◌, ℕ, true, List, [], ◌++◌, Contains, Option, Some, None, is_some, option_map, IfSome, IsSome, refl, sym, ap, ◌∙◌, subst, inl, inr}
 use Rattle.std.proofs.lemmas.Slice.Eq.{bytes_eq-Decides}
 use Rattle.std.proofs.lemmas.Bool.{false≢true}
-use Rattle.std.proofs.lemmas.Bool.Decides.{Decides-eqb}
 use Rattle.std.proofs.lemmas.Cmp.{nat_list_cmp_total}
 use Rattle.std.proofs.lemmas.List.Elements.{Contains-append_left, Contains-append_right}
 use Rattle.std.proofs.lemmas.Map.Text.{is_eq-slice_cmp}
@@ -14,14 +12,14 @@ use Rattle.std.specs.declared.cmp.Ordering.TheVariants.{Less, Equal, Greater}
 use Rattle.std.specs.Ordering.{is_lt, is_eq, nat_cmp, ordering_reverse}
 use Rattle.std.specs.Cmp.Lexicographic.{slice_cmp}
 use Rattle.sha2.specs.Sha256.{sha256}
-use Rattle.sha2.proofs.Facts256.{length-sha256}
-use Rattle.key_index_witness.specs.Tree.{Link, Tree, root_of, hashed_in, links_in, bound_bytes, leaf_bytes, halved}
-use Rattle.key_index_witness.specs.Verdict.{HasEachKeyOnce, HasRecords, Collision, hashed_by, is_above, is_below, is_between, is_under, leaf_path, root_by, verdict}
+use Rattle.key_index_witness.specs.Tree.{Link, Tree, root_of, hashed_in, links_in, bound_bytes}
+use Rattle.key_index_witness.specs.Verdict.{Map, HasEachKeyOnce, HasRecords, Collision, hashed_by, is_above, is_below, is_between, is_under, verdict}
 use Rattle.key_index_witness.specs.declared.Answer.{Answer}
 use Rattle.key_index_witness.specs.Witness.{Parts, Present, Absent, told}
-use Rattle.key_index_witness.proofs.PathLemmas.{here, there, Apart, Leads, leaf-reached, turns}
+use Rattle.key_index_witness.proofs.PathLemmas.{turns}
 use Rattle.key_index_witness.proofs.OnceLemmas.{one-way, one-path}
-use Rattle.key_index_witness.proofs.VerdictLemmas.{bound-inj, tells}
+use Rattle.key_index_witness.proofs.CollisionLemmas.{tells}
+use Rattle.key_index_witness.proofs.ShownLemmas.{Shows, both, path_of, place_in, shows}
 
 -- ---- the order of keys
 
@@ -42,10 +40,6 @@ trichotomy a b =
       | Greater ↦ λ e. inr (inr (ap is_lt (nat_list_cmp_total.antisymm b a ∙ ap ordering_reverse (sym e))))
     ] refl
 
-both : (a b : Bool) → (a && b) ≡ true → (a ≡ true) × (b ≡ true)
-both true b h = (refl, h)
-both false b h = absurd (false≢true h)
-
 under-through : (a q : List ℕ) (n : Option (List ℕ)) → is_below a q ≡ true → is_under q n ≡ true → is_under a n ≡ true
 under-through a q None h g = refl
 under-through a q (Some n) h g = below-through a q n h g
@@ -53,7 +47,7 @@ under-through a q (Some n) h g = below-through a q n h g
 some≢none : (v : List ℕ) (o : Option (List ℕ)) → o ≡ Some v → o ≡ None → ⊥
 some≢none v o h g = false≢true (sym (ap is_some g) ∙ ap is_some h)
 
-module _ (t : Tree) (map : List ℕ → Option (List ℕ)) (records : HasRecords t map) where
+module _ (t : Tree) (map : Map) (records : HasRecords t map) where
   -- a key that is held is in no gap
   not-in_gap : (r s : Link) (key : List ℕ) → Contains (links_in t) r → Contains (links_in t) s → s.key ≡ Some key
       → is_between r.key key r.next ≡ true → ⊥
@@ -91,75 +85,9 @@ module _ (t : Tree) (map : List ℕ → Option (List ℕ)) (records : HasRecords
       → is_between r.key q r.next ≡ true → is_between s.key q s.next ≡ true → r.key ≡ s.key
   same-gap r s q in_r in_s h g = gap-of r s q in_r in_s r.key s.key refl refl h g
 
--- ---- the record that a witness shows
+-- ---- the same witness
 
--- the parts of a witness are those of a record, at the end of its path
-abbrev Suits : List ℕ → Link → Parts → Type 0
-Suits q r (Present value next place path) = (r.key ≡ Some q) × (value ≡ r.value) × (next ≡ sha256 (bound_bytes r.next))
-Suits q r (Absent below value next place path) =
-    (is_between r.key q r.next ≡ true) × (below ≡ r.key) × (value ≡ sha256 r.value) × (next ≡ r.next)
-
-abbrev place_in : Parts → ℕ
-place_in (Present value next place path) = place
-place_in (Absent below value next place path) = place
-
-abbrev path_of : Parts → List (List ℕ)
-path_of (Present value next place path) = path
-path_of (Absent below value next place path) = path
-
-record Shows (t : Tree) (q : List ℕ) (w : Parts) : Type 0 where
-  link : Link
-  found : Contains (links_in t) link
-  leads : Leads t (turns (place_in w) (path_of w) []) link
-  ends : halved (place_in w) (path_of w) ≡ 1
-  suits : Suits q link w
-
-chosen : (b : Bool) (o : Option (List ℕ)) → IsSome (if b then Some o else None) → b ≡ true
-chosen true o h = refl
-chosen false o h = absurd (false≢true h)
-
-module _ (t : Tree) (root q : List ℕ) (is : root ≡ root_of t) where
-  root-reached : (other : List ℕ) → bytes_eq root other ≡ true → other ≡ root_of t
-  root-reached other h = sym ((bytes_eq-Decides root other).0 h) ∙ is
-
-  shows : (w : Parts) → Apart (hashed_by q w) (hashed_in t) → IsSome (verdict root q w) → Shows t q w
-  shows (Present value next place path) apart h =
-      let mine = 0 ∷ q in
-      let leaf = leaf_path place (leaf_bytes (sha256 mine) (sha256 value) next) path in
-      let top = root_by (sha256 mine) (sha256 value) next place path in
-      let passed = both (halved place path == 1) (bytes_eq root top) (chosen (halved place path == 1 && bytes_eq root top) (Some value) h) in
-      let has = leaf-reached t (sha256 mine) (sha256 value) next place path (length-sha256 mine, inl (length-sha256 value))
-      (λ a b i j. apart a b (there mine (value ∷ leaf) a (there value leaf a i)) j) (root-reached top passed.1) in
-      let keys : mine ≡ bound_bytes has.link.key = apart _ _ (here mine (value ∷ leaf)) has.keyed has.key_is in
-      let values : value ≡ has.link.value = apart _ _ (there mine (value ∷ leaf) value (here value leaf)) has.valued has.value_is in
-      record {
-        link = has.link;
-        found = has.found;
-        leads = has.leads;
-        ends = (Decides-eqb (halved place path) 1).0 passed.0;
-        suits = (bound-inj has.link.key (Some q) (sym keys), values, has.next_is);
-      }
-  shows (Absent below value next place path) apart h =
-      let low = bound_bytes below in
-      let high = bound_bytes next in
-      let leaf = leaf_path place (leaf_bytes (sha256 low) value (sha256 high)) path in
-      let top = root_by (sha256 low) value (sha256 high) place path in
-      let here_and = both (is_between below q next) (halved place path == 1 && bytes_eq root top)
-      (chosen (is_between below q next && (halved place path == 1 && bytes_eq root top)) None h) in
-      let passed = both (halved place path == 1) (bytes_eq root top) here_and.1 in
-      let has = leaf-reached t (sha256 low) value (sha256 high) place path (length-sha256 low, inr (length-sha256 high))
-      (λ a b i j. apart a b (there low (high ∷ leaf) a (there high leaf a i)) j) (root-reached top passed.1) in
-      let keys : below ≡ has.link.key = bound-inj below has.link.key (apart _ _ (here low (high ∷ leaf)) has.keyed has.key_is) in
-      let nexts : next ≡ has.link.next = bound-inj next has.link.next (apart _ _ (there low (high ∷ leaf) high (here high leaf)) has.nexted has.next_is) in
-      record {
-        link = has.link;
-        found = has.found;
-        leads = has.leads;
-        ends = (Decides-eqb (halved place path) 1).0 passed.0;
-        suits = ((λ i. is_between (sym keys i) q (sym nexts i)) ∙ here_and.0, keys, has.value_is, nexts);
-      }
-
-module _ (t : Tree) (map : List ℕ → Option (List ℕ)) (records : HasRecords t map) (once : HasEachKeyOnce t) (q : List ℕ) where
+module _ (t : Tree) (map : Map) (records : HasRecords t map) (once : HasEachKeyOnce t) (q : List ℕ) where
   same-way : (w v : Parts) (a : Shows t q w) (b : Shows t q v) → a.link.key ≡ b.link.key
       → (place_in w ≡ place_in v) × (path_of w ≡ path_of v) × (a.link ≡ b.link)
   same-way w v a b e =
@@ -186,7 +114,7 @@ module _ (t : Tree) (map : List ℕ → Option (List ℕ)) (records : HasRecords
       λ i. Absent (belows i) (values i) (nexts i) (same.0 i) (same.1 i)
 
 pub one_by : (root key : List ℕ) (w : Parts) (result : Option Answer) → option_map told result ≡ verdict root key w
-    → IfSome result (λ answer. (t : Tree) (map : List ℕ → Option (List ℕ)) (other : Parts) → HasRecords t map
+    → IfSome result (λ answer. (t : Tree) (map : Map) (other : Parts) → HasRecords t map
     → HasEachKeyOnce t → root ≡ root_of t → IsSome (verdict root key other)
     → (w ≡ other) ⊎ Collision (hashed_by key w ++ hashed_by key other) (hashed_in t))
 one_by root key w None e = tt

@@ -1,5 +1,4 @@
 -- A path that ends at the root of a tree begins at a part of it, unless two lists of bytes that were hashed have one digest.
---     Apart           no two lists of bytes, one of each kind, have one digest
 --     Within          the records of a part, and what was hashed for it, are of the whole
 --     Leads           from the top of a tree some turns lead to a record, each with the digest on the other side
 --     turns           those of a path, before others
@@ -11,12 +10,7 @@ use Rattle.sha2.specs.Sha256.{sha256}
 use Rattle.sha2.proofs.Facts256.{length-sha256}
 use Rattle.key_index_witness.specs.Tree.{Link, Tree, Leaf, Node, bytes_of, root_of, hashed_in, links_in, bound_bytes, leaf_bytes, node_bytes, pair_bytes, climb, climbed}
 use Rattle.key_index_witness.specs.Verdict.{leaf_path}
-
-pub here : {A : Type 0} (x : A) (xs : List A) → Contains (x ∷ xs) x
-here x xs = (0, omega arith, refl)
-
-pub there : {A : Type 0} (x : A) (xs : List A) (y : A) → Contains xs y → Contains (x ∷ xs) y
-there x xs y h = Contains-append_right (x ∷ []) xs y h
+use Rattle.key_index_witness.proofs.CollisionLemmas.{Apart, here, there}
 
 pub heads : (x y : ℕ) (xs ys : List ℕ) → x ∷ xs ≡ y ∷ ys → x ≡ y
 heads x y xs ys h = ap (λ l. get_or l 0 0) h
@@ -105,9 +99,6 @@ part-of_pair true x s (Node l r) n h =
 part-of_pair false x s (Node l r) n h =
     let parts = append-parts_behind s (root_of l) x (root_of r) (n ∙ sym (length-root r)) (tails _ _ _ _ h) in
     record { part = r; within = within-right l r; digest = parts.1; leads = λ w k h. (parts.0, h) }
-
-abbrev pub Apart : List (List ℕ) → List (List ℕ) → Type 0
-Apart mine theirs = (a b : List ℕ) → Contains mine a → Contains theirs b → sha256 a ≡ sha256 b → a ≡ b
 
 climb-reaches : (t : Tree) (path : List (List ℕ)) (place : ℕ) (x : List ℕ) → length x ≡ 32
     → Apart (climbed place x path) (hashed_in t) → climb place x path ≡ root_of t → IsPart t (turns place path) x

@@ -55,7 +55,8 @@ impl Leaves {
         Ok(Leaves { nodes })
     }
 
-    /// Some leaves, at least one, in the slots from 0 on. For n of them it takes n - 1 digests.
+    /// Some leaves, at least one, in the slots from 0 on. For n of them it takes n - 1 digests, and for the call n bytes of memory beside
+    /// those of the tree.
     pub fn build(alloc: Global, leaves: &[[u8; 32]]) -> Result<Leaves, AllocError>
         requires { 0 < length leaves.now }
         ensures { IfOk result (λ t. t ≡ leaves.now) }
@@ -92,8 +93,8 @@ impl Leaves {
     }
 
     /// Sets many leaves, in order, where a slot may come again. It takes one digest for each node above a changed leaf, which for many
-    /// leaves are far fewer than by `set`, and looks at a byte for each node: for a handful of leaves of many use `set`. Where memory is
-    /// refused, nothing changes.
+    /// leaves are far fewer than by `set`; and for the call a byte of memory for each leaf of the tree, each of which it reads: for a
+    /// handful of leaves use `set`. Where memory is refused, nothing changes.
     pub fn update(&mut self, alloc: Global, changes: &[(usize, [u8; 32])]) -> Result<(), AllocError>
         requires { All (λ c. c.0 < length self.old) changes.now }
         // As by `set`, one by one.

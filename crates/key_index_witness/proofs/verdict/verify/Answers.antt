@@ -1,5 +1,5 @@
 use Rattle.key_index_witness.specs.Witness.{parts_of}
-use Rattle.key_index_witness.proofs.VerdictLemmas.{sound_by}
+use Rattle.key_index_witness.proofs.ShownLemmas.{sound_by}
 use Rattle.key_index_witness.proofs.OneLemmas.{one_by}
 use Rattle.key_index_witness.proofs.verdict.verify.Goals as goal
 
