@@ -48,9 +48,6 @@ pub record Takes (bytes text rest : List ℕ) : Type 0 where
 pub Takes-then : (a x b y c : List ℕ) → Takes a x b → Takes b y c → Takes a (x ++ y) c
 Takes-then a x b y c p q = record { parts = p.parts ∙ ap (λ (t : List ℕ). x ++ t) q.parts ∙ sym (append_assoc x y c); rest_fits = q.rest_fits }
 
-pub Takes-along : (bytes text other rest : List ℕ) → text ≡ other → Takes bytes text rest → Takes bytes other rest
-Takes-along bytes text other rest e t = subst (λ (x : List ℕ). Takes bytes x rest) e t
-
 -- ---- so many bytes
 
 pub cut_takes : (n : ℕ) (bytes text rest : List ℕ) → IsBytes bytes → cut n bytes ≡ Some (text, rest) → Takes bytes text rest × (length text ≡ n)

@@ -1,4 +1,4 @@
-ghost use Rattle.std.specs.Prelude.{◌≡◌, ◌+◌, ◌*◌, ◌^◌, ◌<◌, ◌≤◌, ◌&&◌, ◌++◌, ◌∷◌, [], List, ℕ, Option, Some, None, IfSome, IfNone, IsTrue, drop, length, nat_le, nat_lt, option_map, if◌then◌else◌};
+ghost use Rattle.std.specs.Prelude.{◌≡◌, ◌+◌, ◌*◌, ◌^◌, ◌<◌, ◌≤◌, ◌&&◌, ◌++◌, ◌∷◌, [], Option, Some, None, IfSome, IfNone, IsTrue, drop, length, nat_le, nat_lt, option_map, if◌then◌else◌};
 ghost use Rattle.key_index_witness.specs.Bytes.{HasHeadSizes, HasKeySize, HasSizes, bound_field, encoded, head_field, is_short, written};
 ghost use Rattle.key_index_witness.specs.Reading.{absent_at, bound_at, cut, front_of, head_at, number_at, path_at, read};
 ghost use Rattle.key_index_witness.specs.Witness.{Parts, bytes_in, parts_of};

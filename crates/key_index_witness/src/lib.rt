@@ -21,9 +21,6 @@ pub use verdict::verify;
 #[cfg(test)]
 mod tests;
 
-/// The length of a digest, in bytes.
-pub const DIGEST: usize = 32;
-
 /// What shows that a key is held, or is absent.
 ///
 /// The path has the digests beside those from the record's leaf up to the root. The root is at place 1, and below place i are 2 * i and

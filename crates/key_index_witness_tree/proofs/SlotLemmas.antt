@@ -156,9 +156,6 @@ place_step n p low h =
       | false ↦ λ _. refl
     ] refl
 
-pub place_end : (n p : ℕ) → 1 ≤ p → n ≤ p → place_from n n p ≡ p
-place_end n p low h = place_enough n n (suc n) p low (omega arith) (omega arith) ∙ place_there n n p h
-
 -- ---- the leaves by their slots
 
 -- a leaf stands at the place of its slot

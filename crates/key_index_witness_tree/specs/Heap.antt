@@ -63,11 +63,6 @@ abbrev pub IsHeapBesides : ℕ → List Bool → List (List ℕ) → Type 0
 IsHeapBesides k marks nodes =
     (i : ℕ) → 1 ≤ i → 2 * i + 1 < length nodes → IsJoined nodes i ⊎ ((i < k) × (slice_index_or marks i false ≡ true))
 
--- two nodes at least, of which the first is not used
-pub record IsRow (nodes : List (List ℕ)) : Type 0 where
-  pub even : length nodes % 2 ≡ 0
-  pub some : 2 ≤ length nodes
-
 pub record IsTree (nodes : List (List ℕ)) : Type 0 where
   pub heap : IsHeap nodes
   pub even : length nodes % 2 ≡ 0

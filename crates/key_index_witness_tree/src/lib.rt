@@ -10,7 +10,7 @@
 
 mod nodes;
 
-ghost use Rattle.std.specs.Prelude.{◌≡◌, ◌+◌, ◌-◌, ◌<◌, ◌≤◌, ℕ, [], ◌∷◌, ◌++◌, IfOk, OnOk, OnErr, length, slice_index_or, slice_set, take, All};
+ghost use Rattle.std.specs.Prelude.{◌≡◌, ◌+◌, ◌-◌, ◌<◌, ℕ, [], ◌∷◌, ◌++◌, IfOk, OnOk, OnErr, length, slice_index_or, slice_set, take, All};
 ghost use Rattle.key_index_witness.specs.Tree.{Tree, climb, halved, root_of};
 ghost use Rattle.key_index_witness_tree.specs.Heap.{AreRoots, root_digest, set_all, tree_of};
 ghost use Rattle.key_index_witness_tree.specs.Slots.{place_of};

@@ -2,7 +2,7 @@
 //! to 2 * n.
 ghost use Rattle.std.specs.Prelude.{◌≡◌, ◌≢◌, ◌+◌, ◌-◌, ◌*◌, ◌%◌, ◌/◌, ◌^◌, ◌<◌, ◌≤◌, ℕ, [], ◌∷◌, ◌++◌, All, IfOk, OnOk, OnErr, length, slice_set, slice_index_or, take};
 ghost use Rattle.key_index_witness.specs.Tree.{Tree, climb, halved, root_of};
-ghost use Rattle.key_index_witness_tree.specs.Heap.{AreRoots, IsHeap, IsHeapBesides, IsHeapBut, IsRow, IsTree, beside, leaf_in, leaves_of, node_at, root_digest, set_all, tree_of};
+ghost use Rattle.key_index_witness_tree.specs.Heap.{AreRoots, IsHeap, IsHeapBesides, IsHeapBut, IsTree, beside, leaves_of, node_at, root_digest, set_all, tree_of};
 ghost use Rattle.key_index_witness_tree.specs.Slots.{place_of};
 
 use key_index_witness::joined;
