@@ -78,7 +78,7 @@ pub fn verify<'a>(root: &[u8; 32], key: &[u8], witness: Witness<'a>) -> Option<A
     // What is told is so, or two lists of bytes have one digest, one that was hashed here and one that was hashed for the root.
     ensures sound { IfSome result (λ answer. (t : Tree) (map : Map) → HasRecords t map → root.now ≡ root_of t
         → (map key.now ≡ told answer) ⊎ Collision (hashed_by key.now (parts_of witness.entry)) (hashed_in t)) }
-    // No other witness tells anything of the key, or there are such lists: of one witness or the other, and of the root.
+    // No other witness, and so no other bytes, tell anything of the key, or there are such lists: of a witness and of the root.
     ensures one { IfSome result (λ answer. (t : Tree) (map : Map) (other : Parts) → HasRecords t map
         → HasEachKeyOnce t → root.now ≡ root_of t → IsSome (verdict root.now key.now other)
         → let mine = parts_of witness.entry in

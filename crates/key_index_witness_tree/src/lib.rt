@@ -1,7 +1,7 @@
 //! The tree of digests behind a root: of records for which `key_index_witness` reads witnesses, or of any other leaves.
 //!
 //! The leaves are digests, each in a slot, which it keeps while others come and go at the end. With n leaves the tree has n - 1 nodes above
-//! them and takes 64 bytes a leaf, beside what a `Vec` keeps in reserve; no place is empty, and no number of leaves rebuilds it. A change
+//! them and takes 64 bytes a leaf, beside what a `Vec` keeps in reserve; no leaf is a filler, and no number of leaves rebuilds it. A change
 //! of one leaf takes a digest for each level, some log2 n; [`Leaves::update`] takes each node once for many changes, and
 //! [`Leaves::build`] n - 1 digests.
 //!
