@@ -9,5 +9,6 @@ pub mod ReachLemmas
 pub mod InstallLemmas
 pub mod CountLemmas
 pub mod StorageLemmas
+pub mod ChangeLemmas
 pub mod SpreadLemmas
 pub mod HashBucketLemmas

@@ -6,11 +6,11 @@
 --     IsIndex, IsRange               buckets for all partitions of p bytes, and for some from a first one on
 --     stands, standing_of_all        how a bucket stands, and how each of them does
 --     stays_spilled                  whether a spilled one that is left with this content is spilled still
+--     due_in                         how many values of a bucket are due to spill, of a kind that spills at so many values or doesn't
 --     Grows                          what an insertion that moved so many values to a tree leaves of a bucket that was spilled or not
---     spillable                      how many values of a bucket a spill would move
+--     account                        a bucket apart from the others, with the counts of them all
+--     standings_with                 how all of them stand
 --     Kept, IsCounted                what the storage of an index keeps, and its counts
---     settled_standings, settled_at  a partition spilled if it has reached the threshold, of buckets that spill or don't
---     GrowsTo                        what an insertion leaves of how the partitions stand, done in a partition as it stands
 --     SameContent                    how its partitions stand may differ, and nothing else
 --     IsLeft                         what a refused insertion leaves
 --     KeepsRange                     the bound on moved values still holds of a range
@@ -20,7 +20,7 @@
 --     view_from                      the same of a range's storage, whose buckets are numbered from `first`
 --     with_items_from                with other items in the place of those from a number on
 --     AreFree                        so many buckets from there hold nothing
-use Rattle.std.specs.Prelude.{◌≡◌, ◌⊎◌, ℕ, ◌+◌, ◌-◌, ◌^◌, ◌<◌, ◌≤◌, Bool, not, ◌&&◌, if◌then◌else◌, nat_lt, Option, List, [], ◌++◌, length, map, take, drop, All, slice_index_or}
+use Rattle.std.specs.Prelude.{◌≡◌, ◌⊎◌, ℕ, ◌+◌, ◌-◌, ◌^◌, ◌<◌, ◌≤◌, Bool, not, ◌&&◌, ◌||◌, if◌then◌else◌, nat_lt, nat_le, Option, List, [], ◌++◌, length, map, take, drop, All, slice_index_or}
 use Rattle.std.specs.declared.cmp.Ordering.{Ordering}
 use Rattle.key_index_flat.specs.Retention.{AsksWith}
 use Rattle.key_index_flat.specs.declared.index.retain.Retained.{Retained}
@@ -30,7 +30,8 @@ use Rattle.key_index_parts.specs.Gathered.{gathered, gathered_from, pair_cmp}
 use Rattle.key_index_parts.specs.Joined.{is_between}
 use Rattle.key_index_parts.specs.Moves.{IsRangeWithin}
 use Rattle.key_index_parts.specs.Prefix.{partition_count, slot_by}
-use Rattle.key_index_parts.specs.Standing.{Spills, Standing, Standings, entries_at, spilled_if_reached, with_entries}
+use Rattle.key_index_parts.specs.Standing.{Account, Changes, Standing, Standings, settled, standings_of}
+use Rattle.key_index_parts.specs.declared.index.partitioned.counts.Moves.{Moves}
 
 abbrev pub with_items_from : {A : Type 0} → List A → ℕ → List A → List A
 with_items_from items n others = take n items ++ (others ++ drop (n + length others) items)
@@ -75,11 +76,25 @@ module _ {K V : Type 0} where
   abbrev pub stays_spilled : Bool → Content K V → Bool
   stays_spilled spilled c = spilled && nat_lt 0 (item_count c)
 
-  abbrev pub Grows : Bool → ℕ → Bool → ℕ → Content K V → Bool → Type 0
-  Grows spills threshold was moved c is = Spills spills threshold (stands c (stays_spilled was c)) moved (stands c is)
+  abbrev pub due_in : Bool → ℕ → Bool → Content K V → ℕ
+  due_in spills threshold spilled c =
+      if spills && (not spilled && nat_le threshold (item_count c)) then item_count c else 0
 
-  abbrev pub spillable : Bool → Bool → Content K V → ℕ
-  spillable spills spilled c = if spills && not spilled then item_count c else 0
+  abbrev pub Grows : Bool → ℕ → Bool → ℕ → Content K V → Bool → Type 0
+  Grows spills threshold was moved c is =
+      (moved ≡ due_in spills threshold (stays_spilled was c) c) × (is ≡ (nat_lt 0 moved || stays_spilled was c))
+
+  abbrev pub account : Content K V → Bool → Moves → Account
+  account c spilled moves = record {
+    threshold = moves.threshold;
+    standing = stands c spilled;
+    spills = moves.spills;
+    moved = moves.moved;
+  }
+
+  abbrev pub standings_with : {X : Type 0} → (X → Content K V) → (X → Bool) → List X → Moves → Standings
+  standings_with content spilled buckets moves =
+      standings_of moves.threshold (standing_of_all content spilled buckets) moves.spills moves.moved
 
 -- an index as its storage's contracts see it: its translator, what its buckets hold, how many held values were ever taken out, and how
 -- its partitions stand
@@ -99,27 +114,17 @@ pub record IsCounted {K V : Type 0} (cmp : K → K → Ordering) (p : ℕ) (buck
   pub counted : items ≡ item_count (gathered buckets)
   pub keyed : keys ≡ key_count (gathered buckets)
 
-abbrev pub settled_standings : Bool → Standings → ℕ → Standings
-settled_standings spills s n = if spills then spilled_if_reached s n else s
-
 module _ {T K V : Type 0} where
-  abbrev pub settled_at : Bool → Kept T K V → ℕ → Kept T K V
-  settled_at spills s n = record s { standings = settled_standings spills s.standings n }
-
   abbrev pub KeepsRange : Kept T K V → Kept T K V → Type 0
   KeepsRange old new = IsRangeWithin old.standings old.pruned → IsRangeWithin new.standings new.pruned
-
-  -- an insertion into a partition as it stands: with its values, and spilled if it has reached the threshold by them
-  abbrev pub GrowsTo : Bool → Kept T K V → ℕ → Kept T K V → Type 0
-  GrowsTo spills old n new =
-      new.standings ≡ settled_standings spills (with_entries old.standings n (entries_at new.standings n)) n
 
   abbrev pub SameContent : Kept T K V → Kept T K V → Type 0
   SameContent old new = new ≡ record old { standings = new.standings }
 
   abbrev pub IsLeft : Bool → Kept T K V → ℕ → Kept T K V → Type 0
   IsLeft spills old n new =
-      (new ≡ old) ⊎ ((item_count (gathered old.buckets) < 2 ^ 64 - 1) × (new ≡ settled_at spills old n))
+      (new.standings ≡ old.standings) ⊎ ((item_count (gathered old.buckets) < 2 ^ 64 - 1)
+      × Changes (λ a b. b ≡ settled spills a) old.standings n new.standings)
 
 abbrev pub view_of : {T K V : Type 0} → ℕ → (T → List ℕ → K) → Kept T K V → View (ℕ × K) V
 view_of p translated s = record {

@@ -6,21 +6,23 @@
 --     standings_of          the four of them
 --     nth_standing          a partition; past the last one, one that holds nothing
 --     inline_len            how many values of a partition stand in arrays: all of them, or none where it is spilled
---     is_reached            it stands inline with as many values as the threshold or more (is_reached_by: at any)
---     holding               a partition once a call has left m values there; without values it isn't spilled
---     entries_set           the partitions after that
---     due_in                how many values of a bucket are due to spill, of a kind that spills at so many values or doesn't
---     spilled_by            a bucket once so many of its values were moved to a tree
---     Spills                it spills where it is due, and what that moved
---     with_entries          `entries_set`, of the whole
---     with_spill            a partition's values moved into a tree, and counted
---     spilled_if_reached    that, where it has reached the threshold
---     after_call            a call by key that leaves m values in a partition
---     IsBelow               a partition has fewer values in arrays than the threshold
---     Settles, Refuses      what an accepted and a refused call by key leave, of an index of so many values
---     is_small              a partition is spilled with fewer than half as many values as the threshold
---     with_return           its values moved back to arrays, and counted
---     MovesBack, Resettles  that, of a small one, where there is memory for it; what a call by key leaves that does it last
+--     Account               a partition apart from the others, with the counts of them all
+--     account_at            that of a partition
+--     with_account          the partitions with another one in its place, and with its counts
+--     is_due                a partition stands inline with as many values as the threshold or more (is_reached: that of a number)
+--     settled               it spilled if it is due, of a kind that spills, and what that moved counted
+--     with_values           it holds m values; without values it isn't spilled
+--     called                a call by key that leaves m values: it spills a partition that is due, and one that is due by what the
+--                           call puts in
+--     is_small              it is spilled with fewer than half as many values as the threshold
+--     returned              its values moved back to arrays, and counted
+--     Returns               that, of a small one, where there is memory for it
+--     IsBelow               it has fewer values in arrays than the threshold
+--     IsCalled, IsRemoved   what an accepted call by key leaves of it, and one that removes values
+--     IsLeftBy              what a refused one leaves of it
+--     Changes               one partition changes, and no other
+--     Settles, Resettles    what an accepted call by key leaves, and one that removes values
+--     Refuses               what a refused one leaves, of an index of so many values
 --     Leaves, LeavesSome    what a cursor edit leaves, in a partition, and in some partition
 --     joined_standings      with the partitions of a range from a number on
 --     new_standings         so many partitions that hold nothing
@@ -28,6 +30,7 @@
 use Rattle.std.specs.Prelude.{◌≡◌, ◌⊎◌, ℕ, ◌+◌, ◌-◌, ◌*◌, ◌^◌, ◌<◌, Bool, true, false, not, ◌&&◌, ◌||◌, nat_lt, nat_le, IsTrue, if◌then◌else◌, List, ◌++◌, length, take, drop, replicate, slice_index_or, slice_set}
 use Rattle.std.specs.List.{filter}
 use Rattle.key_index_flat.specs.View.{pruned_after}
+use Rattle.key_index_parts.specs.Counts.{one_if}
 
 pub record Standing : Type 0 where
   pub entries : ℕ
@@ -55,72 +58,79 @@ entries_at s n = (standing_at s n).entries
 abbrev pub inline_len : Standings → ℕ → ℕ
 inline_len s n = if (standing_at s n).spilled then 0 else entries_at s n
 
-abbrev pub is_reached_by : ℕ → Standing → Bool
-is_reached_by threshold p = not p.spilled && nat_le threshold p.entries
+pub record Account : Type 0 where
+  pub threshold : ℕ
+  pub standing : Standing
+  pub spills : ℕ
+  pub moved : ℕ
 
-abbrev pub due_in : Bool → ℕ → Standing → ℕ
-due_in spills threshold p = if spills && is_reached_by threshold p then p.entries else 0
+abbrev pub account_at : Standings → ℕ → Account
+account_at s n = record { threshold = s.threshold; standing = standing_at s n; spills = s.spills; moved = s.moved }
+
+abbrev pub with_account : Standings → ℕ → Account → Standings
+with_account s n a = standings_of a.threshold (slice_set s.buckets n a.standing) a.spills a.moved
+
+abbrev pub is_due : Account → Bool
+is_due a = not a.standing.spilled && nat_le a.threshold a.standing.entries
 
 abbrev pub is_reached : Standings → ℕ → Bool
-is_reached s n = is_reached_by s.threshold (standing_at s n)
+is_reached s n = is_due (account_at s n)
 
-abbrev pub holding : Standing → ℕ → Standing
-holding p m = record { entries = m; spilled = p.spilled && nat_lt 0 m }
-
-abbrev pub entries_set : List Standing → ℕ → ℕ → List Standing
-entries_set buckets n m = slice_set buckets n (holding (nth_standing buckets n) m)
-
-abbrev pub spilled_by : ℕ → Standing → Standing
-spilled_by moved p = record { entries = p.entries; spilled = nat_lt 0 moved || p.spilled }
-
-abbrev pub Spills : Bool → ℕ → Standing → ℕ → Standing → Type 0
-Spills spills threshold old moved new = (moved ≡ due_in spills threshold old) × (new ≡ spilled_by moved old)
-
-abbrev pub with_entries : Standings → ℕ → ℕ → Standings
-with_entries s n m = record s { buckets = entries_set s.buckets n m }
-
-abbrev pub with_spill : Standings → ℕ → Standings
-with_spill s n = record s {
-  buckets = slice_set s.buckets n (record { entries = entries_at s n; spilled = true });
-  spills = pruned_after s.spills 1;
-  moved = pruned_after s.moved (entries_at s n);
+abbrev pub settled : Bool → Account → Account
+settled spills a = record {
+  threshold = a.threshold;
+  standing = record { entries = a.standing.entries; spilled = (spills && is_due a) || a.standing.spilled };
+  spills = pruned_after a.spills (one_if (spills && is_due a));
+  moved = pruned_after a.moved (if spills && is_due a then a.standing.entries else 0);
 }
 
-abbrev pub spilled_if_reached : Standings → ℕ → Standings
-spilled_if_reached s n = if is_reached s n then with_spill s n else s
+abbrev pub with_values : Account → ℕ → Account
+with_values a m = record a { standing = record { entries = m; spilled = a.standing.spilled && nat_lt 0 m } }
 
--- it spills a partition that has reached the threshold, and one that reaches it by what the call puts in
-abbrev pub after_call : Standings → ℕ → ℕ → Standings
-after_call s n m = spilled_if_reached (with_entries (spilled_if_reached s n) n m) n
+abbrev pub called : Bool → Account → ℕ → Account
+called spills a m = settled spills (with_values (settled spills a) m)
 
-abbrev pub IsBelow : Standings → ℕ → Type 0
-IsBelow s n = inline_len s n < s.threshold
+abbrev pub is_small : Account → Bool
+is_small a = a.standing.spilled && nat_lt (2 * a.standing.entries) a.threshold
 
-abbrev pub Settles : Standings → ℕ → Standings → Type 0
-Settles old n new = (new ≡ after_call old n (entries_at new n)) × IsBelow new n
-
-abbrev pub is_small : Standings → ℕ → Bool
-is_small s n = (standing_at s n).spilled && nat_lt (2 * entries_at s n) s.threshold
-
-abbrev pub with_return : Standings → ℕ → Standings
-with_return s n = record s {
-  buckets = slice_set s.buckets n (record { entries = entries_at s n; spilled = false });
-  moved = pruned_after s.moved (entries_at s n);
+abbrev pub returned : Account → Account
+returned a = record a {
+  standing = record { entries = a.standing.entries; spilled = false };
+  moved = pruned_after a.moved a.standing.entries;
 }
 
 -- where the memory for its arrays is refused, it stays as it is
-abbrev pub MovesBack : Standings → ℕ → Standings → Type 0
-MovesBack old n new = (new ≡ old) ⊎ (IsTrue (is_small old n) × (new ≡ with_return old n))
+abbrev pub Returns : Account → Account → Type 0
+Returns a b = (b ≡ a) ⊎ (IsTrue (is_small a) × (b ≡ returned a))
+
+abbrev pub IsBelow : Account → Type 0
+IsBelow a = (if a.standing.spilled then 0 else a.standing.entries) < a.threshold
+
+abbrev pub IsCalled : Bool → Account → Account → Type 0
+IsCalled spills a b = b ≡ called spills a b.standing.entries
+
+abbrev pub IsRemoved : Bool → Account → Account → Type 0
+IsRemoved spills a b = Returns (called spills a b.standing.entries) b
+
+abbrev pub IsLeftBy : Bool → Account → Account → Type 0
+IsLeftBy spills a b = (b ≡ a) ⊎ (b ≡ settled spills a)
+
+pub record Changes (R : Account → Account → Type 0) (old : Standings) (n : ℕ) (new : Standings) : Type 0 where
+  pub by : R (account_at old n) (account_at new n)
+  pub alone : new ≡ with_account old n (account_at new n)
+
+abbrev pub Settles : Standings → ℕ → Standings → Type 0
+Settles = Changes (λ a b. IsCalled true a b × IsBelow b)
 
 abbrev pub Resettles : Standings → ℕ → Standings → Type 0
-Resettles old n new = MovesBack (after_call old n (entries_at new n)) n new × IsBelow new n
+Resettles = Changes (λ a b. IsRemoved true a b × IsBelow b)
 
 -- a full index refuses before anything spills; else a spill that was due may have come before the growth that was refused
 abbrev pub Refuses : ℕ → Standings → ℕ → Standings → Type 0
-Refuses items old n new = (new ≡ old) ⊎ ((items < 2 ^ 64 - 1) × (new ≡ spilled_if_reached old n))
+Refuses items old n new = (new ≡ old) ⊎ ((items < 2 ^ 64 - 1) × Changes (λ a b. b ≡ settled true a) old n new)
 
 abbrev pub Leaves : Standings → ℕ → Standings → Type 0
-Leaves old n new = new ≡ with_entries old n (entries_at new n)
+Leaves = Changes (λ a b. b ≡ with_values a b.standing.entries)
 
 abbrev pub LeavesSome : Standings → Standings → Type 0
 LeavesSome old new = (n : ℕ) × Leaves old n new

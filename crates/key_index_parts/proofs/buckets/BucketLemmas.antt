@@ -8,38 +8,23 @@
 --     all_alike, none_filled            buckets that are all alike, and that hold nothing
 --     flags_edited, flags_stay          which buckets are filled after such a call
 --     flags_emptied, flags_filled       and where a bit is written only if it changes
---     flags_written                     and where it is also written if that is told
 --     flag_within                       there is a bit for it
 --     filled_before                     what is filled with a list no longer than it was, was filled
 --     nth_standing-map, standing_new    how a bucket stands is what is told of its number, also after an edit
 --     within_mapped                     it is among those that stand
---     standing_left, standing_grown     how the buckets stand after a call that says it of one
---     kept_stays                        what is kept after a call that changed nothing of a bucket
---     standing_stays, standing_moved    how the buckets stand then, and after its values were moved
---     inline_told, spilled_told         how many values a spill would move, and a return
---     filled_told                       a spilled one has values
---     spills_so                         a bucket of which a spill would move values is of a kind that spills
---     due_told, due_none                whether a bucket is due to spill, by how many values a spill would move
---     small_told                        whether it is small, by how many a return would move
---     left_with_more                    a bucket has at most so many values more once its list became longer by no more
---     left_fewer                        and no more once it became no longer
-use Rattle.std.proofs.Common.{◌≡◌, ℕ, zero, suc, ◌-◌, ◌*◌, ◌<◌, Bool, true, false, not, T, nat_le, List, [], ◌∷◌, ◌++◌, map, insert, take, drop, replicate, All, set, length, refl, sym, ap, subst, ◌∙◌, ◌≤◌, ◌+◌, ◌&&◌, ◌||◌, nat_lt, arith, slice_index_or}
-use Rattle.std.proofs.lemmas.Bool.{le-leb, lt-leb, lt-ltb}
-use Rattle.std.proofs.lemmas.List.{get_or-map, get_or-set_same, set-set, map-set, length-map, length-append}
-use Rattle.std.specs.Cmp.{IsTotalOrder}
-use Rattle.std.specs.Prelude.{IsTrue, if◌then◌else◌}
+use Rattle.std.proofs.Common.{◌≡◌, ℕ, zero, suc, ◌<◌, Bool, true, false, not, T, List, [], ◌∷◌, ◌++◌, map, insert, take, drop, replicate, All, set, length, refl, sym, ap, subst, ◌∙◌, ◌≤◌, arith, slice_index_or}
+use Rattle.std.proofs.lemmas.List.{get_or-map, get_or-set_same, map-set, length-map, length-append}
+use Rattle.std.specs.Prelude.{if◌then◌else◌}
 use Rattle.std.proofs.lemmas.List.Elements.{All-head, All-tail}
 use Rattle.std.proofs.Math.Seq.{map-set_same}
 use Rattle.std.specs.declared.cmp.Ordering.{Ordering}
 use Rattle.std.specs.declared.cmp.Ordering.TheVariants.{Less, Equal, Greater}
 use Rattle.std.specs.FinMap.{put}
 use Rattle.std.specs.FinMap.Entries.{by_order}
-use Rattle.key_index_flat.specs.Content.{Content, IsLawful, is_filled, item_count, list_at, with_list}
+use Rattle.key_index_flat.specs.Content.{Content, is_filled, list_at, with_list}
 use Rattle.key_index_flat.specs.View.{put_value}
-use Rattle.key_index_flat.proofs.content.ContentLemmas.{item_count-with_list}
-use Rattle.key_index_parts.specs.Buckets.{Kept, spillable, Grows, stands, stays_spilled, bucket_at, filled_buckets}
-use Rattle.key_index_parts.specs.Standing.{Standing, due_in, holding, spilled_by, nth_standing, standings_of, entries_set}
-use Rattle.key_index_parts.proofs.standing.StandingLemmas.{GrowsThenSpills}
+use Rattle.key_index_parts.specs.Buckets.{stands, bucket_at, filled_buckets}
+use Rattle.key_index_parts.specs.Standing.{Standing, nth_standing}
 
 some_among : {V : Type 0} (xs ys : List V) (v : V) → 0 < length (xs ++ v ∷ ys)
 some_among xs ys v = omega (arith, length-append xs (v ∷ ys))
@@ -132,12 +117,6 @@ module _ {X K V : Type 0} (cmp : K → K → Ordering) {f : X → Content K V} {
       let holds = sym (not_not _ _ e) in
       flags_stay flags y told (holds ∙ sym (held holds))
 
-  pub flags_written : (flags : List Bool) (y : X) (always emptied : Bool) → flags ≡ filled_buckets (map f xs) → (always ≡ false → is_filled (f y) ≡ true → is_filled (f x) ≡ true)
-      → emptied ≡ not (is_filled (f y)) → (if always || emptied then set flags p (not emptied) else flags) ≡ filled_buckets (map f (set xs p y))
-  flags_written flags y true emptied told held e = flags_edited flags y (not emptied) told (not_not _ _ e)
-  flags_written flags y false true told held e = flags_edited flags y false told (not_not _ _ e)
-  flags_written flags y false false told held e = flags_emptied flags y false told (held refl) e
-
   pub flags_filled : (flags : List Bool) (y : X) (b : Bool) → flags ≡ filled_buckets (map f xs) → is_filled (f y) ≡ true → (b ≡ false → is_filled (f x) ≡ true)
       → (if b then set flags p true else flags) ≡ filled_buckets (map f (set xs p y))
   flags_filled flags y true told holds held = flags_edited flags y true told (sym holds)
@@ -166,90 +145,3 @@ module _ {X K V : Type 0} {f : X → Content K V} {xs : List X} {p : ℕ} {x : X
   standing_new y =
       ap (λ l. nth_standing l p) (map-set how xs p y)
       ∙ get_or-set_same (map how xs) p (how y) (record { entries = 0; spilled = false }) (omega (arith, length-map xs how, bucket.inside))
-
-  map-set_standing : (y : X) (after : Standing → ℕ → Standing) → how y ≡ after (how x) (item_count (f y))
-      → map how (set xs p y) ≡ set (map how xs) p (after (nth_standing (map how xs) p) (nth_standing (map how (set xs p y)) p).entries)
-  map-set_standing y after e =
-      map-set how xs p y ∙ ap (λ z. set (map how xs) p z) (e ∙ (λ i. after (nth_standing-map i) (sym (standing_new y) i).entries))
-
-  pub standing_left : (y : X) → s y ≡ stays_spilled (s x) (f y) → map how (set xs p y) ≡ entries_set (map how xs) p (nth_standing (map how (set xs p y)) p).entries
-  standing_left y e = map-set_standing y holding (ap (λ b. stands (f y) b) e)
-
-  -- a bucket that y stands for, once it was left with what y holds, and so many values of it moved
-  pub standing_grown : (spills : Bool) (threshold moved : ℕ) (y : X) → Grows spills threshold (s x) moved (f y) (s y)
-      → GrowsThenSpills spills threshold (map how xs) p moved (map how (set xs p y))
-  standing_grown spills threshold moved y told =
-      let m = (nth_standing (map how (set xs p y)) p).entries in
-      let left = holding (nth_standing (map how xs) p) m in
-      let at : stands (f y) (stays_spilled (s x) (f y)) ≡ nth_standing (entries_set (map how xs) p m) p =
-      (λ i. holding (nth_standing-map i) (sym (standing_new y) i).entries)
-      ∙ sym (get_or-set_same (map how xs) p left (record { entries = 0; spilled = false }) within_mapped) in (
-        told.0 ∙ ap (λ z. due_in spills threshold z) at,
-        map-set how xs p y ∙ ap (λ z. set (map how xs) p z) (told.1 ∙ ap (λ z. spilled_by moved z) at) ∙ sym (set-set (map how xs) p left _),
-      )
-
-  pub standing_stays : (y : X) → f y ≡ f x → s y ≡ s x → map how (set xs p y) ≡ map how xs
-  standing_stays y e b = map-set_same how xs p y x ((λ j. stands (e j) (b j)) ∙ ap how bucket.at)
-
-  pub kept_stays : {T : Type 0} {t : T} {threshold pruned spills moved : ℕ} (y : X) → f y ≡ f x → s y ≡ s x
-      → ◌≡◌ {A = Kept T K V} (record { translator = t; buckets = map f (set xs p y); pruned = pruned; standings = standings_of threshold (map how (set xs p y)) spills moved })
-      (record { translator = t; buckets = map f xs; pruned = pruned; standings = standings_of threshold (map how xs) spills moved })
-  kept_stays {t = t} {threshold = threshold} {pruned = pruned} {spills = spills} {moved = moved} y e b = λ i. record {
-    translator = t;
-    buckets = map-set_same f xs p y x (e ∙ ap f bucket.at) i;
-    pruned = pruned;
-    standings = standings_of threshold (standing_stays y e b i) spills moved;
-  }
-
-  -- its values were moved, to a tree or back
-  pub standing_moved : (b : Bool) (y : X) → f y ≡ f x → s y ≡ b
-      → map how (set xs p y) ≡ set (map how xs) p (record { entries = (nth_standing (map how xs) p).entries; spilled = b })
-  standing_moved b y e is =
-      map-set how xs p y
-      ∙ ap (λ z. set (map how xs) p z) ((λ i. stands (e i) (is i)) ∙ ap (λ z. record { entries = z.entries; spilled = b }) nth_standing-map)
-
-  -- how many values a spill would move, and a return
-  pub inline_told : (spills : Bool) {n : ℕ} → n ≡ spillable spills (s x) (f x)
-      → let z = nth_standing (map how xs) p in n ≡ (if spills && not z.spilled then z.entries else 0)
-  inline_told spills e = e ∙ ap (λ z. if spills && not z.spilled then z.entries else 0) nth_standing-map
-
-  pub spilled_told : {n : ℕ} → n ≡ (if s x then item_count (f x) else 0) → let z = nth_standing (map how xs) p in n ≡ (if z.spilled then z.entries else 0)
-  spilled_told e = e ∙ ap (λ z. if z.spilled then z.entries else 0) nth_standing-map
-
-  pub filled_told : (IsTrue (s x) → 0 < item_count (f x)) → let z = nth_standing (map how xs) p in IsTrue z.spilled → 0 < z.entries
-  filled_told some = subst (λ z. IsTrue z.spilled → 0 < z.entries) nth_standing-map some
-
-  pub left_with_more : {cmp : K → K → Ordering} (o : IsTotalOrder cmp) → IsLawful cmp (f x) → (y : X) (k : K) (l : List V) (more : ℕ)
-      → f y ≡ with_list cmp (f x) k l → length l ≤ length (list_at cmp (f x) k) + more
-      → (nth_standing (map how (set xs p y)) p).entries ≤ (nth_standing (map how xs) p).entries + more
-  left_with_more {cmp = cmp} o lawful y k l more e few =
-      let was = ap (λ z. z.entries) nth_standing-map in
-      omega (arith, item_count-with_list o (f x) k l lawful, ap (λ c. item_count c) e, was, ap (λ z. z.entries) (standing_new y), few)
-
-  pub left_fewer : {cmp : K → K → Ordering} (o : IsTotalOrder cmp) → IsLawful cmp (f x) → (y : X) (k : K) (l : List V)
-      → f y ≡ with_list cmp (f x) k l → length l ≤ length (list_at cmp (f x) k)
-      → (nth_standing (map how (set xs p y)) p).entries ≤ (nth_standing (map how xs) p).entries
-  left_fewer o lawful y k l e few = let none = left_with_more o lawful y k l 0 e (omega (arith, few)) in omega (arith, none)
-
-pub spills_so : (spills spilled : Bool) {K V : Type 0} (c : Content K V) {n : ℕ} → n ≡ spillable spills spilled c → 0 < n → spills ≡ true
-spills_so true spilled c is some = refl
-spills_so false spilled c is some = absurd (omega (arith, is, some))
-
--- whether a bucket is due to spill, by how many values a spill would move
-pub due_told : (spills spilled : Bool) (threshold entries values : ℕ) → values ≡ (if spills && not spilled then entries else 0) → threshold ≤ values → 1 ≤ threshold
-    → ((spills && (not spilled && nat_le threshold entries)) ≡ true) × (values ≡ entries)
-due_told true false threshold entries values is many least = (le-leb threshold entries (omega (arith, is, many)), is)
-due_told true true threshold entries values is many least = absurd (omega (arith, is, many, least))
-due_told false spilled threshold entries values is many least = absurd (omega (arith, is, many, least))
-
-pub due_none : (spills spilled : Bool) (threshold entries values : ℕ) → values ≡ (if spills && not spilled then entries else 0) → values < threshold
-    → (spills && (not spilled && nat_le threshold entries)) ≡ false
-due_none true false threshold entries values is few = lt-leb threshold entries (omega (arith, is, few))
-due_none true true threshold entries values is few = refl
-due_none false spilled threshold entries values is few = refl
-
--- whether it is small, by how many values a return would move
-pub small_told : (spilled : Bool) (threshold entries values : ℕ) → values ≡ (if spilled then entries else 0) → 0 < values → values < threshold - values
-    → ((spilled && nat_lt (2 * entries) threshold) ≡ true) × (values ≡ entries)
-small_told true threshold entries values is some few = (lt-ltb (2 * entries) threshold (omega (arith, is, few)), is)
-small_told false threshold entries values is some few = absurd (omega (arith, is, some))

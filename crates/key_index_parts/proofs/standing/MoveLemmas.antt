@@ -1,22 +1,25 @@
 -- The bound on moved values is kept.
 --     step_keeps                a step that moves `cost` values, and leaves one partition standing otherwise
 --     credit_pays, range_pays   what an index and a range owe pays for a spill and for an edit
---     settled_paid              a partition spilled if it was due
---     leaves_paid               an edit in a partition as it stands
---     grows_paid                an insertion there
---     back_within               a small one moved back: the bound of an index alone
+--     Paid                      what a partition owes pays for what becomes of it
+--     paid-then, paid-same      one change after another, and none
+--     paid-settled, paid-left   a partition settled, and an edit in it as it stands
+--     paid-call, paid-edit      a call by key, and a cursor's edit
+--     paid-refused              a refused insertion
+--     paid-removed              a call that moves a small one back: the bound of an index alone
+--     refused-threshold, ..     neither changes the threshold
+--     stays_paid                the bound holds of them all
 --     range_within              a range is within the bound of an index of any threshold
 --     install_within            an index keeps the bound when it gets a range of any threshold
 --     new_ranged, new_within    where nothing was moved yet
-use Rattle.std.proofs.Common.{◌≡◌, inl, inr, ℕ, zero, suc, ◌+◌, ◌-◌, ◌*◌, ◌^◌, ◌<◌, ◌≤◌, Bool, true, false, not, ◌&&◌, nat_lt, nat_le, IsTrue, if◌then◌else◌, List, [], ◌∷◌, length, set, get_or, take, drop, ◌++◌, refl, sym, ap, subst, arith}
+use Rattle.std.proofs.Common.{◌≡◌, inl, inr, ℕ, zero, suc, ◌+◌, ◌-◌, ◌*◌, ◌^◌, ◌<◌, ◌≤◌, Bool, true, false, not, ◌&&◌, ◌||◌, nat_lt, nat_le, IsTrue, if◌then◌else◌, List, [], ◌∷◌, length, set, get_or, take, drop, ◌++◌, T, refl, sym, ap, subst, arith}
 use Rattle.std.proofs.lemmas.Bool.Decides.{nat_tests}
-use Rattle.std.proofs.lemmas.List.{length-set}
 use Rattle.std.proofs.lemmas.List.Sums.{sum_by-set, sum_by-append, sum_by-take-drop, sum_by-drop_more, sum_by-cons}
 use Rattle.std.specs.List.{sum_by}
 use Rattle.key_index_flat.specs.View.{pruned_after}
-use Rattle.key_index_parts.specs.Buckets.{settled_standings}
+use Rattle.key_index_parts.specs.Counts.{one_if}
 use Rattle.key_index_parts.specs.Moves.{IsPaid, IsRangeWithin, IsWithin, credit, range_credit}
-use Rattle.key_index_parts.specs.Standing.{Standing, Standings, Leaves, MovesBack, entries_at, is_reached, joined_standings, standing_at, with_entries, with_spill}
+use Rattle.key_index_parts.specs.Standing.{Account, IsCalled, IsLeftBy, IsRemoved, Returns, Standing, Standings, account_at, called, entries_at, is_due, joined_standings, returned, settled, standing_at, with_account, with_values}
 
 -- owed: what each partition owes; cost: how many values are moved; the count of moved values is raised by no more
 step_keeps : (owed : Standing → ℕ) (ps : List Standing) (n : ℕ) (q : Standing) (had has pruned after taken cost : ℕ) → n < length ps
@@ -34,17 +37,17 @@ step_keeps owed ps n q had has pruned after taken cost inside counted after_is p
 
 -- what partitions owe, by the threshold, pays for the spill of one that is due, and for an edit that takes k values out
 pub record Pays (owed : ℕ → Standing → ℕ) : Type 0 where
-  pub spill : (t n : ℕ) (b : Bool) → IsTrue (not b && nat_le t n)
+  pub spill : (t n : ℕ) (b : Bool) → (not b && nat_le t n) ≡ true
       → n + owed t (record { entries = n; spilled = true }) ≤ owed t (record { entries = n; spilled = b })
   pub edit : (t n m k : ℕ) (b : Bool) → n ≤ m + k
       → owed t (record { entries = m; spilled = b && nat_lt 0 m }) + 2 * n ≤ owed t (record { entries = n; spilled = b }) + 2 * m + 3 * k
 
 pub credit_pays : Pays credit
 credit_pays = record { spill = spill; edit = edit } where
-  spill : (t n : ℕ) (b : Bool) → IsTrue (not b && nat_le t n)
+  spill : (t n : ℕ) (b : Bool) → (not b && nat_le t n) ≡ true
       → n + credit t (record { entries = n; spilled = true }) ≤ credit t (record { entries = n; spilled = b })
-  spill t n true reached = grind (arith, nat_tests)
-  spill t n false reached = grind (arith, nat_tests)
+  spill t n true due = grind (arith, nat_tests)
+  spill t n false due = grind (arith, nat_tests)
 
   edit : (t n m k : ℕ) (b : Bool) → n ≤ m + k
       → credit t (record { entries = m; spilled = b && nat_lt 0 m }) + 2 * n ≤ credit t (record { entries = n; spilled = b }) + 2 * m + 3 * k
@@ -53,60 +56,116 @@ credit_pays = record { spill = spill; edit = edit } where
 
 pub range_pays : Pays (λ _. range_credit)
 range_pays = record { spill = spill; edit = edit } where
-  spill : (t n : ℕ) (b : Bool) → IsTrue (not b && nat_le t n)
+  spill : (t n : ℕ) (b : Bool) → (not b && nat_le t n) ≡ true
       → n + range_credit (record { entries = n; spilled = true }) ≤ range_credit (record { entries = n; spilled = b })
-  spill t n true reached = grind (arith, nat_tests)
-  spill t n false reached = grind (arith, nat_tests)
+  spill t n true due = grind (arith, nat_tests)
+  spill t n false due = grind (arith, nat_tests)
 
   edit : (t n m k : ℕ) (b : Bool) → n ≤ m + k
       → range_credit (record { entries = m; spilled = b && nat_lt 0 m }) + 2 * n ≤ range_credit (record { entries = n; spilled = b }) + 2 * m + 3 * k
   edit t n m k true left = grind (arith, nat_tests)
   edit t n m k false left = grind (arith, nat_tests)
 
-back_pays : (t n : ℕ) (b : Bool) → IsTrue (b && nat_lt (2 * n) t)
-    → n + credit t (record { entries = n; spilled = false }) ≤ credit t (record { entries = n; spilled = b })
-back_pays t n true small = grind (arith, nat_tests)
-back_pays t n false small = grind (arith, nat_tests)
+-- what a partition owes pays for what becomes of it: b where it was a, with so many values taken out
+pub record Paid (owed : Standing → ℕ) (a b : Account) (gone : ℕ) : Type 0 where
+  pub cost : ℕ
+  pub counted : b.moved ≤ a.moved + cost
+  pub cheap : cost + owed b.standing + 2 * a.standing.entries ≤ owed a.standing + 2 * b.standing.entries + 3 * gone
 
-module _ {owed : ℕ → Standing → ℕ} (pays : Pays owed) where
-  pub settled_paid : (spills : Bool) (s : Standings) (n pruned : ℕ) → n < length s.buckets → IsPaid (owed s.threshold) s pruned
-      → IsPaid (owed (settled_standings spills s n).threshold) (settled_standings spills s n) pruned
-  settled_paid spills s n pruned inside before =
-      elim spills as (λ b. IsPaid (owed (settled_standings b s n).threshold) (settled_standings b s n) pruned) [
-        | true ↦ elim (is_reached s n) as (λ b. is_reached s n ≡ b → IsPaid (owed (if b then with_spill s n else s).threshold) (if b then with_spill s n else s) pruned) [
-          | true ↦ λ e. let cheap = pays.spill s.threshold (entries_at s n) (standing_at s n).spilled e in
-              step_keeps (owed s.threshold) s.buckets n (record { entries = entries_at s n; spilled = true }) s.moved (pruned_after s.moved (entries_at s n)) pruned pruned 0 (entries_at s n)
-              inside (omega arith) (omega arith) (omega (arith, cheap)) before
-          | false ↦ λ e. before
-        ] refl
-        | false ↦ before
-      ]
+pub paid-then : {owed : Standing → ℕ} (a b c : Account) (g h k : ℕ) → Paid owed a b g → Paid owed b c h → g + h ≡ k → Paid owed a c k
+paid-then a b c g h k first next sum = record {
+  cost = first.cost + next.cost;
+  counted = omega (arith, first.counted, next.counted);
+  cheap = omega (arith, first.cheap, next.cheap, sum);
+}
 
-  -- taken: how many of the values that were held are gone
-  module _ (old new : Standings) (n pruned after taken : ℕ) (inside : n < length old.buckets) (left : entries_at old n ≤ entries_at new n + taken)
-      (after_is : after ≡ pruned_after pruned taken) (before : IsPaid (owed old.threshold) old pruned) where
-    IsPaid-with_entries : IsPaid (owed old.threshold) (with_entries old n (entries_at new n)) after
-    IsPaid-with_entries =
-        let cheap = pays.edit old.threshold (entries_at old n) (entries_at new n) taken (standing_at old n).spilled left in
-        step_keeps (owed old.threshold) old.buckets n (record { entries = entries_at new n; spilled = (standing_at old n).spilled && nat_lt 0 (entries_at new n) }) old.moved old.moved pruned after taken 0
-        inside (omega arith) after_is (omega (arith, cheap)) before
+pub paid-same : {owed : Standing → ℕ} (a : Account) → Paid owed a a 0
+paid-same a = record { cost = 0; counted = omega arith; cheap = omega arith }
 
-    pub leaves_paid : Leaves old n new → IsPaid (owed new.threshold) new after
-    leaves_paid is = subst (λ s. IsPaid (owed s.threshold) s after) (sym is) IsPaid-with_entries
+module _ {owed : ℕ → Standing → ℕ} (pays : Pays owed) (spills : Bool) (a : Account) where
+  pub paid-settled : Paid (owed a.threshold) a (settled spills a) 0
+  paid-settled =
+      elim (spills && is_due a) as (λ d. (spills && is_due a) ≡ d → Paid (owed a.threshold) a (record {
+        threshold = a.threshold;
+        standing = record { entries = a.standing.entries; spilled = d || a.standing.spilled };
+        spills = pruned_after a.spills (one_if d);
+        moved = pruned_after a.moved (if d then a.standing.entries else 0);
+      }) 0) [
+        | true ↦ λ e. record {
+          cost = a.standing.entries;
+          counted = omega arith;
+          cheap = let cheap = pays.spill a.threshold a.standing.entries a.standing.spilled (both_true spills (is_due a) e) in omega (arith, cheap);
+        }
+        | false ↦ λ e. record { cost = 0; counted = omega arith; cheap = omega arith }
+      ] refl
+    where
+      both_true : (x y : Bool) → (x && y) ≡ true → y ≡ true
+      both_true true y e = e
+      both_true false y e = absurd (subst T (sym e) tt)
 
-    pub grows_paid : (spills : Bool) → new ≡ settled_standings spills (with_entries old n (entries_at new n)) n → IsPaid (owed new.threshold) new after
-    grows_paid spills is =
-        let same = length-set old.buckets n (record { entries = entries_at new n; spilled = (standing_at old n).spilled && nat_lt 0 (entries_at new n) }) in
-        subst (λ s. IsPaid (owed s.threshold) s after) (sym is)
-        (settled_paid spills (with_entries old n (entries_at new n)) n after (omega (arith, same, inside)) IsPaid-with_entries)
+pub paid-left : {owed : ℕ → Standing → ℕ} → Pays owed → (a : Account) (m gone : ℕ) → a.standing.entries ≤ m + gone
+    → Paid (owed a.threshold) a (with_values a m) gone
+paid-left pays a m gone left = record {
+  cost = 0;
+  counted = omega arith;
+  cheap = let cheap = pays.edit a.threshold a.standing.entries m gone a.standing.spilled left in omega (arith, cheap);
+}
 
-pub back_within : (old new : Standings) (n pruned : ℕ) → n < length old.buckets → MovesBack old n new → IsWithin old pruned → IsWithin new pruned
-back_within old new n pruned inside (inl same) before = subst (λ s. IsWithin s pruned) (sym same) before
-back_within old new n pruned inside (inr told) before =
-    let cheap = back_pays old.threshold (entries_at old n) (standing_at old n).spilled told.0 in
-    subst (λ s. IsWithin s pruned) (sym told.1)
-    (step_keeps (credit old.threshold) old.buckets n (record { entries = entries_at old n; spilled = false }) old.moved (pruned_after old.moved (entries_at old n)) pruned pruned 0 (entries_at old n)
-    inside (omega arith) (omega arith) (omega (arith, cheap)) before)
+module _ {owed : ℕ → Standing → ℕ} (pays : Pays owed) (spills : Bool) (a b : Account) (gone : ℕ) (left : a.standing.entries ≤ b.standing.entries + gone) where
+  pub paid-called : Paid (owed a.threshold) a (called spills a b.standing.entries) gone
+  paid-called =
+      let m = b.standing.entries in
+      let edited = with_values (settled spills a) m in
+      paid-then a (settled spills a) (called spills a m) 0 gone gone (paid-settled pays spills a)
+      (paid-then (settled spills a) edited (called spills a m) gone 0 gone (paid-left pays (settled spills a) m gone left) (paid-settled pays spills edited) (omega arith)) (omega arith)
+
+  pub paid-call : IsCalled spills a b → Paid (owed a.threshold) a b gone
+  paid-call is = subst (λ x. Paid (owed a.threshold) a x gone) (sym is) paid-called
+
+  pub paid-edit : b ≡ with_values a b.standing.entries → Paid (owed a.threshold) a b gone
+  paid-edit is = subst (λ x. Paid (owed a.threshold) a x gone) (sym is) (paid-left pays a b.standing.entries gone left)
+
+pub paid-refused : {owed : ℕ → Standing → ℕ} → Pays owed → (spills : Bool) (a b : Account) → IsLeftBy spills a b → Paid (owed a.threshold) a b 0
+paid-refused {owed = owed} pays spills a b (inl same) = subst (λ x. Paid (owed a.threshold) a x 0) (sym same) (paid-same a)
+paid-refused {owed = owed} pays spills a b (inr so) = subst (λ x. Paid (owed a.threshold) a x 0) (sym so) (paid-settled pays spills a)
+
+-- the bound of an index alone
+pub paid-removed : (spills : Bool) (a b : Account) (gone : ℕ) → a.standing.entries ≤ b.standing.entries + gone → IsRemoved spills a b → Paid (credit a.threshold) a b gone
+paid-removed spills a b gone left told = by_case told where
+  between : Account
+  between = called spills a b.standing.entries
+
+  back_pays : (t n : ℕ) (s : Bool) → IsTrue (s && nat_lt (2 * n) t)
+      → n + credit t (record { entries = n; spilled = false }) ≤ credit t (record { entries = n; spilled = s })
+  back_pays t n true small = grind (arith, nat_tests)
+  back_pays t n false small = grind (arith, nat_tests)
+
+  by_case : Returns between b → Paid (credit a.threshold) a b gone
+  by_case (inl same) = paid-call credit_pays spills a b gone left same
+  by_case (inr back) =
+      let cheap = back_pays a.threshold b.standing.entries between.standing.spilled back.0 in
+      subst (λ x. Paid (credit a.threshold) a x gone) (sym back.1)
+      (paid-then a between (returned between) gone 0 gone (paid-called credit_pays spills a b gone left)
+      (record { cost = b.standing.entries; counted = omega arith; cheap = omega (arith, cheap) }) (omega arith))
+
+pub refused-threshold : (spills : Bool) (a b : Account) → IsLeftBy spills a b → b.threshold ≡ a.threshold
+refused-threshold spills a b (inl same) = ap (λ x. x.threshold) same
+refused-threshold spills a b (inr so) = ap (λ x. x.threshold) so
+
+pub removed-threshold : (spills : Bool) (a b : Account) → IsRemoved spills a b → b.threshold ≡ a.threshold
+removed-threshold spills a b told = by_case told where
+  by_case : Returns (called spills a b.standing.entries) b → b.threshold ≡ a.threshold
+  by_case (inl same) = ap (λ x. x.threshold) same
+  by_case (inr back) = ap (λ x. x.threshold) back.1
+
+-- so the bound holds of them all
+pub stays_paid : (owed : ℕ → Standing → ℕ) (old new : Standings) (n pruned after gone : ℕ) → n < length old.buckets → after ≡ pruned_after pruned gone
+    → new ≡ with_account old n (account_at new n) → new.threshold ≡ old.threshold → Paid (owed old.threshold) (account_at old n) (account_at new n) gone
+    → IsPaid (owed old.threshold) old pruned → IsPaid (owed new.threshold) new after
+stays_paid owed old new n pruned after gone inside after_is alone same paid before =
+    subst (λ t. IsPaid (owed t) new after) (sym same)
+    (subst (λ s. IsPaid (owed old.threshold) s after) (sym alone)
+    (step_keeps (owed old.threshold) old.buckets n (standing_at new n) old.moved new.moved pruned after gone paid.cost inside paid.counted after_is paid.cheap before))
 
 credit_least : (t n : ℕ) (b : Bool) → credit t (record { entries = n; spilled = b }) ≤ range_credit (record { entries = n; spilled = b })
 credit_least t n true = grind arith

@@ -3,24 +3,19 @@
 --     entries-AreFree                 places that hold nothing have no values
 --     map-with_items_from             what is told of each item, with others in the place of some
 --     StaysPaid                       the bounds of an index and of a range hold if they held before
---     StaysPaid-left                  after an edit of a list in a bucket, y, that was x
---     StaysPaid-grown                 after an insertion there
-use Rattle.std.proofs.Common.{◌≡◌, ℕ, zero, suc, ◌+◌, ◌<◌, ◌≤◌, Bool, nat_lt, List, [], ◌∷◌, ◌++◌, map, set, take, drop, length, refl, sym, ap, ◌∙◌, arith}
+--     paid-Calls, paid-Leaves         after a call by key, and a cursor's edit
+--     within-Removes                  after a call that takes values out, that of an index
+--     paid-Refuses                    after a refused insertion
+use Rattle.std.proofs.Common.{◌≡◌, ℕ, zero, suc, ◌+◌, ◌<◌, ◌≤◌, Bool, List, [], ◌∷◌, ◌++◌, map, take, drop, length, refl, sym, ap, ◌∙◌, arith}
 use Rattle.std.proofs.lemmas.List.{length-map, map-append, take-map, drop-map}
 use Rattle.std.proofs.lemmas.List.Sums.{sum_by-cons}
-use Rattle.std.specs.Cmp.{IsTotalOrder}
 use Rattle.std.specs.List.{sum_by}
-use Rattle.std.specs.declared.cmp.Ordering.{Ordering}
-use Rattle.key_index_flat.specs.Content.{Content, IsLawful, item_count, list_at, with_list}
+use Rattle.key_index_flat.specs.Content.{Content, item_count}
 use Rattle.key_index_flat.specs.View.{pruned_after}
-use Rattle.key_index_flat.proofs.content.ContentLemmas.{item_count-with_list}
-use Rattle.key_index_parts.specs.Counts.{one_if}
-use Rattle.key_index_parts.specs.Buckets.{AreFree, Grows, bucket_at, standing_of_all, stays_spilled, with_items_from}
-use Rattle.key_index_parts.specs.Moves.{IsPaid, IsRangeWithin, IsWithin}
-use Rattle.key_index_parts.specs.Standing.{Standing, Standings, entries_at, nth_standing, standings_of}
-use Rattle.key_index_parts.proofs.buckets.BucketLemmas.{IsBucket, standing_left, standing_grown, nth_standing-map, standing_new, within_mapped}
-use Rattle.key_index_parts.proofs.standing.StandingLemmas.{grows_to}
-use Rattle.key_index_parts.proofs.standing.MoveLemmas.{Pays, credit_pays, grows_paid, leaves_paid, range_pays}
+use Rattle.key_index_parts.specs.Buckets.{AreFree, bucket_at, standing_of_all, with_items_from}
+use Rattle.key_index_parts.specs.Moves.{IsPaid, IsRangeWithin, IsWithin, credit}
+use Rattle.key_index_parts.specs.Standing.{Changes, IsCalled, IsLeftBy, IsRemoved, Leaves, Standing, Standings, account_at, entries_at, nth_standing, with_account}
+use Rattle.key_index_parts.proofs.standing.MoveLemmas.{Paid, Pays, credit_pays, paid-call, paid-edit, paid-refused, paid-removed, range_pays, refused-threshold, removed-threshold, stays_paid}
 
 module _ {X K V : Type 0} (f : X → Content K V) (s : X → Bool) where
   entries_told : (xs : List X) (n : ℕ) → (nth_standing (standing_of_all f s xs) n).entries ≡ item_count (bucket_at (map f xs) n)
@@ -44,39 +39,34 @@ map-with_items_from f xs ys n =
     ∙ (λ i. sym (take-map f n xs) i ++ (map f ys ++ sym (drop-map f (n + length ys) xs) i))
     ∙ ap (λ m. take n (map f xs) ++ (map f ys ++ drop (n + m) (map f xs))) (sym (length-map ys f))
 
-pub record StaysPaid (s t : Standings) (pruned after : ℕ) : Type 0 where
-  pub within : IsWithin s pruned → IsWithin t after
-  pub range_bound : IsRangeWithin s pruned → IsRangeWithin t after
+pub record StaysPaid (old new : Standings) (pruned after : ℕ) : Type 0 where
+  pub within : IsWithin old pruned → IsWithin new after
+  pub range_bound : IsRangeWithin old pruned → IsRangeWithin new after
 
--- taken: how many of the values that were held are gone
-module _ {X K V : Type 0} {cmp : K → K → Ordering} {f : X → Content K V} (s : X → Bool) {xs : List X} {n : ℕ} {x : X} (o : IsTotalOrder cmp) (lawful : IsLawful cmp (f x))
-    (bucket : IsBucket f xs n x) (y : X) (k : K) (l : List V) (is : f y ≡ with_list cmp (f x) k l)
-    (threshold spills moved pruned after taken : ℕ) (fits : length (list_at cmp (f x) k) ≤ length l + taken) (after_is : after ≡ pruned_after pruned taken) where
-  abbrev pub old : Standings
-  old = standings_of threshold (standing_of_all f s xs) spills moved
+-- of a change of one partition; gone: how many of the values that were held are taken out
+module _ (old new : Standings) (n pruned after gone : ℕ) (inside : n < length old.buckets) (after_is : after ≡ pruned_after pruned gone)
+    (left : entries_at old n ≤ entries_at new n + gone) (spills : Bool) where
+  paid_by : (owed : ℕ → Standing → ℕ) → new ≡ with_account old n (account_at new n) → new.threshold ≡ old.threshold
+      → Paid (owed old.threshold) (account_at old n) (account_at new n) gone → IsPaid (owed old.threshold) old pruned → IsPaid (owed new.threshold) new after
+  paid_by owed alone same paid before = stays_paid owed old new n pruned after gone inside after_is alone same paid before
 
-  abbrev pub edited : ℕ → ℕ → Standings
-  edited a b = standings_of threshold (standing_of_all f s (set xs n y)) a b
+  pub paid-Calls : Changes (IsCalled spills) old n new → StaysPaid old new pruned after
+  paid-Calls told = record { within = keeps credit_pays; range_bound = keeps range_pays } where
+    keeps : {owed : ℕ → Standing → ℕ} → Pays owed → IsPaid (owed old.threshold) old pruned → IsPaid (owed new.threshold) new after
+    keeps {owed = owed} pays before = paid_by owed told.alone (ap (λ a. a.threshold) told.by) (paid-call pays spills (account_at old n) (account_at new n) gone left told.by) before
 
-  entries-left_and_taken : entries_at old n ≤ entries_at (edited spills moved) n + taken
-  entries-left_and_taken =
-      let sum = item_count-with_list o (f x) k l lawful in
-      let counts = ap (λ c. item_count c) is in
-      let was = ap (λ z. z.entries) (nth_standing-map bucket s) in
-      let now = ap (λ z. z.entries) (standing_new bucket s y) in
-      omega (arith, sum, counts, was, now, fits)
+  pub paid-Leaves : Leaves old n new → StaysPaid old new pruned after
+  paid-Leaves told = record { within = keeps credit_pays; range_bound = keeps range_pays } where
+    keeps : {owed : ℕ → Standing → ℕ} → Pays owed → IsPaid (owed old.threshold) old pruned → IsPaid (owed new.threshold) new after
+    keeps {owed = owed} pays before = paid_by owed told.alone (ap (λ a. a.threshold) told.by) (paid-edit pays spills (account_at old n) (account_at new n) gone left told.by) before
 
-  pub StaysPaid-left : s y ≡ stays_spilled (s x) (f y) → StaysPaid old (edited spills moved) pruned after
-  StaysPaid-left stays = record { within = leaves credit_pays; range_bound = leaves range_pays } where
-    leaves : {owed : ℕ → Standing → ℕ} → Pays owed → IsPaid (owed threshold) old pruned → IsPaid (owed threshold) (edited spills moved) after
-    leaves pays before =
-        leaves_paid pays old (edited spills moved) n pruned after taken (within_mapped bucket s) entries-left_and_taken after_is before
-        (λ i. standings_of threshold (standing_left bucket s y stays i) spills moved)
+  pub within-Removes : Changes (IsRemoved spills) old n new → IsWithin old pruned → IsWithin new after
+  within-Removes told before =
+      paid_by credit told.alone (removed-threshold spills (account_at old n) (account_at new n) told.by) (paid-removed spills (account_at old n) (account_at new n) gone left told.by) before
 
-  pub StaysPaid-grown : (kind : Bool) {m a b : ℕ} → 1 ≤ threshold → Grows kind threshold (s x) m (f y) (s y)
-      → a ≡ pruned_after spills (one_if (nat_lt 0 m)) → b ≡ pruned_after moved m → StaysPaid old (edited a b) pruned after
-  StaysPaid-grown kind {m = m} {a = a} {b = b} least told one more = record { within = grows credit_pays; range_bound = grows range_pays } where
-    grows : {owed : ℕ → Standing → ℕ} → Pays owed → IsPaid (owed threshold) old pruned → IsPaid (owed threshold) (edited a b) after
-    grows pays before =
-        grows_paid pays old (edited a b) n pruned after taken (within_mapped bucket s) entries-left_and_taken after_is before kind
-        (grows_to kind old n m (within_mapped bucket s) least (standing_of_all f s (set xs n y)) (standing_grown bucket s kind threshold m y told) one more)
+pub paid-Refuses : (spills : Bool) (old new : Standings) (n pruned : ℕ) → n < length old.buckets → Changes (IsLeftBy spills) old n new → StaysPaid old new pruned pruned
+paid-Refuses spills old new n pruned inside told = record { within = keeps credit_pays; range_bound = keeps range_pays } where
+  keeps : {owed : ℕ → Standing → ℕ} → Pays owed → IsPaid (owed old.threshold) old pruned → IsPaid (owed new.threshold) new pruned
+  keeps {owed = owed} pays before =
+      stays_paid owed old new n pruned pruned 0 inside (omega arith) told.alone (refused-threshold spills (account_at old n) (account_at new n) told.by)
+      (paid-refused pays spills (account_at old n) (account_at new n) told.by) before

@@ -1,17 +1,19 @@
 //! The bucket of a partition: what it holds, by the translated keys there.
-ghost use Rattle.std.specs.Prelude.{◌≡◌, ◌+◌, ◌<◌, ◌≤◌, ◌&&◌, Bool, false, IsTrue, if◌then◌else◌, [], ◌∷◌, length, not, slice_get, slice_set, insert, remove, Some, None, is_some, IfOk, IfErr, OnOk, OnErr};
+ghost use Rattle.std.specs.Prelude.{◌≡◌, ◌+◌, ◌<◌, ◌≤◌, ◌&&◌, Bool, false, IsTrue, [], ◌∷◌, length, not, slice_get, slice_set, insert, remove, Some, None, IfOk, IfErr, OnOk, OnErr};
 ghost use Rattle.std.specs.Fn.{CalledAt};
 ghost use Rattle.key_index_flat.specs.Content.{Content, IsLawful, is_filled, item_count, lacks, list_at, with_list, with_list_by};
 ghost use Rattle.key_index_flat.specs.Neighbours.{first_entry, last_list, entries_above, entries_below};
 ghost use Rattle.key_index_flat.specs.View.{put_value};
 ghost use Rattle.key_index_flat.specs.Values.{VisitsEach, values_of};
-ghost use Rattle.key_index_parts.specs.Buckets.{Grows, RetainsList, spillable, stays_spilled};
+ghost use Rattle.key_index_parts.specs.Buckets.{RetainsList, account, stays_spilled};
+ghost use Rattle.key_index_parts.specs.Standing.{IsCalled, IsLeftBy, IsRemoved, is_due, settled};
 
 pub(super) mod hash_bucket;
 mod sorted_arrays;
 pub(super) mod sorted_bucket;
 mod tree;
 
+use super::counts::Moves;
 use key_index_flat::index::Values;
 use key_index_flat::index::implement::Retained;
 use key_index_flat::translator::Translator;
@@ -97,12 +99,6 @@ pub(super) trait EditBucket<T: Translator, V>: ReadBucket<T, V> {
             ≡ with_list_by T.Key.cmp (Self.content self.old) key (λ l. remove l place) }
         ensures standing { Self.spilled self.new ≡ stays_spilled (Self.spilled self.old) (Self.content self.new) }
         ensures left { result.1 + 1 ≡ length (list_at T.Key.cmp (Self.content self.old) key) };
-
-    /// Removes the key, and tells how many values it had.
-    fn remove(&mut self, key: T::Key) -> usize
-        ensures content { Self.content self.new ≡ with_list T.Key.cmp (Self.content self.old) key [] }
-        ensures standing { Self.spilled self.new ≡ stays_spilled (Self.spilled self.old) (Self.content self.new) }
-        ensures taken { result ≡ length (list_at T.Key.cmp (Self.content self.old) key) };
 }
 
 /// One of the two forms of a bucket that spills: arrays, or a tree.
@@ -130,11 +126,17 @@ pub(super) trait Representation<T: Translator, V>: EditBucket<T, V> {
         ensures refused { OnErr result (Self.content self.new ≡ Self.content self.old) }
         ensures taken { new.new ≡ None }
         ensures returned { IfErr result (λ back. new.old ≡ Some back) };
+
+    /// Removes the key, and tells how many values it had.
+    fn remove(&mut self, key: T::Key) -> usize
+        ensures content { Self.content self.new ≡ with_list T.Key.cmp (Self.content self.old) key [] }
+        ensures taken { result ≡ length (list_at T.Key.cmp (Self.content self.old) key) };
 }
 
-/// A bucket of an index. A refusal is an allocation failure, and leaves the bucket as it was. `SPILLS` tells whether buckets of this kind
-/// ever spill: a call that puts a value in moves the values of such a bucket from arrays to a tree where it is left with `threshold`
-/// values or more, and tells how many that moved. No other call but `spill` does so, and `move_back` alone moves values back.
+/// A bucket of an index. A refusal is an allocation failure, and leaves the content as it was. `SPILLS` tells whether buckets of this kind
+/// ever spill. The calls by key spill a bucket that is due first, and one that stands in arrays with `threshold` values or more by what they
+/// put in; those that remove values move a bucket that they leave small back to arrays last, where there is memory for it. They count what
+/// they move. No other call moves values.
 pub(super) trait Bucket<T: Translator, V>: EditBucket<T, V> {
     ghost FIRST: { Bool };
 
@@ -145,81 +147,83 @@ pub(super) trait Bucket<T: Translator, V>: EditBucket<T, V> {
         ensures content { Self.content result ≡ [] }
         ensures standing { Self.spilled result ≡ false };
 
-    /// How many values a spill would move: all of an inline bucket, and none of a spilled one.
-    fn inline_len(&self) -> usize
-        ensures { result ≡ spillable SPILLS (Self.spilled self.now) (Self.content self.now) };
-
-    fn is_spilled(&self) -> bool
-        ensures { result ≡ Self.spilled self.now };
-
-    /// Moves the values from the arrays to a tree, all or none: after an allocation failure those that moved are back in the arrays. A
-    /// bucket of a kind that never spills stays as it is.
-    fn spill(&mut self) -> Result<(), AllocError>
-        requires { IsTrue SPILLS → 0 < spillable SPILLS (Self.spilled self.old) (Self.content self.old) }
+    /// Spills a bucket that is due: all its values, or none after an allocation failure.
+    fn settle(&mut self, moves: &mut Moves) -> Result<(), AllocError>
         ensures content { Self.content self.new ≡ Self.content self.old }
-        ensures standing { OnOk result (Self.spilled self.new ≡ SPILLS) }
-        ensures stands { OnErr result (Self.spilled self.new ≡ Self.spilled self.old) };
+        ensures settled { OnOk result (account (Self.content self.new) (Self.spilled self.new) moves.new
+            ≡ settled SPILLS (account (Self.content self.old) (Self.spilled self.old) moves.old)) }
+        ensures stands { OnErr result (account (Self.content self.new) (Self.spilled self.new) moves.new
+            ≡ account (Self.content self.old) (Self.spilled self.old) moves.old) }
+        ensures due { OnErr result (IsTrue (SPILLS
+            && is_due (account (Self.content self.old) (Self.spilled self.old) moves.old))) };
 
-    /// How many values stand in a tree: all of a spilled bucket, and none of an inline one.
-    fn spilled_len(&self) -> usize
-        ensures { result ≡ (if Self.spilled self.now then item_count (Self.content self.now) else 0) };
-
-    /// Moves the values from the tree back to arrays, all or none. It takes all the memory for it before the first value moves.
-    fn move_back(&mut self) -> Result<(), AllocError>
-        ensures content { Self.content self.new ≡ Self.content self.old }
-        ensures standing { OnOk result (Self.spilled self.new ≡ false) }
-        ensures stands { OnErr result (Self.spilled self.new ≡ Self.spilled self.old) };
-
-    /// Puts a value in at its end of the key's list, and tells whether the key had none, and how many values moved.
-    fn insert(&mut self, key: T::Key, value: V, threshold: usize) -> Result<(bool, usize), V>
-        requires { 1 ≤ threshold }
-        ensures accepted { IfOk result (λ told.
+    /// Puts a value in at its end of the key's list, and tells whether the key had none.
+    fn insert(&mut self, key: T::Key, value: V, moves: &mut Moves) -> Result<bool, V>
+        ensures accepted { IfOk result (λ absent.
             (Self.content self.new ≡ with_list_by T.Key.cmp (Self.content self.old) key (put_value FIRST value))
-            × (told.0 ≡ lacks T.Key.cmp (Self.content self.old) key)) }
-        ensures standing { IfOk result (λ told. Grows SPILLS threshold
-            (Self.spilled self.old) told.1 (Self.content self.new) (Self.spilled self.new)) }
+            × (absent ≡ lacks T.Key.cmp (Self.content self.old) key)) }
+        ensures standing { OnOk result (IsCalled SPILLS
+            (account (Self.content self.old) (Self.spilled self.old) moves.old)
+            (account (Self.content self.new) (Self.spilled self.new) moves.new)) }
         ensures refused { OnErr result (Self.content self.new ≡ Self.content self.old) }
-        ensures stands { OnErr result (Self.spilled self.new ≡ Self.spilled self.old) }
+        ensures left { OnErr result (IsLeftBy SPILLS
+            (account (Self.content self.old) (Self.spilled self.old) moves.old)
+            (account (Self.content self.new) (Self.spilled self.new) moves.new)) }
         ensures returned { IfErr result (λ back. back ≡ value) };
 
-    /// Puts a value under a key that has none, and tells how many values the key had, and how many moved.
-    fn insert_absent(
-        &mut self,
-        key: T::Key,
-        value: V,
-        threshold: usize,
-    ) -> Result<(usize, usize), V>
-        requires { 1 ≤ threshold }
-        ensures found { IfOk result (λ told. 0 < told.0 → Self.content self.new ≡ Self.content self.old) }
-        ensures found_stands { IfOk result (λ told. 0 < told.0 → Self.spilled self.new ≡ Self.spilled self.old) }
-        ensures inserted { IfOk result (λ told. told.0 ≡ 0 →
+    /// Puts a value under a key that has none, and tells how many values the key had.
+    fn insert_absent(&mut self, key: T::Key, value: V, moves: &mut Moves) -> Result<usize, V>
+        ensures found { IfOk result (λ had. 0 < had → Self.content self.new ≡ Self.content self.old) }
+        ensures inserted { IfOk result (λ had. had ≡ 0 →
             Self.content self.new ≡ with_list T.Key.cmp (Self.content self.old) key (value ∷ [])) }
-        ensures standing { IfOk result (λ told. told.0 ≡ 0 → Grows SPILLS threshold
-            (Self.spilled self.old) told.1 (Self.content self.new) (Self.spilled self.new)) }
-        ensures len { IfOk result (λ told. told.0 ≡ length (list_at T.Key.cmp (Self.content self.old) key)) }
+        ensures len { IfOk result (λ had. had ≡ length (list_at T.Key.cmp (Self.content self.old) key)) }
+        ensures standing { OnOk result (IsCalled SPILLS
+            (account (Self.content self.old) (Self.spilled self.old) moves.old)
+            (account (Self.content self.new) (Self.spilled self.new) moves.new)) }
         ensures refused { OnErr result (Self.content self.new ≡ Self.content self.old) }
-        ensures stands { OnErr result (Self.spilled self.new ≡ Self.spilled self.old) }
+        ensures left { OnErr result (IsLeftBy SPILLS
+            (account (Self.content self.old) (Self.spilled self.old) moves.old)
+            (account (Self.content self.new) (Self.spilled self.new) moves.new)) }
         ensures returned { IfErr result (λ back. back ≡ value) };
 
     /// Puts a new value in, if there is one, behind those of the key, which takes all the memory that the call may need, a spill's with it.
-    /// Then calls the closure once for each of them, in list order, and removes those for which it returns false. Tells how many values
-    /// moved, too: none where there is no new value.
+    /// Then calls the closure once for each of them, in list order, and removes those for which it returns false.
     fn retain<F: FnMut(&V) -> bool>(
         &mut self,
         key: T::Key,
         new: &mut Option<V>,
         should_retain: F,
-        threshold: usize,
-    ) -> Result<(Retained, usize), V>
-        requires callable { F.IsAlwaysCallable should_retain }
-        requires threshold { 1 ≤ threshold }
+        moves: &mut Moves,
+    ) -> Result<Retained, Option<V>>
+        requires { F.IsAlwaysCallable should_retain }
         ensures accepted { IfOk result (λ told. RetainsList (CalledAt F.FnMut) should_retain
-            (list_at T.Key.cmp (Self.content self.old) key) new.old told.0
+            (list_at T.Key.cmp (Self.content self.old) key) new.old told
             (λ l. Self.content self.new ≡ with_list T.Key.cmp (Self.content self.old) key l)) }
-        ensures standing { IfOk result (λ told. Grows (is_some new.old && SPILLS) threshold
-            (Self.spilled self.old) told.1 (Self.content self.new) (Self.spilled self.new)) }
+        ensures standing { OnOk result (IsRemoved SPILLS
+            (account (Self.content self.old) (Self.spilled self.old) moves.old)
+            (account (Self.content self.new) (Self.spilled self.new) moves.new)) }
         ensures refused { OnErr result (Self.content self.new ≡ Self.content self.old) }
-        ensures stands { OnErr result (Self.spilled self.new ≡ Self.spilled self.old) }
+        ensures left { OnErr result (IsLeftBy SPILLS
+            (account (Self.content self.old) (Self.spilled self.old) moves.old)
+            (account (Self.content self.new) (Self.spilled self.new) moves.new)) }
+        ensures stands { OnErr result (new.old ≡ None →
+            account (Self.content self.new) (Self.spilled self.new) moves.new
+            ≡ account (Self.content self.old) (Self.spilled self.old) moves.old) }
+        ensures due { OnErr result (new.old ≡ None → IsTrue (SPILLS
+            && is_due (account (Self.content self.old) (Self.spilled self.old) moves.old))) }
         ensures taken { new.new ≡ None }
-        ensures returned { IfErr result (λ back. new.old ≡ Some back) };
+        ensures returned { IfErr result (λ back. back ≡ new.old) };
+
+    /// Removes the key, and tells how many values it had.
+    fn remove(&mut self, key: T::Key, moves: &mut Moves) -> Result<usize, AllocError>
+        ensures removed { OnOk result (Self.content self.new ≡ with_list T.Key.cmp (Self.content self.old) key []) }
+        ensures taken { IfOk result (λ had. had ≡ length (list_at T.Key.cmp (Self.content self.old) key)) }
+        ensures standing { OnOk result (IsRemoved SPILLS
+            (account (Self.content self.old) (Self.spilled self.old) moves.old)
+            (account (Self.content self.new) (Self.spilled self.new) moves.new)) }
+        ensures refused { OnErr result (Self.content self.new ≡ Self.content self.old) }
+        ensures stands { OnErr result (account (Self.content self.new) (Self.spilled self.new) moves.new
+            ≡ account (Self.content self.old) (Self.spilled self.old) moves.old) }
+        ensures due { OnErr result (IsTrue (SPILLS
+            && is_due (account (Self.content self.old) (Self.spilled self.old) moves.old))) };
 }

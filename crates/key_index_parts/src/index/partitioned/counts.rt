@@ -54,17 +54,20 @@ impl Counts {
     }
 }
 
-/// How many spills there ever were, and how many values were ever moved, to trees and back.
+/// From how many values on a bucket spills, how many spills there ever were, and how many values were ever moved, to trees and back.
 #[derive(Drop)]
 pub(super) struct Moves {
+    pub(super) threshold: usize,
     pub(super) spills: u64,
     pub(super) moved: u64,
+    ghost least: { 1 ≤ threshold },
 }
 
 impl Moves {
     /// Counts a spill that moved so many values. Where they are none, there was no spill.
     #[inline]
     pub(super) fn spill(&mut self, values: usize)
+        ensures threshold { self.new.threshold ≡ self.old.threshold }
         ensures spills { self.new.spills ≡ pruned_after self.old.spills (one_if (nat_lt 0 values)) }
         ensures moved { self.new.moved ≡ pruned_after self.old.moved values }
     {
@@ -75,6 +78,7 @@ impl Moves {
     /// Counts so many values that were moved back to arrays.
     #[inline]
     pub(super) fn move_back(&mut self, values: usize)
+        ensures threshold { self.new.threshold ≡ self.old.threshold }
         ensures spills { self.new.spills ≡ self.old.spills }
         ensures moved { self.new.moved ≡ pruned_after self.old.moved values }
     {
@@ -83,6 +87,7 @@ impl Moves {
 
     /// Counts what other buckets moved.
     pub(super) fn join(&mut self, other: Moves)
+        ensures threshold { self.new.threshold ≡ self.old.threshold }
         ensures spills { self.new.spills ≡ pruned_after self.old.spills other.spills }
         ensures moved { self.new.moved ≡ pruned_after self.old.moved other.moved }
     {

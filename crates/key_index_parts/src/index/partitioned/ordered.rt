@@ -299,7 +299,7 @@ impl<T: Translator, V: Drop, const P: usize> Search for Index<T, V, P> {
 
     fn reach(&mut self, key: &[u8]) -> Result<((usize, T::Key), usize), Fault> {
         let slot = self.slot_of(key);
-        self.storage.spill_if_reached(slot.0)?;
+        self.storage.settle(slot.0)?;
         Ok((slot, self.run_len(slot)))
     }
 

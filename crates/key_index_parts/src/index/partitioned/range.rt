@@ -127,7 +127,7 @@ impl<T: Translator, V: Drop, X: Bucket<T, V> + Drop, const P: usize> Search
     fn reach(&mut self, key: &[u8]) -> Result<((usize, T::Key), usize), Fault> {
         let slot = self.slot_of(key);
         let own = self.own(slot);
-        match self.storage.spill_if_reached(own.0) {
+        match self.storage.settle(own.0) {
             Ok(()) => Ok((slot, self.run_len(slot))),
             Err(fault) => Err(fault),
         }

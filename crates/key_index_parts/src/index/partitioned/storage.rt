@@ -7,13 +7,12 @@ ghost use Rattle.key_index_flat.specs.Fault.{growth_fault, IsWant};
 ghost use Rattle.key_index_flat.specs.Neighbours.{entries_above, first_entry, last_list, next_list, prev_list};
 ghost use Rattle.key_index_flat.specs.View.{put_value, InsertsAndRetains, Retains, RetainsWith};
 ghost use Rattle.key_index_flat.specs.Values.{VisitsEach, values_of};
-ghost use Rattle.key_index_parts.specs.Counts.{one_if};
-ghost use Rattle.key_index_parts.specs.Buckets.{KeepsRange, Kept, IsCounted, IsLeft, KeepsBuckets, Edits, Prunes, GrowsTo, SameContent, held_at, bucket_at, filled_buckets, settled_at, standing_of_all, view_of, view_from, with_items_from};
+ghost use Rattle.key_index_parts.specs.Buckets.{KeepsRange, Kept, IsCounted, IsLeft, KeepsBuckets, Edits, Prunes, SameContent, held_at, bucket_at, filled_buckets, standings_with, view_of, view_from, with_items_from};
 ghost use Rattle.key_index_parts.specs.Gathered.{gathered, gathered_from, pair_cmp};
 ghost use Rattle.key_index_parts.specs.Joined.{IsFree, is_between, joined_view};
 ghost use Rattle.key_index_parts.specs.Moves.{IsRangeWithin, IsWithin, entries_in};
 ghost use Rattle.key_index_parts.specs.Prefix.{partition_count, slot_by};
-ghost use Rattle.key_index_parts.specs.Standing.{Leaves, MovesBack, Resettles, Settles, entries_at, inline_len, is_reached, joined_standings, new_standings, spilled_in, standing_at, standings_of};
+ghost use Rattle.key_index_parts.specs.Standing.{Leaves, Resettles, Settles, entries_at, inline_len, is_reached, joined_standings, new_standings, spilled_in, standing_at};
 
 use super::bitmap::Bitmap;
 use super::bucket::sorted_bucket::SortedBucket;
@@ -26,24 +25,20 @@ use key_index_flat::translator::Translator;
 use std::alloc::Global;
 use std::marker::{Model, PhantomData};
 
-/// An index over `256^P` buckets: a translator, the buckets and which of them hold anything, the counts of them all, from how many values
-/// on a bucket spills, and the counts of spills and of moved values. Contracts see all of it but what follows from what the buckets hold.
+/// An index over `256^P` buckets: a translator, the buckets and which of them hold anything, the counts of them all, and what their moves
+/// came to. Contracts see all of it but what follows from what the buckets hold.
 ///
-/// A call by key spills its bucket first where that is due, and then does its edit in the bucket as it stands. The edits alone, without
-/// that, are `set_at`, `insert_at` and `remove_at` for cursors, and what the calls by key are made of: `put`, `put_absent`,
-/// `retain_in_bucket` and `take`. The calls that remove values move a bucket that they leave small back to arrays last.
+/// A call by key lets its bucket pay for its own moves, and accounts for what the bucket tells. `set_at`, `insert_at` and `remove_at` are
+/// for cursors, and move nothing.
 #[derive(Drop)]
 pub(super) struct Storage<T: Translator, V, X: Contents<T, V>, const P: usize> {
     translator: T,
     buckets: Vec<X>,
     filled: Bitmap,
     counts: Counts,
-    threshold: usize,
     moves: Moves,
     lists: PhantomData<V>,
-    ghost least: { 1 ≤ threshold },
-    ghost within: { IsWithin (standings_of threshold (standing_of_all X.content X.spilled buckets.items) moves.spills moves.moved)
-        counts.pruned },
+    ghost within: { IsWithin (standings_with X.content X.spilled buckets.items moves) counts.pruned },
 }
 
 impl<T: Translator, V, X: Contents<T, V>, const P: usize> Model for Storage<T, V, X, P> {
@@ -53,7 +48,7 @@ impl<T: Translator, V, X: Contents<T, V>, const P: usize> Model for Storage<T, V
       translator = s.translator;
       buckets = map X.content s.buckets.items;
       pruned = s.counts.pruned;
-      standings = standings_of s.threshold (standing_of_all X.content X.spilled s.buckets.items) s.moves.spills s.moves.moved;
+      standings = standings_with X.content X.spilled s.buckets.items s.moves;
     } };
 
     ghost invariant = { λ s. IsCounted T.Key.cmp P (map X.content s.buckets.items) s.counts.items s.counts.keys
@@ -103,7 +98,7 @@ impl<T: Translator, V: Drop, X: Contents<T, V> + Drop, const P: usize> Storage<T
         ensures count { result ≡ self.now.standings.threshold }
         ensures least { 1 ≤ result }
     {
-        self.threshold
+        self.moves.threshold
     }
 
     #[inline]
@@ -318,24 +313,6 @@ impl<T: Translator, V: Drop, X: EditBucket<T, V> + Drop, const P: usize> Storage
         self.counts.change(Retained { had, left, taken });
         value
     }
-
-    /// Removes a slot, in its bucket as that stands.
-    fn take(&mut self, slot: (usize, T::Key))
-        requires { slot.0 < length self.old.buckets }
-        ensures removed { Prunes T.Key.cmp P T.translated self.old slot (λ _. [])
-            (length (held_at T.Key.cmp self.old.buckets slot)) self.new }
-        ensures standing { Leaves self.old.standings slot.0 self.new.standings }
-        ensures fewer { entries_at self.new.standings slot.0 ≤ entries_at self.old.standings slot.0 }
-        ensures kept { KeepsBuckets T.Key.cmp self.old.buckets self.new.buckets }
-    {
-        let bucket = &mut self.buckets[slot.0];
-        let had = bucket.remove(slot.1);
-        let none_left = bucket.is_empty();
-        self.filled.set_if(none_left, slot.0, false);
-        let left = 0;
-        let taken = had;
-        self.counts.change(Retained { had, left, taken });
-    }
 }
 
 impl<T: Translator, V: Drop, X: Bucket<T, V> + Drop, const P: usize> Storage<T, V, X, P> {
@@ -376,8 +353,8 @@ impl<T: Translator, V: Drop, X: Bucket<T, V> + Drop, const P: usize> Storage<T, 
                 keys: 0,
                 pruned: 0,
             },
-            threshold,
             moves: Moves {
+                threshold,
                 spills: 0,
                 moved: 0,
             },
@@ -396,14 +373,178 @@ impl<T: Translator, V: Drop, X: Bucket<T, V> + Drop, const P: usize> Storage<T, 
         ensures standing { IfOk result (λ s. s.standings ≡ new_standings self.now.standings.threshold count) }
         ensures fault { IfErr result (λ fault. fault ≡ Fault.Memory) }
     {
-        Storage::new(self.alloc(), self.translator, count, self.threshold)
+        Storage::new(self.alloc(), self.translator, count, self.moves.threshold)
     }
 
-    /// How many values a spill of a bucket would move.
+    /// Spills a bucket that is due.
+    #[inline]
+    pub(super) fn settle(&mut self, number: usize) -> Result<(), Fault>
+        requires { number < length self.old.buckets }
+        ensures settles { OnOk result (IsTrue X.SPILLS → Settles self.old.standings number self.new.standings) }
+        ensures same { SameContent self.old self.new }
+        ensures refused { OnErr result (self.new ≡ self.old) }
+        ensures want { IfErr result (λ f. IsWant f (X.SPILLS && is_reached self.old.standings number)) }
+        ensures kept { KeepsBuckets T.Key.cmp self.old.buckets self.new.buckets }
+        ensures range_bound { KeepsRange self.old self.new }
+    {
+        let Ok(()) = self.buckets[number].settle(&mut self.moves) else {
+            return Err(Fault::Memory);
+        };
+        Ok(())
+    }
+
+    /// Puts a value in at its end of a slot's list.
+    pub(super) fn insert(&mut self, slot: (usize, T::Key), value: V) -> Result<(), Refused<V>>
+        requires { slot.0 < length self.old.buckets }
+        ensures accepted { OnOk result (
+            Edits T.Key.cmp P T.translated self.old slot (put_value X.FIRST value) self.new) }
+        ensures settled { OnOk result (IsTrue X.SPILLS → Settles self.old.standings slot.0 self.new.standings) }
+        ensures room { OnOk result (item_count (gathered self.old.buckets) < usize.MAX) }
+        ensures refused { OnErr result (SameContent self.old self.new) }
+        ensures left { OnErr result (IsLeft X.SPILLS self.old slot.0 self.new) }
+        ensures kept { KeepsBuckets T.Key.cmp self.old.buckets self.new.buckets }
+        ensures returned { IfErr result (λ r. r.value ≡ value) }
+        ensures fault { IfErr result (λ r. r.fault ≡ growth_fault (item_count (gathered self.old.buckets))) }
+        ensures range_bound { KeepsRange self.old self.new }
+    {
+        if self.is_full() {
+            return Err(Refused::full(value));
+        }
+        match self.buckets[slot.0].insert(slot.1, value, &mut self.moves) {
+            Ok(absent) => {
+                self.filled.set_if(absent, slot.0, true);
+                self.counts.gain(absent);
+                Ok(())
+            }
+            Err(value) => Err(Refused::memory(value)),
+        }
+    }
+
+    /// Puts a value under a slot that has none, and tells how many values the slot had.
+    pub(super) fn insert_absent(
+        &mut self,
+        slot: (usize, T::Key),
+        value: V,
+    ) -> Result<usize, Refused<V>>
+        requires { slot.0 < length self.old.buckets }
+        ensures found { IfOk result (λ n. 0 < n → SameContent self.old self.new) }
+        ensures inserted { IfOk result (λ n. n ≡ 0 →
+            Edits T.Key.cmp P T.translated self.old slot (λ _. value ∷ []) self.new) }
+        ensures settled { OnOk result (IsTrue X.SPILLS → Settles self.old.standings slot.0 self.new.standings) }
+        ensures len { IfOk result (λ n. n ≡ length (held_at T.Key.cmp self.old.buckets slot)) }
+        ensures room { OnOk result (item_count (gathered self.old.buckets) < usize.MAX) }
+        ensures refused { OnErr result (SameContent self.old self.new) }
+        ensures left { OnErr result (IsLeft X.SPILLS self.old slot.0 self.new) }
+        ensures kept { KeepsBuckets T.Key.cmp self.old.buckets self.new.buckets }
+        ensures returned { IfErr result (λ r. r.value ≡ value) }
+        ensures fault { IfErr result (λ r. r.fault ≡ growth_fault (item_count (gathered self.old.buckets))) }
+        ensures range_bound { KeepsRange self.old self.new }
+    {
+        if self.is_full() {
+            return Err(Refused::full(value));
+        }
+        match self.buckets[slot.0].insert_absent(slot.1, value, &mut self.moves) {
+            Ok(0) => {
+                self.filled.set(slot.0, true);
+                self.counts.gain(true);
+                Ok(0)
+            }
+            Ok(had) => Ok(had),
+            Err(value) => Err(Refused::memory(value)),
+        }
+    }
+
+    /// Puts a value in behind those of a slot, calls the closure once for each of them, in list order, and removes those for which it
+    /// returns false.
+    pub(super) fn insert_and_retain<F: FnMut(&V) -> bool>(
+        &mut self,
+        slot: (usize, T::Key),
+        value: V,
+        should_retain: F,
+    ) -> Result<(), Refused<V>>
+        requires within { slot.0 < length self.old.buckets }
+        requires callable { F.IsAlwaysCallable should_retain }
+        ensures accepted { OnOk result ((taken : ℕ) × InsertsAndRetains (pair_cmp T.Key.cmp) (CalledAt F.FnMut)
+            should_retain (view_of P T.translated self.old) slot value taken (view_of P T.translated self.new)) }
+        ensures settled { OnOk result (IsTrue X.SPILLS → Resettles self.old.standings slot.0 self.new.standings) }
+        ensures room { OnOk result (item_count (gathered self.old.buckets) < usize.MAX) }
+        ensures refused { OnErr result (SameContent self.old self.new) }
+        ensures left { OnErr result (IsLeft X.SPILLS self.old slot.0 self.new) }
+        ensures kept { KeepsBuckets T.Key.cmp self.old.buckets self.new.buckets }
+        ensures returned { IfErr result (λ r. r.value ≡ value) }
+        ensures fault { IfErr result (λ r. r.fault ≡ growth_fault (item_count (gathered self.old.buckets))) }
+    {
+        if self.is_full() {
+            return Err(Refused::full(value));
+        }
+        let bucket = &mut self.buckets[slot.0];
+        let mut new = Some(value);
+        match bucket.retain(slot.1, &mut new, should_retain, &mut self.moves) {
+            Ok(told) => {
+                let none_left = bucket.is_empty();
+                self.filled.set(slot.0, !none_left);
+                self.counts.change(told);
+                Ok(())
+            }
+            Err(back) => Err(Refused::memory(back.unwrap())),
+        }
+    }
+
+    /// Calls the closure once for each value of a slot, in list order, and removes those for which it returns false.
+    pub(super) fn retain<F: FnMut(&V) -> bool>(
+        &mut self,
+        slot: (usize, T::Key),
+        should_retain: F,
+    ) -> Result<(), Fault>
+        requires within { slot.0 < length self.old.buckets }
+        requires callable { F.IsAlwaysCallable should_retain }
+        ensures retained { OnOk result (Retains (pair_cmp T.Key.cmp) (CalledAt F.FnMut) should_retain
+            (view_of P T.translated self.old) slot (view_of P T.translated self.new)) }
+        ensures settled { OnOk result (IsTrue X.SPILLS → Resettles self.old.standings slot.0 self.new.standings) }
+        ensures refused { OnErr result (self.new ≡ self.old) }
+        ensures want { IfErr result (λ f. IsWant f (X.SPILLS && is_reached self.old.standings slot.0)) }
+        ensures kept { KeepsBuckets T.Key.cmp self.old.buckets self.new.buckets }
+    {
+        let bucket = &mut self.buckets[slot.0];
+        let mut none = None;
+        let Ok(told) = bucket.retain(slot.1, &mut none, should_retain, &mut self.moves) else {
+            return Err(Fault::Memory);
+        };
+        let none_left = bucket.is_empty();
+        self.filled.set_if(none_left, slot.0, false);
+        self.counts.change(told);
+        Ok(())
+    }
+
+    /// Removes a slot.
+    pub(super) fn remove(&mut self, slot: (usize, T::Key)) -> Result<(), Fault>
+        requires { slot.0 < length self.old.buckets }
+        ensures removed { OnOk result (Prunes T.Key.cmp P T.translated self.old slot (λ _. [])
+            (length (held_at T.Key.cmp self.old.buckets slot)) self.new) }
+        ensures settled { OnOk result (IsTrue X.SPILLS → Resettles self.old.standings slot.0 self.new.standings) }
+        ensures refused { OnErr result (self.new ≡ self.old) }
+        ensures want { IfErr result (λ f. IsWant f (X.SPILLS && is_reached self.old.standings slot.0)) }
+        ensures kept { KeepsBuckets T.Key.cmp self.old.buckets self.new.buckets }
+    {
+        let bucket = &mut self.buckets[slot.0];
+        let Ok(had) = bucket.remove(slot.1, &mut self.moves) else {
+            return Err(Fault::Memory);
+        };
+        let none_left = bucket.is_empty();
+        self.filled.set_if(none_left, slot.0, false);
+        let left = 0;
+        let taken = had;
+        self.counts.change(Retained { had, left, taken });
+        Ok(())
+    }
+}
+
+impl<T: Translator, V: Drop, const P: usize> Storage<T, V, SortedBucket<T, V>, P> {
+    /// How many values of a bucket stand in arrays.
     #[inline]
     pub(super) fn inline_len(&self, number: usize) -> usize
         requires { number < length self.now.buckets }
-        ensures len { IsTrue X.SPILLS → result ≡ inline_len self.now.standings number }
+        ensures len { result ≡ inline_len self.now.standings number }
         ensures entries { entries_at self.now.standings number ≡ item_count (bucket_at self.now.buckets number) }
         ensures listed { number < length self.now.standings.buckets }
     {
@@ -433,267 +574,6 @@ impl<T: Translator, V: Drop, X: Bucket<T, V> + Drop, const P: usize> Storage<T, 
         count
     }
 
-    /// Spills a bucket that has reached the threshold.
-    #[inline]
-    pub(super) fn spill_if_reached(&mut self, number: usize) -> Result<(), Fault>
-        requires { number < length self.old.buckets }
-        ensures settled { OnOk result (self.new ≡ settled_at X.SPILLS self.old number) }
-        ensures settles { OnOk result (IsTrue X.SPILLS → Settles self.old.standings number self.new.standings) }
-        ensures same { SameContent self.old self.new }
-        ensures refused { OnErr result (self.new ≡ self.old) }
-        ensures want { IfErr result (λ f. IsWant f (X.SPILLS && is_reached self.old.standings number)) }
-        ensures kept { KeepsBuckets T.Key.cmp self.old.buckets self.new.buckets }
-        ensures within { number < length self.old.standings.buckets }
-        ensures least { 1 ≤ self.old.standings.threshold }
-        ensures range_bound { KeepsRange self.old self.new }
-    {
-        let values = self.buckets[number].inline_len();
-        if values < self.threshold {
-            return Ok(());
-        }
-        match self.buckets[number].spill() {
-            Ok(()) => {
-                self.moves.spill(values);
-                Ok(())
-            }
-            Err(_) => Err(Fault::Memory),
-        }
-    }
-
-    /// Moves a bucket that is spilled with fewer than half as many values as the threshold back to arrays, where there is memory for it.
-    #[inline]
-    fn move_back(&mut self, number: usize)
-        requires { number < length self.old.buckets }
-        ensures back { MovesBack self.old.standings number self.new.standings }
-        ensures same { SameContent self.old self.new }
-        ensures kept { KeepsBuckets T.Key.cmp self.old.buckets self.new.buckets }
-    {
-        let values = self.buckets[number].spilled_len();
-        if values == 0 || values >= self.threshold.saturating_sub(values) {
-            return;
-        }
-        match self.buckets[number].move_back() {
-            Ok(()) => self.moves.move_back(values),
-            Err(_) => {}
-        }
-    }
-
-    /// Puts a value in at its end of a slot's list, in its bucket as that stands, which spills where it is left with `threshold` values or
-    /// more.
-    fn put(&mut self, slot: (usize, T::Key), value: V) -> Result<(), V>
-        requires within { slot.0 < length self.old.buckets }
-        requires room { item_count (gathered self.old.buckets) < usize.MAX }
-        ensures accepted { OnOk result (
-            Edits T.Key.cmp P T.translated self.old slot (put_value X.FIRST value) self.new) }
-        ensures standing { OnOk result (GrowsTo X.SPILLS self.old slot.0 self.new) }
-        ensures refused { OnErr result (self.new ≡ self.old) }
-        ensures kept { KeepsBuckets T.Key.cmp self.old.buckets self.new.buckets }
-        ensures returned { IfErr result (λ back. back ≡ value) }
-        ensures range_bound { KeepsRange self.old self.new }
-    {
-        match self.buckets[slot.0].insert(slot.1, value, self.threshold) {
-            Ok((absent, moved)) => {
-                self.filled.set_if(absent, slot.0, true);
-                self.counts.gain(absent);
-                self.moves.spill(moved);
-                Ok(())
-            }
-            Err(value) => Err(value),
-        }
-    }
-
-    /// Puts a value under a slot that has none, in its bucket as that stands, which spills as in `put`, and tells how many values the slot
-    /// had.
-    fn put_absent(&mut self, slot: (usize, T::Key), value: V) -> Result<usize, V>
-        requires within { slot.0 < length self.old.buckets }
-        requires room { item_count (gathered self.old.buckets) < usize.MAX }
-        ensures found { IfOk result (λ n. 0 < n → self.new ≡ self.old) }
-        ensures inserted { IfOk result (λ n. n ≡ 0 →
-            Edits T.Key.cmp P T.translated self.old slot (λ _. value ∷ []) self.new) }
-        ensures standing { IfOk result (λ n. n ≡ 0 → GrowsTo X.SPILLS self.old slot.0 self.new) }
-        ensures len { IfOk result (λ n. n ≡ length (held_at T.Key.cmp self.old.buckets slot)) }
-        ensures refused { OnErr result (self.new ≡ self.old) }
-        ensures kept { KeepsBuckets T.Key.cmp self.old.buckets self.new.buckets }
-        ensures returned { IfErr result (λ back. back ≡ value) }
-        ensures range_bound { KeepsRange self.old self.new }
-    {
-        match self.buckets[slot.0].insert_absent(slot.1, value, self.threshold) {
-            Ok((0, moved)) => {
-                self.filled.set(slot.0, true);
-                self.counts.gain(true);
-                self.moves.spill(moved);
-                Ok(0)
-            }
-            Ok((len, _)) => Ok(len),
-            Err(value) => Err(value),
-        }
-    }
-
-    /// Puts a new value, if there is one, in behind those of a slot, calls the closure once for each of them, in list order, and removes
-    /// those for which it returns false, in its bucket as that stands, which spills by a new value as in `put`.
-    #[inline(always)]
-    fn retain_in_bucket<F: FnMut(&V) -> bool>(
-        &mut self,
-        slot: (usize, T::Key),
-        mut new: Option<V>,
-        should_retain: F,
-    ) -> Result<(), V>
-        requires within { slot.0 < length self.old.buckets }
-        requires room { IfSome new (λ _. item_count (gathered self.old.buckets) < usize.MAX) }
-        requires callable { F.IsAlwaysCallable should_retain }
-        ensures accepted { OnOk result (RetainsWith (pair_cmp T.Key.cmp) (CalledAt F.FnMut) should_retain
-            (view_of P T.translated self.old) slot new (view_of P T.translated self.new)) }
-        ensures standing { OnOk result (GrowsTo (is_some new && X.SPILLS) self.old slot.0 self.new) }
-        ensures entries { OnOk result (
-            entries_at self.new.standings slot.0 ≤ entries_at self.old.standings slot.0 + one_if (is_some new)) }
-        ensures refused { OnErr result (self.new ≡ self.old) }
-        ensures kept { KeepsBuckets T.Key.cmp self.old.buckets self.new.buckets }
-        ensures returned { IfErr result (λ back. new ≡ Some back) }
-    {
-        let bucket = &mut self.buckets[slot.0];
-        let has_new = new.is_some();
-        let (told, moved) = bucket.retain(slot.1, &mut new, should_retain, self.threshold)?;
-        let emptied = bucket.is_empty();
-        self.filled.set_if(has_new | emptied, slot.0, !emptied);
-        self.counts.change(told);
-        self.moves.spill(moved);
-        Ok(())
-    }
-
-    /// Puts a value in at its end of a slot's list.
-    pub(super) fn insert(&mut self, slot: (usize, T::Key), value: V) -> Result<(), Refused<V>>
-        requires { slot.0 < length self.old.buckets }
-        ensures accepted { OnOk result (
-            Edits T.Key.cmp P T.translated self.old slot (put_value X.FIRST value) self.new) }
-        ensures settled { OnOk result (IsTrue X.SPILLS → Settles self.old.standings slot.0 self.new.standings) }
-        ensures room { OnOk result (item_count (gathered self.old.buckets) < usize.MAX) }
-        ensures refused { OnErr result (SameContent self.old self.new) }
-        ensures left { OnErr result (IsLeft X.SPILLS self.old slot.0 self.new) }
-        ensures kept { KeepsBuckets T.Key.cmp self.old.buckets self.new.buckets }
-        ensures returned { IfErr result (λ r. r.value ≡ value) }
-        ensures fault { IfErr result (λ r. r.fault ≡ growth_fault (item_count (gathered self.old.buckets))) }
-        ensures range_bound { KeepsRange self.old self.new }
-    {
-        if self.is_full() {
-            return Err(Refused::full(value));
-        }
-        let Ok(()) = self.spill_if_reached(slot.0) else {
-            return Err(Refused::memory(value));
-        };
-        match self.put(slot, value) {
-            Ok(()) => Ok(()),
-            Err(value) => Err(Refused::memory(value)),
-        }
-    }
-
-    /// Puts a value under a slot that has none, and tells how many values the slot had.
-    pub(super) fn insert_absent(
-        &mut self,
-        slot: (usize, T::Key),
-        value: V,
-    ) -> Result<usize, Refused<V>>
-        requires { slot.0 < length self.old.buckets }
-        ensures found { IfOk result (λ n. 0 < n → SameContent self.old self.new) }
-        ensures inserted { IfOk result (λ n. n ≡ 0 →
-            Edits T.Key.cmp P T.translated self.old slot (λ _. value ∷ []) self.new) }
-        ensures settled { OnOk result (IsTrue X.SPILLS → Settles self.old.standings slot.0 self.new.standings) }
-        ensures len { IfOk result (λ n. n ≡ length (held_at T.Key.cmp self.old.buckets slot)) }
-        ensures room { OnOk result (item_count (gathered self.old.buckets) < usize.MAX) }
-        ensures refused { OnErr result (SameContent self.old self.new) }
-        ensures left { OnErr result (IsLeft X.SPILLS self.old slot.0 self.new) }
-        ensures kept { KeepsBuckets T.Key.cmp self.old.buckets self.new.buckets }
-        ensures returned { IfErr result (λ r. r.value ≡ value) }
-        ensures fault { IfErr result (λ r. r.fault ≡ growth_fault (item_count (gathered self.old.buckets))) }
-        ensures range_bound { KeepsRange self.old self.new }
-    {
-        if self.is_full() {
-            return Err(Refused::full(value));
-        }
-        let Ok(()) = self.spill_if_reached(slot.0) else {
-            return Err(Refused::memory(value));
-        };
-        match self.put_absent(slot, value) {
-            Ok(len) => Ok(len),
-            Err(value) => Err(Refused::memory(value)),
-        }
-    }
-
-    /// Puts a value in behind those of a slot, calls the closure once for each of them, in list order, and removes those for which it
-    /// returns false.
-    pub(super) fn insert_and_retain<F: FnMut(&V) -> bool>(
-        &mut self,
-        slot: (usize, T::Key),
-        value: V,
-        should_retain: F,
-    ) -> Result<(), Refused<V>>
-        requires within { slot.0 < length self.old.buckets }
-        requires callable { F.IsAlwaysCallable should_retain }
-        ensures accepted { OnOk result ((taken : ℕ) × InsertsAndRetains (pair_cmp T.Key.cmp) (CalledAt F.FnMut)
-            should_retain (view_of P T.translated self.old) slot value taken (view_of P T.translated self.new)) }
-        ensures settled { OnOk result (IsTrue X.SPILLS → Resettles self.old.standings slot.0 self.new.standings) }
-        ensures room { OnOk result (item_count (gathered self.old.buckets) < usize.MAX) }
-        ensures refused { OnErr result (SameContent self.old self.new) }
-        ensures left { OnErr result (IsLeft X.SPILLS self.old slot.0 self.new) }
-        ensures kept { KeepsBuckets T.Key.cmp self.old.buckets self.new.buckets }
-        ensures returned { IfErr result (λ r. r.value ≡ value) }
-        ensures fault { IfErr result (λ r. r.fault ≡ growth_fault (item_count (gathered self.old.buckets))) }
-    {
-        if self.is_full() {
-            return Err(Refused::full(value));
-        }
-        let Ok(()) = self.spill_if_reached(slot.0) else {
-            return Err(Refused::memory(value));
-        };
-        match self.retain_in_bucket(slot, Some(value), should_retain) {
-            Ok(()) => {
-                self.move_back(slot.0);
-                Ok(())
-            }
-            Err(value) => Err(Refused::memory(value)),
-        }
-    }
-
-    /// Calls the closure once for each value of a slot, in list order, and removes those for which it returns false.
-    pub(super) fn retain<F: FnMut(&V) -> bool>(
-        &mut self,
-        slot: (usize, T::Key),
-        should_retain: F,
-    ) -> Result<(), Fault>
-        requires within { slot.0 < length self.old.buckets }
-        requires callable { F.IsAlwaysCallable should_retain }
-        ensures retained { OnOk result (Retains (pair_cmp T.Key.cmp) (CalledAt F.FnMut) should_retain
-            (view_of P T.translated self.old) slot (view_of P T.translated self.new)) }
-        ensures settled { OnOk result (IsTrue X.SPILLS → Resettles self.old.standings slot.0 self.new.standings) }
-        ensures refused { OnErr result (self.new ≡ self.old) }
-        ensures want { IfErr result (λ f. IsWant f (X.SPILLS && is_reached self.old.standings slot.0)) }
-        ensures kept { KeepsBuckets T.Key.cmp self.old.buckets self.new.buckets }
-    {
-        self.spill_if_reached(slot.0)?;
-        let Ok(()) = self.retain_in_bucket(slot, None, should_retain) else {
-            unreachable!()
-        };
-        self.move_back(slot.0);
-        Ok(())
-    }
-
-    /// Removes a slot.
-    pub(super) fn remove(&mut self, slot: (usize, T::Key)) -> Result<(), Fault>
-        requires { slot.0 < length self.old.buckets }
-        ensures removed { OnOk result (Prunes T.Key.cmp P T.translated self.old slot (λ _. [])
-            (length (held_at T.Key.cmp self.old.buckets slot)) self.new) }
-        ensures settled { OnOk result (IsTrue X.SPILLS → Resettles self.old.standings slot.0 self.new.standings) }
-        ensures refused { OnErr result (self.new ≡ self.old) }
-        ensures want { IfErr result (λ f. IsWant f (X.SPILLS && is_reached self.old.standings slot.0)) }
-        ensures kept { KeepsBuckets T.Key.cmp self.old.buckets self.new.buckets }
-    {
-        self.spill_if_reached(slot.0)?;
-        self.take(slot);
-        self.move_back(slot.0);
-        Ok(())
-    }
-}
-
-impl<T: Translator, V: Drop, const P: usize> Storage<T, V, SortedBucket<T, V>, P> {
     /// A guess where the slot's values stand in their bucket, which has so many in arrays.
     #[inline(always)]
     pub(super) fn guess(&self, slot: (usize, T::Key), seen: usize) -> usize

@@ -3,6 +3,7 @@ ghost use Rattle.std.specs.Prelude.{◌≡◌, ◌≤◌, true, false, not, leng
 ghost use Rattle.key_index_flat.specs.Content.{IsLawful, is_filled, item_count, list_at, with_list_by};
 
 use super::{Bucket, Contents, EditBucket, ReadBucket};
+use crate::index::partitioned::counts::Moves;
 use key_index_flat::index::Values;
 use key_index_flat::index::implement::{Front, ListMap, Retained, SmallMap};
 use key_index_flat::translator::Translator;
@@ -67,10 +68,6 @@ impl<T: Translator, V: Drop> EditBucket<T, V> for HashBucket<T, V> {
     fn remove_at(&mut self, key: T::Key, place: usize) -> (V, usize) {
         self.lists.remove_at(key, place)
     }
-
-    fn remove(&mut self, key: T::Key) -> usize {
-        self.lists.remove(key)
-    }
 }
 
 impl<T: Translator, V: Drop> Bucket<T, V> for HashBucket<T, V> {
@@ -85,42 +82,17 @@ impl<T: Translator, V: Drop> Bucket<T, V> for HashBucket<T, V> {
     }
 
     #[inline]
-    fn inline_len(&self) -> usize {
-        0
-    }
-
-    #[inline]
-    fn is_spilled(&self) -> bool {
-        false
-    }
-
-    fn spill(&mut self) -> Result<(), AllocError> {
+    fn settle(&mut self, _moves: &mut Moves) -> Result<(), AllocError> {
         Ok(())
     }
 
     #[inline]
-    fn spilled_len(&self) -> usize {
-        0
+    fn insert(&mut self, key: T::Key, value: V, _moves: &mut Moves) -> Result<bool, V> {
+        self.lists.insert(key, value)
     }
 
-    fn move_back(&mut self) -> Result<(), AllocError> {
-        Ok(())
-    }
-
-    #[inline]
-    fn insert(&mut self, key: T::Key, value: V, _threshold: usize) -> Result<(bool, usize), V> {
-        let absent = self.lists.insert(key, value)?;
-        Ok((absent, 0))
-    }
-
-    fn insert_absent(
-        &mut self,
-        key: T::Key,
-        value: V,
-        _threshold: usize,
-    ) -> Result<(usize, usize), V> {
-        let len = self.lists.insert_absent(key, value)?;
-        Ok((len, 0))
+    fn insert_absent(&mut self, key: T::Key, value: V, _moves: &mut Moves) -> Result<usize, V> {
+        self.lists.insert_absent(key, value)
     }
 
     #[inline(always)]
@@ -129,9 +101,15 @@ impl<T: Translator, V: Drop> Bucket<T, V> for HashBucket<T, V> {
         key: T::Key,
         new: &mut Option<V>,
         should_retain: F,
-        _threshold: usize,
-    ) -> Result<(Retained, usize), V> {
-        let told = self.lists.retain(key, new.take(), should_retain)?;
-        Ok((told, 0))
+        _moves: &mut Moves,
+    ) -> Result<Retained, Option<V>> {
+        match self.lists.retain(key, new.take(), should_retain) {
+            Ok(told) => Ok(told),
+            Err(value) => Err(Some(value)),
+        }
+    }
+
+    fn remove(&mut self, key: T::Key, _moves: &mut Moves) -> Result<usize, AllocError> {
+        Ok(self.lists.remove(key))
     }
 }

@@ -114,13 +114,6 @@ impl<T: Translator, V: Drop> EditBucket<T, V> for SortedArrays<T, V> {
         let value = self.pairs.remove(run.start + place);
         (value, run.end - run.start - 1)
     }
-
-    fn remove(&mut self, key: T::Key) -> usize {
-        let run = self.pairs.run_range(&key);
-        let taken = run.end - run.start;
-        self.pairs.remove_run(run);
-        taken
-    }
 }
 
 impl<T: Translator, V: Drop> Representation<T, V> for SortedArrays<T, V> {
@@ -153,6 +146,13 @@ impl<T: Translator, V: Drop> Representation<T, V> for SortedArrays<T, V> {
         let (left, stays) = self.pairs.retain_run_with(key, run, value, should_retain);
         let taken = had - (left - usize::from(stays));
         Ok(Retained { had, left, taken })
+    }
+
+    fn remove(&mut self, key: T::Key) -> usize {
+        let run = self.pairs.run_range(&key);
+        let taken = run.end - run.start;
+        self.pairs.remove_run(run);
+        taken
     }
 }
 

@@ -1,14 +1,18 @@
 //! A bucket as sorted arrays or, spilled, as a tree.
-ghost use Rattle.std.specs.Prelude.{◌≡◌, ◌≤◌, ◌++◌, true, false, [], IfOk, IfSome, OnOk, OnErr};
-ghost use Rattle.key_index_flat.specs.Content.{IsLawful, item_count, list_at};
-ghost use Rattle.key_index_parts.specs.Buckets.{stays_spilled};
+ghost use Rattle.std.specs.Prelude.{◌≡◌, ◌<◌, ◌≤◌, ◌++◌, true, false, if◌then◌else◌, [], length, Some, None, is_some, IfOk, IfErr, IfSome, OnOk, OnErr};
+ghost use Rattle.std.specs.Fn.{CalledAt};
+ghost use Rattle.key_index_flat.specs.Content.{IsLawful, item_count, lacks, list_at, with_list, with_list_by};
+ghost use Rattle.key_index_flat.specs.View.{put_value};
+ghost use Rattle.key_index_parts.specs.Buckets.{Grows, RetainsList, account, stays_spilled};
 ghost use Rattle.key_index_parts.specs.Form.{HoldsSome, HoldsSome-prop, held_by, is_spilled};
 ghost use Rattle.key_index_parts.specs.Pairs.{grouped};
 ghost use Rattle.key_index_parts.specs.Spread.{AreBelow, spread};
+ghost use Rattle.key_index_parts.specs.Standing.{Returns};
 
 use super::sorted_arrays::SortedArrays;
 use super::tree::Tree;
 use super::{Bucket, Contents, EditBucket, OrderedBucket, ReadBucket, Representation};
+use crate::index::partitioned::counts::Moves;
 use crate::index::partitioned::ordered::partition::Partition;
 use key_index_flat::index::Values;
 use key_index_flat::index::implement::{Back, ListMap, Retained, TreeMap};
@@ -228,33 +232,15 @@ impl<T: Translator, V: Drop> EditBucket<T, V> for SortedBucket<T, V> {
             }
         }
     }
-
-    fn remove(&mut self, key: T::Key) -> usize {
-        match &mut self.form {
-            Form::Inline(arrays) => arrays.remove(key),
-            Form::Spilled(tree) => {
-                let taken = tree.remove(key);
-                drop_emptied(&mut self.form);
-                taken
-            }
-        }
-    }
 }
 
-impl<T: Translator, V: Drop> Bucket<T, V> for SortedBucket<T, V> {
-    ghost FIRST = { false };
-
-    ghost SPILLS = { true };
-
-    fn new(alloc: Global, _translator: T) -> SortedBucket<T, V> {
-        SortedBucket {
-            form: Form::Inline(SortedArrays::new(alloc)),
-            unused: 0,
-        }
-    }
-
+/// What the calls by key are made of: edits of the bucket as it stands, and the moves of all its values.
+impl<T: Translator, V: Drop> SortedBucket<T, V> {
+    /// How many values stand in arrays: all of them, or none where it is spilled.
     #[inline]
-    fn inline_len(&self) -> usize {
+    pub(crate) fn inline_len(&self) -> usize
+        ensures { result ≡ (if is_spilled self.now.form then 0 else item_count (held_by T.Key.cmp (λ t. t.lists.content) self.now.form)) }
+    {
         match &self.form {
             Form::Inline(arrays) => arrays.len(),
             Form::Spilled(_) => 0,
@@ -262,15 +248,24 @@ impl<T: Translator, V: Drop> Bucket<T, V> for SortedBucket<T, V> {
     }
 
     #[inline]
-    fn is_spilled(&self) -> bool {
+    pub(crate) fn is_spilled(&self) -> bool
+        ensures { result ≡ is_spilled self.now.form }
+    {
         match &self.form {
             Form::Inline(_) => false,
             Form::Spilled(_) => true,
         }
     }
 
+    /// Moves the values from the arrays to a tree, all or none: after an allocation failure those that moved are back in the arrays.
     #[inline(never)]
-    fn spill(&mut self) -> Result<(), AllocError> {
+    fn spill(&mut self) -> Result<(), AllocError>
+        requires { 0 < (if is_spilled self.old.form then 0 else item_count (held_by T.Key.cmp (λ t. t.lists.content) self.old.form)) }
+        ensures content { held_by T.Key.cmp (λ t. t.lists.content) self.new.form
+            ≡ held_by T.Key.cmp (λ t. t.lists.content) self.old.form }
+        ensures standing { OnOk result (is_spilled self.new.form ≡ true) }
+        ensures stands { OnErr result (is_spilled self.new.form ≡ is_spilled self.old.form) }
+    {
         let Form::Inline(arrays) = &mut self.form else {
             return Ok(());
         };
@@ -279,16 +274,14 @@ impl<T: Translator, V: Drop> Bucket<T, V> for SortedBucket<T, V> {
         Ok(())
     }
 
-    #[inline]
-    fn spilled_len(&self) -> usize {
-        match &self.form {
-            Form::Inline(_) => 0,
-            Form::Spilled(tree) => tree.len(),
-        }
-    }
-
+    /// Moves the values from the tree back to arrays, all or none. It takes all the memory for it before the first value moves.
     #[inline(never)]
-    fn move_back(&mut self) -> Result<(), AllocError> {
+    fn unspill(&mut self) -> Result<(), AllocError>
+        ensures content { held_by T.Key.cmp (λ t. t.lists.content) self.new.form
+            ≡ held_by T.Key.cmp (λ t. t.lists.content) self.old.form }
+        ensures standing { OnOk result (is_spilled self.new.form ≡ false) }
+        ensures stands { OnErr result (is_spilled self.new.form ≡ is_spilled self.old.form) }
+    {
         let Form::Spilled(tree) = &mut self.form else {
             return Ok(());
         };
@@ -302,7 +295,39 @@ impl<T: Translator, V: Drop> Bucket<T, V> for SortedBucket<T, V> {
         Ok(())
     }
 
-    fn insert(&mut self, key: T::Key, value: V, threshold: usize) -> Result<(bool, usize), V> {
+    /// Moves a bucket that is spilled with fewer than half as many values as the threshold back to arrays, where there is memory for it.
+    #[inline]
+    fn move_back(&mut self, moves: &mut Moves)
+        ensures content { held_by T.Key.cmp (λ t. t.lists.content) self.new.form
+            ≡ held_by T.Key.cmp (λ t. t.lists.content) self.old.form }
+        ensures back { Returns
+            (account (held_by T.Key.cmp (λ t. t.lists.content) self.old.form) (is_spilled self.old.form) moves.old)
+            (account (held_by T.Key.cmp (λ t. t.lists.content) self.new.form) (is_spilled self.new.form) moves.new) }
+    {
+        let Form::Spilled(tree) = &self.form else {
+            return;
+        };
+        let values = tree.len();
+        if values < moves.threshold.saturating_sub(values) && self.unspill().is_ok() {
+            moves.move_back(values);
+        }
+    }
+
+    /// Puts a value in behind those of the key, and spills where the arrays reach the threshold by it. Tells whether the key had none, and
+    /// how many values moved.
+    fn put(&mut self, key: T::Key, value: V, threshold: usize) -> Result<(bool, usize), V>
+        requires { 1 ≤ threshold }
+        ensures accepted { IfOk result (λ told.
+            (held_by T.Key.cmp (λ t. t.lists.content) self.new.form
+            ≡ with_list_by T.Key.cmp (held_by T.Key.cmp (λ t. t.lists.content) self.old.form) key (put_value false value))
+            × (told.0 ≡ lacks T.Key.cmp (held_by T.Key.cmp (λ t. t.lists.content) self.old.form) key)) }
+        ensures standing { IfOk result (λ told. Grows true threshold (is_spilled self.old.form) told.1
+            (held_by T.Key.cmp (λ t. t.lists.content) self.new.form) (is_spilled self.new.form)) }
+        ensures refused { OnErr result (held_by T.Key.cmp (λ t. t.lists.content) self.new.form
+            ≡ held_by T.Key.cmp (λ t. t.lists.content) self.old.form) }
+        ensures stands { OnErr result (is_spilled self.new.form ≡ is_spilled self.old.form) }
+        ensures returned { IfErr result (λ back. back ≡ value) }
+    {
         let arrays = match &mut self.form {
             Form::Inline(arrays) => arrays,
             Form::Spilled(tree) => {
@@ -330,30 +355,30 @@ impl<T: Translator, V: Drop> Bucket<T, V> for SortedBucket<T, V> {
         }
     }
 
-    fn insert_absent(
-        &mut self,
-        key: T::Key,
-        value: V,
-        threshold: usize,
-    ) -> Result<(usize, usize), V> {
-        let len = self.run_len(key);
-        if len > 0 {
-            return Ok((len, 0));
-        }
-        let (_, moved) = self.insert(key, value, threshold)?;
-        Ok((0, moved))
-    }
-
-    /// Where the arrays would reach the threshold by a new value, it calls the closure over a tree, and moves what is left back where that
-    /// is fewer.
+    /// A retention. Where the arrays would reach the threshold by a new value, it calls the closure over a tree, and moves what is left
+    /// back where that is fewer. Tells how many values moved, too: none where there is no new value.
     #[inline(always)]
-    fn retain<F: FnMut(&V) -> bool>(
+    fn put_and_retain<F: FnMut(&V) -> bool>(
         &mut self,
         key: T::Key,
         new: &mut Option<V>,
         should_retain: F,
         threshold: usize,
-    ) -> Result<(Retained, usize), V> {
+    ) -> Result<(Retained, usize), V>
+        requires callable { F.IsAlwaysCallable should_retain }
+        requires threshold { 1 ≤ threshold }
+        ensures accepted { IfOk result (λ told. RetainsList (CalledAt F.FnMut) should_retain
+            (list_at T.Key.cmp (held_by T.Key.cmp (λ t. t.lists.content) self.old.form) key) new.old told.0
+            (λ l. held_by T.Key.cmp (λ t. t.lists.content) self.new.form
+            ≡ with_list T.Key.cmp (held_by T.Key.cmp (λ t. t.lists.content) self.old.form) key l)) }
+        ensures standing { IfOk result (λ told. Grows (is_some new.old) threshold (is_spilled self.old.form) told.1
+            (held_by T.Key.cmp (λ t. t.lists.content) self.new.form) (is_spilled self.new.form)) }
+        ensures refused { OnErr result (held_by T.Key.cmp (λ t. t.lists.content) self.new.form
+            ≡ held_by T.Key.cmp (λ t. t.lists.content) self.old.form) }
+        ensures stands { OnErr result (is_spilled self.new.form ≡ is_spilled self.old.form) }
+        ensures taken { new.new ≡ None }
+        ensures returned { IfErr result (λ back. new.old ≡ Some back) }
+    {
         let arrays = match &mut self.form {
             Form::Inline(arrays) => arrays,
             Form::Spilled(tree) => {
@@ -384,6 +409,98 @@ impl<T: Translator, V: Drop> Bucket<T, V> for SortedBucket<T, V> {
                 Err(value)
             }
         }
+    }
+
+    /// Removes the key, and tells how many values it had.
+    fn take(&mut self, key: T::Key) -> usize
+        ensures content { held_by T.Key.cmp (λ t. t.lists.content) self.new.form
+            ≡ with_list T.Key.cmp (held_by T.Key.cmp (λ t. t.lists.content) self.old.form) key [] }
+        ensures standing { is_spilled self.new.form
+            ≡ stays_spilled (is_spilled self.old.form) (held_by T.Key.cmp (λ t. t.lists.content) self.new.form) }
+        ensures taken { result
+            ≡ length (list_at T.Key.cmp (held_by T.Key.cmp (λ t. t.lists.content) self.old.form) key) }
+    {
+        match &mut self.form {
+            Form::Inline(arrays) => arrays.remove(key),
+            Form::Spilled(tree) => {
+                let taken = tree.remove(key);
+                drop_emptied(&mut self.form);
+                taken
+            }
+        }
+    }
+}
+
+impl<T: Translator, V: Drop> Bucket<T, V> for SortedBucket<T, V> {
+    ghost FIRST = { false };
+
+    ghost SPILLS = { true };
+
+    fn new(alloc: Global, _translator: T) -> SortedBucket<T, V> {
+        SortedBucket {
+            form: Form::Inline(SortedArrays::new(alloc)),
+            unused: 0,
+        }
+    }
+
+    #[inline]
+    fn settle(&mut self, moves: &mut Moves) -> Result<(), AllocError> {
+        let values = self.inline_len();
+        if values >= moves.threshold {
+            self.spill()?;
+            moves.spill(values);
+        }
+        Ok(())
+    }
+
+    fn insert(&mut self, key: T::Key, value: V, moves: &mut Moves) -> Result<bool, V> {
+        let Ok(()) = self.settle(moves) else {
+            return Err(value);
+        };
+        let (absent, moved) = self.put(key, value, moves.threshold)?;
+        moves.spill(moved);
+        Ok(absent)
+    }
+
+    fn insert_absent(&mut self, key: T::Key, value: V, moves: &mut Moves) -> Result<usize, V> {
+        let Ok(()) = self.settle(moves) else {
+            return Err(value);
+        };
+        let had = self.run_len(key);
+        if had > 0 {
+            return Ok(had);
+        }
+        let (_, moved) = self.put(key, value, moves.threshold)?;
+        moves.spill(moved);
+        Ok(0)
+    }
+
+    #[inline(always)]
+    fn retain<F: FnMut(&V) -> bool>(
+        &mut self,
+        key: T::Key,
+        new: &mut Option<V>,
+        should_retain: F,
+        moves: &mut Moves,
+    ) -> Result<Retained, Option<V>> {
+        let Ok(()) = self.settle(moves) else {
+            return Err(new.take());
+        };
+        match self.put_and_retain(key, new, should_retain, moves.threshold) {
+            Ok((told, moved)) => {
+                moves.spill(moved);
+                self.move_back(moves);
+                Ok(told)
+            }
+            Err(value) => Err(Some(value)),
+        }
+    }
+
+    fn remove(&mut self, key: T::Key, moves: &mut Moves) -> Result<usize, AllocError> {
+        self.settle(moves)?;
+        let had = self.take(key);
+        self.move_back(moves);
+        Ok(had)
     }
 }
 

@@ -108,12 +108,6 @@ impl<T: Translator, V: Drop> EditBucket<T, V> for Tree<T, V> {
         self.len -= 1;
         removed
     }
-
-    fn remove(&mut self, key: T::Key) -> usize {
-        let taken = self.lists.remove(key);
-        self.len -= taken;
-        taken
-    }
 }
 
 impl<T: Translator, V: Drop> Representation<T, V> for Tree<T, V> {
@@ -139,6 +133,12 @@ impl<T: Translator, V: Drop> Representation<T, V> for Tree<T, V> {
         let told = self.lists.retain(key, new.take(), should_retain)?;
         self.len = self.len - told.had + told.left;
         Ok(told)
+    }
+
+    fn remove(&mut self, key: T::Key) -> usize {
+        let taken = self.lists.remove(key);
+        self.len -= taken;
+        taken
     }
 }
 

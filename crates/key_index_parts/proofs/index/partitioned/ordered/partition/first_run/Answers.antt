@@ -1,4 +1,4 @@
-use Rattle.std.proofs.Common.{◌-◌, Some, sym, ap, ◌∙◌}
+use Rattle.std.proofs.Common.{Some, sym, ap, ◌∙◌}
 use Rattle.std.proofs.lemmas.Slice.{between_from_start}
 use Rattle.key_index_parts.proofs.pairs.EndLemmas.{first_run_is}
 use Rattle.key_index_parts.proofs.index.partitioned.ordered.partition.first_run.Goals as goal

@@ -1,31 +1,128 @@
-use Rattle.std.proofs.Common.{inr, ap, ◌∙◌, arith}
-use Rattle.key_index_parts.specs.Buckets.{settled_standings}
-use Rattle.key_index_parts.specs.Standing.{entries_at, with_entries}
-use Rattle.key_index_parts.specs.laws.StandingLaws.{settles_by}
+use Rattle.std.proofs.Common.{refl, sym, ap, ◌∙◌, arith}
+use Rattle.key_index_flat.specs.Content.{is_filled, item_count, list_at}
+use Rattle.key_index_flat.specs.View.{put_value}
 use Rattle.key_index_flat.proofs.content.FaultLemmas.{growth_fault-memory}
+use Rattle.key_index_flat.proofs.entries.EntryLemmas.{length-put_value}
+use Rattle.key_index_parts.specs.Gathered.{gathered}
+use Rattle.key_index_parts.specs.Standing.{IsCalled, IsLeftBy}
+use Rattle.key_index_parts.proofs.buckets.BucketLemmas.{bucket_taken, bucket_stays, flags_filled, filled_held, filled_positive, is_filled-with_put}
+use Rattle.key_index_parts.proofs.buckets.ChangeLemmas.{Slot, entries-edited, flags_here, paid-called, paid-refused_here}
+use Rattle.key_index_parts.proofs.buckets.StorageLemmas.{KeepsBuckets-edited, counted_as, counted_gain, keeps_all, keys_below, same_but, view_edited}
+use Rattle.key_index_parts.proofs.standing.PaidLemmas.{StaysPaid}
+use Rattle.key_index_parts.proofs.standing.StandingLemmas.{changed, left_by, pruned_after-zero, settles}
+use Rattle.key_index_parts.specs.Buckets.{standings_with}
+use Rattle.std.proofs.Common.{set}
+use Rattle.key_index_parts.proofs.index.partitioned.storage.Storage.insert.Given.{Over}
+use Rattle.key_index_parts.proofs.index.partitioned.storage.Storage.insert.Goals.{After-index_mut, After-gain}
 use Rattle.key_index_parts.proofs.index.partitioned.storage.Storage.insert.Goals as goal
 
-pub returns-then-is_full-clause-kept : goal.returns-then-is_full-clause-kept
-returns-then-is_full-clause-kept g c = c.is_full.ensures.kept
+slot : (g : Over) (c : After-index_mut g) → Slot g.T.Key.Ord.cmp g.row.P g.X.Contents.content c.self.inside.buckets.items c.self.inside.counts.items c.self.inside.counts.keys c.args.slot.0 c.index_mut.result.now
+slot g c = record {
+  counted = c.self.invariant.0;
+  total = g.met.T.Key.Ord.total;
+  exact = g.met.T.Translator.exact;
+  lawful = g.met.X.Contents.lawful c.index_mut.result.now;
+  bucket = bucket_taken g.X.Contents.content c.self.inside.buckets.items (ap (λ s. s.buckets) c.self.view_is) c.requires c.index_mut.ensures.value;
+}
 
-pub returns-in-Ok-put-clause-room : goal.returns-in-Ok-put-clause-room
-returns-in-Ok-put-clause-room g c = c.is_full.ensures.room c.if-is_full.false
+pub gain-requires : goal.gain-requires
+gain-requires g c =
+    let few = keys_below c.self.invariant.0 in
+    let full = ap (λ s. item_count (gathered s.buckets)) c.self.view_is in
+    let was = c.self.invariant.0.counted in
+    let room = c.is_full.ensures.room c.if-is_full.false in
+    record { items = omega (arith, full, was, room); keys = omega (arith, few, full, was, room) }
+
+pub invariant_of-self : goal.invariant_of-self
+invariant_of-self g c =
+    let cmp = g.T.Key.Ord.cmp in
+    let d = g.X.Contents.content c.index_mut.result.now in
+    let k = c.args.slot.1 in
+    let at = slot g (goal.at.invariant_of-self g c).After-index_mut in
+    let list = list_at cmp d k in
+    let told = c.in-Ok.ensures.accepted in (
+      counted_gain at.counted at.total at.bucket k at.exact (put_value g.X.Bucket.FIRST c.args.value list) c.insert.new.self told.0 _ _ c.in-Ok.absent told.1 (length-put_value g.X.Bucket.FIRST c.args.value list) c.gain.ensures.items c.gain.ensures.keys,
+      c.set_if.ensures ∙ flags_filled cmp at.bucket c.self.inside.filled c.insert.new.self _ c.self.invariant.1
+          (ap is_filled told.0 ∙ is_filled-with_put cmp d k list g.X.Bucket.FIRST c.args.value) (λ b. filled_held cmp d k (filled_positive _ (sym b ∙ told.1))),
+    )
+
+paid : (g : Over) (c : After-gain g) → Slot g.T.Key.Ord.cmp g.row.P g.X.Contents.content c.self.inside.buckets.items c.self.inside.counts.items c.self.inside.counts.keys c.args.slot.0 c.index_mut.result.now
+    → let s = c.self.inside in
+    StaysPaid (standings_with g.X.Contents.content g.X.Contents.spilled s.buckets.items s.moves) (standings_with g.X.Contents.content g.X.Contents.spilled (set s.buckets.items c.args.slot.0 c.insert.new.self) c.insert.new.moves) s.counts.pruned c.gain.new.self.pruned
+paid g c at =
+    let more = length-put_value g.X.Bucket.FIRST c.args.value (list_at g.T.Key.Ord.cmp (g.X.Contents.content c.index_mut.result.now) c.args.slot.1) in
+    paid-called at g.X.Contents.spilled c.insert.new.self c.self.inside.moves c.insert.new.moves g.X.Bucket.SPILLS c.self.inside.counts.pruned _ 0
+    (entries-edited at _ c.args.slot.1 _ 0 c.in-Ok.ensures.accepted.0 (omega (arith, more))) (c.gain.ensures.pruned ∙ sym (pruned_after-zero c.self.inside.counts.pruned)) c.in-Ok.ensures.standing
+
+pub invariant_of-self-inside : goal.invariant_of-self-inside
+invariant_of-self-inside g c =
+    let here = goal.at.invariant_of-self-inside g c in
+    ((paid g here.After-gain (slot g here.After-index_mut)).within c.self.inside.within, tt)
+
+pub returns-in-Ok-clause-accepted : goal.returns-in-Ok-clause-accepted
+returns-in-Ok-clause-accepted g c =
+    let at = slot g (goal.at.returns-in-Ok-clause-accepted g c).After-index_mut in
+    rw (← c.self.view_is)
+    (view_edited at.counted at.total at.bucket c.args.slot.1 at.exact _ c.insert.new.self c.in-Ok.ensures.accepted.0 g.T.Translator.translated c.self.inside.translator _ _ (put_value g.X.Bucket.FIRST c.args.value) refl c.gain.ensures.pruned)
+
+pub returns-in-Ok-clause-settled : goal.returns-in-Ok-clause-settled
+returns-in-Ok-clause-settled g c =
+    let at = slot g (goal.at.returns-in-Ok-clause-settled g c).After-index_mut in
+    rw (← c.self.view_is)
+    (λ is. settles g.X.Bucket.SPILLS is _ _ c.args.slot.0 c.self.inside.moves.least (changed at.bucket g.X.Contents.spilled c.insert.new.self c.self.inside.moves c.insert.new.moves (IsCalled g.X.Bucket.SPILLS) c.in-Ok.ensures.standing))
+
+pub returns-in-Ok-clause-room : goal.returns-in-Ok-clause-room
+returns-in-Ok-clause-room g c = c.is_full.ensures.room c.if-is_full.false
+
+pub returns-in-Ok-clause-kept : goal.returns-in-Ok-clause-kept
+returns-in-Ok-clause-kept g c =
+    let at = slot g (goal.at.returns-in-Ok-clause-kept g c).After-index_mut in
+    rw (← c.self.view_is) (KeepsBuckets-edited at.counted at.total at.bucket c.args.slot.1 at.exact _ c.insert.new.self c.in-Ok.ensures.accepted.0)
+
+pub returns-in-Ok-clause-range_bound : goal.returns-in-Ok-clause-range_bound
+returns-in-Ok-clause-range_bound g c =
+    let here = goal.at.returns-in-Ok-clause-range_bound g c in
+    let stays = paid g here.After-gain (slot g here.After-index_mut) in
+    rw (← c.self.view_is) stays.range_bound
+
+pub invariant_of-self-in-Err : goal.invariant_of-self-in-Err
+invariant_of-self-in-Err g c =
+    let at = slot g (goal.at.invariant_of-self-in-Err g c).After-index_mut in (
+      counted_as at.counted _ (bucket_stays g.T.Key.Ord.cmp at.bucket c.insert.new.self c.in-Err.ensures.refused),
+      flags_here at c.self.inside.filled c.insert.new.self c.self.invariant.1 c.in-Err.ensures.refused,
+    )
+
+pub invariant_of-self-inside-in-Err-1 : goal.invariant_of-self-inside-in-Err-1
+invariant_of-self-inside-in-Err-1 g c =
+    let at = slot g (goal.at.invariant_of-self-inside-in-Err-1 g c).After-index_mut in
+    ((paid-refused_here at g.X.Contents.spilled c.insert.new.self c.self.inside.moves c.insert.new.moves g.X.Bucket.SPILLS c.self.inside.counts.pruned c.in-Err.ensures.left).within c.self.inside.within, tt)
+
+pub returns-in-Err-clause-refused : goal.returns-in-Err-clause-refused
+returns-in-Err-clause-refused g c =
+    let at = slot g (goal.at.returns-in-Err-clause-refused g c).After-index_mut in
+    rw (← c.self.view_is) (same_but (standings_with g.X.Contents.content g.X.Contents.spilled c.self.inside.buckets.items c.self.inside.moves) (bucket_stays g.T.Key.Ord.cmp at.bucket c.insert.new.self c.in-Err.ensures.refused))
 
 pub returns-in-Err-clause-left : goal.returns-in-Err-clause-left
 returns-in-Err-clause-left g c =
-    inr (c.is_full.ensures.room c.if-is_full.false, c.in-Err.ensures.refused ∙ c.in-Ok.ensures.settled)
+    let at = slot g (goal.at.returns-in-Err-clause-left g c).After-index_mut in
+    let full = ap (λ s. item_count (gathered s.buckets)) c.self.view_is in
+    let room = c.is_full.ensures.room c.if-is_full.false in
+    rw (← c.self.view_is)
+    (left_by g.X.Bucket.SPILLS _ _ _ c.args.slot.0 (omega (arith, full, room)) (changed at.bucket g.X.Contents.spilled c.insert.new.self c.self.inside.moves c.insert.new.moves (IsLeftBy g.X.Bucket.SPILLS) c.in-Err.ensures.left))
+
+pub returns-in-Err-clause-kept : goal.returns-in-Err-clause-kept
+returns-in-Err-clause-kept g c =
+    let at = slot g (goal.at.returns-in-Err-clause-kept g c).After-index_mut in
+    rw (← c.self.view_is) (keeps_all at.counted _ (bucket_stays g.T.Key.Ord.cmp at.bucket c.insert.new.self c.in-Err.ensures.refused))
+
+pub returns-in-Err-clause-range_bound : goal.returns-in-Err-clause-range_bound
+returns-in-Err-clause-range_bound g c =
+    let at = slot g (goal.at.returns-in-Err-clause-range_bound g c).After-index_mut in
+    let stays = paid-refused_here at g.X.Contents.spilled c.insert.new.self c.self.inside.moves c.insert.new.moves g.X.Bucket.SPILLS c.self.inside.counts.pruned c.in-Err.ensures.left in
+    rw (← c.self.view_is) stays.range_bound
 
 pub returns-in-Err-clause-fault : goal.returns-in-Err-clause-fault
-returns-in-Err-clause-fault g c = c.memory-in-Err.ensures.fault ∙ growth_fault-memory _ (λ e. omega (arith, e, c.is_full.ensures.room c.if-is_full.false))
+returns-in-Err-clause-fault g c = c.memory.ensures.fault ∙ growth_fault-memory _ (λ e. omega (arith, e, c.is_full.ensures.room c.if-is_full.false))
 
-pub returns-in-Ok-put-clause-settled : goal.returns-in-Ok-put-clause-settled
-returns-in-Ok-put-clause-settled g c = λ is.
-    let old = c.args.self.now.standings in
-    let new = c.put.new.self.standings in
-    let n = c.args.slot.0 in
-    let mid = ap (λ s. s.standings) c.in-Ok.ensures.settled ∙ ap (λ b. settled_standings b old n) is in
-    settles_by old new n c.in-Ok.ensures.within c.in-Ok.ensures.least
-    (c.in-Ok-put.ensures.standing ∙ (λ i. settled_standings (is i) (with_entries (mid i) n (entries_at new n)) n))
-
-pub returns-in-Ok-put-clause-range_bound : goal.returns-in-Ok-put-clause-range_bound
-returns-in-Ok-put-clause-range_bound g c = λ before. c.put.ensures.range_bound (c.spill_if_reached.ensures.range_bound before)
+pub returns-then-is_full-clause-kept : goal.returns-then-is_full-clause-kept
+returns-then-is_full-clause-kept g c = c.is_full.ensures.kept

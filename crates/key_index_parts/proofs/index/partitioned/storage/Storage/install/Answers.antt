@@ -1,9 +1,9 @@
 use Rattle.std.proofs.Common.{◌≡◌, map, length, sym, ap, subst, ◌∙◌, arith}
 use Rattle.std.proofs.lemmas.List.{length-map}
 use Rattle.key_index_flat.specs.View.{pruned_after}
-use Rattle.key_index_parts.specs.Buckets.{stands, standing_of_all, with_items_from}
+use Rattle.key_index_parts.specs.Buckets.{stands, standing_of_all, standings_with, with_items_from}
 use Rattle.key_index_parts.specs.Moves.{IsRangeWithin, IsWithin}
-use Rattle.key_index_parts.specs.Standing.{Standing, Standings, standings_of}
+use Rattle.key_index_parts.specs.Standing.{Standing, Standings, joined_standings, standings_of}
 use Rattle.key_index_parts.proofs.buckets.StorageLemmas.{at_most_three, keys_below}
 use Rattle.key_index_parts.proofs.standing.PaidLemmas.{entries-AreFree, map-with_items_from}
 use Rattle.key_index_parts.proofs.standing.MoveLemmas.{install_within}
@@ -47,18 +47,16 @@ invariant_of-self-inside g c =
     let stand = length-map own.buckets.items (λ x. stands (g.X.Contents.content x) (g.X.Contents.spilled x)) in
     let range_stand = length-map other.buckets.items (λ x. stands (g.X.Contents.content x) (g.X.Contents.spilled x)) in
     let gap = put.free_buckets g.met.T.Key.Ord.total g.met.T.Translator.exact (map g.X.Contents.content own.buckets.items) first (length (map g.X.Contents.content other.buckets.items)) c.self.invariant.0.each free in
-    let old : Standings = standings_of own.threshold (standing_of_all g.X.Contents.content g.X.Contents.spilled own.buckets.items) own.moves.spills own.moves.moved in
-    let range : Standings = standings_of other.threshold (standing_of_all g.X.Contents.content g.X.Contents.spilled other.buckets.items) other.moves.spills other.moves.moved in
+    let old : Standings = standings_with g.X.Contents.content g.X.Contents.spilled own.buckets.items own.moves in
+    let range : Standings = standings_with g.X.Contents.content g.X.Contents.spilled other.buckets.items other.moves in
     let apart = subst (λ k. IsRangeWithin k.standings k.pruned) (sym c.range.view_is) c.requires.within in
     let joined = install_within old range first own.counts.pruned other.counts.pruned (omega (arith, fits, size, more, stand, range_stand))
-    (λ n from upto. entries-AreFree g.X.Contents.content g.X.Contents.spilled own.buckets.items first (length (map g.X.Contents.content other.buckets.items)) gap n from (omega (arith, upto, more, range_stand))) own.within apart in (
-      own.least,
-      (
-        subst (λ q. IsWithin (standings_of own.threshold (standing_of_all g.X.Contents.content g.X.Contents.spilled c.install_buckets.new.buckets.items) c.join-2.new.self.spills c.join-2.new.self.moved) q) (sym c.join.ensures.pruned)
-            (subst (λ s. IsWithin s (pruned_after own.counts.pruned other.counts.pruned))
-            (sym (λ i. standings_of own.threshold (standing_now g (goal.at.invariant_of-self-inside g c).After-install_buckets i) (c.join-2.ensures.spills i) (c.join-2.ensures.moved i))) joined),
-        tt,
-      ),
+    (λ n from upto. entries-AreFree g.X.Contents.content g.X.Contents.spilled own.buckets.items first (length (map g.X.Contents.content other.buckets.items)) gap n from (omega (arith, upto, more, range_stand))) own.within apart in
+    let now : standings_with g.X.Contents.content g.X.Contents.spilled c.install_buckets.new.buckets.items c.join-2.new.self ≡ joined_standings old first range =
+    λ i. standings_of (c.join-2.ensures.threshold i) (standing_now g (goal.at.invariant_of-self-inside g c).After-install_buckets i) (c.join-2.ensures.spills i) (c.join-2.ensures.moved i) in (
+      subst (λ q. IsWithin (standings_with g.X.Contents.content g.X.Contents.spilled c.install_buckets.new.buckets.items c.join-2.new.self) q) (sym c.join.ensures.pruned)
+          (subst (λ s. IsWithin s (pruned_after own.counts.pruned other.counts.pruned)) (sym now) joined),
+      tt,
     )
 
 pub invariant_of-self : goal.invariant_of-self
@@ -86,4 +84,4 @@ returns-clause-kept g c =
 pub returns-clause-standing : goal.returns-clause-standing
 returns-clause-standing g c =
     let now = standing_now g (goal.at.returns-clause-standing g c).After-install_buckets in
-    rw (← c.self.view_is) (rw (← c.range.view_is) (λ i. standings_of c.self.inside.threshold (now i) (c.join-2.ensures.spills i) (c.join-2.ensures.moved i)))
+    rw (← c.self.view_is) (rw (← c.range.view_is) (λ i. standings_of (c.join-2.ensures.threshold i) (now i) (c.join-2.ensures.spills i) (c.join-2.ensures.moved i)))

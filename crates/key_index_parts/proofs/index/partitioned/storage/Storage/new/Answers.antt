@@ -35,12 +35,15 @@ all_empty : (g : Over) (c : At-loop g) → c.loop.counter ≡ c.args.count → m
 all_empty g c end = all_alike g.X.Contents.content [] c.loop.buckets.items c.loop.invariant.2 ∙ ap (λ n. replicate n []) (c.loop.invariant.0 ∙ end)
 
 pub invariant_of-result : goal.invariant_of-result
-invariant_of-result g c = (c.requires.threshold, (new_within (standings_of c.args.threshold (standing_of_all g.X.Contents.content g.X.Contents.spilled c.loop.buckets.items) 0 0) 0 refl, tt))
+invariant_of-result g c = record { least = c.requires.threshold }
 
 pub invariant_of-result-2 : goal.invariant_of-result-2
-invariant_of-result-2 g c =
+invariant_of-result-2 g c = (new_within (standings_of c.args.threshold (standing_of_all g.X.Contents.content g.X.Contents.spilled c.loop.buckets.items) 0 0) 0 refl, tt)
+
+pub invariant_of-result-3 : goal.invariant_of-result-3
+invariant_of-result-3 g c =
     let end : c.loop.counter ≡ c.args.count = omega (arith, c.loop-test.false, c.loop.auto.counter-end) in
-    let none = all_empty g (goal.at.invariant_of-result-2 g c).At-loop end in (
+    let none = all_empty g (goal.at.invariant_of-result-3 g c).At-loop end in (
       none_counted g.T.Key.Ord.cmp g.row.P _ _ c.requires.least c.requires.greatest none c.requires.count,
       c.in-Ok-Ok.ensures' ∙ sym (ap (λ buckets. filled_buckets buckets) none ∙ none_filled g.row.T-Key.Denot g.row.V.Denot c.args.count),
     )

@@ -1,6 +1,6 @@
 use Rattle.std.proofs.Common.{[], arith}
 use Rattle.key_index_flat.proofs.closures.KeptLemmas.{IsCounted-with_list, within_count}
-use Rattle.key_index_parts.proofs.index.partitioned.bucket.tree.TreeEditBucket.remove.Goals as goal
+use Rattle.key_index_parts.proofs.index.partitioned.bucket.tree.TreeRepresentation.remove.Goals as goal
 
 pub overflow_sub-self : goal.overflow_sub-self
 overflow_sub-self g c =
