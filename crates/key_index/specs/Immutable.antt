@@ -6,11 +6,15 @@
 --     with_key                  the keys by position, with one more
 --     has_key                   whether the cell of a position has a key that compares equal
 --     indexed_count             how many positions are indexed, of so many from one on
+--     folded                    with its upper half in the lower one
+--     mixed                     a hash of which each bit has a part in all the others: two folds of its upper half around a
+--                               multiplication, as in the mixers of MurmurHash3 and SplitMix64
+--     mixed_hash                the hash under which the table has a key
 --     hashes                    the map that the table stores: the hash of each key that is indexed
 --     IsLog                     the table stores it, and no number is past 64 bits
 --     ArePositions              the positions of a key, each once
 --     IsReleased                cells went from the front, and their positions with them
-use Rattle.std.specs.Prelude.{◌≡◌, ◌↔◌, ℕ, ◌+◌, ◌-◌, ◌^◌, ◌<◌, ◌≤◌, ◌==◌, ◌&&◌, min, nat_eq, nat_le, Bool, false, List, length, slice_get, Option, Some, None, is_some, unwrap_or, if◌then◌else◌}
+use Rattle.std.specs.Prelude.{◌≡◌, ◌↔◌, ℕ, ◌+◌, ◌-◌, ◌*◌, ◌/◌, ◌%◌, ◌^◌, bit_xor, ◌<◌, ◌≤◌, ◌==◌, ◌&&◌, min, nat_eq, nat_le, Bool, false, List, length, slice_get, Option, Some, None, is_some, unwrap_or, if◌then◌else◌}
 use Rattle.std.specs.List.{Contains, IsDistinct, count_by, range_with_len}
 use Rattle.std.specs.Option.{option_map}
 use Rattle.std.specs.Ordering.{is_eq}
@@ -29,6 +33,15 @@ with_key m p k q = if q == p then Some k else m q
 
 abbrev pub has_key : {K : Type 0} → (K → K → Ordering) → List K → ℕ → K → ℕ → Bool
 has_key cmp ks start k p = unwrap_or (option_map (λ x. is_eq (cmp x k)) (slice_get ks (p - start))) false
+
+abbrev pub folded : ℕ → ℕ
+folded n = bit_xor n (n / 2 ^ 32)
+
+unfoldable pub mixed : ℕ → ℕ
+mixed h = folded (folded h * 0xD6E8FEB86659FD93 % 2 ^ 64)
+
+abbrev pub mixed_hash : {T K : Type 0} → (T → K → ℕ) → T → K → ℕ
+mixed_hash hashed t k = mixed (hashed t k)
 
 module _ {T K : Type 0} where
   abbrev pub key_at : Log T K → ℕ → Option K

@@ -4,7 +4,7 @@ ghost use Rattle.std.specs.Prelude.{◌≡◌, ◌≢◌, ◌↔◌, ℕ, ◌+�
 ghost use Rattle.std.specs.Iterator.{YieldsFirst, item_count};
 ghost use Rattle.std.specs.Result.{IsErrOf};
 ghost use Rattle.std.specs.VecDeque.{deque_capacity};
-ghost use Rattle.key_index.specs.Immutable.{Log, key_at, end_of, with_key, hashes, indexed_count, IsLog, ArePositions, IsReleased};
+ghost use Rattle.key_index.specs.Immutable.{Log, key_at, end_of, with_key, hashes, indexed_count, mixed, mixed_hash, IsLog, ArePositions, IsReleased};
 ghost use Rattle.key_index.specs.Table.{HasSize};
 
 mod marks;
@@ -66,8 +66,26 @@ fn take_room<K: Copy>(keys: &mut VecDeque<K>, offset: usize) -> Result<(), Fault
     Ok(())
 }
 
+/// A hash of which each bit has a part in the low ones, where a search in a table begins, and in the top eight.
+#[inline]
+#[tactic(auto, unfolding(crate::specs::Immutable::mixed))]
+fn mixed(hash: u64) -> u64
+    ensures { result ≡ mixed hash }
+{
+    let product = (hash ^ (hash >> 32)).wrapping_mul(0xD6E8_FEB8_6659_FD93);
+    product ^ (product >> 32)
+}
+
+/// The hash under which the table has the position of a translated key.
+#[inline]
+fn hash_in_table<T: Translator>(translator: &T, key: T::Key) -> u64
+    ensures { result ≡ mixed_hash T.hashed translator.now key }
+{
+    mixed(translator.hash_of(key))
+}
+
 impl<T: Translator> Model for Index<T> {
-    ghost use Rattle.key_index.specs.Immutable.{Log, IsLog};
+    ghost use Rattle.key_index.specs.Immutable.{Log, IsLog, mixed_hash};
 
     ghost Value = { Log T T.Key };
 
@@ -79,7 +97,7 @@ impl<T: Translator> Model for Index<T> {
       pruned = s.pruned;
     } };
 
-    ghost invariant = { λ s. IsLog T.hashed
+    ghost invariant = { λ s. IsLog (mixed_hash T.hashed)
         (record {
           translator = s.translator;
           start = s.start;
@@ -135,14 +153,14 @@ impl<T: Translator> Index<T> {
         }
         take_room(&mut self.keys, offset)?;
         let translated = self.translator.transform(key);
-        let hash = self.translator.hash_of(translated);
+        let hash = hash_in_table(&self.translator, translated);
         let (keys, translator, start) = (&self.keys, &self.translator, self.start);
         let resolver = |p: u64| -> u64
             requires above { start ≤ p }
             requires within { p - start < length keys.now.items }
             ensures { (k : _) → slice_get keys.entry.now.items (p - start) ≡ Some k
-                → result ≡ T.hashed translator.entry.now k }
-        { translator.hash_of(keys[(p - start) as usize]) };
+                → result ≡ mixed_hash T.hashed translator.entry.now k }
+        { hash_in_table(translator, keys[(p - start) as usize]) };
         self.table.insert(hash, position, resolver)?;
         put_key(&mut self.keys, offset, translated);
         Ok(())
@@ -155,7 +173,7 @@ impl<T: Translator> Index<T> {
     {
         let wanted = self.translator.transform(key);
         Positions {
-            candidates: self.table.candidates(self.translator.hash_of(wanted)),
+            candidates: self.table.candidates(hash_in_table(&self.translator, wanted)),
             keys: &self.keys,
             start: self.start,
             wanted,
@@ -184,7 +202,7 @@ impl<T: Translator> Index<T> {
     /// Lets the cells below a position go.
     fn release_below(&mut self, start: u64)
         requires start { self.old.start ≤ start }
-        requires lawful { IsLog T.hashed self.old }
+        requires lawful { IsLog (mixed_hash T.hashed) self.old }
         ensures released { IsReleased self.old self.new }
         ensures below { self.new.start ≤ start }
         ensures reached { 0 < length self.new.keys → self.new.start ≡ start }
@@ -213,7 +231,7 @@ impl<T: Translator> Index<T> {
         let Some(key) = self.keys.pop_front() else {
             return false;
         };
-        let removed = self.table.remove(self.translator.hash_of(key), self.start);
+        let removed = self.table.remove(hash_in_table(&self.translator, key), self.start);
         self.pruned = self.pruned.saturating_add(u64::from(removed));
         self.start += 1;
         true
@@ -231,7 +249,7 @@ impl<T: Translator> Index<T> {
         if self.keys.len() <= offset {
             return false;
         }
-        let hash = self.translator.hash_of(self.keys[offset]);
+        let hash = hash_in_table(&self.translator, self.keys[offset]);
         self.table.contains(hash, position)
     }
 

@@ -1,5 +1,5 @@
 use Rattle.std.proofs.Common.{◌≡◌, ◌<◌, ◌≤◌, length, sym, subst}
-use Rattle.key_index.specs.Immutable.{IsReleased}
+use Rattle.key_index.specs.Immutable.{mixed_hash, IsReleased}
 use Rattle.key_index.proofs.positions.PruneLemmas.{jumped_log, Pruned-all_released}
 use Rattle.key_index.proofs.index.immutable.Index.prune.Goals as goal
 
@@ -10,7 +10,7 @@ pub invariant_of-self : goal.invariant_of-self
 invariant_of-self g c =
     jumped_log c.args.self.now _ c.args.start (subst (λ t. t.start ≤ c.args.start) (sym c.self-2.view_is) c.release_below.ensures.below)
     (subst (λ t. 0 < length t.keys → t.start ≡ c.args.start) (sym c.self-2.view_is) c.release_below.ensures.reached)
-    g.T.Translator.hashed c.self-2.invariant c.ranges.start.fits
+    (mixed_hash g.T.Translator.hashed) c.self-2.invariant c.ranges.start.fits
 
 pub returns-clause-keys : goal.returns-clause-keys
 returns-clause-keys g c =

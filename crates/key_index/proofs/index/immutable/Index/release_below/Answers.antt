@@ -1,9 +1,10 @@
 use Rattle.std.proofs.Common.{◌<◌, subst, arith}
+use Rattle.key_index.specs.Immutable.{mixed_hash}
 use Rattle.key_index.proofs.positions.PruneLemmas.{released_none, released_more}
 use Rattle.key_index.proofs.index.immutable.Index.release_below.Goals as goal
 
 pub loop-self-init : goal.loop-self-init
-loop-self-init g c = record { released = released_none g.T.Translator.hashed c.args.self.now c.requires.lawful; below = c.requires.start }
+loop-self-init g c = record { released = released_none (mixed_hash g.T.Translator.hashed) c.args.self.now c.requires.lawful; below = c.requires.start }
 
 pub loop-self-preserved : goal.loop-self-preserved
 loop-self-preserved g c =
