@@ -312,6 +312,34 @@ def eight(byte):
     return bytes([byte]) * 8
 
 
+def agreeing_keys(count, shift):
+    """Keys of eight bytes, one at each position, whose numbers differ in some of their bits alone, from one on."""
+    session = Session("immutable_by_eight")
+    keys = [word((position << shift).to_bytes(8, "big")) for position in range(count)]
+    for position, key in enumerate(keys):
+        session.ask(f"insert {key} {position}", "ok")
+    for position in range(0, count, 997):
+        session.ask(f"get {keys[position]}", position)
+    session.ask("counts", f"{count} 0 0 0")
+    session.check()
+
+
+@case
+def immutable_keys_agree_in_their_low_half():
+    """Where each search passed all positions before, this would take longer than a session may."""
+    agreeing_keys(300_000, 32)
+
+
+@case
+def immutable_keys_agree_but_for_their_middle():
+    agreeing_keys(20_000, 24)
+
+
+@case
+def immutable_keys_agree_in_their_high_half():
+    agreeing_keys(20_000, 0)
+
+
 @case
 def immutable_is_pruned_from_the_front():
     with Asked("immutable_by_eight") as index:
