@@ -173,7 +173,9 @@ impl<T: Translator> Index<T> {
     {
         let wanted = self.translator.transform(key);
         Positions {
-            candidates: self.table.candidates(hash_in_table(&self.translator, wanted)),
+            candidates: self
+                .table
+                .candidates(hash_in_table(&self.translator, wanted)),
             keys: &self.keys,
             start: self.start,
             wanted,
@@ -231,7 +233,9 @@ impl<T: Translator> Index<T> {
         let Some(key) = self.keys.pop_front() else {
             return false;
         };
-        let removed = self.table.remove(hash_in_table(&self.translator, key), self.start);
+        let removed = self
+            .table
+            .remove(hash_in_table(&self.translator, key), self.start);
         self.pruned = self.pruned.saturating_add(u64::from(removed));
         self.start += 1;
         true
