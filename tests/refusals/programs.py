@@ -1,7 +1,8 @@
 """What is run: sessions of the programs."""
+from cases.witness import ABSENT, GIVEN, WORDS
 from refusals import sessions
 from refusals.stood import Standing
-from refusals.task import Calls, Modelled, Session, Stored
+from refusals.task import Calls, Modelled, Session, Stored, Verified
 
 DIGITS = range(1, 10)
 
@@ -84,5 +85,11 @@ def of_store(program):
             yield Stored(f"store_{end} {kind}", [program, "run.log", kind], lines, before, behind, most=60)
 
 
-def tasks(calls_program, program, store):
-    return [*calls(calls_program), *of_program(program), *of_store(store)]
+def of_verify(program):
+    """A witness of a held key, and one of an absent key."""
+    yield Verified("witness present", [program, *WORDS], GIVEN, "present 6278")
+    yield Verified("witness absent", [program, WORDS[0], "62"], ABSENT, "absent")
+
+
+def tasks(calls_program, program, store, verify):
+    return [*calls(calls_program), *of_program(program), *of_store(store), *of_verify(verify)]

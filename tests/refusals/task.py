@@ -87,6 +87,28 @@ class Task:
         raise NotImplementedError
 
 
+class Verified(Task):
+    """A witness that the program verify answers, or there was no memory for it."""
+
+    errors = re.compile("(failed|cannot read standard input): (out of memory|memory allocation failed)")
+
+    def __init__(self, name, command, witness, answer):
+        super().__init__(name, command)
+        self.witness = witness
+        self.answer = answer
+
+    def start(self, command, lines, **refused):
+        environment = {**os.environ, **refused}
+        done = subprocess.run(command, input=self.witness, capture_output=True, env=environment, timeout=100, check=False)
+        return done.returncode, done.stdout.decode().split("\n")[:-1], done.stderr.decode().strip()
+
+    def check(self, status, answers, error):
+        is_told = (status, answers, error) == (0, [self.answer], "")
+        if not is_told and (status != 2 or answers or not self.errors.fullmatch(error)):
+            raise Wrong(f"status {status}, {'; '.join(answers)}, {error}")
+        return Counter([f"{self.name} verify {'accepted' if is_told else 'refused'}", *["refusals"] * (not is_told)])
+
+
 class Session(Task):
     """A session, in which what is not refused is answered as if the rest had not been there: as by the command `alone`
     where nothing is refused."""
