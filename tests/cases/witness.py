@@ -194,6 +194,22 @@ ABSENT = b"\1" + (1).to_bytes(8, "little") + digest(b"bx") + b"\0" + key_field(b
 
 
 @case
+def witness_of_any_depth():
+    """A place has 64 bits, so a path of more than 63 digests ends nowhere, though it leads to the root. Seed 2001."""
+    numbers = random.Random(2001)
+    for steps in (0, 1, 2, 31, 62, 63, 64, 65, 128, 254, 255):
+        path = [numbers.randbytes(32) for _ in range(steps)]
+        least = 1 << min(steps, 63)
+        for place in (least, 2 * least - 1, least + numbers.randrange(least), least // 2, min(2 * least, 2**64 - 1), 0):
+            node = digest(RECORD)
+            for step, beside in enumerate(path):
+                node = digest(b"\1" + (beside + node if place >> step & 1 else node + beside))
+            witness = b"\0" + place.to_bytes(8, "little") + bound(None) + bytes([steps]) + b"".join(path) + b"bx"
+            if same(node, b"a", witness) != ("present 6278" if place >> steps == 1 else "refused"):
+                raise Wrong(f"the place {place} with a path of {steps}")
+
+
+@case
 def witness_words():
     """Two words in hexadecimal, of either case. Of other ones the program reads nothing."""
     root = WORDS[0]
