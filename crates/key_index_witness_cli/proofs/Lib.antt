@@ -1,1 +1,2 @@
+mod HexLemmas
 mod WholeLemmas

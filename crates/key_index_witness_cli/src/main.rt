@@ -1,16 +1,15 @@
 //! The program `verify`: what the witness on standard input tells of a key to one who knows a root.
 #![tactic(auto)]
 
-ghost use Rattle.std.specs.Prelude.{◌≡◌, ◌≢◌, ◌≤◌, ◌^◌, ◌<◌, map, length, IfOk, IfSome, IsErrOf, IsNone, IsSome, OnOk, option_map};
+ghost use Rattle.std.specs.Prelude.{◌≡◌, ◌≢◌, ◌≤◌, ◌^◌, ◌<◌, ◌++◌, map, length, IfOk, IfSome, IsErrOf, IsNone, IsSome, OnOk, option_map};
 ghost use Rattle.std.specs.Io.KnownBytes.{Appends, Keeps};
 ghost use Rattle.std.specs.String.{string_bytes};
 ghost use Rattle.key_index_witness.specs.Witness.{told};
-ghost use Rattle.key_index_witness_cli.specs.Program.{Answers, Tells, asked, hex_word, key_in, line_of, root_in, status_of};
+ghost use Rattle.key_index_witness_cli.specs.Program.{Answers, Tells, asked, byte_in, digits_of, hex_word, key_in, line_of, root_in, sized_in, status_of};
 
 mod failure;
 
 use failure::Failure;
-use hex::{FromHex, FromHexError};
 use key_index_witness::{Answer, decode, verify};
 use std::alloc::{AllocError, Global};
 use std::env;
@@ -19,6 +18,45 @@ use std::process::ExitCode;
 
 /// How many bytes of standard input are taken for a witness at most.
 const LIMIT: u64 = 1 << 26;
+
+/// The hexadecimal digits, by their values.
+const DIGITS: [u8; 16] = *b"0123456789abcdef";
+
+/// The byte of two hexadecimal digits of either case.
+fn byte_of(high: u8, low: u8) -> Option<u8>
+    ensures { result ≡ byte_in high low }
+{
+    let high = char::from(high).to_digit(16)?;
+    let low = char::from(low).to_digit(16)?;
+    Some((16 * high + low) as u8)
+}
+
+/// Reads a word of two digits for each of these bytes. What they are after a `None` is open.
+fn read_hex(word: &[u8], bytes: &mut [u8]) -> Option<()>
+    ensures { sized_in (length bytes.old) word.now ≡ option_map (λ read. bytes.new) result }
+{
+    if word.len() % 2 != 0 || word.len() / 2 != bytes.len() {
+        return None;
+    }
+    for i in 0..bytes.len() {
+        let Some(byte) = byte_of(word[2 * i], word[2 * i + 1]) else {
+            return None;
+        };
+        bytes[i] = byte;
+    }
+    Some(())
+}
+
+/// Puts two digits for each byte behind a line.
+fn write_hex(bytes: &[u8], line: &mut Vec<u8>) -> Result<(), AllocError>
+    ensures { OnOk result (line.new.items ≡ line.old.items ++ digits_of bytes.now) }
+{
+    for i in 0..bytes.len() {
+        let byte = bytes[i];
+        line.extend_from_slice(&[DIGITS[(byte >> 4) as usize], DIGITS[(byte & 15) as usize]])?;
+    }
+    Ok(())
+}
 
 /// The bytes of a word, two digits for each; a dash alone is none.
 #[tactic(auto, unfolding(crate::specs::Program::key_in))]
@@ -33,10 +71,12 @@ fn key_of(alloc: Global, word: &str) -> Result<Vec<u8>, Failure>
     if word.is_empty() {
         return Err(Failure::Usage);
     }
-    match hex::decode(alloc, word) {
-        Ok(key) => Ok(key),
-        Err(FromHexError::OutOfMemory) => Err(Failure::Memory(AllocError)),
-        Err(_) => Err(Failure::Usage),
+    let Ok(mut key) = vec![in alloc; 0; word.len() / 2] else {
+        return Err(Failure::Memory(AllocError));
+    };
+    match read_hex(word.as_bytes(), &mut key) {
+        Some(()) => Ok(key),
+        None => Err(Failure::Usage),
     }
 }
 
@@ -47,12 +87,13 @@ fn asked(alloc: Global, words: &[String]) -> Result<([u8; 32], Vec<u8>), Failure
     ensures usage { IsErrOf result Failure.Usage → IsNone (asked (map string_bytes words.now)) }
     ensures short { IsErrOf result Failure.TooLong → ⊥ }
 {
-    let [root, key] = words else {
+    let [word, key] = words else {
         return Err(Failure::Usage);
     };
-    let Ok(root) = <[u8; 32] as FromHex>::from_hex(root.as_str()) else {
+    let mut root = [0; 32];
+    if read_hex(word.as_bytes(), &mut root).is_none() {
         return Err(Failure::Usage);
-    };
+    }
     match key_of(alloc, key.as_str()) {
         Ok(key) => Ok((root, key)),
         Err(failure) => Err(failure),
@@ -79,7 +120,7 @@ fn line_of(alloc: Global, answer: Option<Answer<'_>>) -> Result<Vec<u8>, AllocEr
             if value.is_empty() {
                 line.extend_from_slice(b"-")?;
             } else {
-                line.extend_from_slice(hex::encode(alloc, value)?.as_bytes())?;
+                write_hex(value, &mut line)?;
             }
             line.extend_from_slice(b"\n")?;
         }
